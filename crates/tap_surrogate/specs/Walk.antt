@@ -1,5 +1,5 @@
 -- A walk: the nodes that surrogate routing passes from one node to the root of an object.
-use Rattle.std.specs.Prelude.{◌==◌, ◌||◌, ℕ, ◌+◌, ◌-◌, Bool, if◌then◌else◌, List, [], ◌∷◌, length, slice_index, Option, None, unwrap_or}
+use Rattle.std.specs.Prelude.{◌==◌, ◌||◌, ℕ, ◌+◌, ◌-◌, if◌then◌else◌, List, [], ◌∷◌, length, slice_index, Option, None, unwrap_or}
 use Rattle.std.specs.Option.{is_some}
 use Rattle.std.specs.List.{last_or}
 use Rattle.tap_name.specs.Cyclic.{first_cyclic}
@@ -11,23 +11,20 @@ abbrev pub taken_digit : ℕ → Tables → List ℕ → ℕ → ℕ → ℕ
 taken_digit base tables node level wanted =
     first_cyclic base (λ digit. slice_index node level == digit || is_some (least_link tables node level digit)) wanted
 
--- the walk stays where it is for a level: the digit that is taken is the node's own
-abbrev pub stays : ℕ → Tables → List ℕ → ℕ → ℕ → Bool
-stays base tables node level wanted = slice_index node level == taken_digit base tables node level wanted
+-- the hop of a walk at a level: none where the digit that is taken is the node's own, else to the least core node in its slot
+abbrev pub hop : ℕ → Tables → List ℕ → ℕ → ℕ → Option (List ℕ)
+hop base tables node level wanted =
+    let digit = taken_digit base tables node level wanted
+    in (if slice_index node level == digit then None else least_link tables node level digit)
 
--- where the walk stands after a level: where it stood, or at the least core node in the slot of the digit that is taken
-abbrev pub next_node : ℕ → Tables → List ℕ → ℕ → ℕ → List ℕ
-next_node base tables node level wanted =
-    if stays base tables node level wanted
-    then node
-    else unwrap_or (least_link tables node level (taken_digit base tables node level wanted)) node
-
--- the nodes of the rest of a walk that stands at a node, where these digits of the object are left, from a level on
+-- the nodes of a walk from where it stands, before a level at which these digits of the object are left: a hop leaves the
+-- node behind
 abbrev pub walk_on : ℕ → Tables → List ℕ → ℕ → List ℕ → List (List ℕ)
 walk_on base tables node level [] = node ∷ []
 walk_on base tables node level (wanted ∷ more) =
-    let rest = walk_on base tables (next_node base tables node level wanted) (level + 1) more
-    in (if stays base tables node level wanted then rest else node ∷ rest)
+    let to = hop base tables node level wanted in
+    let rest = walk_on base tables (unwrap_or to node) (level + 1) more
+    in (if is_some to then node ∷ rest else rest)
 
 -- the nodes of the walk of an object from a node, which comes first
 abbrev pub walk : ℕ → Tables → List ℕ → List ℕ → List (List ℕ)

@@ -16,11 +16,10 @@ pub fn root_of(names: &List<Name>, settings: &Settings, object: &Name) -> Option
     ensures value { result ≡ root settings.now.base names.now object.now }
     ensures none { IsNone result ↔ (names.now ≡ []) }
 {
-    let base = settings.base();
     let (first, others) = names.as_slice().split_first()?;
     let mut nearest = first;
     for name in others {
-        if is_nearer(base, object, name, nearest) {
+        if is_nearer(settings, object, name, nearest) {
             nearest = name;
         }
     }
@@ -28,19 +27,21 @@ pub fn root_of(names: &List<Name>, settings: &Settings, object: &Name) -> Option
 }
 
 // Whether the digits of `a` come before those of `b`, cyclically from the object's, where they first differ.
-fn is_nearer(base: u8, object: &Name, a: &Name, b: &Name) -> bool
-    requires base { base < 17 }
-    requires object { length object.now ≡ length a.now }
-    requires same { length a.now ≡ length b.now }
-    ensures nearer { OnTrue result (IsAsNear base object.now a.now b.now) }
-    ensures other { OnFalse result (IsAsNear base object.now b.now a.now) }
+fn is_nearer(settings: &Settings, object: &Name, a: &Name, b: &Name) -> bool
+    requires object { IsName settings.now object.now }
+    requires a { IsName settings.now a.now }
+    requires b { IsName settings.now b.now }
+    ensures nearer { OnTrue result (IsAsNear settings.now.base object.now a.now b.now) }
+    ensures other { OnFalse result (IsAsNear settings.now.base object.now b.now a.now) }
 {
+    let base = settings.base();
     let wanted = object.as_slice();
     let a = a.as_slice();
     let b = b.as_slice();
     for level in 0..wanted.len() {
         if a[level] != b[level] {
-            return steps_to(base, wanted[level], a[level]) < steps_to(base, wanted[level], b[level]);
+            return steps_to(base, wanted[level], a[level])
+                < steps_to(base, wanted[level], b[level]);
         }
     }
     false

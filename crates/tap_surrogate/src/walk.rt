@@ -1,7 +1,7 @@
-ghost use Rattle.std.specs.Prelude.{◌≡◌, ◌<◌, ◌≤◌, if◌then◌else◌, None, Some, drop, slice_index, IfOk, MatchOption, ◌∷◌, []};
+ghost use Rattle.std.specs.Prelude.{◌≡◌, ◌<◌, IfOk, IfSome, MatchOption, ◌∷◌, []};
 ghost use Rattle.tap_name.specs.Name.{IsName};
 ghost use Rattle.tap_surrogate.specs.Tables.{HaveNames};
-ghost use Rattle.tap_surrogate.specs.Walk.{walk, walk_on, stays, next_node};
+ghost use Rattle.tap_surrogate.specs.Walk.{hop, walk};
 
 use crate::links::Links;
 use crate::memory::NoMemory;
@@ -38,8 +38,8 @@ impl Model for Walk {
 }
 
 impl Walk {
-    ghost use Rattle.tap_surrogate.specs.Standing.{IsStanding};
-    ghost use Rattle.tap_surrogate.specs.Step1.{IsStep};
+    ghost use Rattle.tap_surrogate.specs.Standing.{IsStanding, nodes_left};
+    ghost use Rattle.tap_surrogate.specs.Step1.{IsHop, IsStep};
 
     /// The walk of an object that stands at a node and has made no hop.
     pub fn new(from: Name, object: Name) -> Walk
@@ -64,21 +64,40 @@ impl Walk {
     pub fn next<L: Links>(&mut self, links: &L) -> Step1
         requires walk { IsStanding (L.parameters links.now) self.old }
         requires links { HaveNames (L.parameters links.now) (L.tables links.now) }
-        ensures step { IsStep (L.parameters links.now).base (L.tables links.now) self.old self.new result }
-        ensures object { self.new.object ≡ self.old.object }
-        ensures walk { IsStanding (L.parameters links.now) self.new }
+        ensures { IsStep (L.parameters links.now) (L.tables links.now) self.old self.new result }
     {
-        match first_hop(links, &self.node, self.level, &self.object) {
-            Some(hop) => {
-                self.node = hop.to;
-                self.level = hop.level;
-                Step1::Hop(hop.to)
+        match self.after_hop(links) {
+            Some(after) => {
+                let to = after.node;
+                *self = after;
+                Step1::Hop(to)
             }
             None => {
                 self.level = links.settings().digits();
                 Step1::Root(self.node)
             }
         }
+    }
+
+    // The walk after its next hop, `None` where it stays for all levels that are left.
+    fn after_hop<L: Links>(&self, links: &L) -> Option<Walk>
+        requires walk { IsStanding (L.parameters links.now) self.now }
+        requires links { HaveNames (L.parameters links.now) (L.tables links.now) }
+        ensures { MatchOption result
+            (nodes_left (L.parameters links.now).base (L.tables links.now) self.now ≡ self.now.node ∷ [])
+            (λ after. IsHop (L.parameters links.now) (L.tables links.now) self.now after) }
+    {
+        for level in self.level..links.settings().digits() {
+            let wanted = self.object.digit(level as usize);
+            if let Some(to) = hop_at(links, &self.node, level, wanted) {
+                return Some(Walk {
+                    node: to,
+                    level: level + 1,
+                    object: self.object,
+                });
+            }
+        }
+        None
     }
 }
 
@@ -104,40 +123,14 @@ pub fn walk_path<L: Links>(
     }
 }
 
-// A hop, and the level that comes after it.
-#[derive(Clone, Copy)]
-struct Landing {
-    to: Name,
-    level: u8,
-}
-
-// The first hop of a walk that stands at a node, at this level or a later one, `None` where it stays for all of them.
-fn first_hop<L: Links>(links: &L, node: &Name, level: u8, object: &Name) -> Option<Landing>
-    requires node { IsName (L.parameters links.now) node.now }
-    requires object { IsName (L.parameters links.now) object.now }
-    requires level { level ≤ (L.parameters links.now).digits }
-    ensures { MatchOption result
-        (walk_on (L.parameters links.now).base (L.tables links.now) node.now level (drop level object.now) ≡ node.now ∷ [])
-        (λ hop. (level < hop.level) × (hop.level ≤ (L.parameters links.now).digits)
-            × (walk_on (L.parameters links.now).base (L.tables links.now) node.now level (drop level object.now)
-                ≡ node.now ∷ walk_on (L.parameters links.now).base (L.tables links.now) hop.to hop.level (drop hop.level object.now))) }
-{
-    for at in level..links.settings().digits() {
-        if let Some(to) = hop_at(links, node, at, object.digit(at as usize)) {
-            return Some(Landing { to, level: at + 1 });
-        }
-    }
-    None
-}
-
 // The hop of a walk at a level, `None` where it stays.
 fn hop_at<L: Links>(links: &L, node: &Name, level: u8, wanted: u8) -> Option<Name>
     requires node { IsName (L.parameters links.now) node.now }
     requires level { level < (L.parameters links.now).digits }
     requires wanted { wanted < (L.parameters links.now).base }
-    ensures { result ≡ (if stays (L.parameters links.now).base (L.tables links.now) node.now level wanted
-        then None
-        else Some (next_node (L.parameters links.now).base (L.tables links.now) node.now level wanted)) }
+    requires links { HaveNames (L.parameters links.now) (L.tables links.now) }
+    ensures name { IfSome result (IsName (L.parameters links.now)) }
+    ensures value { result ≡ hop (L.parameters links.now).base (L.tables links.now) node.now level wanted }
 {
     let base = links.settings().base();
     let own = node.digit(level as usize);
