@@ -1,15 +1,15 @@
 -- the nearest of some names is their root
-use Rattle.std.proofs.Common.{◌≡◌, ◌==◌, ◌⊎◌, inl, inr, ℕ, ◌+◌, ◌<◌, ◌≤◌, zero, suc, Bool, true, false, List, [], ◌∷◌, length, take, drop, get_or, Some, All, add-one, filter, arith, ap, sym, refl, ◌∙◌, eqb}
+use Rattle.std.proofs.Common.{◌≡◌, ◌==◌, ◌⊎◌, inl, inr, ℕ, ◌+◌, ◌<◌, ◌≤◌, zero, suc, Bool, true, false, List, [], ◌∷◌, length, take, drop, get_or, take_all, None, Some, All, add-one, filter, arith, ap, sym, refl, ◌∙◌, eqb}
 use Rattle.std.proofs.lemmas.Bool.{cases_lt, eqb-true, eq-eqb}
 use Rattle.std.proofs.lemmas.List.{drop_more, take_more}
-use Rattle.std.proofs.lemmas.List.Elements.{All-push}
+use Rattle.std.proofs.lemmas.List.Elements.{All-push, All-cons, All-nil}
 use Rattle.tap_name.specs.Settings.{Parameters}
 use Rattle.tap_name.specs.Name.{IsName}
 use Rattle.tap_name.specs.Cyclic.{first_cyclic}
 use Rattle.tap_name.specs.Root.{Among, AreNames, has_digit, kept, narrowed, first_of, root}
 use Rattle.tap_surrogate.specs.Distance.{cyclic_distance, IsAsNear}
 use Rattle.tap_surrogate.proofs.Cyclic.{same_distance, distance_below, first_cyclic_is}
-use Rattle.tap_surrogate.proofs.Names.{has_digit-from, has_digit-to, among-All, All-among, among-filter, among-filter_from, only_left, share_more, share_fewer, same_at, share_all}
+use Rattle.tap_surrogate.proofs.Names.{has_digit-from, has_digit-to, among-All, All-among, among_item, among-take, among-filter, among-filter_from, only_left, share_more, share_fewer, same_at, share_all}
 
 -- the first digit at which two names differ decides
 pub as_near_at : (base : ℕ) (object a b : List ℕ) (level : ℕ) → take level a ≡ take level b → (get_or a level 0 ≡ get_or b level 0 → ⊥)
@@ -101,24 +101,69 @@ narrowed_to_nearest p object nearest (wanted ∷ more) level names object_name l
     let digit = ap (first_cyclic p.base (has_digit names level)) head ∙ kept_digit p object nearest level names object_name inside left in
     rw digit (narrowed_to_nearest p object nearest more (level + 1) (filter (λ x. get_or x level 0 == get_or nearest level 0) names) object_name (omega arith) tail (left_more p object nearest level names inside left))
 
+narrowed-nil : (base level : ℕ) (more : List ℕ) → narrowed base level more [] ≡ []
+narrowed-nil base level [] = refl
+narrowed-nil base level (wanted ∷ more) = narrowed-nil base (level + 1) more
+
+-- no names have no root
+pub root-nil : (base : ℕ) (object : List ℕ) → root base [] object ≡ None
+root-nil base object = rw (narrowed-nil base 0 object) refl
+
 -- a name that no other one comes before is the root
 pub nearest_is_root : (p : Parameters) (names : List (List ℕ)) (object nearest : List ℕ) → AreNames p names → IsName p object → Among nearest names
     → ((x : List ℕ) → Among x names → IsAsNear p.base object nearest x) → root p.base names object ≡ Some nearest
 nearest_is_root p names object nearest valid object_name here near =
     narrowed_to_nearest p object nearest object 0 names object_name (omega (arith, object_name.len)) refl (record { here = here; valid = valid; share = λ x h. refl; near = near })
 
--- While the names are gone through, the nearest of those that were seen so far is kept: the first one, and as many of the
--- others as the index says.
+-- The nearest of the names that were seen so far: the first one, and as many of the others as the index says.
+pub record IsNearestSeen (p : Parameters) (object : List ℕ) (names : List (List ℕ)) (first : List ℕ) (others : List (List ℕ)) (i : ℕ) (nearest : List ℕ) : Type 0 where
+  pub among : Among nearest names
+  pub near : All (IsAsNear p.base object nearest) (first ∷ take i others)
 
-pub all_nearer : (p : Parameters) (object nearer nearest : List ℕ) (seen : List (List ℕ)) → IsName p object → IsName p nearer → IsName p nearest → ((x : List ℕ) → Among x seen → IsName p x)
-    → IsAsNear p.base object nearer nearest → All (IsAsNear p.base object nearest) seen → All (IsAsNear p.base object nearer) seen
-all_nearer p object nearer nearest seen object_name nearer_name nearest_name valid near all =
-    All-among (IsAsNear p.base object nearer) seen
-    (λ x among. as_near-trans p object nearer nearest x object_name nearer_name nearest_name (valid x among) near (among-All (IsAsNear p.base object nearest) seen all x among))
+pub first_is_nearest : (p : Parameters) (object : List ℕ) (names : List (List ℕ)) (first : List ℕ) (others : List (List ℕ)) → names ≡ first ∷ others
+    → IsNearestSeen p object names first others 0 first
+first_is_nearest p object names first others split =
+    record {
+      among = rw split (inl refl);
+      near = All-cons (IsAsNear p.base object first) first [] (as_near_same p.base object first first (length object) (omega arith) refl) (All-nil (IsAsNear p.base object first));
+    }
 
-pub one_more : (P : List ℕ → Type 0) (first : List ℕ) (others : List (List ℕ)) (i : ℕ) (x : List ℕ) → i < length others → x ≡ get_or others i x
-    → All P (first ∷ take i others) → P x → All P (first ∷ take (i + 1) others)
-one_more P first others i x inside is all here =
-    let more = take_more others i x inside in
-    let pushed = All-push P (first ∷ take i others) x all here in
-    rw (more, ← is) pushed
+pub item_among : (names : List (List ℕ)) (first : List ℕ) (others : List (List ℕ)) (i : ℕ) (item : List ℕ) → names ≡ first ∷ others → i < length others → item ≡ get_or others i item
+    → Among item names
+item_among names first others i item split inside is = rw split (inr (among_item others i item inside is))
+
+one_more : (P : List ℕ → Type 0) (first : List ℕ) (others : List (List ℕ)) (i : ℕ) (item : List ℕ) → i < length others → item ≡ get_or others i item
+    → All P (first ∷ take i others) → P item → All P (first ∷ take (i + 1) others)
+one_more P first others i item inside is all here =
+    let pushed = All-push P (first ∷ take i others) item all here in
+    rw (take_more others i item inside, ← is) pushed
+
+-- the next name is no nearer
+pub nearest_stays : (p : Parameters) (object : List ℕ) (names : List (List ℕ)) (first : List ℕ) (others : List (List ℕ)) (i : ℕ) (item nearest : List ℕ) → i < length others
+    → item ≡ get_or others i item → IsNearestSeen p object names first others i nearest → IsAsNear p.base object nearest item → IsNearestSeen p object names first others (i + 1) nearest
+nearest_stays p object names first others i item nearest inside is seen near =
+    record { among = seen.among; near = one_more (IsAsNear p.base object nearest) first others i item inside is seen.near near }
+
+-- the next name is as near
+pub nearest_changes : (p : Parameters) (object : List ℕ) (names : List (List ℕ)) (first : List ℕ) (others : List (List ℕ)) (i : ℕ) (item nearest : List ℕ) → AreNames p names → IsName p object
+    → names ≡ first ∷ others → i < length others → item ≡ get_or others i item → IsNearestSeen p object names first others i nearest → IsAsNear p.base object item nearest
+    → IsNearestSeen p object names first others (i + 1) item
+nearest_changes p object names first others i item nearest valid object_name split inside is seen near =
+    let among = item_among names first others i item split inside is in
+    let before = All-among (IsAsNear p.base object item) (first ∷ take i others)
+        (λ x h.
+        let x_among : Among x names = rw split (elim h [ inl e ↦ inl e | inr later ↦ inr (among-take i others x later) ]) in
+        as_near-trans p object item nearest x object_name (valid item among) (valid nearest seen.among) (valid x x_among) near
+        (among-All (IsAsNear p.base object nearest) (first ∷ take i others) seen.near x h)) in
+    record {
+      among = among;
+      near = one_more (IsAsNear p.base object item) first others i item inside is before (as_near_same p.base object item item (length object) (omega arith) refl);
+    }
+
+-- all names were seen
+pub nearest_seen_is_root : (p : Parameters) (object : List ℕ) (names : List (List ℕ)) (first : List ℕ) (others : List (List ℕ)) (i : ℕ) (nearest : List ℕ) → AreNames p names → IsName p object
+    → names ≡ first ∷ others → length others ≤ i → IsNearestSeen p object names first others i nearest → root p.base names object ≡ Some nearest
+nearest_seen_is_root p object names first others i nearest valid object_name split end seen =
+    let all = take_all i others end in
+    let near : All (IsAsNear p.base object nearest) (first ∷ others) = rw all at seen.near in
+    nearest_is_root p names object nearest valid object_name seen.among (λ x h. among-All (IsAsNear p.base object nearest) (first ∷ others) near x (rw split at h))
