@@ -1,17 +1,26 @@
 -- The tables at rest over a set of members.
-use Rattle.std.specs.Prelude.{◌≡◌, ℕ, ◌≤◌, List, length, All, AllPairs, ◌⊎◌}
+use Rattle.std.specs.Prelude.{◌≡◌, ◌==◌, ◌&&◌, ℕ, ◌≤◌, Bool, false, Option, None, Some, List, length, filter, All, AllPairs, ◌⊎◌}
 use Rattle.std.specs.Cmp.Lexicographic.{slice_cmp}
 use Rattle.std.specs.Ordering.{nat_cmp}
 use Rattle.std.specs.declared.cmp.Ordering.TheVariants.{Less}
 use Rattle.tap_name.specs.declared.slot.Slot.{Slot}
 use Rattle.tap_name.specs.Settings.{Parameters}
-use Rattle.tap_name.specs.Slot.{Fits}
+use Rattle.tap_name.specs.Slot.{slot_at, Fits}
 use Rattle.tap_name.specs.Root.{Among}
 use Rattle.tap_surrogate.specs.Tables.{Tables}
 
 -- one name stands before another, digit by digit
 abbrev pub IsBelow : List ℕ → List ℕ → Type 0
 IsBelow a b = slice_cmp nat_cmp a b ≡ Less
+
+-- this is the slot
+abbrev pub is_slot : Slot → Option Slot → Bool
+is_slot slot None = false
+is_slot slot (Some other) = (other.level == slot.level) && (other.digit == slot.digit)
+
+-- the members that fit a slot of the owner, in their order
+abbrev pub fitting : List ℕ → Slot → List (List ℕ) → List (List ℕ)
+fitting owner slot members = filter (λ member. is_slot slot (slot_at owner member)) members
 
 -- These links are the `width` least members that fit a slot of the owner, ascending; all that fit, where they are fewer.
 pub record AreLeastFitting (width : ℕ) (owner : List ℕ) (slot : Slot) (members links : List (List ℕ)) : Type 0 where

@@ -6,6 +6,8 @@ mod law;
 mod links;
 mod memory;
 mod root;
+#[cfg(test)]
+mod tests;
 mod walk;
 
 pub use law::{members_law, walk_law};

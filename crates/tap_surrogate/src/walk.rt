@@ -64,7 +64,8 @@ impl Walk {
     pub fn next<L: Links>(&mut self, links: &L) -> Step1
         requires walk { IsStanding (L.parameters links.now) self.old }
         requires links { HaveNames (L.parameters links.now) (L.tables links.now) }
-        ensures { IsStep (L.parameters links.now) (L.tables links.now) self.old self.new result }
+        ensures step { IsStep (L.parameters links.now) (L.tables links.now) self.old self.new result }
+        ensures standing { IsStanding (L.parameters links.now) self.new }
     {
         match self.after_hop(links) {
             Some(after) => {
