@@ -115,7 +115,7 @@ none_before_next base passes from digit from_below below fails first =
     λ other other_below other_passes.
     let least = first other other_below other_passes in
     let apart : cyclic_distance base from digit ≡ cyclic_distance base from other → ⊥ =
-        λ same. true≢false (sym other_passes ∙ ap passes (sym (same_distance base from digit other from_below below other_below same)) ∙ fails) in
+    λ same. true≢false (sym other_passes ∙ ap passes (sym (same_distance base from digit other from_below below other_below same)) ∙ fails) in
     let other_near = distance_below base from other from_below other_below in
     let next = distance_to_next base from digit from_below below (omega (arith, least, apart, other_near)) in
     omega (arith, next, least, apart)

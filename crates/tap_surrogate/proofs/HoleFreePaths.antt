@@ -145,9 +145,9 @@ leads_on : (p : Parameters) (core : List (List ℕ)) (tables : Tables) → IsHol
 leads_on p core tables free [] node level names len below left =
     let n = free.names node left.here in
     let alone = only_left names node (left.each node left.here refl)
-        (λ x h.
-        let o = left.only x h in
-        sym (share_all p level node x n (free.names x o.0) (omega arith) o.1)) in
+    (λ x h.
+    let o = left.only x h in
+    sym (share_all p level node x n (free.names x o.0) (omega arith) o.1)) in
     record { begins = refl; ends = λ before. sym alone; few = omega arith; over_core = λ x h. elim h [ inl e ↦ rw e left.here | inr none ↦ absurd none ] }
 leads_on p core tables free (wanted ∷ more) node level names len below left =
     let inside : level < p.digits = omega arith in

@@ -42,7 +42,7 @@ shared_between p object a b c object_name a_name b_name c_name near next (suc le
     let high = next level in_object after in
     let ends = ap (cyclic_distance p.base (get_or object level 0)) (same_at level many a c (omega arith) shared) in
     let same = same_distance p.base (get_or object level 0) (get_or a level 0) (get_or b level 0) (object_name.below level 0 in_object)
-        (a_name.below level 0 (omega (arith, a_name.len))) (b_name.below level 0 (omega (arith, b_name.len))) (omega (arith, low, high, ends)) in
+    (a_name.below level 0 (omega (arith, a_name.len))) (b_name.below level 0 (omega (arith, b_name.len))) (omega (arith, low, high, ends)) in
     rw add-one at (share_more p level a b a_name b_name inside before same)
 
 -- to be as near is transitive
@@ -151,10 +151,10 @@ pub nearest_changes : (p : Parameters) (object : List ℕ) (names : List (List �
 nearest_changes p object names first others i item nearest valid object_name split inside is seen near =
     let among = item_among names first others i item split inside is in
     let before = All-among (IsAsNear p.base object item) (first ∷ take i others)
-        (λ x h.
-        let x_among : Among x names = rw split (elim h [ inl e ↦ inl e | inr later ↦ inr (among-take i others x later) ]) in
-        as_near-trans p object item nearest x object_name (valid item among) (valid nearest seen.among) (valid x x_among) near
-        (among-All (IsAsNear p.base object nearest) (first ∷ take i others) seen.near x h)) in
+    (λ x h.
+    let x_among : Among x names = rw split (elim h [ inl e ↦ inl e | inr later ↦ inr (among-take i others x later) ]) in
+    as_near-trans p object item nearest x object_name (valid item among) (valid nearest seen.among) (valid x x_among) near
+    (among-All (IsAsNear p.base object nearest) (first ∷ take i others) seen.near x h)) in
     record {
       among = among;
       near = one_more (IsAsNear p.base object item) first others i item inside is before (as_near_same p.base object item item (length object) (omega arith) refl);

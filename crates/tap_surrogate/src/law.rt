@@ -6,8 +6,7 @@ ghost use Rattle.tap_surrogate.specs.Laws.{WalkLaw, RestLaw, FirstFittingLaw};
 /// It does nothing: its contract is the law.
 pub fn walk_law()
     ensures { WalkLaw }
-{
-}
+{}
 
 /// Where each slot of each member's table has the least members that fit it, as many as the width allows, the tables have
 /// no hole that a member could fill. Of ascending members these are the first ones that fit.
@@ -16,5 +15,4 @@ pub fn walk_law()
 pub fn members_law()
     ensures hole_free { RestLaw }
     ensures first_fitting { FirstFittingLaw }
-{
-}
+{}

@@ -54,5 +54,9 @@ fn steps_to(base: u8, from: u8, to: u8) -> u8
     requires to { to < base }
     ensures { result ≡ cyclic_distance base from to }
 {
-    if from <= to { to - from } else { to + base - from }
+    if from <= to {
+        to - from
+    } else {
+        to + base - from
+    }
 }

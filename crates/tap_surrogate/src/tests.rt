@@ -76,7 +76,9 @@ fn names_of(alloc: Global, settings: &Settings, texts: &str) -> Result<List<Name
     let mut names = List::new(alloc);
     for text in texts.split(' ') {
         let name = name_of(settings, text)?;
-        names.push(name).map_err(|_| "memory")?;
+        let Ok(()) = names.push(name) else {
+            return Err("memory")?;
+        };
     }
     Ok(names)
 }

@@ -7,4 +7,4 @@ invariant-loop-level g l =
     let base = (g.L.Links.parameters l.links).base in
     let tables = g.L.Links.tables l.links
     in walk_on base tables l.self.node l.self.level (drop l.self.level l.self.object)
-      ≡ walk_on base tables l.self.node l.level (drop l.level l.self.object)
+    ≡ walk_on base tables l.self.node l.level (drop l.level l.self.object)
