@@ -1,17 +1,14 @@
 -- tables at rest over members have no hole
-use Rattle.std.proofs.Common.{◌≡◌, ◌⊎◌, inl, inr, ℕ, ◌<◌, ◌≤◌, zero, suc, true, Option, None, Some, List, [], ◌∷◌, length, take, get_or, All, arith, sym, refl, subst, ap, ◌∙◌, eqb}
+use Rattle.std.proofs.Common.{◌≡◌, ◌⊎◌, inl, inr, ℕ, ◌<◌, ◌≤◌, zero, suc, true, Option, None, Some, List, [], ◌∷◌, length, take, All, arith, sym, refl, subst, ap, ◌∙◌, eqb}
 use Rattle.std.proofs.lemmas.Bool.{and_parts, and_from, eqb-true, eq-eqb, true≢false}
 use Rattle.std.proofs.lemmas.List.{length-take, get_or-take}
 use Rattle.std.proofs.lemmas.List.Elements.{All-nil, All-cons}
 use Rattle.std.proofs.lemmas.List.Kept.{AllPairs-filter}
 use Rattle.std.specs.List.{AllPairs}
 use Rattle.tap_name.specs.declared.slot.Slot.{Slot}
-use Rattle.tap_name.specs.Settings.{Parameters, AreWithinLimits}
-use Rattle.tap_name.specs.Root.{Among, AreNames}
+use Rattle.tap_name.specs.Root.{Among}
 use Rattle.tap_name.specs.Slot.{slot_at, Fits}
-use Rattle.tap_surrogate.specs.Tables.{Tables}
-use Rattle.tap_surrogate.specs.HoleFree.{IsHoleFree}
-use Rattle.tap_surrogate.specs.Members.{IsBelow, is_slot, fitting, AreLeastFitting, AreMembersTables}
+use Rattle.tap_surrogate.specs.Members.{IsBelow, is_slot, fitting, AreLeastFitting}
 use Rattle.tap_surrogate.proofs.Names.{among-All, among-take, among-filter, among-filter_from}
 use Rattle.tap_surrogate.specs.Laws.{RestLaw, FirstFittingLaw}
 

@@ -1,6 +1,6 @@
 -- the first digit, cyclically, that passes a test
-use Rattle.std.proofs.Common.{◌≡◌, ◌==◌, ◌⊎◌, inl, inr, ℕ, ◌+◌, ◌<◌, ◌≤◌, zero, suc, cond, Bool, true, false, nat_le, arith, ap, sym, refl, ◌∙◌, eqb}
-use Rattle.std.proofs.lemmas.Bool.{cases_Bool, cases_lt, cond_both, eqb-true, eqb-false, true≢false}
+use Rattle.std.proofs.Common.{◌≡◌, ◌==◌, ◌⊎◌, inl, inr, ℕ, ◌+◌, ◌<◌, ◌≤◌, zero, suc, cond, Bool, true, false, nat_le, arith, ap, sym, refl, ◌∙◌}
+use Rattle.std.proofs.lemmas.Bool.{cases_Bool, cases_lt, eqb-true, eqb-false, true≢false}
 use Rattle.std.proofs.lemmas.Bool.Decides.{nat_tests}
 use Rattle.tap_name.specs.Cyclic.{next_digit, first_from, first_cyclic}
 use Rattle.tap_surrogate.specs.Distance.{cyclic_distance}

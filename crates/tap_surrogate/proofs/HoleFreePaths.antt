@@ -1,12 +1,11 @@
 -- a walk over tables without holes leads to the root
-use Rattle.std.proofs.Common.{◌≡◌, ◌==◌, ◌||◌, ◌⊎◌, inl, inr, ℕ, ◌+◌, ◌-◌, ◌<◌, ◌≤◌, zero, suc, Bool, true, false, List, [], ◌∷◌, length, take, get_or, Option, None, Some, filter, All, arith, ap, sym, refl, ◌∙◌, eqb}
+use Rattle.std.proofs.Common.{◌≡◌, ◌==◌, ◌⊎◌, inl, inr, ℕ, ◌+◌, ◌<◌, ◌≤◌, suc, true, false, List, [], ◌∷◌, length, take, get_or, Option, None, Some, filter, All, arith, sym, refl, ◌∙◌, eqb}
 use Rattle.std.specs.Option.{is_some}
 use Rattle.std.specs.List.{last_or}
 use Rattle.std.proofs.lemmas.Bool.{cases_Bool, or_cases, eqb-true, eq-eqb, eqb-false, true≢false}
 use Rattle.std.proofs.lemmas.List.Elements.{All-head, All-tail}
 use Rattle.tap_name.specs.declared.slot.Slot.{Slot}
 use Rattle.tap_name.specs.Settings.{Parameters}
-use Rattle.tap_name.specs.Name.{IsName}
 use Rattle.tap_name.specs.Cyclic.{first_cyclic}
 use Rattle.tap_name.specs.Root.{Among, has_digit, narrowed, first_of}
 use Rattle.tap_surrogate.specs.Tables.{Tables, least_link}

@@ -1,14 +1,14 @@
 -- the nearest of some names is their root
-use Rattle.std.proofs.Common.{◌≡◌, ◌==◌, ◌⊎◌, inl, inr, ℕ, ◌+◌, ◌<◌, ◌≤◌, zero, suc, Bool, true, false, List, [], ◌∷◌, length, take, drop, get_or, take_all, None, Some, All, add-one, filter, arith, ap, sym, refl, ◌∙◌, eqb}
+use Rattle.std.proofs.Common.{◌≡◌, ◌==◌, inl, inr, ℕ, ◌+◌, ◌<◌, ◌≤◌, zero, suc, List, [], ◌∷◌, length, take, drop, get_or, take_all, None, Some, All, add-one, filter, arith, ap, sym, refl, ◌∙◌}
 use Rattle.std.proofs.lemmas.Bool.{cases_lt, eqb-true, eq-eqb}
 use Rattle.std.proofs.lemmas.List.{drop_more, take_more}
 use Rattle.std.proofs.lemmas.List.Elements.{All-push, All-cons, All-nil}
 use Rattle.tap_name.specs.Settings.{Parameters}
 use Rattle.tap_name.specs.Name.{IsName}
 use Rattle.tap_name.specs.Cyclic.{first_cyclic}
-use Rattle.tap_name.specs.Root.{Among, AreNames, has_digit, kept, narrowed, first_of, root}
+use Rattle.tap_name.specs.Root.{Among, AreNames, has_digit, narrowed, first_of, root}
 use Rattle.tap_surrogate.specs.Distance.{cyclic_distance, IsAsNear}
-use Rattle.tap_surrogate.proofs.Cyclic.{same_distance, distance_below, first_cyclic_is}
+use Rattle.tap_surrogate.proofs.Cyclic.{same_distance, first_cyclic_is}
 use Rattle.tap_surrogate.proofs.Names.{has_digit-from, has_digit-to, among-All, All-among, among_item, among-take, among-filter, among-filter_from, only_left, share_more, share_fewer, same_at, share_all}
 
 -- the first digit at which two names differ decides

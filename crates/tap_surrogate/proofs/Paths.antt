@@ -1,8 +1,7 @@
 -- walks, level by level
-use Rattle.std.proofs.Common.{◌≡◌, ◌==◌, ◌||◌, ℕ, ◌+◌, ◌<◌, ◌≤◌, Bool, true, false, List, [], ◌∷◌, length, get_or, Option, None, Some, arith, ap, sym, refl, ◌∙◌, eqb}
+use Rattle.std.proofs.Common.{◌≡◌, ◌==◌, ◌||◌, ℕ, ◌+◌, ◌<◌, Bool, true, false, List, ◌∷◌, get_or, None, Some, sym, refl, eqb}
 use Rattle.std.specs.Option.{is_some}
 use Rattle.std.proofs.lemmas.Bool.{eq-eqb}
-use Rattle.tap_name.specs.Cyclic.{first_cyclic}
 use Rattle.tap_surrogate.specs.Tables.{Tables, least_link}
 use Rattle.tap_surrogate.specs.Walk.{hop, walk_on}
 use Rattle.tap_surrogate.proofs.Cyclic.{NonePassesBefore, first_cyclic_is}

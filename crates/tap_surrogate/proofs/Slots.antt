@@ -1,12 +1,12 @@
 -- the slot of one name at another: what the two share, and where they differ
-use Rattle.std.proofs.Common.{◌≡◌, ◌⊎◌, inl, inr, ℕ, ◌+◌, ◌<◌, ◌≤◌, zero, suc, true, false, List, [], ◌∷◌, length, take, get_or, Option, None, Some, nat_eq, arith, refl, sym, ap, subst, ◌∙◌, eqb}
+use Rattle.std.proofs.Common.{◌≡◌, inl, inr, ℕ, ◌<◌, zero, suc, true, false, List, [], ◌∷◌, length, take, get_or, None, Some, nat_eq, arith, refl, sym, subst, ◌∙◌, eqb}
 use Rattle.std.specs.List.{common_prefix_len}
 use Rattle.std.proofs.lemmas.Bool.{cases_Bool, eqb-true, eq-eqb, eqb-false, ne_eqb}
 use Rattle.std.proofs.lemmas.List.Sums.{common_prefix_len-le}
 use Rattle.tap_name.specs.declared.slot.Slot.{Slot}
 use Rattle.tap_name.specs.Settings.{Parameters}
 use Rattle.tap_name.specs.Name.{IsName}
-use Rattle.tap_name.specs.Slot.{slot_at, Fits}
+use Rattle.tap_name.specs.Slot.{Fits}
 
 -- what the digits behind a longer prefix say
 prefix_more : (x y : ℕ) (xs ys : List ℕ) → nat_eq x y ≡ true → common_prefix_len nat_eq (x ∷ xs) (y ∷ ys) ≡ suc (common_prefix_len nat_eq xs ys)

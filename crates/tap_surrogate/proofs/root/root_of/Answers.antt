@@ -1,4 +1,4 @@
-use Rattle.std.proofs.Common.{◌∙◌, sym, arith}
+use Rattle.std.proofs.Common.{◌∙◌, sym}
 use Rattle.std.proofs.lemmas.List.{nil_from_length}
 use Rattle.tap_surrogate.proofs.Nearest.{root-nil, first_is_nearest, item_among, nearest_stays, nearest_changes, nearest_seen_is_root}
 use Rattle.tap_surrogate.proofs.root.root_of.Goals as goal

@@ -1,5 +1,4 @@
 use Rattle.tap_name.specs.Slot.{slot_at}
-use Rattle.std.proofs.Common.{List, ℕ}
 use Rattle.tap_surrogate.specs.Members.{is_slot}
 use Rattle.tap_surrogate.proofs.Names.{among-filter}
 use Rattle.tap_surrogate.proofs.tests.check.Goals as goal

@@ -1,4 +1,4 @@
-use Rattle.std.proofs.Common.{◌≡◌, ◌==◌, ◌<◌, get_or, sym, ◌∙◌, false, arith, ap}
+use Rattle.std.proofs.Common.{◌<◌, get_or, sym, ◌∙◌, arith}
 use Rattle.std.proofs.lemmas.Bool.{ne_eqb}
 use Rattle.tap_surrogate.proofs.Cyclic.{none_before_next, distance-next}
 use Rattle.tap_surrogate.proofs.Paths.{leads, own_is_taken, link_is_taken, does_not_lead}

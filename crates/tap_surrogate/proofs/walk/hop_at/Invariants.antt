@@ -1,4 +1,4 @@
-use Rattle.std.proofs.Common.{◌≡◌, ◌<◌, ◌==◌, ◌||◌, get_or}
+use Rattle.std.proofs.Common.{◌<◌, ◌==◌, ◌||◌, get_or}
 use Rattle.std.specs.Option.{is_some}
 use Rattle.tap_surrogate.specs.Tables.{least_link}
 use Rattle.tap_surrogate.specs.Distance.{cyclic_distance}

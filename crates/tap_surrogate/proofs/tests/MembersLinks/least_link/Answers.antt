@@ -1,9 +1,4 @@
-use Rattle.std.proofs.Common.{◌≡◌, ◌==◌, ◌<◌, ◌≤◌, ℕ, ◌+◌, true, false, Bool, List, [], ◌∷◌, length, drop, get_or, Some, filter, sym, ap, ◌∙◌, refl, arith}
-use Rattle.std.proofs.lemmas.List.{drop_more}
-use Rattle.tap_name.specs.Name.{IsName}
-use Rattle.tap_name.specs.Root.{Among, first_of}
-use Rattle.tap_name.specs.Slot.{slot_at}
-use Rattle.tap_surrogate.specs.Members.{is_slot}
+use Rattle.std.proofs.Common.{sym, ◌∙◌}
 use Rattle.tap_surrogate.proofs.Names.{among_item}
 use Rattle.tap_surrogate.proofs.tests.MembersLinks.least_link.Goals as goal
 
