@@ -12,7 +12,7 @@ leads tables node level digit = get_or node level 0 == digit || is_some (least_l
 
 -- the walk stays where the node's own digit is the first one that leads on
 pub own_is_taken : (base : ℕ) (tables : Tables) (node : List ℕ) (level wanted digit : ℕ) → wanted < base → digit < base → digit ≡ get_or node level 0
-    → NonePassesBefore base (leads tables node level) wanted digit → hop base tables node level wanted ≡ None
+    → NonePassesBefore base (leads tables node level) wanted digit → None ≡ hop base tables node level wanted
 own_is_taken base tables node level wanted digit wanted_below below own first =
     let test : eqb (get_or node level 0) digit ≡ true = eq-eqb (get_or node level 0) digit (sym own) in
     let passes : leads tables node level digit ≡ true = rw test refl in
@@ -21,7 +21,7 @@ own_is_taken base tables node level wanted digit wanted_below below own first =
 
 -- else the walk hops to the least link of the first digit that leads on
 pub link_is_taken : (base : ℕ) (tables : Tables) (node : List ℕ) (level wanted digit : ℕ) (to : List ℕ) → wanted < base → digit < base → eqb (get_or node level 0) digit ≡ false
-    → least_link tables node level digit ≡ Some to → NonePassesBefore base (leads tables node level) wanted digit → hop base tables node level wanted ≡ Some to
+    → least_link tables node level digit ≡ Some to → NonePassesBefore base (leads tables node level) wanted digit → Some to ≡ hop base tables node level wanted
 link_is_taken base tables node level wanted digit to wanted_below below other link first =
     let passes : leads tables node level digit ≡ true = rw (other, link) refl in
     let taken = first_cyclic_is base (leads tables node level) wanted digit wanted_below below passes first in

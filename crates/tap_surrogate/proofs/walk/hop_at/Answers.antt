@@ -11,14 +11,14 @@ returns-in-Some-clause-value g c =
     let other = ne_eqb (get_or c.args.node.now c.args.level 0) c.loop-digit.digit (λ same. c.loop-digit-test.true (sym same ∙ sym c.digit-own.ensures.value)) in
     let taken = link_is_taken c.base-base.result tables c.args.node.now c.args.level c.args.wanted c.loop-digit.digit c.in-Some.to wanted_below c.loop-digit.invariant.below other
     (sym c.least_link.ensures ∙ c.in-Some.is) c.loop-digit.invariant.first in
-    sym (rw (c.base-base.ensures.value, c.settings.ensures) at taken)
+    rw (c.base-base.ensures.value, c.settings.ensures) at taken
 
 pub returns-clause-value : goal.returns-clause-value
 returns-clause-value g c =
     let wanted_below : c.args.wanted < c.base-base.result = rw (c.base-base.ensures.value, c.settings.ensures) c.requires.wanted in
     let taken = own_is_taken c.base-base.result (g.L.Links.tables c.args.links.now) c.args.node.now c.args.level c.args.wanted c.loop-digit.digit wanted_below c.loop-digit.invariant.below
     (c.loop-digit-test.false ∙ c.digit-own.ensures.value) c.loop-digit.invariant.first in
-    sym (rw (c.base-base.ensures.value, c.settings.ensures) at taken)
+    rw (c.base-base.ensures.value, c.settings.ensures) at taken
 
 pub loop-digit-preserved : goal.loop-digit-preserved
 loop-digit-preserved g c =
