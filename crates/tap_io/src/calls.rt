@@ -1,0 +1,51 @@
+ghost use Rattle.std.specs.Prelude.{◌≡◌};
+ghost use Rattle.tap_io.specs.Calls.{no_calls, is_next_named, after_call};
+
+use std::marker::Model;
+
+// The calls of a source or a sink in memory: which are to fail, and how many there were. Both counts
+// stand still at the greatest u64, which is the number of no call that is to fail.
+#[derive(Drop)]
+pub struct Calls {
+    fails: Vec<u32>,
+    made: u64,
+    faults: u64,
+}
+
+impl Model for Calls {
+    ghost use Rattle.tap_io.specs.Calls.{Calls as CallState};
+
+    ghost Value = { CallState };
+
+    ghost view = { λ c. record { fails = c.fails.items; made = c.made; faults = c.faults } };
+}
+
+impl Calls {
+    pub fn new(fails: Vec<u32>) -> Calls
+        ensures { result ≡ no_calls fails.items }
+    {
+        Calls {
+            fails,
+            made: 0,
+            faults: 0,
+        }
+    }
+
+    // Whether the next call, by its number from 1, is to fail.
+    pub fn is_next_named(&self) -> bool
+        ensures { result ≡ is_next_named self.now }
+    {
+        let number = self.made.saturating_add(1);
+        self.fails.iter().any(|n| u64::from(*n) == number)
+    }
+
+    // Counts a call, and a fault where it failed.
+    pub fn count(&mut self, failed: bool)
+        ensures { self.new ≡ after_call self.old failed }
+    {
+        self.made = self.made.saturating_add(1);
+        if failed {
+            self.faults = self.faults.saturating_add(1);
+        }
+    }
+}
