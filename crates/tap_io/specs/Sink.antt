@@ -2,7 +2,7 @@
 -- and to its count of faults (before and now).
 use Rattle.std.specs.Prelude.{◌≤◌, ℕ, List, Option, length, take}
 use Rattle.std.specs.Io.KnownBytes.{Appends, Keeps}
-use Rattle.tap_io.specs.Faults.{HasRisen}
+use Rattle.tap_io.specs.Faults.{HasRisen, counted}
 use Rattle.tap_io.specs.declared.sink.Took.{Took}
 use Rattle.tap_io.specs.declared.sink.Took.TheVariants.{Took as TookBytes, Failed}
 
@@ -25,6 +25,11 @@ WritesAs old new before now bytes Failed = FailsToWrite old new before now
 pub record Writes (old new : Option (List ℕ)) (before now : ℕ) (bytes : List ℕ) (took : Took) : Type 0 where
   pub later : before ≤ now
   pub answer : WritesAs old new before now bytes took
+
+-- the count of faults after an answer, of a sink that counts each failed write and nothing else
+abbrev pub faults_after : ℕ → Took → ℕ
+faults_after faults (TookBytes n) = faults
+faults_after faults Failed = counted faults
 
 -- Some first bytes of a text were appended, perhaps none and perhaps all: what a sink holds after several writes
 -- of which the last may have failed.

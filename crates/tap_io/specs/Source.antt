@@ -2,7 +2,7 @@
 -- to its count of faults (before and now), and to the buffer that it reads into.
 use Rattle.std.specs.Prelude.{◌≤◌, ℕ, List, Option, length, take}
 use Rattle.std.specs.Io.KnownBytes.{Consumes, Keeps, IsAtEnd}
-use Rattle.tap_io.specs.Faults.{HasRisen}
+use Rattle.tap_io.specs.Faults.{HasRisen, counted}
 use Rattle.tap_io.specs.declared.source.Got.{Got}
 use Rattle.tap_io.specs.declared.source.Got.TheVariants.{Got as GotBytes, End, Failed}
 
@@ -31,3 +31,9 @@ ReadsAs old new before now into Failed = FailsToRead old new before now
 pub record Reads (old new : Option (List ℕ)) (before now : ℕ) (into : List ℕ) (got : Got) : Type 0 where
   pub later : before ≤ now
   pub answer : ReadsAs old new before now into got
+
+-- the count of faults after an answer, of a source that counts each failed read and nothing else
+abbrev pub faults_after : ℕ → Got → ℕ
+faults_after faults (GotBytes n) = faults
+faults_after faults End = faults
+faults_after faults Failed = counted faults

@@ -1,4 +1,6 @@
-ghost use Rattle.std.specs.Prelude.{◌≡◌};
+ghost use Rattle.std.specs.Prelude.{◌≡◌, ◌≤◌};
+ghost use Rattle.std.specs.Bool.{OnTrue};
+ghost use Rattle.tap_io.specs.Faults.{HasRisen};
 ghost use Rattle.tap_io.specs.Calls.{no_calls, is_next_named, after_call};
 
 use std::marker::Model;
@@ -41,7 +43,9 @@ impl Calls {
 
     // Counts a call, and a fault where it failed.
     pub fn count(&mut self, failed: bool)
-        ensures { self.new ≡ after_call self.old failed }
+        ensures after { self.new ≡ after_call self.old failed }
+        ensures later { self.old.faults ≤ self.new.faults }
+        ensures risen { OnTrue failed (HasRisen self.old.faults self.new.faults) }
     {
         self.made = self.made.saturating_add(1);
         if failed {

@@ -1,5 +1,5 @@
 ghost use Rattle.std.specs.Prelude.{◌≡◌, ◌<◌, length};
-ghost use Rattle.tap_io.specs.Sink.{Writes};
+ghost use Rattle.tap_io.specs.Sink.{Writes, faults_after};
 
 use crate::sink::{Sink, Took};
 use std::io::Write;
@@ -38,7 +38,12 @@ impl<W: Write> Sink for StdSink<W> {
 
     ghost faults = { λ s. s.faults };
 
-    fn write(&mut self, bytes: &[u8]) -> Took {
+    /// Counts each error of the writer and each write that takes no byte as a fault, and nothing else.
+    fn write(&mut self, bytes: &[u8]) -> Took
+        requires { 0 < length bytes.now }
+        ensures writes { Writes (W.contents self.old.inner) (W.contents self.new.inner) self.old.faults self.new.faults bytes.now result }
+        ensures counts { self.new.faults ≡ faults_after self.old.faults result }
+    {
         match self.inner.write(bytes) {
             Ok(n) if n > 0 => Took::Took(n),
             _ => {

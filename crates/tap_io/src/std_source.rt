@@ -1,5 +1,5 @@
 ghost use Rattle.std.specs.Prelude.{◌≡◌, ◌<◌, length};
-ghost use Rattle.tap_io.specs.Source.{Reads};
+ghost use Rattle.tap_io.specs.Source.{Reads, faults_after};
 
 use crate::source::{Got, Source};
 use std::io::Read;
@@ -37,7 +37,12 @@ impl<R: Read> Source for StdSource<R> {
 
     ghost faults = { λ s. s.faults };
 
-    fn read(&mut self, into: &mut [u8]) -> Got {
+    /// Counts each error of the reader as a fault, and nothing else. A read of no byte is the end.
+    fn read(&mut self, into: &mut [u8]) -> Got
+        requires { 0 < length into.old }
+        ensures reads { Reads (R.remaining self.old.inner) (R.remaining self.new.inner) self.old.faults self.new.faults into.new result }
+        ensures counts { self.new.faults ≡ faults_after self.old.faults result }
+    {
         match self.inner.read(into) {
             Ok(0) => Got::End,
             Ok(n) => Got::Got(n),
