@@ -26,7 +26,7 @@ read_then_rest bytes copy behind at n is within =
 none_given : (new : Option (List ℕ)) (into : List ℕ) (n : ℕ) → Gives (Some []) new into n → ⊥
 none_given None into n g = g.bytes
 none_given (Some ys) into n g =
-    omega (arith, ap length g.bytes, length-append (take n into) ys, length-take-le n into g.within, g.some)
+    omega (arith, ap length g.bytes, length-append (take n into) ys, length-take-le n into g.within, g.at_least_one)
 
 -- Where the bytes are told and none is left, a read answers the end, or it fails.
 pub ends_where_none_left : (new : Option (List ℕ)) (before now : ℕ) (into : List ℕ) (got : Got) → Reads (Some []) new before now into got

@@ -1,26 +1,21 @@
--- What a write to a sink does: to the bytes that it held (old) and holds (new), where the sink tells them,
--- and to its count of faults (before and now).
+-- What a write to a sink does: to the bytes that it held (`old`) and holds (`new`), which are `None` where the sink
+-- doesn't tell them, and to its count of faults (`before` and `now`).
 use Rattle.std.specs.Prelude.{◌≤◌, ℕ, List, Option, length, take}
-use Rattle.std.specs.Io.KnownBytes.{Appends, Keeps}
-use Rattle.tap_io.specs.Faults.{HasRisen, counted}
+use Rattle.std.specs.Io.KnownBytes.{Appends}
+use Rattle.tap_io.specs.Faults.{Fails, counted}
 use Rattle.tap_io.specs.declared.sink.Took.{Took}
 use Rattle.tap_io.specs.declared.sink.Took.TheVariants.{Took as TookBytes, Failed}
 
 -- the first n bytes were appended
 pub record Takes (old new : Option (List ℕ)) (bytes : List ℕ) (n : ℕ) : Type 0 where
-  pub some : 1 ≤ n
+  pub at_least_one : 1 ≤ n
   pub within : n ≤ length bytes
   pub appends : Appends old new (take n bytes)
-
--- nothing was appended, and a fault was counted
-pub record FailsToWrite (old new : Option (List ℕ)) (before now : ℕ) : Type 0 where
-  pub kept : Keeps old new
-  pub risen : HasRisen before now
 
 -- what each answer says
 abbrev pub WritesAs : Option (List ℕ) → Option (List ℕ) → ℕ → ℕ → List ℕ → Took → Type 0
 WritesAs old new before now bytes (TookBytes n) = Takes old new bytes n
-WritesAs old new before now bytes Failed = FailsToWrite old new before now
+WritesAs old new before now bytes Failed = Fails old new before now
 
 pub record Writes (old new : Option (List ℕ)) (before now : ℕ) (bytes : List ℕ) (took : Took) : Type 0 where
   pub later : before ≤ now

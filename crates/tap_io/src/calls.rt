@@ -1,21 +1,21 @@
 ghost use Rattle.std.specs.Prelude.{◌≡◌, ◌≤◌};
 ghost use Rattle.std.specs.Bool.{OnTrue};
 ghost use Rattle.tap_io.specs.Faults.{HasRisen};
-ghost use Rattle.tap_io.specs.Calls.{no_calls, is_next_named, after_call};
+ghost use Rattle.tap_io.specs.Calls.{no_calls, is_next_to_fail, after_call};
 
 use std::marker::Model;
 
 // The calls of a source or a sink in memory: which are to fail, and how many there were. Both counts
 // stand still at the greatest u64, which is the number of no call that is to fail.
-#[derive(Drop)]
-pub struct Calls {
+#[derive(Debug, Drop)]
+pub(crate) struct Calls {
     fails: Vec<u32>,
     made: u64,
     faults: u64,
 }
 
 impl Model for Calls {
-    ghost use Rattle.tap_io.specs.Calls.{Calls as CallState};
+    ghost use Rattle.tap_io.specs.Calls.{CallState};
 
     ghost Value = { CallState };
 
@@ -23,7 +23,7 @@ impl Model for Calls {
 }
 
 impl Calls {
-    pub fn new(fails: Vec<u32>) -> Calls
+    pub(crate) fn new(fails: Vec<u32>) -> Calls
         ensures { result ≡ no_calls fails.items }
     {
         Calls {
@@ -34,15 +34,15 @@ impl Calls {
     }
 
     // Whether the next call, by its number from 1, is to fail.
-    pub fn is_next_named(&self) -> bool
-        ensures { result ≡ is_next_named self.now }
+    pub(crate) fn is_next_to_fail(&self) -> bool
+        ensures { result ≡ is_next_to_fail self.now }
     {
         let number = self.made.saturating_add(1);
         self.fails.iter().any(|n| u64::from(*n) == number)
     }
 
     // Counts a call, and a fault where it failed.
-    pub fn count(&mut self, failed: bool)
+    pub(crate) fn count(&mut self, failed: bool)
         ensures after { self.new ≡ after_call self.old failed }
         ensures later { self.old.faults ≤ self.new.faults }
         ensures risen { OnTrue failed (HasRisen self.old.faults self.new.faults) }

@@ -7,22 +7,21 @@
 #![tactic(auto)]
 
 mod calls;
-mod memory;
 mod memory_sink;
 mod memory_source;
+mod no_memory;
 mod sink;
 mod source;
 mod std_sink;
 mod std_source;
 
-pub use memory::NoMemory;
 pub use memory_sink::MemorySink;
 pub use memory_source::MemorySource;
+pub use no_memory::NoMemory;
 pub use sink::{Sink, Took};
 pub use source::{Got, Source};
 pub use std_sink::StdSink;
 pub use std_source::StdSource;
-
 
 #[cfg(test)]
 mod tests;

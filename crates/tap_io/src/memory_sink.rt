@@ -3,14 +3,14 @@ ghost use Rattle.tap_io.specs.Sink.{Writes};
 ghost use Rattle.tap_io.specs.MemorySink.{new_sink, write_answer, after_write};
 
 use crate::calls::Calls;
-use crate::memory::NoMemory;
+use crate::no_memory::NoMemory;
 use crate::sink::{Sink, Took};
 use std::alloc::Global;
 use std::marker::Model;
 
 /// A sink in memory, which takes bytes in pieces, fails at the calls that are named, and fails where
 /// it is full.
-#[derive(Drop)]
+#[derive(Debug, Drop)]
 pub struct MemorySink {
     bytes: Vec<u8>,
     piece: usize,
@@ -24,9 +24,14 @@ impl Model for MemorySink {
 
     ghost Value = { SinkState };
 
-    ghost view = { λ s. record { held = s.bytes.items; piece = s.piece; room = s.room; calls = s.calls } };
+    ghost view = { λ s.
+        record { held = s.bytes.items; piece = s.piece; room = s.room; calls = s.calls } };
 
-    ghost invariant = { λ s. record { within : vec_len s.bytes ≤ s.room; reserved : s.room ≤ vec_capacity s.bytes; some : 1 ≤ s.piece } };
+    ghost invariant = { λ s. record {
+      within : vec_len s.bytes ≤ s.room;
+      reserved : s.room ≤ vec_capacity s.bytes;
+      at_least_one : 1 ≤ s.piece;
+    } };
 }
 
 impl MemorySink {
@@ -69,10 +74,11 @@ impl Sink for MemorySink {
         requires { 0 < length bytes.now }
         ensures answer { result ≡ write_answer self.old (length bytes.now) }
         ensures after { self.new ≡ after_write self.old bytes.now result }
-        ensures writes { Writes (Some self.old.held) (Some self.new.held) self.old.calls.faults self.new.calls.faults bytes.now result }
+        ensures writes { Writes (Some self.old.held) (Some self.new.held)
+            self.old.calls.faults self.new.calls.faults bytes.now result }
     {
         let left = self.room - self.bytes.len();
-        let fails = self.calls.is_next_named() || left == 0;
+        let fails = self.calls.is_next_to_fail() || left == 0;
         self.calls.count(fails);
         if fails {
             return Took::Failed;

@@ -3,13 +3,13 @@ ghost use Rattle.tap_io.specs.Source.{Reads};
 ghost use Rattle.tap_io.specs.MemorySource.{new_source, read_answer, after_read};
 
 use crate::calls::Calls;
-use crate::memory::NoMemory;
+use crate::no_memory::NoMemory;
 use crate::source::{Got, Source};
 use std::alloc::Global;
 use std::marker::Model;
 
 /// Bytes in memory that come in pieces, and fail at the calls that are named.
-#[derive(Drop)]
+#[derive(Debug, Drop)]
 pub struct MemorySource {
     bytes: Vec<u8>,
     at: usize,
@@ -25,7 +25,7 @@ impl Model for MemorySource {
 
     ghost view = { λ s. record { left = drop s.at s.bytes.items; piece = s.piece; calls = s.calls } };
 
-    ghost invariant = { λ s. record { within : s.at ≤ length s.bytes.items; some : 1 ≤ s.piece } };
+    ghost invariant = { λ s. record { within : s.at ≤ length s.bytes.items; at_least_one : 1 ≤ s.piece } };
 }
 
 impl MemorySource {
@@ -60,9 +60,10 @@ impl Source for MemorySource {
         requires { 0 < length into.old }
         ensures answer { result ≡ read_answer self.old (length into.old) }
         ensures after { self.new ≡ after_read self.old result }
-        ensures reads { Reads (Some self.old.left) (Some self.new.left) self.old.calls.faults self.new.calls.faults into.new result }
+        ensures reads { Reads (Some self.old.left) (Some self.new.left)
+            self.old.calls.faults self.new.calls.faults into.new result }
     {
-        let fails = self.calls.is_next_named();
+        let fails = self.calls.is_next_to_fail();
         self.calls.count(fails);
         if fails {
             return Got::Failed;

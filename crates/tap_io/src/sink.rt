@@ -25,5 +25,6 @@ pub trait Sink {
     /// where the count of faults rises in this call, and then nothing is appended.
     fn write(&mut self, bytes: &[u8]) -> Took
         requires { 0 < length bytes.now }
-        ensures { Writes (held self.old) (held self.new) (faults self.old) (faults self.new) bytes.now result };
+        ensures { Writes (held self.old) (held self.new)
+            (faults self.old) (faults self.new) bytes.now result };
 }

@@ -30,5 +30,6 @@ pub trait Source {
     /// that came is left open.
     fn read(&mut self, into: &mut [u8]) -> Got
         requires { 0 < length into.old }
-        ensures { Reads (left self.old) (left self.new) (faults self.old) (faults self.new) into.new result };
+        ensures { Reads (left self.old) (left self.new)
+            (faults self.old) (faults self.new) into.new result };
 }

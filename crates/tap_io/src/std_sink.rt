@@ -10,7 +10,7 @@ use std::marker::Model;
 /// Each write makes one call of the writer. Every error of the writer is a fault, `Interrupted` too,
 /// and so is a write that takes no byte: nothing is tried again within a write, and the caller may
 /// write again. The writer is never flushed, so hand in one that holds nothing back.
-#[derive(Drop)]
+#[derive(Debug, Drop)]
 pub struct StdSink<W: Write> {
     inner: W,
     faults: u64,
@@ -41,7 +41,8 @@ impl<W: Write> Sink for StdSink<W> {
     /// Counts each error of the writer and each write that takes no byte as a fault, and nothing else.
     fn write(&mut self, bytes: &[u8]) -> Took
         requires { 0 < length bytes.now }
-        ensures writes { Writes (W.contents self.old.inner) (W.contents self.new.inner) self.old.faults self.new.faults bytes.now result }
+        ensures writes { Writes (W.contents self.old.inner) (W.contents self.new.inner)
+            self.old.faults self.new.faults bytes.now result }
         ensures counts { self.new.faults ≡ faults_after self.old.faults result }
     {
         match self.inner.write(bytes) {

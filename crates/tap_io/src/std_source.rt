@@ -9,7 +9,7 @@ use std::marker::Model;
 ///
 /// Each read makes one call of the reader. Every error of the reader is a fault, `Interrupted` too:
 /// nothing is tried again within a read, and the caller may read again.
-#[derive(Drop)]
+#[derive(Debug, Drop)]
 pub struct StdSource<R: Read> {
     inner: R,
     faults: u64,
@@ -40,7 +40,8 @@ impl<R: Read> Source for StdSource<R> {
     /// Counts each error of the reader as a fault, and nothing else. A read of no byte is the end.
     fn read(&mut self, into: &mut [u8]) -> Got
         requires { 0 < length into.old }
-        ensures reads { Reads (R.remaining self.old.inner) (R.remaining self.new.inner) self.old.faults self.new.faults into.new result }
+        ensures reads { Reads (R.remaining self.old.inner) (R.remaining self.new.inner)
+            self.old.faults self.new.faults into.new result }
         ensures counts { self.new.faults ≡ faults_after self.old.faults result }
     {
         match self.inner.read(into) {

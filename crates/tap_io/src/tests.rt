@@ -20,9 +20,10 @@ fn check_writes<K: Sink>(rt: &impl Abort, sink: &mut K, writes: &[(&[u8], Took)]
     }
 }
 
-// A device whose first call is interrupted.
-struct Interrupted<T> {
-    inner: T,
+// A reader whose first call is interrupted.
+#[derive(Drop)]
+struct Interrupted<R> {
+    inner: R,
     is_past: bool,
 }
 
@@ -37,6 +38,7 @@ impl<R: Read> Read for Interrupted<R> {
 }
 
 // A pipe that nobody reads.
+#[derive(Drop)]
 struct Broken;
 
 impl Write for Broken {
@@ -52,23 +54,31 @@ impl Write for Broken {
 #[test]
 fn memory_gives_and_takes_in_pieces(rt: HostRuntime) -> Result<(), Fail> {
     let mut source = MemorySource::new(rt.alloc(), b"tapestry", 3, &[2, 5])?;
-    check_reads(&rt, &mut source, &[
-        (Got::Got(3), b"tap"),
-        (Got::Failed, b""),
-        (Got::Got(3), b"est"),
-        (Got::Got(2), b"ry"),
-        (Got::Failed, b""),
-        (Got::End, b""),
-        (Got::End, b""),
-    ]);
+    check_reads(
+        &rt,
+        &mut source,
+        &[
+            (Got::Got(3), b"tap"),
+            (Got::Failed, b""),
+            (Got::Got(3), b"est"),
+            (Got::Got(2), b"ry"),
+            (Got::Failed, b""),
+            (Got::End, b""),
+            (Got::End, b""),
+        ],
+    );
     let mut sink = MemorySink::new(rt.alloc(), 3, 7, &[2])?;
-    check_writes(&rt, &mut sink, &[
-        (b"tapestry", Took::Took(3)),
-        (b"estry", Took::Failed),
-        (b"estry", Took::Took(3)),
-        (b"ry", Took::Took(1)),
-        (b"y", Took::Failed),
-    ]);
+    check_writes(
+        &rt,
+        &mut sink,
+        &[
+            (b"tapestry", Took::Took(3)),
+            (b"estry", Took::Failed),
+            (b"estry", Took::Took(3)),
+            (b"ry", Took::Took(1)),
+            (b"y", Took::Failed),
+        ],
+    );
     assert_eq!(rt; sink.bytes(), b"tapestr".as_slice());
     Ok(())
 }
@@ -79,23 +89,29 @@ fn std_carries_the_bytes(rt: HostRuntime) -> Result<(), Fail> {
         inner: b"tapestry".as_slice(),
         is_past: false,
     });
-    check_reads(&rt, &mut source, &[
-        (Got::Failed, b""),
-        (Got::Got(4), b"tape"),
-        (Got::Got(4), b"stry"),
-        (Got::End, b""),
-    ]);
+    check_reads(
+        &rt,
+        &mut source,
+        &[
+            (Got::Failed, b""),
+            (Got::Got(4), b"tape"),
+            (Got::Got(4), b"stry"),
+            (Got::End, b""),
+        ],
+    );
     let mut written = Vec::new(rt.alloc());
-    check_writes(&rt, &mut StdSink::new(&mut written), &[
-        (b"tape", Took::Took(4)),
-        (b"stry", Took::Took(4)),
-    ]);
+    check_writes(
+        &rt,
+        &mut StdSink::new(&mut written),
+        &[(b"tape", Took::Took(4)), (b"stry", Took::Took(4))],
+    );
     assert_eq!(rt; written.as_slice(), b"tapestry".as_slice());
     let mut short = [0u8; 3];
-    check_writes(&rt, &mut StdSink::new(short.as_mut_slice()), &[
-        (b"tape", Took::Took(3)),
-        (b"e", Took::Failed),
-    ]);
+    check_writes(
+        &rt,
+        &mut StdSink::new(short.as_mut_slice()),
+        &[(b"tape", Took::Took(3)), (b"e", Took::Failed)],
+    );
     assert_eq!(rt; short.as_slice(), b"tap".as_slice());
     check_writes(&rt, &mut StdSink::new(Broken), &[(b"tape", Took::Failed)]);
     Ok(())

@@ -16,7 +16,7 @@ returns-clause-reads c =
     record {
       later = omega (arith, ap (λ s. s.calls.faults) c.self.view_is, c.count.ensures.later);
       answer = record {
-        some = omega arith;
+        at_least_one = omega arith;
         within = omega (arith, length-append copy behind);
         bytes = sym (ap (λ s. s.left) c.self.view_is) ∙ read_then_rest bytes copy behind at n is within;
       };
