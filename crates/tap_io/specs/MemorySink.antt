@@ -1,5 +1,5 @@
 -- What a sink in memory is, and what its next write does.
-use Rattle.std.specs.Prelude.{◌==◌, ◌||◌, ◌++◌, ℕ, ◌-◌, min, Bool, true, false, if◌then◌else◌, List, [], length, take}
+use Rattle.std.specs.Prelude.{◌==◌, ◌||◌, ◌++◌, ℕ, ◌-◌, min, true, false, if◌then◌else◌, List, [], length, take}
 use Rattle.tap_io.specs.Calls.{CallState, no_calls, is_next_to_fail, after_call}
 use Rattle.tap_io.specs.declared.sink.Took.{Took}
 use Rattle.tap_io.specs.declared.sink.Took.TheVariants.{Took as TookBytes, Failed}

@@ -1,5 +1,5 @@
 -- What a source in memory is, and what its next read does.
-use Rattle.std.specs.Prelude.{◌==◌, ℕ, min, Bool, true, false, if◌then◌else◌, List, length, drop}
+use Rattle.std.specs.Prelude.{◌==◌, ℕ, min, true, false, if◌then◌else◌, List, length, drop}
 use Rattle.tap_io.specs.Calls.{CallState, no_calls, is_next_to_fail, after_call}
 use Rattle.tap_io.specs.declared.source.Got.{Got}
 use Rattle.tap_io.specs.declared.source.Got.TheVariants.{Got as GotBytes, End, Failed}
