@@ -11,6 +11,7 @@ pub record SinkState : Type 0 where
   pub room : ℕ
   pub calls : CallState
 
+-- before the first write
 abbrev pub new_sink : ℕ → ℕ → List ℕ → SinkState
 new_sink piece room fails = record { held = []; piece = piece; room = room; calls = no_calls fails }
 

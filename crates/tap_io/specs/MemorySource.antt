@@ -10,6 +10,7 @@ pub record SourceState : Type 0 where
   pub piece : ℕ
   pub calls : CallState
 
+-- before the first read
 abbrev pub new_source : List ℕ → ℕ → List ℕ → SourceState
 new_source bytes piece fails = record { left = bytes; piece = piece; calls = no_calls fails }
 
