@@ -13,7 +13,8 @@ use Rattle.tap_surrogate.proofs.Names.{among-All, among-take, among-filter, amon
 use Rattle.tap_surrogate.specs.Laws.{RestLaw, FirstFittingLaw}
 
 -- a slot that a member fits is not empty
-least_fitting_filled : (width : ℕ) (owner : List ℕ) (slot : Slot) (members links : List (List ℕ)) → 1 ≤ width → AreLeastFitting width owner slot members links
+least_fitting_filled : (width : ℕ) (owner : List ℕ) (slot : Slot) (members links : List (List ℕ)) → 1 ≤ width
+    → AreLeastFitting width owner slot members links
     → (member : List ℕ) → Among member members → Fits owner member slot → links ≡ [] → ⊥
 least_fitting_filled width owner slot members links wide are member among fits none =
     elim (are.least member among fits) [
@@ -44,7 +45,8 @@ is_slot-to slot (Some other) is =
     let parts = and_parts (eqb other.level slot.level) (eqb other.digit slot.digit) is in
     ap Some (same_slot other slot (eqb-true other.level slot.level parts.0) (eqb-true other.digit slot.digit parts.1))
 
-AllPairs-take : (R : List ℕ → List ℕ → Type 0) (n : ℕ) (names : List (List ℕ)) → AllPairs R names → AllPairs R (take n names)
+AllPairs-take : (R : List ℕ → List ℕ → Type 0) (n : ℕ) (names : List (List ℕ)) → AllPairs R names
+    → AllPairs R (take n names)
 AllPairs-take R n names pairs = λ i j d before within.
     let len = length-take n names in
     let in_n : j < n = omega (arith, len, within) in
@@ -56,7 +58,8 @@ AllPairs-take R n names pairs = λ i j d before within.
 below_later : (first : List ℕ) (others : List (List ℕ)) → AllPairs IsBelow (first ∷ others) → All (IsBelow first) others
 below_later first others pairs = λ k d within. pairs 0 (suc k) d (omega arith) (omega arith)
 
-AllPairs-tail : (R : List ℕ → List ℕ → Type 0) (first : List ℕ) (others : List (List ℕ)) → AllPairs R (first ∷ others) → AllPairs R others
+AllPairs-tail : (R : List ℕ → List ℕ → Type 0) (first : List ℕ) (others : List (List ℕ)) → AllPairs R (first ∷ others)
+    → AllPairs R others
 AllPairs-tail R first others pairs = λ i j d before within. pairs (suc i) (suc j) d (omega arith) (omega arith)
 
 -- a name of an ascending list is one of the first ones, or above all of them

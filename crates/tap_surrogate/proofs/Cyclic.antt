@@ -6,7 +6,8 @@ use Rattle.tap_name.specs.Cyclic.{next_digit, first_from, first_cyclic}
 use Rattle.tap_surrogate.specs.Distance.{cyclic_distance}
 
 -- the next digit is one more, or 0
-pub next_is : (base digit : ℕ) → digit < base → (next_digit base digit ≡ digit + 1) × (digit + 1 < base) ⊎ (next_digit base digit ≡ 0) × (digit + 1 ≡ base)
+pub next_is : (base digit : ℕ) → digit < base
+    → (next_digit base digit ≡ digit + 1) × (digit + 1 < base) ⊎ (next_digit base digit ≡ 0) × (digit + 1 ≡ base)
 next_is base digit below =
     elim (cases_Bool (digit + 1 == base)) [
       | inl e ↦ inr (rw e refl, eqb-true (digit + 1) base e)
@@ -30,7 +31,8 @@ distance_below base from to from_below to_below =
     elim (distance_is base from to from_below to_below) [ inl up ↦ omega arith | inr past ↦ omega arith ]
 
 -- a digit is reached after its own number of steps alone
-pub same_distance : (base from a b : ℕ) → from < base → a < base → b < base → cyclic_distance base from a ≡ cyclic_distance base from b → a ≡ b
+pub same_distance : (base from a b : ℕ) → from < base → a < base → b < base
+    → cyclic_distance base from a ≡ cyclic_distance base from b → a ≡ b
 same_distance base from a b from_below a_below b_below same =
     elim (distance_is base from a from_below a_below) [
       | inl up ↦ elim (distance_is base from b from_below b_below) [ inl up' ↦ omega arith | inr past' ↦ omega arith ]
@@ -82,8 +84,10 @@ abbrev pub NonePassesBefore : ℕ → (ℕ → Bool) → ℕ → ℕ → Type 0
 NonePassesBefore base passes from digit =
     (other : ℕ) → other < base → passes other ≡ true → cyclic_distance base from digit ≤ cyclic_distance base from other
 
-first_from_is : (base : ℕ) (passes : ℕ → Bool) (found : ℕ) → found < base → passes found ≡ true → (left digit : ℕ) → digit < base
-    → cyclic_distance base digit found < left → NonePassesBefore base passes digit found → first_from base passes left digit ≡ found
+first_from_is : (base : ℕ) (passes : ℕ → Bool) (found : ℕ) → found < base → passes found ≡ true → (left digit : ℕ)
+    → digit < base
+    → cyclic_distance base digit found < left → NonePassesBefore base passes digit found
+    → first_from base passes left digit ≡ found
 first_from_is base passes found found_below found_passes zero digit below near first = absurd (omega arith)
 first_from_is base passes found found_below found_passes (suc left) digit below near first =
     elim (cases_Bool (passes digit)) [
@@ -109,7 +113,8 @@ first_cyclic_is base passes from found from_below found_below found_passes first
     first_from_is base passes found found_below found_passes base from from_below (distance_below base from found from_below found_below) first
 
 -- a digit that does not pass is left behind
-pub none_before_next : (base : ℕ) (passes : ℕ → Bool) (from digit : ℕ) → from < base → digit < base → passes digit ≡ false
+pub none_before_next : (base : ℕ) (passes : ℕ → Bool) (from digit : ℕ) → from < base → digit < base
+    → passes digit ≡ false
     → NonePassesBefore base passes from digit → NonePassesBefore base passes from (next_digit base digit)
 none_before_next base passes from digit from_below below fails first =
     λ other other_below other_passes.
@@ -121,13 +126,15 @@ none_before_next base passes from digit from_below below fails first =
     omega (arith, next, least, apart)
 
 -- two tests that agree find one digit
-pub first_from_agree : (base : ℕ) (p q : ℕ → Bool) → ((digit : ℕ) → p digit ≡ q digit) → (left digit : ℕ) → first_from base p left digit ≡ first_from base q left digit
+pub first_from_agree : (base : ℕ) (p q : ℕ → Bool) → ((digit : ℕ) → p digit ≡ q digit) → (left digit : ℕ)
+    → first_from base p left digit ≡ first_from base q left digit
 first_from_agree base p q same zero digit = refl
 first_from_agree base p q same (suc left) digit =
     rw (same digit) (ap (λ n. cond (q digit) digit n) (first_from_agree base p q same left (next_digit base digit)))
 
 -- where some digit passes, the one that is found does
-first_from_passes : (base : ℕ) (passes : ℕ → Bool) (target : ℕ) → target < base → passes target ≡ true → (left digit : ℕ) → digit < base
+first_from_passes : (base : ℕ) (passes : ℕ → Bool) (target : ℕ) → target < base → passes target ≡ true
+    → (left digit : ℕ) → digit < base
     → cyclic_distance base digit target < left → passes (first_from base passes left digit) ≡ true
 first_from_passes base passes target target_below h zero digit below near = absurd (omega arith)
 first_from_passes base passes target target_below h (suc left) digit below near =
@@ -139,7 +146,8 @@ first_from_passes base passes target target_below h (suc left) digit below near 
           rw e (first_from_passes base passes target target_below h left (next_digit base digit) (next_below base digit below) (omega (arith, next)))
     ]
 
-pub first_cyclic_passes : (base : ℕ) (passes : ℕ → Bool) (target from : ℕ) → target < base → passes target ≡ true → from < base
+pub first_cyclic_passes : (base : ℕ) (passes : ℕ → Bool) (target from : ℕ) → target < base → passes target ≡ true
+    → from < base
     → passes (first_cyclic base passes from) ≡ true
 first_cyclic_passes base passes target from target_below h below =
     first_from_passes base passes target target_below h base from below (distance_below base from target below target_below)

@@ -27,7 +27,8 @@ filled_has_least : (links : List (List ℕ)) → (links ≡ [] → ⊥) → is_s
 filled_has_least [] filled = absurd (filled refl)
 filled_has_least (x ∷ xs) filled = refl
 
-least_is_link : (links : List (List ℕ)) → is_some (first_of links) ≡ true → (b : List ℕ) × (first_of links ≡ Some b) × Among b links
+least_is_link : (links : List (List ℕ)) → is_some (first_of links) ≡ true
+    → (b : List ℕ) × (first_of links ≡ Some b) × Among b links
 least_is_link [] h = absurd (true≢false (sym h))
 least_is_link (x ∷ xs) h = (x, refl, inl refl)
 
@@ -37,8 +38,10 @@ record Reaches (core : List (List ℕ)) (node : List ℕ) (level digit : ℕ) (t
   prefix : take level node ≡ take level to
   digit_is : get_or to level 0 ≡ digit
 
-least_reaches : (p : Parameters) (core : List (List ℕ)) (tables : Tables) → IsHoleFree p core tables → (node : List ℕ) (level digit : ℕ) → Among node core
-    → is_some (least_link tables node level digit) ≡ true → (to : List ℕ) × (least_link tables node level digit ≡ Some to) × Reaches core node level digit to
+least_reaches : (p : Parameters) (core : List (List ℕ)) (tables : Tables) → IsHoleFree p core tables → (node : List ℕ)
+    (level digit : ℕ) → Among node core
+    → is_some (least_link tables node level digit) ≡ true
+    → (to : List ℕ) × (least_link tables node level digit ≡ Some to) × Reaches core node level digit to
 least_reaches p core tables free node level digit here full =
     let slot : Slot = record { level = level; digit = digit } in
     let w = least_is_link (tables node slot) full in
@@ -47,7 +50,8 @@ least_reaches p core tables free node level digit here full =
     (w.0, w.1, record { among = s.1; prefix = shares.prefix; digit_is = shares.digit })
 
 -- a digit leads on from the node exactly where some name that is left has it
-same_digit : (p : Parameters) (core : List (List ℕ)) (tables : Tables) → IsHoleFree p core tables → (node : List ℕ) (level : ℕ) (names : List (List ℕ)) → level < p.digits
+same_digit : (p : Parameters) (core : List (List ℕ)) (tables : Tables) → IsHoleFree p core tables → (node : List ℕ)
+    (level : ℕ) (names : List (List ℕ)) → level < p.digits
     → AreLeft core node level names → (digit : ℕ) → has_digit names level digit ≡ leads tables node level digit
 same_digit p core tables free node level names inside left digit =
     same_tests (has_digit names level digit) (leads tables node level digit)
@@ -71,8 +75,10 @@ same_digit p core tables free node level names inside left digit =
     ])
 
 -- after a level, those are left that share one more digit with the node where the walk stands next
-left_more : (p : Parameters) (core : List (List ℕ)) (tables : Tables) → IsHoleFree p core tables → (node next : List ℕ) (level : ℕ) (names : List (List ℕ)) (digit : ℕ) → level < p.digits
-    → AreLeft core node level names → Reaches core node level digit next → AreLeft core next (level + 1) (filter (λ x. get_or x level 0 == digit) names)
+left_more : (p : Parameters) (core : List (List ℕ)) (tables : Tables) → IsHoleFree p core tables → (node next : List ℕ)
+    (level : ℕ) (names : List (List ℕ)) (digit : ℕ) → level < p.digits
+    → AreLeft core node level names → Reaches core node level digit next
+    → AreLeft core next (level + 1) (filter (λ x. get_or x level 0 == digit) names)
 left_more p core tables free node next level names digit inside left reaches =
     let test = λ (x : List ℕ). get_or x level 0 == digit in
     record {
@@ -86,12 +92,14 @@ left_more p core tables free node next level names digit inside left reaches =
           (eq-eqb (get_or x level 0) digit (sym (same_at level (level + 1) next x (omega arith) e) ∙ reaches.digit_is));
     }
 
-hop_other : (base : ℕ) (tables : Tables) (node : List ℕ) (level wanted : ℕ) → eqb (get_or node level 0) (taken_digit base tables node level wanted) ≡ false
+hop_other : (base : ℕ) (tables : Tables) (node : List ℕ) (level wanted : ℕ)
+    → eqb (get_or node level 0) (taken_digit base tables node level wanted) ≡ false
     → hop base tables node level wanted ≡ least_link tables node level (taken_digit base tables node level wanted)
 hop_other base tables node level wanted other = rw other refl
 
 -- at a level the walk stays, by its own digit, or hops to a core node
-taken_leads : (p : Parameters) (core : List (List ℕ)) (tables : Tables) → IsHoleFree p core tables → (node : List ℕ) (level wanted : ℕ) → level < p.digits → wanted < p.base → Among node core
+taken_leads : (p : Parameters) (core : List (List ℕ)) (tables : Tables) → IsHoleFree p core tables → (node : List ℕ)
+    (level wanted : ℕ) → level < p.digits → wanted < p.base → Among node core
     → let digit = taken_digit p.base tables node level wanted
     in (hop p.base tables node level wanted ≡ None) × Reaches core node level digit node
     ⊎ ((to : List ℕ) × (hop p.base tables node level wanted ≡ Some to) × Reaches core node level digit to)
@@ -117,12 +125,14 @@ record Leads (core : List (List ℕ)) (node : List ℕ) (levels : ℕ) (end : Op
   few : length path ≤ levels + 1
   over_core : (x : List ℕ) → Among x path → Among x core
 
-leads-stays : (core : List (List ℕ)) (node : List ℕ) (levels : ℕ) (end whole : Option (List ℕ)) (rest path : List (List ℕ)) → path ≡ rest → whole ≡ end
+leads-stays : (core : List (List ℕ)) (node : List ℕ) (levels : ℕ) (end whole : Option (List ℕ))
+    (rest path : List (List ℕ)) → path ≡ rest → whole ≡ end
     → Leads core node levels end rest → Leads core node (suc levels) whole path
 leads-stays core node levels end whole rest path same same_end leads =
     rw (same, same_end) (record { begins = leads.begins; ends = leads.ends; few = omega (arith, leads.few); over_core = leads.over_core })
 
-leads-hops : (core : List (List ℕ)) (node next : List ℕ) (levels : ℕ) (end whole : Option (List ℕ)) (rest path : List (List ℕ)) → path ≡ node ∷ rest → whole ≡ end
+leads-hops : (core : List (List ℕ)) (node next : List ℕ) (levels : ℕ) (end whole : Option (List ℕ))
+    (rest path : List (List ℕ)) → path ≡ node ∷ rest → whole ≡ end
     → Among node core → Leads core next levels end rest → Leads core node (suc levels) whole path
 leads-hops core node next levels end whole rest path same same_end here leads =
     rw (same, same_end) (record {
@@ -138,7 +148,8 @@ narrowed-taken : (base : ℕ) (tables : Tables) (node : List ℕ) (level wanted 
     → first_of (narrowed base level (wanted ∷ more) names) ≡ first_of (narrowed base (level + 1) more (filter (λ x. get_or x level 0 == taken_digit base tables node level wanted) names))
 narrowed-taken base tables node level wanted more names agree = rw agree refl
 
-leads_on : (p : Parameters) (core : List (List ℕ)) (tables : Tables) → IsHoleFree p core tables → (more : List ℕ) (node : List ℕ) (level : ℕ) (names : List (List ℕ))
+leads_on : (p : Parameters) (core : List (List ℕ)) (tables : Tables) → IsHoleFree p core tables → (more : List ℕ)
+    (node : List ℕ) (level : ℕ) (names : List (List ℕ))
     → level + length more ≡ p.digits → All (λ d. d < p.base) more → AreLeft core node level names
     → Leads core node (length more) (first_of (narrowed p.base level more names)) (walk_on p.base tables node level more)
 leads_on p core tables free [] node level names len below left =

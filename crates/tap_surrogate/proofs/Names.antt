@@ -13,14 +13,16 @@ same_tests true b f g = sym (f refl)
 same_tests false true f g = g refl
 same_tests false false f g = refl
 
-pub has_digit-from : (names : List (List ℕ)) (x : List ℕ) (level digit : ℕ) → Among x names → get_or x level 0 ≡ digit → has_digit names level digit ≡ true
+pub has_digit-from : (names : List (List ℕ)) (x : List ℕ) (level digit : ℕ) → Among x names → get_or x level 0 ≡ digit
+    → has_digit names level digit ≡ true
 has_digit-from [] x level digit among is = absurd among
 has_digit-from (y ∷ ys) x level digit (inl e) is =
     let test : eqb (get_or y level 0) digit ≡ true = eq-eqb (get_or y level 0) digit (sym (ap (λ n. get_or n level 0) e) ∙ is) in rw test refl
 has_digit-from (y ∷ ys) x level digit (inr h) is =
     elim (cases_Bool (eqb (get_or y level 0) digit)) [ inl e ↦ rw e refl | inr e ↦ rw e (has_digit-from ys x level digit h is) ]
 
-pub has_digit-to : (names : List (List ℕ)) (level digit : ℕ) → has_digit names level digit ≡ true → (x : List ℕ) × Among x names × (get_or x level 0 ≡ digit)
+pub has_digit-to : (names : List (List ℕ)) (level digit : ℕ) → has_digit names level digit ≡ true
+    → (x : List ℕ) × Among x names × (get_or x level 0 ≡ digit)
 has_digit-to [] level digit h = absurd (true≢false (sym h))
 has_digit-to (y ∷ ys) level digit h =
     elim (cases_Bool (eqb (get_or y level 0) digit)) [
@@ -28,7 +30,8 @@ has_digit-to (y ∷ ys) level digit h =
       | inr e ↦ let w = has_digit-to ys level digit (rw e at h) in (w.0, inr w.1, w.2)
     ]
 
-pub among-filter : (p : List ℕ → Bool) (names : List (List ℕ)) (x : List ℕ) → Among x (filter p names) → Among x names × (p x ≡ true)
+pub among-filter : (p : List ℕ → Bool) (names : List (List ℕ)) (x : List ℕ) → Among x (filter p names)
+    → Among x names × (p x ≡ true)
 among-filter p [] x h = absurd h
 among-filter p (y ∷ ys) x h =
     elim (cases_Bool (p y)) [
@@ -36,7 +39,8 @@ among-filter p (y ∷ ys) x h =
       | inr e ↦ let w = among-filter p ys x (rw e at h) in (inr w.0, w.1)
     ]
 
-pub among-filter_from : (p : List ℕ → Bool) (names : List (List ℕ)) (x : List ℕ) → Among x names → p x ≡ true → Among x (filter p names)
+pub among-filter_from : (p : List ℕ → Bool) (names : List (List ℕ)) (x : List ℕ) → Among x names → p x ≡ true
+    → Among x (filter p names)
 among-filter_from p [] x h t = absurd h
 among-filter_from p (y ∷ ys) x (inl e) t = let s : p y ≡ true = ap p (sym e) ∙ t in rw s (inl e)
 among-filter_from p (y ∷ ys) x (inr h) t =
@@ -52,12 +56,14 @@ All-among P [] each = All-nil P
 All-among P (y ∷ ys) each = All-cons P y ys (each y (inl refl)) (All-among P ys (λ x among. each x (inr among)))
 
 -- the only one that is left is the first one
-pub only_left : (names : List (List ℕ)) (node : List ℕ) → Among node names → ((x : List ℕ) → Among x names → x ≡ node) → first_of names ≡ Some node
+pub only_left : (names : List (List ℕ)) (node : List ℕ) → Among node names → ((x : List ℕ) → Among x names → x ≡ node)
+    → first_of names ≡ Some node
 only_left [] node among same = absurd among
 only_left (y ∷ ys) node among same = ap Some (same y (inl refl))
 
 -- two names that share a level's digits and have one digit there share one more
-pub share_more : (p : Parameters) (level : ℕ) (a b : List ℕ) → IsName p a → IsName p b → level < p.digits → take level a ≡ take level b
+pub share_more : (p : Parameters) (level : ℕ) (a b : List ℕ) → IsName p a → IsName p b → level < p.digits
+    → take level a ≡ take level b
     → get_or a level 0 ≡ get_or b level 0 → take (level + 1) a ≡ take (level + 1) b
 share_more p level a b a_name b_name inside prefix same =
     take_more_same a b level 0 (omega (arith, a_name.len)) (omega (arith, b_name.len)) prefix same
@@ -68,12 +74,14 @@ share_fewer few many a b fewer e =
     let f : List ℕ → List ℕ = take few in sym (take-take few many a fewer) ∙ ap f e ∙ take-take few many b fewer
 
 -- what shares some digits has each of them
-pub same_at : (level many : ℕ) (a b : List ℕ) → level < many → take many a ≡ take many b → get_or a level 0 ≡ get_or b level 0
+pub same_at : (level many : ℕ) (a b : List ℕ) → level < many → take many a ≡ take many b
+    → get_or a level 0 ≡ get_or b level 0
 same_at level many a b inside e =
     sym (get_or-take many a level 0 inside) ∙ ap (λ n. get_or n level 0) e ∙ get_or-take many b level 0 inside
 
 -- two names that share all digits are one
-pub share_all : (p : Parameters) (level : ℕ) (a b : List ℕ) → IsName p a → IsName p b → p.digits ≤ level → take level a ≡ take level b → a ≡ b
+pub share_all : (p : Parameters) (level : ℕ) (a b : List ℕ) → IsName p a → IsName p b → p.digits ≤ level
+    → take level a ≡ take level b → a ≡ b
 share_all p level a b a_name b_name end e =
     sym (take_all level a (omega (arith, a_name.len))) ∙ e ∙ take_all level b (omega (arith, b_name.len))
 
@@ -88,5 +96,6 @@ among-take (suc n) [] x h = absurd h
 among-take (suc n) (y ∷ ys) x (inl e) = inl e
 among-take (suc n) (y ∷ ys) x (inr h) = inr (among-take n ys x h)
 
-pub AreNames-push : (p : Parameters) (names : List (List ℕ)) (x : List ℕ) → AreNames p names → IsName p x → AreNames p (names ++ x ∷ [])
+pub AreNames-push : (p : Parameters) (names : List (List ℕ)) (x : List ℕ) → AreNames p names → IsName p x
+    → AreNames p (names ++ x ∷ [])
 AreNames-push p names x names_valid x_name = among-All (IsName p) (names ++ x ∷ []) (All-push (IsName p) names x (All-among (IsName p) names names_valid) x_name)

@@ -12,7 +12,8 @@ use Rattle.tap_surrogate.proofs.Cyclic.{same_distance, first_cyclic_is}
 use Rattle.tap_surrogate.proofs.Names.{has_digit-from, has_digit-to, among-All, All-among, among_item, among-take, among-filter, among-filter_from, only_left, share_more, share_fewer, same_at, share_all}
 
 -- the first digit at which two names differ decides
-pub as_near_at : (base : ℕ) (object a b : List ℕ) (level : ℕ) → take level a ≡ take level b → (get_or a level 0 ≡ get_or b level 0 → ⊥)
+pub as_near_at : (base : ℕ) (object a b : List ℕ) (level : ℕ) → take level a ≡ take level b
+    → (get_or a level 0 ≡ get_or b level 0 → ⊥)
     → cyclic_distance base (get_or object level 0) (get_or a level 0) ≤ cyclic_distance base (get_or object level 0) (get_or b level 0) → IsAsNear base object a b
 as_near_at base object a b level shared apart near at inside at_shared =
     elim (cases_lt level at) [
@@ -25,12 +26,14 @@ as_near_at base object a b level shared apart near at inside at_shared =
     ]
 
 -- two that share all digits are as near
-pub as_near_same : (base : ℕ) (object a b : List ℕ) (many : ℕ) → length object ≤ many → take many a ≡ take many b → IsAsNear base object a b
+pub as_near_same : (base : ℕ) (object a b : List ℕ) (many : ℕ) → length object ≤ many → take many a ≡ take many b
+    → IsAsNear base object a b
 as_near_same base object a b many all shared at inside at_shared =
     let same = ap (cyclic_distance base (get_or object at 0)) (same_at at many a b (omega arith) shared) in omega (arith, same)
 
 -- between two that share some digits stands none that doesn't share them
-shared_between : (p : Parameters) (object a b c : List ℕ) → IsName p object → IsName p a → IsName p b → IsName p c → IsAsNear p.base object a b → IsAsNear p.base object b c
+shared_between : (p : Parameters) (object a b c : List ℕ) → IsName p object → IsName p a → IsName p b → IsName p c
+    → IsAsNear p.base object a b → IsAsNear p.base object b c
     → (level many : ℕ) → level ≤ many → many ≤ p.digits → take many a ≡ take many c → take level a ≡ take level b
 shared_between p object a b c object_name a_name b_name c_name near next zero many within most shared = refl
 shared_between p object a b c object_name a_name b_name c_name near next (suc level) many within most shared =
@@ -62,7 +65,8 @@ record AreLeft (p : Parameters) (object nearest : List ℕ) (level : ℕ) (names
   near : (x : List ℕ) → Among x names → IsAsNear p.base object nearest x
 
 -- the digit that is kept at a level is the nearest name's
-kept_digit : (p : Parameters) (object nearest : List ℕ) (level : ℕ) (names : List (List ℕ)) → IsName p object → level < p.digits → AreLeft p object nearest level names
+kept_digit : (p : Parameters) (object nearest : List ℕ) (level : ℕ) (names : List (List ℕ)) → IsName p object
+    → level < p.digits → AreLeft p object nearest level names
     → first_cyclic p.base (has_digit names level) (get_or object level 0) ≡ get_or nearest level 0
 kept_digit p object nearest level names object_name inside left =
     let name = left.valid nearest left.here in
@@ -75,7 +79,8 @@ kept_digit p object nearest level names object_name inside left =
     let same = ap (cyclic_distance p.base (get_or object level 0)) w.2 in
     omega (arith, near, same))
 
-left_more : (p : Parameters) (object nearest : List ℕ) (level : ℕ) (names : List (List ℕ)) → level < p.digits → AreLeft p object nearest level names
+left_more : (p : Parameters) (object nearest : List ℕ) (level : ℕ) (names : List (List ℕ)) → level < p.digits
+    → AreLeft p object nearest level names
     → AreLeft p object nearest (level + 1) (filter (λ x. get_or x level 0 == get_or nearest level 0) names)
 left_more p object nearest level names inside left =
     let test = λ (x : List ℕ). get_or x level 0 == get_or nearest level 0 in
@@ -88,8 +93,10 @@ left_more p object nearest level names inside left =
       near = λ x h. left.near x (among-filter test names x h).0;
     }
 
-narrowed_to_nearest : (p : Parameters) (object nearest more : List ℕ) (level : ℕ) (names : List (List ℕ)) → IsName p object → level + length more ≡ p.digits
-    → more ≡ drop level object → AreLeft p object nearest level names → first_of (narrowed p.base level more names) ≡ Some nearest
+narrowed_to_nearest : (p : Parameters) (object nearest more : List ℕ) (level : ℕ) (names : List (List ℕ))
+    → IsName p object → level + length more ≡ p.digits
+    → more ≡ drop level object → AreLeft p object nearest level names
+    → first_of (narrowed p.base level more names) ≡ Some nearest
 narrowed_to_nearest p object nearest [] level names object_name len is left =
     only_left names nearest left.here
     (λ x h. sym (share_all p level nearest x (left.valid nearest left.here) (left.valid x h) (omega arith) (left.share x h)))
@@ -110,7 +117,8 @@ pub root-nil : (base : ℕ) (object : List ℕ) → root base [] object ≡ None
 root-nil base object = rw (narrowed-nil base 0 object) refl
 
 -- a name that no other one comes before is the root
-pub nearest_is_root : (p : Parameters) (names : List (List ℕ)) (object nearest : List ℕ) → AreNames p names → IsName p object → Among nearest names
+pub nearest_is_root : (p : Parameters) (names : List (List ℕ)) (object nearest : List ℕ) → AreNames p names
+    → IsName p object → Among nearest names
     → ((x : List ℕ) → Among x names → IsAsNear p.base object nearest x) → root p.base names object ≡ Some nearest
 nearest_is_root p names object nearest valid object_name here near =
     narrowed_to_nearest p object nearest object 0 names object_name (omega (arith, object_name.len)) refl (record { here = here; valid = valid; share = λ x h. refl; near = near })
@@ -120,7 +128,8 @@ pub record IsNearestSeen (p : Parameters) (object : List ℕ) (names : List (Lis
   pub among : Among nearest names
   pub near : All (IsAsNear p.base object nearest) (first ∷ take i others)
 
-pub first_is_nearest : (p : Parameters) (object : List ℕ) (names : List (List ℕ)) (first : List ℕ) (others : List (List ℕ)) → names ≡ first ∷ others
+pub first_is_nearest : (p : Parameters) (object : List ℕ) (names : List (List ℕ)) (first : List ℕ)
+    (others : List (List ℕ)) → names ≡ first ∷ others
     → IsNearestSeen p object names first others 0 first
 first_is_nearest p object names first others split =
     record {
@@ -128,25 +137,31 @@ first_is_nearest p object names first others split =
       near = All-cons (IsAsNear p.base object first) first [] (as_near_same p.base object first first (length object) (omega arith) refl) (All-nil (IsAsNear p.base object first));
     }
 
-pub item_among : (names : List (List ℕ)) (first : List ℕ) (others : List (List ℕ)) (i : ℕ) (item : List ℕ) → names ≡ first ∷ others → i < length others → item ≡ get_or others i item
+pub item_among : (names : List (List ℕ)) (first : List ℕ) (others : List (List ℕ)) (i : ℕ) (item : List ℕ)
+    → names ≡ first ∷ others → i < length others → item ≡ get_or others i item
     → Among item names
 item_among names first others i item split inside is = rw split (inr (among_item others i item inside is))
 
-one_more : (P : List ℕ → Type 0) (first : List ℕ) (others : List (List ℕ)) (i : ℕ) (item : List ℕ) → i < length others → item ≡ get_or others i item
+one_more : (P : List ℕ → Type 0) (first : List ℕ) (others : List (List ℕ)) (i : ℕ) (item : List ℕ) → i < length others
+    → item ≡ get_or others i item
     → All P (first ∷ take i others) → P item → All P (first ∷ take (i + 1) others)
 one_more P first others i item inside is all here =
     let pushed = All-push P (first ∷ take i others) item all here in
     rw (take_more others i item inside, ← is) pushed
 
 -- the next name is no nearer
-pub nearest_stays : (p : Parameters) (object : List ℕ) (names : List (List ℕ)) (first : List ℕ) (others : List (List ℕ)) (i : ℕ) (item nearest : List ℕ) → i < length others
-    → item ≡ get_or others i item → IsNearestSeen p object names first others i nearest → IsAsNear p.base object nearest item → IsNearestSeen p object names first others (i + 1) nearest
+pub nearest_stays : (p : Parameters) (object : List ℕ) (names : List (List ℕ)) (first : List ℕ) (others : List (List ℕ))
+    (i : ℕ) (item nearest : List ℕ) → i < length others
+    → item ≡ get_or others i item → IsNearestSeen p object names first others i nearest
+    → IsAsNear p.base object nearest item → IsNearestSeen p object names first others (i + 1) nearest
 nearest_stays p object names first others i item nearest inside is seen near =
     record { among = seen.among; near = one_more (IsAsNear p.base object nearest) first others i item inside is seen.near near }
 
 -- the next name is as near
-pub nearest_changes : (p : Parameters) (object : List ℕ) (names : List (List ℕ)) (first : List ℕ) (others : List (List ℕ)) (i : ℕ) (item nearest : List ℕ) → AreNames p names → IsName p object
-    → names ≡ first ∷ others → i < length others → item ≡ get_or others i item → IsNearestSeen p object names first others i nearest → IsAsNear p.base object item nearest
+pub nearest_changes : (p : Parameters) (object : List ℕ) (names : List (List ℕ)) (first : List ℕ)
+    (others : List (List ℕ)) (i : ℕ) (item nearest : List ℕ) → AreNames p names → IsName p object
+    → names ≡ first ∷ others → i < length others → item ≡ get_or others i item
+    → IsNearestSeen p object names first others i nearest → IsAsNear p.base object item nearest
     → IsNearestSeen p object names first others (i + 1) item
 nearest_changes p object names first others i item nearest valid object_name split inside is seen near =
     let among = item_among names first others i item split inside is in
@@ -161,8 +176,10 @@ nearest_changes p object names first others i item nearest valid object_name spl
     }
 
 -- all names were seen
-pub nearest_seen_is_root : (p : Parameters) (object : List ℕ) (names : List (List ℕ)) (first : List ℕ) (others : List (List ℕ)) (i : ℕ) (nearest : List ℕ) → AreNames p names → IsName p object
-    → names ≡ first ∷ others → length others ≤ i → IsNearestSeen p object names first others i nearest → root p.base names object ≡ Some nearest
+pub nearest_seen_is_root : (p : Parameters) (object : List ℕ) (names : List (List ℕ)) (first : List ℕ)
+    (others : List (List ℕ)) (i : ℕ) (nearest : List ℕ) → AreNames p names → IsName p object
+    → names ≡ first ∷ others → length others ≤ i → IsNearestSeen p object names first others i nearest
+    → root p.base names object ≡ Some nearest
 nearest_seen_is_root p object names first others i nearest valid object_name split end seen =
     let all = take_all i others end in
     let near : All (IsAsNear p.base object nearest) (first ∷ others) = rw all at seen.near in

@@ -9,7 +9,8 @@ use Rattle.tap_name.specs.Name.{IsName}
 use Rattle.tap_name.specs.Slot.{Fits}
 
 -- what the digits behind a longer prefix say
-prefix_more : (x y : ℕ) (xs ys : List ℕ) → nat_eq x y ≡ true → common_prefix_len nat_eq (x ∷ xs) (y ∷ ys) ≡ suc (common_prefix_len nat_eq xs ys)
+prefix_more : (x y : ℕ) (xs ys : List ℕ) → nat_eq x y ≡ true
+    → common_prefix_len nat_eq (x ∷ xs) (y ∷ ys) ≡ suc (common_prefix_len nat_eq xs ys)
 prefix_more x y xs ys same = rw same (omega arith)
 
 prefix_none : (x y : ℕ) (xs ys : List ℕ) → nat_eq x y ≡ false → common_prefix_len nat_eq (x ∷ xs) (y ∷ ys) ≡ 0
@@ -43,7 +44,8 @@ prefix_differs (x ∷ xs) (y ∷ ys) len within same =
     ]
 
 -- the names share a level's digits and differ behind them
-prefix_is : (a b : List ℕ) (level : ℕ) → level < length a → level < length b → take level a ≡ take level b → (get_or a level 0 ≡ get_or b level 0 → ⊥)
+prefix_is : (a b : List ℕ) (level : ℕ) → level < length a → level < length b → take level a ≡ take level b
+    → (get_or a level 0 ≡ get_or b level 0 → ⊥)
     → common_prefix_len nat_eq a b ≡ level
 prefix_is [] b level in_a in_b shared apart = absurd (omega arith)
 prefix_is (x ∷ xs) [] level in_a in_b shared apart = absurd (omega arith)
@@ -62,7 +64,8 @@ pub record Shares (p : Parameters) (a b : List ℕ) (slot : Slot) : Type 0 where
   pub digit : get_or b slot.level 0 ≡ slot.digit
   pub other : get_or a slot.level 0 ≡ slot.digit → ⊥
 
-pub shares_what_fits : (p : Parameters) (a b : List ℕ) (slot : Slot) → IsName p a → IsName p b → Fits a b slot → Shares p a b slot
+pub shares_what_fits : (p : Parameters) (a b : List ℕ) (slot : Slot) → IsName p a → IsName p b → Fits a b slot
+    → Shares p a b slot
 shares_what_fits p a b slot a_name b_name fits =
     let level = common_prefix_len nat_eq a b in
     elim (cases_Bool (eqb level (length a))) [
@@ -82,7 +85,8 @@ shares_what_fits p a b slot a_name b_name fits =
           let P : Slot → Type 0 = λ s. Shares p a b s in subst P same shares
     ]
 
-pub fits_what_shares : (p : Parameters) (a b : List ℕ) (level : ℕ) → IsName p a → IsName p b → level < p.digits → take level a ≡ take level b
+pub fits_what_shares : (p : Parameters) (a b : List ℕ) (level : ℕ) → IsName p a → IsName p b → level < p.digits
+    → take level a ≡ take level b
     → (get_or a level 0 ≡ get_or b level 0 → ⊥) → Fits a b (record { level = level; digit = get_or b level 0 })
 fits_what_shares p a b level a_name b_name inside shared apart =
     let is = prefix_is a b level (omega (arith, a_name.len)) (omega (arith, b_name.len)) shared apart in

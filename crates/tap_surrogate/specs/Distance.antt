@@ -5,9 +5,10 @@ use Rattle.std.specs.Prelude.{◌≡◌, ℕ, ◌+◌, ◌-◌, ◌<◌, ◌≤�
 abbrev pub cyclic_distance : ℕ → ℕ → ℕ → ℕ
 cyclic_distance base from to = if nat_le from to then to - from else to + base - from
 
--- the name a is as near to the object as b: where their digits first differ, no more steps lead from the object's digit to
--- that of a than to that of b
+-- the name a is as near to the object as b: where their digits first differ, no more steps lead
+-- from the object's digit to that of a than to that of b
 abbrev pub IsAsNear : ℕ → List ℕ → List ℕ → List ℕ → Type 0
 IsAsNear base object a b =
     (level : ℕ) → level < length object → take level a ≡ take level b
-    → cyclic_distance base (slice_index object level) (slice_index a level) ≤ cyclic_distance base (slice_index object level) (slice_index b level)
+    → cyclic_distance base (slice_index object level) (slice_index a level)
+    ≤ cyclic_distance base (slice_index object level) (slice_index b level)

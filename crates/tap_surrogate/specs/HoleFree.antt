@@ -11,6 +11,8 @@ pub record IsHoleFree (p : Parameters) (core : List (List ℕ)) (tables : Tables
   -- core nodes have names of the settings
   pub names : AreNames p core
   -- the slot of a core node at another one has a link to a core node
-  pub filled : (a b : List ℕ) (slot : Slot) → Among a core → Among b core → Fits a b slot → tables a slot ≢ []
+  pub filled : (a b : List ℕ) (slot : Slot) → Among a core → Among b core → Fits a b slot
+      → tables a slot ≢ []
   -- each link of a core node stands in its own slot and is to a core node
-  pub sound : (a b : List ℕ) (slot : Slot) → Among a core → Among b (tables a slot) → Fits a b slot × Among b core
+  pub sound : (a b : List ℕ) (slot : Slot) → Among a core → Among b (tables a slot)
+      → Fits a b slot × Among b core

@@ -22,8 +22,10 @@ is_slot slot (Some other) = (other.level == slot.level) && (other.digit == slot.
 abbrev pub fitting : List ℕ → Slot → List (List ℕ) → List (List ℕ)
 fitting owner slot members = filter (λ member. is_slot slot (slot_at owner member)) members
 
--- These links are the `width` least members that fit a slot of the owner, ascending; all that fit, where they are fewer.
-pub record AreLeastFitting (width : ℕ) (owner : List ℕ) (slot : Slot) (members links : List (List ℕ)) : Type 0 where
+-- These links are the `width` least members that fit a slot of the owner, ascending; all that fit,
+-- where they are fewer.
+pub record AreLeastFitting (width : ℕ) (owner : List ℕ) (slot : Slot)
+    (members links : List (List ℕ)) : Type 0 where
   pub ascending : AllPairs IsBelow links
   pub few : length links ≤ width
   -- each link is a member that fits
@@ -35,4 +37,5 @@ pub record AreLeastFitting (width : ℕ) (owner : List ℕ) (slot : Slot) (membe
 -- each slot of each member's table has the `width` least members that fit it
 abbrev pub AreMembersTables : Parameters → List (List ℕ) → Tables → Type 0
 AreMembersTables p members tables =
-    (owner : List ℕ) (slot : Slot) → Among owner members → AreLeastFitting p.width owner slot members (tables owner slot)
+    (owner : List ℕ) (slot : Slot) → Among owner members
+    → AreLeastFitting p.width owner slot members (tables owner slot)

@@ -1,5 +1,5 @@
-//! Surrogate routing: the one root that each object has among a set of names, and the walk that finds it from node to
-//! node, over their tables alone.
+//! Surrogate routing: the one root that each object has among a set of names, and the walk that
+//! finds it from node to node, over their tables alone.
 #![tactic(auto)]
 
 mod law;

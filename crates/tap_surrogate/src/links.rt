@@ -20,7 +20,8 @@ pub trait Links {
     fn settings(&self) -> Settings
         ensures { result ≡ parameters self.now };
 
-    /// The least core node to which a node has a link in a slot, `None` exactly where it has none there.
+    /// The least core node to which a node has a link in a slot, `None` exactly where it has none
+    /// there.
     fn least_link(&self, node: &Name, slot: Slot) -> Option<Name>
         requires node { IsName (parameters self.now) node.now }
         requires level { slot.level < (parameters self.now).digits }

@@ -6,8 +6,9 @@ ghost use Rattle.tap_surrogate.specs.Distance.{cyclic_distance, IsAsNear};
 
 use tap_name::{List, Name, Settings};
 
-/// The root of an object over a set of names: level by level those are kept whose digit is the first one, cyclically
-/// from the object's, that any name left has; the root is the one that is kept at all levels.
+/// The root of an object over a set of names: level by level those are kept whose digit is the
+/// first one, cyclically from the object's, that any name left has; the root is the one that is
+/// kept at all levels.
 ///
 /// `None` exactly where the list is empty. One pass over the names, and no memory.
 pub fn root_of(names: &List<Name>, settings: &Settings, object: &Name) -> Option<Name>
@@ -26,7 +27,8 @@ pub fn root_of(names: &List<Name>, settings: &Settings, object: &Name) -> Option
     Some(*nearest)
 }
 
-// Whether the digits of `a` come before those of `b`, cyclically from the object's, where they first differ.
+// Whether the digits of `a` come before those of `b`, cyclically from the object's, where they
+// first differ.
 fn is_nearer(settings: &Settings, object: &Name, a: &Name, b: &Name) -> bool
     requires object { IsName settings.now object.now }
     requires a { IsName settings.now a.now }

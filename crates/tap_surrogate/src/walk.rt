@@ -20,8 +20,9 @@ pub enum Step1 {
 
 /// A walk of an object from node to node, by surrogate routing.
 ///
-/// At each level the digits are tried cyclically from the object's. The first one that is the node's own, or whose slot
-/// has a link to a core node, is taken: for its own digit the walk stays, else it hops to the least of these nodes.
+/// At each level the digits are tried cyclically from the object's. The first one that is the
+/// node's own, or whose slot has a link to a core node, is taken: for its own digit the walk stays,
+/// else it hops to the least of these nodes.
 #[derive(Debug, Drop)]
 pub struct Walk {
     node: Name,
@@ -59,8 +60,8 @@ impl Walk {
         self.node
     }
 
-    /// Makes the next hop of the walk over the tables of nodes, or says that the walk stands at the root. Asked again
-    /// at the root, it says so again. No memory.
+    /// Makes the next hop of the walk over the tables of nodes, or says that the walk stands at the
+    /// root. Asked again at the root, it says so again. No memory.
     pub fn next<L: Links>(&mut self, links: &L) -> Step1
         requires walk { IsStanding (L.parameters links.now) self.old }
         requires links { HaveNames (L.parameters links.now) (L.tables links.now) }
@@ -84,9 +85,10 @@ impl Walk {
     fn after_hop<L: Links>(&self, links: &L) -> Option<Walk>
         requires walk { IsStanding (L.parameters links.now) self.now }
         requires links { HaveNames (L.parameters links.now) (L.tables links.now) }
-        ensures { MatchOption result
-            (nodes_left (L.parameters links.now).base (L.tables links.now) self.now ≡ self.now.node ∷ [])
-            (λ after. IsHop (L.parameters links.now) (L.tables links.now) self.now after) }
+        ensures { let p = L.parameters links.now in
+            MatchOption result
+            (nodes_left p.base (L.tables links.now) self.now ≡ self.now.node ∷ [])
+            (λ after. IsHop p (L.tables links.now) self.now after) }
     {
         for level in self.level..links.settings().digits() {
             let wanted = self.object.digit(level as usize);
@@ -112,7 +114,8 @@ pub fn walk_path<L: Links>(
     requires from { IsName (L.parameters links.now) from }
     requires object { IsName (L.parameters links.now) object }
     requires links { HaveNames (L.parameters links.now) (L.tables links.now) }
-    ensures { IfOk result (λ path. path ≡ walk (L.parameters links.now).base (L.tables links.now) from object) }
+    ensures { let base = (L.parameters links.now).base in
+        IfOk result (λ path. path ≡ walk base (L.tables links.now) from object) }
 {
     let mut path = List::new(alloc);
     let mut walk = Walk::new(from, object);
@@ -131,7 +134,8 @@ fn hop_at<L: Links>(links: &L, node: &Name, level: u8, wanted: u8) -> Option<Nam
     requires wanted { wanted < (L.parameters links.now).base }
     requires links { HaveNames (L.parameters links.now) (L.tables links.now) }
     ensures name { IfSome result (IsName (L.parameters links.now)) }
-    ensures value { result ≡ hop (L.parameters links.now).base (L.tables links.now) node.now level wanted }
+    ensures value { let base = (L.parameters links.now).base in
+        result ≡ hop base (L.tables links.now) node.now level wanted }
 {
     let base = links.settings().base();
     let own = node.digit(level as usize);

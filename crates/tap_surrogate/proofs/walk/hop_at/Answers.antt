@@ -8,7 +8,7 @@ pub returns-in-Some-clause-value : goal.returns-in-Some-clause-value
 returns-in-Some-clause-value g c =
     let tables = g.L.Links.tables c.args.links.now in
     let wanted_below : c.args.wanted < c.base-base.result = rw (c.base-base.ensures.value, c.settings.ensures) c.requires.wanted in
-    let other = ne_eqb (get_or c.args.node.now c.args.level 0) c.loop-digit.digit (λ same. c.loop-digit-test.true (sym same ∙ sym c.digit-own.ensures.value)) in
+    let other = ne_eqb (get_or c.args.node.now c.args.level 0) c.loop-digit.digit (λ same. c.loop-digit-test.true (omega (arith, same))) in
     let taken = link_is_taken c.base-base.result tables c.args.node.now c.args.level c.args.wanted c.loop-digit.digit c.in-Some.to wanted_below c.loop-digit.invariant.below other
     (sym c.least_link.ensures ∙ c.in-Some.is) c.loop-digit.invariant.first in
     rw (c.base-base.ensures.value, c.settings.ensures) at taken
