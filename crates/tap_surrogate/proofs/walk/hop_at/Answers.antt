@@ -23,7 +23,7 @@ returns-clause-value g c =
 pub loop-digit-preserved : goal.loop-digit-preserved
 loop-digit-preserved g c =
     let tables = g.L.Links.tables c.args.links.now in
-    let other = ne_eqb (get_or c.args.node.now c.args.level 0) c.loop-digit.digit (λ same. c.loop-digit-test.true (sym same ∙ sym c.digit-own.ensures.value)) in
+    let other = ne_eqb (get_or c.args.node.now c.args.level 0) c.loop-digit.digit (λ same. c.loop-digit-test.true (omega (arith, same))) in
     let fails = does_not_lead tables c.args.node.now c.args.level c.loop-digit.digit other (sym c.least_link.ensures ∙ c.in_default.is) in
     let wanted_below : c.args.wanted < c.base-base.result = rw (c.base-base.ensures.value, c.settings.ensures) c.requires.wanted in
     let first = none_before_next c.base-base.result (leads tables c.args.node.now c.args.level) c.args.wanted c.loop-digit.digit wanted_below c.loop-digit.invariant.below fails c.loop-digit.invariant.first in
