@@ -1,2 +1,7 @@
+pub mod Key
+pub mod Words
 pub mod Step
 pub mod Scenario
+pub mod Value
+pub mod Then
+pub mod Document
