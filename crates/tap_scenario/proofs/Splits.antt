@@ -1,10 +1,9 @@
 -- a text and its words
 use Rattle.std.proofs.Common.{◌≡◌, ◌==◌, ℕ, ◌+◌, ◌<◌, ◌≤◌, nat_lt, true, false, arith, List, [], ◌∷◌, ◌++◌, length, take, drop, get_or, All, Option, None, Some, position, refl, ap, sym, ◌∙◌, inl, inr}
-use Rattle.std.specs.List.{position_or_len, slice_split, join_with_byte}
+use Rattle.std.specs.List.{position_or_len, join_with_byte, AllByRecursion}
 use Rattle.std.proofs.lemmas.Bool.{cases_Bool, ltb-true, ltb-false}
 use Rattle.std.proofs.lemmas.List.Sums.{fails_before_first}
 use Rattle.std.proofs.lemmas.List.Splits.{slice_split_none, slice_split_at, slice_split_first}
-use Rattle.std.proofs.lemmas.List.Elements.{All-from_get_or, All-head, All-tail}
 use Rattle.tap_scenario.specs.Words.{words}
 
 -- the first word ends at the first space
@@ -33,8 +32,8 @@ abbrev pub HasNoSpace : List ℕ → Type 0
 HasNoSpace word = All (λ byte. (byte == 32) ≡ false) word
 
 -- words with a space between them are read back
-pub words-join : (first : List ℕ) (others : List (List ℕ)) → HasNoSpace first → All HasNoSpace others → words (join_with_byte 32 (first ∷ others)) ≡ first ∷ others
+pub words-join : (first : List ℕ) (others : List (List ℕ)) → HasNoSpace first → AllByRecursion HasNoSpace others → words (join_with_byte 32 (first ∷ others)) ≡ first ∷ others
 words-join first [] here there = slice_split_none (λ byte. byte == 32) first here
 words-join first (second ∷ others) here there =
     slice_split_at (λ byte. byte == 32) first 32 (join_with_byte 32 (second ∷ others)) here refl
-        ∙ ap (λ more. first ∷ more) (words-join second others (All-head HasNoSpace second others there) (All-tail HasNoSpace second others there))
+        ∙ ap (λ more. first ∷ more) (words-join second others there.0 there.1)

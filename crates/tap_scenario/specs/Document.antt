@@ -13,7 +13,7 @@ use Rattle.tap_scenario.specs.Key.{value_at, wrong_key}
 use Rattle.tap_scenario.specs.Scenario.{Script, most_frames}
 use Rattle.tap_scenario.specs.Step.{step_of_text}
 use Rattle.tap_scenario.specs.Then.{◌>>=◌, cons_result}
-use Rattle.tap_scenario.specs.Value.{whole_number, array_of_strings, array_of_members}
+use Rattle.tap_scenario.specs.Value.{whole_number, array_of_strings, members_of_texts}
 
 -- what the value under a key is read as, where it is as it has to be
 abbrev pub read_at : {A : Type 0} → Key → (Data → Option A) → Table → Result A Fault
@@ -35,7 +35,7 @@ frames_of p table =
     if is_some (value_at Frames table) then read_at Frames (whole_number 1 (most_frames p.digits)) table else Ok (default_frames p.digits)
 
 abbrev pub members_of : Parameters → Table → Result (List (List ℕ)) Fault
-members_of p table = read_at Members (array_of_members p) table
+members_of p table = read_at Members array_of_strings table >>= (λ texts. ok_or (members_of_texts p texts) (BadValue Members))
 
 -- the step of the string of this number, which is at most 10,000
 abbrev pub numbered_step : Parameters → ℕ → List ℕ → Result Step Fault

@@ -50,7 +50,3 @@ distinct_names names = if are_distinct names then Some names else None
 abbrev pub members_of_texts : Parameters → List (List ℕ) → Option (List (List ℕ))
 members_of_texts p texts =
     if nat_le 1 (length texts) && nat_le (length texts) 64 then option_and_then distinct_names (names_of p texts) else None
-
--- an array of 1 to 64 strings that are distinct names
-abbrev pub array_of_members : Parameters → Data → Option (List (List ℕ))
-array_of_members p value = option_and_then (members_of_texts p) (array_of_strings value)

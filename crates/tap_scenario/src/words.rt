@@ -1,4 +1,4 @@
-ghost use Rattle.std.specs.Prelude.{◌≡◌, [], ◌∷◌, MatchOption};
+ghost use Rattle.std.specs.Prelude.{◌≡◌, ◌==◌, [], ◌∷◌, position, MatchOption};
 ghost use Rattle.tap_scenario.specs.Step.{one_name, two_names};
 ghost use Rattle.tap_scenario.specs.Words.{words};
 
@@ -20,6 +20,13 @@ impl<'a> Model for Words<'a> {
     ghost view = { λ left. words_left (option_copied left.rest) };
 }
 
+// The place of the first space.
+fn first_space(text: &[u8]) -> Option<usize>
+    ensures { result ≡ position (λ byte. byte == 32) text.now }
+{
+    text.iter().position(|byte| *byte == b' ')
+}
+
 impl<'a> Words<'a> {
     // All words of a text.
     pub fn of(text: &'a [u8]) -> Words<'a>
@@ -33,7 +40,7 @@ impl<'a> Words<'a> {
         ensures { MatchOption result (self.old ≡ []) (λ word. self.old ≡ word.now ∷ self.new) }
     {
         let text = self.rest?;
-        match text.iter().position(|byte| *byte == b' ') {
+        match first_space(text) {
             Some(at) => {
                 self.rest = Some(&text[at + 1..]);
                 Some(&text[..at])
