@@ -61,11 +61,13 @@ name_of_digits-back p digits name read =
             | inr all ↦
                 let far : length digits ≤ position_or_len (λ d. nat_le p.base d) digits = ltb-false _ _ all in
                 let whole : Ok digits ≡ Ok name = rw (len, all) at read in
-                let same : digits ≡ name = cc in
-                (same, rw (← same) (record {
-                  len = eqb-true _ _ len;
-                  below = λ k d h. leb-false p.base (get_or digits k d) (fails_before_first (λ d. nat_le p.base d) digits k d (omega arith));
-                }))
+                let same : digits ≡ name = cc in (
+                  same,
+                  rw (← same) (record {
+                    len = eqb-true _ _ len;
+                    below = λ k d h. leb-false p.base (get_or digits k d) (fails_before_first (λ d. nat_le p.base d) digits k d (omega arith));
+                  }),
+                )
           ]
     ]
 

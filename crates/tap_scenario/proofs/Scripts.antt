@@ -19,7 +19,7 @@ use Rattle.tap_scenario.specs.Document.{read_at, settings_of, default_frames, fr
 use Rattle.tap_scenario.specs.Key.{value_at}
 use Rattle.tap_scenario.specs.Scenario.{Script, IsScript, AreDistinct, most_frames}
 use Rattle.tap_scenario.specs.Step.{IsStep, name_of_word, step_of_text}
-use Rattle.tap_scenario.specs.Then.{◌>>=◌, cons_result}
+use Rattle.tap_scenario.specs.Fault.{◌>>=◌, cons_result}
 use Rattle.tap_scenario.specs.Value.{whole_number, array_of_strings, are_distinct, cons_option, names_of, distinct_names, members_of_texts}
 use Rattle.tap_scenario.proofs.Names.{name_of_word-back}
 use Rattle.tap_scenario.proofs.Steps.{step_of_text-back}

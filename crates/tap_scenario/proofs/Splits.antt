@@ -36,4 +36,4 @@ pub words-join : (first : List ℕ) (others : List (List ℕ)) → HasNoSpace fi
 words-join first [] here there = slice_split_none (λ byte. byte == 32) first here
 words-join first (second ∷ others) here there =
     slice_split_at (λ byte. byte == 32) first 32 (join_with_byte 32 (second ∷ others)) here refl
-        ∙ ap (λ more. first ∷ more) (words-join second others there.0 there.1)
+    ∙ ap (λ more. first ∷ more) (words-join second others there.0 there.1)

@@ -12,7 +12,7 @@ use Rattle.tap_scenario.specs.declared.step.Step.{Step}
 use Rattle.tap_scenario.specs.Key.{value_at, wrong_key}
 use Rattle.tap_scenario.specs.Scenario.{Script, most_frames}
 use Rattle.tap_scenario.specs.Step.{step_of_text}
-use Rattle.tap_scenario.specs.Then.{◌>>=◌, cons_result}
+use Rattle.tap_scenario.specs.Fault.{◌>>=◌, cons_result}
 use Rattle.tap_scenario.specs.Value.{whole_number, array_of_strings, members_of_texts}
 
 -- what the value under a key is read as, where it is as it has to be

@@ -3,5 +3,6 @@ pub mod Words
 pub mod Step
 pub mod Scenario
 pub mod Value
-pub mod Then
+pub mod Fault
+pub mod ReadRefusal
 pub mod Document

@@ -3,7 +3,8 @@ ghost use Rattle.std.specs.Option.{ok_or};
 ghost use Rattle.toml.specs.View.{table_view, items_view};
 ghost use Rattle.tap_scenario.specs.Document.{read_at, settings_of, frames_of, members_of, numbered_step, steps_from, steps_of, script_of, scenario_of_table, scenario_of};
 ghost use Rattle.tap_scenario.specs.Key.{missing_key, is_known, has_known_keys, wrong_key};
-ghost use Rattle.tap_scenario.specs.Then.{IsUnlessMemory};
+ghost use Rattle.tap_scenario.specs.Scenario.{IsScript};
+ghost use Rattle.tap_scenario.specs.ReadRefusal.{AnswersUnlessMemory};
 ghost use Rattle.tap_scenario.specs.Value.{whole_number, array_of_strings, are_strings, names_of, texts_of};
 
 use crate::fault::{Fault, Key, ReadRefusal};
@@ -14,35 +15,47 @@ use std::alloc::Global;
 use tap_name::{List, Name, Settings, read_name};
 use toml::{Table, Value};
 
-// The first key, in the order in which keys are missed, that a scenario has to have and the table lacks.
+// The most members that a scenario has.
+const MOST_MEMBERS: usize = 64;
+
+// The most steps that a scenario has.
+const MOST_STEPS: usize = 10_000;
+
+// The keys that a scenario may have.
+const KNOWN: [Key; 6] = [
+    Key::Base,
+    Key::Digits,
+    Key::Width,
+    Key::Frames,
+    Key::Members,
+    Key::Steps,
+];
+
+// The keys that it has to have, in the order in which they are missed.
+const NEEDED: [Key; 5] = [Key::Base, Key::Digits, Key::Width, Key::Members, Key::Steps];
+
+// The first key that a scenario has to have and the table lacks.
 fn missing_key(table: &Table) -> Option<Key>
     ensures { result ≡ missing_key (table_view table.now) }
 {
-    if value_at(table, Key::Base).is_none() {
-        Some(Key::Base)
-    } else if value_at(table, Key::Digits).is_none() {
-        Some(Key::Digits)
-    } else if value_at(table, Key::Width).is_none() {
-        Some(Key::Width)
-    } else if value_at(table, Key::Members).is_none() {
-        Some(Key::Members)
-    } else if value_at(table, Key::Steps).is_none() {
-        Some(Key::Steps)
-    } else {
-        None
+    for key in NEEDED {
+        if value_at(table, key).is_none() {
+            return Some(key);
+        }
     }
+    None
 }
 
 // Whether a key is one that a scenario may have.
 fn is_known(key: &str) -> bool
     ensures { result ≡ is_known key.now }
 {
-    key == Key::Base.text()
-        || key == Key::Digits.text()
-        || key == Key::Width.text()
-        || key == Key::Frames.text()
-        || key == Key::Members.text()
-        || key == Key::Steps.text()
+    for known in KNOWN {
+        if key == known.text() {
+            return true;
+        }
+    }
+    false
 }
 
 // Whether each key of the table is one that a scenario may have.
@@ -104,7 +117,11 @@ fn read_settings(table: &Table) -> Result<Settings, Fault>
 fn read_frames(settings: &Settings, table: &Table) -> Result<u32, Fault>
     ensures { result ≡ frames_of settings.now (table_view table.now) }
 {
-    let (most, default) = if settings.digits() <= 8 { (500_000, 200_000) } else { (100_000, 100_000) };
+    let (most, default) = if settings.digits() <= 8 {
+        (500_000, 200_000)
+    } else {
+        (100_000, 100_000)
+    };
     match value_at(table, Key::Frames) {
         Some(_) => number_at(table, Key::Frames, 1, most),
         None => Ok(default),
@@ -113,9 +130,9 @@ fn read_frames(settings: &Settings, table: &Table) -> Result<u32, Fault>
 
 // The names that the strings among these are, where each of them is one.
 fn names(alloc: Global, settings: &Settings, strings: &[Value]) -> Result<List<Name>, ReadRefusal>
-    ensures { IsUnlessMemory (ok_or (names_of settings.now (texts_of (items_view strings.now))) (Fault.BadValue Key.Members)) result }
+    ensures { AnswersUnlessMemory (ok_or (names_of settings.now (texts_of (items_view strings.now))) (Fault.BadValue Key.Members)) result }
 {
-    let mut names = Vec::new(alloc);
+    let mut names = Vec::with_capacity(alloc, strings.len())?;
     for value in strings {
         if let Some(text) = value.as_str() {
             match read_name(settings, text.as_bytes()) {
@@ -128,11 +145,15 @@ fn names(alloc: Global, settings: &Settings, strings: &[Value]) -> Result<List<N
 }
 
 // The members that a table gives.
-fn read_members(alloc: Global, settings: &Settings, table: &Table) -> Result<List<Name>, ReadRefusal>
-    ensures { IsUnlessMemory (members_of settings.now (table_view table.now)) result }
+fn read_members(
+    alloc: Global,
+    settings: &Settings,
+    table: &Table,
+) -> Result<List<Name>, ReadRefusal>
+    ensures { AnswersUnlessMemory (members_of settings.now (table_view table.now)) result }
 {
     let strings = strings_at(table, Key::Members)?;
-    if strings.is_empty() || strings.len() > 64 {
+    if strings.is_empty() || strings.len() > MOST_MEMBERS {
         return Err(ReadRefusal::Fault(Fault::BadValue(Key::Members)));
     }
     let names = names(alloc, settings, strings)?;
@@ -147,7 +168,7 @@ fn numbered_step(settings: &Settings, number: usize, text: &[u8]) -> Result<Step
     requires { number ≤ 10001 }
     ensures { result ≡ numbered_step settings.now number text.now }
 {
-    if number > 10_000 {
+    if number > MOST_STEPS {
         return Err(Fault::BadStep(number as u32));
     }
     read_step(settings, text).ok_or(Fault::BadStep(number as u32))
@@ -155,10 +176,10 @@ fn numbered_step(settings: &Settings, number: usize, text: &[u8]) -> Result<Step
 
 // The steps that a table gives.
 fn read_steps(alloc: Global, settings: &Settings, table: &Table) -> Result<List<Step>, ReadRefusal>
-    ensures { IsUnlessMemory (steps_of settings.now (table_view table.now)) result }
+    ensures { AnswersUnlessMemory (steps_of settings.now (table_view table.now)) result }
 {
     let strings = strings_at(table, Key::Steps)?;
-    let mut steps = Vec::new(alloc);
+    let mut steps = Vec::with_capacity(alloc, strings.len().min(MOST_STEPS))?;
     for value in strings {
         if let Some(text) = value.as_str() {
             let step = numbered_step(settings, steps.len() + 1, text.as_bytes())?;
@@ -170,7 +191,8 @@ fn read_steps(alloc: Global, settings: &Settings, table: &Table) -> Result<List<
 
 // The scenario that a table is.
 fn read_table(alloc: Global, table: &Table) -> Result<Scenario, ReadRefusal>
-    ensures { IsUnlessMemory (scenario_of_table (table_view table.now)) result }
+    ensures value { AnswersUnlessMemory (scenario_of_table (table_view table.now)) result }
+    ensures valid { IfOk result IsScript }
 {
     if let Some(key) = wrong_key(table) {
         return Err(ReadRefusal::Fault(Fault::BadKey(key)));
@@ -189,7 +211,8 @@ fn read_table(alloc: Global, table: &Table) -> Result<Scenario, ReadRefusal>
 /// `frames` may stand beside them: 1 to 500,000, and 200,000 where it is absent; where `digits` is above 8, 1 to
 /// 100,000, and 100,000 where it is absent. What is wrong is told in the order of [`Fault`]'s variants.
 pub fn read(alloc: Global, bytes: &[u8]) -> Result<Scenario, ReadRefusal>
-    ensures { IsUnlessMemory (scenario_of bytes.now) result }
+    ensures value { AnswersUnlessMemory (scenario_of bytes.now) result }
+    ensures valid { IfOk result IsScript }
 {
     let text = match std::str::from_utf8(bytes) {
         Ok(text) => text,

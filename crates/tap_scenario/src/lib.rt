@@ -5,6 +5,8 @@ mod document;
 mod fault;
 mod scenario;
 mod step;
+#[cfg(test)]
+mod tests;
 mod values;
 mod words;
 

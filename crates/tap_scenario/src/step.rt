@@ -8,9 +8,17 @@ use tap_name::{Name, Settings};
 #[derive(Clone, Copy, Debug, PartialEq, Eq)]
 pub enum Step {
     /// Walks from a core node towards the root of an object.
-    Walk { object: Name, asker: Name },
+    Walk {
+        /// The object whose root is sought.
+        object: Name,
+        /// The node where the walk starts.
+        asker: Name,
+    },
     /// Tells the root of an object.
-    Root { object: Name },
+    Root {
+        /// The object.
+        object: Name,
+    },
 }
 
 // The step that these words are: the first one tells its kind.
@@ -37,6 +45,7 @@ pub fn read_step(settings: &Settings, text: &[u8]) -> Option<Step>
     // A text is read as a step exactly where it is that step's one text and the step's names are names of the settings.
     ensures exact { (step : Step) → ((result ≡ Some step) ↔ ((text.now ≡ text_of_step step) × IsStep settings.now step)) }
 {
+    // A digit below this base prints as one byte, which is read as that digit alone.
     let base = settings.base();
     prove!(base <= 16);
     step_of_words(settings, Words::of(text))

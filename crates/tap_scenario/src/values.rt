@@ -49,7 +49,11 @@ pub fn strings(value: &Value) -> Option<&[Value]>
     match value.as_array() {
         Some(array) => {
             let values = array.as_slice();
-            if are_strings(values) { Some(values) } else { None }
+            if are_strings(values) {
+                Some(values)
+            } else {
+                None
+            }
         }
         None => None,
     }

@@ -6,7 +6,7 @@ use Rattle.toml.specs.Parse.{parse_document}
 use Rattle.toml.specs.View.{table_view}
 use Rattle.tap_scenario.specs.declared.fault.Fault.TheVariants.{NotUtf8, NotToml}
 use Rattle.tap_scenario.specs.Document.{scenario_of, scenario_of_document}
-use Rattle.tap_scenario.specs.Then.{IsUnlessMemory}
+use Rattle.tap_scenario.specs.ReadRefusal.{AnswersUnlessMemory}
 use Rattle.tap_scenario.proofs.document.read.Goals as goal
 
 not_text : (bytes : List ℕ) → (IsUtf8 bytes → ⊥) → scenario_of bytes ≡ Err NotUtf8
@@ -21,13 +21,13 @@ text : (bytes : List ℕ) (document : Option Table) → IsUtf8 bytes → parse_d
 unfolding scenario_of
 text bytes document h e = rw (is_utf8-from_IsUtf8 bytes h, e) refl
 
-pub returns-in-Err : goal.returns-in-Err
-returns-in-Err c = not_text _ c.in-Err.ensures.cases.0
+pub returns-in-Err-clause-value : goal.returns-in-Err-clause-value
+returns-in-Err-clause-value c = not_text _ c.in-Err.ensures.cases.0
 
-pub returns-in-Ok-table_from_str : goal.returns-in-Ok-table_from_str
-returns-in-Ok-table_from_str c =
-    rw (text c.args.bytes.now (Some (table_view c.in-Ok-table_from_str.table)) c.in-Ok.ensures.cases.1 (rw (← c.in-Ok.ensures.cases.0) c.in-Ok-table_from_str.ensures.ok)) c.read_table.ensures
+pub returns-in-Ok-table_from_str-clause-value : goal.returns-in-Ok-table_from_str-clause-value
+returns-in-Ok-table_from_str-clause-value c =
+    rw (text c.args.bytes.now (Some (table_view c.in-Ok-table_from_str.table)) c.in-Ok.ensures.cases.1 (rw (← c.in-Ok.ensures.cases.0) c.in-Ok-table_from_str.ensures.ok)) c.read_table.ensures.value
 
-pub returns-else-is_memory : goal.returns-else-is_memory
-returns-else-is_memory c =
+pub returns-else-is_memory-clause-value : goal.returns-else-is_memory-clause-value
+returns-else-is_memory-clause-value c =
     text c.args.bytes.now None c.in-Ok.ensures.cases.1 (rw (← c.in-Ok.ensures.cases.0) (c.in-Err-table_from_str.ensures.refused (λ e. search (rules, c.is_memory.ensures.1 e))))

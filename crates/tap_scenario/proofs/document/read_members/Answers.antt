@@ -6,7 +6,7 @@ use Rattle.tap_scenario.specs.Document.{read_at}
 use Rattle.tap_scenario.specs.Value.{are_strings, texts_of, array_of_strings}
 use Rattle.tap_scenario.proofs.Members.{members_of-count, members_of-names}
 use Rattle.tap_scenario.proofs.document.read_members.Goals as goal
-use Rattle.tap_scenario.proofs.document.read_members.Goals.{then-is_empty-via-then-is_empty, then-is_empty-via-else-is_empty+then-strings-gt64}
+use Rattle.tap_scenario.proofs.document.read_members.Goals.{then-is_empty-via-then-is_empty, then-is_empty-via-else-is_empty+then-strings-gt-MOST_MEMBERS}
 
 pub returns-then-is_empty : goal.returns-then-is_empty
 returns-then-is_empty c =
@@ -18,8 +18,8 @@ returns-then-is_empty c =
       | then-is_empty-via-then-is_empty w ↦
           let none : (nat_le 1 (length values) && nat_le (length values) 64) ≡ false = let e = w.if-is_empty.true in grind (arith, nat_tests) in
           members_of-count c.args.settings.now (table_view c.args.table.now) values is strings none
-      | then-is_empty-via-else-is_empty+then-strings-gt64 w ↦
-          let many : (nat_le 1 (length values) && nat_le (length values) 64) ≡ false = let e = w.if-strings-gt64.true in grind (arith, nat_tests) in
+      | then-is_empty-via-else-is_empty+then-strings-gt-MOST_MEMBERS w ↦
+          let many : (nat_le 1 (length values) && nat_le (length values) 64) ≡ false = let e = w.if-strings-gt-MOST_MEMBERS.true in grind (arith, nat_tests) in
           members_of-count c.args.settings.now (table_view c.args.table.now) values is strings many
     ]
 
