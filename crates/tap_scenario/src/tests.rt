@@ -1,7 +1,7 @@
 use crate::{Fault, Key, ReadRefusal, Scenario, Step, read, read_step};
 use std::alloc::{AllocError, Global};
 use std::test::Fail;
-use tap_name::{List, Settings, read_name};
+use tap_name::{List, Name, Settings, read_name};
 
 // A scenario's lines, each under its key.
 const LINES: [(&str, &str); 5] = [
@@ -198,62 +198,6 @@ fn counts(alloc: Global, text: &str) -> Result<(u32, usize, usize), ReadRefusal>
 }
 
 #[test]
-fn reads_scenarios(rt: HostRuntime) -> Result<(), Fail> {
-    let alloc = rt.alloc();
-    for (text, seen) in TEXTS.iter() {
-        assert_eq!(rt; counts(alloc, text), Ok(*seen), "{text}");
-    }
-    assert_eq!(rt;
-        counts(
-            alloc,
-            "frames = 100001\nbase = 16\ndigits = 9\nwidth = 4\nmembers = [\"012345678\"]\nsteps = []\n"
-        ),
-        Err(ReadRefusal::Fault(Fault::BadValue(Key::Frames)))
-    );
-    Ok(())
-}
-
-#[test]
-fn tells_what_it_read(rt: HostRuntime) -> Result<(), Fail> {
-    let alloc = rt.alloc();
-    let text = text_with(alloc, "frames", "frames = 500000\n")?;
-    let scenario = read(alloc, text.as_bytes()).map_err(|_| "a scenario")?;
-    let settings = Settings::new(4, 3, 2).ok_or("settings")?;
-    assert_eq!(rt; scenario.settings(), settings);
-    assert_eq!(rt; scenario.frames(), 500_000);
-    let object = read_name(&settings, b"123").map_err(|_| "a name")?;
-    let asker = read_name(&settings, b"000").map_err(|_| "a name")?;
-    let last = read_name(&settings, b"301").map_err(|_| "a name")?;
-    assert_eq!(rt; scenario.members().len(), 5);
-    assert_eq!(rt;
-        (scenario.members().at(0), scenario.members().at(4)),
-        (asker, last)
-    );
-    assert_eq!(rt; scenario.step_count(), 1);
-    assert_eq!(rt; scenario.step_at(0), Step::Walk { object, asker });
-    assert_eq!(rt;
-        read_step(&settings, b"walk 123 from 000"),
-        Some(Step::Walk { object, asker })
-    );
-    assert_eq!(rt;
-        read_step(&settings, b"root 123"),
-        Some(Step::Root { object })
-    );
-    let members = List::from_vec(scenario.members().as_slice().to_vec(alloc)?);
-    let without_steps = Scenario::of(
-        &scenario.settings(),
-        scenario.frames(),
-        members,
-        List::new(alloc),
-    );
-    assert_eq!(rt;
-        (without_steps.members().len(), without_steps.step_count()),
-        (5, 0)
-    );
-    Ok(())
-}
-
-#[test]
 fn refuses_steps(rt: HostRuntime) -> Result<(), Fail> {
     let settings = Settings::new(4, 3, 2).ok_or("settings")?;
     for text in NO_STEPS.iter() {
@@ -287,40 +231,131 @@ fn refuses_texts(rt: HostRuntime) -> Result<(), Fail> {
     Ok(())
 }
 
-// A line that gives a key an array of so many strings, which are all one, or else the numbers from 0 as two digits of
-// base 16.
-fn array_line(
-    alloc: Global,
-    key: &str,
-    count: u32,
-    same: Option<&str>,
-) -> Result<String, AllocError> {
-    let mut line = format!(in alloc; "{key} = [")?;
-    for i in 0..count {
-        let item = match same {
-            Some(text) => format!(in alloc; "\"{text}\", ")?,
-            None => format!(in alloc; "\"{i:02x}\", ")?,
-        };
-        line.push_str(item.as_str())?;
+#[test]
+fn reads_scenarios(rt: HostRuntime) -> Result<(), Fail> {
+    let alloc = rt.alloc();
+    for (text, seen) in TEXTS.iter() {
+        assert_eq!(rt; counts(alloc, text), Ok(*seen), "{text}");
+    }
+    let many_frames =
+        "frames = 100001\nbase = 16\ndigits = 9\nwidth = 4\nmembers = [\"012345678\"]\nsteps = []\n";
+    assert_eq!(rt;
+        counts(alloc, many_frames),
+        Err(ReadRefusal::Fault(Fault::BadValue(Key::Frames)))
+    );
+    Ok(())
+}
+
+// The settings of the lines above, and two of their names.
+fn named() -> Result<(Settings, Name, Name), Fail> {
+    let settings = Settings::new(4, 3, 2).ok_or("settings")?;
+    let object = read_name(&settings, b"123").map_err(|_| "a name")?;
+    let asker = read_name(&settings, b"000").map_err(|_| "a name")?;
+    Ok((settings, object, asker))
+}
+
+#[test]
+fn reads_steps(rt: HostRuntime) -> Result<(), Fail> {
+    let (settings, object, asker) = named()?;
+    assert_eq!(rt;
+        read_step(&settings, b"walk 123 from 000"),
+        Some(Step::Walk { object, asker })
+    );
+    assert_eq!(rt;
+        read_step(&settings, b"root 123"),
+        Some(Step::Root { object })
+    );
+    Ok(())
+}
+
+#[test]
+fn tells_what_it_read(rt: HostRuntime) -> Result<(), Fail> {
+    let alloc = rt.alloc();
+    let (settings, object, asker) = named()?;
+    let text = text_with(alloc, "frames", "frames = 500000\n")?;
+    let scenario = read(alloc, text.as_bytes()).map_err(|_| "a scenario")?;
+    assert_eq!(rt; scenario.settings(), settings);
+    assert_eq!(rt; scenario.frames(), 500_000);
+    assert_eq!(rt; scenario.members().as_slice().first().copied(), Some(asker));
+    assert_eq!(rt; scenario.step_count(), 1);
+    assert_eq!(rt; scenario.step_at(0), Step::Walk { object, asker });
+    Ok(())
+}
+
+#[test]
+fn makes_a_scenario(rt: HostRuntime) -> Result<(), Fail> {
+    let alloc = rt.alloc();
+    let text = text_with(alloc, "frames", "frames = 9\n")?;
+    let scenario = read(alloc, text.as_bytes()).map_err(|_| "a scenario")?;
+    let members = List::from_vec(scenario.members().as_slice().to_vec(alloc)?);
+    let made = Scenario::of(
+        &scenario.settings(),
+        scenario.frames(),
+        members,
+        List::new(alloc),
+    );
+    assert_eq!(rt; made.frames(), 9);
+    assert_eq!(rt; made.members().len(), 5);
+    assert_eq!(rt; made.step_count(), 0);
+    Ok(())
+}
+
+// The digits of base 16.
+const DIGITS: [char; 16] = [
+    '0', '1', '2', '3', '4', '5', '6', '7', '8', '9', 'a', 'b', 'c', 'd', 'e', 'f',
+];
+
+// A scenario's text with the 64 names of two digits that are below 40 in base 16, and these behind them.
+fn text_of_members(alloc: Global, more: &str) -> Result<String, AllocError> {
+    let mut text = String::from_str(
+        alloc,
+        "base = 16\ndigits = 2\nwidth = 1\nsteps = []\nmembers = [",
+    )?;
+    for high in ['0', '1', '2', '3'] {
+        for low in DIGITS {
+            text.push('"')?;
+            text.push(high)?;
+            text.push(low)?;
+            text.push_str("\", ")?;
+        }
+    }
+    text.push_str(more)?;
+    text.push_str("]\n")?;
+    Ok(text)
+}
+
+// The line of so many steps, which are all one.
+fn line_of_steps(alloc: Global, count: u32) -> Result<String, AllocError> {
+    let mut line = String::from_str(alloc, "steps = [")?;
+    for _ in 0..count {
+        line.push_str("\"root 000\", ")?;
     }
     line.push_str("]\n")?;
     Ok(line)
 }
 
 #[test]
-fn keeps_to_its_counts(rt: HostRuntime) -> Result<(), Fail> {
+fn keeps_to_the_most_members(rt: HostRuntime) -> Result<(), Fail> {
     let alloc = rt.alloc();
-    let too_many = Err(ReadRefusal::Fault(Fault::BadValue(Key::Members)));
-    for (count, seen) in [(64, Ok((200_000, 64, 0))), (65, too_many)].iter() {
-        let mut text = array_line(alloc, "members", *count, None)?;
-        text.push_str("base = 16\ndigits = 2\nwidth = 1\nsteps = []\n")?;
-        assert_eq!(rt; counts(alloc, text.as_str()), *seen);
-    }
-    let one_more = Err(ReadRefusal::Fault(Fault::BadStep(10_001)));
-    for (count, seen) in [(10_000, Ok((200_000, 5, 10_000))), (10_001, one_more)].iter() {
-        let line = array_line(alloc, "steps", *count, Some("root 000"))?;
-        let text = text_with(alloc, "steps", line.as_str())?;
-        assert_eq!(rt; counts(alloc, text.as_str()), *seen);
-    }
+    let most = text_of_members(alloc, "")?;
+    assert_eq!(rt; counts(alloc, most.as_str()), Ok((200_000, 64, 0)));
+    let more = text_of_members(alloc, "\"40\"")?;
+    assert_eq!(rt;
+        counts(alloc, more.as_str()),
+        Err(ReadRefusal::Fault(Fault::BadValue(Key::Members)))
+    );
+    Ok(())
+}
+
+#[test]
+fn keeps_to_the_most_steps(rt: HostRuntime) -> Result<(), Fail> {
+    let alloc = rt.alloc();
+    let most = text_with(alloc, "steps", line_of_steps(alloc, 10_000)?.as_str())?;
+    assert_eq!(rt; counts(alloc, most.as_str()), Ok((200_000, 5, 10_000)));
+    let more = text_with(alloc, "steps", line_of_steps(alloc, 10_001)?.as_str())?;
+    assert_eq!(rt;
+        counts(alloc, more.as_str()),
+        Err(ReadRefusal::Fault(Fault::BadStep(10_001)))
+    );
     Ok(())
 }
