@@ -1,12 +1,11 @@
 -- the members of a table
-use Rattle.std.proofs.Common.{◌≡◌, ◌∙◌, ◌&&◌, ℕ, nat_le, true, false, Bool, List, length, Option, None, Some, Result, Ok, Err, refl, ap, sym}
+use Rattle.std.proofs.Common.{◌≡◌, ◌&&◌, ℕ, nat_le, true, false, List, length, Option, None, Some, Ok, Err, refl}
 use Rattle.std.specs.Option.{ok_or, option_and_then}
 use Rattle.toml.specs.declared.value.Value.{Value}
 use Rattle.toml.specs.Data.{Members as Table}
 use Rattle.toml.specs.View.{items_view}
 use Rattle.tap_name.specs.Settings.{Parameters}
 use Rattle.tap_scenario.specs.declared.fault.Key.TheVariants.{Members}
-use Rattle.tap_scenario.specs.declared.fault.Fault.{Fault}
 use Rattle.tap_scenario.specs.declared.fault.Fault.TheVariants.{BadValue}
 use Rattle.tap_scenario.specs.Document.{read_at, members_of}
 use Rattle.tap_scenario.specs.Value.{are_strings, texts_of, array_of_strings, names_of, are_distinct, distinct_names}

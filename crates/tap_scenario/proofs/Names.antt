@@ -1,16 +1,14 @@
 -- a name and its text
-use Rattle.std.proofs.Common.{◌≡◌, ◌==◌, ℕ, ◌<◌, ◌≤◌, nat_lt, nat_le, true, false, Bool, cond, arith, List, [], ◌∷◌, length, get_or, map, All, Option, None, Some, Result, Ok, Err, position, refl, ap, sym, ◌∙◌, inl, inr}
+use Rattle.std.proofs.Common.{◌≡◌, ◌==◌, ℕ, ◌<◌, ◌≤◌, nat_lt, nat_le, false, arith, List, [], ◌∷◌, length, get_or, map, All, Some, Result, Ok, Err, refl, ap, sym, ◌∙◌, inl, inr}
 use Rattle.std.specs.List.{position_or_len}
 use Rattle.std.specs.Result.{result_ok}
-use Rattle.std.proofs.lemmas.Bool.{cases_Bool, ltb-true, ltb-false, leb-false, eqb-true, ne_eqb}
+use Rattle.std.proofs.lemmas.Bool.{cases_Bool, ltb-false, leb-false, eqb-true}
 use Rattle.std.proofs.lemmas.Bool.Decides.{nat_tests}
-use Rattle.std.proofs.lemmas.List.{length-map}
 use Rattle.std.proofs.lemmas.List.Sums.{fails_before_first}
 use Rattle.std.proofs.lemmas.List.Elements.{All-nil, All-cons, All-head, All-tail}
-use Rattle.tap_name.specs.declared.name.NameFault.{NameFault}
 use Rattle.tap_name.specs.Settings.{Parameters}
 use Rattle.tap_name.specs.Digits.{text_of_digit, digit_of_text}
-use Rattle.tap_name.specs.Name.{IsName, name_of_digits, unless_bad, text_of_name}
+use Rattle.tap_name.specs.Name.{IsName, name_of_digits, text_of_name}
 use Rattle.tap_name.proofs.Read.{all_good}
 use Rattle.tap_scenario.specs.Step.{name_of_word}
 use Rattle.tap_scenario.proofs.Splits.{HasNoSpace}

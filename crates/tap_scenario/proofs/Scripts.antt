@@ -1,8 +1,8 @@
 -- what is read is within its limits
-use Rattle.std.proofs.Common.{◌≡◌, ◌∙◌, ◌&&◌, ◌==◌, not, ℕ, suc, ◌+◌, ◌<◌, ◌≤◌, nat_le, true, false, Bool, bytes_eq, ℤ, pos, negsuc, arith, rules, List, [], ◌∷◌, length, All, Option, None, Some, Result, Ok, Err, refl, ap, sym, inl, inr}
+use Rattle.std.proofs.Common.{◌≡◌, ◌&&◌, not, ℕ, suc, ◌+◌, ◌≤◌, nat_le, true, false, bytes_eq, pos, negsuc, arith, List, [], ◌∷◌, length, All, Option, None, Some, Result, Ok, Err, refl, ap, sym, inl, inr}
 use Rattle.std.specs.List.{list_any}
 use Rattle.std.specs.Option.{ok_or, option_and_then, is_some}
-use Rattle.std.proofs.lemmas.Bool.{cases_Bool, and_parts, or_parts, leb-true, leb-false, not-true}
+use Rattle.std.proofs.lemmas.Bool.{cases_Bool, and_parts, or_parts, leb-true, not-true}
 use Rattle.std.proofs.lemmas.Bool.Decides.{nat_tests}
 use Rattle.std.proofs.lemmas.List.Elements.{All-nil, All-cons}
 use Rattle.std.proofs.lemmas.List.Kept.{AllPairs-cons}
@@ -17,7 +17,7 @@ use Rattle.tap_scenario.specs.declared.fault.Fault.TheVariants.{BadValue, BadSte
 use Rattle.tap_scenario.specs.declared.step.Step.{Step}
 use Rattle.tap_scenario.specs.Document.{read_at, settings_of, default_frames, frames_of, members_of, numbered_step, steps_from, steps_of}
 use Rattle.tap_scenario.specs.Key.{value_at}
-use Rattle.tap_scenario.specs.Scenario.{Script, IsScript, AreDistinct, most_frames}
+use Rattle.tap_scenario.specs.Scenario.{IsScript, AreDistinct, most_frames}
 use Rattle.tap_scenario.specs.Step.{IsStep, name_of_word, step_of_text}
 use Rattle.tap_scenario.specs.Fault.{◌>>=◌, cons_result}
 use Rattle.tap_scenario.specs.Value.{whole_number, array_of_strings, are_distinct, cons_option, names_of, distinct_names, members_of_texts}

@@ -1,5 +1,5 @@
 -- a step and its text
-use Rattle.std.proofs.Common.{◌≡◌, ◌==◌, ◌↔◌, ℕ, ◌≤◌, true, false, Bool, bytes_eq, arith, rules, List, [], ◌∷◌, ◌++◌, append_assoc, codes, All, Option, None, Some, option_map, refl, ap, sym, subst, ◌∙◌, inl, inr}
+use Rattle.std.proofs.Common.{◌≡◌, ◌==◌, ◌↔◌, ℕ, ◌≤◌, false, bytes_eq, rules, List, [], ◌∷◌, append_assoc, codes, Option, None, Some, option_map, refl, ap, sym, subst, ◌∙◌, inl, inr}
 use Rattle.std.specs.List.{join_with_byte}
 use Rattle.std.specs.Option.{option_zip}
 use Rattle.std.proofs.lemmas.Bool.{cases_Bool}

@@ -94,7 +94,8 @@ fn number_at(table: &Table, key: Key, low: u32, high: u32) -> Result<u32, Fault>
 
 // The strings of the array of strings that has to stand under a key.
 fn strings_at(table: &Table, key: Key) -> Result<&[Value], Fault>
-    ensures value { MatchResult result (λ values. read_at key array_of_strings (table_view table.now) ≡ Ok (texts_of (items_view values.now))) (λ fault. read_at key array_of_strings (table_view table.now) ≡ Err fault) }
+    ensures value { let read = read_at key array_of_strings (table_view table.now)
+        in MatchResult result (λ values. read ≡ Ok (texts_of (items_view values.now))) (λ fault. read ≡ Err fault) }
     ensures strings { IfOk result (λ values. IsTrue (are_strings (items_view values.now))) }
 {
     match value_at(table, key) {
@@ -129,8 +130,13 @@ fn read_frames(settings: &Settings, table: &Table) -> Result<u32, Fault>
 }
 
 // The names that the strings among these are, where each of them is one.
-fn names(alloc: Global, settings: &Settings, strings: &[Value]) -> Result<List<Name>, ReadRefusal>
-    ensures { AnswersUnlessMemory (ok_or (names_of settings.now (texts_of (items_view strings.now))) (Fault.BadValue Key.Members)) result }
+fn read_names(
+    alloc: Global,
+    settings: &Settings,
+    strings: &[Value],
+) -> Result<List<Name>, ReadRefusal>
+    ensures { let read = names_of settings.now (texts_of (items_view strings.now))
+        in AnswersUnlessMemory (ok_or read (Fault.BadValue Key.Members)) result }
 {
     let mut names = Vec::with_capacity(alloc, strings.len())?;
     for value in strings {
@@ -156,7 +162,7 @@ fn read_members(
     if strings.is_empty() || strings.len() > MOST_MEMBERS {
         return Err(ReadRefusal::Fault(Fault::BadValue(Key::Members)));
     }
-    let names = names(alloc, settings, strings)?;
+    let names = read_names(alloc, settings, strings)?;
     if !are_distinct(names.as_slice()) {
         return Err(ReadRefusal::Fault(Fault::BadValue(Key::Members)));
     }

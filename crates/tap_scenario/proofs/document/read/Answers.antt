@@ -1,12 +1,11 @@
-use Rattle.std.proofs.Common.{◌≡◌, ◌∙◌, ℕ, List, Bool, true, false, Option, Some, None, Err, rules, refl, sym, ap}
+use Rattle.std.proofs.Common.{◌≡◌, ℕ, List, Bool, true, false, Option, Some, None, Err, rules, refl}
 use Rattle.std.proofs.lemmas.Str.{IsUtf8-from_is_utf8, is_utf8-from_IsUtf8}
 use Rattle.std.specs.Str.{is_utf8, IsUtf8}
 use Rattle.toml.specs.Data.{Members as Table}
 use Rattle.toml.specs.Parse.{parse_document}
 use Rattle.toml.specs.View.{table_view}
-use Rattle.tap_scenario.specs.declared.fault.Fault.TheVariants.{NotUtf8, NotToml}
+use Rattle.tap_scenario.specs.declared.fault.Fault.TheVariants.{NotUtf8}
 use Rattle.tap_scenario.specs.Document.{scenario_of, scenario_of_document}
-use Rattle.tap_scenario.specs.ReadRefusal.{AnswersUnlessMemory}
 use Rattle.tap_scenario.proofs.document.read.Goals as goal
 
 not_text : (bytes : List ℕ) → (IsUtf8 bytes → ⊥) → scenario_of bytes ≡ Err NotUtf8

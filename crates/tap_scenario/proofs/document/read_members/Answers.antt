@@ -1,4 +1,4 @@
-use Rattle.std.proofs.Common.{◌≡◌, ◌&&◌, nat_le, true, false, length, arith, Ok, ok_or, rules}
+use Rattle.std.proofs.Common.{◌≡◌, ◌&&◌, nat_le, true, false, length, arith, Ok, rules}
 use Rattle.std.proofs.lemmas.Bool.Decides.{nat_tests}
 use Rattle.toml.specs.View.{table_view, items_view}
 use Rattle.tap_scenario.specs.declared.fault.Key.TheVariants.{Members}

@@ -2,7 +2,7 @@ use Rattle.std.proofs.Common.{◌≡◌, drop}
 use Rattle.toml.specs.View.{items_view}
 use Rattle.tap_scenario.specs.Value.{names_of, texts_of}
 use Rattle.tap_scenario.proofs.Arrays.{names_before}
-use Rattle.tap_scenario.proofs.document.names.Given as goal
+use Rattle.tap_scenario.proofs.document.read_names.Given as goal
 
 abbrev pub invariant-loop-value : goal.invariant-loop-value
 invariant-loop-value l =
