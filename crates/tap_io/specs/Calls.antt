@@ -3,7 +3,7 @@ use Rattle.std.specs.Prelude.{◌==◌, ℕ, Bool, if◌then◌else◌, List}
 use Rattle.std.specs.List.{list_any}
 use Rattle.tap_io.specs.Faults.{counted}
 
--- the numbers, from 1, of the calls that are to fail; how many calls there were, and how many faults
+-- the numbers, counted from 1, of the calls that are to fail, how many calls there were, and how many faults
 pub record CallState : Type 0 where
   pub fails : List ℕ
   pub made : ℕ
@@ -13,7 +13,7 @@ pub record CallState : Type 0 where
 abbrev pub no_calls : List ℕ → CallState
 no_calls fails = record { fails = fails; made = 0; faults = 0 }
 
--- whether the next call is to fail
+-- whether the number of the next call is among those
 abbrev pub is_next_to_fail : CallState → Bool
 is_next_to_fail c = list_any (λ n. n == counted c.made) c.fails
 

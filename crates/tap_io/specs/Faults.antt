@@ -2,6 +2,7 @@
 use Rattle.std.specs.Prelude.{◌≡◌, ◌≤◌, ℕ, ◌+◌, ◌-◌, ◌^◌, min, List, Option}
 use Rattle.std.specs.Io.KnownBytes.{Keeps}
 
+-- the greatest u64
 abbrev pub greatest_count : ℕ
 greatest_count = 2 ^ 64 - 1
 

@@ -1,5 +1,5 @@
 -- What a sink in memory is, and what its next write does.
-use Rattle.std.specs.Prelude.{◌==◌, ◌||◌, ◌++◌, ℕ, ◌-◌, min, Bool, true, false, if◌then◌else◌, List, [], length, take}
+use Rattle.std.specs.Prelude.{◌==◌, ◌||◌, ◌++◌, ℕ, ◌-◌, min, true, false, if◌then◌else◌, List, [], length, take}
 use Rattle.tap_io.specs.Calls.{CallState, no_calls, is_next_to_fail, after_call}
 use Rattle.tap_io.specs.declared.sink.Took.{Took}
 use Rattle.tap_io.specs.declared.sink.Took.TheVariants.{Took as TookBytes, Failed}
@@ -11,6 +11,7 @@ pub record SinkState : Type 0 where
   pub room : ℕ
   pub calls : CallState
 
+-- before the first write
 abbrev pub new_sink : ℕ → ℕ → List ℕ → SinkState
 new_sink piece room fails = record { held = []; piece = piece; room = room; calls = no_calls fails }
 

@@ -1,5 +1,5 @@
 -- What a source in memory is, and what its next read does.
-use Rattle.std.specs.Prelude.{◌==◌, ℕ, min, Bool, true, false, if◌then◌else◌, List, length, drop}
+use Rattle.std.specs.Prelude.{◌==◌, ℕ, min, true, false, if◌then◌else◌, List, length, drop}
 use Rattle.tap_io.specs.Calls.{CallState, no_calls, is_next_to_fail, after_call}
 use Rattle.tap_io.specs.declared.source.Got.{Got}
 use Rattle.tap_io.specs.declared.source.Got.TheVariants.{Got as GotBytes, End, Failed}
@@ -10,6 +10,7 @@ pub record SourceState : Type 0 where
   pub piece : ℕ
   pub calls : CallState
 
+-- before the first read
 abbrev pub new_source : List ℕ → ℕ → List ℕ → SourceState
 new_source bytes piece fails = record { left = bytes; piece = piece; calls = no_calls fails }
 

@@ -17,6 +17,7 @@ abbrev pub WritesAs : Option (List ℕ) → Option (List ℕ) → ℕ → ℕ �
 WritesAs old new before now bytes (TookBytes n) = Takes old new bytes n
 WritesAs old new before now bytes Failed = Fails old new before now
 
+-- The count of faults doesn't fall, and the answer says what else came about.
 pub record Writes (old new : Option (List ℕ)) (before now : ℕ) (bytes : List ℕ) (took : Took) : Type 0 where
   pub later : before ≤ now
   pub answer : WritesAs old new before now bytes took

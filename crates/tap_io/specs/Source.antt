@@ -23,6 +23,7 @@ ReadsAs old new before now into (GotBytes n) = Gives old new into n
 ReadsAs old new before now into End = Ends old new
 ReadsAs old new before now into Failed = Fails old new before now
 
+-- The count of faults doesn't fall, and the answer says what else came about.
 pub record Reads (old new : Option (List ℕ)) (before now : ℕ) (into : List ℕ) (got : Got) : Type 0 where
   pub later : before ≤ now
   pub answer : ReadsAs old new before now into got

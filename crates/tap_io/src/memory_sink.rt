@@ -35,8 +35,10 @@ impl Model for MemorySink {
 }
 
 impl MemorySink {
-    /// An empty sink with memory for `room` bytes, which takes at most `piece` of them at a time,
-    /// which is at least 1. The writes whose numbers, from 1, are in `fails` are to fail.
+    /// An empty sink with memory for `room` bytes. A write takes at most `piece` of them, which is at
+    /// least 1. The writes whose numbers, counted from 1, are in `fails` are to fail.
+    ///
+    /// Answers `NoMemory` only where that memory was refused.
     pub fn new(
         alloc: Global,
         piece: usize,
@@ -67,9 +69,9 @@ impl Sink for MemorySink {
 
     ghost faults = { λ s. s.calls.faults };
 
-    /// Fails exactly where the number of this call, from 1, is among those that are to fail, or where
-    /// the room is full. Else it takes the least of the piece, the length given and the room that is
-    /// left. It takes no memory.
+    /// Fails exactly where the number of this call, counted from 1, is among those that are to fail,
+    /// or where the sink is full. Else it takes as many bytes as the least of the piece, the number of
+    /// bytes given and the room that is left. It takes no memory.
     fn write(&mut self, bytes: &[u8]) -> Took
         requires { 0 < length bytes.now }
         ensures answer { result ≡ write_answer self.old (length bytes.now) }

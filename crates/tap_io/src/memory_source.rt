@@ -23,14 +23,20 @@ impl Model for MemorySource {
 
     ghost Value = { SourceState };
 
-    ghost view = { λ s. record { left = drop s.at s.bytes.items; piece = s.piece; calls = s.calls } };
+    ghost view = { λ s.
+        record { left = drop s.at s.bytes.items; piece = s.piece; calls = s.calls } };
 
-    ghost invariant = { λ s. record { within : s.at ≤ length s.bytes.items; at_least_one : 1 ≤ s.piece } };
+    ghost invariant = { λ s. record {
+      within : s.at ≤ length s.bytes.items;
+      at_least_one : 1 ≤ s.piece;
+    } };
 }
 
 impl MemorySource {
-    /// A source of a copy of these bytes, at most `piece` of them at a time, which is at least 1.
-    /// The reads whose numbers, from 1, are in `fails` are to fail.
+    /// A source of a copy of these bytes. A read gives at most `piece` of them, which is at least 1.
+    /// The reads whose numbers, counted from 1, are in `fails` are to fail.
+    ///
+    /// Answers `NoMemory` only where memory for the copies was refused.
     pub fn new(
         alloc: Global,
         bytes: &[u8],
@@ -54,8 +60,9 @@ impl Source for MemorySource {
 
     ghost faults = { λ s. s.calls.faults };
 
-    /// Fails exactly where the number of this call, from 1, is among those that are to fail. Else it
-    /// gives the least of the piece, the length of the buffer and the bytes that are left.
+    /// Fails exactly where the number of this call, counted from 1, is among those that are to fail.
+    /// Else it gives as many bytes as the least of the piece, the length of the buffer and the number
+    /// of bytes left, or answers the end where none are left.
     fn read(&mut self, into: &mut [u8]) -> Got
         requires { 0 < length into.old }
         ensures answer { result ≡ read_answer self.old (length into.old) }

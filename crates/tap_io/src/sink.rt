@@ -19,7 +19,7 @@ pub trait Sink {
     /// How many faults there were. The count never falls, and stands still at the greatest `u64`.
     ghost faults: { Self → ℕ };
 
-    /// Takes at least one of the bytes, from the front.
+    /// Takes at least one of the bytes, which aren't empty, from their front.
     ///
     /// Where the sink tells its bytes, those that it took are appended to them. A write fails only
     /// where the count of faults rises in this call, and then nothing is appended.

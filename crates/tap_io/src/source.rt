@@ -10,7 +10,7 @@ pub enum Got {
     /// No byte is left.
     End,
 
-    /// The read failed, and no byte was lost. It may be tried again.
+    /// The read failed, and the bytes stay. It may be tried again.
     Failed,
 }
 
@@ -22,7 +22,8 @@ pub trait Source {
     /// How many faults there were. The count never falls, and stands still at the greatest `u64`.
     ghost faults: { Self → ℕ };
 
-    /// Reads at least one byte, and no more than the buffer holds, into the front of the buffer.
+    /// Reads at least one byte, and no more than the buffer holds, into the front of the buffer,
+    /// which isn't empty.
     ///
     /// Where the source tells its bytes, those that come are the next ones, and the answer is `End`
     /// exactly where none are left and the call doesn't fail. A read fails only where the count of
