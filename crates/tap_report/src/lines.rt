@@ -66,13 +66,13 @@ impl Outgoing {
             (K.faults sink.old) (K.faults sink.new) self.old self.new (begin_line settings.now frames) }
     {
         self.add(sink, b"begin base ");
-        self.add_number(sink, u64::from(settings.base()));
+        self.add_number(sink, settings.base());
         self.add(sink, b" digits ");
-        self.add_number(sink, u64::from(settings.digits()));
+        self.add_number(sink, settings.digits());
         self.add(sink, b" width ");
-        self.add_number(sink, u64::from(settings.width()));
+        self.add_number(sink, settings.width());
         self.add(sink, b" frames ");
-        self.add_number(sink, u64::from(frames));
+        self.add_number(sink, frames);
         self.add(sink, b"\n");
     }
 
@@ -99,7 +99,7 @@ impl Outgoing {
             (K.faults sink.old) (K.faults sink.new) self.old self.new (step_line index step.now) }
     {
         self.add(sink, b"step ");
-        self.add_number(sink, u64::from(index));
+        self.add_number(sink, index);
         self.add(sink, b" ");
         self.add_step_text(sink, step);
         self.add(sink, b"\n");
@@ -139,7 +139,7 @@ impl Outgoing {
         self.add(sink, b" root ");
         self.add_name(sink, &path[hops]);
         self.add(sink, b" hops ");
-        self.add_number(sink, hops as u64);
+        self.add_number(sink, hops);
         self.add(sink, b"\n");
     }
 
@@ -177,7 +177,7 @@ impl Outgoing {
             (K.faults sink.old) (K.faults sink.new) self.old self.new (refused_line index refusal) }
     {
         self.add(sink, b"refused ");
-        self.add_number(sink, u64::from(index));
+        self.add_number(sink, index);
         self.add(sink, b" ");
         self.add_number(sink, code_of(refusal));
         self.add(sink, b" ");
@@ -200,13 +200,13 @@ impl Outgoing {
             (K.faults sink.old) (K.faults sink.new) self.old self.new (done_line steps) }
     {
         self.add(sink, b"done ");
-        self.add_number(sink, u64::from(steps));
+        self.add_number(sink, steps);
         self.add(sink, b"\n");
     }
 }
 
 // The number by which a refusal is known.
-fn code_of(refusal: Refusal) -> u64
+fn code_of(refusal: Refusal) -> u32
     ensures { result ≡ code_of_refusal refusal }
 {
     match refusal {

@@ -1,9 +1,9 @@
-ghost use Rattle.std.specs.Prelude.{◌≡◌, ℕ, ◌+◌, ◌≤◌, [], ◌++◌, length, decimal, map};
+ghost use Rattle.std.specs.Prelude.{◌≡◌, ◌+◌, ◌≤◌, [], ◌++◌, length};
 ghost use Rattle.tap_name.specs.Name.{text_of_name};
 ghost use Rattle.tap_report.specs.Outgoing.{AddsText};
 
 use crate::written::{Written, write_text};
-use itoa::Buffer;
+use itoa::{Buffer, Integer};
 use std::marker::Model;
 use tap_io::Sink;
 use tap_name::Name;
@@ -87,9 +87,9 @@ impl Outgoing {
     }
 
     // Adds a number, in decimal.
-    pub(crate) fn add_number<K: Sink>(&mut self, sink: &mut K, number: u64)
+    pub(crate) fn add_number<K: Sink, I: Integer>(&mut self, sink: &mut K, number: I)
         ensures { AddsText (K.held sink.old) (K.held sink.new)
-            (K.faults sink.old) (K.faults sink.new) self.old self.new (decimal number) }
+            (K.faults sink.old) (K.faults sink.new) self.old self.new (I.text number) }
     {
         let mut digits = Buffer::new();
         self.add(sink, digits.format(number).as_bytes());

@@ -1,0 +1,1 @@
+-- The puts of records, one after another.
