@@ -1,8 +1,12 @@
 -- Texts that are added one after another to those that wait.
-use Rattle.std.proofs.Common.{◌≡◌, ◌≤◌, ℕ, List, [], ◌++◌, Option, refl, sym, ap, ◌∙◌, subst, arith, append_assoc, append-nil}
+use Rattle.std.proofs.Common.{◌≡◌, ◌<◌, ◌≤◌, ℕ, ◌+◌, List, [], ◌∷◌, ◌++◌, length, take, get_or, Option, refl, sym, ap, ◌∙◌, subst, arith, append_assoc, append-nil}
+use Rattle.std.proofs.lemmas.List.{take_more, get_or_default}
+use Rattle.std.proofs.lemmas.List.Concat.{flat_map-append}
+use Rattle.std.specs.List.{flat_map}
 use Rattle.std.proofs.KnownBytes.{Appends-nil, Appends-trans}
 use Rattle.std.specs.Io.KnownBytes.{Appends}
 use Rattle.tap_report.specs.Written.{FirstFails, IsUntouched, WritesText, WritesTextAs}
+use Rattle.tap_report.specs.Text.{node_at}
 use Rattle.tap_report.specs.Outgoing.{Waiting, PassesOn, AddsText, AddsTextAs}
 use Rattle.tap_report.specs.declared.written.Written.{Written}
 use Rattle.tap_report.specs.declared.written.Written.TheVariants.{All, Failed}
@@ -96,3 +100,17 @@ pub AddsText-whole : (old new : Option (List ℕ)) (before now : ℕ) (text : Li
     → WritesText old new before now text so_far written
 AddsText-whole old new before now text so_far written p =
     record { later = p.later; answer = whole_as old new before now text so_far written p.answer }
+
+-- ---- the items of a list, one after another
+
+-- the texts of one item more
+pub flat_map-take_more : {X : Type 0} (f : X → List ℕ) (xs : List X) (i : ℕ) (x : X) → i < length xs → x ≡ get_or xs i x
+    → flat_map f (take (i + 1) xs) ≡ flat_map f (take i xs) ++ f x
+flat_map-take_more f xs i x inside is =
+    ap (flat_map f) (take_more xs i x inside) ∙ flat_map-append f (take i xs) (get_or xs i x ∷ [])
+    ∙ ap (λ l. flat_map f (take i xs) ++ l) (append-nil (f (get_or xs i x)) ∙ ap f (sym is))
+
+-- the node that stands at a place of a path
+pub node_at-is : (path : List (List ℕ)) (place : ℕ) (node : List ℕ) → place < length path → node ≡ get_or path place node
+    → node ≡ node_at path place
+node_at-is path place node inside is = is ∙ get_or_default path place node [] inside

@@ -3,7 +3,7 @@ use Rattle.std.proofs.Common.{◌≡◌, ◌≤◌, ℕ, List, [], ◌++◌, len
 use Rattle.std.proofs.KnownBytes.{Appends-nil, Appends-trans}
 use Rattle.std.proofs.lemmas.List.{take_all}
 use Rattle.std.specs.Io.KnownBytes.{Appends, Keeps}
-use Rattle.tap_io.proofs.Writing.{AppendsPrefixOf-append, Appends-then-prefix, failed_after}
+use Rattle.tap_io.proofs.Writing.{AppendsPrefixOf-append, Appends-AppendsPrefixOf}
 use Rattle.tap_io.specs.Faults.{HasRisen}
 use Rattle.tap_report.specs.Written.{FirstFails, IsUntouched, WritesText, WritesTextAs}
 use Rattle.tap_report.specs.declared.written.Written.{Written}
@@ -18,7 +18,7 @@ FirstFails-append old new before now text more f = record { prefix = AppendsPref
 pub FirstFails-after : (old mid new : Option (List ℕ)) (before between now : ℕ) (text more : List ℕ) → before ≤ between
     → Appends old mid text → FirstFails mid new between now more → FirstFails old new before now (text ++ more)
 FirstFails-after old mid new before between now text more later first f =
-    record { prefix = Appends-then-prefix old mid new text more first f.prefix; risen = λ h. f.risen (omega arith) }
+    record { prefix = Appends-AppendsPrefixOf old mid new text more first f.prefix; risen = λ h. f.risen (omega arith) }
 
 -- nothing is written after a failure
 pub FirstFails-untouched : (old mid new : Option (List ℕ)) (before between now : ℕ) (text : List ℕ) → FirstFails old mid before between text

@@ -1,5 +1,5 @@
 use Rattle.std.proofs.Common.{arith, length, length-drop}
-use Rattle.tap_io.proofs.Writing.{next_write, failed_after}
+use Rattle.tap_io.proofs.Writing.{next_write}
 use Rattle.tap_report.proofs.written.write_all.Goals as goal
 
 pub loop-done-preserved : goal.loop-done-preserved
