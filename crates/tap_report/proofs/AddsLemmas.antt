@@ -94,12 +94,18 @@ whole_as old new before now text All Failed p = p
 whole_as old new before now text Failed All p = p
 whole_as old new before now text Failed Failed p = p
 
--- nothing waited before a text, and nothing waits after it
-pub AddsText-whole : (old new : Option (List ℕ)) (before now : ℕ) (text : List ℕ) (so_far written : Written)
-    → AddsText old new before now (record { bytes = []; so_far = so_far }) (record { bytes = []; so_far = written }) text
+-- A text is added where nothing waited, and then all that waits is written.
+pub AddsText-whole : {old mid new : Option (List ℕ)} {before between now : ℕ} {first waiting last : Waiting} {text : List ℕ}
+    (so_far written : Written) → first ≡ record { bytes = []; so_far = so_far } → AddsText old mid before between first waiting text
+    → AddsText mid new between now waiting last [] → last ≡ record { bytes = []; so_far = written }
     → WritesText old new before now text so_far written
-AddsText-whole old new before now text so_far written p =
-    record { later = p.later; answer = whole_as old new before now text so_far written p.answer }
+AddsText-whole {old = old} {new = new} {before = before} {now = now} {first = first} {last = last} {text = text} so_far written none adds passes after =
+    let both : AddsText old new before now first last text =
+    subst (AddsText old new before now first last) (append-nil text) (adds ⨾ passes) in
+    let whole : AddsText old new before now (record { bytes = []; so_far = so_far }) (record { bytes = []; so_far = written }) text =
+    subst (λ w. AddsText old new before now w (record { bytes = []; so_far = written }) text) none
+    (subst (λ w. AddsText old new before now first w text) after both) in
+    record { later = whole.later; answer = whole_as old new before now text so_far written whole.answer }
 
 -- ---- the items of a list, one after another
 

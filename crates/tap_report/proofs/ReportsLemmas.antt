@@ -1,1 +1,59 @@
 -- The puts of records, one after another.
+use Rattle.std.proofs.Common.{◌≡◌, ◌<◌, ℕ, zero, suc, ◌+◌, List, [], ◌∷◌, ◌++◌, length, take, get_or, Bool, true, false, Option, None, Some, IsNone, refl, sym, ap, ◌∙◌, subst, arith, append_assoc, append-nil, length-append}
+use Rattle.std.specs.Prelude.{◌↔◌, fold, is_none, is_some, IsSome, All}
+use Rattle.std.specs.List.{flat_map}
+use Rattle.std.proofs.lemmas.List.Concat.{flat_map-append}
+use Rattle.std.proofs.lemmas.List.Elements.{All-get_or}
+use Rattle.std.proofs.lemmas.List.Sums.{fold-append}
+use Rattle.tap_name.specs.Settings.{Parameters}
+use Rattle.tap_log.specs.declared.record.Record.{Record}
+use Rattle.tap_log.specs.declared.record.Record.TheVariants.{Begin, Step, Walked, RootOf, Refused, Finished}
+use Rattle.tap_report.specs.Text.{IsBegin, BeginsOnce, is_begin, text_of_record, text_of_log}
+use Rattle.tap_report.specs.Written.{WritesText}
+use Rattle.tap_report.specs.Reporter.{Kept, Puts, Finishes, PutsEach, PutsWriteTheText, Reports, kept_at_first, kept_after, settings_after}
+use Rattle.tap_report.specs.declared.mode.Mode.{Mode}
+use Rattle.tap_report.specs.declared.written.Written.{Written}
+use Rattle.tap_report.specs.declared.written.Written.TheVariants.{All as AllWritten}
+use Rattle.tap_report.proofs.WritesLemmas.{WritesText-then, WritesText-none}
+
+-- before the first put
+pub Reports-new : (mode : Mode) (held : Option (List ℕ)) (faults : ℕ) → Reports mode [] held held faults faults (kept_at_first mode)
+Reports-new mode held faults = record { same_mode = refl; settings = refl; count = refl; text = WritesText-none held faults AllWritten }
+
+-- the text of a log with one record more
+pub text_of_log-push : (mode : Mode) (records : List Record) (item : Record)
+    → text_of_log mode (records ++ item ∷ []) ≡ text_of_log mode records ++ text_of_record mode item
+text_of_log-push mode records item =
+    flat_map-append (text_of_record mode) records (item ∷ []) ∙ ap (λ l. text_of_log mode records ++ l) (append-nil (text_of_record mode item))
+
+-- one put more
+pub Reports-put : {mode : Mode} {records : List Record} {old mid new : Option (List ℕ)} {before between now : ℕ} {kept then_kept : Kept}
+    {item : Record} {written : Written} → Reports mode records old mid before between kept → Puts kept then_kept item mid new between now written
+    → Reports mode (records ++ item ∷ []) old new before now then_kept
+Reports-put {mode = mode} {records = records} {mid = mid} {new = new} {between = between} {now = now} {kept = kept} {item = item} {written = written} r p =
+    let text = subst (λ m. WritesText mid new between now (text_of_record m item) kept.so_far written) r.same_mode p.text in
+    rw p.keeps (record {
+      same_mode = r.same_mode;
+      settings = ap (λ s. settings_after s item) r.settings ∙ sym (fold-append settings_after None records (item ∷ []));
+      count = ap (λ n. n + 1) r.count ∙ sym (length-append records (item ∷ []));
+      text = rw (text_of_log-push mode records item) (WritesText-then r.text text);
+    })
+
+-- a finish
+pub Reports-finish : {mode : Mode} {records : List Record} {old mid new : Option (List ℕ)} {before between now : ℕ} {kept then_kept : Kept}
+    {written : Written} → Reports mode records old mid before between kept → Finishes kept then_kept mid new between now written
+    → WritesText old new before now (text_of_log mode records) AllWritten written
+Reports-finish {mode = mode} {records = records} {old = old} {new = new} {before = before} {now = now} {written = written} r f =
+    subst (λ l. WritesText old new before now l AllWritten written) (append-nil (text_of_log mode records)) (WritesText-then r.text f.text)
+
+puts_each : (items done : List Record) (mode : Mode) (kept then_kept : Kept) (old mid new : Option (List ℕ)) (before between now : ℕ)
+    → Reports mode done old mid before between kept → PutsEach items kept then_kept mid new between now
+    → Reports mode (done ++ items) old new before now then_kept
+puts_each [] done mode kept then_kept old mid new before between now r p = rw (p.0, p.1, p.2, append-nil done) r
+puts_each (item ∷ items) done mode kept then_kept old mid new before between now r p =
+    rw (sym (append_assoc done (item ∷ []) items))
+    (puts_each items (done ++ item ∷ []) mode p.0 then_kept old p.1 new before p.2 now (Reports-put r p.4) p.5)
+
+pub puts_write_the_text_of_logs : PutsWriteTheText
+puts_write_the_text_of_logs mode records kept then_kept old mid new before between now written puts finishes =
+    Reports-finish (puts_each records [] mode (kept_at_first mode) kept old old mid before before between (Reports-new mode old before) puts) finishes

@@ -1,5 +1,5 @@
 ghost use Rattle.std.specs.Prelude.{◌≡◌, ◌<◌, ◌↔◌, IsNone};
-ghost use Rattle.tap_report.specs.Reporter.{Finishes, Puts, PutsWriteTheText, kept_at_first};
+ghost use Rattle.tap_report.specs.Reporter.{Finishes, Puts, PutsWriteTheText, kept_at_first, settings_after};
 ghost use Rattle.tap_report.specs.Text.{IsBegin, IsPrintable, IsPrintableLog, text_of_log};
 ghost use Rattle.tap_report.specs.Written.{WritesText};
 
@@ -59,10 +59,8 @@ impl Reporter {
         let mut text = Outgoing::new(self.so_far);
         text.add_record(sink, self.mode, item);
         self.so_far = text.pass_on(sink);
+        self.settings = settings_with(self.settings, item);
         self.records += 1;
-        if let Record::Begin { settings, .. } = item {
-            self.settings = Some(*settings);
-        }
         self.so_far
     }
 
@@ -77,6 +75,16 @@ impl Reporter {
     }
 }
 
+// The settings of the `Begin` that was put, with one record more.
+fn settings_with(settings: Option<Settings>, item: &Record) -> Option<Settings>
+    ensures { result ≡ settings_after settings item.now }
+{
+    match item {
+        Record::Begin { settings, .. } => Some(*settings),
+        _ => settings,
+    }
+}
+
 /// Writes the text of a log, as the puts of its records and a finish do, and in larger pieces. Takes no memory.
 ///
 /// The log is empty, or its first record is its only `Begin`. `Failed` comes only where the sink counted a fault in this
@@ -87,7 +95,8 @@ pub fn write_log<K: Sink>(mode: Mode, log: &Log, sink: &mut K) -> Written
         (K.faults sink.old) (K.faults sink.new) (text_of_log mode log.now.records) Written.All result }
 {
     let mut text = Outgoing::new(Written::All);
-    for item in log.as_slice() {
+    let records = log.as_slice();
+    for item in records {
         text.add_record(sink, mode, item);
     }
     text.pass_on(sink)
