@@ -2,13 +2,14 @@
 use Rattle.std.proofs.Common.{◌≡◌, ◌<◌, ℕ, zero, suc, ◌+◌, List, [], ◌∷◌, ◌++◌, length, take, get_or, Bool, true, false, Option, None, Some, IsNone, refl, sym, ap, ◌∙◌, subst, arith, append_assoc, append-nil, length-append}
 use Rattle.std.specs.Prelude.{◌↔◌, fold, is_none, is_some, IsSome, All}
 use Rattle.std.specs.List.{flat_map}
+use Rattle.std.proofs.lemmas.List.{take_more}
 use Rattle.std.proofs.lemmas.List.Concat.{flat_map-append}
-use Rattle.std.proofs.lemmas.List.Elements.{All-get_or}
+use Rattle.std.proofs.lemmas.List.Elements.{All-get_or, All-push}
 use Rattle.std.proofs.lemmas.List.Sums.{fold-append}
 use Rattle.tap_name.specs.Settings.{Parameters}
 use Rattle.tap_log.specs.declared.record.Record.{Record}
 use Rattle.tap_log.specs.declared.record.Record.TheVariants.{Begin, Step, Walked, RootOf, Refused, Finished}
-use Rattle.tap_report.specs.Text.{IsBegin, BeginsOnce, is_begin, text_of_record, text_of_log}
+use Rattle.tap_report.specs.Text.{IsBegin, IsPrintable, IsPrintableLog, BeginsOnce, is_begin, text_of_record, text_of_log}
 use Rattle.tap_report.specs.Written.{WritesText}
 use Rattle.tap_report.specs.Reporter.{Kept, Puts, Finishes, PutsEach, PutsWriteTheText, Reports, kept_at_first, kept_after, settings_after}
 use Rattle.tap_report.specs.declared.mode.Mode.{Mode}
@@ -45,6 +46,70 @@ pub Reports-finish : {mode : Mode} {records : List Record} {old mid new : Option
     → WritesText old new before now (text_of_log mode records) AllWritten written
 Reports-finish {mode = mode} {records = records} {old = old} {new = new} {before = before} {now = now} {written = written} r f =
     subst (λ l. WritesText old new before now l AllWritten written) (append-nil (text_of_log mode records)) (WritesText-then r.text f.text)
+
+-- the put of the next record of a log
+pub Reports-next : {mode : Mode} {old mid new : Option (List ℕ)} {before between now : ℕ} {kept then_kept : Kept}
+    {written : Written} (records : List Record) (i : ℕ) (item : Record) → i < length records → item ≡ get_or records i item
+    → Reports mode (take i records) old mid before between kept → Puts kept then_kept item mid new between now written
+    → Reports mode (take (i + 1) records) old new before now then_kept
+Reports-next {mode = mode} {old = old} {new = new} {before = before} {now = now} {then_kept = then_kept} records i item inside is r p =
+    let same = take_more records i item inside ∙ ap (λ x. take i records ++ x ∷ []) (sym is) in
+    subst (λ l. Reports mode l old new before now then_kept) (sym same) (Reports-put r p)
+
+-- the settings of a `Begin` are kept
+begun : (first : Record) → IsBegin first → (s : Parameters) × (settings_after None first ≡ Some s)
+begun (Begin settings frames members) h = (settings, refl)
+begun (Step index step) h = cc
+begun (Walked object path) h = cc
+begun (RootOf object root) h = cc
+begun (Refused index refusal) h = cc
+begun (Finished steps) h = cc
+
+still_begun : (settings : Parameters) (item : Record) → (s : Parameters) × (settings_after (Some settings) item ≡ Some s)
+still_begun settings (Begin begun frames members) = (begun, refl)
+still_begun settings item = (settings, refl)
+
+always_begun : (records : List Record) (settings : Parameters) → IsSome (fold settings_after (Some settings) records)
+always_begun [] settings = refl
+always_begun (item ∷ items) settings =
+    let h = still_begun settings item in rw h.1 (always_begun items h.0)
+
+-- The next record of a log is a `Begin` exactly where none was put before.
+pub begins_next : (records : List Record) (i : ℕ) (item : Record) (settings : Option Parameters) → BeginsOnce records → i < length records
+    → item ≡ get_or records i item → settings ≡ fold settings_after None (take i records) → IsBegin item ↔ IsNone settings
+begins_next [] i item settings begins inside is kept = absurd (omega arith)
+begins_next (first ∷ rest) zero item settings begins inside is kept = (λ _. ap is_some kept, λ _. subst IsBegin (sym is) begins.0)
+begins_next (first ∷ rest) (suc i) item settings begins inside is kept =
+    let b = begun first begins.0 in
+    let later : i < length rest = omega arith in
+    let other = All-get_or (λ x. ¬ IsBegin x) rest i item later begins.1 in
+    let some : is_some settings ≡ true =
+    ap is_some (kept ∙ ap (λ s. fold settings_after s (take i rest)) b.1) ∙ always_begun (take i rest) b.0 in
+    (λ h. absurd (other (subst IsBegin is h)), λ h. cc)
+
+-- ---- the log that grows while it is printed
+
+-- a log with a beginning alone
+pub IsPrintableLog-first : (first : Record) → IsBegin first → IsPrintable first → IsPrintableLog (first ∷ [])
+IsPrintableLog-first first begins printable = record {
+  begins = (begins, λ k d inside. absurd (omega arith));
+  each = All-push IsPrintable [] first (λ k d inside. absurd (omega arith)) printable;
+}
+
+BeginsOnce-push : (records : List Record) (item : Record) → 0 < length records → ¬ IsBegin item → BeginsOnce records
+    → BeginsOnce (records ++ item ∷ [])
+BeginsOnce-push [] item some other begins = absurd (omega arith)
+BeginsOnce-push (first ∷ rest) item some other begins = (begins.0, All-push (λ x. ¬ IsBegin x) rest item begins.1 other)
+
+-- a log with one record more
+pub IsPrintableLog-push : (records : List Record) (item : Record) → 0 < length records → ¬ IsBegin item → IsPrintable item
+    → IsPrintableLog records → IsPrintableLog (records ++ item ∷ [])
+IsPrintableLog-push records item some other printable log = record {
+  begins = BeginsOnce-push records item some other log.begins;
+  each = All-push IsPrintable records item log.each printable;
+}
+
+-- ---- the law
 
 puts_each : (items done : List Record) (mode : Mode) (kept then_kept : Kept) (old mid new : Option (List ℕ)) (before between now : ℕ)
     → Reports mode done old mid before between kept → PutsEach items kept then_kept mid new between now

@@ -1,4 +1,4 @@
-use Rattle.std.proofs.Common.{◌≡◌, take, length, arith}
+use Rattle.std.proofs.Common.{◌≡◌, take, refl}
 use Rattle.std.proofs.lemmas.List.{take_all}
 use Rattle.tap_report.specs.Text.{text_of_record}
 use Rattle.tap_report.specs.declared.written.Written.TheVariants.{All}
@@ -15,4 +15,4 @@ returns g c =
     let records = c.as_slice-records.result.now in
     let all : take c.loop-item.item-index records ≡ records = take_all c.loop-item.item-index records c.loop-item-test.false in
     rw (← c.as_slice-records.ensures)
-    (AddsText-whole All c.pass_on.result c.new-text.ensures (rw (all, ← c.new-text.ensures) at c.loop-item.invariant) c.pass_on.ensures.adds c.pass_on.ensures.after)
+    (AddsText-whole All c.pass_on.result refl (rw all at c.loop-item.invariant) c.pass_on.ensures.adds c.pass_on.ensures.after)
