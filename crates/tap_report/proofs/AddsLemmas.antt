@@ -55,7 +55,6 @@ pub ◌⨾◌ : {old mid new : Option (List ℕ)} {before between now : ℕ} {wa
 p ⨾ q = AddsText-then p q
 
 infixl 10 ◌⨾◌
-
 none_as : (held : Option (List ℕ)) (faults : ℕ) (text : List ℕ) (so_far : Written) → AddsTextAs held held faults faults text text so_far so_far
 none_as held faults text All = record { front = []; appends = Appends-nil held; whole = refl }
 none_as held faults text Failed = record { held = refl; faults = refl }

@@ -54,7 +54,9 @@ impl Outgoing {
     {
         match item {
             Record::Begin {
-                settings, frames, ..
+                settings,
+                frames,
+                ..
             } => self.add_begin(sink, settings, *frames),
             Record::Step { .. } => {}
             _ => self.add_long(sink, item),
