@@ -5,9 +5,9 @@ use Rattle.std.proofs.lemmas.List.Concat.{flat_map-append}
 use Rattle.std.specs.List.{flat_map}
 use Rattle.std.proofs.KnownBytes.{Appends-nil, Appends-trans}
 use Rattle.std.specs.Io.KnownBytes.{Appends}
-use Rattle.tap_report.specs.Written.{FirstFails, IsUntouched, WritesText, WritesTextAs}
+use Rattle.tap_report.specs.Written.{FirstFails, WritesText, WritesTextAs}
 use Rattle.tap_report.specs.Text.{node_at}
-use Rattle.tap_report.specs.Outgoing.{Waiting, PassesOn, AddsText, AddsTextAs}
+use Rattle.tap_report.specs.Outgoing.{Waiting, AddsText, AddsTextAs}
 use Rattle.tap_report.specs.declared.written.Written.{Written}
 use Rattle.tap_report.specs.declared.written.Written.TheVariants.{All, Failed}
 use Rattle.tap_report.proofs.WritesLemmas.{FirstFails-append, FirstFails-after, FirstFails-untouched, IsUntouched-trans}

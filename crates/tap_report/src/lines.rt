@@ -1,4 +1,4 @@
-ghost use Rattle.std.specs.Prelude.{◌≡◌, ◌<◌, length};
+ghost use Rattle.std.specs.Prelude.{◌≡◌, ◌<◌, codes, length};
 ghost use Rattle.std.specs.List.{flat_map};
 ghost use Rattle.tap_scenario.specs.Step.{text_of_step};
 ghost use Rattle.tap_report.specs.Outgoing.{AddsText};
@@ -63,6 +63,13 @@ impl Outgoing {
         }
     }
 
+    fn end_line<K: Sink>(&mut self, sink: &mut K)
+        ensures { AddsText (K.held sink.old) (K.held sink.new)
+            (K.faults sink.old) (K.faults sink.new) self.old self.new (codes "\n") }
+    {
+        self.add(sink, b"\n");
+    }
+
     fn add_begin<K: Sink>(&mut self, sink: &mut K, settings: &Settings, frames: u32)
         ensures { AddsText (K.held sink.old) (K.held sink.new)
             (K.faults sink.old) (K.faults sink.new) self.old self.new (begin_line settings.now frames) }
@@ -75,7 +82,7 @@ impl Outgoing {
         self.add_number(sink, settings.width());
         self.add(sink, b" frames ");
         self.add_number(sink, frames);
-        self.add(sink, b"\n");
+        self.end_line(sink);
     }
 
     fn add_member<K: Sink>(&mut self, sink: &mut K, name: &Name)
@@ -84,7 +91,7 @@ impl Outgoing {
     {
         self.add(sink, b"member ");
         self.add_name(sink, name);
-        self.add(sink, b"\n");
+        self.end_line(sink);
     }
 
     fn add_members<K: Sink>(&mut self, sink: &mut K, members: &[Name])
@@ -104,7 +111,7 @@ impl Outgoing {
         self.add_number(sink, index);
         self.add(sink, b" ");
         self.add_step_text(sink, step);
-        self.add(sink, b"\n");
+        self.end_line(sink);
     }
 
     // Adds a step as it is written in a scenario.
@@ -142,7 +149,7 @@ impl Outgoing {
         self.add_name(sink, &path[hops]);
         self.add(sink, b" hops ");
         self.add_number(sink, hops);
-        self.add(sink, b"\n");
+        self.end_line(sink);
     }
 
     // Adds each name of a path with a space before it.
@@ -171,7 +178,7 @@ impl Outgoing {
         self.add_name(sink, object);
         self.add(sink, b" at ");
         self.add_name(sink, root);
-        self.add(sink, b"\n");
+        self.end_line(sink);
     }
 
     fn add_refused<K: Sink>(&mut self, sink: &mut K, index: u32, refusal: Refusal)
@@ -184,7 +191,7 @@ impl Outgoing {
         self.add_number(sink, code_of(refusal));
         self.add(sink, b" ");
         self.add_words(sink, refusal);
-        self.add(sink, b"\n");
+        self.end_line(sink);
     }
 
     // Adds the words of a refusal.
@@ -203,7 +210,7 @@ impl Outgoing {
     {
         self.add(sink, b"done ");
         self.add_number(sink, steps);
-        self.add(sink, b"\n");
+        self.end_line(sink);
     }
 }
 

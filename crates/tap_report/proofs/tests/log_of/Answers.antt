@@ -1,4 +1,4 @@
-use Rattle.std.proofs.Common.{arith, length, length-append, ◌∷◌, []}
+use Rattle.std.proofs.Common.{arith, length-append, ◌∷◌, []}
 use Rattle.tap_report.proofs.ReportsLemmas.{IsPrintableLog-push}
 use Rattle.tap_report.proofs.tests.log_of.Goals as goal
 

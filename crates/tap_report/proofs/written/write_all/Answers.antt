@@ -1,4 +1,4 @@
-use Rattle.std.proofs.Common.{arith, length, length-drop}
+use Rattle.std.proofs.Common.{arith}
 use Rattle.tap_io.proofs.Writing.{next_write}
 use Rattle.tap_report.proofs.written.write_all.Goals as goal
 

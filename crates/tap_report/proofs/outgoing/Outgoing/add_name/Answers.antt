@@ -1,4 +1,4 @@
-use Rattle.std.proofs.Common.{◌≡◌, ◌<◌, ◌++◌, ◌∷◌, [], ◌∙◌, ap, sym, length, arith, length-set, map, get_or}
+use Rattle.std.proofs.Common.{◌<◌, ◌∙◌, length, arith, length-set}
 use Rattle.std.proofs.lemmas.List.{map_more, take_more_set}
 use Rattle.tap_name.specs.Digits.{text_of_digit}
 use Rattle.tap_report.proofs.outgoing.Outgoing.add_name.Goals as goal
