@@ -21,6 +21,7 @@ pub record Kept : Type 0 where
 abbrev pub kept_at_first : Mode → Kept
 kept_at_first mode = record { mode = mode; settings = None; records = 0; so_far = All }
 
+-- the settings of the `Begin` that was put, with one record more
 abbrev pub settings_after : Option Parameters → Record → Option Parameters
 settings_after settings (Begin begun frames members) = Some begun
 settings_after settings item = settings

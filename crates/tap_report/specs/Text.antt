@@ -12,14 +12,17 @@ use Rattle.tap_report.specs.Refusal.{code_of_refusal, words_of_refusal}
 use Rattle.tap_report.specs.declared.mode.Mode.{Mode}
 use Rattle.tap_report.specs.declared.mode.Mode.TheVariants.{Long, Brief}
 
+-- the line of a beginning
 abbrev pub begin_line : Parameters → ℕ → List ℕ
 begin_line settings frames =
     codes "begin base " ++ decimal settings.base ++ codes " digits " ++ decimal settings.digits
     ++ codes " width " ++ decimal settings.width ++ codes " frames " ++ decimal frames ++ codes "\n"
 
+-- the line of a member, behind that of the beginning
 abbrev pub member_line : List ℕ → List ℕ
 member_line name = codes "member " ++ text_of_name name ++ codes "\n"
 
+-- the line of a step that begins
 abbrev pub step_line : ℕ → Step → List ℕ
 step_line index step = codes "step " ++ decimal index ++ codes " " ++ text_of_step step ++ codes "\n"
 
@@ -31,20 +34,23 @@ spaced_name name = codes " " ++ text_of_name name
 abbrev pub node_at : List (List ℕ) → ℕ → List ℕ
 node_at path place = slice_index_or path place []
 
--- the first node of the path is the asker, and the last one is the object's root
+-- The line of a walk. The first node of the path is the asker, and the last one is the object's root.
 abbrev pub walked_line : List ℕ → List (List ℕ) → List ℕ
 walked_line object path =
     codes "walked " ++ text_of_name object ++ codes " from " ++ text_of_name (node_at path 0)
     ++ codes " path" ++ flat_map spaced_name path ++ codes " root " ++ text_of_name (node_at path (length path - 1))
     ++ codes " hops " ++ decimal (length path - 1) ++ codes "\n"
 
+-- the line of the root of an object
 abbrev pub rooted_line : List ℕ → List ℕ → List ℕ
 rooted_line object root = codes "rooted " ++ text_of_name object ++ codes " at " ++ text_of_name root ++ codes "\n"
 
+-- the line of a refused step, with the refusal's code and words
 abbrev pub refused_line : ℕ → Refusal → List ℕ
 refused_line index refusal =
     codes "refused " ++ decimal index ++ codes " " ++ decimal (code_of_refusal refusal) ++ codes " " ++ words_of_refusal refusal ++ codes "\n"
 
+-- the line of the end of a run
 abbrev pub done_line : ℕ → List ℕ
 done_line steps = codes "done " ++ decimal steps ++ codes "\n"
 
@@ -63,10 +69,12 @@ brief_text (Begin settings frames members) = begin_line settings frames
 brief_text (StepRecord index step) = []
 brief_text item = long_text item
 
+-- the text of a record
 abbrev pub text_of_record : Mode → Record → List ℕ
 text_of_record Long item = long_text item
 text_of_record Brief item = brief_text item
 
+-- the text of a log: those of its records, one after another
 abbrev pub text_of_log : Mode → List Record → List ℕ
 text_of_log mode records = flat_map (text_of_record mode) records
 
@@ -75,6 +83,7 @@ abbrev pub IsPrintable : Record → Type 0
 IsPrintable (Walked object path) = 0 < length path
 IsPrintable item = Unit {0}
 
+-- whether a record is a beginning
 abbrev pub is_begin : Record → Bool
 is_begin (Begin settings frames members) = true
 is_begin item = false
