@@ -44,8 +44,8 @@ impl Reporter {
         }
     }
 
-    /// Writes the text of one record. The first record, and no other one, is a `Begin`, and fewer than 4,000,000,000
-    /// records were put.
+    /// Writes the text of one record. The first record, and no other one, is a `Begin`, the path of a walk isn't empty,
+    /// and fewer than 4,000,000,000 records were put.
     ///
     /// The first `Failed` comes only where the sink counted a fault in this call, and some first bytes of the text are
     /// then written. After it each call answers `Failed` and writes nothing. A record that isn't written counts as put.
@@ -87,8 +87,8 @@ fn settings_with(settings: Option<Settings>, item: &Record) -> Option<Settings>
 
 /// Writes the text of a log, as the puts of its records and a finish do, and in larger pieces. Takes no memory.
 ///
-/// The log is empty, or its first record is its only `Begin`. `Failed` comes only where the sink counted a fault in this
-/// call, and some first bytes of the text are then written.
+/// The log is empty, or its first record is its only `Begin`, and the path of no walk is empty. `Failed` comes only where
+/// the sink counted a fault in this call, and some first bytes of the text are then written.
 pub fn write_log<K: Sink>(mode: Mode, log: &Log, sink: &mut K) -> Written
     requires { IsPrintableLog log.now.records }
     ensures { WritesText (K.held sink.old) (K.held sink.new)

@@ -11,9 +11,9 @@ pub enum Written {
     Failed,
 }
 
-/// Writes a text, where all before it was written. The first failure comes only where the sink counted a fault in this
-/// call, and some first bytes of the text are then written. After a failure nothing is written, and the answer is
-/// `Failed`.
+/// Writes a text, where all before it was written, as `so_far` tells. The first `Failed` comes only where the sink counted
+/// a fault in this call, and some first bytes of the text are then written. Where `so_far` is `Failed`, nothing is written,
+/// and the answer is `Failed`.
 pub fn write_text<K: Sink>(sink: &mut K, so_far: Written, text: &[u8]) -> Written
     ensures { WritesText (K.held sink.old) (K.held sink.new)
         (K.faults sink.old) (K.faults sink.new) text.now so_far result }
