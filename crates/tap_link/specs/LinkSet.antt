@@ -75,7 +75,8 @@ module _ {K : Type 0} (cmp : K → K → Ordering) where
 
   -- the link to the target has this kind, and the others are as they were
   abbrev pub with_kind : List (Entry K) → K → Kind → List (Entry K)
-  with_kind links target kind = map (λ e. if is_eq (cmp target e.target) then record e { kind = kind } else e) links
+  with_kind links target kind =
+      map {A = Entry K} (λ e. if is_eq (cmp target e.target) then record e { kind = kind } else e) links
 
   -- all links but the one to the target
   abbrev pub without : List (Entry K) → K → List (Entry K)

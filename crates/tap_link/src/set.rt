@@ -1,4 +1,5 @@
-ghost use Rattle.std.specs.Prelude.{◌≡◌, ◌<◌, ◌≤◌, ◌↔◌, ◌&&◌, [], length, map, true, Some, None, IsOk, IsNone, IfOk, IfSome, OnTrue, OnFalse, slice_get};
+ghost use Rattle.std.specs.Prelude.{◌≡◌, ◌<◌, ◌≤◌, ◌↔◌, ◌&&◌, [], length, map, true, Some, None, IsOk, IsNone, IfOk, IfSome, slice_get};
+ghost use Rattle.std.specs.Bool.{OnTrue, OnFalse};
 ghost use Rattle.std.specs.Option.{is_none};
 ghost use Rattle.tap_link.specs.LinkSet.{Links, IsLinkSet, kind_of, with_link, with_kind, without, is_pinned, is_settled, is_settled_or_leaving, settled_count, has_room, least_settled, IsLeastSettled, released_as, after_release};
 
