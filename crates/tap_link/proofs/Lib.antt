@@ -1,2 +1,5 @@
 pub mod Present
 pub mod Search
+pub mod Kept
+pub mod Least
+pub mod LookUps

@@ -66,3 +66,8 @@ module _ {X : Type 0} where
   get_or_from_got [] at x d got = cc
   get_or_from_got (y ∷ ys) zero x d got = cc
   get_or_from_got (y ∷ ys) (suc at) x d got = get_or_from_got ys at x d got
+
+  pub within_from_got : (xs : List X) (at : ℕ) (x : X) → slice_get xs at ≡ Some x → at < length xs
+  within_from_got [] at x got = cc
+  within_from_got (y ∷ ys) zero x got = omega arith
+  within_from_got (y ∷ ys) (suc at) x got = let within : at < length ys = within_from_got ys at x got in omega arith

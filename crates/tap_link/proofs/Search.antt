@@ -1,20 +1,23 @@
 -- Where a target stands in an ascending list, and what an edit there makes of the list.
 use Rattle.std.proofs.Common.{◌≡◌, ℕ, ◌+◌, ◌-◌, ◌<◌, ◌≤◌, Bool, true, false, cond, List, [], ◌∷◌, length, filter, insert, remove, set, get_or, slice_get, None, Some, arith, zero, suc, refl, sym, ap, ◌∙◌, inl, inr}
 use Rattle.std.specs.Cmp.{IsTotalOrder}
+use Rattle.std.specs.Option.{is_none}
 use Rattle.std.specs.Ordering.{is_eq, is_gt, is_lt, ordering_reverse}
 use Rattle.std.specs.declared.cmp.Ordering.{Ordering}
 use Rattle.std.specs.declared.cmp.Ordering.TheVariants.{Less, Equal, Greater}
-use Rattle.std.proofs.lemmas.Bool.{cases_order, cases_eq, cond_both}
-use Rattle.std.proofs.lemmas.List.{get_or_default, length-set, get_or-set_same, get_or-set_other}
-use Rattle.std.proofs.lemmas.List.Sums.{sum_by-insert, sum_by-set, sum_by-remove}
-use Rattle.std.proofs.lemmas.List.Edits.{length-insert, get_or-insert_at, get_or-insert_below, get_or-insert_above}
+use Rattle.std.proofs.lemmas.Bool.{cases_order}
 use Rattle.tap_link.specs.declared.kind.Kind.{Kind}
 use Rattle.tap_link.specs.declared.kind.Kind.TheVariants.{Pin, Settled, Leaving}
 use Rattle.tap_link.specs.Entry.{Entry}
-use Rattle.tap_link.specs.LinkSet.{IsAscending, kind_of, with_link, with_kind, without, settled_count, is_settled}
+use Rattle.tap_link.specs.LinkSet.{Links, IsAscending, kind_of, with_link, with_kind, without}
 use Rattle.tap_link.specs.Places.{IsGap, IsAt}
+use Rattle.tap_link.proofs.Present.{get_or_from_got, within_from_got}
 
 module _ {K : Type 0} where
+  -- a set of this width
+  abbrev pub set_of : ℕ → List (Entry K) → Links K
+  set_of width links = record { width = width; links = links }
+
   pub entry_is : (e x : Entry K) (kind : Kind) → e.target ≡ x.target → e.kind ≡ kind → e ≡ record x { kind = kind }
   entry_is e x kind target is =
       ap (λ (t : K). record { target = t; kind = e.kind }) target ∙ ap (λ (k : Kind). record { target = x.target; kind = k }) is
@@ -110,3 +113,90 @@ module _ {K : Type 0} (cmp : K → K → Ordering) where
   at-set (e ∷ es) target kind (suc at) d within below here above =
       rw (below 0 e (omega arith))
       (ap (λ l. e ∷ l) (at-set es target kind at d (omega arith) (below_tail e es target at below) here (above_tail e es target (suc at) above)))
+
+  -- the steps of a search from the front: so far the target is above all, and now it meets x
+  pub below_more : (links : List (Entry K)) (target : K) (at : ℕ) (x : Entry K) → slice_get links at ≡ Some x
+      → AreBelow links target at → cmp target x.target ≡ Greater → AreBelow links target (at + 1)
+  below_more links target at x got below greater k d h =
+      elim (cases_order k at) [
+        | inl is ↦ rw (is, get_or_from_got links at x d got) greater
+        | inr (inl lt) ↦ below k d lt
+        | inr (inr gt) ↦ absurd (omega arith)
+      ]
+
+  pub gap_before : IsTotalOrder cmp → (links : List (Entry K)) (target : K) (at : ℕ) (x : Entry K) → IsAscending cmp links
+      → slice_get links at ≡ Some x → AreBelow links target at → cmp target x.target ≡ Less → IsGap cmp links target at
+  gap_before o links target at x ascending got below less =
+      let within = within_from_got links at x got in
+      record {
+        within = omega arith;
+        below = below;
+        above = λ k d ge h.
+            let read = get_or_from_got links at x d got in
+            elim (cases_order k at) [
+              | inl is ↦ rw (is, read) less
+              | inr (inl lt) ↦ absurd (omega arith)
+              | inr (inr gt) ↦
+                  let later : cmp x.target (get_or links k d).target ≡ Less = rw read at (ascending at k d gt h) in
+                  o.trans target x.target (get_or links k d).target less later
+            ];
+      }
+
+  pub gap_at_end : (links : List (Entry K)) (target : K) (at : ℕ) → length links ≤ at → AreBelow links target at
+      → IsGap cmp links target (length links)
+  gap_at_end links target at end below =
+      record { within = omega arith; below = λ k d h. below k d (omega arith); above = λ k d ge h. absurd (omega arith) }
+
+  pub found_at : IsTotalOrder cmp → (links : List (Entry K)) (target : K) (at : ℕ) (x : Entry K) → IsAscending cmp links
+      → slice_get links at ≡ Some x → AreBelow links target at → cmp target x.target ≡ Equal → IsAt cmp links target at
+  found_at o links target at x ascending got below same =
+      record {
+        within = within_from_got links at x got;
+        below = below;
+        here = λ d. rw (get_or_from_got links at x d got) same;
+        above = λ k d gt h.
+            let later : cmp x.target (get_or links k d).target ≡ Less = rw (get_or_from_got links at x d got) at (ascending at k d gt h) in
+            o.congr target x.target (get_or links k d).target same ∙ later;
+      }
+
+  -- what an edit in the gap makes
+  pub absent-kind_of : (links : List (Entry K)) (target : K) (at : ℕ) → IsGap cmp links target at → kind_of cmp links target ≡ None
+  absent-kind_of links target at gap = gap-kind_of links target at gap.below gap.above
+
+  pub insert-with_link : (links : List (Entry K)) (target : K) (at : ℕ) (x : Entry K) (kind : Kind) → IsGap cmp links target at
+      → x.target ≡ target → x.kind ≡ kind → insert links at x ≡ with_link cmp links target kind
+  insert-with_link links target at x kind gap same is =
+      ap (insert links at) (entry_is x (record { target = target; kind = kind }) kind same is)
+      ∙ gap-insert links target kind at gap.within gap.below gap.above
+
+  -- what an edit at the link makes
+  pub found-kind_of : (links : List (Entry K)) (target : K) (at : ℕ) (x : Entry K) → IsAt cmp links target at → slice_get links at ≡ Some x
+      → kind_of cmp links target ≡ Some x.kind
+  found-kind_of links target at x found got =
+      at-kind_of links target at x found.within found.below (found.here x)
+      ∙ ap (λ (e : Entry K). Some e.kind) (get_or_from_got links at x x got)
+
+  pub found-target : (links : List (Entry K)) (target : K) (at : ℕ) (x : Entry K) → IsAt cmp links target at → slice_get links at ≡ Some x
+      → cmp target x.target ≡ Equal
+  found-target links target at x found got = rw (get_or_from_got links at x x got) at (found.here x)
+
+  pub remove-without : (links : List (Entry K)) (target : K) (at : ℕ) (x : Entry K) → IsAt cmp links target at
+      → remove links at ≡ without cmp links target
+  remove-without links target at x found =
+      at-remove links target at x found.within found.below (found.here x) (λ k d gt h. found.above k d (omega arith) h)
+
+  pub set-with_kind : (links : List (Entry K)) (target : K) (at : ℕ) (x : Entry K) (kind : Kind) → IsAt cmp links target at
+      → slice_get links at ≡ Some x → set links at (record x { kind = kind }) ≡ with_kind cmp links target kind
+  set-with_kind links target at x kind found got =
+      ap (λ (e : Entry K). set links at (record e { kind = kind })) (sym (get_or_from_got links at x x got))
+      ∙ at-set links target kind at x found.within found.below (found.here x) (λ k d gt h. found.above k d (omega arith) h)
+
+  pub found-is_some : (links : List (Entry K)) (target : K) (at : ℕ) → IsAt cmp links target at → is_none (kind_of cmp links target) ≡ false
+  found-is_some [] target at found = absurd (omega (arith, found.within))
+  found-is_some (e ∷ es) target at found =
+      ap is_none (at-kind_of (e ∷ es) target at e found.within found.below (found.here e))
+
+  -- the kind that was read there
+  pub found_as : (links : List (Entry K)) (target : K) (at : ℕ) (x : Entry K) (kind : Kind) → IsAt cmp links target at
+      → slice_get links at ≡ Some x → kind ≡ x.kind → kind_of cmp links target ≡ Some kind
+  found_as links target at x kind found got is = found-kind_of links target at x found got ∙ ap Some (sym is)

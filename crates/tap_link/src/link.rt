@@ -1,5 +1,6 @@
-ghost use Rattle.std.specs.Prelude.{◌≡◌, ◌≢◌};
+ghost use Rattle.std.specs.Prelude.{◌≡◌, ◌≢◌, Some};
 ghost use Rattle.std.specs.declared.cmp.Ordering.TheVariants.{Equal};
+ghost use Rattle.tap_link.specs.LinkSet.{is_settled};
 
 use crate::kind::Kind;
 use crate::pin::Pin;
@@ -79,6 +80,16 @@ impl<K: Ord + Copy> Link<K> {
                     Kind::Settled
                 }
             }
+        }
+    }
+
+    // Whether the link is settled and not leaving.
+    pub(crate) fn is_settled(&self) -> bool
+        ensures { result ≡ is_settled (Some self.now.kind) }
+    {
+        match self.kind() {
+            Kind::Settled => true,
+            Kind::Pin | Kind::Leaving => false,
         }
     }
 

@@ -80,7 +80,7 @@ impl<K: Ord + Copy> Places<K> {
     {
         let mut count = 0;
         for at in 0..self.len() {
-            if self.link_at(at).kind() == Kind::Settled {
+            if self.link_at(at).is_settled() {
                 count += 1;
             }
         }

@@ -1,4 +1,4 @@
-ghost use Rattle.std.specs.Prelude.{◌≡◌, ◌<◌, ◌≤◌, ◌↔◌, ◌&&◌, [], length, map, true, Some, None, IsOk, IsNone, IfOk, IfSome, slice_get};
+ghost use Rattle.std.specs.Prelude.{◌≡◌, ◌<◌, ◌≤◌, ◌↔◌, ◌&&◌, [], length, map, true, Some, None, IsOk, IsNone, IfOk, IfSome, IsTrue, slice_get};
 ghost use Rattle.std.specs.Bool.{OnTrue, OnFalse};
 ghost use Rattle.std.specs.Option.{is_none};
 ghost use Rattle.tap_link.specs.LinkSet.{Links, IsLinkSet, kind_of, with_link, with_kind, without, is_pinned, is_settled, is_settled_or_leaving, settled_count, has_room, least_settled, IsLeastSettled, released_as, after_release};
@@ -211,7 +211,7 @@ impl<K: Ord + Copy> LinkSet<K> {
     {
         for at in 0..self.places.len() {
             let link = self.places.link_at(at);
-            if link.kind() == Kind::Settled {
+            if link.is_settled() {
                 return Some(link.target());
             }
         }
