@@ -1,5 +1,5 @@
 -- Where a target stands in an ascending list, and what an edit there makes of the list.
-use Rattle.std.proofs.Common.{◌≡◌, ℕ, ◌+◌, ◌-◌, ◌<◌, ◌≤◌, Bool, true, false, cond, List, [], ◌∷◌, length, filter, insert, remove, set, get_or, slice_get, None, Some, arith, zero, suc, refl, sym, ap, ◌∙◌, inl, inr}
+use Rattle.std.proofs.Common.{◌≡◌, ℕ, ◌+◌, ◌-◌, ◌<◌, ◌≤◌, Bool, true, false, cond, List, [], ◌∷◌, length, filter, insert, remove, set, get_or, slice_get, None, Some, arith, zero, suc, refl, sym, ap, ◌∙◌, ◌⊎◌, inl, inr}
 use Rattle.std.specs.Cmp.{IsTotalOrder}
 use Rattle.std.specs.Option.{is_none}
 use Rattle.std.specs.Ordering.{is_eq, is_gt, is_lt, ordering_reverse}
@@ -9,9 +9,22 @@ use Rattle.std.proofs.lemmas.Bool.{cases_order}
 use Rattle.tap_link.specs.declared.kind.Kind.{Kind}
 use Rattle.tap_link.specs.declared.kind.Kind.TheVariants.{Pin, Settled, Leaving}
 use Rattle.tap_link.specs.Entry.{Entry}
-use Rattle.tap_link.specs.LinkSet.{Links, IsAscending, kind_of, with_link, with_kind, without}
+use Rattle.tap_link.specs.LinkSet.{Links, is_pinned, is_settled, is_settled_or_leaving, IsAscending, kind_of, with_link, with_kind, without}
 use Rattle.tap_link.specs.Places.{IsGap, IsAt}
 use Rattle.tap_link.proofs.Present.{get_or_from_got, within_from_got}
+
+-- what two arms of a match on the kind say
+pub not_pinned : (kind : Kind) → (kind ≡ Settled) ⊎ (kind ≡ Leaving) → false ≡ is_pinned (Some kind)
+not_pinned kind (inl is) = rw is refl
+not_pinned kind (inr is) = rw is refl
+
+pub not_settled : (kind : Kind) → (kind ≡ Pin) ⊎ (kind ≡ Leaving) → false ≡ is_settled (Some kind)
+not_settled kind (inl is) = rw is refl
+not_settled kind (inr is) = rw is refl
+
+pub settled_or_leaving : (kind : Kind) → (kind ≡ Settled) ⊎ (kind ≡ Leaving) → true ≡ is_settled_or_leaving (Some kind)
+settled_or_leaving kind (inl is) = rw is refl
+settled_or_leaving kind (inr is) = rw is refl
 
 module _ {K : Type 0} where
   -- a set of this width
