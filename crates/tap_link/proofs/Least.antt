@@ -83,7 +83,7 @@ module _ {K : Type 0} (cmp : K → K → Ordering) where
   below_tail : (target : K) (e : Entry K) (es : List (Entry K)) → IsBelowAll target (e ∷ es) → IsBelowAll target es
   below_tail target e es below k d h = below (suc k) d (omega arith)
 
-  ascending_tail : (e : Entry K) (es : List (Entry K)) → IsAscending cmp (e ∷ es) → IsAscending cmp es
+  pub ascending_tail : (e : Entry K) (es : List (Entry K)) → IsAscending cmp (e ∷ es) → IsAscending cmp es
   ascending_tail e es ascending i j d lt h = ascending (suc i) (suc j) d (omega arith) (omega arith)
 
   -- what is below all links is below the least settled one

@@ -3,3 +3,5 @@ pub mod Search
 pub mod Kept
 pub mod Least
 pub mod LookUps
+pub mod Counts
+pub mod Targets

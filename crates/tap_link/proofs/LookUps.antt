@@ -9,8 +9,11 @@ use Rattle.std.proofs.lemmas.Bool.{cases_Bool}
 use Rattle.std.proofs.lemmas.Cmp.{alike_right, tied_back}
 use Rattle.std.proofs.lemmas.List.Folds.{find-append}
 use Rattle.tap_link.specs.declared.kind.Kind.{Kind}
+use Rattle.tap_link.specs.declared.kind.Kind.TheVariants.{Settled}
+use Rattle.tap_link.specs.declared.kind.Released.{Released}
+use Rattle.tap_link.specs.declared.kind.Released.TheVariants.{Settled as ReleasedSettled, Dropped, Nothing}
 use Rattle.tap_link.specs.Entry.{Entry}
-use Rattle.tap_link.specs.LinkSet.{kind_of, with_link, with_kind, without}
+use Rattle.tap_link.specs.LinkSet.{kind_of, with_link, with_kind, without, after_release}
 use Rattle.tap_link.proofs.Least.{tied_is}
 
 is_eq-reverse : (r : Ordering) → is_eq (ordering_reverse r) ≡ is_eq r
@@ -129,3 +132,17 @@ module _ {K : Type 0} (cmp : K → K → Ordering) where
   pub kind_of-with_link : IsTotalOrder cmp → (links : List (Entry K)) (target other : K) (kind : Kind)
       → kind_of cmp (with_link cmp links target kind) other ≡ (if is_eq (cmp other target) then Some kind else kind_of cmp links other)
   kind_of-with_link o links target other kind = found_among o links target other kind (cmp target other) refl
+
+  -- the kind of a link whose target's release was answered so, from its kind before
+  abbrev pub kind_after : Released → Option Kind → Option Kind
+  kind_after ReleasedSettled before = option_map (λ _. Settled) before
+  kind_after Dropped before = None
+  kind_after Nothing before = before
+
+  pub kind_of-after_release : IsTotalOrder cmp → (links : List (Entry K)) (target other : K) (answer : Released)
+      → kind_of cmp (after_release cmp links target answer) other
+      ≡ (if is_eq (cmp other target) then kind_after answer (kind_of cmp links other) else kind_of cmp links other)
+  kind_of-after_release o links target other ReleasedSettled = kind_of-with_kind o links target other Settled
+  kind_of-after_release o links target other Dropped = kind_of-without o links target other
+  kind_of-after_release o links target other Nothing =
+      elim (cases_Bool (is_eq (cmp other target))) [ inl tied ↦ rw tied refl | inr apart ↦ rw apart refl ]

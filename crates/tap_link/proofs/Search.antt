@@ -72,12 +72,12 @@ module _ {K : Type 0} (cmp : K → K → Ordering) where
   above-filter_lt (e ∷ es) target above =
       rw (above 0 e (omega arith) (omega arith)) (ap (λ l. e ∷ l) (above-filter_lt es target (all_above e es target above)))
 
-  above-without : (links : List (Entry K)) (target : K) → AreAbove links target 0 → without cmp links target ≡ links
+  pub above-without : (links : List (Entry K)) (target : K) → AreAbove links target 0 → without cmp links target ≡ links
   above-without [] target above = refl
   above-without (e ∷ es) target above =
       rw (above 0 e (omega arith) (omega arith)) (ap (λ l. e ∷ l) (above-without es target (all_above e es target above)))
 
-  above-with_kind : (links : List (Entry K)) (target : K) (kind : Kind) → AreAbove links target 0 → with_kind cmp links target kind ≡ links
+  pub above-with_kind : (links : List (Entry K)) (target : K) (kind : Kind) → AreAbove links target 0 → with_kind cmp links target kind ≡ links
   above-with_kind [] target kind above = refl
   above-with_kind (e ∷ es) target kind above =
       rw (above 0 e (omega arith) (omega arith)) (ap (λ l. e ∷ l) (above-with_kind es target kind (all_above e es target above)))

@@ -48,7 +48,6 @@ impl<K: Ord + Copy> LinkSet<K> {
         ensures count { result ≡ length self.now.links }
         ensures valid { IsLinkSet K.cmp self.now }
     {
-        let _width = self.width;
         self.places.len()
     }
 
@@ -91,12 +90,13 @@ impl<K: Ord + Copy> LinkSet<K> {
     /// With fewer than four links it needs no memory. A set that is refused memory stays as it was.
     pub fn pin(&mut self, target: K) -> Result<bool, NoMemory>
         ensures answer { IfOk result (λ added. added ≡ is_none (kind_of K.cmp self.old.links target)) }
-        ensures pinned { result ≡ Ok true → self.new ≡ record self.old { links = with_link K.cmp self.old.links target Kind.Pin } }
+        ensures pinned { result ≡ Ok true
+            → self.new ≡ record self.old { links = with_link K.cmp self.old.links target Kind.Pin } }
         ensures same { ¬ (result ≡ Ok true) → self.new ≡ self.old }
         ensures inline { length self.old.links < 4 → IsOk result }
     {
         match self.places.search(target) {
-            Ok(_) => Ok(false),
+            Ok(_) => Ok(false), // some link names it
             Err(at) => {
                 self.places.insert(at, Link::pin(target))?;
                 Ok(true)
@@ -109,8 +109,10 @@ impl<K: Ord + Copy> LinkSet<K> {
     ///
     /// With fewer than four links it needs no memory. A set that is refused memory stays as it was.
     pub fn offer(&mut self, target: K) -> Result<bool, NoMemory>
-        ensures answer { IfOk result (λ added. added ≡ (is_none (kind_of K.cmp self.old.links target) && has_room self.old)) }
-        ensures settled { result ≡ Ok true → self.new ≡ record self.old { links = with_link K.cmp self.old.links target Kind.Settled } }
+        ensures answer { IfOk result (λ added. added
+            ≡ (is_none (kind_of K.cmp self.old.links target) && has_room self.old)) }
+        ensures settled { result ≡ Ok true
+            → self.new ≡ record self.old { links = with_link K.cmp self.old.links target Kind.Settled } }
         ensures same { ¬ (result ≡ Ok true) → self.new ≡ self.old }
         ensures inline { length self.old.links < 4 → IsOk result }
     {
@@ -129,8 +131,10 @@ impl<K: Ord + Copy> LinkSet<K> {
     /// Takes the release of a node: a pin on it becomes a settled link where there is room for one,
     /// and is dropped otherwise. `Nothing` exactly where the sender isn't pinned.
     pub fn release(&mut self, by: Release<K>) -> Released
-        ensures answer { result ≡ released_as (is_pinned (kind_of K.cmp self.old.links by.from)) (has_room self.old) }
-        ensures after { self.new ≡ record self.old { links = after_release K.cmp self.old.links by.from result } }
+        ensures answer { result
+            ≡ released_as (is_pinned (kind_of K.cmp self.old.links by.from)) (has_room self.old) }
+        ensures after { self.new
+            ≡ record self.old { links = after_release K.cmp self.old.links by.from result } }
     {
         let Ok(at) = self.places.search(by.from) else {
             return Released::Nothing;
@@ -152,7 +156,8 @@ impl<K: Ord + Copy> LinkSet<K> {
     /// Ends the pin on a node that gave up joining: true exactly where it was pinned.
     pub fn forget(&mut self, by: Forget<K>) -> bool
         ensures answer { result ≡ is_pinned (kind_of K.cmp self.old.links by.from) }
-        ensures forgotten { OnTrue result (self.new ≡ record self.old { links = without K.cmp self.old.links by.from }) }
+        ensures forgotten { OnTrue result
+            (self.new ≡ record self.old { links = without K.cmp self.old.links by.from }) }
         ensures same { OnFalse result (self.new ≡ self.old) }
     {
         let Ok(at) = self.places.search(by.from) else {
@@ -170,7 +175,8 @@ impl<K: Ord + Copy> LinkSet<K> {
     /// Marks the link to a target as leaving: true exactly where it was settled and not leaving.
     pub fn mark_leaving(&mut self, target: K) -> bool
         ensures answer { result ≡ is_settled (kind_of K.cmp self.old.links target) }
-        ensures marked { OnTrue result (self.new ≡ record self.old { links = with_kind K.cmp self.old.links target Kind.Leaving }) }
+        ensures marked { OnTrue result
+            (self.new ≡ record self.old { links = with_kind K.cmp self.old.links target Kind.Leaving }) }
         ensures same { OnFalse result (self.new ≡ self.old) }
     {
         let Ok(at) = self.places.search(target) else {
@@ -188,7 +194,8 @@ impl<K: Ord + Copy> LinkSet<K> {
     /// Takes out the link to a target that is settled or leaving: true exactly where it was.
     pub fn remove_settled(&mut self, target: K) -> bool
         ensures answer { result ≡ is_settled_or_leaving (kind_of K.cmp self.old.links target) }
-        ensures removed { OnTrue result (self.new ≡ record self.old { links = without K.cmp self.old.links target }) }
+        ensures removed { OnTrue result
+            (self.new ≡ record self.old { links = without K.cmp self.old.links target }) }
         ensures same { OnFalse result (self.new ≡ self.old) }
     {
         let Ok(at) = self.places.search(target) else {

@@ -11,14 +11,16 @@ returns-in_default-clause-answer g c =
     rw (← c.self.view_is, absent-kind_of g.K.Ord.cmp c.self.inside.places c.args.by.from c.in_default.field-0 c.in_default.ensures.absent) refl
 
 pub settle-requires : goal.settle-requires
-settle-requires g c =
-    (search rules, (
-      c.in-Ok.ensures.found.within,
-      (
-        λ x got. let same : Some x ≡ Some c.link_at.result.now = sym got ∙ c.link_at.ensures in cc,
-        λ x got. found-target g.K.Ord.cmp c.self.inside.places c.args.by.from c.in-Ok.at x c.in-Ok.ensures.found got
-      )
-    ))
+settle-requires g c = (
+  search rules,
+  (
+    c.in-Ok.ensures.found.within,
+    (
+      λ x got. let same : Some x ≡ Some c.link_at.result.now = sym got ∙ c.link_at.ensures in cc,
+      λ x got. found-target g.K.Ord.cmp c.self.inside.places c.args.by.from c.in-Ok.at x c.in-Ok.ensures.found got,
+    ),
+  ),
+)
 
 pub invariant_of-self : goal.invariant_of-self
 invariant_of-self g c =

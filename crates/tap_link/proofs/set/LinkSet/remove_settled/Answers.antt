@@ -23,6 +23,6 @@ returns-in-Settled g c =
     record {
       answer = rw (← c.self.view_is, kind) (settled_or_leaving c.kind.result c.in-Settled.is);
       removed = rw (← c.self.view_is) (ap (set_of c.self.inside.width) (c.remove.ensures.rest
-      ∙ remove-without g.K.Ord.cmp c.self.inside.places c.args.target c.in-Ok.at c.remove.result c.in-Ok.ensures.found));
+          ∙ remove-without g.K.Ord.cmp c.self.inside.places c.args.target c.in-Ok.at c.remove.result c.in-Ok.ensures.found));
       same = tt;
     }
