@@ -1,5 +1,5 @@
 -- How many links there are, and how many are settled, after each change of a link set.
-use Rattle.std.proofs.Common.{◌≡◌, ℕ, ◌+◌, true, false, cond, List, [], ◌∷◌, length, filter, None, Some, arith, suc, refl, ap, ◌∙◌, inl, inr}
+use Rattle.std.proofs.Common.{◌≡◌, ℕ, ◌+◌, true, false, cond, List, [], ◌∷◌, length, filter, None, Some, arith, suc, refl, ◌∙◌, inl, inr}
 use Rattle.std.specs.Cmp.{IsTotalOrder}
 use Rattle.std.specs.List.{sum_by}
 use Rattle.std.specs.Ordering.{is_eq, is_gt, is_lt}

@@ -1,6 +1,6 @@
 -- What stands in places that each have something in them.
 use Rattle.std.proofs.Common.{◌≡◌, ℕ, ◌<◌, List, [], ◌∷◌, length, map, insert, remove, set, get_or, slice_get, Option, None, Some, arith, zero, suc, refl, sym, ap, ◌∙◌, take}
-use Rattle.std.proofs.lemmas.List.{map-append, take-map, drop-map, map-set, length-map}
+use Rattle.std.proofs.lemmas.List.{map-append, take-map, drop-map, map-set}
 use Rattle.tap_link.specs.Places.{present}
 
 module _ {X : Type 0} where

@@ -1,5 +1,4 @@
 use Rattle.smallvec.specs.SmallVec.{small_vec_len}
-use Rattle.std.proofs.Common.{◌≤◌}
 use Rattle.tap_link.specs.Places.{IsFull}
 use Rattle.tap_link.proofs.places.Places.cease.Given as goal
 

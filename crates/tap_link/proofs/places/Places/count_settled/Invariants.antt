@@ -1,4 +1,4 @@
-use Rattle.std.proofs.Common.{◌≡◌, ◌≤◌, take}
+use Rattle.std.proofs.Common.{◌≡◌, take}
 use Rattle.tap_link.specs.LinkSet.{settled_count}
 use Rattle.tap_link.proofs.places.Places.count_settled.Given as goal
 

@@ -1,4 +1,4 @@
-use Rattle.std.proofs.Common.{◌≡◌, arith, Some, slice_get}
+use Rattle.std.proofs.Common.{◌≡◌, arith}
 use Rattle.std.specs.declared.cmp.Ordering.TheVariants.{Less, Equal, Greater}
 use Rattle.tap_link.proofs.Search.{below_more, gap_before, gap_at_end, found_at}
 use Rattle.tap_link.proofs.places.Places.search.Goals as goal

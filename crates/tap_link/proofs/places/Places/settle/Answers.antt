@@ -1,6 +1,5 @@
 use Rattle.std.proofs.Common.{◌≡◌, slice_get, set, Some, sym, ap, ◌∙◌}
 use Rattle.tap_link.specs.declared.kind.Kind.TheVariants.{Settled}
-use Rattle.tap_link.specs.Entry.{settled}
 use Rattle.tap_link.proofs.Present.{holds, place_is, set_is, present_is, full_is, never_none}
 use Rattle.tap_link.proofs.Search.{entry_is}
 use Rattle.tap_link.proofs.places.Places.settle.Goals as goal

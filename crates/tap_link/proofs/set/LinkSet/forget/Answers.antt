@@ -1,6 +1,4 @@
-use Rattle.std.proofs.Common.{◌≡◌, refl, sym, ap, ◌∙◌, Some}
-use Rattle.tap_link.specs.declared.kind.Kind.TheVariants.{Pin}
-use Rattle.tap_link.specs.LinkSet.{kind_of, is_pinned}
+use Rattle.std.proofs.Common.{refl, ap, ◌∙◌}
 use Rattle.tap_link.proofs.Kept.{kept-remove}
 use Rattle.tap_link.proofs.Search.{set_of, absent-kind_of, found_as, found-target, remove-without, not_pinned}
 use Rattle.tap_link.proofs.set.LinkSet.forget.Goals as goal

@@ -1,4 +1,4 @@
-use Rattle.std.proofs.Common.{◌≡◌, false, refl, sym, ap, ◌∙◌, Some}
+use Rattle.std.proofs.Common.{refl, ap, ◌∙◌}
 use Rattle.tap_link.specs.declared.kind.Kind.TheVariants.{Leaving}
 use Rattle.tap_link.proofs.Kept.{kept-set}
 use Rattle.tap_link.proofs.Search.{set_of, absent-kind_of, found_as, set-with_kind, not_settled}

@@ -1,7 +1,7 @@
-use Rattle.std.proofs.Common.{◌≡◌, ◌<◌, true, refl, sym, ap, ◌∙◌, Some}
+use Rattle.std.proofs.Common.{◌≡◌, true, refl, ap, ◌∙◌}
 use Rattle.std.proofs.lemmas.Bool.{ltb-true}
 use Rattle.tap_link.specs.declared.kind.Kind.TheVariants.{Settled}
-use Rattle.tap_link.specs.LinkSet.{settled_count, has_room}
+use Rattle.tap_link.specs.LinkSet.{has_room}
 use Rattle.tap_link.specs.Places.{IsGap}
 use Rattle.tap_link.proofs.Kept.{kept-insert}
 use Rattle.tap_link.proofs.Search.{set_of, absent-kind_of, found-is_some, insert-with_link}

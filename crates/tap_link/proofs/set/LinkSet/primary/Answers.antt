@@ -1,4 +1,4 @@
-use Rattle.std.proofs.Common.{◌≡◌, ◌<◌, true, false, Some, None, refl, sym, ap, arith, ◌∙◌}
+use Rattle.std.proofs.Common.{◌≡◌, true, false, Some, None, refl, sym, arith, ◌∙◌}
 use Rattle.std.proofs.lemmas.List.{at_drop_all}
 use Rattle.tap_link.specs.LinkSet.{is_settled, least_settled}
 use Rattle.tap_link.proofs.Least.{least_settled-drop_other, least_settled-drop_settled, least_settled_is, counted_some, counted_none}

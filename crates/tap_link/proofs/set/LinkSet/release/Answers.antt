@@ -1,6 +1,6 @@
-use Rattle.std.proofs.Common.{rules, ◌≡◌, ◌<◌, true, false, refl, sym, ap, ◌∙◌, Some}
+use Rattle.std.proofs.Common.{rules, ◌≡◌, true, false, refl, sym, ap, ◌∙◌, Some}
 use Rattle.std.proofs.lemmas.Bool.{ltb-true}
-use Rattle.tap_link.specs.declared.kind.Kind.TheVariants.{Pin, Settled}
+use Rattle.tap_link.specs.declared.kind.Kind.TheVariants.{Settled}
 use Rattle.tap_link.specs.LinkSet.{has_room}
 use Rattle.tap_link.proofs.Kept.{kept-remove, kept-set}
 use Rattle.tap_link.proofs.Search.{set_of, absent-kind_of, found_as, found-target, remove-without, set-with_kind, not_pinned}

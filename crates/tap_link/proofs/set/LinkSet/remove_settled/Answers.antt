@@ -1,4 +1,4 @@
-use Rattle.std.proofs.Common.{◌≡◌, refl, sym, ap, ◌∙◌, Some}
+use Rattle.std.proofs.Common.{refl, ap, ◌∙◌}
 use Rattle.tap_link.proofs.Kept.{kept-remove}
 use Rattle.tap_link.proofs.Search.{set_of, absent-kind_of, found_as, remove-without, settled_or_leaving}
 use Rattle.tap_link.proofs.set.LinkSet.remove_settled.Goals as goal
