@@ -136,3 +136,41 @@ fn search<K: Ord + Copy, V: Copy>(entries: &[Entry<K, V>], key: &K) -> Result<us
 {
     entries.binary_search_by(|entry| entry.key.cmp(key))
 }
+
+#[cfg(test)]
+mod tests {
+    use super::*;
+    use std::test::Fail;
+
+    // The greatest version wins, whatever the order in which the words come.
+    #[test]
+    fn keeps_the_greatest_version(rt: HostRuntime) -> Result<(), Fail> {
+        let mut registers: Registers<u8, char> = Registers::new(rt.alloc());
+        assert!(rt; registers.is_empty());
+        for (key, version, value, kept) in [
+            (5, 2, 'b', true),
+            (5, 1, 'a', false),
+            (5, 2, 'x', false),
+            (9, 0, 'c', true),
+            (3, 7, 'd', true),
+            (7, 1, 'e', true),
+            (5, 3, 'f', true),
+        ] {
+            assert_eq!(rt; registers.apply(key, version, value)?, kept);
+        }
+        assert_eq!(rt; registers.len(), 4);
+        let expected = [(3, 7, 'd'), (5, 3, 'f'), (7, 1, 'e'), (9, 0, 'c')];
+        for (entry, (key, version, value)) in registers.as_slice().iter().zip(expected) {
+            let is = Entry {
+                key,
+                version,
+                value,
+            };
+            assert_eq!(rt; *entry, is);
+            assert_eq!(rt; registers.get(key), Some(value));
+        }
+        assert_eq!(rt; registers.get(4), None);
+        assert!(rt; !registers.is_empty());
+        Ok(())
+    }
+}
