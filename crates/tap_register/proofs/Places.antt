@@ -1,5 +1,5 @@
 -- The place of a key's entry in an ascending list, from what a search by halves answers.
-use Rattle.std.proofs.Common.{◌≡◌, ℕ, ◌+◌, ◌<◌, ◌≤◌, true, false, Bool, List, [], ◌∷◌, length, take, drop, zero, suc, Option, None, Result, Ok, Err, IfOk, IfErr, refl, sym, ap, ◌∙◌, inl, inr, arith, slice_get, find}
+use Rattle.std.proofs.Common.{◌≡◌, ℕ, ◌+◌, ◌<◌, ◌≤◌, true, false, Bool, List, [], ◌∷◌, length, take, drop, zero, suc, None, Result, Ok, Err, IfOk, IfErr, refl, sym, ap, ◌∙◌, inl, inr, arith, slice_get, find}
 use Rattle.std.specs.List.{AllWithin, HoldsAt, filter, slice_index_or}
 use Rattle.std.specs.List.Sorted.{IsBinarySearchResult, IsNonDecreasingBy, IsSearchInRange}
 use Rattle.std.specs.Cmp.{IsTotalOrder}
@@ -14,7 +14,7 @@ use Rattle.std.proofs.lemmas.Bool.{cases_order}
 use Rattle.std.proofs.lemmas.Cmp.{alike_right}
 use Rattle.std.proofs.lemmas.List.Sorted.{searchable_from_sorted}
 use Rattle.tap_register.specs.declared.registers.Entry.{Entry}
-use Rattle.tap_register.specs.Registers.{IsAscending, IsAt, IsGap, entry_of, below, above}
+use Rattle.tap_register.specs.Registers.{IsAscending, IsAt, IsGap}
 
 -- what a filter keeps where the elements that pass are the first ones
 filter_first : {X : Type 0} (p : X → Bool) (xs : List X) (at : ℕ) → at ≤ length xs → AllWithin (λ x. p x ≡ true) xs 0 at
@@ -78,18 +78,18 @@ module _ {K V : Type 0} (cmp : K → K → Ordering) (total : IsTotalOrder cmp) 
         within = within;
         found = find_first (λ e. is_eq (cmp e.key key)) entries at within (λ k d low high. ap is_eq (before k d low high)) (λ d. ap is_eq (same d));
         before = filter_first (λ e. is_lt (cmp e.key key)) entries at (omega arith) (λ k d low high. ap is_lt (before k d low high))
-          (λ k d low high. elim (cases_order k at) [
-            | inl e ↦ rw e (ap is_lt (same d))
-            | inr (inl lt) ↦ absurd (omega arith)
-            | inr (inr gt) ↦ ap is_lt (behind k d (omega arith) high)
-          ]);
+            (λ k d low high. elim (cases_order k at) [
+              | inl e ↦ rw e (ap is_lt (same d))
+              | inr (inl lt) ↦ absurd (omega arith)
+              | inr (inr gt) ↦ ap is_lt (behind k d (omega arith) high)
+            ]);
         behind = filter_last (λ e. is_gt (cmp e.key key)) entries (at + 1)
-          (λ k d low high. elim (cases_order k at) [
-            | inl e ↦ rw e (ap is_gt (same d))
-            | inr (inl lt) ↦ ap is_gt (before k d low lt)
-            | inr (inr gt) ↦ absurd (omega arith)
-          ])
-          (λ k d low high. ap is_gt (behind k d low high));
+            (λ k d low high. elim (cases_order k at) [
+              | inl e ↦ rw e (ap is_gt (same d))
+              | inr (inl lt) ↦ ap is_gt (before k d low lt)
+              | inr (inr gt) ↦ absurd (omega arith)
+            ])
+            (λ k d low high. ap is_gt (behind k d low high));
       }
 
   gap : (at : ℕ) → at ≤ length entries → AllWithin (λ e. cmp e.key key ≡ Less) entries 0 at
@@ -108,7 +108,7 @@ module _ {K V : Type 0} (cmp : K → K → Ordering) (total : IsTotalOrder cmp) 
   -- the comparisons with the key rise along the list
   rising : IsAscending cmp entries → IsNonDecreasingBy (λ e. ordering_index (cmp e.key key)) entries
   rising ascending = searchable_from_sorted total (λ e. e.key) entries key
-    (λ k d low high.
+      (λ k d low high.
       let here = slice_index_or entries k d in
       let there = slice_index_or entries (k + 1) d in
       ap is_lt (total.antisymm there.key here.key ∙ ap ordering_reverse (ascending k (k + 1) d (omega arith) high)))

@@ -1,14 +1,13 @@
 -- What stays and what changes where an entry is written.
-use Rattle.std.proofs.Common.{◌≡◌, ◌≢◌, ℕ, ◌+◌, ◌<◌, ◌≤◌, true, false, Bool, List, [], ◌∷◌, ◌++◌, length, take, drop, suc, Option, None, Some, refl, sym, ap, ◌∙◌, arith, find, set, insert, if◌then◌else◌}
+use Rattle.std.proofs.Common.{◌≡◌, ℕ, true, false, Bool, List, [], ◌∷◌, ◌++◌, suc, Option, None, Some, refl, sym, ap, ◌∙◌, arith, find, set, insert, if◌then◌else◌}
 use Rattle.std.specs.List.{filter, All, AllPairs, slice_index_or}
 use Rattle.std.specs.Option.{option_or}
 use Rattle.std.specs.Cmp.{IsTotalOrder}
 use Rattle.std.specs.Ordering.{is_lt, is_eq, is_gt, ordering_reverse}
 use Rattle.std.specs.declared.cmp.Ordering.{Ordering}
 use Rattle.std.specs.declared.cmp.Ordering.TheVariants.{Less, Equal, Greater}
-use Rattle.std.proofs.lemmas.Cmp.{alike_right}
 use Rattle.std.proofs.lemmas.List.{take-append-drop, take-set, drop-set}
-use Rattle.std.proofs.lemmas.List.Elements.{All-append, All-cons, All-tail, filter_passes}
+use Rattle.std.proofs.lemmas.List.Elements.{All-append, All-cons, filter_passes}
 use Rattle.std.proofs.lemmas.List.Folds.{find-append}
 use Rattle.std.proofs.lemmas.List.Kept.{AllPairs-cons, AllPairs-filter}
 use Rattle.tap_register.specs.declared.registers.Entry.{Entry}
@@ -110,6 +109,9 @@ module _ {K V : Type 0} (cmp : K → K → Ordering) (total : IsTotalOrder cmp) 
       by_order Equal is =
           rw (find-filter_none (has_key key) (λ e. is_lt (cmp e.key entry.key)) (λ e same. ap is_lt (side Equal is e same)) entries, is) refl
       by_order Greater is =
-          rw (find-filter_all (has_key key) (λ e. is_lt (cmp e.key entry.key)) (λ e same. ap is_lt (side Greater is e same)) entries, is,
-            find-filter_none (has_key key) (λ e. is_gt (cmp e.key entry.key)) (λ e same. ap is_gt (side Greater is e same)) entries)
+          rw (
+            find-filter_all (has_key key) (λ e. is_lt (cmp e.key entry.key)) (λ e same. ap is_lt (side Greater is e same)) entries,
+            is,
+            find-filter_none (has_key key) (λ e. is_gt (cmp e.key entry.key)) (λ e same. ap is_gt (side Greater is e same)) entries,
+          )
           (option_or-none _)

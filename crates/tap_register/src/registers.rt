@@ -59,11 +59,9 @@ impl<K: Ord + Copy, V: Copy> Registers<K, V> {
     pub fn apply(&mut self, key: K, version: u32, value: V) -> Result<bool, NoMemory>
         ensures answer { IfOk result (λ kept. kept ≡ supersedes version (entry_of K.cmp self.old key)) }
         ensures kept { result ≡ Ok true → self.new ≡ written K.cmp self.old (record { key = key; version = version; value = value }) }
-        ensures look_up {
-            result ≡ Ok true → (other : K) →
+        ensures look_up { result ≡ Ok true → (other : K) →
             entry_of K.cmp self.new other ≡
-            (if is_eq (K.cmp key other) then Some (record { key = key; version = version; value = value }) else entry_of K.cmp self.old other)
-        }
+            (if is_eq (K.cmp key other) then Some (record { key = key; version = version; value = value }) else entry_of K.cmp self.old other) }
         ensures same { ¬ (result ≡ Ok true) → self.new ≡ self.old }
     {
         let entry = Entry {
@@ -169,6 +167,7 @@ mod tests {
             assert_eq!(rt; *entry, is);
             assert_eq!(rt; registers.get(key), Some(value));
         }
+        assert_eq!(rt; registers.entry_at(3).key, 9);
         assert_eq!(rt; registers.get(4), None);
         assert!(rt; !registers.is_empty());
         Ok(())
