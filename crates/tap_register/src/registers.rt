@@ -1,4 +1,4 @@
-ghost use Rattle.std.specs.Prelude.{◌≡◌, ◌==◌, ◌<◌, if◌then◌else◌, [], length, slice_get, IfOk, IfErr, true, Some};
+ghost use Rattle.std.specs.Prelude.{◌≡◌, ◌==◌, ◌<◌, if◌then◌else◌, [], length, slice_get, IfOk, IfErr, OnErr, true, None, Some};
 ghost use Rattle.std.specs.Option.{option_map};
 ghost use Rattle.std.specs.Ordering.{is_eq};
 ghost use Rattle.tap_register.specs.Registers.{IsAscending, IsAt, IsGap, entry_of, supersedes, written};
@@ -55,7 +55,7 @@ impl<K: Ord + Copy, V: Copy> Registers<K, V> {
     /// Keeps the value under the key where the key is absent or its version is less, and answers whether it was kept.
     ///
     /// A word that is older than the one that is kept, or as old, is answered `Ok(false)`. That and `Err` leave all
-    /// as it was.
+    /// as it was, and `Err` comes only at a new key.
     pub fn apply(&mut self, key: K, version: u32, value: V) -> Result<bool, NoMemory>
         ensures answer { IfOk result (λ kept. kept ≡ supersedes version (entry_of K.cmp self.old key)) }
         ensures kept { result ≡ Ok true → self.new ≡ written K.cmp self.old (record { key = key; version = version; value = value }) }
@@ -63,6 +63,8 @@ impl<K: Ord + Copy, V: Copy> Registers<K, V> {
             entry_of K.cmp self.new other ≡
             (if is_eq (K.cmp key other) then Some (record { key = key; version = version; value = value }) else entry_of K.cmp self.old other) }
         ensures same { ¬ (result ≡ Ok true) → self.new ≡ self.old }
+        // Only a new key wants memory.
+        ensures new_key { OnErr result (entry_of K.cmp self.old key ≡ None) }
     {
         let entry = Entry {
             key,
