@@ -1,6 +1,6 @@
 -- The place of a key's entry in an ascending list, from what a search by halves answers.
-use Rattle.std.proofs.Common.{◌≡◌, ℕ, ◌+◌, ◌<◌, ◌≤◌, true, false, Bool, List, [], ◌∷◌, length, take, drop, zero, suc, None, Result, Ok, Err, IfOk, IfErr, refl, sym, ap, ◌∙◌, inl, inr, arith, slice_get, find}
-use Rattle.std.specs.List.{AllWithin, HoldsAt, filter, slice_index_or}
+use Rattle.std.proofs.Common.{◌≡◌, ℕ, ◌+◌, ◌<◌, ◌≤◌, List, length, Result, Ok, Err, IfOk, IfErr, sym, ap, ◌∙◌, inl, inr, arith}
+use Rattle.std.specs.List.{AllWithin, HoldsAt, slice_index_or}
 use Rattle.std.specs.List.Sorted.{IsBinarySearchResult, IsNonDecreasingBy, IsSearchInRange}
 use Rattle.std.specs.Cmp.{IsTotalOrder}
 use Rattle.std.specs.Fn.{Called, ComputesKey}
@@ -15,43 +15,7 @@ use Rattle.std.proofs.lemmas.Cmp.{alike_right}
 use Rattle.std.proofs.lemmas.List.Sorted.{searchable_from_sorted}
 use Rattle.tap_register.specs.declared.registers.Entry.{Entry}
 use Rattle.tap_register.specs.Registers.{IsAscending, IsAt, IsGap}
-
--- what a filter keeps where the elements that pass are the first ones
-filter_first : {X : Type 0} (p : X → Bool) (xs : List X) (at : ℕ) → at ≤ length xs → AllWithin (λ x. p x ≡ true) xs 0 at
-    → AllWithin (λ x. p x ≡ false) xs at (length xs) → filter p xs ≡ take at xs
-filter_first p [] zero within pass fail = refl
-filter_first p [] (suc at) within pass fail = absurd (omega arith)
-filter_first p (x ∷ xs) zero within pass fail =
-    rw (fail 0 x (omega arith) (omega arith))
-    (filter_first p xs zero (omega arith) (λ k d low high. absurd (omega arith)) (λ k d low high. fail (suc k) d (omega arith) (omega arith)))
-filter_first p (x ∷ xs) (suc at) within pass fail =
-    rw (pass 0 x (omega arith) (omega arith))
-    (ap (λ l. x ∷ l) (filter_first p xs at (omega arith) (λ k d low high. pass (suc k) d (omega arith) (omega arith)) (λ k d low high. fail (suc k) d (omega arith) (omega arith))))
-
--- and where they are the last ones
-filter_last : {X : Type 0} (p : X → Bool) (xs : List X) (at : ℕ) → AllWithin (λ x. p x ≡ false) xs 0 at
-    → AllWithin (λ x. p x ≡ true) xs at (length xs) → filter p xs ≡ drop at xs
-filter_last p [] zero fail pass = refl
-filter_last p [] (suc at) fail pass = refl
-filter_last p (x ∷ xs) zero fail pass =
-    rw (pass 0 x (omega arith) (omega arith))
-    (ap (λ l. x ∷ l) (filter_last p xs zero (λ k d low high. absurd (omega arith)) (λ k d low high. pass (suc k) d (omega arith) (omega arith))))
-filter_last p (x ∷ xs) (suc at) fail pass =
-    rw (fail 0 x (omega arith) (omega arith))
-    (filter_last p xs at (λ k d low high. fail (suc k) d (omega arith) (omega arith)) (λ k d low high. pass (suc k) d (omega arith) (omega arith)))
-
--- what is found first, and that nothing is found where all fail
-find_first : {X : Type 0} (p : X → Bool) (xs : List X) (at : ℕ) → at < length xs → AllWithin (λ x. p x ≡ false) xs 0 at
-    → HoldsAt (λ x. p x ≡ true) xs at → find p xs ≡ slice_get xs at
-find_first p [] at within fail pass = absurd (omega arith)
-find_first p (x ∷ xs) zero within fail pass = rw (pass x) refl
-find_first p (x ∷ xs) (suc at) within fail pass =
-    rw (fail 0 x (omega arith) (omega arith)) (find_first p xs at (omega arith) (λ k d low high. fail (suc k) d (omega arith) (omega arith)) pass)
-
-find_nothing : {X : Type 0} (p : X → Bool) (xs : List X) → AllWithin (λ x. p x ≡ false) xs 0 (length xs) → find p xs ≡ None
-find_nothing p [] fail = refl
-find_nothing p (x ∷ xs) fail =
-    rw (fail 0 x (omega arith) (omega arith)) (find_nothing p xs (λ k d low high. fail (suc k) d (omega arith) (omega arith)))
+use Rattle.tap_register.proofs.Lists.{filter_first, filter_last, find_first, find_nothing}
 
 module _ {K V : Type 0} (cmp : K → K → Ordering) (total : IsTotalOrder cmp) (entries : List (Entry K V)) (key : K) where
   -- what stands before and behind the entry of the key

@@ -1,17 +1,18 @@
 -- What stays and what changes where an entry is written.
-use Rattle.std.proofs.Common.{◌≡◌, ℕ, true, false, Bool, List, [], ◌∷◌, ◌++◌, suc, Option, None, Some, refl, sym, ap, ◌∙◌, arith, find, set, insert, if◌then◌else◌}
-use Rattle.std.specs.List.{filter, All, AllPairs, slice_index_or}
+use Rattle.std.proofs.Common.{◌≡◌, ℕ, true, Bool, List, ◌∷◌, Some, refl, sym, ap, ◌∙◌, find, set, insert, if◌then◌else◌}
+use Rattle.std.specs.List.{All, slice_index_or}
 use Rattle.std.specs.Option.{option_or}
 use Rattle.std.specs.Cmp.{IsTotalOrder}
 use Rattle.std.specs.Ordering.{is_lt, is_eq, is_gt, ordering_reverse}
 use Rattle.std.specs.declared.cmp.Ordering.{Ordering}
 use Rattle.std.specs.declared.cmp.Ordering.TheVariants.{Less, Equal, Greater}
 use Rattle.std.proofs.lemmas.List.{take-append-drop, take-set, drop-set}
-use Rattle.std.proofs.lemmas.List.Elements.{All-append, All-cons, filter_passes}
+use Rattle.std.proofs.lemmas.List.Elements.{All-cons, filter_passes}
 use Rattle.std.proofs.lemmas.List.Folds.{find-append}
 use Rattle.std.proofs.lemmas.List.Kept.{AllPairs-cons, AllPairs-filter}
 use Rattle.tap_register.specs.declared.registers.Entry.{Entry}
 use Rattle.tap_register.specs.Registers.{IsAscending, IsAt, IsGap, entry_of, below, above, written}
+use Rattle.tap_register.proofs.Lists.{AllPairs-append, find-filter_all, find-filter_none, option_or-none}
 
 -- what a test of an ordering means
 is_less : (r : Ordering) → is_lt r ≡ true → r ≡ Less
@@ -28,37 +29,6 @@ is_greater : (r : Ordering) → is_gt r ≡ true → r ≡ Greater
 is_greater Less pass = cc
 is_greater Equal pass = cc
 is_greater Greater pass = refl
-
--- each element of one list is in the relation with each of another
-AllPairs-append : {X : Type 0} (R : X → X → Type 0) (xs ys : List X) → AllPairs R xs → AllPairs R ys → All (λ x. All (R x) ys) xs → AllPairs R (xs ++ ys)
-AllPairs-append R [] ys front back across = back
-AllPairs-append R (x ∷ xs) ys front back across =
-    AllPairs-cons R x (xs ++ ys)
-    (All-append (R x) xs ys (λ k d h. front 0 (suc k) d (omega arith) (omega arith)) (across 0 x (omega arith)))
-    (AllPairs-append R xs ys (λ i j d lt h. front (suc i) (suc j) d (omega arith) (omega arith)) back (λ k d h. across (suc k) d (omega arith)))
-
--- a filter that lets pass whatever is looked for, and one that lets none of it pass
-find-filter_all : {X : Type 0} (p q : X → Bool) → ((x : X) → p x ≡ true → q x ≡ true) → (xs : List X) → find p (filter q xs) ≡ find p xs
-find-filter_all p q pass [] = refl
-find-filter_all p q pass (x ∷ xs) = step (p x) (q x) refl refl (find-filter_all p q pass xs)
-  where
-    step : (found kept : Bool) → p x ≡ found → q x ≡ kept → find p (filter q xs) ≡ find p xs → find p (filter q (x ∷ xs)) ≡ find p (x ∷ xs)
-    step true kept is keeps rest = rw (pass x is, is) refl
-    step false true is keeps rest = rw (keeps, is) rest
-    step false false is keeps rest = rw (keeps, is) rest
-
-find-filter_none : {X : Type 0} (p q : X → Bool) → ((x : X) → p x ≡ true → q x ≡ false) → (xs : List X) → find p (filter q xs) ≡ None
-find-filter_none p q pass [] = refl
-find-filter_none p q pass (x ∷ xs) = step (p x) (q x) refl refl (find-filter_none p q pass xs)
-  where
-    step : (found kept : Bool) → p x ≡ found → q x ≡ kept → find p (filter q xs) ≡ None → find p (filter q (x ∷ xs)) ≡ None
-    step true kept is keeps rest = rw (pass x is) rest
-    step false true is keeps rest = rw (keeps, is) rest
-    step false false is keeps rest = rw keeps rest
-
-option_or-none : {X : Type 0} (found : Option X) → option_or found None ≡ found
-option_or-none None = refl
-option_or-none (Some x) = refl
 
 -- an entry in the place of the one that stood there, and in a gap
 pub set-written : {K V : Type 0} (cmp : K → K → Ordering) (entries : List (Entry K V)) (entry : Entry K V) (at : ℕ) → IsAt cmp entries entry.key at

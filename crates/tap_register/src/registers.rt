@@ -7,14 +7,14 @@ use crate::memory::NoMemory;
 use std::alloc::Global;
 use std::marker::Model;
 
-/// What a register keeps: the newest word about a key.
+/// What a register keeps: the newest write to its key.
 #[derive(Clone, Copy, Debug, PartialEq, Eq)]
 pub struct Entry<K, V> {
-    /// What the word is about.
+    /// The key that was written to.
     pub key: K,
-    /// The number that its writer gave it. The greater of two versions is the newer one.
+    /// The number that the writer gave the write. Of two writes to a key the one with the greater version is newer.
     pub version: u32,
-    /// What was said.
+    /// The value that was written.
     pub value: V,
 }
 
@@ -54,7 +54,7 @@ impl<K: Ord + Copy, V: Copy> Registers<K, V> {
 
     /// Keeps the value under the key where the key is absent or its version is less, and answers whether it was kept.
     ///
-    /// A word that is older than the one that is kept, or as old, is answered `Ok(false)`. That and `Err` leave all
+    /// A write that is older than the one that is kept, or as old, is answered `Ok(false)`. That and `Err` leave all
     /// as it was, and `Err` comes only at a new key.
     pub fn apply(&mut self, key: K, version: u32, value: V) -> Result<bool, NoMemory>
         ensures answer { IfOk result (λ kept. kept ≡ supersedes version (entry_of K.cmp self.old key)) }
@@ -142,7 +142,7 @@ mod tests {
     use super::*;
     use std::test::Fail;
 
-    // The greatest version wins, whatever the order in which the words come.
+    // The greatest version wins, whatever the order of the writes.
     #[test]
     fn keeps_the_greatest_version(rt: HostRuntime) -> Result<(), Fail> {
         let mut registers: Registers<u8, char> = Registers::new(rt.alloc());

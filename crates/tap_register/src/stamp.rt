@@ -2,9 +2,9 @@ ghost use Rattle.std.specs.Prelude.{◌≡◌, ◌+◌, ◌<◌};
 
 use std::marker::Model;
 
-/// A writer's count of what it has said. Contracts see the number that was given last, from 0 to the greatest `u32`.
+/// A writer's count of its writes. Contracts see the number that was given last, from 0 to the greatest `u32`.
 ///
-/// A stamp is not copied, since two copies would give the same number to two words.
+/// A stamp is not copied, since two copies would give one number to two writes.
 #[derive(Debug, Drop)]
 pub struct Stamp {
     last: u32,
