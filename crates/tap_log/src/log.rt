@@ -1,0 +1,114 @@
+ghost use Rattle.std.specs.Prelude.{◌≡◌, ◌≤◌, ◌<◌, ◌+◌, ◌-◌, max, [], ◌∷◌, ◌++◌, length, OnOk, OnErr, slice_get, Some};
+ghost use Rattle.tap_log.specs.Log.{Contents};
+
+use crate::record::Record;
+use std::alloc::{AllocError, AllocFailed, Global};
+use std::marker::Model;
+
+/// Memory was refused.
+#[derive(Clone, Copy, Debug, PartialEq, Eq)]
+pub struct NoMemory;
+
+impl From<AllocError> for NoMemory {
+    fn from(_: AllocError) -> NoMemory {
+        NoMemory
+    }
+}
+
+impl<T: Drop> From<AllocFailed<T>> for NoMemory {
+    fn from(_: AllocFailed<T>) -> NoMemory {
+        NoMemory
+    }
+}
+
+impl From<tap_name::NoMemory> for NoMemory {
+    fn from(_: tap_name::NoMemory) -> NoMemory {
+        NoMemory
+    }
+}
+
+/// A list of records, which only grows. Contracts see the records, and for how many more there is room.
+#[derive(Debug, Drop)]
+pub struct Log {
+    items: Vec<Record>,
+    spare: usize,
+}
+
+impl Model for Log {
+    ghost use Rattle.std.specs.Prelude.{◌+◌, ◌≤◌, vec_len, vec_capacity};
+    ghost use Rattle.tap_log.specs.Log.{Contents};
+
+    ghost Value = { Contents };
+
+    ghost view = { λ l. record { records = l.items.items; spare = l.spare } };
+
+    ghost invariant = { λ l. vec_len l.items + l.spare ≤ vec_capacity l.items };
+}
+
+impl Log {
+    /// The log with no record. It takes no memory yet.
+    pub fn new(alloc: Global) -> Log
+        ensures { result ≡ record { records = []; spare = 0 } }
+    {
+        Log {
+            items: Vec::new(alloc),
+            spare: 0,
+        }
+    }
+
+    /// The number of records.
+    pub fn len(&self) -> usize
+        ensures { result ≡ length self.now.records }
+    {
+        self.items.len()
+    }
+
+    /// The record at a place, from 0.
+    pub fn at(&self, i: usize) -> &Record
+        requires { i < length self.now.records }
+        ensures { slice_get self.now.records i ≡ Some result.now }
+    {
+        &self.items[i]
+    }
+
+    /// The records, lent.
+    pub fn as_slice(&self) -> &[Record]
+        ensures { result.now ≡ self.now.records }
+    {
+        self.items.as_slice()
+    }
+
+    /// Adds a record at the end. A refused push changes nothing.
+    pub fn push(&mut self, item: Record) -> Result<(), NoMemory>
+        ensures ok { OnOk result (self.new.records ≡ self.old.records ++ item ∷ []) }
+        ensures spare { OnOk result (self.new.spare ≡ self.old.spare - 1) }
+        ensures err { OnErr result (self.new ≡ self.old) }
+    {
+        self.items.push(item)?;
+        self.spare = self.spare.saturating_sub(1);
+        Ok(())
+    }
+
+    /// Makes room for so many more records. A refused call changes nothing.
+    pub fn reserve(&mut self, more: usize) -> Result<(), NoMemory>
+        ensures records { self.new.records ≡ self.old.records }
+        ensures ok { OnOk result (self.new.spare ≡ max self.old.spare more) }
+        ensures err { OnErr result (self.new ≡ self.old) }
+    {
+        if self.spare < more {
+            self.items.reserve(more)?;
+            self.spare = more;
+        }
+        Ok(())
+    }
+
+    /// Adds a record for which there is room. It takes no memory.
+    pub fn push_reserved(&mut self, item: Record)
+        requires { 1 ≤ self.old.spare }
+        ensures records { self.new.records ≡ self.old.records ++ item ∷ [] }
+        ensures spare { self.new.spare + 1 ≡ self.old.spare }
+    {
+        self.spare -= 1;
+        self.items.push(item).unwrap();
+    }
+}

@@ -1,0 +1,7 @@
+pub mod Settings
+pub mod Digits
+pub mod Padded
+pub mod Name
+pub mod Cyclic
+pub mod Slot
+pub mod Root

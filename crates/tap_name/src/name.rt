@@ -1,0 +1,224 @@
+ghost use Rattle.std.specs.Prelude.{◌≡◌, ℕ, ◌+◌, ◌<◌, ◌≤◌, [], ◌∷◌, ◌++◌, length, slice_index, All, Some, nat_eq, IfOk};
+ghost use Rattle.std.proofs.Common.{rules};
+ghost use Rattle.std.specs.Cmp.{partial_equiv_from_equiv};
+ghost use Rattle.std.specs.Cmp.Lexicographic.{pointwise, slice_cmp, nat_list_eq_equiv, nat_list_cmp_total, texts_po, texts_ties};
+ghost use Rattle.std.specs.Cmp.Rules.{hashing};
+ghost use Rattle.std.specs.Ordering.{nat_cmp};
+ghost use Rattle.std.specs.Hash as fed;
+ghost use Rattle.std.specs.List.{common_prefix_len};
+ghost use Rattle.tap_name.specs.Digits.{digit_of_text, text_of_digit};
+ghost use Rattle.tap_name.specs.Name.{IsName, name_of_digits, name_of_text};
+
+use crate::settings::Settings;
+use std::cmp::Ordering;
+use std::hash::{Hash, Hasher};
+use std::marker::Model;
+
+/// A name of a node or an object: up to 40 digits, each below 16.
+///
+/// Names are ordered digit by digit. Contracts see the list of the digits.
+#[derive(Clone, Copy, Debug)]
+pub struct Name {
+    places: [u8; 40],
+    len: u8,
+}
+
+impl Model for Name {
+    ghost use Rattle.std.specs.Prelude.{List, ℕ, take, length};
+    ghost use Rattle.std.proofs.Common.{arith, length-take-le};
+    ghost use Rattle.tap_name.specs.Padded.{IsPadded, padded, padded_take};
+
+    ghost Value = { List ℕ };
+
+    ghost view = { λ n. take n.len n.places };
+
+    ghost invariant = { λ n. IsPadded n.places n.len };
+
+    ghost inverse = { λ xs. record { places = padded xs; len = length xs } };
+
+    ghost inverse_ok = { λ n h i. record {
+      places = padded_take n.places n.len h i;
+      len = length-take-le n.len n.places (omega (arith, h.fits, h.all)) i;
+    } };
+}
+
+/// Why digits or a text are no name.
+#[derive(Clone, Copy, Debug, PartialEq, Eq)]
+pub enum NameFault {
+    /// There are so many digits or bytes, and not as many as a name has.
+    BadLength(usize),
+    /// The first place, from 0, at which no digit below the base stands.
+    BadDigit(usize),
+}
+
+impl Name {
+    // The name with no digits.
+    fn empty() -> Name
+        ensures { result ≡ [] }
+    {
+        Name {
+            places: [0; 40],
+            len: 0,
+        }
+    }
+
+    // Adds a digit at the end.
+    fn push(&mut self, digit: u8)
+        requires room { length self.old < 40 }
+        requires is_digit { digit < 16 }
+        ensures { self.new ≡ self.old ++ digit ∷ [] }
+    {
+        self.places[self.len as usize] = digit;
+        self.len += 1;
+    }
+
+    /// The digits, the first one first.
+    pub fn as_slice(&self) -> &[u8]
+        ensures value { result.now ≡ self.now }
+        ensures len { length self.now ≤ 40 }
+        ensures digits { All (λ d. d < 16) self.now }
+    {
+        &self.places[..self.len as usize]
+    }
+
+    /// The number of digits.
+    pub fn len(&self) -> usize
+        ensures value { result ≡ length self.now }
+        ensures most { result ≤ 40 }
+    {
+        self.len as usize
+    }
+
+    /// The digit at a place, from 0.
+    pub fn digit(&self, at: usize) -> u8
+        requires { at < length self.now }
+        ensures value { result ≡ slice_index self.now at }
+        ensures is_digit { result < 16 }
+    {
+        self.places[at]
+    }
+
+    /// The digit at a place as it is printed: `0` to `9`, then `a` to `f`.
+    pub fn text_byte(&self, at: usize) -> u8
+        requires { at < length self.now }
+        ensures { result ≡ text_of_digit (slice_index self.now at) }
+    {
+        let digit = self.digit(at);
+        if digit < 10 { b'0' + digit } else { 87 + digit }
+    }
+
+    /// The length of the longest common prefix of two names.
+    pub fn lcp(&self, other: &Name) -> usize
+        ensures value { result ≡ common_prefix_len nat_eq self.now other.now }
+        ensures within { result ≤ length self.now }
+        ensures within_other { result ≤ length other.now }
+        ensures most { result ≤ 40 }
+    {
+        let mine = self.as_slice();
+        let theirs = other.as_slice();
+        let most = mine.len().min(theirs.len());
+        for at in 0..most {
+            if mine[at] != theirs[at] {
+                return at;
+            }
+        }
+        most
+    }
+
+    /// The name of these digit values. A wrong number of them is found before a bad digit.
+    pub fn from_digits(settings: &Settings, digits: &[u8]) -> Result<Name, NameFault>
+        ensures value { result ≡ name_of_digits settings.now digits.now }
+        ensures valid { IfOk result (IsName settings.now) }
+    {
+        if digits.len() != settings.digits() as usize {
+            return Err(NameFault::BadLength(digits.len()));
+        }
+        let mut name = Name::empty();
+        for (at, digit) in digits.iter().enumerate() {
+            if *digit >= settings.base() {
+                return Err(NameFault::BadDigit(at));
+            }
+            name.push(*digit);
+        }
+        Ok(name)
+    }
+}
+
+// The value of a printed digit, and 16 where the byte is none.
+fn digit_value(byte: u8) -> u8
+    ensures { result ≡ digit_of_text byte }
+{
+    match byte {
+        b'0'..=b'9' => byte - b'0',
+        b'a'..=b'f' => byte - 87,
+        _ => 16,
+    }
+}
+
+/// The name that a text spells, one byte for each digit: `0` to `9` and `a` to `f`, below the base. Capital letters
+/// are no digits. A wrong length is found before a bad digit.
+pub fn read_name(settings: &Settings, text: &[u8]) -> Result<Name, NameFault>
+    ensures value { result ≡ name_of_text settings.now text.now }
+    ensures valid { IfOk result (IsName settings.now) }
+{
+    if text.len() != settings.digits() as usize {
+        return Err(NameFault::BadLength(text.len()));
+    }
+    let mut name = Name::empty();
+    for (at, byte) in text.iter().enumerate() {
+        let digit = digit_value(*byte);
+        if digit >= settings.base() {
+            return Err(NameFault::BadDigit(at));
+        }
+        name.push(digit);
+    }
+    Ok(name)
+}
+
+impl PartialEq for Name {
+    ghost eq = { pointwise nat_eq };
+
+    ghost laws = { partial_equiv_from_equiv nat_list_eq_equiv };
+
+    fn eq(&self, other: &Name) -> bool {
+        self.as_slice() == other.as_slice()
+    }
+}
+
+impl Eq for Name {
+    ghost laws = { nat_list_eq_equiv };
+}
+
+impl PartialOrd for Name {
+    ghost partial_cmp = { λ x y. Some (slice_cmp nat_cmp x y) };
+
+    ghost laws = { texts_po };
+
+    fn partial_cmp(&self, other: &Name) -> Option<Ordering> {
+        Some(self.cmp(other))
+    }
+}
+
+impl Ord for Name {
+    ghost cmp = { slice_cmp nat_cmp };
+
+    ghost total = { nat_list_cmp_total };
+
+    ghost matches_partial_cmp = { Prim.search rules };
+
+    ghost matches_eq = { texts_ties };
+
+    fn cmp(&self, other: &Name) -> Ordering {
+        self.as_slice().cmp(other.as_slice())
+    }
+}
+
+impl Hash for Name {
+    ghost hash_input = { fed.slice fed.u8 };
+
+    ghost respects_eq = { Prim.search (hashing, rules) };
+
+    fn hash<H: Hasher>(&self, state: &mut H) {
+        self.as_slice().hash(state);
+    }
+}

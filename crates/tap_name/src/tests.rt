@@ -1,0 +1,96 @@
+use crate::{List, Name, NameFault, Offered, Settings, Slot, next_cyclic, read_name, slot_of};
+use std::test::Fail;
+
+// Settings of base 4 with three digits, and a name of theirs.
+fn named(text: &str) -> Result<(Settings, Name), Fail> {
+    let settings = Settings::new(4, 3, 2).ok_or("settings")?;
+    let name = read_name(&settings, text.as_bytes()).map_err(|_| "a name")?;
+    Ok((settings, name))
+}
+
+#[test]
+fn reads_names(rt: HostRuntime) -> Result<(), Fail> {
+    let (settings, name) = named("230")?;
+    assert_eq!(rt; name.as_slice(), [2, 3, 0].as_slice());
+    let cases = [
+        ("23", NameFault::BadLength(2)),
+        ("", NameFault::BadLength(0)),
+        ("2301", NameFault::BadLength(4)),
+        ("2x4", NameFault::BadDigit(1)),
+        ("40A", NameFault::BadDigit(0)),
+        ("00A", NameFault::BadDigit(2)),
+    ];
+    for (text, fault) in cases.iter() {
+        assert_eq!(rt;
+            read_name(&settings, text.as_bytes()),
+            Err(*fault),
+            "{text}"
+        );
+    }
+    assert_eq!(rt; Name::from_digits(&settings, &[2, 3, 0]), Ok(name));
+    assert_eq!(rt;
+        Name::from_digits(&settings, &[2, 4, 5]),
+        Err(NameFault::BadDigit(1))
+    );
+    Ok(())
+}
+
+#[test]
+fn tells_digits_and_slots(rt: HostRuntime) -> Result<(), Fail> {
+    let (settings, a) = named("230")?;
+    let (_, b) = named("213")?;
+    assert_eq!(rt;
+        (settings.base(), settings.digits(), settings.width()),
+        (4, 3, 2)
+    );
+    assert_eq!(rt; a.lcp(&b), 1);
+    assert_eq!(rt; a.len(), 3);
+    assert!(rt; a.len() > 2 && b < a);
+    assert_eq!(rt; (a.digit(1), a.text_byte(1)), (3, b'3'));
+    assert!(rt; a.len() == b.len());
+    assert_eq!(rt; slot_of(&a, &b), Some(Slot { level: 1, digit: 1 }));
+    assert_eq!(rt; slot_of(&a, &a), None);
+    assert_eq!(rt; (next_cyclic(4, 2), next_cyclic(4, 3)), (3, 0));
+    Ok(())
+}
+
+#[test]
+fn prints_letters_and_refuses_settings(rt: HostRuntime) -> Result<(), Fail> {
+    let settings = Settings::new(16, 1, 4).ok_or("settings")?;
+    let name = read_name(&settings, b"f").map_err(|_| "a name")?;
+    assert!(rt; name.len() == 1);
+    assert_eq!(rt; (name.digit(0), name.text_byte(0)), (15, b'f'));
+    for (base, digits, width) in [
+        (1, 3, 2),
+        (17, 3, 2),
+        (4, 0, 2),
+        (4, 41, 2),
+        (4, 3, 0),
+        (4, 3, 5),
+    ] {
+        assert_eq!(rt;
+            Settings::new(base, digits, width),
+            None,
+            "{base} {digits} {width}"
+        );
+    }
+    Ok(())
+}
+
+#[test]
+fn keeps_a_list(rt: HostRuntime) -> Result<(), Fail> {
+    let (_, name) = named("012")?;
+    let mut list = List::new(rt.alloc());
+    assert!(rt; list.is_empty());
+    let offered = Offered {
+        name,
+        settled: true,
+    };
+    list.push(offered).map_err(|_| "memory")?;
+    assert_eq!(rt; list.len(), 1);
+    assert_eq!(rt; list.at(0), offered);
+    assert_eq!(rt; list.as_slice(), [offered].as_slice());
+    let again = List::from_vec(list.into_vec());
+    assert_eq!(rt; again.len(), 1);
+    Ok(())
+}

@@ -1,0 +1,33 @@
+-- what a scenario is
+use Rattle.std.specs.Prelude.{◌≡◌, ℕ, ◌<◌, ◌≤◌, nat_le, if◌then◌else◌, List, length, All, slice_index_or}
+use Rattle.tap_name.specs.Settings.{Parameters, AreWithinLimits}
+use Rattle.tap_name.specs.Name.{IsName}
+use Rattle.tap_scenario.specs.declared.step.Step.{Step}
+use Rattle.tap_scenario.specs.Step.{IsStep}
+
+-- the settings, how many frames may be sent, the members at the start, and the steps
+pub record Script : Type 0 where
+  pub settings : Parameters
+  pub frames : ℕ
+  pub members : List (List ℕ)
+  pub steps : List Step
+
+-- the most frames that a run may send, by the number of digits
+abbrev pub most_frames : ℕ → ℕ
+most_frames digits = if nat_le digits 8 then 500000 else 100000
+
+-- no two places hold one name
+abbrev pub AreDistinct : List (List ℕ) → Type 0
+AreDistinct names = (i j : ℕ) (d : List ℕ) → i < j → j < length names → slice_index_or names i d ≡ slice_index_or names j d → ⊥
+
+-- each part is within its limits
+pub record IsScript (s : Script) : Type 0 where
+  pub settings : AreWithinLimits s.settings
+  pub frames_from : 1 ≤ s.frames
+  pub frames_to : s.frames ≤ most_frames s.settings.digits
+  pub members_from : 1 ≤ length s.members
+  pub members_to : length s.members ≤ 64
+  pub members : All (IsName s.settings) s.members
+  pub distinct : AreDistinct s.members
+  pub steps_to : length s.steps ≤ 10000
+  pub steps : All (IsStep s.settings) s.steps

@@ -1,0 +1,71 @@
+ghost use Rattle.std.specs.Prelude.{◌≡◌, ◌<◌, length, slice_get, Some};
+ghost use Rattle.tap_scenario.specs.Scenario.{Script, IsScript};
+
+use crate::step::Step;
+use std::marker::Model;
+use tap_name::{List, Name, Settings};
+
+/// What a run is made from: the settings, the limit of frames, the members at the start, and the steps.
+///
+/// It has 1 to 64 distinct members and at most 10,000 steps, whose names are all names of the settings. A run may send
+/// 1 to 500,000 frames, or 1 to 100,000 where names have more than eight digits.
+#[derive(Debug, Drop)]
+pub struct Scenario {
+    settings: Settings,
+    frames: u32,
+    members: List<Name>,
+    steps: List<Step>,
+}
+
+impl Model for Scenario {
+    ghost use Rattle.tap_scenario.specs.Scenario.{Script, IsScript};
+
+    ghost Value = { Script };
+
+    ghost view = { λ s. record { settings = s.settings; frames = s.frames; members = s.members; steps = s.steps } };
+
+    ghost invariant = { λ s. IsScript (record { settings = s.settings; frames = s.frames; members = s.members; steps = s.steps }) };
+}
+
+impl Scenario {
+    /// The settings.
+    pub fn settings(&self) -> Settings
+        ensures value { result ≡ self.now.settings }
+        ensures valid { IsScript self.now }
+    {
+        self.settings
+    }
+
+    /// How many frames a run may send.
+    pub fn frames(&self) -> u32
+        ensures value { result ≡ self.now.frames }
+        ensures valid { IsScript self.now }
+    {
+        self.frames
+    }
+
+    /// The members at the start, in the order of the text.
+    pub fn members(&self) -> &List<Name>
+        ensures value { result.now ≡ self.now.members }
+        ensures valid { IsScript self.now }
+    {
+        &self.members
+    }
+
+    /// The number of steps.
+    pub fn step_count(&self) -> usize
+        ensures value { result ≡ length self.now.steps }
+        ensures valid { IsScript self.now }
+    {
+        self.steps.len()
+    }
+
+    /// The step at a place, from 0.
+    pub fn step_at(&self, i: usize) -> Step
+        requires { i < length self.now.steps }
+        ensures value { slice_get self.now.steps i ≡ Some result }
+        ensures valid { IsScript self.now }
+    {
+        self.steps.at(i)
+    }
+}
