@@ -1,5 +1,5 @@
 -- The map of open sessions and the list that it is seen as change alike.
-use Rattle.std.proofs.Common.{◌≡◌, ◌≢◌, ◌==◌, ℕ, ◌+◌, ◌-◌, ◌<◌, ◌≤◌, true, false, Bool, List, [], ◌∷◌, ◌++◌, length, suc, zero, Option, None, Some, refl, sym, ap, ◌∙◌, subst, arith, cond, if◌then◌else◌, eqb-true, eq-eqb}
+use Rattle.std.proofs.Common.{◌≡◌, ◌≢◌, ◌==◌, ℕ, ◌+◌, ◌-◌, ◌<◌, ◌≤◌, true, false, Bool, List, [], ◌∷◌, ◌++◌, length, suc, zero, Option, None, Some, refl, sym, ap, ◌∙◌, subst, arith, cond, if◌then◌else◌, eqb-true, inl, inr}
 use Rattle.std.specs.List.{All, AllPairs, AllByRecursion}
 use Rattle.std.specs.List.Sorted.{IsStrictlySortedBy}
 use Rattle.std.specs.Cmp.{nat_cmp_is, ranked, unsigned_tied}
@@ -11,6 +11,8 @@ use Rattle.std.specs.declared.cmp.Ordering.{Ordering}
 use Rattle.std.specs.declared.cmp.Ordering.TheVariants.{Less, Equal, Greater}
 use Rattle.std.proofs.lemmas.List.Elements.{All-cons, All-tail, All-push, All-map}
 use Rattle.std.proofs.lemmas.List.Kept.{AllPairs-cons}
+use Rattle.std.proofs.lemmas.Bool.Decides.{eqb_tells}
+use Rattle.std.proofs.lemmas.Map.Views.{IfSome-lookup_from_All}
 use Rattle.tap_session.specs.declared.sessions.Awaited.{Awaited}
 use Rattle.tap_session.specs.Session.{Session}
 use Rattle.tap_session.specs.Awaited.{session, sessions_of}
@@ -41,6 +43,19 @@ after_answer-unknown id (e ∷ es) absent = step (id == e.0) refl (after_answer-
     step false is rest =
         let behind : awaited_at id es ≡ None = rw (unsigned_tied id e.0, is) at absent in
         rw is (ap (λ l. session e.0 e.1 ∷ l) (rest behind))
+
+-- and each session is found as before
+pub session_of-unknown : (entries : List (ℕ × Awaited)) (id other : ℕ) → awaited_at id entries ≡ None
+    → session_of (sessions_of entries) other ≡ (if id == other then option_and_then with_answer (session_of (sessions_of entries) id) else session_of (sessions_of entries) other)
+session_of-unknown entries id other absent = step (id == other) refl
+  where
+    nothing : session_of (sessions_of entries) id ≡ None
+    nothing = rw (session_of-sessions_of entries id, absent) refl
+
+    step : (b : Bool) → (id == other) ≡ b
+        → session_of (sessions_of entries) other ≡ cond b (option_and_then with_answer (session_of (sessions_of entries) id)) (session_of (sessions_of entries) other)
+    step true is = rw (← eqb-true id other is, nothing) refl
+    step false is = refl
 
 -- nothing is held at a number that is below all others
 absent_below : (id : ℕ) (entries : List (ℕ × Awaited)) → AllByRecursion (λ k. nat_cmp id k ≡ Less) (keys_of entries) → awaited_at id entries ≡ None
@@ -136,3 +151,10 @@ All-waiting P [] all = λ k d h. absurd (omega arith)
 All-waiting P (e ∷ es) all =
     All-cons (λ s. P s.waiting) (session e.0 e.1) (sessions_of es) (all 0 e.1 (omega arith))
     (All-waiting P es (All-tail (λ a. P a.waiting) e.1 (values_of es) all))
+
+-- each session that is held waits for an answer
+pub waits : (id : ℕ) (a : Awaited) (entries : List (ℕ × Awaited)) → All (λ a. 1 ≤ a.waiting) (values_of entries) → awaited_at id entries ≡ Some a → 1 ≤ a.waiting
+waits id a entries waiting found = rw found at (IfSome-lookup_from_All (λ a. 1 ≤ a.waiting) (is_at (nat_cmp id)) entries waiting)
+
+pub not_last : (a : Awaited) → 1 < a.waiting → (a.waiting == 1) ≡ false
+not_last a more = elim (eqb_tells a.waiting 1) [ inl both ↦ absurd (omega (arith, both.1)) | inr both ↦ both.0 ]

@@ -136,3 +136,44 @@ impl Sessions {
         self.opened
     }
 }
+
+#[cfg(test)]
+mod tests {
+    use super::*;
+    use std::test::Fail;
+    use tap_name::{Name, Settings};
+
+    // The inner session closes first, and its parent is then the outer one's last answer.
+    #[test]
+    fn nested_sessions_close_at_their_last_answers(rt: HostRuntime) -> Result<(), Fail> {
+        let settings = Settings::new(4, 2, 1).ok_or("settings")?;
+        let joiner = Name::from_digits(&settings, &[1, 2])?;
+        let asker = Name::from_digits(&settings, &[3, 0])?;
+        let root = Parent::Root { joiner };
+        let outer = Parent::Node {
+            name: asker,
+            session: 1,
+        };
+        let mut sessions = Sessions::new(rt.alloc());
+        assert_eq!(rt; sessions.opened(), 0);
+        assert_eq!(rt; sessions.open(root, 0, 2)?, 1);
+        assert_eq!(rt; sessions.open(outer, 1, 3)?, 2);
+        assert_eq!(rt; sessions.depth_of(2), Some(1));
+        for (id, expected, open) in [
+            (1, Answered::Open, 2),
+            (3, Answered::Unknown, 2),
+            (2, Answered::Open, 2),
+            (2, Answered::Open, 2),
+            (2, Answered::Closed(outer), 1),
+            (2, Answered::Unknown, 1),
+            (1, Answered::Closed(root), 0),
+            (0, Answered::Unknown, 0),
+        ] {
+            assert!(rt; sessions.answered(id) == expected);
+            assert_eq!(rt; sessions.open_count(), open);
+        }
+        assert_eq!(rt; sessions.depth_of(1), None);
+        assert_eq!(rt; sessions.opened(), 2);
+        Ok(())
+    }
+}
