@@ -3,16 +3,16 @@ use tap_name::Name;
 /// Who is told when a session closes.
 #[derive(Clone, Copy, Debug, PartialEq, Eq)]
 pub enum Parent {
-    /// No other session: it is the first one of what the joiner asked for.
+    /// The one who asked: no session stands above this one.
     Root {
         /// Who asked.
         joiner: Name,
     },
-    /// A session of another node, or of this one.
+    /// A session at a node, which then has one answer more.
     Node {
-        /// The node of the session.
+        /// The node.
         name: Name,
-        /// The session's number there, from 1.
+        /// The number of its session, from 1.
         session: u32,
     },
 }

@@ -3,7 +3,7 @@ use Rattle.std.proofs.lemmas.List.{map-append}
 use Rattle.std.specs.Ordering.{nat_cmp}
 use Rattle.std.proofs.lemmas.Map.Views.{All-keys-insert_entry, All-values-insert_entry}
 use Rattle.tap_session.specs.declared.sessions.Awaited.{Awaited}
-use Rattle.tap_session.specs.Awaited.{session, sessions_of}
+use Rattle.tap_session.specs.Awaited.{session}
 use Rattle.tap_session.proofs.Entries.{insert_entry-last, session_of-updated}
 use Rattle.tap_session.proofs.sessions.Sessions.open.Goals as goal
 
