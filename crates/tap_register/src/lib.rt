@@ -1,7 +1,8 @@
 //! Registers of which the last writer wins, and the stamps that tell which writer is the last.
 //!
-//! Where messages may overtake one another, a writer numbers its writes with a [`Stamp`], and a reader keeps the newest
-//! write to each key that it has heard of, in [`Registers`]. What comes late or comes twice then changes nothing.
+//! Where messages may overtake one another, a writer numbers its writes with a [`Stamp`], and a
+//! reader keeps the newest write to each key that it has heard of, in [`Registers`]. What comes late
+//! or comes twice then changes nothing.
 #![tactic(auto)]
 
 mod memory;

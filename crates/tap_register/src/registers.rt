@@ -1,4 +1,5 @@
-ghost use Rattle.std.specs.Prelude.{◌≡◌, ◌==◌, ◌<◌, if◌then◌else◌, [], length, slice_get, IfOk, IfErr, OnErr, true, None, Some};
+ghost use Rattle.std.specs.Prelude.{◌≡◌, ◌==◌, ◌<◌, if◌then◌else◌, true, None, Some};
+ghost use Rattle.std.specs.Prelude.{[], length, slice_get, IfOk, IfErr, OnErr};
 ghost use Rattle.std.specs.Option.{option_map};
 ghost use Rattle.std.specs.Ordering.{is_eq};
 ghost use Rattle.tap_register.specs.Registers.{IsAscending, IsAt, IsGap, entry_of, supersedes, written};
@@ -12,19 +13,22 @@ use std::marker::Model;
 pub struct Entry<K, V> {
     /// The key that was written to.
     pub key: K,
-    /// The number that the writer gave the write. Of two writes to a key the one with the greater version is newer.
+    /// The number that the writer gave the write. Of two writes to a key the one with the greater
+    /// version is newer.
     pub version: u32,
     /// The value that was written.
     pub value: V,
 }
 
-/// Registers of which the last writer wins: under each key the value of the greatest version that was applied.
+/// Registers of which the last writer wins: under each key the value of the greatest version that
+/// was applied.
 ///
-/// Contracts see the list of entries, which ascends strictly by the keys' order. Two keys are the same where their
-/// comparison answers `Equal`.
+/// Contracts see the list of entries, which ascends strictly by the keys' order. Two keys are the
+/// same where their comparison answers `Equal`.
 ///
-/// The entries lie in one sorted vector. A look-up compares the key with about log n of the n others, and takes no
-/// memory. A newer version of a key that is there is written in its place; a new key moves the entries behind it.
+/// The entries lie in one sorted vector. A look-up compares the key with about log n of the n
+/// others, and takes no memory. A newer version of a key that is there is written in its place; a
+/// new key moves the entries behind it.
 #[derive(Drop)]
 pub struct Registers<K: Ord + Copy, V: Copy> {
     entries: Vec<Entry<K, V>>,
@@ -52,16 +56,21 @@ impl<K: Ord + Copy, V: Copy> Registers<K, V> {
         }
     }
 
-    /// Keeps the value under the key where the key is absent or its version is less, and answers whether it was kept.
+    /// Keeps the value under the key where the key is absent or its version is less, and answers
+    /// whether it was kept.
     ///
-    /// A write that is older than the one that is kept, or as old, is answered `Ok(false)`. That and `Err` leave all
-    /// as it was, and `Err` comes only at a new key.
+    /// A write that is older than the one that is kept, or as old, is answered `Ok(false)`. That and
+    /// `Err` leave all as it was, and `Err` comes only at a new key.
     pub fn apply(&mut self, key: K, version: u32, value: V) -> Result<bool, NoMemory>
-        ensures answer { IfOk result (λ kept. kept ≡ supersedes version (entry_of K.cmp self.old key)) }
-        ensures kept { result ≡ Ok true → self.new ≡ written K.cmp self.old (record { key = key; version = version; value = value }) }
+        ensures answer { IfOk result (λ kept.
+            kept ≡ supersedes version (entry_of K.cmp self.old key)) }
+        ensures kept { result ≡ Ok true →
+            self.new ≡ written K.cmp self.old (record { key = key; version = version; value = value }) }
         ensures look_up { result ≡ Ok true → (other : K) →
             entry_of K.cmp self.new other ≡
-            (if is_eq (K.cmp key other) then Some (record { key = key; version = version; value = value }) else entry_of K.cmp self.old other) }
+            (if is_eq (K.cmp key other)
+            then Some (record { key = key; version = version; value = value })
+            else entry_of K.cmp self.old other) }
         ensures same { ¬ (result ≡ Ok true) → self.new ≡ self.old }
         // Only a new key wants memory.
         ensures new_key { OnErr result (entry_of K.cmp self.old key ≡ None) }

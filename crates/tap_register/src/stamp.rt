@@ -2,7 +2,8 @@ ghost use Rattle.std.specs.Prelude.{◌≡◌, ◌+◌, ◌<◌};
 
 use std::marker::Model;
 
-/// A writer's count of its writes. Contracts see the number that was given last, from 0 to the greatest `u32`.
+/// A writer's count of its writes. Contracts see the number that was given last, from 0 to the
+/// greatest `u32`.
 ///
 /// A stamp is not copied, since two copies would give one number to two writes.
 #[derive(Debug, Drop)]

@@ -1,7 +1,8 @@
-//! Sessions: a request that was handed on to several others is answered once each of them has answered.
+//! Sessions: a request that was handed on to several others is answered once each of them has.
 //!
-//! Who hands a request on opens a session. It keeps who asked, the parent, and how many answers are awaited. The last
-//! awaited answer closes the session and tells the parent, whose own session may then be the next to be answered.
+//! Who hands a request on opens a session. It keeps who asked, the parent, and how many answers are
+//! awaited. The last awaited answer closes the session, and the parent is told: that is one answer
+//! more to the parent's own session.
 #![tactic(auto)]
 
 mod memory;

@@ -1,6 +1,8 @@
-ghost use Rattle.std.specs.Prelude.{◌≡◌, ◌==◌, ℕ, ◌+◌, ◌<◌, ◌≤◌, if◌then◌else◌, [], ◌∷◌, ◌++◌, length, Some, IfOk, OnOk, OnErr};
+ghost use Rattle.std.specs.Prelude.{◌≡◌, ◌==◌, ℕ, ◌+◌, ◌<◌, ◌≤◌, if◌then◌else◌, Some};
+ghost use Rattle.std.specs.Prelude.{[], ◌∷◌, ◌++◌, length, IfOk, OnOk, OnErr};
 ghost use Rattle.std.specs.Option.{option_map, option_and_then};
-ghost use Rattle.tap_session.specs.Sessions.{AreSessions, after_answer, answer_to, next_session, session_of, with_answer};
+ghost use Rattle.tap_session.specs.Sessions.{AreSessions, after_answer, answer_to};
+ghost use Rattle.tap_session.specs.Sessions.{next_session, session_of, with_answer};
 
 use crate::memory::NoMemory;
 use crate::parent::Parent;
@@ -34,8 +36,9 @@ struct Awaited {
 ///
 /// Contracts see the open sessions, ascending by number, and how many were ever opened.
 ///
-/// The open sessions lie in a tree by their numbers, so a call takes time that grows with the logarithm of how many
-/// are open, in whatever order they close, and memory is kept for open sessions alone.
+/// The open sessions lie in a tree by their numbers. So a call takes time that grows with the
+/// logarithm of how many are open, in whatever order they close, and memory is kept for open
+/// sessions alone.
 #[derive(Drop)]
 pub struct Sessions {
     awaited: BTreeMap<u32, Awaited>,
@@ -66,18 +69,24 @@ impl Sessions {
         }
     }
 
-    /// Opens a session which waits for so many answers, and gives its number, the next one.
+    /// Opens a session which waits for so many answers, and gives its number, the next one. `Err`
+    /// opens nothing.
     ///
-    /// The depth is how many sessions stand above it, up to the one whose parent is the root. `Err` opens nothing.
+    /// The depth is kept as it is given. It is meant to be the number of sessions that stand above
+    /// this one, up to the one whose parent is the root.
     pub fn open(&mut self, parent: Parent, depth: u16, waiting: u32) -> Result<u32, NoMemory>
         requires waits { 1 ≤ waiting }
         requires room { self.old.opened < MOST_SESSIONS }
         ensures number { IfOk result (λ id. id ≡ self.old.opened + 1) }
-        ensures sessions { OnOk result (self.new.sessions ≡ self.old.sessions ++ next_session self.old parent depth waiting ∷ []) }
+        ensures sessions { OnOk result (
+            self.new.sessions ≡
+            self.old.sessions ++ next_session self.old parent depth waiting ∷ []) }
         ensures opened { OnOk result (self.new.opened ≡ self.old.opened + 1) }
         ensures look_up { OnOk result ((other : ℕ) →
             session_of self.new.sessions other ≡
-            (if self.old.opened + 1 == other then Some (next_session self.old parent depth waiting) else session_of self.old.sessions other)) }
+            (if self.old.opened + 1 == other
+            then Some (next_session self.old parent depth waiting)
+            else session_of self.old.sessions other)) }
         ensures same { OnErr result (self.new ≡ self.old) }
     {
         let id = self.opened + 1;
@@ -98,7 +107,9 @@ impl Sessions {
         ensures opened { self.new.opened ≡ self.old.opened }
         ensures look_up { (other : ℕ) →
             session_of self.new.sessions other ≡
-            (if id == other then option_and_then with_answer (session_of self.old.sessions id) else session_of self.old.sessions other) }
+            (if id == other
+            then option_and_then with_answer (session_of self.old.sessions id)
+            else session_of self.old.sessions other) }
         ensures unknown { result ≡ Answered.Unknown → self.new ≡ self.old }
     {
         let Some(awaited) = self.awaited.get_mut(&id) else {
@@ -113,7 +124,8 @@ impl Sessions {
         Answered::Closed(parent)
     }
 
-    /// The depth that an open session was opened with, and `None` exactly where no session of this number is open.
+    /// The depth that an open session was opened with, and `None` exactly where no session of this
+    /// number is open.
     pub fn depth_of(&self, id: u32) -> Option<u16>
         ensures { result ≡ option_map (λ s. s.depth) (session_of self.now.sessions id) }
     {
