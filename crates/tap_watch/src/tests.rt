@@ -29,6 +29,8 @@ fn watches_the_other_digits(rt: HostRuntime) -> Result<(), Fail> {
     let mut few = Watch::new(rt.alloc());
     few.push_last(slot(2, 1)).map_err(|_| "memory")?;
     assert_eq!(rt; few.as_slice(), [slot(2, 1)].as_slice());
+    let one = vec![in rt.alloc(); slot(2, 3)]?;
+    assert_eq!(rt; Watch::from_vec(one).as_slice(), [slot(2, 3)].as_slice());
     left.strike(slot(1, 2));
     assert_eq!(rt; watch.len(), 5);
     Ok(())

@@ -58,6 +58,14 @@ impl Watch {
         Ok(Watch { slots })
     }
 
+    /// The watch of a vector's slots. It takes no memory.
+    pub fn from_vec(slots: Vec<Slot>) -> Watch
+        requires { IsAscending slots.items }
+        ensures { result ≡ slots.items }
+    {
+        Watch { slots }
+    }
+
     /// The number of slots.
     pub fn len(&self) -> usize
         ensures { result ≡ length self.now }
