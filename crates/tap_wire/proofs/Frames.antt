@@ -1,5 +1,5 @@
 -- whole frames: read where they were written, and written as they are read
-use Rattle.std.proofs.Common.{◌≡◌, ◌<◌, ◌≤◌, ◌++◌, ◌+◌, ◌*◌, ◌-◌, ◌^◌, ℕ, zero, suc, Bool, true, false, cond, List, [], ◌∷◌, length, drop, slice_index, All, Option, None, Some, Result, Ok, Err, ◌↔◌, arith, refl, ap, sym, subst, ◌∙◌, append_assoc, length-append}
+use Rattle.std.proofs.Common.{◌≡◌, ◌<◌, ◌≤◌, ◌++◌, ◌+◌, ◌*◌, ◌-◌, ◌^◌, ℕ, zero, suc, Bool, true, false, cond, List, [], ◌∷◌, length, drop, slice_index, All, Option, None, Some, Result, Ok, Err, IfOk, ◌↔◌, arith, refl, ap, sym, subst, ◌∙◌, append_assoc, length-append}
 use Rattle.byteorder.specs.Endian.{big_bytes}
 use Rattle.byteorder.specs.Numbers.{length-bytes_high_first}
 use Rattle.tap_name.specs.Settings.{Parameters, AreWithinLimits}
@@ -76,8 +76,8 @@ stands p frame bytes limits is spelled =
     let named = length-append frame.from (frame.to ++ B) in
     let ended = length-append frame.to B in
     let number = length-bytes_high_first 2 len in
-    let head : 4 + length C ≡ head_len p = count_len (is_long p) p.digits in
-    let whole : length bytes ≡ body_start p + len = omega (arith, size, joined, counted, named, ended, number, head, is.sender.len, is.receiver.len) in
+    let headed : 4 + length C ≡ head_len p = count_len (is_long p) p.digits in
+    let whole : length bytes ≡ body_start p + len = omega (arith, size, joined, counted, named, ended, number, headed, is.sender.len, is.receiver.len) in
     record {
       head = record {
         version = byte_is bytes 0 (version_of p) (code ∷ (N ++ (C ++ names))) h0;
@@ -165,6 +165,7 @@ frame_taken p bytes o body limits all h e =
     four_of : (long : Bool) → 4 ≤ cond {A = ℕ} long 5 4
     four_of true = omega arith
     four_of false = omega arith
+
     four_most : (p : Parameters) → 4 ≤ head_len p
     four_most p = four_of (is_long p)
 
@@ -178,6 +179,12 @@ spelled_so p frame bytes limits all e =
     let taken = frame_taken p bytes a.0 b.0 limits all h read in
     let all_of : Taken p bytes frame = subst (Taken p bytes) (frame_same (record { from = a.0.sender; to = a.0.receiver; body = b.0 }) frame b.2) taken in
     (all_of.parts, all_of.rules, all_of.typed)
+
+-- what an answer says of its frame
+pub is_found : (p : Parameters) (bytes : List ℕ) (r : Result Frame WireFault) → AreWithinLimits p → All (λ b. b < 256) bytes → ((r ≡ Err NoMemory → ⊥) → r ≡ frame_of p bytes)
+    → IfOk r (λ frame. IsFrame p frame × (bytes ≡ spelling p frame))
+is_found p bytes (Ok frame) limits all given = let is = spelled_so p frame bytes limits all (sym (given (λ e. cc))) in (is.1, is.0)
+is_found p bytes (Err fault) limits all given = tt
 
 -- ---- the refusals of a head are those of the frame
 

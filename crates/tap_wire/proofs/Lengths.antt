@@ -55,8 +55,14 @@ length-optional p (Some name) is = omega (arith, is.len)
 pub length-body : (p : Parameters) (body : Body) → IsBody p body → length (body_bytes body) ≡ body_length p body
 length-body p (Seek joiner) is = is.len
 length-body p (Tell joiner prefix level session depth watch) is =
-    omega (arith, five_parts joiner (prefix ∷ level ∷ []) (big_bytes 4 session) (big_bytes 2 depth) (flat_map slot_bytes watch),
-    is.joiner_is.len, length-bytes_high_first 4 session, length-bytes_high_first 2 depth, length-slots watch)
+    omega (
+      arith,
+      five_parts joiner (prefix ∷ level ∷ []) (big_bytes 4 session) (big_bytes 2 depth) (flat_map slot_bytes watch),
+      is.joiner_is.len,
+      length-bytes_high_first 4 session,
+      length-bytes_high_first 2 depth,
+      length-slots watch,
+    )
 length-body p (Hello session core links) is =
     omega (arith, three_parts (big_bytes 4 session) (flag core ∷ []) (flat_map link_bytes links), length-bytes_high_first 4 session, length-links p links is.1.names)
 length-body p (Heard session) is = length-bytes_high_first 4 session

@@ -86,9 +86,9 @@ tell_again p start bytes joiner prefix level session depth watch is ascending fi
     let slots_next : ℕ → Result (List Slot) Broken = λ prefix. slots_at p prefix ((length bytes - (at + 8)) / 2) None (at + 8) bytes in
     bind_is (name_at p start bytes) (λ joiner. prefix_at p at bytes >>= λ prefix. level_above_at p prefix (at + 1) bytes >>= λ level. session_at (at + 2) bytes >>= λ session. slots_next prefix >>= λ watch. made joiner prefix level session watch) joiner whole e0
     (bind_is (prefix_at p at bytes) (λ prefix. level_above_at p prefix (at + 1) bytes >>= λ level. session_at (at + 2) bytes >>= λ session. slots_next prefix >>= λ watch. made joiner prefix level session watch) prefix whole e1
-      (bind_is (level_above_at p prefix (at + 1) bytes) (λ level. session_at (at + 2) bytes >>= λ session. slots_next prefix >>= λ watch. made joiner prefix level session watch) level whole e2
-        (bind_is (session_at (at + 2) bytes) (λ session. slots_next prefix >>= λ watch. made joiner prefix level session watch) session whole e3
-          (bind_is (slots_next prefix) (λ watch. made joiner prefix level session watch) watch whole e5 (ap (λ d. Ok (Tell joiner prefix level session d watch)) e4)))))
+    (bind_is (level_above_at p prefix (at + 1) bytes) (λ level. session_at (at + 2) bytes >>= λ session. slots_next prefix >>= λ watch. made joiner prefix level session watch) level whole e2
+    (bind_is (session_at (at + 2) bytes) (λ session. slots_next prefix >>= λ watch. made joiner prefix level session watch) session whole e3
+    (bind_is (slots_next prefix) (λ watch. made joiner prefix level session watch) watch whole e5 (ap (λ d. Ok (Tell joiner prefix level session d watch)) e4)))))
 
 pub tell_taken : (p : Parameters) (start : ℕ) (bytes : List ℕ) (body : Body) → All (λ b. b < 256) bytes → start + p.digits + 8 ≤ length bytes
     → (length bytes - (start + p.digits + 8)) % 2 ≡ 0 → (length bytes - (start + p.digits + 8)) / 2 ≤ p.digits * (p.base - 1) → tell_at p start bytes ≡ Ok body → Takes p kinds.Tell start bytes body
@@ -148,7 +148,7 @@ length-links p (l ∷ ls) names =
     let product : (p.digits + 1) * suc (length ls) ≡ (p.digits + 1) * length ls + (p.digits + 1) = grind arith in
     omega (arith, ap (λ (xs : List ℕ). length xs) (flat_map-cons link_bytes l ls), length-append (link_bytes l) (flat_map link_bytes ls), more, one, product)
 
-quotient : (size count x : ℕ) → 0 < size → x ≡ size * count → x / size ≡ count
+pub quotient : (size count x : ℕ) → 0 < size → x ≡ size * count → x / size ≡ count
 quotient size count x positive e =
     let same : x ≡ count * size + 0 = grind (arith, e) in ap (λ y. y / size) same ∙ div-mul-add count size 0 positive
 
@@ -173,7 +173,7 @@ hello_again p start bytes session core ls least are fits here =
     let made : ℕ → Bool → List Offered → Result Body Broken = λ session core ls. Ok (Hello session core ls) in
     bind_is (session_at start bytes) (λ session. flag_at (start + 4) bytes >>= λ core. next >>= λ ls. made session core ls) session whole e0
     (bind_is (flag_at (start + 4) bytes) (λ core. next >>= λ ls. made session core ls) core whole e1
-      (bind_is next (λ ls. made session core ls) ls whole e2 refl))
+    (bind_is next (λ ls. made session core ls) ls whole e2 refl))
 
 pub hello_taken : (p : Parameters) (start : ℕ) (bytes : List ℕ) (body : Body) → All (λ b. b < 256) bytes → start + 5 ≤ length bytes
     → (length bytes - (start + 5)) % (p.digits + 1) ≡ 0 → (length bytes - (start + 5)) / (p.digits + 1) ≤ 255 → hello_at p start bytes ≡ Ok body → Takes p kinds.Hello start bytes body

@@ -18,7 +18,7 @@ use Rattle.tap_wire.proofs.Links.{flag_is, flag_taken}
 use Rattle.tap_wire.proofs.Taken.{Takes, session_is, session_taken, level_is, level_taken, ends, three, four}
 use Rattle.tap_wire.proofs.ShortBodies.{nothing}
 
-same_place : (bytes : List ℕ) (here there : ℕ) → here ≡ there → drop here bytes ≡ drop there bytes
+pub same_place : (bytes : List ℕ) (here there : ℕ) → here ≡ there → drop here bytes ≡ drop there bytes
 same_place bytes here there e = ap (λ k. drop k bytes) e
 
 -- ---- Lay
@@ -43,8 +43,8 @@ lay_again p start bytes object server level version on is_object is_server is_le
     let whole : Result Body Broken = Ok (Lay object server level version on) in
     bind_is (name_at p start bytes) (λ object. name_at p (start + p.digits) bytes >>= λ server. level_at p at bytes >>= λ level. flag_at (at + 5) bytes >>= λ on. Ok (Lay object server level (number_at 4 (at + 1) bytes) on)) object whole e0
     (bind_is (name_at p (start + p.digits) bytes) (λ server. level_at p at bytes >>= λ level. flag_at (at + 5) bytes >>= λ on. Ok (Lay object server level (number_at 4 (at + 1) bytes) on)) server whole e1
-      (bind_is (level_at p at bytes) (λ level. flag_at (at + 5) bytes >>= λ on. Ok (Lay object server level (number_at 4 (at + 1) bytes) on)) level whole e2
-        (bind_is (flag_at (at + 5) bytes) (λ on. Ok (Lay object server level (number_at 4 (at + 1) bytes) on)) on whole e4 (ap (λ v. Ok (Lay object server level v on)) e3))))
+    (bind_is (level_at p at bytes) (λ level. flag_at (at + 5) bytes >>= λ on. Ok (Lay object server level (number_at 4 (at + 1) bytes) on)) level whole e2
+    (bind_is (flag_at (at + 5) bytes) (λ on. Ok (Lay object server level (number_at 4 (at + 1) bytes) on)) on whole e4 (ap (λ v. Ok (Lay object server level v on)) e3))))
 
 pub lay_taken : (p : Parameters) (start : ℕ) (bytes : List ℕ) (body : Body) → All (λ b. b < 256) bytes → length bytes ≡ start + 2 * p.digits + 6 → lay_at p start bytes ≡ Ok body
     → Takes p kinds.Lay start bytes body
@@ -91,7 +91,7 @@ find_again p start bytes ticket object asker level is_object is_asker is_level f
     let whole : Result Body Broken = Ok (Find ticket object asker level) in
     bind_is (name_at p first bytes) (λ object. name_at p (first + p.digits) bytes >>= λ asker. level_at p at bytes >>= λ level. Ok (Find (number_at 4 start bytes) object asker level)) object whole e1
     (bind_is (name_at p (first + p.digits) bytes) (λ asker. level_at p at bytes >>= λ level. Ok (Find (number_at 4 start bytes) object asker level)) asker whole e2
-      (bind_is (level_at p at bytes) (λ level. Ok (Find (number_at 4 start bytes) object asker level)) level whole e3 (ap (λ t. Ok (Find t object asker level)) e0)))
+    (bind_is (level_at p at bytes) (λ level. Ok (Find (number_at 4 start bytes) object asker level)) level whole e3 (ap (λ t. Ok (Find t object asker level)) e0)))
 
 pub find_taken : (p : Parameters) (start : ℕ) (bytes : List ℕ) (body : Body) → All (λ b. b < 256) bytes → length bytes ≡ start + 2 * p.digits + 5 → find_at p start bytes ≡ Ok body
     → Takes p kinds.Find start bytes body
@@ -146,8 +146,8 @@ cast_again p start bytes cast level session depth word is_level least is_word fi
     let made : ℕ → ℕ → List ℕ → Result Body Broken = λ level session word. Ok (Cast (number_at 4 start bytes) level session (number_at 2 (start + 9) bytes) word) in
     bind_is (level_at p (start + 4) bytes) (λ level. session_at (start + 5) bytes >>= λ session. word_at (start + 11) bytes >>= λ word. made level session word) level whole e1
     (bind_is (session_at (start + 5) bytes) (λ session. word_at (start + 11) bytes >>= λ word. made level session word) session whole e2
-      (bind_is (word_at (start + 11) bytes) (λ word. made level session word) word whole e4
-        (ap (λ c. Ok (Cast c level session (number_at 2 (start + 9) bytes) word)) e0 ∙ ap (λ d. Ok (Cast cast level session d word)) e3)))
+    (bind_is (word_at (start + 11) bytes) (λ word. made level session word) word whole e4
+    (ap (λ c. Ok (Cast c level session (number_at 2 (start + 9) bytes) word)) e0 ∙ ap (λ d. Ok (Cast cast level session d word)) e3)))
 
 pub cast_taken : (p : Parameters) (start : ℕ) (bytes : List ℕ) (body : Body) → All (λ b. b < 256) bytes → start + 12 ≤ length bytes → length bytes ≤ start + 43 → cast_at p start bytes ≡ Ok body
     → Takes p kinds.Cast start bytes body

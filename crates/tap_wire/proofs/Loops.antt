@@ -60,29 +60,29 @@ slots_ascend p prefix start bytes ss within e =
 
 -- ---- links
 
-pub links_go_on : (p : Parameters) (count i : ℕ) (before : Option Offered) (place : ℕ) (bytes : List ℕ) (front : List Offered) (l : Offered) (total : Result (List Offered) Broken) → i < count
-    → link_at p before place bytes ≡ Ok l → with_front front (links_at p (count - i) before place bytes) ≡ total
-    → with_front (front ++ l ∷ []) (links_at p (count - (i + 1)) (Some l) (place + p.digits + 1) bytes) ≡ total
+pub links_go_on : (p : Parameters) (count i : ℕ) (before : Option (List ℕ)) (place next : ℕ) (bytes : List ℕ) (front : List Offered) (l : Offered) (total : Result (List Offered) Broken) → i < count
+    → next ≡ place + p.digits + 1 → link_at p before place bytes ≡ Ok l → with_front front (links_at p (count - i) before place bytes) ≡ total
+    → with_front (front ++ l ∷ []) (links_at p (count - (i + 1)) (Some l.name) next bytes) ≡ total
 unfolding links_at
-links_go_on p count i before place bytes front l total lt h so_far =
+links_go_on p count i before place next bytes front l total lt behind h so_far =
     let k : count - i ≡ suc (count - (i + 1)) = omega arith in
-    let one : with_front front (links_at p (count - i) before place bytes) ≡ with_front (front ++ l ∷ []) (links_at p (count - (i + 1)) (Some l) (place + p.digits + 1) bytes) =
+    let one : with_front front (links_at p (count - i) before place bytes) ≡ with_front (front ++ l ∷ []) (links_at p (count - (i + 1)) (Some l.name) (place + p.digits + 1) bytes) =
     ap (λ n. with_front front (links_at p n before place bytes)) k
-    ∙ ap (λ r. with_front front (r >>= λ link. links_at p (count - (i + 1)) (Some link) (place + p.digits + 1) bytes >>= λ links. Ok (link ∷ links))) h
-    ∙ regroup front l (links_at p (count - (i + 1)) (Some l) (place + p.digits + 1) bytes) in
-    sym one ∙ so_far
+    ∙ ap (λ r. with_front front (r >>= λ link. links_at p (count - (i + 1)) (Some link.name) (place + p.digits + 1) bytes >>= λ links. Ok (link ∷ links))) h
+    ∙ regroup front l (links_at p (count - (i + 1)) (Some l.name) (place + p.digits + 1) bytes) in
+    ap (λ k. with_front (front ++ l ∷ []) (links_at p (count - (i + 1)) (Some l.name) k bytes)) behind ∙ sym one ∙ so_far
 
-pub links_end : (p : Parameters) (count i : ℕ) (before : Option Offered) (place : ℕ) (bytes : List ℕ) (front : List Offered) (b : Broken) (total : Result (List Offered) Broken) → i < count
+pub links_end : (p : Parameters) (count i : ℕ) (before : Option (List ℕ)) (place : ℕ) (bytes : List ℕ) (front : List Offered) (b : Broken) (total : Result (List Offered) Broken) → i < count
     → link_at p before place bytes ≡ Err b → with_front front (links_at p (count - i) before place bytes) ≡ total → total ≡ Err b
 unfolding links_at
 links_end p count i before place bytes front b total lt h so_far =
     let k : count - i ≡ suc (count - (i + 1)) = omega arith in
     let one : with_front front (links_at p (count - i) before place bytes) ≡ Err b =
     ap (λ n. with_front front (links_at p n before place bytes)) k
-    ∙ ap (λ r. with_front front (r >>= λ link. links_at p (count - (i + 1)) (Some link) (place + p.digits + 1) bytes >>= λ links. Ok (link ∷ links))) h in
+    ∙ ap (λ r. with_front front (r >>= λ link. links_at p (count - (i + 1)) (Some link.name) (place + p.digits + 1) bytes >>= λ links. Ok (link ∷ links))) h in
     sym so_far ∙ one
 
-pub links_done : (p : Parameters) (count i : ℕ) (before : Option Offered) (place : ℕ) (bytes : List ℕ) (front : List Offered) (total : Result (List Offered) Broken) → count ≤ i
+pub links_done : (p : Parameters) (count i : ℕ) (before : Option (List ℕ)) (place : ℕ) (bytes : List ℕ) (front : List Offered) (total : Result (List Offered) Broken) → count ≤ i
     → with_front front (links_at p (count - i) before place bytes) ≡ total → total ≡ Ok front
 unfolding links_at
 links_done p count i before place bytes front total le so_far =

@@ -47,36 +47,17 @@ abbrev Coded : List Kind → ℕ → Type 0
 Coded [] first = Unit {0}
 Coded (k ∷ ks) first = (code_of k ≡ first) × Coded ks (suc first)
 
-coded_at : (ks : List Kind) (first place : ℕ) (kind : Kind) → Coded ks first → slice_get ks place ≡ Some kind → code_of kind ≡ first + place
-coded_at [] first place kind coded e = absurd cc
-coded_at (k ∷ ks) first zero kind coded e = same_code k kind e ∙ coded.0 ∙ omega arith
-coded_at (k ∷ ks) first (suc place) kind coded e = coded_at ks (suc first) place kind coded.1 e ∙ omega arith
+coded_at : (ks : List Kind) (first place : ℕ) (chosen : Kind) → Coded ks first → slice_get ks place ≡ Some chosen → code_of chosen ≡ first + place
+coded_at [] first place chosen coded e = absurd cc
+coded_at (k ∷ ks) first zero chosen coded e = same_code k chosen e ∙ coded.0 ∙ omega arith
+coded_at (k ∷ ks) first (suc place) chosen coded e = coded_at ks (suc first) place chosen coded.1 e ∙ omega arith
 
 kinds_coded : Coded kinds 1
-kinds_coded = (refl, refl, refl, refl, refl, refl, refl, refl, refl, refl, refl, refl, refl, refl, refl, refl, refl, tt)
+kinds_coded = (refl, (refl, (refl, (refl, (refl, (refl, (refl, (refl, (refl, (refl, (refl, (refl, (refl, (refl, (refl, (refl, (refl, tt)))))))))))))))))
 
-pub code_back : (code : ℕ) (kind : Kind) → kind_of_code code ≡ Some kind → code_of kind ≡ code
-code_back zero kind e = absurd cc
-code_back (suc place) kind e = coded_at kinds 1 place kind kinds_coded e ∙ omega arith
-
-pub code_small : (kind : Kind) → code_of kind < 256
-code_small Seek = omega arith
-code_small Tell = omega arith
-code_small Hello = omega arith
-code_small Heard = omega arith
-code_small Ack = omega arith
-code_small Done = omega arith
-code_small Release = omega arith
-code_small Link = omega arith
-code_small Lay = omega arith
-code_small Find = omega arith
-code_small Answer = omega arith
-code_small Leave = omega arith
-code_small Left = omega arith
-code_small Gone = omega arith
-code_small Forget = omega arith
-code_small Cast = omega arith
-code_small CastAck = omega arith
+pub code_back : (code : ℕ) (chosen : Kind) → kind_of_code code ≡ Some chosen → code_of chosen ≡ code
+code_back zero chosen e = absurd cc
+code_back (suc place) chosen e = coded_at kinds 1 place chosen kinds_coded e ∙ omega arith
 
 -- ---- tests one after the other
 
@@ -102,10 +83,10 @@ not_from false e = absurd cc
 
 -- ---- the number of digits in a head
 
-abbrev count_bytes : Bool → ℕ → List ℕ
+abbrev pub count_bytes : Bool → ℕ → List ℕ
 count_bytes long digits = cond {A = List ℕ} long (digits ∷ []) []
 
-abbrev head_bytes_of : Bool → ℕ
+abbrev pub head_bytes_of : Bool → ℕ
 head_bytes_of long = cond {A = ℕ} long 5 4
 
 pub count_is : (long : Bool) (digits : ℕ) (bytes rest : List ℕ) → drop 4 bytes ≡ count_bytes long digits ++ rest → long ≡ true → slice_index bytes 4 ≡ digits
@@ -155,8 +136,8 @@ sized_is p bytes o len h =
     let second : Result Opening HeadFault = cond other (Err (BadCount (slice_index bytes 4))) third in
     passes (not (is_length p o.kind len)) (BadLength len) second o (not_from (is_length p o.kind len) h.possible)
     (passes other (BadCount (slice_index bytes 4)) third o (both_false (is_long p) (not (eqb (slice_index bytes 4) p.digits)) (λ long. not_from (eqb (slice_index bytes 4) p.digits) (eq-eqb (slice_index bytes 4) p.digits (h.count long))))
-      (passes short (Short (whole - length bytes)) fourth o (le-ltb (length bytes) whole (omega (arith, h.whole)))
-        (passes more (Trailing (length bytes - whole)) names o (le-ltb whole (length bytes) (omega (arith, h.whole))) (names_is p bytes o len h))))
+    (passes short (Short (whole - length bytes)) fourth o (le-ltb (length bytes) whole (omega (arith, h.whole)))
+    (passes more (Trailing (length bytes - whole)) names o (le-ltb whole (length bytes) (omega (arith, h.whole))) (names_is p bytes o len h))))
 
 pub opening_is : (p : Parameters) (bytes : List ℕ) (o : Opening) (len : ℕ) → HasHead p bytes o len → opening_of p bytes ≡ Ok o
 opening_is p bytes o len h =
@@ -181,6 +162,7 @@ names_parts p kind bytes o e =
   where
     opened : Opening → Result Opening HeadFault
     opened x = Ok x
+
     opening_same : (x y : Opening) → ◌≡◌ {A = Result Opening HeadFault} (Ok x) (Ok y) → x ≡ y
     opening_same x y e = cc
 

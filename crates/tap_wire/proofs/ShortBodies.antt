@@ -93,7 +93,7 @@ optional_again p place bytes (Some name) within digits is here =
     let after = past_byte bytes place 1 name here in
     let len : length bytes ≡ place + suc (length name) = left bytes (1 ∷ name) place within here in
     let more = ne_eqb (length bytes) (place + 1) (λ e. omega (arith, is.len, e, len)) in
-    let read = name_is (λ at. record { at = at }) p bytes (place + 1) name [] is (ends bytes name (place + 1) after) in
+    let read : name_at p (place + 1) bytes ≡ Ok name = name_is (λ at. record { at = at }) p bytes (place + 1) name [] is (ends bytes name (place + 1) after) in
     rw (more, flagged, read) refl
 
 pub record TakesOptional (p : Parameters) (place : ℕ) (bytes : List ℕ) (name : Option (List ℕ)) : Type 0 where
@@ -105,22 +105,22 @@ pub optional_taken : (p : Parameters) (place : ℕ) (bytes : List ℕ) (name : O
 optional_taken p place bytes name within exact e =
     elim (cases_Bool (eqb (length bytes) (place + 1))) [
       | inl alone ↦
-        let a = field_ok (eqb (slice_index bytes place) 0) place None name (rw alone at e) in
-        let none : drop place bytes ≡ 0 ∷ [] =
-        byte_taken bytes place (omega arith) ∙ ap (λ b. b ∷ drop (place + 1) bytes) (eqb-true (slice_index bytes place) 0 a.0)
-        ∙ ap (λ (xs : List ℕ). 0 ∷ xs) (nothing bytes (place + 1) (eqb-true (length bytes) (place + 1) alone)) in
-        subst (TakesOptional p place bytes) a.1 (record { parts = none; is = tt })
+          let a = field_ok (eqb (slice_index bytes place) 0) place None name (rw alone at e) in
+          let none : drop place bytes ≡ 0 ∷ [] =
+          byte_taken bytes place (omega arith) ∙ ap (λ b. b ∷ drop (place + 1) bytes) (eqb-true (slice_index bytes place) 0 a.0)
+          ∙ ap (λ (xs : List ℕ). 0 ∷ xs) (nothing bytes (place + 1) (eqb-true (length bytes) (place + 1) alone)) in
+          subst (TakesOptional p place bytes) a.1 (record { parts = none; is = tt })
       | inr more ↦
-        let a = bind_ok (field (eqb (slice_index bytes place) 1) place (place + 1)) (λ after. name_at p after bytes >>= λ name. with_name (Some name)) name (rw more at e) in
-        let flagged = field_ok (eqb (slice_index bytes place) 1) place (place + 1) a.0 a.1 in
-        let b = bind_ok (name_at p a.0 bytes) (λ name. with_name (Some name)) name a.2 in
-        let differs = eqb-false (length bytes) (place + 1) more in
-        let len : length bytes ≡ place + 1 + p.digits = exact (omega (arith, differs)) in
-        let named = name_taken (λ at. record { at = at }) p bytes (place + 1) b.0 (omega arith) (ap (λ k. name_at p k bytes) flagged.1 ∙ b.1) in
-        let whole : drop (place + 1) bytes ≡ b.0 = named.0 ∙ ap (λ (xs : List ℕ). b.0 ++ xs) (nothing bytes (place + 1 + p.digits) len) ∙ append-nil b.0 in
-        let some : drop place bytes ≡ 1 ∷ b.0 =
-        byte_taken bytes place (omega arith) ∙ ap (λ b. b ∷ drop (place + 1) bytes) (eqb-true (slice_index bytes place) 1 flagged.0) ∙ ap (λ (xs : List ℕ). 1 ∷ xs) whole in
-        subst (TakesOptional p place bytes) (option_is (Some b.0) name b.2) (record { parts = some; is = named.1 })
+          let a = bind_ok (field (eqb (slice_index bytes place) 1) place (place + 1)) (λ after. name_at p after bytes >>= λ name. with_name (Some name)) name (rw more at e) in
+          let flagged = field_ok (eqb (slice_index bytes place) 1) place (place + 1) a.0 a.1 in
+          let b = bind_ok (name_at p a.0 bytes) (λ name. with_name (Some name)) name a.2 in
+          let differs = eqb-false (length bytes) (place + 1) more in
+          let len : length bytes ≡ place + 1 + p.digits = exact (omega (arith, differs)) in
+          let named = name_taken (λ at. record { at = at }) p bytes (place + 1) b.0 (omega arith) (ap (λ k. name_at p k bytes) flagged.1 ∙ b.1) in
+          let whole : drop (place + 1) bytes ≡ b.0 = named.0 ∙ ap (λ (xs : List ℕ). b.0 ++ xs) (nothing bytes (place + 1 + p.digits) len) ∙ append-nil b.0 in
+          let some : drop place bytes ≡ 1 ∷ b.0 =
+          byte_taken bytes place (omega arith) ∙ ap (λ b. b ∷ drop (place + 1) bytes) (eqb-true (slice_index bytes place) 1 flagged.0) ∙ ap (λ (xs : List ℕ). 1 ∷ xs) whole in
+          subst (TakesOptional p place bytes) (option_is (Some b.0) name b.2) (record { parts = some; is = named.1 })
     ]
   where
     option_is : (x y : Option (List ℕ)) → with_name x ≡ with_name y → x ≡ y

@@ -162,5 +162,5 @@ follow_from base prefix before (s ∷ ss) behind levels digits ascending = (
   first_level prefix before s ss behind (levels 0 s (omega arith)),
   first_digit base before s ss behind (digits 0 s (omega arith)),
   follow_from base prefix (Some s) ss (λ k d h. ascending 0 (suc k) d (omega arith) (omega arith)) (λ k d h. levels (suc k) d (omega arith)) (λ k d h. digits (suc k) d (omega arith))
-    (λ i j d lt within. ascending (suc i) (suc j) d (omega arith) (omega arith)),
+      (λ i j d lt within. ascending (suc i) (suc j) d (omega arith) (omega arith)),
 )

@@ -89,25 +89,25 @@ slots_at p prefix (suc count) before place bytes =
     slots_at p prefix count (Some slot) (place + 2) bytes >>= λ slots.
     Ok (slot ∷ slots)
 
--- the name of a link is above that of the link before
-abbrev pub is_next_name : Option Offered → List ℕ → Bool
+-- the name of a link is above the name before
+abbrev pub is_next_name : Option (List ℕ) → List ℕ → Bool
 is_next_name None name = true
-is_next_name (Some before) name = is_lt (slice_cmp nat_cmp before.name name)
+is_next_name (Some before) name = is_lt (slice_cmp nat_cmp before name)
 
 -- a link has two fields, its name and whether it is settled
-abbrev pub link_at : Parameters → Option Offered → ℕ → List ℕ → Result Offered Broken
+abbrev pub link_at : Parameters → Option (List ℕ) → ℕ → List ℕ → Result Offered Broken
 link_at p before place bytes =
     name_at p place bytes >>= λ name.
     field (is_next_name before name) place name >>= λ name.
     flag_at (place + p.digits) bytes >>= λ settled.
     Ok (record { name = name; settled = settled })
 
--- so many links behind the one before
-unfoldable pub links_at : Parameters → ℕ → Option Offered → ℕ → List ℕ → Result (List Offered) Broken
+-- so many links behind the name before
+unfoldable pub links_at : Parameters → ℕ → Option (List ℕ) → ℕ → List ℕ → Result (List Offered) Broken
 links_at p zero before place bytes = Ok []
 links_at p (suc count) before place bytes =
     link_at p before place bytes >>= λ link.
-    links_at p count (Some link) (place + p.digits + 1) bytes >>= λ links.
+    links_at p count (Some link.name) (place + p.digits + 1) bytes >>= λ links.
     Ok (link ∷ links)
 
 -- a lower-case letter or a digit

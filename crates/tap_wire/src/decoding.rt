@@ -1,10 +1,13 @@
-ghost use Rattle.std.specs.Prelude.{◌≡◌, ◌≢◌, ◌==◌, ◌+◌, ◌-◌, ◌≤◌, ◌↔◌, ◌&&◌, not, length, slice_index, IsTrue, IfOk, Err};
+ghost use Rattle.std.specs.Prelude.{◌≡◌, ◌≢◌, ◌==◌, ◌+◌, ◌-◌, ◌≤◌, ◌↔◌, ◌&&◌, not, length, slice_index, IsTrue, IfOk, Ok, Err};
+ghost use Rattle.tap_name.specs.Settings.{AreWithinLimits};
 ghost use Rattle.tap_wire.specs.declared.fault.HeadFault.{HeadFault};
+ghost use Rattle.tap_wire.specs.declared.frame.Frame.{Frame};
 ghost use Rattle.tap_wire.specs.declared.fault.HeadFault.TheVariants.{BadDigit};
 ghost use Rattle.tap_wire.specs.Fields.{number_at, digits_at};
 ghost use Rattle.tap_wire.specs.Fault.{fault_of_head};
 ghost use Rattle.tap_wire.specs.Kind.{is_length};
 ghost use Rattle.tap_wire.specs.Reading.{is_long, version_of, head_len, body_start, names_at, sized, opening_of, head_of, frame_of};
+ghost use Rattle.tap_wire.specs.Spelling.{IsFrame, IsTyped, spelling};
 
 use crate::fault::{HeadFault, WireFault};
 use crate::fields::u16_at;
@@ -41,6 +44,7 @@ pub(crate) fn head_len(settings: &Settings) -> usize
 pub(crate) fn body_start(settings: &Settings) -> usize
     ensures value { result ≡ body_start settings.now }
     ensures most { result ≤ 85 }
+    ensures valid { AreWithinLimits settings.now }
 {
     head_len(settings) + 2 * settings.digits() as usize
 }
@@ -141,10 +145,24 @@ pub fn decode_head(settings: &Settings, bytes: &[u8]) -> Result<Head, HeadFault>
 
 /// The frame that the bytes spell, all of them, or the first refusal. Want of memory may come in place of either.
 pub fn decode(alloc: Global, settings: &Settings, bytes: &[u8]) -> Result<Frame, WireFault>
-    ensures { result ≢ Err WireFault.NoMemory → result ≡ frame_of settings.now bytes.now }
+    // Which frame or refusal it is.
+    ensures exact { result ≢ Err WireFault.NoMemory → result ≡ frame_of settings.now bytes.now }
+    // What is read is spelled so, and keeps the rules.
+    ensures found { IfOk result (λ frame. IsFrame settings.now frame × (bytes.now ≡ spelling settings.now frame)) }
+    // What is spelled so is read.
+    ensures only { (frame : Frame) → IsFrame settings.now frame → IsTyped frame.body → bytes.now ≡ spelling settings.now frame → result ≢ Err WireFault.NoMemory → result ≡ Ok frame }
 {
+    read_frame(alloc, settings, bytes)
+}
+
+// The frame that the bytes spell, or the first refusal.
+fn read_frame(alloc: Global, settings: &Settings, bytes: &[u8]) -> Result<Frame, WireFault>
+    ensures value { result ≢ Err WireFault.NoMemory → result ≡ frame_of settings.now bytes.now }
+    ensures valid { AreWithinLimits settings.now }
+{
+    let start = body_start(settings);
     let opening = opening_of(settings, bytes)?;
-    let body = body_at(alloc, settings, opening.kind, bytes, body_start(settings))?;
+    let body = body_at(alloc, settings, opening.kind, bytes, start)?;
     Ok(Frame {
         from: opening.sender,
         to: opening.receiver,

@@ -19,6 +19,9 @@ pub use bytes::Bytes;
 pub use decoding::{decode, decode_head};
 pub use encoding::encode;
 pub use fault::{HeadFault, WireFault};
-pub use laws::{reads_back, spelled_so};
 pub use frame::{Body, Frame, Head};
+pub use laws::{reads_back, spelled_so};
 pub use memory::NoMemory;
+
+#[cfg(test)]
+mod tests;

@@ -1,7 +1,8 @@
 ghost use Rattle.std.specs.Prelude.{◌≡◌, ◌+◌, ◌-◌, ◌/◌, ◌≤◌, length, None};
 ghost use Rattle.tap_name.specs.declared.slot.Slot.{Slot};
 ghost use Rattle.tap_name.specs.declared.slot.Offered.{Offered};
-ghost use Rattle.tap_wire.specs.Fields.{slot_at, slots_at, link_at, links_at, word_at, is_next_level, is_next_digit, is_next_name};
+ghost use Rattle.tap_wire.specs.Fields.{slot_at, slots_at, link_at, links_at, word_at, is_next_level, is_next_digit, is_next_name, is_word_byte};
+ghost use Rattle.std.specs.List.{list_all};
 ghost use Rattle.tap_wire.specs.Reading.{Gives};
 
 use crate::bytes::Bytes;
@@ -78,22 +79,22 @@ pub(crate) fn watch_at(
     Ok(Watch::from_vec(slots))
 }
 
-// Whether a link of this name may stand behind the one before.
-fn is_next_name(before: Option<Offered>, name: &Name) -> bool
+// Whether a link of this name may stand behind the name before.
+fn is_next_name(before: Option<Name>, name: &Name) -> bool
     ensures { result ≡ is_next_name before name.now }
 {
     match before {
         None => true,
-        Some(before) => before.name.cmp(name) == Ordering::Less,
+        Some(before) => before.cmp(name) == Ordering::Less,
     }
 }
 
-// A link behind the one before.
+// A link behind the name before.
 fn link_at(
     settings: &Settings,
     bytes: &[u8],
     place: usize,
-    before: Option<Offered>,
+    before: Option<Name>,
 ) -> Result<Offered, Broken>
     requires { place + settings.now.digits + 1 ≤ length bytes.now }
     ensures { result ≡ link_at settings.now before place bytes.now }
@@ -123,11 +124,18 @@ pub(crate) fn links_at(
     let mut place = start;
     for _ in 0..count {
         let link = link_at(settings, bytes, place, before)?;
+        before = Some(link.name);
         links.push(link)?;
-        before = Some(link);
         place += size;
     }
     Ok(List::from_vec(links))
+}
+
+// Whether bytes are lower-case letters and digits alone.
+fn is_word(bytes: &[u8]) -> bool
+    ensures { result ≡ list_all is_word_byte bytes.now }
+{
+    bytes.iter().all(|byte| is_word_byte(*byte))
 }
 
 // The word that the rest of the bytes are.
@@ -136,7 +144,7 @@ pub(crate) fn word_at(alloc: Global, bytes: &[u8], start: usize) -> Result<Bytes
     ensures { Gives result (word_at start bytes.now) }
 {
     let word = &bytes[start..];
-    if !word.iter().all(|byte| is_word_byte(*byte)) {
+    if !is_word(word) {
         return Err(BodyFault::Field(Broken { at: start }));
     }
     Ok(Bytes::copy_of(alloc, word)?)

@@ -41,6 +41,12 @@ pub(crate) fn put_name(out: &mut Vec<u8>, name: &Name) -> Result<(), AllocError>
     out.extend_from_slice(name.as_slice())
 }
 
+fn put_bytes(out: &mut Vec<u8>, bytes: &Bytes) -> Result<(), AllocError>
+    ensures { OnOk result (out.new.items ≡ out.old.items ++ bytes.now) }
+{
+    out.extend_from_slice(bytes.as_slice())
+}
+
 // A flag, and the name where there is one.
 fn put_optional(out: &mut Vec<u8>, name: &Option<Name>) -> Result<(), AllocError>
     ensures { OnOk result (out.new.items ≡ out.old.items ++ optional_bytes name.now) }
@@ -204,7 +210,8 @@ fn put_cast(
     out.push(level)?;
     put_u32(out, session)?;
     put_u16(out, depth)?;
-    out.extend_from_slice(word.as_slice())
+    put_bytes(out, word)?;
+    Ok(())
 }
 
 // The bytes of a body.
