@@ -1,25 +1,22 @@
 -- the bodies of all kinds: read where they were written, and written as they are read
-use Rattle.std.proofs.Common.{◌≡◌, ◌<◌, ◌≤◌, ◌++◌, ◌+◌, ◌*◌, ◌-◌, ◌/◌, ◌%◌, ◌^◌, ℕ, zero, suc, Bool, true, false, eqb, nat_le, ◌&&◌, ◌||◌, List, [], ◌∷◌, length, drop, All, Option, None, Some, IfSome, Result, Ok, arith, refl, ap, sym, subst, ◌∙◌, inl, inr, length-append}
-use Rattle.std.specs.List.{flat_map}
-use Rattle.std.proofs.lemmas.Bool.{eqb-true, eq-eqb, leb-true, le-leb, and_from, and_parts, or_cases}
+use Rattle.std.proofs.Common.{◌≡◌, ◌<◌, ◌≤◌, ◌++◌, ◌+◌, ◌*◌, ◌-◌, ◌/◌, ◌%◌, ◌^◌, ℕ, true, eqb, nat_le, ◌&&◌, ◌||◌, List, [], length, drop, All, Ok, arith, refl, subst, inl, inr, length-append}
+use Rattle.std.proofs.lemmas.Bool.{eqb-true, leb-true, and_parts, or_cases}
 use Rattle.byteorder.specs.Endian.{big_bytes}
 use Rattle.byteorder.specs.Numbers.{length-bytes_high_first}
 use Rattle.tap_name.specs.Settings.{Parameters, AreWithinLimits}
-use Rattle.tap_name.specs.Name.{IsName}
 use Rattle.tap_wire.specs.declared.frame.Body.{Body}
 use Rattle.tap_wire.specs.declared.frame.Body.TheVariants.{Seek, Tell, Hello, Heard, Ack, Done, Release, Link, Lay, Find, Answer, Leave, Left, Gone, Forget, Cast, CastAck}
 use Rattle.tap_wire.specs.declared.kind.Kind.{Kind}
 use Rattle.tap_wire.specs.declared.kind.Kind.TheVariants as kinds
-use Rattle.tap_wire.specs.declared.fault.Broken.{Broken}
 use Rattle.tap_wire.specs.Kind.{kind_of, is_length, is_parts}
 use Rattle.tap_wire.specs.Fields.{◌>>=◌, session_at}
 use Rattle.tap_wire.specs.Reading.{body_at}
-use Rattle.tap_wire.specs.Spelling.{flag, slot_bytes, link_bytes, optional_bytes, body_bytes, IsBody, IsTyped}
+use Rattle.tap_wire.specs.Spelling.{optional_bytes, body_bytes, IsBody, IsTyped}
 use Rattle.tap_wire.proofs.Steps.{bind_ok, bind_is, ok_is}
 use Rattle.tap_wire.proofs.Taken.{Takes}
 use Rattle.tap_wire.proofs.ShortBodies.{nothing, left, seek_again, seek_taken, alone_again, alone_taken, TakesSession, link_again, link_taken, answer_again, answer_taken, leave_again, leave_taken}
 use Rattle.tap_wire.proofs.LongBodies.{lay_again, lay_taken, find_again, find_taken, cast_again, cast_taken}
-use Rattle.tap_wire.proofs.ListBodies.{length-slots, length-links, tell_again, tell_taken, hello_again, hello_taken}
+use Rattle.tap_wire.proofs.ListBodies.{tell_again, tell_taken, hello_again, hello_taken}
 
 -- ---- what is written is read
 

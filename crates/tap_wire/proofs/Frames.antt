@@ -1,26 +1,22 @@
 -- whole frames: read where they were written, and written as they are read
-use Rattle.std.proofs.Common.{◌≡◌, ◌<◌, ◌≤◌, ◌++◌, ◌+◌, ◌*◌, ◌-◌, ◌^◌, ℕ, zero, suc, Bool, true, false, cond, List, [], ◌∷◌, length, drop, slice_index, All, Option, None, Some, Result, Ok, Err, IfOk, ◌↔◌, arith, refl, ap, sym, subst, ◌∙◌, append_assoc, length-append}
+use Rattle.std.proofs.Common.{◌≡◌, ◌<◌, ◌≤◌, ◌++◌, ◌+◌, ◌-◌, ℕ, Bool, true, false, cond, List, [], ◌∷◌, length, drop, All, Result, Ok, Err, IfOk, arith, refl, ap, sym, subst, ◌∙◌, append_assoc, length-append}
 use Rattle.byteorder.specs.Endian.{big_bytes}
 use Rattle.byteorder.specs.Numbers.{length-bytes_high_first}
 use Rattle.tap_name.specs.Settings.{Parameters, AreWithinLimits}
-use Rattle.tap_name.specs.Name.{IsName}
-use Rattle.tap_wire.specs.declared.fault.Broken.{Broken}
 use Rattle.tap_wire.specs.declared.fault.BodyFault.TheVariants as faults
-use Rattle.tap_wire.specs.declared.fault.HeadFault.{HeadFault}
 use Rattle.tap_wire.specs.declared.fault.HeadFault.TheVariants as head
 use Rattle.tap_wire.specs.declared.fault.WireFault.{WireFault}
-use Rattle.tap_wire.specs.declared.fault.WireFault.TheVariants.{Short, BadVersion, BadKind, BadLength, BadCount, Trailing, BadDigit, BadBody, NoMemory}
+use Rattle.tap_wire.specs.declared.fault.WireFault.TheVariants.{NoMemory}
 use Rattle.tap_wire.specs.declared.frame.Frame.{Frame}
-use Rattle.tap_wire.specs.declared.frame.Head.{Head}
 use Rattle.tap_wire.specs.declared.frame.Body.{Body}
 use Rattle.tap_wire.specs.declared.opening.Opening.{Opening}
 use Rattle.tap_wire.specs.Fault.{fault_of_head, fault_of_body}
 use Rattle.tap_wire.specs.Kind.{code_of, kind_of, is_length}
 use Rattle.tap_wire.specs.Fields.{◌>>=◌, number_at}
-use Rattle.tap_wire.specs.Reading.{is_long, version_of, head_len, body_start, opening_of, head_of, body_at, in_frame, frame_of}
-use Rattle.tap_wire.specs.Spelling.{head_bytes, body_bytes, spelling, IsFrame, IsTyped}
+use Rattle.tap_wire.specs.Reading.{is_long, version_of, head_len, body_start, opening_of, body_at, in_frame, frame_of}
+use Rattle.tap_wire.specs.Spelling.{body_bytes, spelling, IsFrame, IsTyped}
 use Rattle.tap_wire.proofs.Steps.{bind_ok, bind_is}
-use Rattle.tap_wire.proofs.Pieces.{past, moved, byte_is, past_byte, byte_taken, number_is, past_number, number_taken, name_is, past_name, name_taken}
+use Rattle.tap_wire.proofs.Pieces.{moved, byte_is, past_byte, byte_taken, number_is, past_number, number_taken, name_is, past_name, name_taken}
 use Rattle.tap_wire.proofs.ShortBodies.{left}
 use Rattle.tap_wire.proofs.Bodies.{body_again, body_taken}
 use Rattle.tap_wire.proofs.Lengths.{body_length, length-body, long_body, short_enough}
@@ -185,56 +181,3 @@ pub is_found : (p : Parameters) (bytes : List ℕ) (r : Result Frame WireFault) 
     → IfOk r (λ frame. IsFrame p frame × (bytes ≡ spelling p frame))
 is_found p bytes (Ok frame) limits all given = let is = spelled_so p frame bytes limits all (sym (given (λ e. cc))) in (is.1, is.0)
 is_found p bytes (Err fault) limits all given = tt
-
--- ---- the refusals of a head are those of the frame
-
--- a fault of a frame as one of its head
-abbrev head_fault : WireFault → Option HeadFault
-head_fault (Short missing) = Some (head.Short missing)
-head_fault (BadVersion version) = Some (head.BadVersion version)
-head_fault (BadKind kind) = Some (head.BadKind kind)
-head_fault (BadLength len) = Some (head.BadLength len)
-head_fault (BadCount count) = Some (head.BadCount count)
-head_fault (Trailing more) = Some (head.Trailing more)
-head_fault (BadDigit at) = Some (head.BadDigit at)
-head_fault (BadBody at) = None
-head_fault NoMemory = None
-
-head_again : (fault : HeadFault) → head_fault (fault_of_head fault) ≡ Some fault
-head_again (head.Short missing) = refl
-head_again (head.BadVersion version) = refl
-head_again (head.BadKind kind) = refl
-head_again (head.BadLength len) = refl
-head_again (head.BadCount count) = refl
-head_again (head.Trailing more) = refl
-head_again (head.BadDigit at) = refl
-
-one_fault : (a b : HeadFault) → fault_of_head a ≡ fault_of_head b → a ≡ b
-one_fault a b e =
-    let both : ◌≡◌ {A = Option HeadFault} (Some a) (Some b) = sym (head_again a) ∙ ap head_fault e ∙ head_again b in
-    some_fault a b both
-  where
-    some_fault : (x y : HeadFault) → ◌≡◌ {A = Option HeadFault} (Some x) (Some y) → x ≡ y
-    some_fault x y e = cc
-
--- no fault of a body is one of a head
-other_fault : (o : Opening) (read : Result Body Broken) (fault : HeadFault) → (in_frame (λ b. fault_of_body (faults.Field b)) read >>= framed o) ≡ Err (fault_of_head fault) → ⊥
-other_fault o (Ok body) fault e = cc
-other_fault o (Err b) fault e =
-    let same : BadBody b.at ≡ fault_of_head fault = cc in
-    let none : ◌≡◌ {A = Option HeadFault} None (Some fault) = ap head_fault same ∙ head_again fault in
-    cc
-
-abbrev headed : Opening → Result Head HeadFault
-headed o = Ok (record { kind = code_of o.kind; from = o.sender; to = o.receiver })
-
-agree_of : (p : Parameters) (bytes : List ℕ) (opened : Result Opening HeadFault) (fault : HeadFault)
-    → ((opened >>= headed) ≡ Err fault) ↔ ((in_frame fault_of_head opened >>= next_body p bytes) ≡ Err (fault_of_head fault))
-agree_of p bytes (Ok o) fault = (λ e. absurd cc, λ e. absurd (other_fault o (body_at p o.kind (body_start p) bytes) fault e))
-agree_of p bytes (Err f) fault = (
-  λ e. let same : f ≡ fault = cc in ap (λ g. Err (fault_of_head g)) same,
-  λ e. let same : fault_of_head f ≡ fault_of_head fault = cc in ap Err (one_fault f fault same),
-)
-
-pub heads_agree : (p : Parameters) (bytes : List ℕ) (fault : HeadFault) → (head_of p bytes ≡ Err fault) ↔ (frame_of p bytes ≡ Err (fault_of_head fault))
-heads_agree p bytes fault = agree_of p bytes (opening_of p bytes) fault

@@ -1,5 +1,5 @@
 -- how many bytes a body has, and that its kind may have so many
-use Rattle.std.proofs.Common.{◌≡◌, ◌<◌, ◌≤◌, ◌++◌, ◌+◌, ◌*◌, ◌-◌, ◌/◌, ◌%◌, ℕ, zero, suc, Bool, true, false, eqb, nat_le, ◌&&◌, ◌||◌, List, [], ◌∷◌, length, Option, None, Some, IfSome, arith, refl, ap, sym, subst, ◌∙◌, length-append}
+use Rattle.std.proofs.Common.{◌≡◌, ◌<◌, ◌≤◌, ◌++◌, ◌+◌, ◌*◌, ◌-◌, ◌/◌, ◌%◌, ℕ, Bool, true, false, eqb, nat_le, ◌&&◌, ◌||◌, List, [], ◌∷◌, length, Option, None, Some, IfSome, arith, refl, ap, length-append}
 use Rattle.std.specs.List.{flat_map}
 use Rattle.std.proofs.lemmas.Bool.{eq-eqb, le-leb, and_from}
 use Rattle.std.proofs.Math.Nat.{div-add-mod}

@@ -1,5 +1,5 @@
 -- the links of a Hello, one behind the other, and flags
-use Rattle.std.proofs.Common.{◌≡◌, ◌<◌, ◌≤◌, ◌++◌, ◌+◌, ◌*◌, ◌-◌, ℕ, zero, suc, Bool, true, false, cond, nat_le, eqb, List, [], ◌∷◌, length, drop, get_or, slice_index, All, Option, None, Some, Result, Ok, arith, refl, ap, sym, subst, ◌∙◌, append_assoc}
+use Rattle.std.proofs.Common.{◌≡◌, ◌≤◌, ◌++◌, ◌+◌, ◌*◌, ℕ, zero, suc, Bool, true, false, nat_le, eqb, List, [], ◌∷◌, length, drop, get_or, slice_index, All, Option, None, Some, Result, Ok, arith, refl, ap, sym, subst, ◌∙◌, append_assoc}
 use Rattle.std.specs.List.{flat_map, AllPairs}
 use Rattle.std.specs.Ordering.{nat_cmp, is_lt}
 use Rattle.std.specs.declared.cmp.Ordering.{Ordering}
@@ -16,7 +16,7 @@ use Rattle.tap_wire.specs.declared.fault.Broken.{Broken}
 use Rattle.tap_wire.specs.Fields.{◌>>=◌, field, flag_at, name_at, is_next_name, link_at, links_at}
 use Rattle.tap_wire.specs.Spelling.{flag, link_bytes}
 use Rattle.tap_wire.proofs.Steps.{bind_ok, bind_is, field_ok, field_is, ok_is}
-use Rattle.tap_wire.proofs.Pieces.{byte_is, past_byte, byte_taken, moved, name_is, past_name, name_taken}
+use Rattle.tap_wire.proofs.Pieces.{byte_is, past_byte, byte_taken, name_is, past_name, name_taken}
 
 -- ---- flags
 

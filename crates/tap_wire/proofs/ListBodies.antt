@@ -1,8 +1,8 @@
 -- bodies with a list: read where they were written, and written as they are read
-use Rattle.std.proofs.Common.{◌≡◌, ◌<◌, ◌≤◌, ◌++◌, ◌+◌, ◌*◌, ◌-◌, ◌/◌, ◌%◌, ◌^◌, ℕ, zero, suc, Bool, true, false, nat_lt, nat_le, ◌&&◌, List, [], ◌∷◌, length, drop, slice_index, All, Option, None, Result, Ok, arith, refl, ap, sym, subst, ◌∙◌, length-append}
+use Rattle.std.proofs.Common.{◌≡◌, ◌<◌, ◌≤◌, ◌++◌, ◌+◌, ◌*◌, ◌-◌, ◌/◌, ◌%◌, ◌^◌, ℕ, suc, Bool, nat_lt, nat_le, ◌&&◌, List, [], ◌∷◌, length, drop, slice_index, All, None, Result, Ok, arith, refl, ap, sym, subst, ◌∙◌, length-append}
 use Rattle.std.specs.List.{flat_map}
 use Rattle.std.proofs.lemmas.Bool.{lt-ltb, ltb-true, le-leb, leb-true, and_from, and_parts}
-use Rattle.std.proofs.lemmas.List.{drop_all, length-drop, append-nil}
+use Rattle.std.proofs.lemmas.List.{length-drop, append-nil}
 use Rattle.std.proofs.lemmas.List.Concat.{flat_map-cons}
 use Rattle.std.proofs.lemmas.Nat.{div-mul-add}
 use Rattle.std.proofs.Math.Nat.{div-add-mod}
@@ -18,7 +18,7 @@ use Rattle.tap_wire.specs.declared.kind.Kind.TheVariants as kinds
 use Rattle.tap_wire.specs.declared.fault.Broken.{Broken}
 use Rattle.tap_wire.specs.Fields.{◌>>=◌, field, number_at, session_at, flag_at, name_at, slots_at, links_at}
 use Rattle.tap_wire.specs.Reading.{prefix_at, level_above_at, tell_at, hello_at}
-use Rattle.tap_wire.specs.Spelling.{flag, slot_bytes, link_bytes, body_bytes, IsTell, AreSlots, AreLinks}
+use Rattle.tap_wire.specs.Spelling.{flag, slot_bytes, link_bytes, body_bytes, IsTell, AreLinks}
 use Rattle.tap_wire.proofs.Steps.{bind_ok, bind_is, field_ok, field_is, ok_is}
 use Rattle.tap_wire.proofs.Pieces.{moved, byte_is, past_byte, byte_taken, number_is, past_number, number_taken, number_below, name_is, past_name, name_taken}
 use Rattle.tap_wire.proofs.Slots as slots

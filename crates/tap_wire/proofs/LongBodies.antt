@@ -1,7 +1,7 @@
 -- bodies of several names and numbers: read where they were written, and written as they are read
-use Rattle.std.proofs.Common.{◌≡◌, ◌<◌, ◌≤◌, ◌++◌, ◌+◌, ◌*◌, ◌-◌, ◌^◌, ℕ, zero, suc, Bool, true, false, cond, List, [], ◌∷◌, length, drop, slice_index, All, Result, Ok, IsTrue, arith, refl, ap, sym, subst, ◌∙◌}
+use Rattle.std.proofs.Common.{◌≡◌, ◌<◌, ◌≤◌, ◌++◌, ◌+◌, ◌*◌, ◌-◌, ◌^◌, ℕ, Bool, List, [], ◌∷◌, length, drop, All, Result, Ok, IsTrue, arith, refl, ap, sym, subst, ◌∙◌}
 use Rattle.std.specs.List.{list_all}
-use Rattle.std.proofs.lemmas.List.{drop_all, length-drop, append-nil}
+use Rattle.std.proofs.lemmas.List.{length-drop}
 use Rattle.byteorder.specs.Endian.{big_bytes}
 use Rattle.tap_name.specs.Settings.{Parameters}
 use Rattle.tap_name.specs.Name.{IsName}
@@ -15,7 +15,7 @@ use Rattle.tap_wire.specs.Spelling.{flag, body_bytes, IsLevel, IsWord}
 use Rattle.tap_wire.proofs.Steps.{bind_ok, bind_is, field_ok, field_is, ok_is}
 use Rattle.tap_wire.proofs.Pieces.{moved, byte_is, past_byte, byte_taken, number_is, past_number, number_taken, number_below, name_is, past_name, name_taken}
 use Rattle.tap_wire.proofs.Links.{flag_is, flag_taken}
-use Rattle.tap_wire.proofs.Taken.{Takes, session_is, session_taken, level_is, level_taken, ends, three, four}
+use Rattle.tap_wire.proofs.Taken.{Takes, session_is, session_taken, level_is, level_taken, three, four}
 use Rattle.tap_wire.proofs.ShortBodies.{nothing}
 
 pub same_place : (bytes : List ℕ) (here there : ℕ) → here ≡ there → drop here bytes ≡ drop there bytes

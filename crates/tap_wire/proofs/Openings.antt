@@ -1,11 +1,9 @@
 -- the heads of frames: read where they were written, and written as they are read
-use Rattle.std.proofs.Common.{◌≡◌, ◌<◌, ◌≤◌, ◌++◌, ◌+◌, ◌*◌, ◌-◌, ◌^◌, ℕ, zero, suc, Bool, true, false, cond, eqb, nat_lt, not, ◌&&◌, List, [], ◌∷◌, length, drop, slice_index, slice_get, All, Option, None, Some, Result, Ok, Err, arith, refl, ap, sym, subst, ◌∙◌, inl, inr}
-use Rattle.std.proofs.lemmas.Bool.{eqb-true, eq-eqb, ltb-false, le-ltb, cases_Bool, not-false}
-use Rattle.byteorder.specs.Endian.{big_bytes}
-use Rattle.tap_name.specs.Settings.{Parameters, AreWithinLimits}
-use Rattle.tap_name.specs.Name.{IsName}
+use Rattle.std.proofs.Common.{◌≡◌, ◌≤◌, ◌++◌, ◌+◌, ◌-◌, ℕ, zero, suc, Bool, true, false, cond, eqb, nat_lt, not, ◌&&◌, List, [], ◌∷◌, length, drop, slice_index, slice_get, Option, None, Some, Result, Ok, Err, arith, refl, ap, sym, subst, ◌∙◌}
+use Rattle.std.proofs.lemmas.Bool.{eqb-true, eq-eqb, ltb-false, le-ltb, not-false}
+use Rattle.tap_name.specs.Settings.{Parameters}
 use Rattle.tap_wire.specs.declared.fault.HeadFault.{HeadFault}
-use Rattle.tap_wire.specs.declared.fault.HeadFault.TheVariants.{Short, BadVersion, BadKind, BadLength, BadCount, Trailing, BadDigit}
+use Rattle.tap_wire.specs.declared.fault.HeadFault.TheVariants.{Short, BadVersion, BadLength, BadCount, Trailing, BadDigit}
 use Rattle.tap_wire.specs.declared.kind.Kind.{Kind}
 use Rattle.tap_wire.specs.declared.kind.Kind.TheVariants.{Seek, Tell, Hello, Heard, Ack, Done, Release, Link, Lay, Find, Answer, Leave, Left, Gone, Forget, Cast, CastAck}
 use Rattle.tap_wire.specs.declared.opening.Opening.{Opening}
@@ -13,7 +11,7 @@ use Rattle.tap_wire.specs.Kind.{code_of, kinds, kind_of_code, is_length}
 use Rattle.tap_wire.specs.Fields.{◌>>=◌, number_at, digits_at}
 use Rattle.tap_wire.specs.Reading.{is_long, version_of, head_len, body_start, names_at, sized, of_kind, opening_of}
 use Rattle.tap_wire.proofs.Steps.{bind_ok, bind_is}
-use Rattle.tap_wire.proofs.Pieces.{past, moved, byte_is, past_byte, byte_taken, number_is, past_number, number_taken, number_below, name_is, past_name, name_taken}
+use Rattle.tap_wire.proofs.Pieces.{byte_is, past_byte, byte_taken}
 
 -- ---- codes
 

@@ -1,8 +1,8 @@
 -- pieces of bytes at their places: read where they were written, and written as they are read
-use Rattle.std.proofs.Common.{◌≡◌, ◌<◌, ◌≤◌, ◌^◌, ◌++◌, ◌+◌, ◌-◌, ℕ, zero, suc, Bool, true, false, cond, nat_lt, nat_le, List, [], ◌∷◌, length, take, drop, get_or, slice_index, All, Option, Some, None, Result, Ok, Err, arith, refl, ap, sym, subst, ◌∙◌, inl, inr, add-one}
+use Rattle.std.proofs.Common.{◌≡◌, ◌<◌, ◌≤◌, ◌^◌, ◌++◌, ◌+◌, ℕ, suc, Bool, cond, nat_lt, nat_le, List, [], ◌∷◌, length, take, drop, get_or, slice_index, All, Option, Some, None, Ok, arith, refl, ap, sym, subst, ◌∙◌, inl, inr}
 use Rattle.std.specs.List.{position, position_or_len}
 use Rattle.std.proofs.lemmas.Bool.{cases_lt, lt-ltb, le-ltb, lt-leb, leb-false}
-use Rattle.std.proofs.lemmas.List.{drop-drop, drop_at, take_at, get_or-drop, take-append-drop, length-take-le, length-drop, append-nil}
+use Rattle.std.proofs.lemmas.List.{drop-drop, drop_at, take_at, get_or-drop, take-append-drop, length-take-le, length-drop}
 use Rattle.std.proofs.lemmas.List.Elements.{All-from_get_or, All-drop, All-take}
 use Rattle.std.proofs.lemmas.List.Sums.{position_or_len_is, fails_before_first}
 use Rattle.std.proofs.Math.Seq.{drop-cons}
@@ -10,7 +10,6 @@ use Rattle.byteorder.specs.Endian.{big_bytes, big_number}
 use Rattle.byteorder.specs.Numbers.{big_number-reads_back, big_from-take, big_from-lt, length-bytes_high_first}
 use Rattle.tap_name.specs.Settings.{Parameters}
 use Rattle.tap_name.specs.Name.{IsName}
-use Rattle.tap_wire.specs.declared.fault.Broken.{Broken}
 use Rattle.tap_wire.specs.Fields.{number_at, digits_at, digits_unless}
 use Rattle.tap_wire.proofs.Numbers.{are_small, writes_back}
 use Rattle.tap_wire.proofs.Steps.{digits_ok}

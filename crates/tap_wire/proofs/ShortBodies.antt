@@ -1,21 +1,21 @@
 -- bodies of few fields: read where they were written, and written as they are read
-use Rattle.std.proofs.Common.{◌≡◌, ◌<◌, ◌≤◌, ◌++◌, ◌+◌, ◌^◌, ℕ, zero, suc, Bool, true, false, cond, eqb, List, [], ◌∷◌, length, drop, slice_index, All, Option, None, Some, IfSome, Result, Ok, arith, refl, ap, sym, subst, ◌∙◌, inl, inr}
+use Rattle.std.proofs.Common.{◌≡◌, ◌<◌, ◌≤◌, ◌++◌, ◌+◌, ◌^◌, ℕ, suc, Bool, eqb, List, [], ◌∷◌, length, drop, slice_index, All, Option, None, Some, IfSome, Result, Ok, arith, refl, ap, subst, ◌∙◌, inl, inr}
 use Rattle.std.proofs.lemmas.Bool.{eqb-true, eqb-false, eq-eqb, ne_eqb, cases_Bool}
 use Rattle.std.proofs.lemmas.List.{drop_all, length-drop, append-nil}
 use Rattle.byteorder.specs.Endian.{big_bytes}
 use Rattle.tap_name.specs.Settings.{Parameters}
 use Rattle.tap_name.specs.Name.{IsName}
 use Rattle.tap_wire.specs.declared.frame.Body.{Body}
-use Rattle.tap_wire.specs.declared.frame.Body.TheVariants.{Seek, Heard, Ack, CastAck, Link, Answer, Leave}
+use Rattle.tap_wire.specs.declared.frame.Body.TheVariants.{Seek, Link, Answer, Leave}
 use Rattle.tap_wire.specs.declared.kind.Kind.TheVariants as kinds
 use Rattle.tap_wire.specs.declared.fault.Broken.{Broken}
 use Rattle.tap_wire.specs.Fields.{◌>>=◌, field, number_at, session_at, flag_at, name_at, optional_at}
 use Rattle.tap_wire.specs.Reading.{seek_at, link_body_at, answer_at, leave_at}
 use Rattle.tap_wire.specs.Spelling.{flag, optional_bytes, body_bytes}
-use Rattle.tap_wire.proofs.Steps.{bind_ok, bind_is, field_ok, field_is, ok_is}
-use Rattle.tap_wire.proofs.Pieces.{past, byte_is, past_byte, byte_taken, number_is, past_number, number_taken, number_below, name_is, past_name, name_taken}
+use Rattle.tap_wire.proofs.Steps.{bind_ok, bind_is, field_ok, ok_is}
+use Rattle.tap_wire.proofs.Pieces.{byte_is, past_byte, byte_taken, number_is, past_number, number_taken, number_below, name_is, name_taken}
 use Rattle.tap_wire.proofs.Links.{flag_is, flag_taken}
-use Rattle.tap_wire.proofs.Taken.{Takes, session_is, session_taken, ends, two}
+use Rattle.tap_wire.proofs.Taken.{Takes, session_is, session_taken, ends}
 
 -- the bytes from their end on are none
 pub nothing : (bytes : List ℕ) (place : ℕ) → length bytes ≡ place → drop place bytes ≡ []

@@ -1,7 +1,6 @@
 -- the slots of a Tell, one behind the other
-use Rattle.std.proofs.Common.{◌≡◌, ◌<◌, ◌≤◌, ◌++◌, ◌+◌, ◌*◌, ◌-◌, ℕ, zero, suc, Bool, true, false, ◌&&◌, ◌||◌, not, List, [], ◌∷◌, length, drop, get_or, slice_index, All, Option, None, Some, Result, Ok, arith, refl, ap, sym, subst, ◌∙◌, append_assoc}
-use Rattle.std.specs.List.{flat_map, AllPairs}
-use Rattle.std.proofs.lemmas.Bool.{and_from, and_parts}
+use Rattle.std.proofs.Common.{◌≡◌, ◌<◌, ◌≤◌, ◌++◌, ◌+◌, ◌*◌, ℕ, zero, suc, true, List, [], ◌∷◌, length, drop, get_or, slice_index, All, Option, None, Some, Ok, arith, refl, ap, sym, subst, ◌∙◌, append_assoc}
+use Rattle.std.specs.List.{flat_map}
 use Rattle.std.proofs.lemmas.Bool.Decides.{nat_tests}
 use Rattle.std.proofs.lemmas.List.Concat.{flat_map-cons}
 use Rattle.std.proofs.lemmas.List.Elements.{All-cons, All-nil}
@@ -9,10 +8,9 @@ use Rattle.std.proofs.lemmas.List.Kept.{AllPairs-cons}
 use Rattle.tap_name.specs.Settings.{Parameters}
 use Rattle.tap_name.specs.declared.slot.Slot.{Slot}
 use Rattle.tap_watch.specs.Watch.{Precedes, IsAscending}
-use Rattle.tap_wire.specs.declared.fault.Broken.{Broken}
 use Rattle.tap_wire.specs.Fields.{◌>>=◌, field, is_next_level, is_next_digit, slot_at, slots_at}
 use Rattle.tap_wire.specs.Spelling.{slot_bytes}
-use Rattle.tap_wire.proofs.Steps.{bind_ok, bind_is, field_ok, field_is, ok_is}
+use Rattle.tap_wire.proofs.Steps.{bind_ok, bind_is, field_ok, ok_is}
 use Rattle.tap_wire.proofs.Pieces.{byte_is, past_byte, byte_taken, moved}
 
 -- each slot may stand behind the one before it

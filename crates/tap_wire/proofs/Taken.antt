@@ -1,11 +1,10 @@
 -- single fields, and what reading a body has taken
-use Rattle.std.proofs.Common.{◌≡◌, ◌<◌, ◌≤◌, ◌++◌, ◌+◌, ◌^◌, ℕ, Bool, true, List, [], ◌∷◌, length, drop, slice_index, nat_le, nat_lt, ◌&&◌, All, Result, Ok, arith, refl, ap, sym, subst, ◌∙◌, append_assoc}
+use Rattle.std.proofs.Common.{◌≡◌, ◌≤◌, ◌++◌, ℕ, Bool, true, List, [], drop, slice_index, nat_le, Ok, ap, sym, subst, ◌∙◌, append_assoc}
 use Rattle.std.proofs.lemmas.Bool.{le-leb, leb-true, and_from, and_parts}
 use Rattle.std.proofs.lemmas.List.{append-nil}
 use Rattle.tap_name.specs.Settings.{Parameters}
 use Rattle.tap_wire.specs.declared.frame.Body.{Body}
 use Rattle.tap_wire.specs.declared.kind.Kind.{Kind}
-use Rattle.tap_wire.specs.declared.fault.Broken.{Broken}
 use Rattle.tap_wire.specs.Kind.{kind_of}
 use Rattle.tap_wire.specs.Fields.{field, number_at, session_at, level_at, is_level}
 use Rattle.tap_wire.specs.Spelling.{body_bytes, IsBody, IsTyped, IsLevel}

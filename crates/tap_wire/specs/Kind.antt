@@ -1,5 +1,5 @@
 -- the kinds of frames, their codes, and the lengths that their bodies may have
-use Rattle.std.specs.Prelude.{◌==◌, ℕ, zero, suc, ◌+◌, ◌*◌, ◌-◌, ◌/◌, ◌%◌, nat_le, nat_lt, Bool, ◌&&◌, ◌||◌, List, [], ◌∷◌, slice_get, Option, None}
+use Rattle.std.specs.Prelude.{◌==◌, ℕ, zero, suc, ◌+◌, ◌*◌, ◌-◌, ◌/◌, ◌%◌, nat_le, Bool, ◌&&◌, ◌||◌, List, [], ◌∷◌, slice_get, Option, None}
 use Rattle.tap_name.specs.Settings.{Parameters}
 use Rattle.tap_wire.specs.declared.kind.Kind.{Kind}
 use Rattle.tap_wire.specs.declared.kind.Kind.TheVariants.{Seek, Tell, Hello, Heard, Ack, Done, Release, Link, Lay, Find, Answer, Leave, Left, Gone, Forget, Cast, CastAck}

@@ -1,5 +1,5 @@
 -- the laws of reading and writing
-use Rattle.std.specs.Prelude.{◌≡◌, ℕ, ◌<◌, List, All, Result, Ok}
+use Rattle.std.specs.Prelude.{◌≡◌, ℕ, ◌<◌, List, All, Ok}
 use Rattle.tap_name.specs.Settings.{Parameters, AreWithinLimits}
 use Rattle.tap_wire.specs.declared.frame.Frame.{Frame}
 use Rattle.tap_wire.specs.Reading.{frame_of}

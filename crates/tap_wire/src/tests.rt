@@ -355,6 +355,29 @@ fn reads_and_spells_each_kind(rt: HostRuntime) -> Result<(), Fail> {
 }
 
 #[test]
+fn reads_the_frames_of_a_join(rt: HostRuntime) -> Result<(), Fail> {
+    let settings = Settings::new(2, 2, 1).ok_or("settings")?;
+    let frames: [(u8, &[u8]); 8] = [
+        (1, &[1, 1, 0, 2, 0, 1, 0, 0, 0, 1]),
+        (8, &[1, 8, 0, 5, 0, 0, 0, 1, 0, 0, 0, 1, 1]),
+        (3, &[1, 3, 0, 5, 0, 0, 0, 1, 0, 0, 0, 1, 1]),
+        (8, &[1, 8, 0, 5, 0, 1, 0, 0, 0, 0, 0, 1, 1]),
+        (4, &[1, 4, 0, 4, 0, 1, 0, 0, 0, 0, 0, 1]),
+        (7, &[1, 7, 0, 0, 0, 0, 0, 1]),
+        (6, &[1, 6, 0, 0, 0, 0, 0, 1]),
+        (7, &[1, 7, 0, 0, 0, 1, 0, 0]),
+    ];
+    for (kind, bytes) in frames.iter() {
+        let head = decode_head(&settings, bytes).map_err(|_| "a head")?;
+        assert_eq!(rt; head.kind, *kind);
+        let frame = decode(rt.alloc(), &settings, bytes).map_err(|_| "a frame")?;
+        let again = encode(rt.alloc(), &settings, &frame).map_err(|_| "memory")?;
+        assert_eq!(rt; again.as_slice(), *bytes);
+    }
+    Ok(())
+}
+
+#[test]
 fn spells_a_seek(rt: HostRuntime) -> Result<(), Fail> {
     let settings = Settings::new(2, 2, 1).ok_or("settings")?;
     let joiner = read_name(&settings, b"01").map_err(|_| "a name")?;
@@ -366,6 +389,13 @@ fn spells_a_seek(rt: HostRuntime) -> Result<(), Fail> {
     };
     let bytes = encode(rt.alloc(), &settings, &frame).map_err(|_| "memory")?;
     assert_eq!(rt; bytes.as_slice(), SEEK.as_slice());
+    let read = decode(rt.alloc(), &settings, &SEEK).map_err(|_| "a frame")?;
+    assert!(rt; read.from == joiner && read.to == to);
+    let is_sought = match &read.body {
+        Body::Seek { joiner: sought } => *sought == joiner,
+        _ => false,
+    };
+    assert!(rt; is_sought);
     let copy = Bytes::copy_of(rt.alloc(), bytes.as_slice()).map_err(|_| "memory")?;
     assert_eq!(rt; copy.as_slice(), SEEK.as_slice());
     Ok(())

@@ -1,4 +1,4 @@
-use Rattle.std.proofs.Common.{◌≡◌, ◌∙◌, ◌/◌, ◌-◌, None, Ok, length, arith, ap, sym}
+use Rattle.std.proofs.Common.{◌∙◌, ◌/◌, ◌-◌, None, Ok, length, arith, ap, sym}
 use Rattle.std.proofs.lemmas.Result.{err_from_is_err_and}
 use Rattle.tap_wire.specs.Fields.{slots_at}
 use Rattle.tap_wire.proofs.Loops.{slots_go_on, slots_end, slots_done, slots_ascend}
