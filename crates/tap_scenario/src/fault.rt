@@ -1,14 +1,42 @@
+ghost use Rattle.std.specs.Prelude.{◌≡◌};
+ghost use Rattle.tap_scenario.specs.Key.{text_of_key};
+
+use std::alloc::{AllocError, AllocFailed};
+
 /// A key of a scenario's text.
 #[derive(Clone, Copy, Debug, PartialEq, Eq)]
 pub enum Key {
+    /// The base of the digits.
     Base,
+    /// The number of digits of a name.
     Digits,
+    /// How many settled links a slot of a table holds.
     Width,
+    /// How many frames a run may send.
     Frames,
+    /// The members at the start.
     Members,
+    /// The steps.
     Steps,
     /// A key that no scenario has.
     Unknown,
+}
+
+impl Key {
+    /// The key as it is written, and `unknown` for a key that no scenario has.
+    pub fn text(self) -> &'static str
+        ensures { result.now ≡ text_of_key self }
+    {
+        match self {
+            Key::Base => "base",
+            Key::Digits => "digits",
+            Key::Width => "width",
+            Key::Frames => "frames",
+            Key::Members => "members",
+            Key::Steps => "steps",
+            Key::Unknown => "unknown",
+        }
+    }
 }
 
 /// The first thing that is wrong with a scenario's text, in the order of the variants.
@@ -24,4 +52,43 @@ pub enum Fault {
     BadValue(Key),
     /// The first string, counted from 1, that is no step, or with which there are too many.
     BadStep(u32),
+}
+
+/// Why no scenario was read.
+#[derive(Clone, Copy, Debug, PartialEq, Eq)]
+pub enum ReadRefusal {
+    /// The text is no scenario; this is the first thing that is wrong with it.
+    Fault(Fault),
+    /// Memory was refused.
+    NoMemory,
+}
+
+impl From<Fault> for ReadRefusal {
+    ghost use Rattle.tap_scenario.specs.declared.fault.ReadRefusal.TheVariants.{Fault as Refused};
+
+    ghost from_gives = { λ fault refusal. refusal ≡ Refused fault };
+
+    fn from(fault: Fault) -> ReadRefusal {
+        ReadRefusal::Fault(fault)
+    }
+}
+
+impl From<AllocError> for ReadRefusal {
+    ghost use Rattle.tap_scenario.specs.declared.fault.ReadRefusal.TheVariants.{NoMemory};
+
+    ghost from_gives = { λ _ refusal. refusal ≡ NoMemory };
+
+    fn from(_: AllocError) -> ReadRefusal {
+        ReadRefusal::NoMemory
+    }
+}
+
+impl<T: Drop> From<AllocFailed<T>> for ReadRefusal {
+    ghost use Rattle.tap_scenario.specs.declared.fault.ReadRefusal.TheVariants.{NoMemory};
+
+    ghost from_gives = { λ _ refusal. refusal ≡ NoMemory };
+
+    fn from(_: AllocFailed<T>) -> ReadRefusal {
+        ReadRefusal::NoMemory
+    }
 }

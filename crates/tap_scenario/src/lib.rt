@@ -1,10 +1,16 @@
 //! Scenarios: what they consist of, and how their text is read.
 #![tactic(auto)]
 
+mod document;
 mod fault;
 mod scenario;
 mod step;
+#[cfg(test)]
+mod tests;
+mod values;
+mod words;
 
-pub use fault::{Fault, Key};
+pub use document::read;
+pub use fault::{Fault, Key, ReadRefusal};
 pub use scenario::Scenario;
-pub use step::Step;
+pub use step::{Step, read_step};

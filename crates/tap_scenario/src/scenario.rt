@@ -28,6 +28,19 @@ impl Model for Scenario {
 }
 
 impl Scenario {
+    /// The scenario of these parts. It takes no memory.
+    pub fn of(settings: &Settings, frames: u32, members: List<Name>, steps: List<Step>) -> Scenario
+        requires { IsScript (record { settings = settings.now; frames = frames; members = members; steps = steps }) }
+        ensures { result ≡ record { settings = settings.now; frames = frames; members = members; steps = steps } }
+    {
+        Scenario {
+            settings: *settings,
+            frames,
+            members,
+            steps,
+        }
+    }
+
     /// The settings.
     pub fn settings(&self) -> Settings
         ensures value { result ≡ self.now.settings }

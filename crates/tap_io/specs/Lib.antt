@@ -1,0 +1,7 @@
+pub mod Adapter
+pub mod Calls
+pub mod Faults
+pub mod MemorySink
+pub mod MemorySource
+pub mod Sink
+pub mod Source

@@ -1,0 +1,27 @@
+//! Bytes in and bytes out, in pieces, where each call may fail.
+//!
+//! A [`Source`] gives bytes and a [`Sink`] takes them. Each counts its faults, so that a caller can
+//! prove that it reports a fault only where there was one. [`MemorySource`] and [`MemorySink`] hold
+//! their bytes in memory and fail at the calls that they are told to; [`StdSource`] and [`StdSink`]
+//! stand over a reader and a writer of the standard library.
+#![tactic(auto)]
+
+mod calls;
+mod memory_sink;
+mod memory_source;
+mod no_memory;
+mod sink;
+mod source;
+mod std_sink;
+mod std_source;
+
+pub use memory_sink::MemorySink;
+pub use memory_source::MemorySource;
+pub use no_memory::NoMemory;
+pub use sink::{Sink, Took};
+pub use source::{Got, Source};
+pub use std_sink::StdSink;
+pub use std_source::StdSource;
+
+#[cfg(test)]
+mod tests;

@@ -1,0 +1,92 @@
+ghost use Rattle.std.specs.Prelude.{◌≡◌, ◌≤◌, ◌<◌, IfOk, Some, length};
+ghost use Rattle.tap_io.specs.Sink.{Writes};
+ghost use Rattle.tap_io.specs.MemorySink.{new_sink, write_answer, after_write};
+
+use crate::calls::Calls;
+use crate::no_memory::NoMemory;
+use crate::sink::{Sink, Took};
+use std::alloc::Global;
+use std::marker::Model;
+
+/// A sink in memory, which takes bytes in pieces, fails at the calls that are named, and fails where
+/// it is full.
+#[derive(Debug, Drop)]
+pub struct MemorySink {
+    bytes: Vec<u8>,
+    piece: usize,
+    room: usize,
+    calls: Calls,
+}
+
+impl Model for MemorySink {
+    ghost use Rattle.std.specs.Prelude.{◌≤◌, vec_len, vec_capacity};
+    ghost use Rattle.tap_io.specs.MemorySink.{SinkState};
+
+    ghost Value = { SinkState };
+
+    ghost view = { λ s.
+        record { held = s.bytes.items; piece = s.piece; room = s.room; calls = s.calls } };
+
+    ghost invariant = { λ s. record {
+      within : vec_len s.bytes ≤ s.room;
+      reserved : s.room ≤ vec_capacity s.bytes;
+      at_least_one : 1 ≤ s.piece;
+    } };
+}
+
+impl MemorySink {
+    /// An empty sink with memory for `room` bytes. A write takes at most `piece` of them, which is at
+    /// least 1. The writes whose numbers, counted from 1, are in `fails` are to fail.
+    ///
+    /// Answers `NoMemory` only where that memory was refused.
+    pub fn new(
+        alloc: Global,
+        piece: usize,
+        room: usize,
+        fails: &[u32],
+    ) -> Result<MemorySink, NoMemory>
+        requires { 1 ≤ piece }
+        ensures { IfOk result (λ s. s ≡ new_sink piece room fails.now) }
+    {
+        Ok(MemorySink {
+            bytes: Vec::with_capacity(alloc, room)?,
+            piece,
+            room,
+            calls: Calls::new(fails.to_vec(alloc)?),
+        })
+    }
+
+    /// The bytes that are held.
+    pub fn bytes(&self) -> &[u8]
+        ensures { result.now ≡ self.now.held }
+    {
+        &self.bytes
+    }
+}
+
+impl Sink for MemorySink {
+    ghost held = { λ s. Some s.held };
+
+    ghost faults = { λ s. s.calls.faults };
+
+    /// Fails exactly where the number of this call, counted from 1, is among those that are to fail,
+    /// or where the sink is full. Else it takes as many bytes as the least of the piece, the number of
+    /// bytes given and the room that is left. It takes no memory.
+    fn write(&mut self, bytes: &[u8]) -> Took
+        requires { 0 < length bytes.now }
+        ensures answer { result ≡ write_answer self.old (length bytes.now) }
+        ensures after { self.new ≡ after_write self.old bytes.now result }
+        ensures writes { Writes (Some self.old.held) (Some self.new.held)
+            self.old.calls.faults self.new.calls.faults bytes.now result }
+    {
+        let left = self.room - self.bytes.len();
+        let fails = self.calls.is_next_to_fail() || left == 0;
+        self.calls.count(fails);
+        if fails {
+            return Took::Failed;
+        }
+        let n = self.piece.min(bytes.len()).min(left);
+        self.bytes.extend_from_slice(&bytes[..n]).unwrap();
+        Took::Took(n)
+    }
+}

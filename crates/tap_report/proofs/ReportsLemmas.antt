@@ -1,0 +1,123 @@
+-- The puts of records, one after another.
+use Rattle.std.proofs.Common.{◌≡◌, ◌<◌, ℕ, zero, suc, ◌+◌, List, [], ◌∷◌, ◌++◌, length, take, get_or, true, Option, None, Some, IsNone, refl, sym, ap, ◌∙◌, subst, arith, append_assoc, append-nil, length-append}
+use Rattle.std.specs.Prelude.{◌↔◌, fold, is_some, IsSome}
+use Rattle.std.proofs.lemmas.List.{take_more}
+use Rattle.std.proofs.lemmas.List.Concat.{flat_map-append}
+use Rattle.std.proofs.lemmas.List.Elements.{All-get_or, All-push}
+use Rattle.std.proofs.lemmas.List.Sums.{fold-append}
+use Rattle.tap_name.specs.Settings.{Parameters}
+use Rattle.tap_log.specs.declared.record.Record.{Record}
+use Rattle.tap_log.specs.declared.record.Record.TheVariants.{Begin, Step, Walked, RootOf, Refused, Finished}
+use Rattle.tap_report.specs.Text.{IsBegin, IsPrintable, IsPrintableLog, BeginsOnce, text_of_record, text_of_log}
+use Rattle.tap_report.specs.Written.{WritesText}
+use Rattle.tap_report.specs.Reporter.{Kept, Puts, Finishes, PutsEach, PutsWriteTheText, Reports, kept_at_first, settings_after}
+use Rattle.tap_report.specs.declared.mode.Mode.{Mode}
+use Rattle.tap_report.specs.declared.written.Written.{Written}
+use Rattle.tap_report.specs.declared.written.Written.TheVariants.{All as AllWritten}
+use Rattle.tap_report.proofs.WritesLemmas.{WritesText-then, WritesText-none}
+
+-- before the first put
+pub Reports-new : (mode : Mode) (held : Option (List ℕ)) (faults : ℕ) → Reports mode [] held held faults faults (kept_at_first mode)
+Reports-new mode held faults = record { same_mode = refl; settings = refl; count = refl; text = WritesText-none held faults AllWritten }
+
+-- the text of a log with one record more
+pub text_of_log-push : (mode : Mode) (records : List Record) (item : Record)
+    → text_of_log mode (records ++ item ∷ []) ≡ text_of_log mode records ++ text_of_record mode item
+text_of_log-push mode records item =
+    flat_map-append (text_of_record mode) records (item ∷ []) ∙ ap (λ l. text_of_log mode records ++ l) (append-nil (text_of_record mode item))
+
+-- one put more
+pub Reports-put : {mode : Mode} {records : List Record} {old mid new : Option (List ℕ)} {before between now : ℕ} {kept then_kept : Kept}
+    {item : Record} {written : Written} → Reports mode records old mid before between kept → Puts kept then_kept item mid new between now written
+    → Reports mode (records ++ item ∷ []) old new before now then_kept
+Reports-put {mode = mode} {records = records} {mid = mid} {new = new} {between = between} {now = now} {kept = kept} {item = item} {written = written} r p =
+    let text = subst (λ m. WritesText mid new between now (text_of_record m item) kept.so_far written) r.same_mode p.text in
+    rw p.keeps (record {
+      same_mode = r.same_mode;
+      settings = ap (λ s. settings_after s item) r.settings ∙ sym (fold-append settings_after None records (item ∷ []));
+      count = ap (λ n. n + 1) r.count ∙ sym (length-append records (item ∷ []));
+      text = rw (text_of_log-push mode records item) (WritesText-then r.text text);
+    })
+
+-- a finish
+pub Reports-finish : {mode : Mode} {records : List Record} {old mid new : Option (List ℕ)} {before between now : ℕ} {kept then_kept : Kept}
+    {written : Written} → Reports mode records old mid before between kept → Finishes kept then_kept mid new between now written
+    → WritesText old new before now (text_of_log mode records) AllWritten written
+Reports-finish {mode = mode} {records = records} {old = old} {new = new} {before = before} {now = now} {written = written} r f =
+    subst (λ l. WritesText old new before now l AllWritten written) (append-nil (text_of_log mode records)) (WritesText-then r.text f.text)
+
+-- the put of the next record of a log
+pub Reports-next : {mode : Mode} {old mid new : Option (List ℕ)} {before between now : ℕ} {kept then_kept : Kept}
+    {written : Written} (records : List Record) (i : ℕ) (item : Record) → i < length records → item ≡ get_or records i item
+    → Reports mode (take i records) old mid before between kept → Puts kept then_kept item mid new between now written
+    → Reports mode (take (i + 1) records) old new before now then_kept
+Reports-next {mode = mode} {old = old} {new = new} {before = before} {now = now} {then_kept = then_kept} records i item inside is r p =
+    let same = take_more records i item inside ∙ ap (λ x. take i records ++ x ∷ []) (sym is) in
+    subst (λ l. Reports mode l old new before now then_kept) (sym same) (Reports-put r p)
+
+-- the settings of a `Begin` are kept
+begun : (first : Record) → IsBegin first → (s : Parameters) × (settings_after None first ≡ Some s)
+begun (Begin settings frames members) h = (settings, refl)
+begun (Step index step) h = cc
+begun (Walked object path) h = cc
+begun (RootOf object root) h = cc
+begun (Refused index refusal) h = cc
+begun (Finished steps) h = cc
+
+still_begun : (settings : Parameters) (item : Record) → (s : Parameters) × (settings_after (Some settings) item ≡ Some s)
+still_begun settings (Begin begun frames members) = (begun, refl)
+still_begun settings item = (settings, refl)
+
+always_begun : (records : List Record) (settings : Parameters) → IsSome (fold settings_after (Some settings) records)
+always_begun [] settings = refl
+always_begun (item ∷ items) settings =
+    let h = still_begun settings item in rw h.1 (always_begun items h.0)
+
+-- The next record of a log is a `Begin` exactly where none was put before.
+pub begins_next : (records : List Record) (i : ℕ) (item : Record) (settings : Option Parameters) → BeginsOnce records → i < length records
+    → item ≡ get_or records i item → settings ≡ fold settings_after None (take i records) → IsBegin item ↔ IsNone settings
+begins_next [] i item settings begins inside is kept = absurd (omega arith)
+begins_next (first ∷ rest) zero item settings begins inside is kept = (λ _. ap is_some kept, λ _. subst IsBegin (sym is) begins.0)
+begins_next (first ∷ rest) (suc i) item settings begins inside is kept =
+    let b = begun first begins.0 in
+    let later : i < length rest = omega arith in
+    let other = All-get_or (λ x. ¬ IsBegin x) rest i item later begins.1 in
+    let some : is_some settings ≡ true =
+    ap is_some (kept ∙ ap (λ s. fold settings_after s (take i rest)) b.1) ∙ always_begun (take i rest) b.0 in
+    (λ h. absurd (other (subst IsBegin is h)), λ h. cc)
+
+-- ---- the log that grows while it is printed
+
+-- a log with a beginning alone
+pub IsPrintableLog-first : (first : Record) → IsBegin first → IsPrintable first → IsPrintableLog (first ∷ [])
+IsPrintableLog-first first begins printable = record {
+  begins = (begins, λ k d inside. absurd (omega arith));
+  each = All-push IsPrintable [] first (λ k d inside. absurd (omega arith)) printable;
+}
+
+BeginsOnce-push : (records : List Record) (item : Record) → 0 < length records → ¬ IsBegin item → BeginsOnce records
+    → BeginsOnce (records ++ item ∷ [])
+BeginsOnce-push [] item some other begins = absurd (omega arith)
+BeginsOnce-push (first ∷ rest) item some other begins = (begins.0, All-push (λ x. ¬ IsBegin x) rest item begins.1 other)
+
+-- a log with one record more
+pub IsPrintableLog-push : (records : List Record) (item : Record) → 0 < length records → ¬ IsBegin item → IsPrintable item
+    → IsPrintableLog records → IsPrintableLog (records ++ item ∷ [])
+IsPrintableLog-push records item some other printable log = record {
+  begins = BeginsOnce-push records item some other log.begins;
+  each = All-push IsPrintable records item log.each printable;
+}
+
+-- ---- the law
+
+puts_each : (items done : List Record) (mode : Mode) (kept then_kept : Kept) (old mid new : Option (List ℕ)) (before between now : ℕ)
+    → Reports mode done old mid before between kept → PutsEach items kept then_kept mid new between now
+    → Reports mode (done ++ items) old new before now then_kept
+puts_each [] done mode kept then_kept old mid new before between now r p = rw (p.0, p.1, p.2, append-nil done) r
+puts_each (item ∷ items) done mode kept then_kept old mid new before between now r p =
+    rw (sym (append_assoc done (item ∷ []) items))
+    (puts_each items (done ++ item ∷ []) mode p.0 then_kept old p.1 new before p.2 now (Reports-put r p.4) p.5)
+
+pub puts_write_the_text_of_logs : PutsWriteTheText
+puts_write_the_text_of_logs mode records kept then_kept old mid new before between now written puts finishes =
+    Reports-finish (puts_each records [] mode (kept_at_first mode) kept old old mid before before between (Reports-new mode old before) puts) finishes

@@ -1,0 +1,8 @@
+use Rattle.std.proofs.Common.{take}
+use Rattle.tap_report.specs.Reporter.{Reports}
+use Rattle.tap_report.proofs.tests.put_each.Given as goal
+
+abbrev pub invariant-loop-item : goal.invariant-loop-item
+invariant-loop-item g l =
+    Reports l.fn.mode (take l.item-index l.records) (g.K.Sink.held l.fn.sink) (g.K.Sink.held l.sink)
+    (g.K.Sink.faults l.fn.sink) (g.K.Sink.faults l.sink) l.reporter

@@ -1,0 +1,5 @@
+pub mod Written
+pub mod Outgoing
+pub mod Refusal
+pub mod Text
+pub mod Reporter

@@ -1,0 +1,18 @@
+//! The text of a log, written to a sink: a line for each record, whole or in brief.
+//!
+//! A [`Reporter`] writes record by record while a run goes on, and [`write_log`] a whole log at once. Neither takes
+//! memory. After a failed write nothing more is written.
+#![tactic(auto)]
+
+mod lines;
+mod mode;
+mod outgoing;
+mod reporter;
+mod written;
+
+pub use mode::Mode;
+pub use reporter::{Reporter, puts_write_the_text, write_log};
+pub use written::{Written, write_text};
+
+#[cfg(test)]
+mod tests;

@@ -1,0 +1,108 @@
+ghost use Rattle.std.specs.Prelude.{◌≡◌, ◌<◌, ◌↔◌, IsNone};
+ghost use Rattle.tap_report.specs.Reporter.{Finishes, Puts, PutsWriteTheText, kept_at_first, settings_after};
+ghost use Rattle.tap_report.specs.Text.{IsBegin, IsPrintable, IsPrintableLog, text_of_log};
+ghost use Rattle.tap_report.specs.Written.{WritesText};
+
+use crate::mode::Mode;
+use crate::outgoing::Outgoing;
+use crate::written::{Written, write_text};
+use std::marker::Model;
+use tap_io::Sink;
+use tap_log::{Log, Record};
+use tap_name::Settings;
+
+/// Writes the text of a run, record by record.
+///
+/// Contracts see what it keeps: the mode, the settings of the `Begin` that was put, how many records were put, and
+/// whether all was written. It takes no memory.
+#[derive(Debug, Drop)]
+pub struct Reporter {
+    mode: Mode,
+    settings: Option<Settings>,
+    records: u32,
+    so_far: Written,
+}
+
+impl Model for Reporter {
+    ghost use Rattle.tap_report.specs.Reporter.{Kept};
+
+    ghost Value = { Kept };
+
+    ghost view = { λ r. record { mode = r.mode; settings = r.settings; records = r.records; so_far = r.so_far } };
+}
+
+impl Reporter {
+    /// A reporter to which nothing was put.
+    pub fn new(mode: Mode) -> Reporter
+        ensures { result ≡ kept_at_first mode }
+    {
+        Reporter {
+            mode,
+            settings: None,
+            records: 0,
+            so_far: Written::All,
+        }
+    }
+
+    /// Writes the text of one record. The first record, and no other one, is a `Begin`, the path of a walk isn't empty,
+    /// and fewer than 4,000,000,000 records were put.
+    ///
+    /// The first `Failed` comes only where the sink counted a fault in this call, and some first bytes of the text are
+    /// then written. After it each call answers `Failed` and writes nothing. A record that isn't written counts as put.
+    pub fn put<K: Sink>(&mut self, item: &Record, sink: &mut K) -> Written
+        requires begins { IsBegin item.now ↔ IsNone self.old.settings }
+        requires printable { IsPrintable item.now }
+        requires few { self.old.records < 4000000000 }
+        ensures { Puts self.old self.new item.now (K.held sink.old) (K.held sink.new)
+            (K.faults sink.old) (K.faults sink.new) result }
+    {
+        let mut text = Outgoing::new(self.so_far);
+        text.add_record(sink, self.mode, item);
+        self.so_far = text.pass_on(sink);
+        self.settings = settings_with(self.settings, item);
+        self.records += 1;
+        self.so_far
+    }
+
+    /// Ends the text. In both modes nothing follows the last record, so nothing is written, and the answer tells whether
+    /// all was.
+    pub fn finish<K: Sink>(&mut self, sink: &mut K) -> Written
+        ensures { Finishes self.old self.new (K.held sink.old) (K.held sink.new)
+            (K.faults sink.old) (K.faults sink.new) result }
+    {
+        self.so_far = write_text(sink, self.so_far, b"");
+        self.so_far
+    }
+}
+
+// The settings of the `Begin` that was put, with one record more.
+fn settings_with(settings: Option<Settings>, item: &Record) -> Option<Settings>
+    ensures { result ≡ settings_after settings item.now }
+{
+    match item {
+        Record::Begin { settings, .. } => Some(*settings),
+        _ => settings,
+    }
+}
+
+/// Writes the text of a log, as the puts of its records and a finish do, and in larger pieces. Takes no memory.
+///
+/// The log is empty, or its first record is its only `Begin`, and the path of no walk is empty. `Failed` comes only where
+/// the sink counted a fault in this call, and some first bytes of the text are then written.
+pub fn write_log<K: Sink>(mode: Mode, log: &Log, sink: &mut K) -> Written
+    requires { IsPrintableLog log.now.records }
+    ensures { WritesText (K.held sink.old) (K.held sink.new)
+        (K.faults sink.old) (K.faults sink.new) (text_of_log mode log.now.records) Written.All result }
+{
+    let mut text = Outgoing::new(Written::All);
+    let records = log.as_slice();
+    for item in records {
+        text.add_record(sink, mode, item);
+    }
+    text.pass_on(sink)
+}
+
+/// A law that runs nothing: the puts of a log's records to a new reporter, and then a finish, write the text of the log.
+pub fn puts_write_the_text()
+    ensures { PutsWriteTheText }
+{}

@@ -1,0 +1,40 @@
+ghost use Rattle.tap_report.specs.Written.{WritesText};
+
+use tap_io::{Sink, Took};
+
+/// Whether all was written.
+#[derive(Clone, Copy, Debug, PartialEq, Eq)]
+pub enum Written {
+    /// All was written.
+    All,
+    /// A write failed, and nothing was written after it.
+    Failed,
+}
+
+/// Writes a text, where all before it was written, as `so_far` tells. The first `Failed` comes only where the sink counted
+/// a fault in this call, and some first bytes of the text are then written. Where `so_far` is `Failed`, nothing is written,
+/// and the answer is `Failed`.
+pub fn write_text<K: Sink>(sink: &mut K, so_far: Written, text: &[u8]) -> Written
+    ensures { WritesText (K.held sink.old) (K.held sink.new)
+        (K.faults sink.old) (K.faults sink.new) text.now so_far result }
+{
+    match so_far {
+        Written::Failed => Written::Failed,
+        Written::All => write_all(sink, text),
+    }
+}
+
+// Writes all of a text, or a first part where a write fails.
+fn write_all<K: Sink>(sink: &mut K, text: &[u8]) -> Written
+    ensures { WritesText (K.held sink.old) (K.held sink.new)
+        (K.faults sink.old) (K.faults sink.new) text.now Written.All result }
+{
+    let mut done = 0;
+    while done < text.len() {
+        match sink.write(&text[done..]) {
+            Took::Took(n) => done += n,
+            Took::Failed => return Written::Failed,
+        }
+    }
+    Written::All
+}

@@ -1,0 +1,189 @@
+-- what is read is within its limits
+use Rattle.std.proofs.Common.{◌≡◌, ◌&&◌, not, ℕ, suc, ◌+◌, ◌≤◌, nat_le, true, false, bytes_eq, pos, negsuc, arith, List, [], ◌∷◌, length, All, Option, None, Some, Result, Ok, Err, refl, ap, sym, inl, inr}
+use Rattle.std.specs.List.{list_any}
+use Rattle.std.specs.Option.{ok_or, option_and_then, is_some}
+use Rattle.std.proofs.lemmas.Bool.{cases_Bool, and_parts, or_parts, leb-true, not-true}
+use Rattle.std.proofs.lemmas.Bool.Decides.{nat_tests}
+use Rattle.std.proofs.lemmas.List.Elements.{All-nil, All-cons}
+use Rattle.std.proofs.lemmas.List.Kept.{AllPairs-cons}
+use Rattle.std.proofs.lemmas.Slice.Eq.{bytes_eq-Decides}
+use Rattle.toml.specs.Data.{Data, string, integer, float, boolean, datetime, array, table, Members as Table}
+use Rattle.tap_name.specs.Settings.{Parameters, AreWithinLimits}
+use Rattle.tap_name.specs.Name.{IsName}
+use Rattle.tap_scenario.specs.declared.fault.Key.{Key}
+use Rattle.tap_scenario.specs.declared.fault.Key.TheVariants.{Base, Digits, Width, Frames, Members, Steps}
+use Rattle.tap_scenario.specs.declared.fault.Fault.{Fault}
+use Rattle.tap_scenario.specs.declared.fault.Fault.TheVariants.{BadValue, BadStep}
+use Rattle.tap_scenario.specs.declared.step.Step.{Step}
+use Rattle.tap_scenario.specs.Document.{read_at, settings_of, default_frames, frames_of, members_of, numbered_step, steps_from, steps_of}
+use Rattle.tap_scenario.specs.Key.{value_at}
+use Rattle.tap_scenario.specs.Scenario.{IsScript, AreDistinct, most_frames}
+use Rattle.tap_scenario.specs.Step.{IsStep, name_of_word, step_of_text}
+use Rattle.tap_scenario.specs.Fault.{◌>>=◌, cons_result}
+use Rattle.tap_scenario.specs.Value.{whole_number, array_of_strings, are_distinct, cons_option, names_of, distinct_names, members_of_texts}
+use Rattle.tap_scenario.proofs.Names.{name_of_word-back}
+use Rattle.tap_scenario.proofs.Steps.{step_of_text-back}
+
+then-Ok : {A B : Type 0} (r : Result A Fault) (next : A → Result B Fault) (y : B) → (r >>= next) ≡ Ok y → (x : A) × (r ≡ Ok x) × (next x ≡ Ok y)
+then-Ok (Ok x) next y e = (x, refl, e)
+then-Ok (Err fault) next y e = absurd (cc)
+
+ok_or-Ok : {A : Type 0} (o : Option A) (fault : Fault) (x : A) → ok_or o fault ≡ Ok x → o ≡ Some x
+ok_or-Ok None fault x e = absurd (cc)
+ok_or-Ok (Some y) fault x e = cc
+
+and_then-Some : {A B : Type 0} (f : A → Option B) (o : Option A) (y : B) → option_and_then f o ≡ Some y → (x : A) × (o ≡ Some x) × (f x ≡ Some y)
+and_then-Some f None y e = absurd (cc)
+and_then-Some f (Some x) y e = (x, refl, e)
+
+whole_number-limits : (low high : ℕ) (value : Data) (n : ℕ) → whole_number low high value ≡ Some n → (low ≤ n) × (n ≤ high)
+whole_number-limits low high (integer (pos m)) n e =
+    elim (cases_Bool (nat_le low m && nat_le m high)) [
+      | inl within ↦
+          let tests = and_parts (nat_le low m) (nat_le m high) within in
+          let same : Some m ≡ Some n = rw within at e in
+          let is : m ≡ n = cc in
+          rw (← is) (leb-true low m tests.0, leb-true m high tests.1)
+      | inr out ↦ absurd (let none : None ≡ Some n = rw out at e in cc)
+    ]
+whole_number-limits low high (integer (negsuc m)) n e = absurd (cc)
+whole_number-limits low high (string text) n e = absurd (cc)
+whole_number-limits low high (float x) n e = absurd (cc)
+whole_number-limits low high (boolean b) n e = absurd (cc)
+whole_number-limits low high (datetime d) n e = absurd (cc)
+whole_number-limits low high (array items) n e = absurd (cc)
+whole_number-limits low high (table entries) n e = absurd (cc)
+
+number_at-limits : (key : Key) (low high : ℕ) (t : Table) (n : ℕ) → read_at key (whole_number low high) t ≡ Ok n → (low ≤ n) × (n ≤ high)
+number_at-limits key low high t n e =
+    let value = and_then-Some (whole_number low high) (value_at key t) n (ok_or-Ok _ (BadValue key) n e) in
+    whole_number-limits low high value.0 n value.2
+
+settings_of-limits : (t : Table) (p : Parameters) → settings_of t ≡ Ok p → AreWithinLimits p
+settings_of-limits t p e =
+    let base = then-Ok (read_at Base (whole_number 2 16) t) _ p e in
+    let digits = then-Ok (read_at Digits (whole_number 1 40) t) _ p base.2 in
+    let width = then-Ok (read_at Width (whole_number 1 4) t) _ p digits.2 in
+    let given : Parameters = record { base = base.0; digits = digits.0; width = width.0 } in
+    let same : given ≡ p = cc in
+    let b = number_at-limits Base 2 16 t base.0 base.1 in
+    let d = number_at-limits Digits 1 40 t digits.0 digits.1 in
+    let w = number_at-limits Width 1 4 t width.0 width.1 in
+    rw (← same) (record { base_from = b.0; base_to = b.1; digits_from = d.0; digits_to = d.1; width_from = w.0; width_to = w.1 })
+
+default_frames-limits : (digits : ℕ) → (1 ≤ default_frames digits) × (default_frames digits ≤ most_frames digits)
+default_frames-limits digits = (grind (arith, nat_tests), grind (arith, nat_tests))
+
+frames_of-limits : (p : Parameters) (t : Table) (n : ℕ) → frames_of p t ≡ Ok n → (1 ≤ n) × (n ≤ most_frames p.digits)
+frames_of-limits p t n e =
+    elim (cases_Bool (is_some (value_at Frames t))) [
+      | inl there ↦ number_at-limits Frames 1 (most_frames p.digits) t n (rw there at e)
+      | inr absent ↦
+          let same : Ok (default_frames p.digits) ≡ Ok n = rw absent at e in
+          let is : default_frames p.digits ≡ n = cc in
+          rw (← is) (default_frames-limits p.digits)
+    ]
+
+cons_option-Some : {A : Type 0} (first : Option A) (others : Option (List A)) (all : List A) → cons_option first others ≡ Some all → (x : A) × (xs : List A) × (first ≡ Some x) × (others ≡ Some xs) × (x ∷ xs ≡ all)
+cons_option-Some None others all e = absurd (cc)
+cons_option-Some (Some x) None all e = absurd (cc)
+cons_option-Some (Some x) (Some xs) all e = (x, xs, refl, refl, cc)
+
+names_of-names : (p : Parameters) (texts : List (List ℕ)) (names : List (List ℕ)) → p.base ≤ 16 → names_of p texts ≡ Some names → (length names ≡ length texts) × All (IsName p) names
+names_of-names p [] names small e = let none : [] ≡ names = cc in rw (← none) (refl, All-nil (IsName p))
+names_of-names p (text ∷ others) names small e =
+    let parts = cons_option-Some (name_of_word p text) (names_of p others) names e in
+    let first = name_of_word-back p text parts.0 small parts.2 in
+    let rest = names_of-names p others parts.1 small parts.3 in
+    rw (← parts.4) (ap suc rest.0, All-cons (IsName p) parts.0 parts.1 first.1 rest.1)
+
+differ : (name : List ℕ) (others : List (List ℕ)) → list_any (λ other. bytes_eq other name) others ≡ false → All (λ other. name ≡ other → ⊥) others
+differ name [] e = All-nil (λ other. name ≡ other → ⊥)
+differ name (other ∷ others) e =
+    let parts = or_parts (bytes_eq other name) (list_any (λ o. bytes_eq o name) others) e in
+    All-cons (λ o. name ≡ o → ⊥) other others (λ same. let yes = (bytes_eq-Decides other name).1 (sym same) in absurd (cc)) (differ name others parts.1)
+
+AreDistinct-test : (names : List (List ℕ)) → are_distinct names ≡ true → AreDistinct names
+AreDistinct-test [] e = λ i j d l m. absurd (omega arith)
+AreDistinct-test (name ∷ others) e =
+    let parts = and_parts (not (list_any (λ other. bytes_eq other name) others)) (are_distinct others) e in
+    AllPairs-cons (λ x y. x ≡ y → ⊥) name others (differ name others (not-true _ parts.0)) (AreDistinct-test others parts.1)
+
+-- what a script has of its members
+record AreMembers (p : Parameters) (names : List (List ℕ)) : Type 0 where
+  from : 1 ≤ length names
+  to : length names ≤ 64
+  are_names : All (IsName p) names
+  distinct : AreDistinct names
+
+members_of_texts-limits : (p : Parameters) (texts names : List (List ℕ)) → p.base ≤ 16 → members_of_texts p texts ≡ Some names → AreMembers p names
+members_of_texts-limits p texts names small e =
+    elim (cases_Bool (nat_le 1 (length texts) && nat_le (length texts) 64)) [
+      | inr out ↦ absurd (let none : None ≡ Some names = rw out at e in cc)
+      | inl within ↦
+          let tests = and_parts (nat_le 1 (length texts)) (nat_le (length texts) 64) within in
+          let from = leb-true 1 (length texts) tests.0 in
+          let to = leb-true (length texts) 64 tests.1 in
+          let found = and_then-Some distinct_names (names_of p texts) names (rw within at e) in
+          let read = names_of-names p texts found.0 small found.1 in
+          elim (cases_Bool (are_distinct found.0)) [
+            | inr twice ↦ absurd (let none : None ≡ Some names = rw twice at found.2 in cc)
+            | inl distinct ↦
+                let whole : Some found.0 ≡ Some names = rw distinct at found.2 in
+                let same : found.0 ≡ names = cc in
+                rw (← same) (record { from = omega arith; to = omega arith; are_names = read.1; distinct = AreDistinct-test found.0 distinct })
+          ]
+    ]
+
+members_of-limits : (p : Parameters) (t : Table) (names : List (List ℕ)) → p.base ≤ 16 → members_of p t ≡ Ok names → AreMembers p names
+members_of-limits p t names small e =
+    let texts = then-Ok (read_at Members array_of_strings t) _ names e in
+    members_of_texts-limits p texts.0 names small (ok_or-Ok _ (BadValue Members) names texts.2)
+
+cons_result-Ok : {A : Type 0} (first : Result A Fault) (others : Result (List A) Fault) (all : List A) → cons_result first others ≡ Ok all → (x : A) × (xs : List A) × (first ≡ Ok x) × (others ≡ Ok xs) × (x ∷ xs ≡ all)
+cons_result-Ok (Err fault) others all e = absurd (cc)
+cons_result-Ok (Ok x) (Err fault) all e = absurd (cc)
+cons_result-Ok (Ok x) (Ok xs) all e = (x, xs, refl, refl, cc)
+
+numbered_step-Ok : (p : Parameters) (number : ℕ) (text : List ℕ) (step : Step) → p.base ≤ 16 → numbered_step p number text ≡ Ok step → (number ≤ 10000) × IsStep p step
+numbered_step-Ok p number text step small e =
+    elim (cases_Bool (nat_le number 10000)) [
+      | inr out ↦ absurd (let none : Err (BadStep number) ≡ Ok step = rw out at e in cc)
+      | inl within ↦
+          let read = ok_or-Ok (step_of_text p text) (BadStep number) step (rw within at e) in
+          (leb-true number 10000 within, (step_of_text-back p text step small read).1)
+    ]
+
+steps_from-limits : (p : Parameters) (number : ℕ) (texts : List (List ℕ)) (steps : List Step) → p.base ≤ 16 → number ≤ 10001 → steps_from p number texts ≡ Ok steps → (number + length steps ≤ 10001) × All (IsStep p) steps
+steps_from-limits p number [] steps small few e = let none : [] ≡ steps = cc in rw (← none) (omega arith, All-nil (IsStep p))
+steps_from-limits p number (text ∷ others) steps small few e =
+    let parts = cons_result-Ok (numbered_step p number text) (steps_from p (number + 1) others) steps e in
+    let first = numbered_step-Ok p number text parts.0 small parts.2 in
+    let rest = steps_from-limits p (number + 1) others parts.1 small (omega arith) parts.3 in
+    rw (← parts.4) (omega arith, All-cons (IsStep p) parts.0 parts.1 first.1 rest.1)
+
+steps_of-limits : (p : Parameters) (t : Table) (steps : List Step) → p.base ≤ 16 → steps_of p t ≡ Ok steps → (length steps ≤ 10000) × All (IsStep p) steps
+steps_of-limits p t steps small e =
+    let texts = then-Ok (read_at Steps array_of_strings t) _ steps e in
+    let read = steps_from-limits p 1 texts.0 steps small (omega arith) texts.2 in
+    (omega arith, read.1)
+
+-- the parts that a table gives are a script's
+pub IsScript-parts : (t : Table) (p : Parameters) (frames : ℕ) (members : List (List ℕ)) (steps : List Step) → settings_of t ≡ Ok p → frames_of p t ≡ Ok frames → members_of p t ≡ Ok members → steps_of p t ≡ Ok steps
+    → IsScript (record { settings = p; frames = frames; members = members; steps = steps })
+IsScript-parts t p frames members steps is_p is_frames is_members is_steps =
+    let settings = settings_of-limits t p is_p in
+    let count = frames_of-limits p t frames is_frames in
+    let names = members_of-limits p t members settings.base_to is_members in
+    let read = steps_of-limits p t steps settings.base_to is_steps in
+    record {
+      settings = settings;
+      frames_from = count.0;
+      frames_to = count.1;
+      members_from = names.from;
+      members_to = names.to;
+      members = names.are_names;
+      distinct = names.distinct;
+      steps_to = read.0;
+      steps = read.1;
+    }

@@ -1,0 +1,75 @@
+-- the scenario that a text is, over the TOML table that it writes
+use Rattle.std.specs.Prelude.{ℕ, ◌+◌, nat_le, List, [], ◌∷◌, Option, None, Some, is_some, ok_or, option_and_then, Result, Ok, Err, if◌then◌else◌}
+use Rattle.std.specs.Str.{is_utf8}
+use Rattle.toml.specs.Data.{Data, Members as Table}
+use Rattle.toml.specs.Parse.{parse_document}
+use Rattle.tap_name.specs.Settings.{Parameters}
+use Rattle.tap_scenario.specs.declared.fault.Key.{Key}
+use Rattle.tap_scenario.specs.declared.fault.Key.TheVariants.{Base, Digits, Width, Frames, Members, Steps}
+use Rattle.tap_scenario.specs.declared.fault.Fault.{Fault}
+use Rattle.tap_scenario.specs.declared.fault.Fault.TheVariants.{NotUtf8, NotToml, BadKey, BadValue, BadStep}
+use Rattle.tap_scenario.specs.declared.step.Step.{Step}
+use Rattle.tap_scenario.specs.Key.{value_at, wrong_key}
+use Rattle.tap_scenario.specs.Scenario.{Script, most_frames}
+use Rattle.tap_scenario.specs.Step.{step_of_text}
+use Rattle.tap_scenario.specs.Fault.{◌>>=◌, cons_result}
+use Rattle.tap_scenario.specs.Value.{whole_number, array_of_strings, members_of_texts}
+
+-- what the value under a key is read as, where it is as it has to be
+abbrev pub read_at : {A : Type 0} → Key → (Data → Option A) → Table → Result A Fault
+read_at key reading table = ok_or (option_and_then reading (value_at key table)) (BadValue key)
+
+abbrev pub settings_of : Table → Result Parameters Fault
+settings_of table =
+    read_at Base (whole_number 2 16) table >>= (λ base.
+    read_at Digits (whole_number 1 40) table >>= (λ digits.
+    read_at Width (whole_number 1 4) table >>= (λ width.
+    let settings : Parameters = record { base = base; digits = digits; width = width } in Ok settings)))
+
+-- the limit of frames where the text gives none, by the number of digits
+abbrev pub default_frames : ℕ → ℕ
+default_frames digits = if nat_le digits 8 then 200000 else 100000
+
+abbrev pub frames_of : Parameters → Table → Result ℕ Fault
+frames_of p table =
+    if is_some (value_at Frames table) then read_at Frames (whole_number 1 (most_frames p.digits)) table else Ok (default_frames p.digits)
+
+abbrev pub members_of : Parameters → Table → Result (List (List ℕ)) Fault
+members_of p table = read_at Members array_of_strings table >>= (λ texts. ok_or (members_of_texts p texts) (BadValue Members))
+
+-- the step of the string of this number, which is at most 10,000
+abbrev pub numbered_step : Parameters → ℕ → List ℕ → Result Step Fault
+numbered_step p number text = if nat_le number 10000 then ok_or (step_of_text p text) (BadStep number) else Err (BadStep number)
+
+-- the steps of these strings, of which the first has this number
+abbrev pub steps_from : Parameters → ℕ → List (List ℕ) → Result (List Step) Fault
+steps_from p number [] = Ok []
+steps_from p number (text ∷ others) = cons_result (numbered_step p number text) (steps_from p (number + 1) others)
+
+abbrev pub steps_of : Parameters → Table → Result (List Step) Fault
+steps_of p table = read_at Steps array_of_strings table >>= steps_from p 1
+
+-- the scenario of a table whose keys are right
+abbrev pub script_of : Table → Result Script Fault
+script_of table =
+    settings_of table >>= (λ settings.
+    frames_of settings table >>= (λ frames.
+    members_of settings table >>= (λ members.
+    steps_of settings table >>= (λ steps.
+    let script : Script = record { settings = settings; frames = frames; members = members; steps = steps } in Ok script))))
+
+abbrev pub unless_wrong : Option Key → Result Script Fault → Result Script Fault
+unless_wrong (Some key) answer = Err (BadKey key)
+unless_wrong None answer = answer
+
+-- the scenario of a table
+abbrev pub scenario_of_table : Table → Result Script Fault
+scenario_of_table table = unless_wrong (wrong_key table) (script_of table)
+
+abbrev pub scenario_of_document : Option Table → Result Script Fault
+scenario_of_document None = Err NotToml
+scenario_of_document (Some table) = scenario_of_table table
+
+-- the scenario that these bytes are, or the first fault
+unfoldable pub scenario_of : List ℕ → Result Script Fault
+scenario_of bytes = if is_utf8 bytes then scenario_of_document (parse_document bytes) else Err NotUtf8

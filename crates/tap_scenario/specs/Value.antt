@@ -1,0 +1,52 @@
+-- what the values of a scenario's text have to be
+use Rattle.std.specs.Prelude.{ℕ, pos, nat_le, Bool, true, false, ◌&&◌, not, bytes_eq, List, [], ◌∷◌, length, Option, None, Some, option_and_then, if◌then◌else◌}
+use Rattle.std.specs.List.{list_any}
+use Rattle.toml.specs.Data.{Data, string, integer, array, Items, no_items, item}
+use Rattle.tap_name.specs.Settings.{Parameters}
+use Rattle.tap_scenario.specs.Step.{name_of_word}
+
+-- a whole number within these limits
+abbrev pub whole_number : ℕ → ℕ → Data → Option ℕ
+whole_number low high (integer (pos n)) = if nat_le low n && nat_le n high then Some n else None
+whole_number low high _ = None
+
+-- whether each of these is a string
+abbrev pub are_strings : Items → Bool
+are_strings no_items = true
+are_strings (item (string text) others) = are_strings others
+are_strings (item _ others) = false
+
+-- the texts of the strings among these
+abbrev pub texts_of : Items → List (List ℕ)
+texts_of no_items = []
+texts_of (item (string text) others) = text ∷ texts_of others
+texts_of (item _ others) = texts_of others
+
+-- an array of strings
+abbrev pub array_of_strings : Data → Option (List (List ℕ))
+array_of_strings (array items) = if are_strings items then Some (texts_of items) else None
+array_of_strings _ = None
+
+-- whether no two of these are the same
+abbrev pub are_distinct : List (List ℕ) → Bool
+are_distinct [] = true
+are_distinct (name ∷ others) = not (list_any (λ other. bytes_eq other name) others) && are_distinct others
+
+-- one more at the front, where both are there
+abbrev pub cons_option : {A : Type 0} → Option A → Option (List A) → Option (List A)
+cons_option (Some first) (Some others) = Some (first ∷ others)
+cons_option _ _ = None
+
+-- texts that are names
+abbrev pub names_of : Parameters → List (List ℕ) → Option (List (List ℕ))
+names_of p [] = Some []
+names_of p (text ∷ others) = cons_option (name_of_word p text) (names_of p others)
+
+-- names of which no two are the same
+abbrev pub distinct_names : List (List ℕ) → Option (List (List ℕ))
+distinct_names names = if are_distinct names then Some names else None
+
+-- 1 to 64 texts that are distinct names
+abbrev pub members_of_texts : Parameters → List (List ℕ) → Option (List (List ℕ))
+members_of_texts p texts =
+    if nat_le 1 (length texts) && nat_le (length texts) 64 then option_and_then distinct_names (names_of p texts) else None

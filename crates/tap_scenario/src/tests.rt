@@ -1,0 +1,361 @@
+use crate::{Fault, Key, ReadRefusal, Scenario, Step, read, read_step};
+use std::alloc::{AllocError, Global};
+use std::test::Fail;
+use tap_name::{List, Name, Settings, read_name};
+
+// A scenario's lines, each under its key.
+const LINES: [(&str, &str); 5] = [
+    ("base", "base = 4\n"),
+    ("digits", "digits = 3\n"),
+    ("width", "width = 2\n"),
+    (
+        "members",
+        "members = [\"000\", \"012\", \"230\", \"233\", \"301\"]\n",
+    ),
+    ("steps", "steps = [\"walk 123 from 000\"]\n"),
+];
+
+// Texts, with the limit of frames, the members' number and the steps' number.
+const TEXTS: [(&str, (u32, usize, usize)); 8] = [
+    (
+        "base = 4\ndigits = 3\nwidth = 2\nmembers = [\"000\", \"012\"]\nsteps = [\"walk 333 from 012\"]\n",
+        (200_000, 2, 1),
+    ),
+    (
+        "base = 16\ndigits = 4\nwidth = 2\nmembers = [\"beef\"]\nsteps = [\"walk 0000 from beef\"]\n",
+        (200_000, 1, 1),
+    ),
+    (
+        "base = 2\ndigits = 1\nwidth = 1\nmembers = [\"0\", \"1\"]\nsteps = [\"walk 1 from 0\", \"root 0\"]\n",
+        (200_000, 2, 2),
+    ),
+    (
+        "base = 16\ndigits = 8\nwidth = 2\nmembers = [\"89abcdee\", \"89abcdef\"]\nsteps = [\"walk 00000000 from 89abcdef\"]\n",
+        (200_000, 2, 1),
+    ),
+    (
+        "base = 4\ndigits = 3\nwidth = 2\nmembers = [\"000\"]\nsteps = []\n",
+        (200_000, 1, 0),
+    ),
+    (
+        "frames = 7\nbase = 0x10\ndigits = 9\nwidth = 4\nmembers = [\"012345678\"]\nsteps = [\"root fffffffff\"]\n",
+        (7, 1, 1),
+    ),
+    (
+        "base = 16\ndigits = 9\nwidth = 4\nmembers = [\"012345678\"]\nsteps = []\n",
+        (100_000, 1, 0),
+    ),
+    (
+        "frames = 100000\nbase = 16\ndigits = 9\nwidth = 4\nmembers = [\"012345678\"]\nsteps = []\n",
+        (100_000, 1, 0),
+    ),
+];
+
+// Lines, each in place of its key's, with what is then wrong.
+const REFUSED: [(&str, &str, Fault); 38] = [
+    ("base", "base = 4\nbase = 4\n", Fault::NotToml),
+    ("steps", "steps = [\n", Fault::NotToml),
+    ("base", "", Fault::BadKey(Key::Base)),
+    ("digits", "", Fault::BadKey(Key::Digits)),
+    ("width", "", Fault::BadKey(Key::Width)),
+    ("members", "", Fault::BadKey(Key::Members)),
+    ("steps", "", Fault::BadKey(Key::Steps)),
+    ("base", "[base]\n", Fault::BadKey(Key::Digits)),
+    ("more", "more = 1\n", Fault::BadKey(Key::Unknown)),
+    ("more", "base = 4\nunknown = 1\n", Fault::NotToml),
+    ("width", "wide = 2\n", Fault::BadKey(Key::Width)),
+    ("base", "base = 1\n", Fault::BadValue(Key::Base)),
+    ("base", "base = 17\n", Fault::BadValue(Key::Base)),
+    ("base", "base = -4\n", Fault::BadValue(Key::Base)),
+    ("base", "base = 4.0\n", Fault::BadValue(Key::Base)),
+    ("base", "base = \"4\"\n", Fault::BadValue(Key::Base)),
+    ("digits", "digits = 0\n", Fault::BadValue(Key::Digits)),
+    ("digits", "digits = 41\n", Fault::BadValue(Key::Digits)),
+    ("digits", "digits = 40\n", Fault::BadValue(Key::Members)),
+    ("width", "width = 0\n", Fault::BadValue(Key::Width)),
+    ("width", "width = 5\n", Fault::BadValue(Key::Width)),
+    ("frames", "frames = 0\n", Fault::BadValue(Key::Frames)),
+    ("frames", "frames = 500001\n", Fault::BadValue(Key::Frames)),
+    (
+        "frames",
+        "frames = 4294967297\n",
+        Fault::BadValue(Key::Frames),
+    ),
+    ("frames", "frames = true\n", Fault::BadValue(Key::Frames)),
+    ("members", "members = []\n", Fault::BadValue(Key::Members)),
+    (
+        "members",
+        "members = \"000\"\n",
+        Fault::BadValue(Key::Members),
+    ),
+    (
+        "members",
+        "members = [[\"000\"]]\n",
+        Fault::BadValue(Key::Members),
+    ),
+    (
+        "members",
+        "members = [\"000\", 1]\n",
+        Fault::BadValue(Key::Members),
+    ),
+    (
+        "members",
+        "members = [\"004\"]\n",
+        Fault::BadValue(Key::Members),
+    ),
+    (
+        "members",
+        "members = [\"0000\"]\n",
+        Fault::BadValue(Key::Members),
+    ),
+    (
+        "members",
+        "members = [\"000\", \"012\", \"000\"]\n",
+        Fault::BadValue(Key::Members),
+    ),
+    (
+        "steps",
+        "steps = \"root 000\"\n",
+        Fault::BadValue(Key::Steps),
+    ),
+    (
+        "steps",
+        "steps = [\"root\", 1]\n",
+        Fault::BadValue(Key::Steps),
+    ),
+    (
+        "steps",
+        "steps = [\"walk 123  from 000\"]\n",
+        Fault::BadStep(1),
+    ),
+    (
+        "steps",
+        "steps = [\"walk 12F from 000\"]\n",
+        Fault::BadStep(1),
+    ),
+    (
+        "steps",
+        "steps = [\"root 000\", \"root 000 \"]\n",
+        Fault::BadStep(2),
+    ),
+    (
+        "steps",
+        "steps = [\"root 000\", \"settle\", \"\"]\n",
+        Fault::BadStep(2),
+    ),
+];
+
+// Texts that are no step of names of three digits below 4.
+const NO_STEPS: [&str; 25] = [
+    "",
+    " ",
+    "walk",
+    "root",
+    "root ",
+    " root 123",
+    "root 123 ",
+    "root  123",
+    "root\t123",
+    "root 12",
+    "root 1234",
+    "root 124",
+    "Root 123",
+    "roots 123",
+    "root 123 from 000",
+    "walk 123",
+    "walk 123 from",
+    "walk 123 from ",
+    "walk 123  from 000",
+    "walk 123 to 000",
+    "walk 123 from 00A",
+    "walk 123 from 000 ",
+    "walk from 123 000",
+    "find 123 from 000",
+    "settle",
+];
+
+// The text of these lines, with this one in place of its key's.
+fn text_with(alloc: Global, key: &str, line: &str) -> Result<String, AllocError> {
+    let mut text = String::from_str(alloc, line)?;
+    for (other, default) in LINES.iter() {
+        if *other != key {
+            text.push_str(default)?;
+        }
+    }
+    Ok(text)
+}
+
+// The frames, the members' number and the steps' number that a text gives.
+fn counts(alloc: Global, text: &str) -> Result<(u32, usize, usize), ReadRefusal> {
+    match read(alloc, text.as_bytes()) {
+        Ok(scenario) => Ok((
+            scenario.frames(),
+            scenario.members().len(),
+            scenario.step_count(),
+        )),
+        Err(refusal) => Err(refusal),
+    }
+}
+
+#[test]
+fn refuses_steps(rt: HostRuntime) -> Result<(), Fail> {
+    let settings = Settings::new(4, 3, 2).ok_or("settings")?;
+    for text in NO_STEPS.iter() {
+        assert_eq!(rt; read_step(&settings, text.as_bytes()), None, "{text}");
+    }
+    Ok(())
+}
+
+#[test]
+fn refuses_texts(rt: HostRuntime) -> Result<(), Fail> {
+    let alloc = rt.alloc();
+    for (key, line, fault) in REFUSED.iter() {
+        let text = text_with(alloc, key, line)?;
+        assert_eq!(rt;
+            counts(alloc, text.as_str()),
+            Err(ReadRefusal::Fault(*fault)),
+            "{text}"
+        );
+    }
+    let both =
+        "base = 99\nframes = 0\ndigits = 3\nwidth = 2\nmembers = []\nsteps = [\"\"]\nmore = 1\n";
+    assert_eq!(rt;
+        counts(alloc, both),
+        Err(ReadRefusal::Fault(Fault::BadKey(Key::Unknown)))
+    );
+    let not_text = read(alloc, b"base = \xff").map_or_else(
+        |refusal| refusal,
+        |_| ReadRefusal::NoMemory,
+    );
+    assert_eq!(rt; not_text, ReadRefusal::Fault(Fault::NotUtf8));
+    Ok(())
+}
+
+#[test]
+fn reads_scenarios(rt: HostRuntime) -> Result<(), Fail> {
+    let alloc = rt.alloc();
+    for (text, seen) in TEXTS.iter() {
+        assert_eq!(rt; counts(alloc, text), Ok(*seen), "{text}");
+    }
+    let many_frames =
+        "frames = 100001\nbase = 16\ndigits = 9\nwidth = 4\nmembers = [\"012345678\"]\nsteps = []\n";
+    assert_eq!(rt;
+        counts(alloc, many_frames),
+        Err(ReadRefusal::Fault(Fault::BadValue(Key::Frames)))
+    );
+    Ok(())
+}
+
+// The settings of the lines above, and two of their names.
+fn named() -> Result<(Settings, Name, Name), Fail> {
+    let settings = Settings::new(4, 3, 2).ok_or("settings")?;
+    let object = read_name(&settings, b"123").map_err(|_| "a name")?;
+    let asker = read_name(&settings, b"000").map_err(|_| "a name")?;
+    Ok((settings, object, asker))
+}
+
+#[test]
+fn reads_steps(rt: HostRuntime) -> Result<(), Fail> {
+    let (settings, object, asker) = named()?;
+    assert_eq!(rt;
+        read_step(&settings, b"walk 123 from 000"),
+        Some(Step::Walk { object, asker })
+    );
+    assert_eq!(rt;
+        read_step(&settings, b"root 123"),
+        Some(Step::Root { object })
+    );
+    Ok(())
+}
+
+#[test]
+fn tells_what_it_read(rt: HostRuntime) -> Result<(), Fail> {
+    let alloc = rt.alloc();
+    let (settings, object, asker) = named()?;
+    let text = text_with(alloc, "frames", "frames = 500000\n")?;
+    let scenario = read(alloc, text.as_bytes()).map_err(|_| "a scenario")?;
+    assert_eq!(rt; scenario.settings(), settings);
+    assert_eq!(rt; scenario.frames(), 500_000);
+    assert_eq!(rt; scenario.members().as_slice().first().copied(), Some(asker));
+    assert_eq!(rt; scenario.step_count(), 1);
+    assert_eq!(rt; scenario.step_at(0), Step::Walk { object, asker });
+    Ok(())
+}
+
+#[test]
+fn makes_a_scenario(rt: HostRuntime) -> Result<(), Fail> {
+    let alloc = rt.alloc();
+    let text = text_with(alloc, "frames", "frames = 9\n")?;
+    let scenario = read(alloc, text.as_bytes()).map_err(|_| "a scenario")?;
+    let members = List::from_vec(scenario.members().as_slice().to_vec(alloc)?);
+    let made = Scenario::of(
+        &scenario.settings(),
+        scenario.frames(),
+        members,
+        List::new(alloc),
+    );
+    assert_eq!(rt; made.frames(), 9);
+    assert_eq!(rt; made.members().len(), 5);
+    assert_eq!(rt; made.step_count(), 0);
+    Ok(())
+}
+
+// The digits of base 16.
+const DIGITS: [char; 16] = [
+    '0', '1', '2', '3', '4', '5', '6', '7', '8', '9', 'a', 'b', 'c', 'd', 'e', 'f',
+];
+
+// A scenario's text with the 64 names of two digits that are below 40 in base 16, and these behind them.
+fn text_of_members(alloc: Global, more: &str) -> Result<String, AllocError> {
+    let mut text = String::from_str(
+        alloc,
+        "base = 16\ndigits = 2\nwidth = 1\nsteps = []\nmembers = [",
+    )?;
+    for high in ['0', '1', '2', '3'] {
+        for low in DIGITS {
+            text.push('"')?;
+            text.push(high)?;
+            text.push(low)?;
+            text.push_str("\", ")?;
+        }
+    }
+    text.push_str(more)?;
+    text.push_str("]\n")?;
+    Ok(text)
+}
+
+// The line of so many steps, which are all one.
+fn line_of_steps(alloc: Global, count: u32) -> Result<String, AllocError> {
+    let mut line = String::from_str(alloc, "steps = [")?;
+    for _ in 0..count {
+        line.push_str("\"root 000\", ")?;
+    }
+    line.push_str("]\n")?;
+    Ok(line)
+}
+
+#[test]
+fn keeps_to_the_most_members(rt: HostRuntime) -> Result<(), Fail> {
+    let alloc = rt.alloc();
+    let most = text_of_members(alloc, "")?;
+    assert_eq!(rt; counts(alloc, most.as_str()), Ok((200_000, 64, 0)));
+    let more = text_of_members(alloc, "\"40\"")?;
+    assert_eq!(rt;
+        counts(alloc, more.as_str()),
+        Err(ReadRefusal::Fault(Fault::BadValue(Key::Members)))
+    );
+    Ok(())
+}
+
+#[test]
+fn keeps_to_the_most_steps(rt: HostRuntime) -> Result<(), Fail> {
+    let alloc = rt.alloc();
+    let most = text_with(alloc, "steps", line_of_steps(alloc, 10_000)?.as_str())?;
+    assert_eq!(rt; counts(alloc, most.as_str()), Ok((200_000, 5, 10_000)));
+    let more = text_with(alloc, "steps", line_of_steps(alloc, 10_001)?.as_str())?;
+    assert_eq!(rt;
+        counts(alloc, more.as_str()),
+        Err(ReadRefusal::Fault(Fault::BadStep(10_001)))
+    );
+    Ok(())
+}

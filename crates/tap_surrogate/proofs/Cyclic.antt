@@ -1,0 +1,153 @@
+-- the first digit, cyclically, that passes a test
+use Rattle.std.proofs.Common.{◌≡◌, ◌==◌, ◌⊎◌, inl, inr, ℕ, ◌+◌, ◌<◌, ◌≤◌, zero, suc, cond, Bool, true, false, nat_le, arith, ap, sym, refl, ◌∙◌}
+use Rattle.std.proofs.lemmas.Bool.{cases_Bool, cases_lt, eqb-true, eqb-false, true≢false}
+use Rattle.std.proofs.lemmas.Bool.Decides.{nat_tests}
+use Rattle.tap_name.specs.Cyclic.{next_digit, first_from, first_cyclic}
+use Rattle.tap_surrogate.specs.Distance.{cyclic_distance}
+
+-- the next digit is one more, or 0
+pub next_is : (base digit : ℕ) → digit < base
+    → (next_digit base digit ≡ digit + 1) × (digit + 1 < base) ⊎ (next_digit base digit ≡ 0) × (digit + 1 ≡ base)
+next_is base digit below =
+    elim (cases_Bool (digit + 1 == base)) [
+      | inl e ↦ inr (rw e refl, eqb-true (digit + 1) base e)
+      | inr e ↦ let apart = eqb-false (digit + 1) base e in inl (rw e refl, omega (arith, apart))
+    ]
+
+pub next_below : (base digit : ℕ) → digit < base → next_digit base digit < base
+next_below base digit below = elim (next_is base digit below) [ inl w ↦ rw w.0 w.1 | inr w ↦ rw w.0 (omega arith) ]
+
+-- the distance leads up to the digit, or up to it past the base
+pub distance_is : (base from to : ℕ) → from < base → to < base
+    → (cyclic_distance base from to + from ≡ to) ⊎ (cyclic_distance base from to + from ≡ to + base) × (to < from)
+distance_is base from to from_below to_below =
+    elim (cases_lt to from) [
+      | inl past ↦ let test : nat_le from to ≡ false = grind (arith, nat_tests) in rw test (inr (omega arith, past))
+      | inr up ↦ let test : nat_le from to ≡ true = grind (arith, nat_tests) in rw test (inl (omega arith))
+    ]
+
+pub distance_below : (base from to : ℕ) → from < base → to < base → cyclic_distance base from to < base
+distance_below base from to from_below to_below =
+    elim (distance_is base from to from_below to_below) [ inl up ↦ omega arith | inr past ↦ omega arith ]
+
+-- a digit is reached after its own number of steps alone
+pub same_distance : (base from a b : ℕ) → from < base → a < base → b < base
+    → cyclic_distance base from a ≡ cyclic_distance base from b → a ≡ b
+same_distance base from a b from_below a_below b_below same =
+    elim (distance_is base from a from_below a_below) [
+      | inl up ↦ elim (distance_is base from b from_below b_below) [ inl up' ↦ omega arith | inr past' ↦ omega arith ]
+      | inr past ↦ elim (distance_is base from b from_below b_below) [ inl up' ↦ omega arith | inr past' ↦ omega arith ]
+    ]
+
+pub distance_to_itself : (base digit : ℕ) → digit < base → cyclic_distance base digit digit ≡ 0
+distance_to_itself base digit below =
+    elim (distance_is base digit digit below below) [ inl up ↦ omega arith | inr past ↦ omega arith ]
+
+-- a step takes the way to another digit down by one
+pub distance-next : (base digit to : ℕ) → digit < base → to < base → (digit ≡ to → ⊥)
+    → cyclic_distance base (next_digit base digit) to + 1 ≡ cyclic_distance base digit to
+distance-next base digit to below to_below apart =
+    let next = next_below base digit below in
+    elim (next_is base digit below) [
+      | inl w ↦
+          elim (distance_is base digit to below to_below) [
+            | inl up ↦ elim (distance_is base (next_digit base digit) to next to_below) [ inl up' ↦ omega (arith, apart) | inr past' ↦ omega (arith, apart) ]
+            | inr past ↦ elim (distance_is base (next_digit base digit) to next to_below) [ inl up' ↦ omega (arith, apart) | inr past' ↦ omega (arith, apart) ]
+          ]
+      | inr w ↦
+          elim (distance_is base digit to below to_below) [
+            | inl up ↦ elim (distance_is base (next_digit base digit) to next to_below) [ inl up' ↦ omega (arith, apart) | inr past' ↦ omega (arith, apart) ]
+            | inr past ↦ elim (distance_is base (next_digit base digit) to next to_below) [ inl up' ↦ omega (arith, apart) | inr past' ↦ omega (arith, apart) ]
+          ]
+    ]
+
+-- a step leads one further from the digit where the steps began
+pub distance_to_next : (base from digit : ℕ) → from < base → digit < base → cyclic_distance base from digit + 1 < base
+    → cyclic_distance base from (next_digit base digit) ≡ cyclic_distance base from digit + 1
+distance_to_next base from digit from_below below room =
+    let next = next_below base digit below in
+    elim (next_is base digit below) [
+      | inl w ↦
+          elim (distance_is base from digit from_below below) [
+            | inl up ↦ elim (distance_is base from (next_digit base digit) from_below next) [ inl up' ↦ omega arith | inr past' ↦ omega arith ]
+            | inr past ↦ elim (distance_is base from (next_digit base digit) from_below next) [ inl up' ↦ omega arith | inr past' ↦ omega arith ]
+          ]
+      | inr w ↦
+          elim (distance_is base from digit from_below below) [
+            | inl up ↦ elim (distance_is base from (next_digit base digit) from_below next) [ inl up' ↦ omega arith | inr past' ↦ omega arith ]
+            | inr past ↦ elim (distance_is base from (next_digit base digit) from_below next) [ inl up' ↦ omega arith | inr past' ↦ omega arith ]
+          ]
+    ]
+
+-- no digit that passes is reached before this one
+abbrev pub NonePassesBefore : ℕ → (ℕ → Bool) → ℕ → ℕ → Type 0
+NonePassesBefore base passes from digit =
+    (other : ℕ) → other < base → passes other ≡ true → cyclic_distance base from digit ≤ cyclic_distance base from other
+
+first_from_is : (base : ℕ) (passes : ℕ → Bool) (found : ℕ) → found < base → passes found ≡ true → (left digit : ℕ)
+    → digit < base
+    → cyclic_distance base digit found < left → NonePassesBefore base passes digit found
+    → first_from base passes left digit ≡ found
+first_from_is base passes found found_below found_passes zero digit below near first = absurd (omega arith)
+first_from_is base passes found found_below found_passes (suc left) digit below near first =
+    elim (cases_Bool (passes digit)) [
+      | inl e ↦
+          let least = first digit below e in
+          let itself = distance_to_itself base digit below in
+          rw e (same_distance base digit digit found below below found_below (omega (arith, least, itself)))
+      | inr e ↦
+          let apart : digit ≡ found → ⊥ = λ same. true≢false (sym found_passes ∙ ap passes (sym same) ∙ e) in
+          let next = distance-next base digit found below found_below apart in
+          rw e (first_from_is base passes found found_below found_passes left (next_digit base digit) (next_below base digit below) (omega (arith, next))
+          (λ other other_below other_passes.
+          let other_apart : digit ≡ other → ⊥ = λ same. true≢false (sym other_passes ∙ ap passes (sym same) ∙ e) in
+          let other_next = distance-next base digit other below other_below other_apart in
+          let least = first other other_below other_passes in
+          omega (arith, next, other_next, least)))
+    ]
+
+-- the digit that passes and is reached before all others that pass is the first one
+pub first_cyclic_is : (base : ℕ) (passes : ℕ → Bool) (from found : ℕ) → from < base → found < base → passes found ≡ true
+    → NonePassesBefore base passes from found → first_cyclic base passes from ≡ found
+first_cyclic_is base passes from found from_below found_below found_passes first =
+    first_from_is base passes found found_below found_passes base from from_below (distance_below base from found from_below found_below) first
+
+-- a digit that does not pass is left behind
+pub none_before_next : (base : ℕ) (passes : ℕ → Bool) (from digit : ℕ) → from < base → digit < base
+    → passes digit ≡ false
+    → NonePassesBefore base passes from digit → NonePassesBefore base passes from (next_digit base digit)
+none_before_next base passes from digit from_below below fails first =
+    λ other other_below other_passes.
+    let least = first other other_below other_passes in
+    let apart : cyclic_distance base from digit ≡ cyclic_distance base from other → ⊥ =
+    λ same. true≢false (sym other_passes ∙ ap passes (sym (same_distance base from digit other from_below below other_below same)) ∙ fails) in
+    let other_near = distance_below base from other from_below other_below in
+    let next = distance_to_next base from digit from_below below (omega (arith, least, apart, other_near)) in
+    omega (arith, next, least, apart)
+
+-- two tests that agree find one digit
+pub first_from_agree : (base : ℕ) (p q : ℕ → Bool) → ((digit : ℕ) → p digit ≡ q digit) → (left digit : ℕ)
+    → first_from base p left digit ≡ first_from base q left digit
+first_from_agree base p q same zero digit = refl
+first_from_agree base p q same (suc left) digit =
+    rw (same digit) (ap (λ n. cond (q digit) digit n) (first_from_agree base p q same left (next_digit base digit)))
+
+-- where some digit passes, the one that is found does
+first_from_passes : (base : ℕ) (passes : ℕ → Bool) (target : ℕ) → target < base → passes target ≡ true
+    → (left digit : ℕ) → digit < base
+    → cyclic_distance base digit target < left → passes (first_from base passes left digit) ≡ true
+first_from_passes base passes target target_below h zero digit below near = absurd (omega arith)
+first_from_passes base passes target target_below h (suc left) digit below near =
+    elim (cases_Bool (passes digit)) [
+      | inl e ↦ rw e e
+      | inr e ↦
+          let apart : digit ≡ target → ⊥ = λ same. true≢false (sym h ∙ ap passes (sym same) ∙ e) in
+          let next = distance-next base digit target below target_below apart in
+          rw e (first_from_passes base passes target target_below h left (next_digit base digit) (next_below base digit below) (omega (arith, next)))
+    ]
+
+pub first_cyclic_passes : (base : ℕ) (passes : ℕ → Bool) (target from : ℕ) → target < base → passes target ≡ true
+    → from < base
+    → passes (first_cyclic base passes from) ≡ true
+first_cyclic_passes base passes target from target_below h below =
+    first_from_passes base passes target target_below h base from below (distance_below base from target below target_below)

@@ -1,0 +1,35 @@
+-- The laws of walks and of tables at rest.
+use Rattle.std.specs.Prelude.{◌≡◌, ℕ, ◌≤◌, List, Some, take, AllPairs}
+use Rattle.tap_name.specs.declared.slot.Slot.{Slot}
+use Rattle.tap_name.specs.Settings.{Parameters, AreWithinLimits}
+use Rattle.tap_name.specs.Name.{IsName}
+use Rattle.tap_name.specs.Root.{Among, AreNames, first_of, root}
+use Rattle.tap_surrogate.specs.Tables.{Tables}
+use Rattle.tap_surrogate.specs.HoleFree.{IsHoleFree}
+use Rattle.tap_surrogate.specs.Members.{IsBelow, fitting, AreLeastFitting, AreMembersTables}
+use Rattle.tap_surrogate.specs.Walk.{walk, hops, walk_end}
+
+-- The path of a walk over a core set: it leads from the node to the root of the object, over core
+-- nodes alone, in as many hops as a name has digits or fewer.
+pub record LeadsToRoot (p : Parameters) (core : List (List ℕ)) (node object : List ℕ)
+    (path : List (List ℕ)) : Type 0 where
+  pub begins : first_of path ≡ Some node
+  pub ends : walk_end path ≡ root p.base core object
+  pub few_hops : hops path ≤ p.digits
+  pub over_core : (passed : List ℕ) → Among passed path → Among passed core
+
+-- over tables without holes each walk from a core node leads to the root
+abbrev pub WalkLaw : Type 0
+WalkLaw = (p : Parameters) (core : List (List ℕ)) (tables : Tables) → IsHoleFree p core tables
+    → (node object : List ℕ) → Among node core → IsName p object
+    → LeadsToRoot p core node object (walk p.base tables node object)
+
+-- tables at rest over members have no hole
+abbrev pub RestLaw : Type 0
+RestLaw = (p : Parameters) (members : List (List ℕ)) (tables : Tables) → AreWithinLimits p
+    → AreNames p members → AreMembersTables p members tables → IsHoleFree p members tables
+
+-- of ascending members the first ones that fit a slot are the least ones
+abbrev pub FirstFittingLaw : Type 0
+FirstFittingLaw = (width : ℕ) (owner : List ℕ) (slot : Slot) (members : List (List ℕ))
+    → AllPairs IsBelow members → AreLeastFitting width owner slot members (take width (fitting owner slot members))

@@ -1,0 +1,22 @@
+-- Where a walk stands.
+use Rattle.std.specs.Prelude.{ℕ, ◌≤◌, List, drop}
+use Rattle.tap_name.specs.Settings.{Parameters}
+use Rattle.tap_name.specs.Name.{IsName}
+use Rattle.tap_surrogate.specs.Tables.{Tables}
+use Rattle.tap_surrogate.specs.Walk.{walk_on}
+
+-- a walk under way: the node where it stands, the level that comes next, and the object
+pub record Standing : Type 0 where
+  pub node : List ℕ
+  pub level : ℕ
+  pub object : List ℕ
+
+-- the walk is one over names of the settings
+pub record IsStanding (p : Parameters) (walk : Standing) : Type 0 where
+  pub node : IsName p walk.node
+  pub object : IsName p walk.object
+  pub level : walk.level ≤ p.digits
+
+-- the nodes of the walk from where it stands to its end
+abbrev pub nodes_left : ℕ → Tables → Standing → List (List ℕ)
+nodes_left base tables walk = walk_on base tables walk.node walk.level (drop walk.level walk.object)

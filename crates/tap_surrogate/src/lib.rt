@@ -1,0 +1,17 @@
+//! Surrogate routing: the one root that each object has among a set of names, and the walk that
+//! finds it from node to node, over their tables alone.
+#![tactic(auto)]
+
+mod law;
+mod links;
+mod memory;
+mod root;
+#[cfg(test)]
+mod tests;
+mod walk;
+
+pub use law::{members_law, walk_law};
+pub use links::Links;
+pub use memory::NoMemory;
+pub use root::root_of;
+pub use walk::{Step1, Walk, walk_path};

@@ -1,0 +1,5 @@
+pub mod Fitting
+pub mod Tables
+pub mod Ascending
+pub mod Texts
+pub mod RunLemmas

@@ -1,0 +1,33 @@
+use Rattle.std.proofs.Common.{arith, ap, ◌∙◌, ◌+◌, ℕ, Option}
+use Rattle.tap_name.specs.Settings.{Parameters}
+use Rattle.tap_report.specs.Reporter.{Kept}
+use Rattle.tap_report.proofs.ReportsLemmas.{Reports-next, begins_next}
+use Rattle.tap_top.proofs.RunLemmas.{item_at, printable_at, settings_next, reports_all}
+use Rattle.tap_top.proofs.running.put_from.Goals as goal
+
+pub put-requires-clause-begins : goal.put-requires-clause-begins
+put-requires-clause-begins g c =
+    begins_next c.args.log.now.records c.loop-place.place c.at.result.now c.loop-place.reporter.settings c.requires.printable.begins (omega arith)
+    (item_at c.args.log.now.records c.loop-place.place c.at.result.now c.at.ensures) c.loop-place.invariant.settings
+
+pub put-requires-clause-printable : goal.put-requires-clause-printable
+put-requires-clause-printable g c =
+    printable_at c.args.log.now.records c.loop-place.place c.at.result.now (omega arith) c.at.ensures c.requires.printable.each
+
+pub loop-place-preserved : goal.loop-place-preserved
+loop-place-preserved g c =
+    let records_of : Kept → ℕ = λ kept. kept.records in
+    let settings_of : Kept → Option Parameters = λ kept. kept.settings in
+    record {
+      put = ap records_of c.put.ensures.keeps ∙ ap (λ n. n + 1) c.loop-place.invariant.put;
+      settings = ap settings_of c.put.ensures.keeps
+          ∙ settings_next c.args.log.now.records c.loop-place.place c.at.result.now c.loop-place.reporter.settings (omega arith) c.at.ensures c.loop-place.invariant.settings;
+      reports = λ mode held faults reports.
+          Reports-next c.args.log.now.records c.loop-place.place c.at.result.now (omega arith)
+          (item_at c.args.log.now.records c.loop-place.place c.at.result.now c.at.ensures) (c.loop-place.invariant.reports mode held faults reports) c.put.ensures;
+    }
+
+pub returns : goal.returns
+returns g c = λ mode held faults reports.
+    reports_all mode c.args.log.now.records c.loop-place.place held (g.K.Sink.held c.loop-place.sink) faults (g.K.Sink.faults c.loop-place.sink) c.loop-place.reporter
+    (omega arith) (c.loop-place.invariant.reports mode held faults reports)

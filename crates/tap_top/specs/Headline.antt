@@ -1,0 +1,40 @@
+-- What a run over fixed members promises of its log.
+use Rattle.std.specs.Prelude.{◌≡◌, ℕ, List, ◌∷◌, length, take, Some}
+use Rattle.tap_name.specs.Settings.{Parameters}
+use Rattle.tap_name.specs.Root.{Among, root}
+use Rattle.tap_scenario.specs.Scenario.{Script}
+use Rattle.tap_log.specs.declared.record.Record.{Record}
+use Rattle.tap_log.specs.declared.record.Record.TheVariants.{Begin, Walked, RootOf, Finished}
+use Rattle.tap_log.specs.Moments.{EachRecord, IsMoment, core_of, last_of, steps_of}
+use Rattle.tap_surrogate.specs.Tables.{Tables}
+use Rattle.tap_surrogate.specs.HoleFree.{IsHoleFree}
+use Rattle.tap_surrogate.specs.Members.{AreMembersTables}
+use Rattle.tap_surrogate.specs.Laws.{LeadsToRoot}
+use Rattle.tap_top.specs.Lawful.{IsLawful}
+
+-- each walk leads from a core node to the one root of its object, in as many hops as a name has digits or fewer, and each
+-- root that is told is that one
+abbrev pub FindsRoot : Parameters → List Record → Record → Type 0
+FindsRoot p before (Walked object path) =
+    (asker : List ℕ) × Among asker (core_of before) × LeadsToRoot p (core_of before) asker object path
+FindsRoot p before (RootOf object found) = root p.base (core_of before) object ≡ Some found
+FindsRoot p before other = Unit {0}
+
+-- the log is the beginning of a run of a script, up to the end of a group
+pub record IsLogOf (s : Script) (log : List Record) : Type 0 where
+  pub begins : (rest : List Record) × (log ≡ Begin s.settings s.frames s.members ∷ rest)
+  -- the steps that were begun are the script's first ones
+  pub steps : steps_of log ≡ take (length (steps_of log)) s.steps
+  -- Over tables that have the least members in each slot: the log is lawful, at every moment no core node's table has a hole
+  -- that another core node could fill, and every walk finds the one root.
+  pub tables : Tables
+  pub at_rest : AreMembersTables s.settings s.members tables
+  pub lawful : IsLawful s.settings tables log
+  pub hole_free : (m : ℕ) → IsMoment log m → IsHoleFree s.settings (core_of (take m log)) tables
+  pub finds_roots : EachRecord (FindsRoot s.settings) log
+
+-- every step of the script was run
+pub record IsWholeLogOf (s : Script) (log : List Record) : Type 0 where
+  pub run : IsLogOf s log
+  pub steps : steps_of log ≡ s.steps
+  pub finished : last_of log ≡ Some (Finished (length s.steps))

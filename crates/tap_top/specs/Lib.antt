@@ -1,0 +1,7 @@
+pub mod Members
+pub mod AtRest
+pub mod FaultLine
+pub mod Lawful
+pub mod Headline
+pub mod Running
+pub mod Ending

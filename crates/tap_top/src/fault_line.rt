@@ -1,0 +1,78 @@
+ghost use Rattle.std.specs.Prelude.{◌≡◌};
+ghost use Rattle.tap_report.specs.Written.{WritesText};
+ghost use Rattle.tap_scenario.specs.Key.{text_of_key};
+ghost use Rattle.tap_top.specs.FaultLine.{fault_line, text_of_fault};
+
+use crate::status::Status;
+use itoa::Buffer;
+use tap_io::Sink;
+use tap_report::{Written, write_text};
+use tap_scenario::{Fault, Key};
+
+// Writes the line that says why a run didn't end with `done`, behind the text of its log.
+pub(crate) fn write_fault_line<K: Sink>(sink: &mut K, so_far: Written, status: Status) -> Written
+    ensures { WritesText (K.held sink.old) (K.held sink.new)
+        (K.faults sink.old) (K.faults sink.new) (fault_line status) so_far result }
+{
+    match status {
+        Status::NotScenario(fault) => write_not_scenario(sink, so_far, fault),
+        Status::Done | Status::WriteFault => write_text(sink, so_far, b""),
+        Status::Usage => write_text(
+            sink,
+            so_far,
+            b"tapestry: usage: tapestry [--brief] [--make N] [--seed S]\n",
+        ),
+        Status::TooLong => write_text(sink, so_far, b"tapestry: text too long\n"),
+        Status::ReadFault => write_text(sink, so_far, b"tapestry: read fault\n"),
+        Status::NoMemory => write_text(sink, so_far, b"tapestry: no memory\n"),
+    }
+}
+
+// Writes the line on a text that is no scenario's.
+fn write_not_scenario<K: Sink>(sink: &mut K, so_far: Written, fault: Fault) -> Written
+    ensures { WritesText (K.held sink.old) (K.held sink.new)
+        (K.faults sink.old) (K.faults sink.new) (fault_line (Status.NotScenario fault)) so_far result }
+{
+    let so_far = write_text(sink, so_far, b"tapestry: not a scenario: ");
+    let so_far = write_fault(sink, so_far, fault);
+    write_text(sink, so_far, b"\n")
+}
+
+// Writes what is wrong with a text.
+fn write_fault<K: Sink>(sink: &mut K, so_far: Written, fault: Fault) -> Written
+    ensures { WritesText (K.held sink.old) (K.held sink.new)
+        (K.faults sink.old) (K.faults sink.new) (text_of_fault fault) so_far result }
+{
+    match fault {
+        Fault::NotUtf8 => write_text(sink, so_far, b"not UTF-8"),
+        Fault::NotToml => write_text(sink, so_far, b"not TOML"),
+        Fault::BadKey(key) => {
+            let so_far = write_text(sink, so_far, b"bad key ");
+            write_text(sink, so_far, key_text(key).as_bytes())
+        }
+        Fault::BadValue(key) => {
+            let so_far = write_text(sink, so_far, b"bad value ");
+            write_text(sink, so_far, key_text(key).as_bytes())
+        }
+        Fault::BadStep(index) => {
+            let so_far = write_text(sink, so_far, b"bad step ");
+            let mut buffer = Buffer::new();
+            write_text(sink, so_far, buffer.format(index).as_bytes())
+        }
+    }
+}
+
+// A key as it is written.
+fn key_text(key: Key) -> &'static str
+    ensures { result.now ≡ text_of_key key }
+{
+    match key {
+        Key::Base => "base",
+        Key::Digits => "digits",
+        Key::Width => "width",
+        Key::Frames => "frames",
+        Key::Members => "members",
+        Key::Steps => "steps",
+        Key::Unknown => "unknown",
+    }
+}
