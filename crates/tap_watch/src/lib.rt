@@ -1,0 +1,11 @@
+//! The slots that a joining node still waits for.
+#![tactic(auto)]
+
+mod memory;
+mod watch;
+
+pub use memory::NoMemory;
+pub use watch::Watch;
+
+#[cfg(test)]
+mod tests;

@@ -1,0 +1,15 @@
+pub mod Codes
+pub mod Steps
+pub mod Numbers
+pub mod Pieces
+pub mod Slots
+pub mod Links
+pub mod Taken
+pub mod ShortBodies
+pub mod LongBodies
+pub mod ListBodies
+pub mod Bodies
+pub mod Lengths
+pub mod Openings
+pub mod Frames
+pub mod Loops

@@ -1,0 +1,6 @@
+pub mod Fault
+pub mod Kind
+pub mod Fields
+pub mod Reading
+pub mod Spelling
+pub mod Laws

@@ -1,0 +1,169 @@
+-- the frame that bytes spell, or the first refusal
+use Rattle.std.specs.Prelude.{◌≡◌, ◌==◌, ℕ, ◌+◌, ◌*◌, ◌-◌, ◌/◌, nat_le, nat_lt, Bool, not, ◌&&◌, if◌then◌else◌, List, length, slice_index, Option, None, Some, Result, Ok, Err}
+use Rattle.tap_name.specs.Settings.{Parameters}
+use Rattle.tap_wire.specs.declared.fault.Broken.{Broken}
+use Rattle.tap_wire.specs.declared.fault.BodyFault.{BodyFault}
+use Rattle.tap_wire.specs.declared.fault.BodyFault.TheVariants as faults
+use Rattle.tap_wire.specs.declared.fault.HeadFault.{HeadFault}
+use Rattle.tap_wire.specs.declared.fault.HeadFault.TheVariants.{Short, BadVersion, BadKind, BadLength, BadCount, Trailing, BadDigit}
+use Rattle.tap_wire.specs.declared.fault.WireFault.{WireFault}
+use Rattle.tap_wire.specs.declared.frame.Frame.{Frame}
+use Rattle.tap_wire.specs.declared.frame.Head.{Head}
+use Rattle.tap_wire.specs.declared.frame.Body.{Body}
+use Rattle.tap_wire.specs.declared.frame.Body.TheVariants.{Seek, Tell, Hello, Heard, Ack, Done, Release, Link, Lay, Find, Answer, Leave, Left, Gone, Forget, Cast, CastAck}
+use Rattle.tap_wire.specs.declared.kind.Kind.{Kind}
+use Rattle.tap_wire.specs.declared.kind.Kind.TheVariants as kinds
+use Rattle.tap_wire.specs.declared.opening.Opening.{Opening}
+use Rattle.tap_wire.specs.Fault.{fault_of_head, fault_of_body}
+use Rattle.tap_wire.specs.Kind.{code_of, kind_of_code, is_length}
+use Rattle.tap_wire.specs.Fields.{◌>>=◌, field, number_at, session_at, level_at, flag_at, digits_at, name_at, optional_at, slots_at, links_at, word_at}
+
+-- names of more than eight digits have the second version
+abbrev pub is_long : Parameters → Bool
+is_long p = nat_lt 8 p.digits
+
+abbrev pub version_of : Parameters → ℕ
+version_of p = if is_long p then 2 else 1
+
+-- the bytes of a head: the version, the kind, two of the body's length, and in the second version the number of digits
+abbrev pub head_len : Parameters → ℕ
+head_len p = if is_long p then 5 else 4
+
+-- a head, a sender and a receiver
+abbrev pub body_start : Parameters → ℕ
+body_start p = head_len p + 2 * p.digits
+
+-- the two names, where the bytes are as many as they should be
+abbrev pub names_at : Parameters → Kind → List ℕ → Result Opening HeadFault
+names_at p kind bytes =
+    digits_at BadDigit p (head_len p) bytes >>= λ sender.
+    digits_at BadDigit p (head_len p + p.digits) bytes >>= λ receiver.
+    Ok (record { kind = kind; sender = sender; receiver = receiver })
+
+-- what the head says of the number of bytes
+abbrev pub sized : Parameters → Kind → ℕ → List ℕ → Result Opening HeadFault
+sized p kind len bytes =
+    if not (is_length p kind len) then Err (BadLength len)
+    else if is_long p && not (slice_index bytes 4 == p.digits) then Err (BadCount (slice_index bytes 4))
+    else if nat_lt (length bytes) (body_start p + len) then Err (Short (body_start p + len - length bytes))
+    else if nat_lt (body_start p + len) (length bytes) then Err (Trailing (length bytes - (body_start p + len)))
+    else names_at p kind bytes
+
+abbrev pub of_kind : Parameters → Option Kind → List ℕ → Result Opening HeadFault
+of_kind p None bytes = Err (BadKind (slice_index bytes 1))
+of_kind p (Some kind) bytes = sized p kind (number_at 2 2 bytes) bytes
+
+-- the kind, the sender and the receiver, or the first refusal of a head
+abbrev pub opening_of : Parameters → List ℕ → Result Opening HeadFault
+opening_of p bytes =
+    if nat_lt (length bytes) (head_len p) then Err (Short (head_len p - length bytes))
+    else if not (slice_index bytes 0 == version_of p) then Err (BadVersion (slice_index bytes 0))
+    else of_kind p (kind_of_code (slice_index bytes 1)) bytes
+
+-- a head by itself
+abbrev pub head_of : Parameters → List ℕ → Result Head HeadFault
+head_of p bytes = opening_of p bytes >>= λ opening. Ok (record { kind = code_of opening.kind; from = opening.sender; to = opening.receiver })
+
+-- the bodies, field by field from the place where they start
+
+abbrev pub seek_at : Parameters → ℕ → List ℕ → Result Body Broken
+seek_at p start bytes = name_at p start bytes >>= λ joiner. Ok (Seek joiner)
+
+-- the prefix is below the number of digits
+abbrev pub prefix_at : Parameters → ℕ → List ℕ → Result ℕ Broken
+prefix_at p place bytes = field (nat_lt (slice_index bytes place) p.digits) place (slice_index bytes place)
+
+-- the level is above the prefix and at most the number of digits
+abbrev pub level_above_at : Parameters → ℕ → ℕ → List ℕ → Result ℕ Broken
+level_above_at p prefix place bytes =
+    field (nat_lt prefix (slice_index bytes place) && nat_le (slice_index bytes place) p.digits) place (slice_index bytes place)
+
+unfoldable pub tell_at : Parameters → ℕ → List ℕ → Result Body Broken
+tell_at p start bytes =
+    let at = start + p.digits in
+    name_at p start bytes >>= λ joiner.
+    prefix_at p at bytes >>= λ prefix.
+    level_above_at p prefix (at + 1) bytes >>= λ level.
+    session_at (at + 2) bytes >>= λ session.
+    slots_at p prefix ((length bytes - (at + 8)) / 2) None (at + 8) bytes >>= λ watch.
+    Ok (Tell joiner prefix level session (number_at 2 (at + 6) bytes) watch)
+
+unfoldable pub hello_at : Parameters → ℕ → List ℕ → Result Body Broken
+hello_at p start bytes =
+    session_at start bytes >>= λ session.
+    flag_at (start + 4) bytes >>= λ core.
+    links_at p ((length bytes - (start + 5)) / (p.digits + 1)) None (start + 5) bytes >>= λ links.
+    Ok (Hello session core links)
+
+abbrev pub link_body_at : ℕ → List ℕ → Result Body Broken
+link_body_at start bytes = flag_at (start + 4) bytes >>= λ on. Ok (Link (number_at 4 start bytes) on)
+
+unfoldable pub lay_at : Parameters → ℕ → List ℕ → Result Body Broken
+lay_at p start bytes =
+    let at = start + 2 * p.digits in
+    name_at p start bytes >>= λ object.
+    name_at p (start + p.digits) bytes >>= λ server.
+    level_at p at bytes >>= λ level.
+    flag_at (at + 5) bytes >>= λ on.
+    Ok (Lay object server level (number_at 4 (at + 1) bytes) on)
+
+unfoldable pub find_at : Parameters → ℕ → List ℕ → Result Body Broken
+find_at p start bytes =
+    name_at p (start + 4) bytes >>= λ object.
+    name_at p (start + 4 + p.digits) bytes >>= λ asker.
+    level_at p (start + 4 + 2 * p.digits) bytes >>= λ level.
+    Ok (Find (number_at 4 start bytes) object asker level)
+
+abbrev pub answer_at : Parameters → ℕ → List ℕ → Result Body Broken
+answer_at p start bytes = optional_at p (start + 4) bytes >>= λ server. Ok (Answer (number_at 4 start bytes) server)
+
+abbrev pub leave_at : Parameters → ℕ → List ℕ → Result Body Broken
+leave_at p start bytes = optional_at p start bytes >>= λ replacement. Ok (Leave replacement)
+
+unfoldable pub cast_at : Parameters → ℕ → List ℕ → Result Body Broken
+cast_at p start bytes =
+    level_at p (start + 4) bytes >>= λ level.
+    session_at (start + 5) bytes >>= λ session.
+    word_at (start + 11) bytes >>= λ word.
+    Ok (Cast (number_at 4 start bytes) level session (number_at 2 (start + 9) bytes) word)
+
+-- the body of a frame of this kind, or the first field that breaks its rule
+abbrev pub body_at : Parameters → Kind → ℕ → List ℕ → Result Body Broken
+body_at p kinds.Seek start bytes = seek_at p start bytes
+body_at p kinds.Tell start bytes = tell_at p start bytes
+body_at p kinds.Hello start bytes = hello_at p start bytes
+body_at p kinds.Heard start bytes = session_at start bytes >>= λ session. Ok (Heard session)
+body_at p kinds.Ack start bytes = session_at start bytes >>= λ session. Ok (Ack session)
+body_at p kinds.Done start bytes = Ok Done
+body_at p kinds.Release start bytes = Ok Release
+body_at p kinds.Link start bytes = link_body_at start bytes
+body_at p kinds.Lay start bytes = lay_at p start bytes
+body_at p kinds.Find start bytes = find_at p start bytes
+body_at p kinds.Answer start bytes = answer_at p start bytes
+body_at p kinds.Leave start bytes = leave_at p start bytes
+body_at p kinds.Left start bytes = Ok Left
+body_at p kinds.Gone start bytes = Ok Gone
+body_at p kinds.Forget start bytes = Ok Forget
+body_at p kinds.Cast start bytes = cast_at p start bytes
+body_at p kinds.CastAck start bytes = session_at start bytes >>= λ session. Ok (CastAck session)
+
+-- a step of reading, with its fault as one of the whole frame
+abbrev pub in_frame : {X E : Type 0} → (E → WireFault) → Result X E → Result X WireFault
+in_frame fault (Ok x) = Ok x
+in_frame fault (Err e) = Err (fault e)
+
+-- the frame that the bytes spell, or the first refusal
+abbrev pub frame_of : Parameters → List ℕ → Result Frame WireFault
+frame_of p bytes =
+    in_frame fault_of_head (opening_of p bytes) >>= λ opening.
+    in_frame (λ b. fault_of_body (faults.Field b)) (body_at p opening.kind (body_start p) bytes) >>= λ body.
+    Ok (record { from = opening.sender; to = opening.receiver; body = body })
+
+-- what a reader answered is what is read, unless memory ran out
+abbrev pub Fails : {X : Type 0} → BodyFault → Result X Broken → Type 0
+Fails faults.NoMemory read = Unit {0}
+Fails (faults.Field b) read = read ≡ Err b
+
+abbrev pub Gives : {X : Type 0} → Result X BodyFault → Result X Broken → Type 0
+Gives (Ok x) read = read ≡ Ok x
+Gives (Err e) read = Fails e read

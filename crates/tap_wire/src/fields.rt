@@ -1,0 +1,106 @@
+ghost use Rattle.std.specs.Prelude.{◌≡◌, ◌+◌, ◌*◌, ◌-◌, ◌/◌, ◌≤◌, ◌<◌, length, slice_index};
+ghost use Rattle.tap_name.specs.declared.slot.Slot.{Slot};
+ghost use Rattle.tap_wire.specs.declared.fault.Broken.{Broken};
+ghost use Rattle.tap_wire.specs.Fields.{number_at, session_at, level_at, flag_at, name_at, optional_at, is_word_byte};
+
+use crate::fault::Broken;
+use byteorder::{BigEndian, ByteOrder};
+use tap_name::{Name, NameFault, Settings};
+
+// The number of four bytes from a place on.
+pub(crate) fn u32_at(bytes: &[u8], place: usize) -> u32
+    requires { place + 4 ≤ length bytes.now }
+    ensures { result ≡ number_at 4 place bytes.now }
+{
+    BigEndian::read_u32(&bytes[place..])
+}
+
+// The number of two bytes from a place on.
+pub(crate) fn u16_at(bytes: &[u8], place: usize) -> u16
+    requires { place + 2 ≤ length bytes.now }
+    ensures { result ≡ number_at 2 place bytes.now }
+{
+    BigEndian::read_u16(&bytes[place..])
+}
+
+// A session, at least 1.
+pub(crate) fn session_at(bytes: &[u8], place: usize) -> Result<u32, Broken>
+    requires { place + 4 ≤ length bytes.now }
+    ensures { result ≡ session_at place bytes.now }
+{
+    let session = u32_at(bytes, place);
+    if session < 1 {
+        return Err(Broken { at: place });
+    }
+    Ok(session)
+}
+
+// A level, from 1 to the number of digits.
+pub(crate) fn level_at(settings: &Settings, bytes: &[u8], place: usize) -> Result<u8, Broken>
+    requires { place < length bytes.now }
+    ensures { result ≡ level_at settings.now place bytes.now }
+{
+    let level = bytes[place];
+    if level < 1 {
+        return Err(Broken { at: place });
+    }
+    if level > settings.digits() {
+        return Err(Broken { at: place });
+    }
+    Ok(level)
+}
+
+// A flag, 0 or 1.
+pub(crate) fn flag_at(bytes: &[u8], place: usize) -> Result<bool, Broken>
+    requires { place < length bytes.now }
+    ensures { result ≡ flag_at place bytes.now }
+{
+    let flag = bytes[place];
+    if flag > 1 {
+        return Err(Broken { at: place });
+    }
+    Ok(flag == 1)
+}
+
+// A name, each of its digits below the base.
+pub(crate) fn name_at(settings: &Settings, bytes: &[u8], place: usize) -> Result<Name, Broken>
+    requires { place + settings.now.digits ≤ length bytes.now }
+    ensures { result ≡ name_at settings.now place bytes.now }
+{
+    let digits = &bytes[place..place + settings.digits() as usize];
+    match Name::from_digits(settings, digits) {
+        Ok(name) => Ok(name),
+        Err(NameFault::BadDigit(at)) => Err(Broken { at: place + at }),
+        Err(NameFault::BadLength(_)) => unreachable!(),
+    }
+}
+
+// A flag that is 1 exactly where bytes follow it, and then a name.
+pub(crate) fn optional_at(
+    settings: &Settings,
+    bytes: &[u8],
+    place: usize,
+) -> Result<Option<Name>, Broken>
+    requires there { place + 1 ≤ length bytes.now }
+    requires name { place + 1 < length bytes.now → place + 1 + settings.now.digits ≤ length bytes.now }
+    ensures { result ≡ optional_at settings.now place bytes.now }
+{
+    let flag = bytes[place];
+    if bytes.len() == place + 1 {
+        if flag != 0 {
+            return Err(Broken { at: place });
+        }
+        return Ok(None);
+    }
+    if flag != 1 {
+        return Err(Broken { at: place });
+    }
+    Ok(Some(name_at(settings, bytes, place + 1)?))
+}
+
+// Whether a byte is a lower-case letter or a digit.
+pub(crate) fn is_word_byte(byte: u8) -> bool
+    ensures { result ≡ is_word_byte byte }
+{
+    matches!(byte, b'a'..=b'z' | b'0'..=b'9')
+}

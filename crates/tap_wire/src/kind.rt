@@ -1,0 +1,127 @@
+ghost use Rattle.std.specs.Prelude.{◌≡◌, ◌<◌, ◌≤◌};
+ghost use Rattle.tap_wire.specs.Kind.{code_of, kind_of_code, is_parts, is_length, kind_of};
+
+use crate::frame::Body;
+use tap_name::Settings;
+
+// The kind of a frame.
+#[derive(Clone, Copy, Debug)]
+pub(crate) enum Kind {
+    Seek,
+    Tell,
+    Hello,
+    Heard,
+    Ack,
+    Done,
+    Release,
+    Link,
+    Lay,
+    Find,
+    Answer,
+    Leave,
+    Left,
+    Gone,
+    Forget,
+    Cast,
+    CastAck,
+}
+
+// The kinds in the order of their codes, from 1.
+static KINDS: [Kind; 17] = [
+    Kind::Seek,
+    Kind::Tell,
+    Kind::Hello,
+    Kind::Heard,
+    Kind::Ack,
+    Kind::Done,
+    Kind::Release,
+    Kind::Link,
+    Kind::Lay,
+    Kind::Find,
+    Kind::Answer,
+    Kind::Leave,
+    Kind::Left,
+    Kind::Gone,
+    Kind::Forget,
+    Kind::Cast,
+    Kind::CastAck,
+];
+
+impl Kind {
+    // The kind with this code.
+    pub(crate) fn of_code(code: u8) -> Option<Kind>
+        ensures { result ≡ kind_of_code code }
+    {
+        if code < 1 || code > 17 {
+            return None;
+        }
+        Some(KINDS[code as usize - 1])
+    }
+
+    // The kind of a body.
+    pub(crate) fn of(body: &Body) -> Kind
+        ensures { result ≡ kind_of body.now }
+    {
+        match body {
+            Body::Seek { .. } => Kind::Seek,
+            Body::Tell { .. } => Kind::Tell,
+            Body::Hello { .. } => Kind::Hello,
+            Body::Heard { .. } => Kind::Heard,
+            Body::Ack { .. } => Kind::Ack,
+            Body::Done => Kind::Done,
+            Body::Release => Kind::Release,
+            Body::Link { .. } => Kind::Link,
+            Body::Lay { .. } => Kind::Lay,
+            Body::Find { .. } => Kind::Find,
+            Body::Answer { .. } => Kind::Answer,
+            Body::Leave { .. } => Kind::Leave,
+            Body::Left => Kind::Left,
+            Body::Gone => Kind::Gone,
+            Body::Forget => Kind::Forget,
+            Body::Cast { .. } => Kind::Cast,
+            Body::CastAck { .. } => Kind::CastAck,
+        }
+    }
+
+    // The kind's code.
+    pub(crate) fn code(self) -> u8
+        ensures value { result ≡ code_of self }
+        ensures least { 1 ≤ result }
+        ensures most { result ≤ 17 }
+    {
+        self as u8 + 1
+    }
+
+    // Whether a body of this kind may have so many bytes.
+    pub(crate) fn has_length(self, settings: &Settings, len: usize) -> bool
+        ensures { result ≡ is_length settings.now self len }
+    {
+        let digits = settings.digits() as usize;
+        let others = settings.base() as usize - 1;
+        match self {
+            Kind::Seek => len == digits,
+            Kind::Tell => is_parts(len, digits + 8, 2, digits * others),
+            Kind::Hello => is_parts(len, 5, digits + 1, 255),
+            Kind::Heard | Kind::Ack | Kind::CastAck => len == 4,
+            Kind::Done | Kind::Release | Kind::Left | Kind::Gone | Kind::Forget => len == 0,
+            Kind::Link => len == 5,
+            Kind::Lay => len == 2 * digits + 6,
+            Kind::Find => len == 2 * digits + 5,
+            Kind::Answer => len == 5 || len == digits + 5,
+            Kind::Leave => len == 1 || len == digits + 1,
+            Kind::Cast => len >= 12 && len <= 43,
+        }
+    }
+}
+
+// Whether so many bytes are a fixed part and then at most so many parts of one size.
+fn is_parts(len: usize, fixed: usize, size: usize, most: usize) -> bool
+    requires { 0 < size }
+    ensures { result ≡ is_parts len fixed size most }
+{
+    if len < fixed {
+        return false;
+    }
+    let rest = len - fixed;
+    rest % size == 0 && rest / size <= most
+}

@@ -1,0 +1,15 @@
+ghost use Rattle.tap_wire.specs.Laws.{ReadsBack, SpelledSo};
+
+/// A law: the spelling of a frame whose fields keep their rules is read as that frame.
+///
+/// So `decode` gives back what `encode` was given, and no two frames have the same spelling.
+pub fn reads_back()
+    ensures { ReadsBack }
+{}
+
+/// A law: bytes that are read as a frame are the spelling of that frame, whose fields keep their rules.
+///
+/// So a frame has one spelling.
+pub fn spelled_so()
+    ensures { SpelledSo }
+{}

@@ -1,0 +1,223 @@
+ghost use Rattle.std.specs.Prelude.{◌≡◌, ◌+◌, ◌*◌, ◌-◌, ◌≤◌, ◌<◌, length, IsTrue};
+ghost use Rattle.tap_wire.specs.Kind.{is_length};
+ghost use Rattle.tap_wire.specs.Reading.{Gives, prefix_at, level_above_at, seek_at, tell_at, hello_at, link_body_at, lay_at, find_at, answer_at, leave_at, cast_at, body_at};
+
+use crate::fault::{BodyFault, Broken};
+use crate::fields::{flag_at, level_at, name_at, optional_at, session_at, u16_at, u32_at};
+use crate::frame::Body;
+use crate::kind::Kind;
+use crate::lists::{links_at, watch_at, word_at};
+use std::alloc::Global;
+use tap_name::Settings;
+
+fn seek_at(settings: &Settings, bytes: &[u8], start: usize) -> Result<Body, Broken>
+    requires { start + settings.now.digits ≤ length bytes.now }
+    ensures { result ≡ seek_at settings.now start bytes.now }
+{
+    let joiner = name_at(settings, bytes, start)?;
+    Ok(Body::Seek { joiner })
+}
+
+// The prefix of a Tell, below the number of digits.
+fn prefix_at(settings: &Settings, bytes: &[u8], place: usize) -> Result<u8, Broken>
+    requires { place < length bytes.now }
+    ensures { result ≡ prefix_at settings.now place bytes.now }
+{
+    let prefix = bytes[place];
+    if prefix >= settings.digits() {
+        return Err(Broken { at: place });
+    }
+    Ok(prefix)
+}
+
+// The level of a Tell, above its prefix and at most the number of digits.
+fn level_above_at(settings: &Settings, bytes: &[u8], place: usize, prefix: u8) -> Result<u8, Broken>
+    requires { place < length bytes.now }
+    ensures { result ≡ level_above_at settings.now prefix place bytes.now }
+{
+    let level = bytes[place];
+    if level <= prefix {
+        return Err(Broken { at: place });
+    }
+    if level > settings.digits() {
+        return Err(Broken { at: place });
+    }
+    Ok(level)
+}
+
+#[tactic(auto, unfolding(crate::specs::Reading::tell_at))]
+fn tell_at(
+    alloc: Global,
+    settings: &Settings,
+    bytes: &[u8],
+    start: usize,
+) -> Result<Body, BodyFault>
+    requires { start + settings.now.digits + 8 ≤ length bytes.now }
+    ensures { Gives result (tell_at settings.now start bytes.now) }
+{
+    let at = start + settings.digits() as usize;
+    let joiner = name_at(settings, bytes, start)?;
+    let prefix = prefix_at(settings, bytes, at)?;
+    let level = level_above_at(settings, bytes, at + 1, prefix)?;
+    let session = session_at(bytes, at + 2)?;
+    let depth = u16_at(bytes, at + 6);
+    let watch = watch_at(alloc, settings, bytes, at + 8, prefix)?;
+    Ok(Body::Tell {
+        joiner,
+        prefix,
+        level,
+        session,
+        depth,
+        watch,
+    })
+}
+
+#[tactic(auto, unfolding(crate::specs::Reading::hello_at))]
+fn hello_at(
+    alloc: Global,
+    settings: &Settings,
+    bytes: &[u8],
+    start: usize,
+) -> Result<Body, BodyFault>
+    requires { start + 5 ≤ length bytes.now }
+    ensures { Gives result (hello_at settings.now start bytes.now) }
+{
+    let session = session_at(bytes, start)?;
+    let core = flag_at(bytes, start + 4)?;
+    let links = links_at(alloc, settings, bytes, start + 5)?;
+    Ok(Body::Hello {
+        session,
+        core,
+        links,
+    })
+}
+
+fn link_at(bytes: &[u8], start: usize) -> Result<Body, Broken>
+    requires { start + 5 ≤ length bytes.now }
+    ensures { result ≡ link_body_at start bytes.now }
+{
+    let version = u32_at(bytes, start);
+    let on = flag_at(bytes, start + 4)?;
+    Ok(Body::Link { version, on })
+}
+
+#[tactic(auto, unfolding(crate::specs::Reading::lay_at))]
+fn lay_at(settings: &Settings, bytes: &[u8], start: usize) -> Result<Body, Broken>
+    requires { start + 2 * settings.now.digits + 6 ≤ length bytes.now }
+    ensures { result ≡ lay_at settings.now start bytes.now }
+{
+    let digits = settings.digits() as usize;
+    let at = start + 2 * digits;
+    let object = name_at(settings, bytes, start)?;
+    let server = name_at(settings, bytes, start + digits)?;
+    let level = level_at(settings, bytes, at)?;
+    let version = u32_at(bytes, at + 1);
+    let on = flag_at(bytes, at + 5)?;
+    Ok(Body::Lay {
+        object,
+        server,
+        level,
+        version,
+        on,
+    })
+}
+
+#[tactic(auto, unfolding(crate::specs::Reading::find_at))]
+fn find_at(settings: &Settings, bytes: &[u8], start: usize) -> Result<Body, Broken>
+    requires { start + 2 * settings.now.digits + 5 ≤ length bytes.now }
+    ensures { result ≡ find_at settings.now start bytes.now }
+{
+    let digits = settings.digits() as usize;
+    let ticket = u32_at(bytes, start);
+    let object = name_at(settings, bytes, start + 4)?;
+    let asker = name_at(settings, bytes, start + 4 + digits)?;
+    let level = level_at(settings, bytes, start + 4 + 2 * digits)?;
+    Ok(Body::Find {
+        ticket,
+        object,
+        asker,
+        level,
+    })
+}
+
+fn answer_at(settings: &Settings, bytes: &[u8], start: usize) -> Result<Body, Broken>
+    requires flag { start + 5 ≤ length bytes.now }
+    requires name { start + 5 < length bytes.now → start + 5 + settings.now.digits ≤ length bytes.now }
+    ensures { result ≡ answer_at settings.now start bytes.now }
+{
+    let ticket = u32_at(bytes, start);
+    let server = optional_at(settings, bytes, start + 4)?;
+    Ok(Body::Answer { ticket, server })
+}
+
+fn leave_at(settings: &Settings, bytes: &[u8], start: usize) -> Result<Body, Broken>
+    requires flag { start + 1 ≤ length bytes.now }
+    requires name { start + 1 < length bytes.now → start + 1 + settings.now.digits ≤ length bytes.now }
+    ensures { result ≡ leave_at settings.now start bytes.now }
+{
+    let replacement = optional_at(settings, bytes, start)?;
+    Ok(Body::Leave { replacement })
+}
+
+#[tactic(auto, unfolding(crate::specs::Reading::cast_at))]
+fn cast_at(
+    alloc: Global,
+    settings: &Settings,
+    bytes: &[u8],
+    start: usize,
+) -> Result<Body, BodyFault>
+    requires { start + 11 ≤ length bytes.now }
+    ensures { Gives result (cast_at settings.now start bytes.now) }
+{
+    let cast = u32_at(bytes, start);
+    let level = level_at(settings, bytes, start + 4)?;
+    let session = session_at(bytes, start + 5)?;
+    let depth = u16_at(bytes, start + 9);
+    let word = word_at(alloc, bytes, start + 11)?;
+    Ok(Body::Cast {
+        cast,
+        level,
+        session,
+        depth,
+        word,
+    })
+}
+
+// The body from its start to the end of the bytes, which are as many as the kind may have.
+pub(crate) fn body_at(
+    alloc: Global,
+    settings: &Settings,
+    kind: Kind,
+    bytes: &[u8],
+    start: usize,
+) -> Result<Body, BodyFault>
+    requires within { start ≤ length bytes.now }
+    requires long { IsTrue (is_length settings.now kind (length bytes.now - start)) }
+    ensures { Gives result (body_at settings.now kind start bytes.now) }
+{
+    Ok(match kind {
+        Kind::Seek => seek_at(settings, bytes, start)?,
+        Kind::Tell => tell_at(alloc, settings, bytes, start)?,
+        Kind::Hello => hello_at(alloc, settings, bytes, start)?,
+        Kind::Heard => Body::Heard {
+            session: session_at(bytes, start)?,
+        },
+        Kind::Ack => Body::Ack {
+            session: session_at(bytes, start)?,
+        },
+        Kind::Done => Body::Done,
+        Kind::Release => Body::Release,
+        Kind::Link => link_at(bytes, start)?,
+        Kind::Lay => lay_at(settings, bytes, start)?,
+        Kind::Find => find_at(settings, bytes, start)?,
+        Kind::Answer => answer_at(settings, bytes, start)?,
+        Kind::Leave => leave_at(settings, bytes, start)?,
+        Kind::Left => Body::Left,
+        Kind::Gone => Body::Gone,
+        Kind::Forget => Body::Forget,
+        Kind::Cast => cast_at(alloc, settings, bytes, start)?,
+        Kind::CastAck => Body::CastAck {
+            session: session_at(bytes, start)?,
+        },
+    })
+}
