@@ -1,4 +1,7 @@
-//! The top call: a scenario is read, run and printed.
+//! The top call: a scenario is read from a source, run, and printed to a sink.
+//!
+//! [`run`] is all that a program needs: its contract says why it ends as it does, what its log is, and what it has
+//! written. A log is that of a run over fixed members, whose tables have no hole, and whose walks find the one root.
 #![tactic(auto)]
 
 mod fault_line;
@@ -9,8 +12,6 @@ mod running;
 mod status;
 mod top;
 
-pub use members::Members;
-pub use memory::NoMemory;
 pub use reading::LIMIT;
 pub use status::{Ended, Status};
 pub use top::run;

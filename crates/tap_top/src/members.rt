@@ -29,9 +29,9 @@ impl Model for Table {
     ghost view = { λ t. t.slots.items };
 }
 
-/// The tables of the members of an overlay: each slot has the least members that fit it, as many as the width allows.
+// The tables of the members of an overlay: each slot has the least members that fit it, as many as the width allows.
 #[derive(Drop)]
-pub struct Members {
+pub(crate) struct Members {
     settings: Settings,
     tables: BTreeMap<Name, Table>,
 }
@@ -57,8 +57,12 @@ impl Links for Members {
 impl Members {
     ghost use Rattle.tap_top.specs.AtRest.{AreAtRest};
 
-    /// The tables of distinct members.
-    pub fn new(alloc: Global, settings: Settings, members: &[Name]) -> Result<Members, NoMemory>
+    // The tables of distinct members.
+    pub(crate) fn new(
+        alloc: Global,
+        settings: Settings,
+        members: &[Name],
+    ) -> Result<Members, NoMemory>
         requires names { All (IsName settings) members.now }
         requires distinct { AreDistinct members.now }
         ensures { IfOk result (AreAtRest settings members.now) }
@@ -69,8 +73,8 @@ impl Members {
         Ok(Members { settings, tables })
     }
 
-    /// Whether a name is a member's.
-    pub fn has(&self, name: &Name) -> bool
+    // Whether a name is a member's.
+    pub(crate) fn has(&self, name: &Name) -> bool
         ensures { result ≡ is_some (get (slice_cmp nat_cmp) self.now.tables name.now) }
     {
         self.tables.contains_key(name)

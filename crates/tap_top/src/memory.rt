@@ -1,8 +1,8 @@
 use std::alloc::{AllocError, AllocFailed};
 
-/// Memory was refused.
+// Memory was refused.
 #[derive(Clone, Copy, Debug, PartialEq, Eq)]
-pub struct NoMemory;
+pub(crate) struct NoMemory;
 
 impl From<AllocError> for NoMemory {
     fn from(_: AllocError) -> NoMemory {
