@@ -38,14 +38,14 @@ pub enum Body {
         joiner: Name,
         /// How many digits the joiner shares with its surrogate, below the number of digits.
         prefix: u8,
-        /// How many digits the receiver shares with all that it is to tell, above `prefix`, at most the number of
-        /// digits.
+        /// The receiver is to tell nodes that share at least so many digits with it: above `prefix`, at most the
+        /// number of digits.
         level: u8,
         /// The sender's session, from 1.
         session: u32,
-        /// How many Tells stand between the surrogate and the receiver.
+        /// How many Tells led from the surrogate to the receiver.
         depth: u16,
-        /// The slots that nobody has filled yet.
+        /// The slots of levels up to `prefix` that nobody has filled yet, at most `digits * (base - 1)`.
         watch: Watch,
     },
     /// A node greets a joiner.
@@ -124,11 +124,12 @@ pub enum Body {
     Cast {
         /// The cast's number, any number.
         cast: u32,
-        /// How many digits the receiver shares with all that it is to cast to, from 1 to the number of digits.
+        /// The receiver is to cast to nodes that share at least so many digits with it, from 1 to the number of
+        /// digits.
         level: u8,
         /// The sender's session, from 1.
         session: u32,
-        /// How many Casts stand between the first node and the receiver.
+        /// How many Casts led from the first node to the receiver.
         depth: u16,
         /// The word: 1 to 32 lower-case letters and digits.
         word: Bytes,
