@@ -1,10 +1,11 @@
 -- Why the top call ends as it does, and what it has then written. Of the source, `left` are the bytes that it had and
 -- `rest` those that it has still, which are `None` where it doesn't tell them; its count of faults was `before` and is `now`.
-use Rattle.std.specs.Prelude.{◌≡◌, ◌⊎◌, ℕ, ◌<◌, ◌++◌, List, [], length, Option, IfSome, Ok, Err}
+use Rattle.std.specs.Prelude.{◌≡◌, ◌⊎◌, ℕ, ◌<◌, ◌≤◌, ◌++◌, List, [], length, Option, IfSome, Ok, Err}
 use Rattle.std.specs.Io.KnownBytes.{Appends, IsAtEnd}
 use Rattle.tap_io.specs.Faults.{HasRisen}
 use Rattle.tap_scenario.specs.Scenario.{Script}
 use Rattle.tap_scenario.specs.Document.{scenario_of}
+use Rattle.tap_scenario.specs.declared.fault.Fault.{Fault}
 use Rattle.tap_log.specs.declared.record.Record.{Record}
 use Rattle.tap_report.specs.Text.{text_of_log}
 use Rattle.tap_report.specs.Written.{FirstFails}
@@ -18,15 +19,19 @@ use Rattle.tap_top.specs.FaultLine.{fault_line}
 abbrev pub most_bytes : ℕ
 most_bytes = 1048576
 
--- the bytes, where they are told, are the text of this script
+-- the bytes, where they are told, are no more than a text may have, and the text of this script
 abbrev pub IsTextOf : Option (List ℕ) → Script → Type 0
-IsTextOf left s = IfSome left (λ all. scenario_of all ≡ Ok s)
+IsTextOf left s = IfSome left (λ all. (length all ≤ most_bytes) × (scenario_of all ≡ Ok s))
+
+-- the bytes, where they are told, are no more than a text may have, and refused with this fault
+abbrev pub IsRefusedWith : Option (List ℕ) → Fault → Type 0
+IsRefusedWith left fault = IfSome left (λ all. (length all ≤ most_bytes) × (scenario_of all ≡ Err fault))
 
 -- why no script was read; where a script was read or nothing was tried, there is no such reason
 abbrev pub IsUnread : Option (List ℕ) → Option (List ℕ) → ℕ → ℕ → Status → Type 0
 IsUnread left rest before now ReadFault = HasRisen before now
 IsUnread left rest before now TooLong = IfSome left (λ all. most_bytes < length all)
-IsUnread left rest before now (NotScenario fault) = IfSome left (λ all. scenario_of all ≡ Err fault) × IsAtEnd rest
+IsUnread left rest before now (NotScenario fault) = IsRefusedWith left fault × IsAtEnd rest
 IsUnread left rest before now NoMemory = Unit {0}
 IsUnread left rest before now Done = ⊥
 IsUnread left rest before now Usage = ⊥

@@ -1,10 +1,9 @@
-ghost use Rattle.std.specs.Prelude.{◌≡◌, ◌≢◌, ◌≤◌, ◌<◌, ◌↔◌, ◌⊎◌, [], length, vec_len, IfOk, OnOk, IfErr, IfSome, Err};
+ghost use Rattle.std.specs.Prelude.{◌≡◌, ◌≢◌, ◌<◌, ◌↔◌, ◌⊎◌, [], length, vec_len, IfOk, OnOk, IfErr, IfSome};
 ghost use Rattle.std.specs.Io.KnownBytes.{IsAtEnd};
 ghost use Rattle.tap_io.specs.Faults.{HasRisen};
-ghost use Rattle.tap_scenario.specs.Document.{scenario_of};
 ghost use Rattle.tap_report.specs.Reporter.{Reports, kept_at_first};
 ghost use Rattle.tap_report.specs.declared.mode.Mode.TheVariants.{Long as LongMode};
-ghost use Rattle.tap_top.specs.Ending.{HasCause, HasRunAll, HasRunSome, HasWritten, IsTextOf, IsUnread, text_of_run};
+ghost use Rattle.tap_top.specs.Ending.{HasCause, HasRunAll, HasRunSome, HasWritten, IsRefusedWith, IsTextOf, IsUnread, text_of_run};
 
 use crate::fault_line::write_fault_line;
 use crate::reading::{LIMIT, Unread, read_all};
@@ -88,8 +87,7 @@ pub fn run<S: Source, K: Sink>(
     ensures done { result.before ≡ Status.Done → HasRunAll (S.left source.old) (S.left source.new) result.log.records }
     ensures read_fault { result.before ≡ Status.ReadFault → HasRisen (S.faults source.old) (S.faults source.new) }
     ensures too_long { result.before ≡ Status.TooLong → IfSome (S.left source.old) (λ all. LIMIT < length all) }
-    ensures not_scenario { (fault : Fault) → result.before ≡ Status.NotScenario fault
-        → IfSome (S.left source.old) (λ all. scenario_of all ≡ Err fault) }
+    ensures not_scenario { (fault : Fault) → result.before ≡ Status.NotScenario fault → IsRefusedWith (S.left source.old) fault }
     ensures write_fault { result.status ≡ Status.WriteFault → HasRisen (K.faults sink.old) (K.faults sink.new) }
     ensures before { result.before ≢ Status.WriteFault }
 
