@@ -3,83 +3,86 @@ use std::test::Fail;
 use tap_scenario::{Fault, Key};
 use tap_top::Status;
 
+// A line of the scenario, counted from 0, what stands there in its stead, the fault, and what is printed of it.
+type Refused = (usize, &'static str, Fault, &'static str);
+
+const REFUSED: [Refused; 15] = [
+    (0, "base = 17", Fault::BadValue(Key::Base), "bad value base"),
+    (0, "base = 4\nbase = 4", Fault::NotToml, "not TOML"),
+    (0, "", Fault::BadKey(Key::Base), "bad key base"),
+    (
+        2,
+        "width = 5",
+        Fault::BadValue(Key::Width),
+        "bad value width",
+    ),
+    (
+        2,
+        "width = 2\nframes = 0",
+        Fault::BadValue(Key::Frames),
+        "bad value frames",
+    ),
+    (
+        4,
+        "steps = [\"walk 123 from 000\"]\nspeed = 1",
+        Fault::BadKey(Key::Unknown),
+        "bad key unknown",
+    ),
+    (
+        4,
+        "steps = \"settle\"",
+        Fault::BadValue(Key::Steps),
+        "bad value steps",
+    ),
+    (0, "[base]", Fault::BadKey(Key::Digits), "bad key digits"),
+    (
+        3,
+        "members = [\"000\", \"014\", \"230\"]",
+        Fault::BadValue(Key::Members),
+        "bad value members",
+    ),
+    (
+        3,
+        "members = [\"000\", \"000\"]",
+        Fault::BadValue(Key::Members),
+        "bad value members",
+    ),
+    (
+        3,
+        "members = [[\"000\"]]",
+        Fault::BadValue(Key::Members),
+        "bad value members",
+    ),
+    (
+        4,
+        "steps = [\"walk 123  from 000\"]",
+        Fault::BadStep(1),
+        "bad step 1",
+    ),
+    (
+        4,
+        "steps = [\"root 123\", \"deliver 007\"]",
+        Fault::BadStep(2),
+        "bad step 2",
+    ),
+    (
+        4,
+        "steps = [\"deliver 4294967296\"]",
+        Fault::BadStep(1),
+        "bad step 1",
+    ),
+    (
+        4,
+        "steps = [\"walk 12F from 000\"]",
+        Fault::BadStep(1),
+        "bad step 1",
+    ),
+];
+
 #[test]
 fn each_refused_text_has_its_fault(rt: HostRuntime) -> Result<(), Fail> {
     let alloc = rt.alloc();
-    // The place of a line, what stands there in its stead, the fault, and the line that is printed.
-    let cases = [
-        (0, "base = 17", Fault::BadValue(Key::Base), "bad value base"),
-        (0, "base = 4\nbase = 4", Fault::NotToml, "not TOML"),
-        (0, "", Fault::BadKey(Key::Base), "bad key base"),
-        (
-            2,
-            "width = 5",
-            Fault::BadValue(Key::Width),
-            "bad value width",
-        ),
-        (
-            2,
-            "width = 2\nframes = 0",
-            Fault::BadValue(Key::Frames),
-            "bad value frames",
-        ),
-        (
-            3,
-            "members = [\"000\", \"014\", \"230\"]",
-            Fault::BadValue(Key::Members),
-            "bad value members",
-        ),
-        (
-            3,
-            "members = [\"000\", \"000\"]",
-            Fault::BadValue(Key::Members),
-            "bad value members",
-        ),
-        (
-            3,
-            "members = [[\"000\"]]",
-            Fault::BadValue(Key::Members),
-            "bad value members",
-        ),
-        (
-            4,
-            "steps = [\"walk 123 from 000\"]\nspeed = 1",
-            Fault::BadKey(Key::Unknown),
-            "bad key unknown",
-        ),
-        (
-            4,
-            "steps = \"settle\"",
-            Fault::BadValue(Key::Steps),
-            "bad value steps",
-        ),
-        (
-            4,
-            "steps = [\"walk 123  from 000\"]",
-            Fault::BadStep(1),
-            "bad step 1",
-        ),
-        (
-            4,
-            "steps = [\"root 123\", \"deliver 007\"]",
-            Fault::BadStep(2),
-            "bad step 2",
-        ),
-        (
-            4,
-            "steps = [\"deliver 4294967296\"]",
-            Fault::BadStep(1),
-            "bad step 1",
-        ),
-        (
-            4,
-            "steps = [\"walk 12F from 000\"]",
-            Fault::BadStep(1),
-            "bad step 1",
-        ),
-        (0, "[base]", Fault::BadKey(Key::Digits), "bad key digits"),
-    ];
-    for (place, line, fault, told) in cases.iter() {
+    for (place, line, fault, told) in REFUSED.iter() {
         let text = with_line(alloc, *place, line)?;
         let outcome = run_text(alloc, text.as_bytes(), &[], &[])?;
         let printed = format!(in alloc; "tapestry: not a scenario: {told}\n")?;
