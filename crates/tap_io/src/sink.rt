@@ -12,6 +12,8 @@ pub enum Took {
 }
 
 /// A taker of bytes, in pieces.
+///
+/// Rule: docs/DECISIONS.md, "Sources and sinks".
 pub trait Sink {
     /// The bytes that are held, or `None` where the sink doesn't tell them.
     ghost held: { Self → Option (List ℕ) };

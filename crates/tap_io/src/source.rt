@@ -15,6 +15,8 @@ pub enum Got {
 }
 
 /// Bytes that come in pieces.
+///
+/// Rule: docs/DECISIONS.md, "Sources and sinks".
 pub trait Source {
     /// The bytes that are left, or `None` where the source doesn't tell them.
     ghost left: { Self → Option (List ℕ) };

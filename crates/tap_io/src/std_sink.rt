@@ -10,6 +10,8 @@ use std::marker::Model;
 /// Each write makes one call of the writer. Every error of the writer is a fault, `Interrupted` too,
 /// and so is a write that takes no byte: nothing is tried again within a write, and the caller may
 /// write again. The writer is never flushed, so hand in one that holds nothing back.
+///
+/// Rule: docs/DECISIONS.md, "Sources and sinks".
 #[derive(Debug, Drop)]
 pub struct StdSink<W: Write> {
     inner: W,

@@ -9,6 +9,8 @@ use std::marker::Model;
 ///
 /// Each read makes one call of the reader. Every error of the reader is a fault, `Interrupted` too:
 /// nothing is tried again within a read, and the caller may read again.
+///
+/// Rule: docs/DECISIONS.md, "Sources and sinks".
 #[derive(Debug, Drop)]
 pub struct StdSource<R: Read> {
     inner: R,

@@ -1,4 +1,6 @@
 /// What a link is.
+///
+/// Rule: docs/PROTOCOL.md, "Links".
 #[derive(Clone, Copy, Debug, PartialEq, Eq)]
 pub enum Kind {
     /// A link that stays until its target ends it.
@@ -10,6 +12,8 @@ pub enum Kind {
 }
 
 /// What became of a link at a release by its target.
+///
+/// Rule: docs/PROTOCOL.md, "Links".
 #[derive(Clone, Copy, Debug, PartialEq, Eq)]
 pub enum Released {
     /// The pin is now a settled link.

@@ -9,6 +9,8 @@ use std::marker::Model;
 ///
 /// It can be neither copied nor dropped, so each pin that is made has to be spent: by a word of its
 /// target, or with the node that holds it.
+///
+/// Rule: docs/PROTOCOL.md, "Links".
 pub struct Pin<K: Ord + Copy> {
     target: K,
 }

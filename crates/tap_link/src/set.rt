@@ -16,6 +16,8 @@ use std::marker::Model;
 /// At most `width` of them are settled and not leaving. The first four links need no memory. A set
 /// may be dropped whole, and its pins then end with it; no call takes a single pin out but at a
 /// word of its target.
+///
+/// Rule: docs/PROTOCOL.md, "Links".
 #[derive(Drop)]
 pub struct LinkSet<K: Ord + Copy> {
     width: u8,

@@ -3,6 +3,8 @@ ghost use Rattle.std.specs.Prelude.{◌≡◌, false, true};
 use std::marker::Model;
 
 /// A link to a node that has joined. It may be dropped.
+///
+/// Rule: docs/PROTOCOL.md, "Links".
 #[derive(Drop)]
 pub struct Settled<K: Ord + Copy> {
     target: K,

@@ -1,4 +1,6 @@
 /// The word of a node that has joined: a pin on it may end.
+///
+/// Rule: docs/PROTOCOL.md, "Links".
 #[derive(Debug, Drop)]
 pub struct Release<K> {
     /// The node that says it.
@@ -6,6 +8,8 @@ pub struct Release<K> {
 }
 
 /// The word of a node that has given up joining: a pin on it is to be forgotten.
+///
+/// Rule: docs/PROTOCOL.md, "Links".
 #[derive(Debug, Drop)]
 pub struct Forget<K> {
     /// The node that says it.
@@ -13,6 +17,8 @@ pub struct Forget<K> {
 }
 
 /// The end of a node that holds links: all of them end with it.
+///
+/// Rule: docs/PROTOCOL.md, "Links".
 #[derive(Debug, Drop)]
 pub struct Cease<K> {
     /// The node that ends.

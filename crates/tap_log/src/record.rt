@@ -2,6 +2,8 @@ use tap_name::{List, Name, Settings};
 use tap_scenario::Step;
 
 /// Why a step is refused. A refused step changes nothing, and the run goes on.
+///
+/// Rule: docs/FORMATS.md, "The printed text".
 #[derive(Clone, Copy, Debug, PartialEq, Eq)]
 pub enum Refusal {
     /// The name is no member's.
@@ -9,6 +11,8 @@ pub enum Refusal {
 }
 
 /// One thing that a run did.
+///
+/// Rule: docs/FORMATS.md, "The printed text".
 #[derive(Debug, Drop)]
 pub enum Record {
     /// The run begins, with these members as core nodes. It may send so many frames.

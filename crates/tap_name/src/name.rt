@@ -17,6 +17,8 @@ use std::marker::Model;
 /// A name of a node or an object: up to 40 digits, each below 16.
 ///
 /// Names are ordered digit by digit. Contracts see the list of the digits.
+///
+/// Rule: docs/PROTOCOL.md, "Names".
 #[derive(Clone, Copy, Debug)]
 pub struct Name {
     places: [u8; 40],
@@ -126,6 +128,8 @@ impl Name {
     }
 
     /// The name of these digit values. A wrong number of them is found before a bad digit.
+    ///
+    /// Rule: docs/PROTOCOL.md, "Names".
     pub fn from_digits(settings: &Settings, digits: &[u8]) -> Result<Name, NameFault>
         ensures value { result ≡ name_of_digits settings.now digits.now }
         ensures valid { IfOk result (IsName settings.now) }
@@ -157,6 +161,8 @@ fn digit_value(byte: u8) -> u8
 
 /// The name that a text spells, one byte for each digit: `0` to `9` and `a` to `f`, below the base. Capital letters
 /// are no digits. A wrong length is found before a bad digit.
+///
+/// Rule: docs/PROTOCOL.md, "Names".
 pub fn read_name(settings: &Settings, text: &[u8]) -> Result<Name, NameFault>
     ensures value { result ≡ name_of_text settings.now text.now }
     ensures valid { IfOk result (IsName settings.now) }

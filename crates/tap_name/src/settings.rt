@@ -8,6 +8,8 @@ use std::marker::Model;
 ///
 /// The base of the digits is from 2 to 16, a name has 1 to 40 digits, and a slot of a table holds at most
 /// `width` settled links, 1 to 4. Contracts see the record of the three numbers.
+///
+/// Rule: docs/PROTOCOL.md, "Names".
 #[derive(Clone, Copy, Debug, PartialEq, Eq)]
 pub struct Settings {
     base: u8,

@@ -9,6 +9,8 @@ use std::alloc::Global;
 use std::marker::Model;
 
 /// What a register keeps: the newest write to its key.
+///
+/// Rule: docs/PROTOCOL.md, "Versions".
 #[derive(Clone, Copy, Debug, PartialEq, Eq)]
 pub struct Entry<K, V> {
     /// The key that was written to.
@@ -29,6 +31,8 @@ pub struct Entry<K, V> {
 /// The entries lie in one sorted vector. A look-up compares the key with about log n of the n
 /// others, and takes no memory. A newer version of a key that is there is written in its place; a
 /// new key moves the entries behind it.
+///
+/// Rule: docs/PROTOCOL.md, "Versions".
 #[derive(Drop)]
 pub struct Registers<K: Ord + Copy, V: Copy> {
     entries: Vec<Entry<K, V>>,

@@ -6,6 +6,8 @@ use std::marker::Model;
 /// greatest `u32`.
 ///
 /// A stamp is not copied, since two copies would give one number to two writes.
+///
+/// Rule: docs/PROTOCOL.md, "Versions".
 #[derive(Debug, Drop)]
 pub struct Stamp {
     last: u32,

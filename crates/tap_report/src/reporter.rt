@@ -15,6 +15,8 @@ use tap_name::Settings;
 ///
 /// Contracts see what it keeps: the mode, the settings of the `Begin` that was put, how many records were put, and
 /// whether all was written. It takes no memory.
+///
+/// Rule: docs/FORMATS.md, "The printed text".
 #[derive(Debug, Drop)]
 pub struct Reporter {
     mode: Mode,
@@ -89,6 +91,8 @@ fn settings_with(settings: Option<Settings>, item: &Record) -> Option<Settings>
 ///
 /// The log is empty, or its first record is its only `Begin`, and the path of no walk is empty. `Failed` comes only where
 /// the sink counted a fault in this call, and some first bytes of the text are then written.
+///
+/// Rule: docs/FORMATS.md, "The printed text".
 pub fn write_log<K: Sink>(mode: Mode, log: &Log, sink: &mut K) -> Written
     requires { IsPrintableLog log.now.records }
     ensures { WritesText (K.held sink.old) (K.held sink.new)

@@ -216,6 +216,8 @@ fn read_table(alloc: Global, table: &Table) -> Result<Scenario, ReadRefusal>
 /// 64 strings, distinct names) and `steps` (an array of at most 10,000 strings, each the text of a step). A key
 /// `frames` may stand beside them: 1 to 500,000, and 200,000 where it is absent; where `digits` is above 8, 1 to
 /// 100,000, and 100,000 where it is absent. What is wrong is told in the order of [`Fault`]'s variants.
+///
+/// Rule: docs/FORMATS.md, "The scenario".
 pub fn read(alloc: Global, bytes: &[u8]) -> Result<Scenario, ReadRefusal>
     ensures value { AnswersUnlessMemory (scenario_of bytes.now) result }
     ensures valid { IfOk result IsScript }

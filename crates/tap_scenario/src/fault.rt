@@ -4,6 +4,8 @@ ghost use Rattle.tap_scenario.specs.Key.{text_of_key};
 use std::alloc::{AllocError, AllocFailed};
 
 /// A key of a scenario's text.
+///
+/// Rule: docs/FORMATS.md, "The scenario".
 #[derive(Clone, Copy, Debug, PartialEq, Eq)]
 pub enum Key {
     /// The base of the digits.
@@ -40,6 +42,8 @@ impl Key {
 }
 
 /// The first thing that is wrong with a scenario's text, in the order of the variants.
+///
+/// Rule: docs/FORMATS.md, "The scenario".
 #[derive(Clone, Copy, Debug, PartialEq, Eq)]
 pub enum Fault {
     /// The bytes aren't UTF-8.

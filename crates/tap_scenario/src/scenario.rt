@@ -9,6 +9,8 @@ use tap_name::{List, Name, Settings};
 ///
 /// It has 1 to 64 distinct members and at most 10,000 steps, whose names are all names of the settings. A run may send
 /// 1 to 500,000 frames, or 1 to 100,000 where names have more than eight digits.
+///
+/// Rule: docs/FORMATS.md, "The scenario".
 #[derive(Debug, Drop)]
 pub struct Scenario {
     settings: Settings,

@@ -5,6 +5,8 @@ use crate::words::Words;
 use tap_name::{Name, Settings};
 
 /// One step of a scenario.
+///
+/// Rule: docs/FORMATS.md, "The scenario".
 #[derive(Clone, Copy, Debug, PartialEq, Eq)]
 pub enum Step {
     /// Walks from a core node towards the root of an object.
@@ -39,6 +41,8 @@ fn step_of_words(settings: &Settings, mut words: Words<'_>) -> Option<Step>
 
 /// The step that a text is, where it is one: `walk OBJECT from ASKER` or `root OBJECT`, with names of the settings, one
 /// space between two words and nothing before or behind.
+///
+/// Rule: docs/FORMATS.md, "The scenario".
 pub fn read_step(settings: &Settings, text: &[u8]) -> Option<Step>
     ensures value { result ≡ step_of_text settings.now text.now }
 

@@ -1,6 +1,8 @@
 use tap_name::Name;
 
 /// Who is told when a session closes.
+///
+/// Rule: docs/PROTOCOL.md, "Sessions".
 #[derive(Clone, Copy, Debug, PartialEq, Eq)]
 pub enum Parent {
     /// The one who asked: no session stands above this one.

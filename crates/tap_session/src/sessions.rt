@@ -11,9 +11,13 @@ use std::collections::BTreeMap;
 use std::marker::Model;
 
 /// How many sessions one value may open.
+///
+/// Rule: docs/PROTOCOL.md, "Sessions".
 pub const MOST_SESSIONS: u32 = 500_001;
 
 /// What an answer did to the session that it was for.
+///
+/// Rule: docs/PROTOCOL.md, "Sessions".
 #[derive(Clone, Copy, Debug, PartialEq, Eq)]
 pub enum Answered {
     /// The session waits for further answers.
@@ -39,6 +43,8 @@ struct Awaited {
 /// The open sessions lie in a tree by their numbers. So a call takes time that grows with the
 /// logarithm of how many are open, in whatever order they close, and memory is kept for open
 /// sessions alone.
+///
+/// Rule: docs/PROTOCOL.md, "Sessions".
 #[derive(Drop)]
 pub struct Sessions {
     awaited: BTreeMap<u32, Awaited>,

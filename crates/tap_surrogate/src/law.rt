@@ -4,6 +4,8 @@ ghost use Rattle.tap_surrogate.specs.Laws.{WalkLaw, RestLaw, FirstFittingLaw};
 /// ends at the object's one root, in as many hops as a name has digits or fewer.
 ///
 /// It does nothing: its contract is the law.
+///
+/// Rule: docs/PROTOCOL.md, "Walks".
 pub fn walk_law()
     ensures { WalkLaw }
 {}
@@ -13,6 +15,8 @@ pub fn walk_law()
 /// first ones that fit.
 ///
 /// It does nothing: its contract is the law.
+///
+/// Rule: docs/PROTOCOL.md, "Slots and tables".
 pub fn members_law()
     ensures hole_free { RestLaw }
     ensures first_fitting { FirstFittingLaw }

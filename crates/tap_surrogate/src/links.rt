@@ -9,6 +9,8 @@ use tap_name::{Name, Settings, Slot};
 /// The tables of nodes, as far as a walk reads them.
 ///
 /// For each node and each slot of its table they tell the links to core nodes, ascending by name.
+///
+/// Rule: docs/PROTOCOL.md, "Slots and tables".
 pub trait Links {
     /// What the names of the nodes have in common.
     ghost parameters: { Self → Parameters };

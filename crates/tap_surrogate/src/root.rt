@@ -11,6 +11,8 @@ use tap_name::{List, Name, Settings};
 /// kept at all levels.
 ///
 /// `None` exactly where the list is empty. One pass over the names, and no memory.
+///
+/// Rule: docs/PROTOCOL.md, "Roots".
 pub fn root_of(names: &List<Name>, settings: &Settings, object: &Name) -> Option<Name>
     requires names { AreNames settings.now names.now }
     requires object { IsName settings.now object.now }

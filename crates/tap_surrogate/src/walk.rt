@@ -23,6 +23,8 @@ pub enum Step1 {
 /// At each level the digits are tried cyclically from the object's. The first one that is the
 /// node's own, or whose slot has a link to a core node, is taken: for its own digit the walk stays,
 /// else it hops to the least of these nodes.
+///
+/// Rule: docs/PROTOCOL.md, "Walks".
 #[derive(Debug, Drop)]
 pub struct Walk {
     node: Name,
@@ -105,6 +107,8 @@ impl Walk {
 }
 
 /// The nodes of the whole walk of an object from a node: this node first, the root last.
+///
+/// Rule: docs/PROTOCOL.md, "Walks".
 pub fn walk_path<L: Links>(
     alloc: Global,
     links: &L,

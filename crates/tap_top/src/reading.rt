@@ -5,6 +5,8 @@ use std::alloc::Global;
 use tap_io::{Got, Source};
 
 /// The most bytes that a scenario's text may have.
+///
+/// Rule: docs/PROTOCOL.md, "Limits".
 pub const LIMIT: usize = 1_048_576;
 
 // Why the bytes of a source weren't read to their end.

@@ -2,6 +2,8 @@ use tap_log::Log;
 use tap_scenario::Fault;
 
 /// How the top call ended.
+///
+/// Rule: docs/FORMATS.md, "The fault line and the exit status".
 #[derive(Clone, Copy, Debug, PartialEq, Eq)]
 pub enum Status {
     /// Every step was run, and all text was written.

@@ -69,6 +69,8 @@ fn read_and_run<S: Source, K: Sink>(
 /// The words come first, then the reading, the scenario, and then the run and the writing side by side, record by record;
 /// the fault line is last. The first read that fails ends the reading, and the first write that fails ends the writing,
 /// but not the run: the log and `before` don't depend on the sink. Where there is no run, the log is empty.
+///
+/// Rule: docs/FORMATS.md, "The fault line and the exit status".
 pub fn run<S: Source, K: Sink>(
     alloc: Global,
     words: &Vec<String>,

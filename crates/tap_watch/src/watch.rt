@@ -10,6 +10,8 @@ use std::marker::Model;
 use tap_name::{Name, Settings, Slot};
 
 /// The slots of a joiner that nobody has filled yet, each at most once, ascending by level, then digit.
+///
+/// Rule: docs/PROTOCOL.md, "Watch lists".
 #[derive(Debug, Drop)]
 pub struct Watch {
     slots: Vec<Slot>,
@@ -38,6 +40,8 @@ impl Watch {
     }
 
     /// All slots of the levels up to `prefix`, but the joiner's own: those that have the joiner's digit at their level.
+    ///
+    /// Rule: docs/PROTOCOL.md, "Watch lists".
     pub fn full(
         alloc: Global,
         joiner: &Name,

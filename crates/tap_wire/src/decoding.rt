@@ -130,6 +130,8 @@ fn opening_of(settings: &Settings, bytes: &[u8]) -> Result<Opening, HeadFault>
 
 /// The kind, the sender and the receiver of a frame: its refusals are those of `decode` but for the fields of the body,
 /// which it doesn't read. It takes no memory.
+///
+/// Rule: docs/FORMATS.md, "Frames".
 pub fn decode_head(settings: &Settings, bytes: &[u8]) -> Result<Head, HeadFault>
     ensures value { result ≡ head_of settings.now bytes.now }
     // Each refusal comes exactly where it is the refusal of the whole frame.
@@ -144,6 +146,8 @@ pub fn decode_head(settings: &Settings, bytes: &[u8]) -> Result<Head, HeadFault>
 }
 
 /// The frame that the bytes spell, all of them, or the first refusal. Want of memory may come in place of either.
+///
+/// Rule: docs/FORMATS.md, "Frames".
 pub fn decode(alloc: Global, settings: &Settings, bytes: &[u8]) -> Result<Frame, WireFault>
     // Which frame or refusal it is.
     ensures exact { result ≢ Err WireFault.NoMemory → result ≡ frame_of settings.now bytes.now }

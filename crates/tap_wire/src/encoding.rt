@@ -24,6 +24,8 @@ fn put_head(out: &mut Vec<u8>, settings: &Settings, code: u8, len: u16) -> Resul
 }
 
 /// The one spelling of a frame whose fields keep their rules.
+///
+/// Rule: docs/FORMATS.md, "Frames".
 pub fn encode(alloc: Global, settings: &Settings, frame: &Frame) -> Result<Bytes, NoMemory>
     requires { IsFrame settings.now frame.now }
     ensures { IfOk result (λ bytes. bytes ≡ spelling settings.now frame.now) }

@@ -7,6 +7,8 @@ use std::alloc::{AllocError, AllocFailed};
 
 /// Why bytes are no frame, as far as its head and its two names tell: the first refusal, in the order of the variants
 /// but for `Short`, which also comes behind `BadCount`.
+///
+/// Rule: docs/FORMATS.md, "Frames".
 #[derive(Clone, Copy, Debug, PartialEq, Eq)]
 pub enum HeadFault {
     /// So many bytes are missing: of the head, or, where the head is right, of the whole frame.
@@ -27,6 +29,8 @@ pub enum HeadFault {
 
 /// Why bytes are no frame: the first refusal, in the order of the variants but for `Short`, which also comes behind
 /// `BadCount`; or want of memory, which may come in place of any answer.
+///
+/// Rule: docs/FORMATS.md, "Frames".
 #[derive(Clone, Copy, Debug, PartialEq, Eq)]
 pub enum WireFault {
     /// So many bytes are missing: of the head, or, where the head is right, of the whole frame.

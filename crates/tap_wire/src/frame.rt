@@ -3,6 +3,8 @@ use tap_name::{List, Name, Offered};
 use tap_watch::Watch;
 
 /// A frame that one node sends another.
+///
+/// Rule: docs/FORMATS.md, "Frames".
 #[derive(Debug, Drop)]
 pub struct Frame {
     /// The sender.
@@ -14,6 +16,8 @@ pub struct Frame {
 }
 
 /// What a frame's head and its two names say.
+///
+/// Rule: docs/FORMATS.md, "Frames".
 #[derive(Clone, Copy, Debug)]
 pub struct Head {
     /// The kind, 1 to 17.
@@ -25,6 +29,8 @@ pub struct Head {
 }
 
 /// What a frame says. The kinds have the codes 1 to 17, in this order.
+///
+/// Rule: docs/FORMATS.md, "Frames".
 #[derive(Debug, Drop)]
 pub enum Body {
     /// A joiner looks for its surrogate.
