@@ -1,0 +1,5 @@
+pub mod Entry
+pub mod SettledLink
+pub mod Link
+pub mod LinkSet
+pub mod Places

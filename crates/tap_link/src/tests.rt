@@ -1,0 +1,59 @@
+use crate::{Cease, Forget, Kind, LinkSet, Pin, Release, Released};
+use std::test::Fail;
+
+#[test]
+fn a_set_of_width_one_settles_one_link(rt: HostRuntime) -> Result<(), Fail> {
+    let mut set: LinkSet<u32> = LinkSet::new(rt.alloc(), 1);
+    assert!(rt; set.is_empty());
+    for (target, added) in [(7, true), (4, true), (7, false), (9, true)] {
+        assert_eq!(rt; set.pin(target)?, added, "pinning {target}");
+    }
+    assert_eq!(rt; set.primary(), None);
+    assert_eq!(rt; set.release(Release { from: 7 }), Released::Settled);
+    assert_eq!(rt; set.release(Release { from: 4 }), Released::Dropped);
+    assert_eq!(rt; set.release(Release { from: 4 }), Released::Nothing);
+    assert!(rt; !set.forget(Forget { from: 7 }));
+    assert_eq!(rt; set.primary(), Some(7));
+    assert!(rt; !set.offer(5)?);
+    assert!(rt; set.mark_leaving(7));
+    assert_eq!(rt; set.primary(), None);
+    assert!(rt; set.offer(5)?);
+    assert_eq!(rt; set.primary(), Some(5));
+    assert_eq!(rt; set.kind_of(9), Some(Kind::Pin));
+    assert!(rt; set.forget(Forget { from: 9 }));
+    assert!(rt; set.remove_settled(7));
+    assert_eq!(rt; set.kind_of(7), None);
+    set.cease(&Cease { owner: 1 });
+    Ok(())
+}
+
+#[test]
+fn links_stand_in_ascending_order(rt: HostRuntime) -> Result<(), Fail> {
+    let mut set: LinkSet<u32> = LinkSet::new(rt.alloc(), 2);
+    for target in [60, 20, 50, 10, 40, 30] {
+        assert!(rt; set.pin(target)?);
+    }
+    assert!(rt; set.offer(35)?);
+    assert_eq!(rt; set.len(), 7);
+    for (i, target) in [10, 20, 30, 35, 40, 50, 60].into_iter().enumerate() {
+        assert!(rt; i < set.len());
+        assert_eq!(rt; set.target_at(i), target);
+    }
+    assert!(rt; 3 < set.len());
+    assert_eq!(rt; set.kind_at(3), Kind::Settled);
+    Ok(())
+}
+
+#[test]
+fn each_pin_is_spent(rt: HostRuntime) {
+    let pin = Pin::of(5u32);
+    assert_eq!(rt; pin.target(), 5);
+    let mut settled = pin.settle(Release { from: 5 });
+    assert_eq!(rt; settled.target(), 5);
+    assert!(rt; !settled.is_leaving());
+    settled.mark_leaving();
+    assert!(rt; settled.is_leaving());
+    Pin::of(6u32).spend(Release { from: 6 });
+    Pin::of(7u32).forget(Forget { from: 7 });
+    Pin::of(8u32).cease(&Cease { owner: 1 });
+}
