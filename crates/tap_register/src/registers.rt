@@ -1,0 +1,186 @@
+ghost use Rattle.std.specs.Prelude.{◌≡◌, ◌==◌, ◌<◌, if◌then◌else◌, true, None, Some};
+ghost use Rattle.std.specs.Prelude.{[], length, slice_get, IfOk, IfErr, OnErr};
+ghost use Rattle.std.specs.Option.{option_map};
+ghost use Rattle.std.specs.Ordering.{is_eq};
+ghost use Rattle.tap_register.specs.Registers.{IsAscending, IsAt, IsGap, entry_of, supersedes, written};
+
+use crate::memory::NoMemory;
+use std::alloc::Global;
+use std::marker::Model;
+
+/// What a register keeps: the newest write to its key.
+#[derive(Clone, Copy, Debug, PartialEq, Eq)]
+pub struct Entry<K, V> {
+    /// The key that was written to.
+    pub key: K,
+    /// The number that the writer gave the write. Of two writes to a key the one with the greater
+    /// version is newer.
+    pub version: u32,
+    /// The value that was written.
+    pub value: V,
+}
+
+/// Registers of which the last writer wins: under each key the value of the greatest version that
+/// was applied.
+///
+/// Contracts see the list of entries, which ascends strictly by the keys' order. Two keys are the
+/// same where their comparison answers `Equal`.
+///
+/// The entries lie in one sorted vector. A look-up compares the key with about log n of the n
+/// others, and takes no memory. A newer version of a key that is there is written in its place; a
+/// new key moves the entries behind it.
+#[derive(Drop)]
+pub struct Registers<K: Ord + Copy, V: Copy> {
+    entries: Vec<Entry<K, V>>,
+}
+
+impl<K: Ord + Copy, V: Copy> Model for Registers<K, V> {
+    ghost use Rattle.std.specs.Prelude.{List};
+    ghost use Rattle.tap_register.specs.declared.registers.Entry.{Entry};
+    ghost use Rattle.tap_register.specs.Registers.{IsAscending};
+
+    ghost Value = { List (Entry K V) };
+
+    ghost view = { λ r. r.entries.items };
+
+    ghost invariant = { λ r. IsAscending K.cmp r.entries.items };
+}
+
+impl<K: Ord + Copy, V: Copy> Registers<K, V> {
+    /// No registers. This takes no memory; later calls take it of `alloc`.
+    pub fn new(alloc: Global) -> Registers<K, V>
+        ensures { result ≡ [] }
+    {
+        Registers {
+            entries: Vec::new(alloc),
+        }
+    }
+
+    /// Keeps the value under the key where the key is absent or its version is less, and answers
+    /// whether it was kept.
+    ///
+    /// A write that is older than the one that is kept, or as old, is answered `Ok(false)`. That and
+    /// `Err` leave all as it was, and `Err` comes only at a new key.
+    pub fn apply(&mut self, key: K, version: u32, value: V) -> Result<bool, NoMemory>
+        ensures answer { IfOk result (λ kept.
+            kept ≡ supersedes version (entry_of K.cmp self.old key)) }
+        ensures kept { result ≡ Ok true →
+            self.new ≡ written K.cmp self.old (record { key = key; version = version; value = value }) }
+        ensures look_up { result ≡ Ok true → (other : K) →
+            entry_of K.cmp self.new other ≡
+            (if is_eq (K.cmp key other)
+            then Some (record { key = key; version = version; value = value })
+            else entry_of K.cmp self.old other) }
+        ensures same { ¬ (result ≡ Ok true) → self.new ≡ self.old }
+        // Only a new key wants memory.
+        ensures new_key { OnErr result (entry_of K.cmp self.old key ≡ None) }
+    {
+        let entry = Entry {
+            key,
+            version,
+            value,
+        };
+        match search(&self.entries, &key) {
+            Ok(at) => {
+                if self.entries[at].version >= version {
+                    return Ok(false);
+                }
+                self.entries[at] = entry;
+                Ok(true)
+            }
+            Err(at) => {
+                self.entries.insert(at, entry)?;
+                Ok(true)
+            }
+        }
+    }
+
+    /// The value that is kept under the key, and `None` exactly where the key is absent.
+    pub fn get(&self, key: K) -> Option<V>
+        ensures { result ≡ option_map (λ e. e.value) (entry_of K.cmp self.now key) }
+    {
+        match search(&self.entries, &key) {
+            Ok(at) => Some(self.entries[at].value),
+            Err(_) => None,
+        }
+    }
+
+    /// How many keys there are.
+    pub fn len(&self) -> usize
+        ensures count { result ≡ length self.now }
+        ensures ascending { IsAscending K.cmp self.now }
+    {
+        self.entries.len()
+    }
+
+    /// Whether there is no key.
+    pub fn is_empty(&self) -> bool
+        ensures { result ≡ (length self.now == 0) }
+    {
+        self.entries.is_empty()
+    }
+
+    /// The entry at a place, counted from 0 in ascending order of keys.
+    pub fn entry_at(&self, i: usize) -> Entry<K, V>
+        requires { i < length self.now }
+        ensures { slice_get self.now i ≡ Some result }
+    {
+        self.entries[i]
+    }
+
+    /// All entries, in ascending order of keys.
+    pub fn as_slice(&self) -> &[Entry<K, V>]
+        ensures entries { result.now ≡ self.now }
+        ensures ascending { IsAscending K.cmp self.now }
+    {
+        self.entries.as_slice()
+    }
+}
+
+// The place of the key's entry, or else the place where it would go.
+fn search<K: Ord + Copy, V: Copy>(entries: &[Entry<K, V>], key: &K) -> Result<usize, usize>
+    requires { IsAscending K.cmp entries.now }
+    ensures found { IfOk result (λ at. IsAt K.cmp entries.now key.now at) }
+    ensures absent { IfErr result (λ at. IsGap K.cmp entries.now key.now at) }
+{
+    entries.binary_search_by(|entry| entry.key.cmp(key))
+}
+
+#[cfg(test)]
+mod tests {
+    use super::*;
+    use std::test::Fail;
+
+    // The greatest version wins, whatever the order of the writes.
+    #[test]
+    fn keeps_the_greatest_version(rt: HostRuntime) -> Result<(), Fail> {
+        let mut registers: Registers<u8, char> = Registers::new(rt.alloc());
+        assert!(rt; registers.is_empty());
+        for (key, version, value, kept) in [
+            (5, 2, 'b', true),
+            (5, 1, 'a', false),
+            (5, 2, 'x', false),
+            (9, 0, 'c', true),
+            (3, 7, 'd', true),
+            (7, 1, 'e', true),
+            (5, 3, 'f', true),
+        ] {
+            assert_eq!(rt; registers.apply(key, version, value)?, kept);
+        }
+        assert_eq!(rt; registers.len(), 4);
+        let expected = [(3, 7, 'd'), (5, 3, 'f'), (7, 1, 'e'), (9, 0, 'c')];
+        for (entry, (key, version, value)) in registers.as_slice().iter().zip(expected) {
+            let is = Entry {
+                key,
+                version,
+                value,
+            };
+            assert_eq!(rt; *entry, is);
+            assert_eq!(rt; registers.get(key), Some(value));
+        }
+        assert_eq!(rt; registers.entry_at(3).key, 9);
+        assert_eq!(rt; registers.get(4), None);
+        assert!(rt; !registers.is_empty());
+        Ok(())
+    }
+}

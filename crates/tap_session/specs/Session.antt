@@ -1,0 +1,15 @@
+-- What the sessions of a node are seen as.
+use Rattle.std.specs.Prelude.{ℕ, List}
+use Rattle.tap_session.specs.declared.parent.Parent.{Parent}
+
+-- an open session: its number, who is told when it closes, its depth, and how many answers it waits for
+pub record Session : Type 0 where
+  pub id : ℕ
+  pub parent : Parent
+  pub depth : ℕ
+  pub waiting : ℕ
+
+-- the open sessions, ascending by number, and how many were ever opened
+pub record Numbered : Type 0 where
+  pub sessions : List Session
+  pub opened : ℕ

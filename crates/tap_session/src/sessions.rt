@@ -1,0 +1,191 @@
+ghost use Rattle.std.specs.Prelude.{◌≡◌, ◌==◌, ℕ, ◌+◌, ◌<◌, ◌≤◌, if◌then◌else◌, Some};
+ghost use Rattle.std.specs.Prelude.{[], ◌∷◌, ◌++◌, length, IfOk, OnOk, OnErr};
+ghost use Rattle.std.specs.Option.{option_map, option_and_then};
+ghost use Rattle.tap_session.specs.Sessions.{AreSessions, after_answer, answer_to};
+ghost use Rattle.tap_session.specs.Sessions.{next_session, session_of, with_answer};
+
+use crate::memory::NoMemory;
+use crate::parent::Parent;
+use std::alloc::Global;
+use std::collections::BTreeMap;
+use std::marker::Model;
+
+/// How many sessions one value may open.
+pub const MOST_SESSIONS: u32 = 500_001;
+
+/// What an answer did to the session that it was for.
+#[derive(Clone, Copy, Debug, PartialEq, Eq)]
+pub enum Answered {
+    /// The session waits for further answers.
+    Open,
+    /// It was the last awaited answer: the session is gone, and its parent is to be told.
+    Closed(Parent),
+    /// No such session is open, and nothing changed.
+    Unknown,
+}
+
+// What an open session keeps.
+#[derive(Drop)]
+struct Awaited {
+    parent: Parent,
+    depth: u16,
+    waiting: u32,
+}
+
+/// The sessions of a node, numbered 1, 2, 3 in the order in which they are opened.
+///
+/// Contracts see the open sessions, ascending by number, and how many were ever opened.
+///
+/// The open sessions lie in a tree by their numbers. So a call takes time that grows with the
+/// logarithm of how many are open, in whatever order they close, and memory is kept for open
+/// sessions alone.
+#[derive(Drop)]
+pub struct Sessions {
+    awaited: BTreeMap<u32, Awaited>,
+    opened: u32,
+}
+
+impl Model for Sessions {
+    ghost use Rattle.tap_session.specs.Session.{Numbered};
+
+    ghost Value = { Numbered };
+
+    ghost use Rattle.tap_session.specs.Awaited.{AreCounted, sessions_of};
+
+    ghost view = { λ s. record { sessions = sessions_of s.awaited.entries; opened = s.opened } };
+
+    ghost invariant = { λ s. AreCounted s.awaited.entries s.opened };
+}
+
+impl Sessions {
+    /// No sessions. This takes no memory; later calls take it of `alloc`.
+    pub fn new(alloc: Global) -> Sessions
+        ensures sessions { result.sessions ≡ [] }
+        ensures opened { result.opened ≡ 0 }
+    {
+        Sessions {
+            awaited: BTreeMap::new(alloc),
+            opened: 0,
+        }
+    }
+
+    /// Opens a session which waits for so many answers, and gives its number, the next one. `Err`
+    /// opens nothing.
+    ///
+    /// The depth is kept as it is given. It is meant to be the number of sessions that stand above
+    /// this one, up to the one whose parent is the root.
+    pub fn open(&mut self, parent: Parent, depth: u16, waiting: u32) -> Result<u32, NoMemory>
+        requires waits { 1 ≤ waiting }
+        requires room { self.old.opened < MOST_SESSIONS }
+        ensures number { IfOk result (λ id. id ≡ self.old.opened + 1) }
+        ensures sessions { OnOk result (
+            self.new.sessions ≡
+            self.old.sessions ++ next_session self.old parent depth waiting ∷ []) }
+        ensures opened { OnOk result (self.new.opened ≡ self.old.opened + 1) }
+        ensures look_up { OnOk result ((other : ℕ) →
+            session_of self.new.sessions other ≡
+            (if self.old.opened + 1 == other
+            then Some (next_session self.old parent depth waiting)
+            else session_of self.old.sessions other)) }
+        ensures same { OnErr result (self.new ≡ self.old) }
+    {
+        let id = self.opened + 1;
+        let awaited = Awaited {
+            parent,
+            depth,
+            waiting,
+        };
+        self.awaited.insert(id, awaited)?;
+        self.opened = id;
+        Ok(id)
+    }
+
+    /// Takes an answer to the session of this number. It takes no memory.
+    pub fn answered(&mut self, id: u32) -> Answered
+        ensures answer { result ≡ answer_to (session_of self.old.sessions id) }
+        ensures sessions { self.new.sessions ≡ after_answer id self.old.sessions }
+        ensures opened { self.new.opened ≡ self.old.opened }
+        ensures look_up { (other : ℕ) →
+            session_of self.new.sessions other ≡
+            (if id == other
+            then option_and_then with_answer (session_of self.old.sessions id)
+            else session_of self.old.sessions other) }
+        ensures unknown { result ≡ Answered.Unknown → self.new ≡ self.old }
+    {
+        let Some(awaited) = self.awaited.get_mut(&id) else {
+            return Answered::Unknown;
+        };
+        if awaited.waiting > 1 {
+            awaited.waiting -= 1;
+            return Answered::Open;
+        }
+        let parent = awaited.parent;
+        let _ = self.awaited.remove(&id);
+        Answered::Closed(parent)
+    }
+
+    /// The depth that an open session was opened with, and `None` exactly where no session of this
+    /// number is open.
+    pub fn depth_of(&self, id: u32) -> Option<u16>
+        ensures { result ≡ option_map (λ s. s.depth) (session_of self.now.sessions id) }
+    {
+        self.awaited.get(&id).map(|awaited| awaited.depth)
+    }
+
+    /// How many sessions are open.
+    pub fn open_count(&self) -> usize
+        ensures count { result ≡ length self.now.sessions }
+        ensures valid { AreSessions self.now }
+    {
+        self.awaited.len()
+    }
+
+    /// How many sessions were ever opened, which is the number that was given last, or 0.
+    pub fn opened(&self) -> u32
+        ensures count { result ≡ self.now.opened }
+        ensures most { result ≤ MOST_SESSIONS }
+    {
+        self.opened
+    }
+}
+
+#[cfg(test)]
+mod tests {
+    use super::*;
+    use std::test::Fail;
+    use tap_name::{Name, Settings};
+
+    // The inner session closes first, and its parent is then the outer one's last answer.
+    #[test]
+    fn nested_sessions_close_at_their_last_answers(rt: HostRuntime) -> Result<(), Fail> {
+        let settings = Settings::new(4, 2, 1).ok_or("settings")?;
+        let joiner = Name::from_digits(&settings, &[1, 2])?;
+        let asker = Name::from_digits(&settings, &[3, 0])?;
+        let root = Parent::Root { joiner };
+        let outer = Parent::Node {
+            name: asker,
+            session: 1,
+        };
+        let mut sessions = Sessions::new(rt.alloc());
+        assert_eq!(rt; sessions.opened(), 0);
+        assert_eq!(rt; sessions.open(root, 0, 2)?, 1);
+        assert_eq!(rt; sessions.open(outer, 1, 3)?, 2);
+        assert_eq!(rt; sessions.depth_of(2), Some(1));
+        for (id, expected, open) in [
+            (1, Answered::Open, 2),
+            (3, Answered::Unknown, 2),
+            (2, Answered::Open, 2),
+            (2, Answered::Open, 2),
+            (2, Answered::Closed(outer), 1),
+            (2, Answered::Unknown, 1),
+            (1, Answered::Closed(root), 0),
+            (0, Answered::Unknown, 0),
+        ] {
+            assert!(rt; sessions.answered(id) == expected);
+            assert_eq!(rt; sessions.open_count(), open);
+        }
+        assert_eq!(rt; sessions.depth_of(1), None);
+        assert_eq!(rt; sessions.opened(), 2);
+        Ok(())
+    }
+}
