@@ -1,0 +1,10 @@
+//! The table of a node: its links to other nodes, in their slots, and the next hop towards an object.
+#![tactic(auto)]
+
+mod memory;
+mod next;
+mod table;
+
+pub use memory::NoMemory;
+pub use next::Next;
+pub use table::Table;
