@@ -1,3 +1,5 @@
 pub mod Slots
 pub mod Changes
 pub mod Taken
+pub mod Rows
+pub mod Holders

@@ -1,2 +1,4 @@
 pub mod Table
+pub mod Place
 pub mod Next
+pub mod Ties

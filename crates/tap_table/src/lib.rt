@@ -4,7 +4,11 @@
 mod memory;
 mod next;
 mod table;
+mod tie;
+mod ties;
 
 pub use memory::NoMemory;
 pub use next::Next;
 pub use table::Table;
+pub use tie::Tie;
+pub use ties::Ties;

@@ -21,3 +21,9 @@ impl From<tap_link::NoMemory> for NoMemory {
         NoMemory
     }
 }
+
+impl From<tap_register::NoMemory> for NoMemory {
+    fn from(_: tap_register::NoMemory) -> NoMemory {
+        NoMemory
+    }
+}

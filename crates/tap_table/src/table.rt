@@ -1,4 +1,4 @@
-ghost use Rattle.std.specs.Prelude.{◌≡◌, ◌≢◌, ◌≤◌, ◌<◌, ◌+◌, ◌*◌, ◌&&◌, length, map, drop, slice_get, slice_index, true, Ok, Some, IsOk, IfOk};
+ghost use Rattle.std.specs.Prelude.{◌≡◌, ◌==◌, ◌≢◌, ◌≤◌, ◌<◌, ◌+◌, ◌*◌, ◌&&◌, length, map, drop, slice_get, slice_index, true, Ok, Some, IsOk, IfOk};
 ghost use Rattle.std.specs.Bool.{OnTrue, OnFalse};
 ghost use Rattle.std.specs.Option.{is_none};
 ghost use Rattle.tap_link.specs.LinkSet.{has_room, kind_of, with_link, with_kind, without, is_pinned, is_settled, is_settled_or_leaving, least_settled, released_as, after_release};
@@ -40,7 +40,16 @@ impl Model for Table {
     ghost invariant = { λ t. AreSets t.owner t.settings t.sets.items };
 }
 
+// Where a link stands: the number of its slot, and its place in the slot's set.
+#[derive(Clone, Copy)]
+struct Place {
+    number: usize,
+    link: usize,
+}
+
 impl Table {
+    ghost use Rattle.tap_table.specs.Place.{IsPlace};
+
     /// The table of an owner, without links. The owner is a name of the settings.
     pub fn new(alloc: Global, owner: Name, settings: &Settings) -> Result<Table, NoMemory>
         requires { IsName settings.now owner }
@@ -64,6 +73,73 @@ impl Table {
         ensures valid { IsTable self.now }
     {
         self.owner
+    }
+
+    /// How many links there are, of all kinds.
+    pub fn len(&self) -> usize
+        ensures { result ≡ length (rows self.now) }
+    {
+        let sets = self.sets.as_slice();
+        let mut links = 0;
+        for set in sets {
+            links += set.len();
+        }
+        links
+    }
+
+    /// Whether there is no link.
+    pub fn is_empty(&self) -> bool
+        ensures { result ≡ (length (rows self.now) == 0) }
+    {
+        self.len() == 0
+    }
+
+    /// The slot of a link by its place, from 0, in ascending order of slot, then target.
+    pub fn slot_at(&self, i: usize) -> Slot
+        requires { i < length (rows self.now) }
+        ensures { slice_get (map (λ r. r.slot) (rows self.now)) i ≡ Some result }
+    {
+        let place = self.place_of_link(i);
+        let base = self.settings.base() as usize;
+        Slot {
+            level: (place.number / base) as u8,
+            digit: (place.number % base) as u8,
+        }
+    }
+
+    /// The target of a link by its place, from 0, in ascending order of slot, then target.
+    pub fn target_at(&self, i: usize) -> Name
+        requires { i < length (rows self.now) }
+        ensures { slice_get (map (λ r. r.entry.target) (rows self.now)) i ≡ Some result }
+    {
+        let place = self.place_of_link(i);
+        self.sets[place.number].target_at(place.link)
+    }
+
+    /// The kind of a link by its place, from 0, in ascending order of slot, then target.
+    pub fn kind_at(&self, i: usize) -> Kind
+        requires { i < length (rows self.now) }
+        ensures { slice_get (map (λ r. r.entry.kind) (rows self.now)) i ≡ Some result }
+    {
+        let place = self.place_of_link(i);
+        self.sets[place.number].kind_at(place.link)
+    }
+
+    // The place of a link in its slot, from its place among all links.
+    fn place_of_link(&self, i: usize) -> Place
+        requires { i < length (rows self.now) }
+        ensures { IsPlace self.now i result }
+    {
+        let sets = self.sets.as_slice();
+        let mut link = i;
+        for (number, set) in sets.iter().enumerate() {
+            let links = set.len();
+            if link < links {
+                return Place { number, link };
+            }
+            link -= links;
+        }
+        unreachable!()
     }
 
     /// The links of a slot. Its level is below the number of digits, and its digit below the base.
