@@ -3,3 +3,4 @@ pub mod Changes
 pub mod Taken
 pub mod Rows
 pub mod Holders
+pub mod LookUps

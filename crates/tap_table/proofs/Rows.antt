@@ -1,5 +1,5 @@
 -- All links of a table, slot by slot.
-use Rattle.std.proofs.Common.{◌≡◌, ℕ, ◌+◌, ◌-◌, ◌*◌, ◌<◌, ◌≤◌, zero, suc, Option, None, Some, List, [], ◌∷◌, ◌++◌, length, get_or, slice_get, map, filter, drop, take, All, Bool, true, false, arith, ap, sym, refl, ◌∙◌, length-append}
+use Rattle.std.proofs.Common.{◌≡◌, ℕ, ◌+◌, ◌*◌, ◌<◌, ◌≤◌, zero, suc, None, Some, List, [], ◌∷◌, ◌++◌, length, get_or, slice_get, map, drop, All, arith, ap, sym, refl, ◌∙◌, length-append}
 use Rattle.std.specs.List.{enumerate_from, flat_map, sum_by}
 use Rattle.std.specs.Option.{option_map}
 use Rattle.std.proofs.Math.Nat.{mul-le-mul_left}
@@ -7,7 +7,7 @@ use Rattle.std.proofs.lemmas.List.{drop_all, drop_more, length-map}
 use Rattle.std.proofs.lemmas.List.Elements.{All-head, All-tail, All-from_get_or}
 use Rattle.std.proofs.lemmas.List.Sums.{sum_by-cons}
 use Rattle.std.proofs.lemmas.Option.{slice_get-map, slice_get_past}
-use Rattle.tap_name.specs.Settings.{AreWithinLimits, Parameters}
+use Rattle.tap_name.specs.Settings.{Parameters}
 use Rattle.tap_link.specs.Entry.{Entry}
 use Rattle.tap_link.specs.LinkSet.{Links}
 use Rattle.tap_table.specs.declared.table.Place.{Place}
@@ -123,3 +123,13 @@ slots_len t sets are = ap length are ∙ length-map sets (λ (s : Links (List �
 pub slot_is : (t : Slots) (sets : List (Links (List ℕ))) (n : ℕ) (e : Links (List ℕ)) → t.slots ≡ map (λ s. s.links) sets → n < length sets
     → e ≡ get_or sets n e → get_or t.slots n [] ≡ e.links
 slot_is t sets n e are within is = ap (λ l. get_or l n []) are ∙ links_of_set sets n e within ∙ sym (ap (λ s. s.links) is)
+
+-- what a set says of its link at the place
+pub at_place : {A : Type 0} (f : Entry (List ℕ) → A) (t : Slots) (i : ℕ) (place : Place) (links : SlotLinks) (r : A) → IsPlace t i place
+    → get_or t.slots place.number [] ≡ links → slice_get (map f links) place.link ≡ Some r
+    → slice_get (map (λ row. f row.entry) (rows t)) i ≡ Some r
+at_place f t i place links r is same said =
+    let e = got (get_or t.slots place.number []) place.link is.link in
+    let read = slice_get-map f (get_or t.slots place.number []) place.link ∙ ap (option_map f) e.1 in
+    let said_here = ap (λ l. slice_get (map f l) place.link) same ∙ said in
+    field_at (λ row. f row.entry) t i place e.0 is e.1 ∙ sym read ∙ said_here

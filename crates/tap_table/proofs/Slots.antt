@@ -116,4 +116,3 @@ empty_sets-are p owner limits is_name =
       };
       widths = All-replicate (λ s. s.width ≡ p.width) count (record { width = p.width; links = [] }) refl;
     }
-

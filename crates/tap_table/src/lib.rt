@@ -4,6 +4,8 @@
 mod memory;
 mod next;
 mod table;
+#[cfg(test)]
+mod tests;
 mod tie;
 mod ties;
 

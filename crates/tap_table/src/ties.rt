@@ -82,10 +82,10 @@ impl Ties {
         ensures answer { IfOk result (λ tie. tie
             ≡ tie_where (is_none (kind_in self.old.table target)) target (stamp.old + 1) true) }
         ensures after { OnOk result (self.new ≡ record self.old {
-            table = if is_none (kind_in self.old.table target)
-            then with_links self.old.table target
-                (with_link name_cmp (links_near self.old.table target) target Pin)
-            else self.old.table;
+          table = if is_none (kind_in self.old.table target)
+              then with_links self.old.table target
+              (with_link name_cmp (links_near self.old.table target) target Pin)
+              else self.old.table;
         }) }
         ensures stamped { OnOk result (stamp.new
             ≡ (if is_none (kind_in self.old.table target) then stamp.old + 1 else stamp.old)) }
@@ -113,12 +113,12 @@ impl Ties {
         requires number { stamp.old < u32.MAX }
         ensures answer { IfOk result (λ tie. tie
             ≡ tie_where (is_none (kind_in self.old.table target) && has_room_near self.old.table target)
-                target (stamp.old + 1) true) }
+            target (stamp.old + 1) true) }
         ensures after { OnOk result (self.new ≡ record self.old {
-            table = if is_none (kind_in self.old.table target) && has_room_near self.old.table target
-            then with_links self.old.table target
-                (with_link name_cmp (links_near self.old.table target) target Settled)
-            else self.old.table;
+          table = if is_none (kind_in self.old.table target) && has_room_near self.old.table target
+              then with_links self.old.table target
+              (with_link name_cmp (links_near self.old.table target) target Settled)
+              else self.old.table;
         }) }
         ensures stamped { OnOk result (stamp.new
             ≡ (if is_none (kind_in self.old.table target) && has_room_near self.old.table target
@@ -149,7 +149,7 @@ impl Ties {
         ensures after { let t = self.old.table in let became
             = released_as (is_pinned (kind_in t by.from)) (has_room_near t by.from) in
             self.new ≡ record self.old {
-                table = with_links t by.from (after_release name_cmp (links_near t by.from) by.from became);
+              table = with_links t by.from (after_release name_cmp (links_near t by.from) by.from became);
             } }
         ensures stamped { let t = self.old.table in let became
             = released_as (is_pinned (kind_in t by.from)) (has_room_near t by.from) in
@@ -173,8 +173,8 @@ impl Ties {
         ensures answer { IfOk result (λ newer. newer
             ≡ supersedes version (entry_of name_cmp self.old.holders holder)) }
         ensures kept { result ≡ Ok true → self.new ≡ record self.old {
-            holders = written name_cmp self.old.holders
-                (record { key = holder; version = version; value = on });
+          holders = written name_cmp self.old.holders
+              (record { key = holder; version = version; value = on });
         } }
         ensures same { ¬ (result ≡ Ok true) → self.new ≡ self.old }
     {
@@ -188,8 +188,8 @@ impl Ties {
         requires other { target ≢ self.old.table.owner }
         ensures answer { result ≡ is_settled (kind_in self.old.table target) }
         ensures marked { OnTrue result (self.new ≡ record self.old {
-            table = with_links self.old.table target
-                (with_kind name_cmp (links_near self.old.table target) target Leaving);
+          table = with_links self.old.table target
+              (with_kind name_cmp (links_near self.old.table target) target Leaving);
         }) }
         ensures same { OnFalse result (self.new ≡ self.old) }
     {
@@ -203,8 +203,8 @@ impl Ties {
         requires other { target ≢ self.old.table.owner }
         ensures answer { result ≡ is_settled_or_leaving (kind_in self.old.table target) }
         ensures removed { OnTrue result (self.new ≡ record self.old {
-            table = with_links self.old.table target
-                (without name_cmp (links_near self.old.table target) target);
+          table = with_links self.old.table target
+              (without name_cmp (links_near self.old.table target) target);
         }) }
         ensures same { OnFalse result (self.new ≡ self.old) }
     {
@@ -218,8 +218,8 @@ impl Ties {
         requires other { by.from ≢ self.old.table.owner }
         ensures answer { result ≡ is_pinned (kind_in self.old.table by.from) }
         ensures forgotten { OnTrue result (self.new ≡ record self.old {
-            table = with_links self.old.table by.from
-                (without name_cmp (links_near self.old.table by.from) by.from);
+          table = with_links self.old.table by.from
+              (without name_cmp (links_near self.old.table by.from) by.from);
         }) }
         ensures same { OnFalse result (self.new ≡ self.old) }
     {
