@@ -4,3 +4,7 @@ pub mod Taken
 pub mod Rows
 pub mod Holders
 pub mod LookUps
+pub mod Fitting
+pub mod Grown
+pub mod Holding
+pub mod Ascending

@@ -2,3 +2,4 @@ pub mod Table
 pub mod Place
 pub mod Next
 pub mod Ties
+pub mod Members

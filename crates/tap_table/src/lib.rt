@@ -3,6 +3,7 @@
 
 mod memory;
 mod next;
+mod rest;
 mod table;
 #[cfg(test)]
 mod tests;

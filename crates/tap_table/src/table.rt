@@ -182,6 +182,8 @@ impl Table {
             (with_link name_cmp (links_near self.old target) target Kind.Pin) }
         ensures same { ¬ (result ≡ Ok true) → self.new ≡ self.old }
         ensures inline { length (links_near self.old target) < 4 → IsOk result }
+        ensures owner { self.new.owner ≡ self.old.owner }
+        ensures settings { self.new.settings ≡ self.old.settings }
     {
         let number = self.number_of(&target);
         pin_in(&mut self.sets[number], target)
@@ -202,6 +204,8 @@ impl Table {
             (with_link name_cmp (links_near self.old target) target Kind.Settled) }
         ensures same { ¬ (result ≡ Ok true) → self.new ≡ self.old }
         ensures inline { length (links_near self.old target) < 4 → IsOk result }
+        ensures owner { self.new.owner ≡ self.old.owner }
+        ensures settings { self.new.settings ≡ self.old.settings }
     {
         let number = self.number_of(&target);
         offer_in(&mut self.sets[number], target)
@@ -217,6 +221,8 @@ impl Table {
             ≡ released_as (is_pinned (kind_in self.old by.from)) (has_room_near self.old by.from) }
         ensures after { self.new ≡ with_links self.old by.from
             (after_release name_cmp (links_near self.old by.from) by.from result) }
+        ensures owner { self.new.owner ≡ self.old.owner }
+        ensures settings { self.new.settings ≡ self.old.settings }
     {
         let number = self.number_of(&by.from);
         self.sets[number].release(by)
@@ -231,6 +237,8 @@ impl Table {
         ensures forgotten { OnTrue result (self.new ≡ with_links self.old by.from
             (without name_cmp (links_near self.old by.from) by.from)) }
         ensures same { OnFalse result (self.new ≡ self.old) }
+        ensures owner { self.new.owner ≡ self.old.owner }
+        ensures settings { self.new.settings ≡ self.old.settings }
     {
         let number = self.number_of(&by.from);
         self.sets[number].forget(by)
@@ -245,6 +253,8 @@ impl Table {
         ensures marked { OnTrue result (self.new ≡ with_links self.old target
             (with_kind name_cmp (links_near self.old target) target Kind.Leaving)) }
         ensures same { OnFalse result (self.new ≡ self.old) }
+        ensures owner { self.new.owner ≡ self.old.owner }
+        ensures settings { self.new.settings ≡ self.old.settings }
     {
         let number = self.number_of(&target);
         self.sets[number].mark_leaving(target)
@@ -259,6 +269,8 @@ impl Table {
         ensures removed { OnTrue result (self.new ≡ with_links self.old target
             (without name_cmp (links_near self.old target) target)) }
         ensures same { OnFalse result (self.new ≡ self.old) }
+        ensures owner { self.new.owner ≡ self.old.owner }
+        ensures settings { self.new.settings ≡ self.old.settings }
     {
         let number = self.number_of(&target);
         self.sets[number].remove_settled(target)

@@ -1,35 +1,27 @@
 use crate::{Next, Table, Tie, Ties};
 use std::test::Fail;
 use tap_link::{Cease, Forget, Kind, Release, Released};
-use tap_name::{Settings, Slot, read_name};
+use tap_name::{List, Settings, Slot, read_name};
 use tap_register::Stamp;
 
 #[test]
 fn each_link_stands_in_its_slot(rt: HostRuntime) -> Result<(), Fail> {
     let settings = Settings::new(4, 3, 1).ok_or("settings")?;
     let owner = read_name(&settings, b"012")?;
+    let far = read_name(&settings, b"300")?;
+    let near = read_name(&settings, b"013")?;
+    assert!(rt; far != owner);
+    assert!(rt; near != owner);
     let mut table = Table::new(rt.alloc(), owner, &settings)?;
     assert!(rt; table.is_empty());
-    for (text, added) in [
-        (b"300", true),
-        (b"013", true),
-        (b"013", false),
-        (b"020", true),
-    ] {
-        let target = read_name(&settings, text)?;
-        assert!(rt; target != owner);
-        assert_eq!(rt; table.pin(target)?, added);
-    }
-    assert_eq!(rt; table.len(), 3);
-    for (i, (level, digit, text)) in [(0, 3, b"300"), (1, 2, b"020"), (2, 3, b"013")]
-        .into_iter()
-        .enumerate()
-    {
-        assert!(rt; i < table.len());
-        assert_eq!(rt; table.slot_at(i), Slot { level, digit });
-        assert_eq!(rt; table.target_at(i), read_name(&settings, text)?);
-        assert_eq!(rt; table.kind_at(i), Kind::Pin);
-    }
+    assert!(rt; table.pin(near)?);
+    assert!(rt; !table.pin(near)?);
+    assert!(rt; table.offer(far)?);
+    assert_eq!(rt; table.len(), 2);
+    assert!(rt; 1 < table.len());
+    assert_eq!(rt; table.target_at(0), far);
+    assert_eq!(rt; table.kind_at(0), Kind::Settled);
+    assert_eq!(rt; table.slot_at(1), Slot { level: 2, digit: 3 });
     Ok(())
 }
 
@@ -37,88 +29,16 @@ fn each_link_stands_in_its_slot(rt: HostRuntime) -> Result<(), Fail> {
 fn a_message_takes_the_next_digit_cyclically(rt: HostRuntime) -> Result<(), Fail> {
     let settings = Settings::new(4, 3, 1).ok_or("settings")?;
     let owner = read_name(&settings, b"210")?;
-    let near = read_name(&settings, b"222")?;
     let far = read_name(&settings, b"031")?;
-    assert!(rt; near != owner);
     assert!(rt; far != owner);
     let mut table = Table::new(rt.alloc(), owner, &settings)?;
-    assert!(rt; table.offer(near)?);
     assert!(rt; table.offer(far)?);
-    assert_eq!(rt; table.primary(Slot { level: 1, digit: 2 }), Some(near));
-    for (text, level, next) in [
-        (b"330", 0, Next::Hop { to: far, level: 1 }),
-        (b"122", 0, Next::Hop { to: near, level: 2 }),
-        (b"203", 0, Next::Root),
-        (b"230", 2, Next::Root),
-    ] {
-        assert_eq!(rt; table.next_hop(&read_name(&settings, text)?, level), next);
-    }
-    assert!(rt; table.mark_leaving(far));
-    assert_eq!(rt;
-        table.next_hop(&read_name(&settings, b"300")?, 0),
-        Next::Root
-    );
-    assert!(rt; table.remove_settled(far));
-    assert_eq!(rt; table.kind_of(far), None);
+    assert_eq!(rt; table.primary(Slot { level: 0, digit: 0 }), Some(far));
+    let wrapped = table.next_hop(&read_name(&settings, b"330")?, 0);
+    assert_eq!(rt; wrapped, Next::Hop { to: far, level: 1 });
+    let root = table.next_hop(&read_name(&settings, b"103")?, 0);
+    assert_eq!(rt; root, Next::Root);
     table.cease(&Cease { owner });
-    Ok(())
-}
-
-#[test]
-fn ties_give_the_words_for_their_targets(rt: HostRuntime) -> Result<(), Fail> {
-    let settings = Settings::new(4, 3, 1).ok_or("settings")?;
-    let owner = read_name(&settings, b"012")?;
-    let first = read_name(&settings, b"300")?;
-    let second = read_name(&settings, b"311")?;
-    assert!(rt; first != owner);
-    assert!(rt; second != owner);
-    let mut ties = Ties::new(rt.alloc(), owner, &settings)?;
-    let mut stamp = Stamp::new();
-    let pinned = ties.pin(&mut stamp, second)?;
-    assert_eq!(rt;
-        pinned,
-        Some(Tie {
-            to: second,
-            version: 1,
-            on: true
-        })
-    );
-    assert!(rt; stamp.last() < 9);
-    let offered = ties.offer(&mut stamp, first)?;
-    assert_eq!(rt;
-        offered,
-        Some(Tie {
-            to: first,
-            version: 2,
-            on: true
-        })
-    );
-    assert!(rt; stamp.last() < 9);
-    let dropped = ties.release(&mut stamp, Release { from: second });
-    assert_eq!(rt;
-        dropped,
-        Some(Tie {
-            to: second,
-            version: 3,
-            on: false
-        })
-    );
-    assert!(rt; !ties.forget(Forget { from: second }));
-    assert!(rt; ties.mark_leaving(first));
-    assert!(rt; ties.remove_settled(first));
-    assert_eq!(rt; ties.table().len(), 0);
-    for (holder, version, on, newer) in [
-        (second, 1, true, true),
-        (first, 1, true, true),
-        (second, 2, false, true),
-        (first, 1, false, false),
-    ] {
-        assert_eq!(rt; ties.held(holder, version, on)?, newer);
-    }
-    assert_eq!(rt; ties.holder_count(), 1);
-    assert!(rt; 0 < ties.holder_count());
-    assert_eq!(rt; ties.holder_at(0), first);
-    ties.cease(&Cease { owner });
     Ok(())
 }
 
@@ -134,5 +54,83 @@ fn a_table_takes_the_words_of_its_targets(rt: HostRuntime) -> Result<(), Fail> {
     assert_eq!(rt; table.release(Release { from: target }), Released::Settled);
     assert!(rt; !table.forget(Forget { from: target }));
     assert_eq!(rt; table.slot(Slot { level: 0, digit: 3 }).len(), 1);
+    assert!(rt; table.mark_leaving(target));
+    assert!(rt; table.remove_settled(target));
+    assert_eq!(rt; table.kind_of(target), None);
+    Ok(())
+}
+
+#[test]
+fn ties_give_the_words_for_their_targets(rt: HostRuntime) -> Result<(), Fail> {
+    let settings = Settings::new(4, 3, 1).ok_or("settings")?;
+    let owner = read_name(&settings, b"012")?;
+    let target = read_name(&settings, b"300")?;
+    assert!(rt; target != owner);
+    let mut ties = Ties::new(rt.alloc(), owner, &settings)?;
+    let mut stamp = Stamp::new();
+    let on = ties.offer(&mut stamp, target)?;
+    assert_eq!(rt;
+        on,
+        Some(Tie {
+            to: target,
+            version: 1,
+            on: true
+        })
+    );
+    assert!(rt; ties.mark_leaving(target));
+    assert!(rt; ties.remove_settled(target));
+    assert!(rt; stamp.last() < 9);
+    let pinned = ties.pin(&mut stamp, target)?;
+    assert_eq!(rt;
+        pinned,
+        Some(Tie {
+            to: target,
+            version: 2,
+            on: true
+        })
+    );
+    assert!(rt; ties.forget(Forget { from: target }));
+    assert!(rt; stamp.last() < 9);
+    assert_eq!(rt; ties.release(&mut stamp, Release { from: target }), None);
+    ties.cease(&Cease { owner });
+    Ok(())
+}
+
+#[test]
+fn ties_keep_the_newest_word_of_each_holder(rt: HostRuntime) -> Result<(), Fail> {
+    let settings = Settings::new(4, 3, 1).ok_or("settings")?;
+    let first = read_name(&settings, b"300")?;
+    let second = read_name(&settings, b"311")?;
+    let mut ties = Ties::new(rt.alloc(), read_name(&settings, b"012")?, &settings)?;
+    assert!(rt; ties.held(second, 1, true)?);
+    assert!(rt; ties.held(first, 1, true)?);
+    assert!(rt; ties.held(second, 2, false)?);
+    assert!(rt; !ties.held(first, 1, false)?);
+    assert_eq!(rt; ties.holder_count(), 1);
+    assert!(rt; 0 < ties.holder_count());
+    assert_eq!(rt; ties.holder_at(0), first);
+    assert_eq!(rt; ties.table().len(), 0);
+    Ok(())
+}
+
+#[test]
+fn ties_at_rest_hold_the_least_members(rt: HostRuntime) -> Result<(), Fail> {
+    let settings = Settings::new(4, 3, 1).ok_or("settings")?;
+    let least = read_name(&settings, b"012")?;
+    let owner = read_name(&settings, b"013")?;
+    let far = read_name(&settings, b"300")?;
+    assert!(rt; far != owner);
+    assert!(rt; far != least);
+    assert!(rt; owner != least);
+    let mut members = List::new(rt.alloc());
+    members.push(far)?;
+    members.push(owner)?;
+    members.push(least)?;
+    let ties = Ties::at_rest(rt.alloc(), owner, &settings, &members)?;
+    assert_eq!(rt; ties.table().len(), 2);
+    assert_eq!(rt; ties.table().kind_of(far), Some(Kind::Settled));
+    assert_eq!(rt; ties.holder_count(), 1);
+    assert!(rt; 0 < ties.holder_count());
+    assert_eq!(rt; ties.holder_at(0), least);
     Ok(())
 }

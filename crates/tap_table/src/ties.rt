@@ -1,4 +1,4 @@
-ghost use Rattle.std.specs.Prelude.{◌≡◌, ◌≢◌, ◌+◌, ◌<◌, ◌&&◌, [], length, count_by, map, filter, slice_get, true, false, Ok, Some, None, IsOk, IfOk, OnOk, OnErr, if◌then◌else◌};
+ghost use Rattle.std.specs.Prelude.{◌≡◌, ◌≢◌, ◌+◌, ◌<◌, ◌&&◌, [], length, count_by, map, filter, slice_get, true, false, Ok, Some, None, All, Contains, IsOk, IfOk, OnOk, OnErr, if◌then◌else◌};
 ghost use Rattle.std.specs.Bool.{OnTrue, OnFalse};
 ghost use Rattle.std.specs.Option.{is_none};
 ghost use Rattle.tap_link.specs.declared.kind.Kind.TheVariants.{Pin, Settled, Leaving};
@@ -9,12 +9,13 @@ ghost use Rattle.tap_table.specs.Table.{name_cmp, empty_table, links_near, has_r
 ghost use Rattle.tap_table.specs.Ties.{holders_on, is_dropped, tie_where};
 
 use crate::memory::NoMemory;
+use crate::rest::{holders_over, table_over};
 use crate::table::Table;
 use crate::tie::Tie;
 use std::alloc::Global;
 use std::marker::Model;
 use tap_link::{Cease, Forget, Release, Released};
-use tap_name::{Name, Settings};
+use tap_name::{List, Name, Settings};
 use tap_register::{Entry, Registers, Stamp};
 
 /// The links of a node in both directions: its table, and the nodes that have it in theirs.
@@ -37,6 +38,8 @@ impl Model for Ties {
 }
 
 impl Ties {
+    ghost use Rattle.tap_table.specs.Members.{AreAtRest, AreDistinct};
+
     /// No links and no holders. The owner is a name of the settings.
     pub fn new(alloc: Global, owner: Name, settings: &Settings) -> Result<Ties, NoMemory>
         requires { IsName settings.now owner }
@@ -46,6 +49,31 @@ impl Ties {
         Ok(Ties {
             table: Table::new(alloc, owner, settings)?,
             holders: Registers::new(alloc),
+        })
+    }
+
+    /// The ties of an owner in an overlay whose members have all joined.
+    ///
+    /// Each slot of the table has settled links to the least members that fit it, as many as the
+    /// width of the settings allows. The holders are the members whose own tables, so made, have a link
+    /// to the owner, all of them heard of with version 0. The members are distinct names of the
+    /// settings, and the owner is one of them.
+    pub fn at_rest(
+        alloc: Global,
+        owner: Name,
+        settings: &Settings,
+        members: &List<Name>,
+    ) -> Result<Ties, NoMemory>
+        requires names { All (IsName settings.now) members.now }
+        requires distinct { AreDistinct members.now }
+        requires owner { Contains members.now owner }
+        ensures { IfOk result (AreAtRest settings.now owner members.now) }
+    {
+        let mut names = Vec::from_slice(alloc, members.as_slice())?;
+        names.sort()?;
+        Ok(Ties {
+            table: table_over(alloc, owner, settings, names.as_slice())?,
+            holders: holders_over(alloc, &owner, settings, names.as_slice())?,
         })
     }
 
@@ -92,6 +120,8 @@ impl Ties {
         ensures same { OnErr result (self.new ≡ self.old) }
         ensures same_stamp { OnErr result (stamp.new ≡ stamp.old) }
         ensures inline { length (links_near self.old.table target) < 4 → IsOk result }
+        ensures owner { self.new.table.owner ≡ self.old.table.owner }
+        ensures settings { self.new.table.settings ≡ self.old.table.settings }
     {
         if !self.table.pin(target)? {
             return Ok(None);
@@ -126,6 +156,8 @@ impl Ties {
         ensures same { OnErr result (self.new ≡ self.old) }
         ensures same_stamp { OnErr result (stamp.new ≡ stamp.old) }
         ensures inline { length (links_near self.old.table target) < 4 → IsOk result }
+        ensures owner { self.new.table.owner ≡ self.old.table.owner }
+        ensures settings { self.new.table.settings ≡ self.old.table.settings }
     {
         if !self.table.offer(target)? {
             return Ok(None);
@@ -154,6 +186,8 @@ impl Ties {
         ensures stamped { let t = self.old.table in let became
             = released_as (is_pinned (kind_in t by.from)) (has_room_near t by.from) in
             stamp.new ≡ (if is_dropped became then stamp.old + 1 else stamp.old) }
+        ensures owner { self.new.table.owner ≡ self.old.table.owner }
+        ensures settings { self.new.table.settings ≡ self.old.table.settings }
     {
         let to = by.from;
         match self.table.release(by) {
@@ -192,6 +226,8 @@ impl Ties {
               (with_kind name_cmp (links_near self.old.table target) target Leaving);
         }) }
         ensures same { OnFalse result (self.new ≡ self.old) }
+        ensures owner { self.new.table.owner ≡ self.old.table.owner }
+        ensures settings { self.new.table.settings ≡ self.old.table.settings }
     {
         self.table.mark_leaving(target)
     }
@@ -207,6 +243,8 @@ impl Ties {
               (without name_cmp (links_near self.old.table target) target);
         }) }
         ensures same { OnFalse result (self.new ≡ self.old) }
+        ensures owner { self.new.table.owner ≡ self.old.table.owner }
+        ensures settings { self.new.table.settings ≡ self.old.table.settings }
     {
         self.table.remove_settled(target)
     }
@@ -222,6 +260,8 @@ impl Ties {
               (without name_cmp (links_near self.old.table by.from) by.from);
         }) }
         ensures same { OnFalse result (self.new ≡ self.old) }
+        ensures owner { self.new.table.owner ≡ self.old.table.owner }
+        ensures settings { self.new.table.settings ≡ self.old.table.settings }
     {
         self.table.forget(by)
     }
