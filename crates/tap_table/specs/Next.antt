@@ -1,5 +1,5 @@
 -- The next hop towards an object.
-use Rattle.std.specs.Prelude.{◌==◌, ◌||◌, ℕ, ◌+◌, Bool, if◌then◌else◌, List, [], ◌∷◌, slice_index, Option, None, Some, is_some}
+use Rattle.std.specs.Prelude.{◌≡◌, ◌==◌, ◌||◌, ℕ, ◌+◌, ◌<◌, ◌≤◌, Bool, if◌then◌else◌, List, [], ◌∷◌, length, slice_index, Option, None, Some, is_some}
 use Rattle.tap_name.specs.declared.slot.Slot.{Slot}
 use Rattle.tap_name.specs.Cyclic.{first_cyclic}
 use Rattle.tap_link.specs.LinkSet.{least_settled}
@@ -32,3 +32,8 @@ next_from t level (wanted ∷ more) =
     (if slice_index t.owner level == digit
     then next_from t (level + 1) more
     else hop_to (primary_at t level digit) (level + 1))
+
+-- at each level from this one on, the owner's own digit is taken
+abbrev pub TakesOwnFrom : Slots → ℕ → List ℕ → Type 0
+TakesOwnFrom t level object =
+    (at : ℕ) → level ≤ at → at < length object → taken_digit t at (slice_index object at) ≡ slice_index t.owner at

@@ -1,9 +1,9 @@
-ghost use Rattle.std.specs.Prelude.{◌≡◌, ◌==◌, ◌≢◌, ◌≤◌, ◌<◌, ◌+◌, ◌*◌, ◌&&◌, length, map, drop, slice_get, slice_index, true, Ok, Some, IsOk, IfOk};
+ghost use Rattle.std.specs.Prelude.{◌≡◌, ◌==◌, ◌≢◌, ◌≤◌, ◌<◌, ◌↔◌, ◌+◌, ◌*◌, ◌&&◌, length, map, drop, slice_get, slice_index, true, Ok, Some, IsOk, IfOk};
 ghost use Rattle.std.specs.Bool.{OnTrue, OnFalse};
 ghost use Rattle.std.specs.Option.{is_none};
 ghost use Rattle.tap_link.specs.LinkSet.{has_room, kind_of, with_link, with_kind, without, is_pinned, is_settled, is_settled_or_leaving, least_settled, released_as, after_release};
 ghost use Rattle.tap_name.specs.Name.{IsName};
-ghost use Rattle.tap_table.specs.Next.{can_take, hop_to, next_from, primary_at, taken_digit};
+ghost use Rattle.tap_table.specs.Next.{TakesOwnFrom, can_take, hop_to, next_from, primary_at, taken_digit};
 ghost use Rattle.tap_table.specs.Table.{IsTable, most_links, name_cmp, empty_table, place_of, slot_number, links_at, links_near, has_room_near, kind_in, with_links, rows};
 
 use crate::memory::NoMemory;
@@ -305,6 +305,17 @@ impl Table {
         requires name { IsName self.now.settings object.now }
         requires level { level ≤ self.now.settings.digits }
         ensures value { result ≡ next_from self.now level (drop level object.now) }
+        ensures root { (result ≡ Next.Root) ↔ TakesOwnFrom self.now level object.now }
+    {
+        self.next_from(object, level)
+    }
+
+    // Where a message goes next, by the definition.
+    fn next_from(&self, object: &Name, level: usize) -> Next
+        requires name { IsName self.now.settings object.now }
+        requires level { level ≤ self.now.settings.digits }
+        ensures value { result ≡ next_from self.now level (drop level object.now) }
+        ensures valid { IsTable self.now }
     {
         for at in level..object.len() {
             let digit = self.taken_digit(at, object.digit(at));
