@@ -1,0 +1,115 @@
+-- The registers of holders over ascending names, and whether a member's table has a link to the owner.
+use Rattle.std.proofs.Common.{◌≡◌, inl, inr, ℕ, ◌+◌, ◌<◌, ◌≤◌, nat_eq, eqb, cond, Bool, true, false, None, suc, List, [], ◌∷◌, ◌++◌, length, map, take, drop, filter, get_or, AllPairs, refl, ap, sym, ◌∙◌}
+use Rattle.std.specs.List.{common_prefix_len, list_any}
+use Rattle.std.specs.Cmp.Lexicographic.{pointwise}
+use Rattle.std.specs.Ordering.{is_gt, is_lt}
+use Rattle.std.specs.declared.cmp.Ordering.TheVariants.{Less}
+use Rattle.std.proofs.Math.Seq.{take-nil}
+use Rattle.std.proofs.lemmas.Bool.{cases_Bool}
+use Rattle.std.proofs.lemmas.List.{append-nil, drop_all, drop_more, map-append}
+use Rattle.std.proofs.lemmas.List.Elements.{All-filter, All-head, All-tail, filter_more}
+use Rattle.tap_name.specs.declared.slot.Slot.{Slot}
+use Rattle.tap_name.specs.Settings.{Parameters}
+use Rattle.tap_name.specs.Slot.{slot_at}
+use Rattle.tap_name.proofs.Prefix.{prefix_of_itself}
+use Rattle.tap_register.specs.declared.registers.Entry.{Entry}
+use Rattle.tap_register.specs.Registers.{entry_of, written}
+use Rattle.tap_table.specs.Members.{IsBelow, fitting, holders_at_rest, holds, is_slot}
+use Rattle.tap_table.specs.Table.{name_cmp, place_of}
+use Rattle.tap_table.proofs.Grown.{IsAbove, above_the_first}
+
+-- a holder that says with version 0 that it has a link
+abbrev pub word_of : List ℕ → Entry (List ℕ) Bool
+word_of name = record { key = name; version = 0; value = true }
+
+module _ (name : List ℕ) where
+  below_all : (names : List (List ℕ)) → IsAbove name names → filter (λ e. is_lt (name_cmp e.key name)) (map word_of names) ≡ map word_of names
+  below_all [] all = refl
+  below_all (x ∷ xs) all =
+      let here : name_cmp x name ≡ Less = All-head (λ t. IsBelow t name) x xs all in
+      rw here (ap (λ l. word_of x ∷ l) (below_all xs (All-tail (λ t. IsBelow t name) x xs all)))
+
+  above_none : (names : List (List ℕ)) → IsAbove name names → filter (λ e. is_gt (name_cmp e.key name)) (map word_of names) ≡ []
+  above_none [] all = refl
+  above_none (x ∷ xs) all =
+      let here : name_cmp x name ≡ Less = All-head (λ t. IsBelow t name) x xs all in
+      rw here (above_none xs (All-tail (λ t. IsBelow t name) x xs all))
+
+  pub no_word : (names : List (List ℕ)) → IsAbove name names → entry_of name_cmp (map word_of names) name ≡ None
+  no_word [] all = refl
+  no_word (x ∷ xs) all =
+      let here : name_cmp x name ≡ Less = All-head (λ t. IsBelow t name) x xs all in
+      rw here (no_word xs (All-tail (λ t. IsBelow t name) x xs all))
+
+  pub written_last : (names : List (List ℕ)) → IsAbove name names → written name_cmp (map word_of names) (word_of name) ≡ map word_of (names ++ name ∷ [])
+  written_last names all = rw (below_all names all, above_none names all) (sym (map-append word_of names (name ∷ [])))
+
+-- one name more
+module _ (p : Parameters) (owner : List ℕ) (names : List (List ℕ)) (i : ℕ) (name : List ℕ) where
+  pub above_holders : AllPairs IsBelow names → i < length names → name ≡ get_or names i name → IsAbove name (filter (holds p owner names) (take i names))
+  above_holders ascending within is =
+      let all : IsAbove name (take i names) = rw (← is) at (above_the_first names i name ascending within) in
+      All-filter (holds p owner names) (λ t. IsBelow t name) (take i names) all
+
+  more_holders : i < length names → name ≡ get_or names i name
+      → filter (holds p owner names) (take (i + 1) names) ≡ filter (holds p owner names) (take i names) ++ cond (holds p owner names name) (name ∷ []) []
+  more_holders within is =
+      let front = filter (holds p owner names) (take i names) in
+      let end : List ℕ → List (List ℕ) = λ x. front ++ cond (holds p owner names x) (x ∷ []) [] in
+      filter_more (holds p owner names) names i name within ∙ ap end (sym is)
+
+  pub holder-more : (old new : List (Entry (List ℕ) Bool)) → i < length names → name ≡ get_or names i name → AllPairs IsBelow names
+      → holds p owner names name ≡ true → old ≡ holders_at_rest p owner names (take i names) → new ≡ written name_cmp old (word_of name)
+      → new ≡ holders_at_rest p owner names (take (i + 1) names)
+  holder-more old new within is ascending has old_is new_is =
+      let front = filter (holds p owner names) (take i names) in
+      let more = more_holders within is ∙ ap (λ b. front ++ cond b (name ∷ []) []) has in
+      new_is ∙ ap (λ l. written name_cmp l (word_of name)) old_is ∙ written_last name front (above_holders ascending within is)
+      ∙ ap (map word_of) (sym more)
+
+  pub holder-skip : i < length names → name ≡ get_or names i name → holds p owner names name ≡ false
+      → holders_at_rest p owner names (take i names) ≡ holders_at_rest p owner names (take (i + 1) names)
+  holder-skip within is has =
+      let front = filter (holds p owner names) (take i names) in
+      let more = more_holders within is ∙ ap (λ b. front ++ cond b (name ∷ []) []) has ∙ append-nil front in
+      ap (map word_of) (sym more)
+
+filter_none : (test : List ℕ → Bool) (names : List (List ℕ)) → ((name : List ℕ) → test name ≡ false) → filter test names ≡ []
+filter_none test [] none = refl
+filter_none test (x ∷ xs) none = rw (none x) (filter_none test xs none)
+
+-- the owner's own table has no link to it
+pub not_held_by_itself : (p : Parameters) (owner : List ℕ) (names : List (List ℕ)) → holds p owner names owner ≡ false
+not_held_by_itself p owner names =
+    let none_stands : (name : List ℕ) → is_slot (place_of owner owner) (slot_at owner name) ≡ false = λ name.
+    elim (cases_Bool (eqb (common_prefix_len nat_eq owner name) (length owner))) [
+      | inl e ↦ rw e refl
+      | inr e ↦ rw (e, prefix_of_itself owner, e) refl
+    ] in
+    rw (filter_none (λ name. is_slot (place_of owner owner) (slot_at owner name)) names none_stands, take-nil {A = List ℕ} p.width) refl
+
+-- whether the owner is among the first of the names from an index on that fit, as many as are left
+abbrev pub among_rest : List ℕ → List ℕ → Slot → List (List ℕ) → ℕ → ℕ → Bool
+among_rest owner member slot names n left = list_any (λ link. pointwise nat_eq link owner) (take left (fitting member slot (drop n names)))
+
+module _ (owner member : List ℕ) (slot : Slot) (names : List (List ℕ)) (n : ℕ) (name : List ℕ) (within : n < length names) (is : name ≡ get_or names n name) where
+  parts : drop n names ≡ name ∷ drop (n + 1) names
+  parts = drop_more names n name within ∙ ap (λ x. x ∷ drop (n + 1) names) (sym is)
+
+  pub rest-skip : (left : ℕ) → is_slot slot (slot_at member name) ≡ false
+      → among_rest owner member slot names n left ≡ among_rest owner member slot names (n + 1) left
+  rest-skip left fails = rw (parts, fails) refl
+
+  pub rest-none : (left : ℕ) → left ≡ 0 → among_rest owner member slot names n left ≡ false
+  rest-none left none = rw none refl
+
+  pub rest-found : (left less : ℕ) → left ≡ suc less → is_slot slot (slot_at member name) ≡ true → pointwise nat_eq name owner ≡ true
+      → among_rest owner member slot names n left ≡ true
+  rest-found left less some fits same = rw (parts, fits, some, same) refl
+
+  pub rest-other : (left less : ℕ) → left ≡ suc less → is_slot slot (slot_at member name) ≡ true → pointwise nat_eq name owner ≡ false
+      → among_rest owner member slot names n left ≡ among_rest owner member slot names (n + 1) less
+  rest-other left less some fits differ = rw (parts, fits, some, differ) refl
+
+pub rest-end : (owner member : List ℕ) (slot : Slot) (names : List (List ℕ)) (n left : ℕ) → length names ≤ n → among_rest owner member slot names n left ≡ false
+rest-end owner member slot names n left past = rw (drop_all n names past, take-nil {A = List ℕ} left) refl

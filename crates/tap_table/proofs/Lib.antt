@@ -1,0 +1,10 @@
+pub mod Slots
+pub mod Changes
+pub mod Taken
+pub mod Rows
+pub mod Holders
+pub mod LookUps
+pub mod Fitting
+pub mod Grown
+pub mod Holding
+pub mod Ascending

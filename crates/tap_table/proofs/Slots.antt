@@ -1,0 +1,118 @@
+-- The slots of a table, and what a change of one of them keeps.
+use Rattle.std.proofs.Common.{◌≡◌, ◌≢◌, ℕ, ◌+◌, ◌*◌, ◌<◌, ◌≤◌, zero, suc, List, [], ◌∷◌, ◌++◌, replicate, length, get_or, map, set, nat_eq, All, arith, ap, sym, refl, ◌∙◌, inl, inr}
+use Rattle.std.specs.List.{common_prefix_len}
+use Rattle.std.proofs.Math.Nat.{mul-le-mul_left}
+use Rattle.std.proofs.lemmas.Bool.{cases_eq, cases_lt}
+use Rattle.std.proofs.lemmas.List.{get_or-map, get_or-set_same, get_or-set_other, get_or_past, get_or-replicate, length-replicate, replicate-append-replicate, length-set, map-set}
+use Rattle.std.proofs.lemmas.List.Elements.{All-nil, All-replicate, All-set}
+use Rattle.std.proofs.lemmas.List.Sums.{common_prefix_len-le}
+use Rattle.tap_name.specs.declared.slot.Slot.{Slot}
+use Rattle.tap_name.specs.Name.{IsName}
+use Rattle.tap_name.specs.Settings.{AreWithinLimits, Parameters}
+use Rattle.tap_name.proofs.Prefix.{whole_prefix}
+use Rattle.tap_link.specs.LinkSet.{Links}
+use Rattle.tap_table.specs.Table.{AreSets, SlotLinks, Slots, StandsIn, empty_table, most_links, place_of, slot_number, table_of}
+
+-- a slot of the table has its number below the number of slots
+pub number_inside : (p : Parameters) (slot : Slot) → slot.level < p.digits → slot.digit < p.base → slot_number p.base slot < p.base * p.digits
+number_inside p slot level digit = omega (arith, mul-le-mul_left p.base level)
+
+-- the slot of another name is one of the table
+pub place_inside : (p : Parameters) (owner name : List ℕ) → IsName p owner → IsName p name → name ≢ owner
+    → (common_prefix_len nat_eq owner name < p.digits) × (get_or name (common_prefix_len nat_eq owner name) 0 < p.base)
+place_inside p owner name is_owner is_name other =
+    let level = common_prefix_len nat_eq owner name in
+    let within = common_prefix_len-le nat_eq owner name in
+    let apart : level ≡ length owner → ⊥ = λ all. other (sym (whole_prefix owner name (is_owner.len ∙ sym is_name.len) all)) in
+    let inside : level < p.digits = omega (arith, within.0, apart, is_owner.len) in
+    (inside, is_name.below level 0 (omega (arith, is_name.len)))
+
+pub target_inside : (p : Parameters) (owner name : List ℕ) → IsName p owner → IsName p name → name ≢ owner
+    → slot_number p.base (place_of owner name) < p.base * p.digits
+target_inside p owner name is_owner is_name other =
+    let inside = place_inside p owner name is_owner is_name other in number_inside p (place_of owner name) inside.0 inside.1
+
+-- the links of a slot are those of its set
+pub links_of_set : (sets : List (Links (List ℕ))) (number : ℕ) (d : Links (List ℕ)) → number < length sets
+    → get_or (map (λ s. s.links) sets) number [] ≡ (get_or sets number d).links
+links_of_set sets number d within = get_or-map (λ s. s.links) sets number d [] within
+
+-- another set in one slot
+pub table-set : (owner : List ℕ) (p : Parameters) (sets : List (Links (List ℕ))) (number : ℕ) (new : Links (List ℕ)) (links : SlotLinks) → new.links ≡ links
+    → table_of owner p (set sets number new) ≡ record (table_of owner p sets) { slots = set (map (λ s. s.links) sets) number links }
+table-set owner p sets number new links is =
+    let with : List SlotLinks → Slots = λ slots. record { owner = owner; settings = p; slots = slots } in
+    ap with (map-set (λ s. s.links) sets number new ∙ ap (set (map (λ s. s.links) sets) number) is)
+
+pub sets-set : (owner : List ℕ) (p : Parameters) (sets : List (Links (List ℕ))) (number : ℕ) (new : Links (List ℕ)) → AreSets owner p sets
+    → new.width ≡ p.width → All (λ e. StandsIn p owner number e.target) new.links → length new.links ≤ most_links
+    → AreSets owner p (set sets number new)
+sets-set owner p sets number new are width standing few =
+    let links = λ (s : Links (List ℕ)). s.links in
+    let slots = map links sets in
+    let changed = map-set links sets number new in
+    let Stand : ℕ → SlotLinks → Type 0 = λ k. All (λ e. StandsIn p owner k e.target) in
+    let Few : SlotLinks → Type 0 = λ l. length l ≤ most_links in
+    let at : (P : ℕ → SlotLinks → Type 0) → P number new.links → ((k : ℕ) → P k (get_or slots k [])) → (k : ℕ) → P k (get_or (map links (set sets number new)) k []) = λ P here old k.
+    rw changed (elim (cases_eq k number) [
+      | inl is ↦
+          elim (cases_lt number (length slots)) [
+            | inl within ↦ rw (is, get_or-set_same slots number new.links [] within) here
+            | inr past ↦
+                let none : get_or slots k [] ≡ [] = get_or_past slots k [] (omega arith) in
+                let none' : get_or (set slots number new.links) k [] ≡ [] = get_or_past (set slots number new.links) k [] (omega (arith, length-set slots number new.links)) in
+                rw none' (rw none at (old k))
+          ]
+      | inr ne ↦ rw (get_or-set_other slots number k new.links [] ne) (old k)
+    ]) in
+    record {
+      valid = record {
+        limits = are.valid.limits;
+        owner = are.valid.owner;
+        count = ap length changed ∙ length-set slots number new.links ∙ are.valid.count;
+        standing = at Stand standing are.valid.standing;
+        few = at (λ _. Few) few are.valid.few;
+      };
+      widths = All-set (λ s. s.width ≡ p.width) sets number new width are.widths;
+    }
+
+-- the sets without links, as a table begins
+abbrev pub empty_sets : Parameters → ℕ → List (Links (List ℕ))
+empty_sets p n = replicate n (record { width = p.width; links = [] })
+
+pub empty_sets-more : (p : Parameters) (n : ℕ) (sets more : List (Links (List ℕ))) (new : Links (List ℕ)) → sets ≡ empty_sets p n
+    → new ≡ record { width = p.width; links = [] } → more ≡ sets ++ new ∷ [] → more ≡ empty_sets p (n + 1)
+empty_sets-more p n sets more new so_far is grown =
+    let none : Links (List ℕ) = record { width = p.width; links = [] } in
+    grown ∙ ap (λ s. s ++ new ∷ []) so_far ∙ ap (λ s. empty_sets p n ++ s ∷ []) is ∙ replicate-append-replicate n 1 none
+
+empty_slots : (p : Parameters) (n : ℕ) → map (λ s. s.links) (empty_sets p n) ≡ replicate n []
+empty_slots p zero = refl
+empty_slots p (suc n) = ap (λ l. [] ∷ l) (empty_slots p n)
+
+pub empty_is : (p : Parameters) (owner : List ℕ) → table_of owner p (empty_sets p (p.base * p.digits)) ≡ empty_table p owner
+empty_is p owner =
+    let with : List SlotLinks → Slots = λ slots. record { owner = owner; settings = p; slots = slots } in
+    ap with (empty_slots p (p.base * p.digits))
+
+no_links : (n k : ℕ) → get_or {A = SlotLinks} (replicate n []) k [] ≡ []
+no_links n k =
+    elim (cases_lt k n) [
+      | inl inside ↦ get_or-replicate n k [] [] inside
+      | inr past ↦ get_or_past (replicate n []) k [] (omega (arith, length-replicate {A = SlotLinks} n []))
+    ]
+
+pub empty_sets-are : (p : Parameters) (owner : List ℕ) → AreWithinLimits p → IsName p owner → AreSets owner p (empty_sets p (p.base * p.digits))
+empty_sets-are p owner limits is_name =
+    let count = p.base * p.digits in
+    let slots = empty_slots p count in
+    record {
+      valid = record {
+        limits = limits;
+        owner = is_name;
+        count = ap length slots ∙ length-replicate count [];
+        standing = λ number. rw (slots, no_links count number) (All-nil (λ e. StandsIn p owner number e.target));
+        few = λ number. rw (slots, no_links count number) (omega arith);
+      };
+      widths = All-replicate (λ s. s.width ≡ p.width) count (record { width = p.width; links = [] }) refl;
+    }

@@ -1,0 +1,32 @@
+use Rattle.std.proofs.Common.{◌≡◌, ◌+◌, take, filter, sym, ap, ◌∙◌, subst, Ok, List, ℕ, Bool}
+use Rattle.tap_register.specs.declared.registers.Entry.{Entry}
+use Rattle.tap_register.specs.Registers.{entry_of, supersedes}
+use Rattle.tap_table.specs.Members.{holders_at_rest, holds}
+use Rattle.tap_table.specs.Table.{name_cmp}
+use Rattle.tap_table.proofs.Holding.{above_holders, holder-more, holder-skip, no_word}
+use Rattle.tap_table.proofs.rest.holders_over.Goals as goal
+use Rattle.tap_table.proofs.rest.holders_over.Goals.{then-holds+in_ok-apply, else-holds}
+
+pub loop-member-preserved : goal.loop-member-preserved
+loop-member-preserved c =
+    let p = c.args.settings.now in
+    let owner = c.args.owner.now in
+    let names = c.args.names.now in
+    let i = c.loop-member.member-index in
+    let name = c.member-item.result in
+    let Done : List (Entry (List ℕ) Bool) → Type 0 = λ l. l ≡ holders_at_rest p owner names (take (i + 1) names) in
+    elim c.if-holds.branch [
+      | then-holds+in_ok-apply w ↦
+          let has = sym c.holds.ensures ∙ w.if-holds.true in
+          let front = filter (holds p owner names) (take i names) in
+          let over = above_holders p owner names i name c.requires.ascending c.loop-member-test.true c.member-item.is in
+          let absent = ap (λ l. entry_of name_cmp l name) c.loop-member.invariant ∙ no_word name front over in
+          let newer = w.in_ok-apply.ensures.answer ∙ ap (supersedes 0) absent in
+          let grown = w.in_ok-apply.ensures.kept (ap Ok newer) in
+          subst Done (sym w.holders-is)
+          (holder-more p owner names i name c.loop-member.holders w.apply.new.self c.loop-member-test.true c.member-item.is c.requires.ascending has
+          c.loop-member.invariant grown)
+      | else-holds w ↦
+          let skip = holder-skip p owner names i name c.loop-member-test.true c.member-item.is (sym c.holds.ensures ∙ w.if-holds.false) in
+          subst Done (sym w.holders-is) (c.loop-member.invariant ∙ skip)
+    ]

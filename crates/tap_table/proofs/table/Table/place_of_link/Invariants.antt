@@ -1,0 +1,5 @@
+use Rattle.tap_table.proofs.Rows.{IsRest}
+use Rattle.tap_table.proofs.table.Table.place_of_link.Given as goal
+
+abbrev pub invariant-loop-number : goal.invariant-loop-number
+invariant-loop-number l = IsRest l.self l.i l.number l.link

@@ -1,0 +1,5 @@
+pub mod Table
+pub mod Place
+pub mod Next
+pub mod Ties
+pub mod Members

@@ -1,0 +1,105 @@
+-- A table: one list of links for each slot.
+use Rattle.std.specs.Prelude.{◌≡◌, ℕ, ◌≤◌, ◌+◌, ◌*◌, ◌/◌, ◌%◌, Bool, List, [], length, map, replicate, slice_index, slice_set, nat_eq, All, Option}
+use Rattle.std.specs.List.{common_prefix_len, enumerate_from, flat_map, slice_index_or}
+use Rattle.std.specs.Ordering.{nat_cmp}
+use Rattle.std.specs.Cmp.Lexicographic.{slice_cmp}
+use Rattle.std.specs.declared.cmp.Ordering.{Ordering}
+use Rattle.tap_name.specs.declared.slot.Slot.{Slot}
+use Rattle.tap_name.specs.Name.{IsName}
+use Rattle.tap_name.specs.Settings.{Parameters, AreWithinLimits}
+use Rattle.tap_link.specs.declared.kind.Kind.{Kind}
+use Rattle.tap_link.specs.Entry.{Entry}
+use Rattle.tap_link.specs.LinkSet.{Links, has_room, kind_of}
+
+-- the links of one slot
+abbrev pub SlotLinks : Type 0
+SlotLinks = List (Entry (List ℕ))
+
+-- what a table is seen as: its owner, the settings, and the links of each slot by the slot's number
+pub record Slots : Type 0 where
+  pub owner : List ℕ
+  pub settings : Parameters
+  pub slots : List SlotLinks
+
+-- names are ordered digit by digit
+abbrev pub name_cmp : List ℕ → List ℕ → Ordering
+name_cmp = slice_cmp nat_cmp
+
+-- Slots are numbered level by level, and by digit in each.
+abbrev pub slot_number : ℕ → Slot → ℕ
+slot_number base slot = slot.level * base + slot.digit
+
+abbrev pub slot_numbered : ℕ → ℕ → Slot
+slot_numbered base number = record { level = number / base; digit = number % base }
+
+-- the slot of a name in the table of an owner: how many digits they share, and the name's digit behind them
+abbrev pub place_of : List ℕ → List ℕ → Slot
+place_of owner name =
+    let level = common_prefix_len nat_eq owner name in record { level = level; digit = slice_index name level }
+
+-- the table without links
+abbrev pub empty_table : Parameters → List ℕ → Slots
+empty_table settings owner =
+    record { owner = owner; settings = settings; slots = replicate (settings.base * settings.digits) [] }
+
+-- the links of a slot
+abbrev pub links_at : Slots → Slot → SlotLinks
+links_at t slot = slice_index_or t.slots (slot_number t.settings.base slot) []
+
+-- the links of the slot in which a name stands
+abbrev pub links_near : Slots → List ℕ → SlotLinks
+links_near t name = links_at t (place_of t.owner name)
+
+-- the kind of the link to a name, if there is one
+abbrev pub kind_in : Slots → List ℕ → Option Kind
+kind_in t name = kind_of name_cmp (links_near t name) name
+
+-- one more link may be settled in the slot in which a name stands
+abbrev pub has_room_near : Slots → List ℕ → Bool
+has_room_near t name =
+    let set : Links (List ℕ) = record { width = t.settings.width; links = links_near t name } in has_room set
+
+-- the table with these links in the slot in which a name stands, and the other slots as they were
+abbrev pub with_links : Slots → List ℕ → SlotLinks → Slots
+with_links t name links =
+    record t { slots = slice_set t.slots (slot_number t.settings.base (place_of t.owner name)) links }
+
+-- No slot has more links than this many. No memory holds so many, and the links of all slots are counted in 64 bits.
+abbrev pub most_links : ℕ
+most_links = 18014398509481984
+
+-- a target stands in the slot of this number in the table of an owner
+pub record StandsIn (p : Parameters) (owner : List ℕ) (number : ℕ) (target : List ℕ) : Type 0 where
+  pub is_name : IsName p target
+  pub place : slot_number p.base (place_of owner target) ≡ number
+
+-- what each table keeps
+pub record IsTable (t : Slots) : Type 0 where
+  pub limits : AreWithinLimits t.settings
+  pub owner : IsName t.settings t.owner
+  pub count : length t.slots ≡ t.settings.base * t.settings.digits
+  -- each target stands in its own slot
+  pub standing : (number : ℕ) → All (λ e. StandsIn t.settings t.owner number e.target) (slice_index_or t.slots number [])
+  pub few : (number : ℕ) → length (slice_index_or t.slots number []) ≤ most_links
+
+-- the table of an owner with these link sets in its slots
+abbrev pub table_of : List ℕ → Parameters → List (Links (List ℕ)) → Slots
+table_of owner settings sets = record { owner = owner; settings = settings; slots = map (λ s. s.links) sets }
+
+-- these are the link sets of a table
+pub record AreSets (owner : List ℕ) (settings : Parameters) (sets : List (Links (List ℕ))) : Type 0 where
+  pub valid : IsTable (table_of owner settings sets)
+  pub widths : All (λ s. s.width ≡ settings.width) sets
+
+-- a link in its slot
+pub record Row : Type 0 where
+  pub slot : Slot
+  pub entry : Entry (List ℕ)
+
+-- the links of the slot of this number
+abbrev pub rows_of : ℕ → ℕ × SlotLinks → List Row
+rows_of base (number, links) = map (λ e. record { slot = slot_numbered base number; entry = e }) links
+
+-- all links of a table, in ascending order of slot, then target
+abbrev pub rows : Slots → List Row
+rows t = flat_map (rows_of t.settings.base) (enumerate_from 0 t.slots)

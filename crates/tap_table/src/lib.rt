@@ -1,0 +1,17 @@
+//! The table of a node: its links to other nodes, in their slots, and the next hop towards an object.
+#![tactic(auto)]
+
+mod memory;
+mod next;
+mod rest;
+mod table;
+#[cfg(test)]
+mod tests;
+mod tie;
+mod ties;
+
+pub use memory::NoMemory;
+pub use next::Next;
+pub use table::Table;
+pub use tie::Tie;
+pub use ties::Ties;

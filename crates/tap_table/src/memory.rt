@@ -1,0 +1,29 @@
+use std::alloc::{AllocError, AllocFailed};
+
+/// Memory was refused.
+#[derive(Clone, Copy, Debug, PartialEq, Eq)]
+pub struct NoMemory;
+
+impl From<AllocError> for NoMemory {
+    fn from(_: AllocError) -> NoMemory {
+        NoMemory
+    }
+}
+
+impl<T: Drop> From<AllocFailed<T>> for NoMemory {
+    fn from(_: AllocFailed<T>) -> NoMemory {
+        NoMemory
+    }
+}
+
+impl From<tap_link::NoMemory> for NoMemory {
+    fn from(_: tap_link::NoMemory) -> NoMemory {
+        NoMemory
+    }
+}
+
+impl From<tap_register::NoMemory> for NoMemory {
+    fn from(_: tap_register::NoMemory) -> NoMemory {
+        NoMemory
+    }
+}

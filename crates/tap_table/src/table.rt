@@ -1,0 +1,434 @@
+ghost use Rattle.std.specs.Prelude.{◌≡◌, ◌==◌, ◌≢◌, ◌≤◌, ◌<◌, ◌↔◌, ◌+◌, ◌*◌, ◌&&◌, length, map, drop, slice_get, slice_index, true, Ok, Some, IsOk, IfOk};
+ghost use Rattle.std.specs.Bool.{OnTrue, OnFalse};
+ghost use Rattle.std.specs.Option.{is_none};
+ghost use Rattle.tap_link.specs.LinkSet.{has_room, kind_of, with_link, with_kind, without, is_pinned, is_settled, is_settled_or_leaving, least_settled, released_as, after_release};
+ghost use Rattle.tap_name.specs.Name.{IsName};
+ghost use Rattle.tap_table.specs.Next.{TakesOwnFrom, can_take, hop_to, next_from, primary_at, taken_digit};
+ghost use Rattle.tap_table.specs.Table.{IsTable, most_links, name_cmp, empty_table, place_of, slot_number, links_at, links_near, has_room_near, kind_in, with_links, rows};
+
+use crate::memory::NoMemory;
+use crate::next::Next;
+use std::alloc::Global;
+use std::marker::Model;
+use tap_link::{Cease, Forget, Kind, LinkSet, Release, Released};
+use tap_name::{Name, Settings, Slot, next_cyclic};
+
+// No slot has more links than this many. No memory holds so many, and the links of all slots are
+// counted in 64 bits.
+const MOST_LINKS: usize = 1 << 54;
+
+/// The links of a node, its owner, to other nodes.
+///
+/// Each link stands in the slot of its target: the level is the number of digits that the owner and
+/// the target share, and the digit is the target's behind them. Each slot has a link set, and all
+/// of them are made with the table, in one allocation: a slot is found by its number, and no look-up
+/// takes memory. With base 16 and 8 digits there are 128 sets.
+#[derive(Drop)]
+pub struct Table {
+    owner: Name,
+    settings: Settings,
+    sets: Vec<LinkSet<Name>>,
+}
+
+impl Model for Table {
+    ghost use Rattle.tap_table.specs.Table.{Slots, AreSets, table_of};
+
+    ghost Value = { Slots };
+
+    ghost view = { λ t. table_of t.owner t.settings t.sets.items };
+
+    ghost invariant = { λ t. AreSets t.owner t.settings t.sets.items };
+}
+
+// Where a link stands: the number of its slot, and its place in the slot's set.
+#[derive(Clone, Copy)]
+struct Place {
+    number: usize,
+    link: usize,
+}
+
+impl Table {
+    ghost use Rattle.tap_table.specs.Place.{IsPlace};
+
+    /// The table of an owner, without links. The owner is a name of the settings.
+    pub fn new(alloc: Global, owner: Name, settings: &Settings) -> Result<Table, NoMemory>
+        requires { IsName settings.now owner }
+        ensures { IfOk result (λ table. table ≡ empty_table settings.now owner) }
+    {
+        let slots = settings.base() as usize * settings.digits() as usize;
+        let mut sets = Vec::with_capacity(alloc, slots)?;
+        for _slot in 0..slots {
+            sets.push(LinkSet::new(alloc, settings.width()))?;
+        }
+        Ok(Table {
+            owner,
+            settings: *settings,
+            sets,
+        })
+    }
+
+    /// The node whose table this is.
+    pub fn owner(&self) -> Name
+        ensures value { result ≡ self.now.owner }
+        ensures valid { IsTable self.now }
+    {
+        self.owner
+    }
+
+    /// How many links there are, of all kinds.
+    pub fn len(&self) -> usize
+        ensures { result ≡ length (rows self.now) }
+    {
+        let sets = self.sets.as_slice();
+        let mut links = 0;
+        for set in sets {
+            links += set.len();
+        }
+        links
+    }
+
+    /// Whether there is no link.
+    pub fn is_empty(&self) -> bool
+        ensures { result ≡ (length (rows self.now) == 0) }
+    {
+        self.len() == 0
+    }
+
+    /// The slot of a link by its place, from 0, in ascending order of slot, then target.
+    pub fn slot_at(&self, i: usize) -> Slot
+        requires { i < length (rows self.now) }
+        ensures { slice_get (map (λ r. r.slot) (rows self.now)) i ≡ Some result }
+    {
+        let place = self.place_of_link(i);
+        let base = self.settings.base() as usize;
+        Slot {
+            level: (place.number / base) as u8,
+            digit: (place.number % base) as u8,
+        }
+    }
+
+    /// The target of a link by its place, from 0, in ascending order of slot, then target.
+    pub fn target_at(&self, i: usize) -> Name
+        requires { i < length (rows self.now) }
+        ensures { slice_get (map (λ r. r.entry.target) (rows self.now)) i ≡ Some result }
+    {
+        let place = self.place_of_link(i);
+        self.sets[place.number].target_at(place.link)
+    }
+
+    /// The kind of a link by its place, from 0, in ascending order of slot, then target.
+    pub fn kind_at(&self, i: usize) -> Kind
+        requires { i < length (rows self.now) }
+        ensures { slice_get (map (λ r. r.entry.kind) (rows self.now)) i ≡ Some result }
+    {
+        let place = self.place_of_link(i);
+        self.sets[place.number].kind_at(place.link)
+    }
+
+    // The place of a link in its slot, from its place among all links.
+    fn place_of_link(&self, i: usize) -> Place
+        requires { i < length (rows self.now) }
+        ensures { IsPlace self.now i result }
+    {
+        let sets = self.sets.as_slice();
+        let mut link = i;
+        for (number, set) in sets.iter().enumerate() {
+            let links = set.len();
+            if link < links {
+                return Place { number, link };
+            }
+            link -= links;
+        }
+        unreachable!()
+    }
+
+    /// The links of a slot. Its level is below the number of digits, and its digit below the base.
+    pub fn slot(&self, slot: Slot) -> &LinkSet<Name>
+        requires level { slot.level < self.now.settings.digits }
+        requires digit { slot.digit < self.now.settings.base }
+        ensures { result.now ≡ record { width = self.now.settings.width; links = links_at self.now slot } }
+    {
+        let number = slot.level as usize * self.settings.base() as usize + slot.digit as usize;
+        &self.sets[number]
+    }
+
+    /// The least target in a slot that is settled and not leaving, `None` exactly where there is
+    /// none. The slot's level is below the number of digits, and its digit below the base.
+    pub fn primary(&self, slot: Slot) -> Option<Name>
+        requires level { slot.level < self.now.settings.digits }
+        requires digit { slot.digit < self.now.settings.base }
+        ensures { result ≡ least_settled (links_at self.now slot) }
+    {
+        self.slot(slot).primary()
+    }
+
+    /// The kind of the link to a target, `None` exactly where the table has no link to it.
+    pub fn kind_of(&self, target: Name) -> Option<Kind>
+        ensures { result ≡ kind_in self.now target }
+    {
+        let number = self.number_of(&target);
+        self.sets.get(number)?.kind_of(target)
+    }
+
+    /// Pins a target that the table has no link to, and answers whether it had none.
+    ///
+    /// Where the target's slot has fewer than four links, it needs no memory. A table that is refused
+    /// memory stays as it was. The target is a name of the settings, and not the owner.
+    pub fn pin(&mut self, target: Name) -> Result<bool, NoMemory>
+        requires name { IsName self.old.settings target }
+        requires other { target ≢ self.old.owner }
+        ensures answer { IfOk result (λ added. added ≡ is_none (kind_in self.old target)) }
+        ensures pinned { result ≡ Ok true → self.new ≡ with_links self.old target
+            (with_link name_cmp (links_near self.old target) target Kind.Pin) }
+        ensures same { ¬ (result ≡ Ok true) → self.new ≡ self.old }
+        ensures inline { length (links_near self.old target) < 4 → IsOk result }
+        ensures owner { self.new.owner ≡ self.old.owner }
+        ensures settings { self.new.settings ≡ self.old.settings }
+    {
+        let number = self.number_of(&target);
+        pin_in(&mut self.sets[number], target)
+    }
+
+    /// Settles on a target that the table has no link to where its slot has room for a settled link,
+    /// and answers whether it did. There is room where fewer links of the slot are settled and not
+    /// leaving than the width of the settings.
+    ///
+    /// Where the target's slot has fewer than four links, it needs no memory. A table that is refused
+    /// memory stays as it was. The target is a name of the settings, and not the owner.
+    pub fn offer(&mut self, target: Name) -> Result<bool, NoMemory>
+        requires name { IsName self.old.settings target }
+        requires other { target ≢ self.old.owner }
+        ensures answer { IfOk result (λ added. added
+            ≡ (is_none (kind_in self.old target) && has_room_near self.old target)) }
+        ensures settled { result ≡ Ok true → self.new ≡ with_links self.old target
+            (with_link name_cmp (links_near self.old target) target Kind.Settled) }
+        ensures same { ¬ (result ≡ Ok true) → self.new ≡ self.old }
+        ensures inline { length (links_near self.old target) < 4 → IsOk result }
+        ensures owner { self.new.owner ≡ self.old.owner }
+        ensures settings { self.new.settings ≡ self.old.settings }
+    {
+        let number = self.number_of(&target);
+        offer_in(&mut self.sets[number], target)
+    }
+
+    /// Takes the release of a node: a pin on it becomes a settled link where its slot has room for
+    /// one, and is dropped otherwise. `Nothing` exactly where the sender isn't pinned. The sender is
+    /// a name of the settings, and not the owner.
+    pub fn release(&mut self, by: Release<Name>) -> Released
+        requires name { IsName self.old.settings by.from }
+        requires other { by.from ≢ self.old.owner }
+        ensures answer { result
+            ≡ released_as (is_pinned (kind_in self.old by.from)) (has_room_near self.old by.from) }
+        ensures after { self.new ≡ with_links self.old by.from
+            (after_release name_cmp (links_near self.old by.from) by.from result) }
+        ensures owner { self.new.owner ≡ self.old.owner }
+        ensures settings { self.new.settings ≡ self.old.settings }
+    {
+        let number = self.number_of(&by.from);
+        self.sets[number].release(by)
+    }
+
+    /// Ends the pin on a node that gave up joining: true exactly where it was pinned. The sender is a
+    /// name of the settings, and not the owner.
+    pub fn forget(&mut self, by: Forget<Name>) -> bool
+        requires name { IsName self.old.settings by.from }
+        requires other { by.from ≢ self.old.owner }
+        ensures answer { result ≡ is_pinned (kind_in self.old by.from) }
+        ensures forgotten { OnTrue result (self.new ≡ with_links self.old by.from
+            (without name_cmp (links_near self.old by.from) by.from)) }
+        ensures same { OnFalse result (self.new ≡ self.old) }
+        ensures owner { self.new.owner ≡ self.old.owner }
+        ensures settings { self.new.settings ≡ self.old.settings }
+    {
+        let number = self.number_of(&by.from);
+        self.sets[number].forget(by)
+    }
+
+    /// Marks the link to a target as leaving: true exactly where it was settled and not leaving. The
+    /// target is a name of the settings, and not the owner.
+    pub fn mark_leaving(&mut self, target: Name) -> bool
+        requires name { IsName self.old.settings target }
+        requires other { target ≢ self.old.owner }
+        ensures answer { result ≡ is_settled (kind_in self.old target) }
+        ensures marked { OnTrue result (self.new ≡ with_links self.old target
+            (with_kind name_cmp (links_near self.old target) target Kind.Leaving)) }
+        ensures same { OnFalse result (self.new ≡ self.old) }
+        ensures owner { self.new.owner ≡ self.old.owner }
+        ensures settings { self.new.settings ≡ self.old.settings }
+    {
+        let number = self.number_of(&target);
+        self.sets[number].mark_leaving(target)
+    }
+
+    /// Takes out the link to a target that is settled or leaving: true exactly where it was. The
+    /// target is a name of the settings, and not the owner.
+    pub fn remove_settled(&mut self, target: Name) -> bool
+        requires name { IsName self.old.settings target }
+        requires other { target ≢ self.old.owner }
+        ensures answer { result ≡ is_settled_or_leaving (kind_in self.old target) }
+        ensures removed { OnTrue result (self.new ≡ with_links self.old target
+            (without name_cmp (links_near self.old target) target)) }
+        ensures same { OnFalse result (self.new ≡ self.old) }
+        ensures owner { self.new.owner ≡ self.old.owner }
+        ensures settings { self.new.settings ≡ self.old.settings }
+    {
+        let number = self.number_of(&target);
+        self.sets[number].remove_settled(target)
+    }
+
+    /// Ends all links, with the owner of the table. It takes no memory.
+    ///
+    /// It consumes the table, so there is no value of which an `ensures` could speak.
+    pub fn cease(self, by: &Cease<Name>)
+        requires { by.now.owner ≡ self.owner }
+    {
+        let Table {
+            owner: _,
+            settings: _,
+            sets,
+        } = self;
+        for set in sets {
+            set.cease(by);
+        }
+    }
+
+    /// Where a message towards an object goes next, from a level on: 0 at its first node.
+    ///
+    /// At each level the digits are tried cyclically from the object's. The first one that is the
+    /// owner's own, or whose slot has a primary, is taken: where it is the owner's own, the next level
+    /// follows, and else the message hops to the primary, which goes on at the next level. `Root`
+    /// exactly where the owner's own digit is taken at each level from this one on.
+    ///
+    /// The object has as many digits as a name, all below the base, and the level is at most their
+    /// number.
+    pub fn next_hop(&self, object: &Name, level: usize) -> Next
+        requires name { IsName self.now.settings object.now }
+        requires level { level ≤ self.now.settings.digits }
+        ensures value { result ≡ next_from self.now level (drop level object.now) }
+        ensures root { (result ≡ Next.Root) ↔ TakesOwnFrom self.now level object.now }
+    {
+        self.next_from(object, level)
+    }
+
+    // Where a message goes next, by the definition.
+    fn next_from(&self, object: &Name, level: usize) -> Next
+        requires name { IsName self.now.settings object.now }
+        requires level { level ≤ self.now.settings.digits }
+        ensures value { result ≡ next_from self.now level (drop level object.now) }
+        ensures valid { IsTable self.now }
+    {
+        for at in level..object.len() {
+            let digit = self.taken_digit(at, object.digit(at));
+            if digit != self.owner.digit(at) {
+                return self.hop(at, digit);
+            }
+        }
+        Next::Root
+    }
+
+    // The hop to the primary of a slot, from its level.
+    fn hop(&self, level: usize, digit: u8) -> Next
+        requires level { level < self.now.settings.digits }
+        requires digit { digit < self.now.settings.base }
+        ensures { result ≡ hop_to (primary_at self.now level digit) (level + 1) }
+    {
+        let slot = self.slot_on(level, digit);
+        match self.primary(slot) {
+            Some(to) => Next::Hop {
+                to,
+                level: slot.level + 1,
+            },
+            None => Next::Root,
+        }
+    }
+
+    // The slot of a level and a digit.
+    fn slot_on(&self, level: usize, digit: u8) -> Slot
+        requires { level < self.now.settings.digits }
+        ensures value { result ≡ record { level = level; digit = digit } }
+        ensures level { result.level < 40 }
+    {
+        let _digits = self.settings.digits();
+        Slot {
+            level: level as u8,
+            digit,
+        }
+    }
+
+    // Whether a message may take a digit at a level: the owner's own, or one whose slot has a
+    // primary.
+    fn can_take(&self, level: usize, digit: u8) -> bool
+        requires level { level < self.now.settings.digits }
+        requires digit { digit < self.now.settings.base }
+        ensures { result ≡ can_take self.now level digit }
+    {
+        self.owner.digit(level) == digit || self.primary(self.slot_on(level, digit)).is_some()
+    }
+
+    // The first digit, cyclically from the wanted one, that a message may take at a level.
+    fn taken_digit(&self, level: usize, wanted: u8) -> u8
+        requires level { level < self.now.settings.digits }
+        requires wanted { wanted < self.now.settings.base }
+        ensures value { result ≡ taken_digit self.now level wanted }
+        ensures below { result < self.now.settings.base }
+    {
+        let base = self.settings.base();
+        let mut digit = wanted;
+        for _tried in 0..base {
+            if self.can_take(level, digit) {
+                return digit;
+            }
+            digit = next_cyclic(base, digit);
+        }
+        digit
+    }
+
+    // The number of the slot in which a name stands; past the last slot for the owner.
+    fn number_of(&self, name: &Name) -> usize
+        ensures { result ≡ slot_number self.now.settings.base (place_of self.now.owner name.now) }
+    {
+        let level = self.owner.lcp(name);
+        level * self.settings.base() as usize + digit_or_zero(name, level) as usize
+    }
+}
+
+// The digit at a place, and 0 past the last.
+fn digit_or_zero(name: &Name, at: usize) -> u8
+    ensures value { result ≡ slice_index name.now at }
+    ensures is_digit { result < 16 }
+{
+    if at < name.len() { name.digit(at) } else { 0 }
+}
+
+// Pins a target in a link set, as the set does, where it has few enough links.
+fn pin_in(set: &mut LinkSet<Name>, target: Name) -> Result<bool, NoMemory>
+    requires { length set.old.links ≤ most_links }
+    ensures answer { IfOk result (λ added. added ≡ is_none (kind_of name_cmp set.old.links target)) }
+    ensures pinned { result ≡ Ok true
+        → set.new ≡ record set.old { links = with_link name_cmp set.old.links target Kind.Pin } }
+    ensures same { ¬ (result ≡ Ok true) → set.new ≡ set.old }
+    ensures inline { length set.old.links < 4 → IsOk result }
+    ensures few { length set.new.links ≤ most_links }
+{
+    if set.len() >= MOST_LINKS {
+        return Err(NoMemory);
+    }
+    Ok(set.pin(target)?)
+}
+
+// Offers a target to a link set, as the set does, where it has few enough links.
+fn offer_in(set: &mut LinkSet<Name>, target: Name) -> Result<bool, NoMemory>
+    requires { length set.old.links ≤ most_links }
+    ensures answer { IfOk result (λ added. added
+        ≡ (is_none (kind_of name_cmp set.old.links target) && has_room set.old)) }
+    ensures settled { result ≡ Ok true
+        → set.new ≡ record set.old { links = with_link name_cmp set.old.links target Kind.Settled } }
+    ensures same { ¬ (result ≡ Ok true) → set.new ≡ set.old }
+    ensures inline { length set.old.links < 4 → IsOk result }
+    ensures few { length set.new.links ≤ most_links }
+{
+    if set.len() >= MOST_LINKS {
+        return Err(NoMemory);
+    }
+    Ok(set.offer(target)?)
+}
