@@ -23,6 +23,8 @@ const MOST_LINKS: usize = 1 << 54;
 /// the target share, and the digit is the target's behind them. Each slot has a link set, and all
 /// of them are made with the table, in one allocation: a slot is found by its number, and no look-up
 /// takes memory. With base 16 and 8 digits there are 128 sets.
+///
+/// Rule: docs/PROTOCOL.md, "Slots and tables".
 #[derive(Drop)]
 pub struct Table {
     owner: Name,
@@ -301,6 +303,8 @@ impl Table {
     ///
     /// The object has as many digits as a name, all below the base, and the level is at most their
     /// number.
+    ///
+    /// Rule: docs/PROTOCOL.md, "Walks".
     pub fn next_hop(&self, object: &Name, level: usize) -> Next
         requires name { IsName self.now.settings object.now }
         requires level { level ≤ self.now.settings.digits }

@@ -23,6 +23,8 @@ use tap_register::{Entry, Registers, Stamp};
 /// These nodes, the holders, tell it so by words with versions, of which the newest of each holder
 /// counts. In turn each change of the table that adds a link, or drops one at a release, gives the
 /// word for its target, with the next number of the node's stamp.
+///
+/// Rule: docs/PROTOCOL.md, "Links".
 #[derive(Drop)]
 pub struct Ties {
     table: Table,
@@ -58,6 +60,8 @@ impl Ties {
     /// width of the settings allows. The holders are the members whose own tables, so made, have a link
     /// to the owner, all of them heard of with version 0. The members are distinct names of the
     /// settings, and the owner is one of them.
+    ///
+    /// Rule: docs/PROTOCOL.md, "Slots and tables".
     pub fn at_rest(
         alloc: Global,
         owner: Name,
