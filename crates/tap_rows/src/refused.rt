@@ -97,7 +97,7 @@ fn each_refused_text_has_its_fault(rt: HostRuntime) -> Result<(), Fail> {
 fn texts_that_are_none(rt: HostRuntime) -> Result<(), Fail> {
     let alloc = rt.alloc();
     let long = vec![in alloc; b'#'; 1_048_577]?;
-    let fits = &long[..1_048_576];
+    let fits = vec![in alloc; b'#'; 1_048_576]?;
     let cases = [
         (
             [].as_slice(),
@@ -120,7 +120,7 @@ fn texts_that_are_none(rt: HostRuntime) -> Result<(), Fail> {
             "tapestry: text too long\n",
         ),
         (
-            fits,
+            fits.as_slice(),
             Status::NotScenario(Fault::BadKey(Key::Base)),
             "tapestry: not a scenario: bad key base\n",
         ),
