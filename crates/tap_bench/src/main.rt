@@ -1,39 +1,53 @@
-//! Times single calls: `tap_bench CALL COUNT`, as in `tap_bench decode-hello 100000`. It prints the nanoseconds of a call
-//! and how many bytes a second it goes through.
+//! Times single calls: `tap_bench CALL COUNT`, as in `tap_bench decode-hello 100000`. It prints the nanoseconds of a call,
+//! and of a call on frames how many bytes a second it goes through.
 //!
-//! Without words it makes each call once and prints how many bytes that is, so that the output is always the same.
+//! Without words it makes each call once and prints what it went through, so that the output is always the same.
 #![tactic(auto)]
 
 mod frames;
+mod tables;
 
-use anyhow::{Context, Result, anyhow, ensure};
+use anyhow::{Context, Result, anyhow, bail};
 use frames::{hello, release, settings};
 use std::rt::Clock;
 use std::time::Instant;
+use tables::{bytes_of_table, full, next_hops, object, primaries};
 use tap_name::Settings;
 use tap_wire::{decode, encode};
 
-// A call that can be timed.
+// A call on a frame.
 #[derive(Clone, Copy, Debug, PartialEq, Eq)]
-enum Call {
+enum FrameCall {
     DecodeHello,
     DecodeRelease,
     EncodeHello,
     EncodeRelease,
 }
 
-const CALLS: [(&str, Call); 4] = [
-    ("decode-hello", Call::DecodeHello),
-    ("decode-release", Call::DecodeRelease),
-    ("encode-hello", Call::EncodeHello),
-    ("encode-release", Call::EncodeRelease),
+// A call on a table.
+#[derive(Clone, Copy, Debug, PartialEq, Eq)]
+enum TableCall {
+    NextHop,
+    Primary,
+}
+
+const FRAME_CALLS: [(&str, FrameCall); 4] = [
+    ("decode-hello", FrameCall::DecodeHello),
+    ("decode-release", FrameCall::DecodeRelease),
+    ("encode-hello", FrameCall::EncodeHello),
+    ("encode-release", FrameCall::EncodeRelease),
+];
+
+const TABLE_CALLS: [(&str, TableCall); 2] = [
+    ("next-hop", TableCall::NextHop),
+    ("primary", TableCall::Primary),
 ];
 
 // The bytes of the frame that a call reads or writes.
-fn bytes_of(rt: &impl AllocGlobal, call: Call) -> Result<Vec<u8>> {
+fn bytes_of(rt: &impl AllocGlobal, call: FrameCall) -> Result<Vec<u8>> {
     match call {
-        Call::DecodeHello | Call::EncodeHello => Ok(hello(rt.alloc())?),
-        Call::DecodeRelease | Call::EncodeRelease => Ok(release(rt.alloc())?),
+        FrameCall::DecodeHello | FrameCall::EncodeHello => Ok(hello(rt.alloc())?),
+        FrameCall::DecodeRelease | FrameCall::EncodeRelease => Ok(release(rt.alloc())?),
     }
 }
 
@@ -59,16 +73,34 @@ fn encode_all(rt: &impl AllocGlobal, settings: &Settings, bytes: &[u8], count: u
 }
 
 // Makes a call so many times, and says how many bytes went through it.
-fn repeat(rt: &impl AllocGlobal, call: Call, bytes: &[u8], count: u32) -> Result<u64> {
+fn repeat(rt: &impl AllocGlobal, call: FrameCall, bytes: &[u8], count: u32) -> Result<u64> {
     let settings = settings().context("the settings")?;
     match call {
-        Call::DecodeHello | Call::DecodeRelease => decode_all(rt, &settings, bytes, count),
-        Call::EncodeHello | Call::EncodeRelease => encode_all(rt, &settings, bytes, count),
+        FrameCall::DecodeHello | FrameCall::DecodeRelease => decode_all(
+            rt, &settings, bytes, count,
+        ),
+        FrameCall::EncodeHello | FrameCall::EncodeRelease => encode_all(
+            rt, &settings, bytes, count,
+        ),
     }
 }
 
-// Times a call.
-fn time(rt: &(impl AllocGlobal + Print + Clock), name: &str, call: Call, count: u32) -> Result<()> {
+// Makes a call on a full table so many times, and says how often it found a node.
+fn look_up(rt: &impl AllocGlobal, call: TableCall, count: u32) -> Result<u32> {
+    let table = full(rt.alloc())?;
+    match call {
+        TableCall::NextHop => Ok(next_hops(&table, &object()?, count)),
+        TableCall::Primary => Ok(primaries(&table, count)),
+    }
+}
+
+// Times a call on a frame.
+fn time_frame(
+    rt: &(impl AllocGlobal + Print + Clock),
+    name: &str,
+    call: FrameCall,
+    count: u32,
+) -> Result<()> {
     let bytes = bytes_of(rt, call)?;
     let start = Instant::now(rt)?;
     let through = repeat(rt, call, bytes.as_slice(), count)?;
@@ -79,28 +111,62 @@ fn time(rt: &(impl AllocGlobal + Print + Clock), name: &str, call: Call, count: 
     Ok(())
 }
 
+// Times a call on a table.
+fn time_table(
+    rt: &(impl AllocGlobal + Print + Clock),
+    name: &str,
+    call: TableCall,
+    count: u32,
+) -> Result<()> {
+    let start = Instant::now(rt)?;
+    let found = look_up(rt, call, count)?;
+    let picoseconds = start.elapsed(rt)?.as_nanos().saturating_mul(1000);
+    let each = picoseconds / u128::from(count.max(1));
+    println!(rt; "{name}: {each} ps a call, {found} of {count} found a node")?;
+    Ok(())
+}
+
+// Makes each call once.
+fn call_each(rt: &(impl AllocGlobal + Print)) -> Result<()> {
+    for (name, call) in FRAME_CALLS {
+        let bytes = bytes_of(rt, call)?;
+        let through = repeat(rt, call, bytes.as_slice(), 1)?;
+        println!(rt; "{name}: {through} bytes")?;
+    }
+    call_each_on_a_table(rt)
+}
+
+// Makes each call on a table so many times that all slots are asked.
+fn call_each_on_a_table(rt: &(impl AllocGlobal + Print)) -> Result<()> {
+    for (name, call) in TABLE_CALLS {
+        let found = look_up(rt, call, 128)?;
+        println!(rt; "{name}: {found} of 128 found a node")?;
+    }
+    println!(rt; "the link sets of a table: {} bytes", bytes_of_table())?;
+    Ok(())
+}
+
+// Times the call of this name.
+fn time(rt: &(impl AllocGlobal + Print + Clock), wanted: &str, count: u32) -> Result<()> {
+    for (name, call) in FRAME_CALLS {
+        if name == wanted {
+            return time_frame(rt, name, call, count);
+        }
+    }
+    for (name, call) in TABLE_CALLS {
+        if name == wanted {
+            return time_table(rt, name, call, count);
+        }
+    }
+    bail!("no such call: without words all calls are printed")
+}
+
 fn main(rt: HostRuntime) -> Result<()> {
     let mut words = std::env::args(&rt)?.skip(1);
     let Some(wanted) = words.next() else {
-        for (name, call) in CALLS {
-            let bytes = bytes_of(&rt, call)?;
-            let through = repeat(&rt, call, bytes.as_slice(), 1)?;
-            println!(rt; "{name}: {through} bytes")?;
-        }
-        return Ok(());
+        return call_each(&rt);
     };
     let count = words.next().context("how many times?")?;
     let count = count.as_str().parse::<u32>().context("how many times?")?;
-    let mut found = false;
-    for (name, call) in CALLS {
-        if name == wanted.as_str() {
-            time(&rt, name, call, count)?;
-            found = true;
-        }
-    }
-    ensure!(
-        found,
-        "the calls are decode-hello, decode-release, encode-hello and encode-release"
-    );
-    Ok(())
+    time(&rt, wanted.as_str(), count)
 }
