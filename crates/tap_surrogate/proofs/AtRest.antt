@@ -1,4 +1,4 @@
--- tables at rest over members have no hole
+-- the least members that fit each slot
 use Rattle.std.proofs.Common.{◌≡◌, ◌⊎◌, inl, inr, ℕ, ◌<◌, ◌≤◌, zero, suc, true, Option, None, Some, List, [], ◌∷◌, length, take, All, arith, sym, refl, subst, ap, ◌∙◌, eqb}
 use Rattle.std.proofs.lemmas.Bool.{and_parts, and_from, eqb-true, eq-eqb, true≢false}
 use Rattle.std.proofs.lemmas.List.{length-take, get_or-take}
@@ -6,11 +6,15 @@ use Rattle.std.proofs.lemmas.List.Elements.{All-nil, All-cons}
 use Rattle.std.proofs.lemmas.List.Kept.{AllPairs-filter}
 use Rattle.std.specs.List.{AllPairs}
 use Rattle.tap_name.specs.declared.slot.Slot.{Slot}
-use Rattle.tap_name.specs.Root.{Among}
+use Rattle.tap_name.specs.Settings.{Parameters, AreWithinLimits}
+use Rattle.tap_name.specs.Root.{Among, AreNames}
 use Rattle.tap_name.specs.Slot.{slot_at, Fits}
-use Rattle.tap_surrogate.specs.Members.{IsBelow, is_slot, fitting, AreLeastFitting}
+use Rattle.tap_table.specs.Members.{IsBelow, is_slot, fitting}
+use Rattle.tap_surrogate.specs.Members.{AreLeastFitting, AreMembersTables}
+use Rattle.tap_surrogate.specs.Tables.{Tables}
+use Rattle.tap_surrogate.specs.HoleFree.{IsHoleFree}
 use Rattle.tap_surrogate.proofs.Names.{among-All, among-take, among-filter, among-filter_from}
-use Rattle.tap_surrogate.specs.Laws.{RestLaw, FirstFittingLaw}
+use Rattle.tap_surrogate.specs.Laws.{FirstFittingLaw}
 
 -- a slot that a member fits is not empty
 least_fitting_filled : (width : ℕ) (owner : List ℕ) (slot : Slot) (members links : List (List ℕ)) → 1 ≤ width
@@ -22,15 +26,17 @@ least_fitting_filled width owner slot members links wide are member among fits n
       | inr full ↦ let empty : length links ≡ 0 = ap length none in omega (arith, full.0, empty)
     ]
 
-pub rest_law_holds : RestLaw
-rest_law_holds p members tables limits names are =
+-- where each slot has the least members that fit, no table has a hole
+pub least_leave_no_hole : (p : Parameters) (members : List (List ℕ)) (tables : Tables) → AreWithinLimits p → AreNames p members
+    → AreMembersTables p members tables → IsHoleFree p members tables
+least_leave_no_hole p members tables limits names are =
     record {
       names = names;
       filled = λ a b slot a_member b_member fits. least_fitting_filled p.width a slot members (tables a slot) limits.width_from (are a slot a_member) b b_member fits;
       sound = λ a b slot a_member link. let w = (are a slot a_member).fitting b link in (w.1, w.0);
     }
 
-same_slot : (a b : Slot) → a.level ≡ b.level → a.digit ≡ b.digit → a ≡ b
+pub same_slot : (a b : Slot) → a.level ≡ b.level → a.digit ≡ b.digit → a ≡ b
 same_slot a b same_level same_digit =
     let at_level : ℕ → Slot = λ n. record { level = n; digit = a.digit } in
     let at_digit : ℕ → Slot = λ n. record { level = b.level; digit = n } in

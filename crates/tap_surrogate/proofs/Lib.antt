@@ -3,5 +3,7 @@ pub mod Names
 pub mod Nearest
 pub mod Slots
 pub mod Paths
+pub mod CoreLinks
 pub mod HoleFreePaths
 pub mod AtRest
+pub mod RestTables

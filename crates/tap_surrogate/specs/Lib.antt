@@ -1,4 +1,5 @@
 pub mod Tables
+pub mod Nodes
 pub mod Walk
 pub mod HoleFree
 pub mod Members

@@ -1,26 +1,14 @@
 -- The tables at rest over a set of members.
-use Rattle.std.specs.Prelude.{◌≡◌, ◌==◌, ◌&&◌, ℕ, ◌≤◌, Bool, false, Option, None, Some, List, length, filter, All, AllPairs, ◌⊎◌}
-use Rattle.std.specs.Cmp.Lexicographic.{slice_cmp}
-use Rattle.std.specs.Ordering.{nat_cmp}
-use Rattle.std.specs.declared.cmp.Ordering.TheVariants.{Less}
+use Rattle.std.specs.Prelude.{◌≡◌, ◌↔◌, ℕ, ◌≤◌, List, length, All, AllPairs, IsSomeAnd, ◌⊎◌}
+use Rattle.std.specs.List.Sorted.{IsPermutation}
 use Rattle.tap_name.specs.declared.slot.Slot.{Slot}
 use Rattle.tap_name.specs.Settings.{Parameters}
-use Rattle.tap_name.specs.Slot.{slot_at, Fits}
+use Rattle.tap_name.specs.Slot.{Fits}
 use Rattle.tap_name.specs.Root.{Among}
+use Rattle.tap_table.specs.Members.{IsBelow, settled_links, table_at_rest}
+use Rattle.tap_table.specs.Table.{Slots}
 use Rattle.tap_surrogate.specs.Tables.{Tables}
-
--- one name stands before another, digit by digit
-abbrev pub IsBelow : List ℕ → List ℕ → Type 0
-IsBelow a b = slice_cmp nat_cmp a b ≡ Less
-
--- this is the slot
-abbrev pub is_slot : Slot → Option Slot → Bool
-is_slot slot None = false
-is_slot slot (Some other) = (other.level == slot.level) && (other.digit == slot.digit)
-
--- the members that fit a slot of the owner, in their order
-abbrev pub fitting : List ℕ → Slot → List (List ℕ) → List (List ℕ)
-fitting owner slot members = filter (λ member. is_slot slot (slot_at owner member)) members
+use Rattle.tap_surrogate.specs.Nodes.{Nodes, IsCore, core_links, links_in}
 
 -- These links are the `width` least members that fit a slot of the owner, ascending; all that fit,
 -- where they are fewer.
@@ -39,3 +27,22 @@ abbrev pub AreMembersTables : Parameters → List (List ℕ) → Tables → Type
 AreMembersTables p members tables =
     (owner : List ℕ) (slot : Slot) → Among owner members
     → AreLeastFitting p.width owner slot members (tables owner slot)
+
+-- the table of an owner at rest over the members: the one over their names in ascending order
+pub record IsTableAtRest (p : Parameters) (owner : List ℕ) (members : List (List ℕ)) (table : Slots) : Type 0 where
+  pub names : List (List ℕ)
+  pub same : IsPermutation members names
+  pub ascending : AllPairs IsBelow names
+  pub is : table ≡ table_at_rest p owner names
+
+-- The members of an overlay at rest: they alone are core, and each has its table at rest over all of them.
+pub record AreMembersAtRest (p : Parameters) (members : List (List ℕ)) (nodes : Nodes) : Type 0 where
+  pub core : (name : List ℕ) → IsCore nodes name ↔ Among name members
+  pub tables : (member : List ℕ) → Among member members
+      → IsSomeAnd (nodes.table_of member) (IsTableAtRest p member members)
+
+-- Each slot of each member's table has links to the `width` least members that fit it, all of them settled.
+pub record HaveLeastFitting (p : Parameters) (members : List (List ℕ)) (nodes : Nodes) : Type 0 where
+  pub least : AreMembersTables p members (core_links nodes)
+  pub settled : (owner : List ℕ) (slot : Slot) → Among owner members
+      → links_in (nodes.table_of owner) slot ≡ settled_links (core_links nodes owner slot)

@@ -3,22 +3,22 @@ use Rattle.std.specs.Prelude.{◌≡◌, ◌<◌, [], ◌∷◌}
 use Rattle.tap_surrogate.specs.declared.walk.Step1.{Step1}
 use Rattle.tap_surrogate.specs.declared.walk.Step1.TheVariants.{Hop, Root}
 use Rattle.tap_name.specs.Settings.{Parameters}
-use Rattle.tap_surrogate.specs.Tables.{Tables}
+use Rattle.tap_surrogate.specs.Nodes.{Nodes, core_links}
 use Rattle.tap_surrogate.specs.Standing.{Standing, IsStanding, nodes_left}
 
 -- A hop leaves the node where the walk stood behind, and raises the level.
-pub record IsHop (p : Parameters) (tables : Tables) (before after : Standing) : Type 0 where
-  pub passes : nodes_left p.base tables before ≡ before.node ∷ nodes_left p.base tables after
+pub record IsHop (p : Parameters) (nodes : Nodes) (before after : Standing) : Type 0 where
+  pub passes : nodes_left p.base (core_links nodes) before ≡ before.node ∷ nodes_left p.base (core_links nodes) after
   pub rises : before.level < after.level
   pub object : after.object ≡ before.object
-  pub standing : IsStanding p after
+  pub standing : IsStanding p nodes after
 
 -- The walk stays where it stands for all levels that are left.
-pub record IsAtRoot (p : Parameters) (tables : Tables) (before after : Standing) : Type 0 where
-  pub alone : nodes_left p.base tables before ≡ before.node ∷ []
+pub record IsAtRoot (p : Parameters) (nodes : Nodes) (before after : Standing) : Type 0 where
+  pub alone : nodes_left p.base (core_links nodes) before ≡ before.node ∷ []
   pub stays : after ≡ record before { level = p.digits }
 
 -- The step that a walk makes: a hop to the node where it then stands, or none, at the root.
-abbrev pub IsStep : Parameters → Tables → Standing → Standing → Step1 → Type 0
-IsStep p tables before after (Hop to) = (to ≡ after.node) × IsHop p tables before after
-IsStep p tables before after (Root node) = (node ≡ before.node) × IsAtRoot p tables before after
+abbrev pub IsStep : Parameters → Nodes → Standing → Standing → Step1 → Type 0
+IsStep p nodes before after (Hop to) = (to ≡ after.node) × IsHop p nodes before after
+IsStep p nodes before after (Root node) = (node ≡ before.node) × IsAtRoot p nodes before after

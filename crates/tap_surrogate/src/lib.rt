@@ -3,15 +3,13 @@
 #![tactic(auto)]
 
 mod law;
-mod links;
 mod memory;
 mod root;
-#[cfg(test)]
-mod tests;
+mod tables;
 mod walk;
 
 pub use law::{members_law, walk_law};
-pub use links::Links;
 pub use memory::NoMemory;
 pub use root::root_of;
+pub use tables::Tables;
 pub use walk::{Step1, Walk, walk_path};

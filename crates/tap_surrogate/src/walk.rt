@@ -1,13 +1,16 @@
-ghost use Rattle.std.specs.Prelude.{◌≡◌, ◌<◌, IfOk, IfSome, MatchOption, ◌∷◌, []};
+ghost use Rattle.std.specs.Prelude.{◌≡◌, ◌<◌, IfOk, IfSome, MatchOption, Some, ◌∷◌, [], map, filter};
 ghost use Rattle.tap_name.specs.Name.{IsName};
-ghost use Rattle.tap_surrogate.specs.Tables.{HaveNames};
+ghost use Rattle.tap_name.specs.Root.{first_of};
+ghost use Rattle.tap_surrogate.specs.Nodes.{IsCore, core_links};
 ghost use Rattle.tap_surrogate.specs.Walk.{hop, walk};
 
-use crate::links::Links;
 use crate::memory::NoMemory;
+use crate::tables::Tables;
 use std::alloc::Global;
 use std::marker::Model;
+use tap_link::LinkSet;
 use tap_name::{List, Name, Slot, next_cyclic};
+use tap_table::Table;
 
 /// One step of a walk.
 #[derive(Clone, Copy, Debug, PartialEq, Eq)]
@@ -64,37 +67,40 @@ impl Walk {
 
     /// Makes the next hop of the walk over the tables of nodes, or says that the walk stands at the
     /// root. Asked again at the root, it says so again. No memory.
-    pub fn next<L: Links>(&mut self, links: &L) -> Step1
-        requires walk { IsStanding (L.parameters links.now) self.old }
-        requires links { HaveNames (L.parameters links.now) (L.tables links.now) }
-        ensures step { IsStep (L.parameters links.now) (L.tables links.now) self.old self.new result }
-        ensures standing { IsStanding (L.parameters links.now) self.new }
+    ///
+    /// The walk stands at a core node, and its object is a name of the settings.
+    pub fn next<T: Tables>(&mut self, tables: &T) -> Step1
+        requires { IsStanding (T.parameters tables.now) (T.nodes tables.now) self.old }
+        ensures step { IsStep (T.parameters tables.now) (T.nodes tables.now) self.old self.new result }
+        ensures standing { IsStanding (T.parameters tables.now) (T.nodes tables.now) self.new }
     {
-        match self.after_hop(links) {
+        match self.after_hop(tables) {
             Some(after) => {
                 let to = after.node;
                 *self = after;
                 Step1::Hop(to)
             }
             None => {
-                self.level = links.settings().digits();
+                self.level = tables.settings().digits();
                 Step1::Root(self.node)
             }
         }
     }
 
     // The walk after its next hop, `None` where it stays for all levels that are left.
-    fn after_hop<L: Links>(&self, links: &L) -> Option<Walk>
-        requires walk { IsStanding (L.parameters links.now) self.now }
-        requires links { HaveNames (L.parameters links.now) (L.tables links.now) }
-        ensures { let p = L.parameters links.now in
+    fn after_hop<T: Tables>(&self, tables: &T) -> Option<Walk>
+        requires { IsStanding (T.parameters tables.now) (T.nodes tables.now) self.now }
+        ensures { let p = T.parameters tables.now in let nodes = T.nodes tables.now in
             MatchOption result
-            (nodes_left p.base (L.tables links.now) self.now ≡ self.now.node ∷ [])
-            (λ after. IsHop p (L.tables links.now) self.now after) }
+            (nodes_left p.base (core_links nodes) self.now ≡ self.now.node ∷ [])
+            (λ after. IsHop p nodes self.now after) }
     {
-        for level in self.level..links.settings().digits() {
+        let Some(table) = tables.table_of(self.node) else {
+            unreachable!()
+        };
+        for level in self.level..tables.settings().digits() {
             let wanted = self.object.digit(level as usize);
-            if let Some(to) = hop_at(links, &self.node, level, wanted) {
+            if let Some(to) = hop_at(tables, table, level, wanted) {
                 return Some(Walk {
                     node: to,
                     level: level + 1,
@@ -106,49 +112,65 @@ impl Walk {
     }
 }
 
-/// The nodes of the whole walk of an object from a node: this node first, the root last.
+/// The nodes of the whole walk of an object from a core node: this node first, the root last.
+///
+/// The object is a name of the settings.
 ///
 /// Rule: docs/PROTOCOL.md, "Walks".
-pub fn walk_path<L: Links>(
+pub fn walk_path<T: Tables>(
     alloc: Global,
-    links: &L,
+    tables: &T,
     from: Name,
     object: Name,
 ) -> Result<List<Name>, NoMemory>
-    requires from { IsName (L.parameters links.now) from }
-    requires object { IsName (L.parameters links.now) object }
-    requires links { HaveNames (L.parameters links.now) (L.tables links.now) }
-    ensures { let base = (L.parameters links.now).base in
-        IfOk result (λ path. path ≡ walk base (L.tables links.now) from object) }
+    requires from { IsCore (T.nodes tables.now) from }
+    requires object { IsName (T.parameters tables.now) object }
+    ensures { let base = (T.parameters tables.now).base in
+        IfOk result (λ path. path ≡ walk base (core_links (T.nodes tables.now)) from object) }
 {
     let mut path = List::new(alloc);
     let mut walk = Walk::new(from, object);
     loop {
         path.push(walk.node())?;
-        if let Step1::Root(_) = walk.next(links) {
+        if let Step1::Root(_) = walk.next(tables) {
             return Ok(path);
         }
     }
 }
 
-// The hop of a walk at a level, `None` where it stays.
-fn hop_at<L: Links>(links: &L, node: &Name, level: u8, wanted: u8) -> Option<Name>
-    requires node { IsName (L.parameters links.now) node.now }
-    requires level { level < (L.parameters links.now).digits }
-    requires wanted { wanted < (L.parameters links.now).base }
-    requires links { HaveNames (L.parameters links.now) (L.tables links.now) }
-    ensures name { IfSome result (IsName (L.parameters links.now)) }
-    ensures value { let base = (L.parameters links.now).base in
-        result ≡ hop base (L.tables links.now) node.now level wanted }
+// The hop of a walk at a level, from the node whose table this is; `None` where the walk stays.
+fn hop_at<T: Tables>(tables: &T, table: &Table, level: u8, wanted: u8) -> Option<Name>
+    requires table { (T.nodes tables.now).table_of table.now.owner ≡ Some table.now }
+    requires settings { table.now.settings ≡ T.parameters tables.now }
+    requires level { level < (T.parameters tables.now).digits }
+    requires wanted { wanted < (T.parameters tables.now).base }
+    ensures core { IfSome result (IsCore (T.nodes tables.now)) }
+    ensures value { let base = (T.parameters tables.now).base in
+        result ≡ hop base (core_links (T.nodes tables.now)) table.now.owner level wanted }
 {
-    let base = links.settings().base();
-    let own = node.digit(level as usize);
+    let base = tables.settings().base();
+    let own = table.owner().digit(level as usize);
     let mut digit = wanted;
     while digit != own {
-        if let Some(to) = links.least_link(node, Slot { level, digit }) {
+        if let Some(to) = first_core(tables, table.slot(Slot { level, digit })) {
             return Some(to);
         }
         digit = next_cyclic(base, digit);
+    }
+    None
+}
+
+// The first core node among the targets of links.
+fn first_core<T: Tables>(tables: &T, links: &LinkSet<Name>) -> Option<Name>
+    ensures core { IfSome result (IsCore (T.nodes tables.now)) }
+    ensures value { result
+        ≡ first_of (filter (T.nodes tables.now).core (map (λ e. e.target) links.now.links)) }
+{
+    for at in 0..links.len() {
+        let target = links.target_at(at);
+        if tables.is_core(target) {
+            return Some(target);
+        }
     }
     None
 }

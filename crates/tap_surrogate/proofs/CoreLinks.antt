@@ -1,0 +1,33 @@
+-- the core nodes to which a node has links in a slot
+use Rattle.std.proofs.Common.{◌≡◌, ℕ, ◌+◌, ◌<◌, nat_lt, Bool, true, false, Option, None, Some, List, [], ◌∷◌, length, drop, get_or, slice_get, map, filter, ap, sym, refl, ◌∙◌}
+use Rattle.std.specs.Option.{option_copied}
+use Rattle.std.specs.Borrow.{Bor}
+use Rattle.std.proofs.lemmas.Bool.{lt-ltb}
+use Rattle.std.proofs.lemmas.List.{drop_more}
+use Rattle.std.proofs.lemmas.Option.{get_or_from_slice_get, slice_get_within}
+use Rattle.tap_name.specs.declared.slot.Slot.{Slot}
+use Rattle.tap_name.specs.Root.{first_of}
+use Rattle.tap_table.specs.Table.{SlotLinks, Slots, links_at}
+use Rattle.tap_surrogate.specs.Nodes.{Nodes, core_links}
+
+-- the names from here on
+from_here : (names : List (List ℕ)) (k : ℕ) (name : List ℕ) → slice_get names k ≡ Some name → drop k names ≡ name ∷ drop (k + 1) names
+from_here names k name is =
+    drop_more names k name (slice_get_within names k name is) ∙ ap (λ x. x ∷ drop (k + 1) names) (get_or_from_slice_get names k name name is)
+
+-- the first name that passes is this one
+pub first_is_here : (passes : List ℕ → Bool) (names : List (List ℕ)) (k : ℕ) (name : List ℕ) → slice_get names k ≡ Some name → passes name ≡ true
+    → first_of (filter passes (drop k names)) ≡ Some name
+first_is_here passes names k name is test = rw (from_here names k name is, test) refl
+
+-- or it comes later
+pub first_comes_later : (passes : List ℕ → Bool) (names : List (List ℕ)) (k : ℕ) (name : List ℕ) → slice_get names k ≡ Some name → passes name ≡ false
+    → first_of (filter passes (drop k names)) ≡ first_of (filter passes (drop (k + 1) names))
+first_comes_later passes names k name is test = rw (from_here names k name is, test) refl
+
+-- the core links of a slot are the core targets that the slot of the table has
+pub core_links_of : (nodes : Nodes) (table : Slots) (node : List ℕ) (slot : Slot) (links : SlotLinks) → nodes.table_of node ≡ Some table
+    → slot.digit < table.settings.base → links ≡ links_at table slot
+    → filter nodes.core (map (λ e. e.target) links) ≡ core_links nodes node slot
+core_links_of nodes table node slot links is below same =
+    let test = lt-ltb slot.digit table.settings.base below in rw (is, test, same) refl
