@@ -9,6 +9,7 @@ use Rattle.tap_name.specs.declared.slot.Slot.{Slot}
 use Rattle.tap_name.specs.Root.{first_of}
 use Rattle.tap_table.specs.Table.{SlotLinks, Slots, links_at}
 use Rattle.tap_surrogate.specs.Nodes.{Nodes, core_links}
+use Rattle.tap_surrogate.specs.Tables.{least_link}
 
 -- the names from here on
 from_here : (names : List (List ℕ)) (k : ℕ) (name : List ℕ) → slice_get names k ≡ Some name → drop k names ≡ name ∷ drop (k + 1) names
@@ -31,3 +32,11 @@ pub core_links_of : (nodes : Nodes) (table : Slots) (node : List ℕ) (slot : Sl
     → filter nodes.core (map (λ e. e.target) links) ≡ core_links nodes node slot
 core_links_of nodes table node slot links is below same =
     let test = lt-ltb slot.digit table.settings.base below in rw (is, test, same) refl
+
+-- so the least link of a slot is the first core target there
+pub least_link_of : (nodes : Nodes) (table : Slots) (level digit : ℕ) (links : SlotLinks) → nodes.table_of table.owner ≡ Some table
+    → digit < table.settings.base → links ≡ links_at table (record { level = level; digit = digit })
+    → least_link (core_links nodes) table.owner level digit ≡ first_of (filter nodes.core (map (λ e. e.target) links))
+least_link_of nodes table level digit links is below same =
+    let slot : Slot = record { level = level; digit = digit } in
+    ap first_of (sym (core_links_of nodes table table.owner slot links is below same))
