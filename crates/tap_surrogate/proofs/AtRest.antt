@@ -13,6 +13,7 @@ use Rattle.tap_table.specs.Members.{IsBelow, is_slot, fitting}
 use Rattle.tap_surrogate.specs.Members.{AreLeastFitting, AreMembersTables}
 use Rattle.tap_surrogate.specs.Tables.{Tables}
 use Rattle.tap_surrogate.specs.HoleFree.{IsHoleFree}
+use Rattle.tap_surrogate.proofs.Slots.{same_slot}
 use Rattle.tap_surrogate.proofs.Names.{among-All, among-take, among-filter, among-filter_from}
 use Rattle.tap_surrogate.specs.Laws.{FirstFittingLaw}
 
@@ -35,12 +36,6 @@ least_leave_no_hole p members tables limits names are =
       filled = λ a b slot a_member b_member fits. least_fitting_filled p.width a slot members (tables a slot) limits.width_from (are a slot a_member) b b_member fits;
       sound = λ a b slot a_member link. let w = (are a slot a_member).fitting b link in (w.1, w.0);
     }
-
-pub same_slot : (a b : Slot) → a.level ≡ b.level → a.digit ≡ b.digit → a ≡ b
-same_slot a b same_level same_digit =
-    let at_level : ℕ → Slot = λ n. record { level = n; digit = a.digit } in
-    let at_digit : ℕ → Slot = λ n. record { level = b.level; digit = n } in
-    ap at_level same_level ∙ ap at_digit same_digit
 
 pub is_slot-from : (slot : Slot) (other : Option Slot) → other ≡ Some slot → is_slot slot other ≡ true
 is_slot-from slot other is = rw is (and_from _ _ (eq-eqb slot.level slot.level refl) (eq-eqb slot.digit slot.digit refl))

@@ -4,6 +4,7 @@ pub mod Nearest
 pub mod Slots
 pub mod Paths
 pub mod CoreLinks
+pub mod Standing
 pub mod HoleFreePaths
 pub mod AtRest
 pub mod RestTables

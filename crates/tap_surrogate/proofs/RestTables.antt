@@ -9,7 +9,6 @@ use Rattle.std.proofs.lemmas.Bool.Decides.{nat_tests}
 use Rattle.std.proofs.lemmas.List.{get_or_past}
 use Rattle.std.proofs.lemmas.List.FromFn.{get_or-map-range_with_len, length-map-range_with_len}
 use Rattle.std.proofs.lemmas.List.Sorted.{All-permutation, IsPermutation-sym}
-use Rattle.std.proofs.lemmas.Nat.{div-mul-add, mod-mul-add}
 use Rattle.tap_name.specs.declared.slot.Slot.{Slot}
 use Rattle.tap_name.specs.Name.{IsName}
 use Rattle.tap_name.specs.Settings.{Parameters}
@@ -21,16 +20,11 @@ use Rattle.tap_table.proofs.Slots.{number_inside}
 use Rattle.tap_surrogate.specs.Nodes.{Nodes, core_links, links_in}
 use Rattle.tap_surrogate.specs.Members.{AreLeastFitting, AreMembersAtRest, HaveLeastFitting, IsTableAtRest}
 use Rattle.tap_surrogate.specs.Laws.{LeastLaw, RestLaw, TiesLaw}
-use Rattle.tap_surrogate.proofs.AtRest.{first_fitting_law_holds, is_slot-to, least_leave_no_hole, same_slot}
+use Rattle.tap_surrogate.proofs.AtRest.{first_fitting_law_holds, is_slot-to, least_leave_no_hole}
 use Rattle.tap_surrogate.proofs.Names.{among-All, All-among, among-filter, among-take}
-use Rattle.tap_surrogate.proofs.Slots.{shares_what_fits}
+use Rattle.tap_surrogate.proofs.Slots.{number_back, shares_what_fits}
 
 -- ---- one slot of one table
-
--- the slot of a number, from the number of the slot
-number_back : (base : ℕ) (slot : Slot) → slot.digit < base → slot_numbered base (slot_number base slot) ≡ slot
-number_back base slot below =
-    same_slot (slot_numbered base (slot_number base slot)) slot (div-mul-add slot.level base slot.digit below) (mod-mul-add slot.level base slot.digit below)
 
 targets_of_settled : (targets : List (List ℕ)) → map (λ e. e.target) (settled_links targets) ≡ targets
 targets_of_settled [] = refl

@@ -1,12 +1,26 @@
 -- the slot of one name at another: what the two share, and where they differ
-use Rattle.std.proofs.Common.{◌≡◌, inl, inr, ℕ, ◌<◌, zero, suc, true, false, List, [], ◌∷◌, length, take, get_or, None, Some, nat_eq, arith, refl, sym, subst, ◌∙◌, eqb}
+use Rattle.std.proofs.Common.{◌≡◌, inl, inr, ℕ, ◌+◌, ◌*◌, ◌/◌, ◌%◌, ◌<◌, ap, zero, suc, true, false, List, [], ◌∷◌, length, take, get_or, None, Some, nat_eq, arith, refl, sym, subst, ◌∙◌, eqb}
 use Rattle.std.specs.List.{common_prefix_len}
 use Rattle.std.proofs.lemmas.Bool.{cases_Bool, eqb-true, eq-eqb, eqb-false, ne_eqb}
 use Rattle.std.proofs.lemmas.List.Sums.{common_prefix_len-le}
+use Rattle.std.proofs.lemmas.Nat.{div-mul-add, mod-mul-add}
 use Rattle.tap_name.specs.declared.slot.Slot.{Slot}
 use Rattle.tap_name.specs.Settings.{Parameters}
 use Rattle.tap_name.specs.Name.{IsName}
 use Rattle.tap_name.specs.Slot.{Fits}
+use Rattle.tap_table.specs.Table.{slot_number, slot_numbered}
+
+-- a slot is its level and its digit
+pub same_slot : (a b : Slot) → a.level ≡ b.level → a.digit ≡ b.digit → a ≡ b
+same_slot a b same_level same_digit =
+    let at_level : ℕ → Slot = λ n. record { level = n; digit = a.digit } in
+    let at_digit : ℕ → Slot = λ n. record { level = b.level; digit = n } in
+    ap at_level same_level ∙ ap at_digit same_digit
+
+-- the slot of a number, from the number of the slot
+pub number_back : (base : ℕ) (slot : Slot) → slot.digit < base → slot_numbered base (slot_number base slot) ≡ slot
+number_back base slot below =
+    same_slot (slot_numbered base (slot_number base slot)) slot (div-mul-add slot.level base slot.digit below) (mod-mul-add slot.level base slot.digit below)
 
 -- what the digits behind a longer prefix say
 prefix_more : (x y : ℕ) (xs ys : List ℕ) → nat_eq x y ≡ true
