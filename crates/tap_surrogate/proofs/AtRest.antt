@@ -56,7 +56,7 @@ AllPairs-take R n names pairs = λ i j d before within.
     let at_j = get_or-take n names j d in_n in
     rw (at_i, at_j) (pairs i j d before in_names)
 
-below_later : (first : List ℕ) (others : List (List ℕ)) → AllPairs IsBelow (first ∷ others) → All (IsBelow first) others
+pub below_later : (first : List ℕ) (others : List (List ℕ)) → AllPairs IsBelow (first ∷ others) → All (IsBelow first) others
 below_later first others pairs = λ k d within. pairs 0 (suc k) d (omega arith) (omega arith)
 
 AllPairs-tail : (R : List ℕ → List ℕ → Type 0) (first : List ℕ) (others : List (List ℕ)) → AllPairs R (first ∷ others)

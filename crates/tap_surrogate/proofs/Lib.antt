@@ -8,3 +8,4 @@ pub mod Standing
 pub mod HoleFreePaths
 pub mod AtRest
 pub mod RestTables
+pub mod Least

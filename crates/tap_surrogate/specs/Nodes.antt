@@ -2,7 +2,9 @@
 use Rattle.std.specs.Prelude.{◌≡◌, ℕ, nat_lt, Bool, true, if◌then◌else◌, List, [], map, filter, Option, None, Some}
 use Rattle.tap_name.specs.declared.slot.Slot.{Slot}
 use Rattle.tap_name.specs.Settings.{Parameters}
-use Rattle.tap_table.specs.Table.{SlotLinks, Slots, links_at}
+use Rattle.tap_name.specs.Root.{Among}
+use Rattle.tap_table.specs.Members.{IsBelow}
+use Rattle.tap_table.specs.Table.{SlotLinks, Slots, links_at, place_of}
 use Rattle.tap_surrogate.specs.Tables.{Tables}
 
 -- for each name the table of its node, if it has one, and whether the node is core
@@ -27,3 +29,8 @@ links_in (Some table) slot = if nat_lt slot.digit table.settings.base then links
 -- the core nodes to which a node has links in a slot, in their order there; pins, settled and leaving links count alike
 abbrev pub core_links : Nodes → Tables
 core_links nodes node slot = filter nodes.core (map (λ e. e.target) (links_in (nodes.table_of node) slot))
+
+-- of the core nodes to which a node has links in one of its slots, this one is the least
+pub record IsLeastLink (nodes : Nodes) (node to : List ℕ) : Type 0 where
+  pub linked : Among to (core_links nodes node (place_of node to))
+  pub least : (other : List ℕ) → Among other (core_links nodes node (place_of node to)) → ¬ (IsBelow other to)

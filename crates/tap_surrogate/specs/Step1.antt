@@ -3,12 +3,14 @@ use Rattle.std.specs.Prelude.{◌≡◌, ◌<◌, [], ◌∷◌}
 use Rattle.tap_surrogate.specs.declared.walk.Step1.{Step1}
 use Rattle.tap_surrogate.specs.declared.walk.Step1.TheVariants.{Hop, Root}
 use Rattle.tap_name.specs.Settings.{Parameters}
-use Rattle.tap_surrogate.specs.Nodes.{Nodes, core_links}
+use Rattle.tap_surrogate.specs.Nodes.{Nodes, IsLeastLink, core_links}
 use Rattle.tap_surrogate.specs.Standing.{Standing, IsStanding, nodes_left}
 
--- A hop leaves the node where the walk stood behind, and raises the level.
+-- A hop leads to the least core node of a slot. It leaves the node where the walk stood behind,
+-- and raises the level.
 pub record IsHop (p : Parameters) (nodes : Nodes) (before after : Standing) : Type 0 where
   pub passes : nodes_left p.base (core_links nodes) before ≡ before.node ∷ nodes_left p.base (core_links nodes) after
+  pub link : IsLeastLink nodes before.node after.node
   pub rises : before.level < after.level
   pub object : after.object ≡ before.object
   pub standing : IsStanding p nodes after

@@ -2,8 +2,18 @@ use Rattle.std.proofs.Common.{◌<◌, get_or, sym, ap, ◌∙◌, arith}
 use Rattle.std.proofs.lemmas.Bool.{ne_eqb}
 use Rattle.tap_surrogate.specs.Nodes.{core_links}
 use Rattle.tap_surrogate.proofs.CoreLinks.{least_link_of}
+use Rattle.tap_surrogate.proofs.Least.{hop_is_least}
 use Rattle.tap_surrogate.proofs.Paths.{own_is_taken, link_is_taken}
 use Rattle.tap_surrogate.proofs.walk.hop_at.Goals as goal
+
+pub returns-in-Some-clause-least : goal.returns-in-Some-clause-least
+returns-in-Some-clause-least g c =
+    let nodes = g.T.Tables.nodes c.args.tables.now in
+    let table = c.args.table.now in
+    let base_is = c.base-base.ensures.value ∙ ap (λ p. p.base) c.settings.ensures in
+    let below : c.loop-digit.digit < table.settings.base = omega (arith, base_is, ap (λ p. p.base) c.requires.settings, c.loop-digit.invariant.below) in
+    let first = sym c.in-Some.is ∙ c.first_core.ensures.value in
+    hop_is_least nodes table c.args.level c.loop-digit.digit c.slot.result.now.links c.in-Some.to c.owner.ensures.valid c.requires.table below (ap (λ s. s.links) c.slot.ensures) first c.in-Some.ensures.least
 
 pub returns-in-Some-clause-value : goal.returns-in-Some-clause-value
 returns-in-Some-clause-value g c =
