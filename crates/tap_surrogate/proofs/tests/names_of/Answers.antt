@@ -1,4 +1,4 @@
-use Rattle.std.proofs.Common.{◌≡◌, ◌≢◌, ℕ, ◌<◌, zero, suc, false, List, [], ◌∷◌, length, get_or, nat_eq, arith, sym, ◌∙◌}
+use Rattle.std.proofs.Common.{◌≡◌, ◌≢◌, inl, inr, ℕ, ◌<◌, zero, suc, false, List, [], ◌∷◌, length, get_or, nat_eq, arith, sym, ◌∙◌}
 use Rattle.std.specs.Cmp.Lexicographic.{pointwise}
 use Rattle.std.specs.List.{list_any}
 use Rattle.std.proofs.lemmas.Bool.{cases_Bool, true≢false}
@@ -27,7 +27,7 @@ pub loop-text-preserved : goal.loop-text-preserved
 loop-text-preserved c =
     let names = c.loop-text.names in
     let name = c.in_ok-name.name in
-    let none : list_any (λ y. pointwise nat_eq y name) names ≡ false = grind in
+    let none : list_any (λ y. pointwise nat_eq y name) names ≡ false = rw c.as_slice.ensures at (sym c.if-contains.ensures.value) in
     rw c.in_ok-push.ensures.ok (record {
       names = All-push (IsName c.args.settings.now) names name c.loop-text.invariant.names c.in_ok-name.ensures;
       distinct = all_pairs_push (λ x y. x ≢ y) names name c.loop-text.invariant.distinct (none_is names name none);
