@@ -1,5 +1,5 @@
 -- the least members that fit each slot
-use Rattle.std.proofs.Common.{◌≡◌, ◌⊎◌, inl, inr, ℕ, ◌<◌, ◌≤◌, zero, suc, true, Option, None, Some, List, [], ◌∷◌, length, take, All, arith, sym, refl, subst, ap, ◌∙◌, eqb}
+use Rattle.std.proofs.Common.{◌≡◌, ◌⊎◌, inl, inr, ℕ, ◌<◌, ◌≤◌, zero, suc, true, Option, None, Some, List, [], ◌∷◌, length, take, All, arith, sym, refl, subst, ap, eqb}
 use Rattle.std.proofs.lemmas.Bool.{and_parts, and_from, eqb-true, eq-eqb, true≢false}
 use Rattle.std.proofs.lemmas.List.{length-take, get_or-take}
 use Rattle.std.proofs.lemmas.List.Elements.{All-nil, All-cons}

@@ -1,14 +1,14 @@
 -- the first core target of a slot is the least one
-use Rattle.std.proofs.Common.{◌≡◌, ◌≢◌, inl, inr, ℕ, ◌<◌, Bool, Option, None, Some, List, [], ◌∷◌, length, get_or, nat_eq, map, filter, AllPairs, arith, sym, refl, ap, subst, ◌∙◌, eqb}
+use Rattle.std.proofs.Common.{◌≡◌, inl, inr, ℕ, ◌<◌, Bool, None, Some, List, [], ◌∷◌, length, nat_eq, map, filter, AllPairs, arith, sym, refl, ap, subst, ◌∙◌, eqb}
 use Rattle.std.specs.List.{common_prefix_len}
 use Rattle.std.specs.Ordering.{ordering_reverse}
-use Rattle.std.specs.declared.cmp.Ordering.TheVariants.{Less, Equal, Greater}
+use Rattle.std.specs.declared.cmp.Ordering.TheVariants.{Less, Greater}
 use Rattle.std.proofs.lemmas.Bool.{cases_Bool}
 use Rattle.std.proofs.lemmas.Cmp.{nat_list_cmp_total}
 use Rattle.std.proofs.lemmas.List.{get_or-map, length-map}
 use Rattle.std.proofs.lemmas.List.Kept.{AllPairs-filter}
 use Rattle.tap_name.specs.declared.slot.Slot.{Slot}
-use Rattle.tap_name.specs.Slot.{Fits, slot_at}
+use Rattle.tap_name.specs.Slot.{Fits}
 use Rattle.tap_name.specs.Root.{Among, first_of}
 use Rattle.tap_link.specs.declared.kind.Kind.TheVariants.{Settled}
 use Rattle.tap_link.specs.Entry.{Entry}

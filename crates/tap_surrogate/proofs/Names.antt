@@ -1,11 +1,11 @@
 -- sets of names, and names that share their first digits
-use Rattle.std.proofs.Common.{◌≡◌, inl, inr, ℕ, ◌+◌, ◌<◌, ◌≤◌, zero, suc, Bool, true, false, List, [], ◌∷◌, ◌++◌, length, take, get_or, Some, filter, All, arith, ap, sym, refl, ◌∙◌, eqb, take_all}
+use Rattle.std.proofs.Common.{◌≡◌, inl, inr, ℕ, ◌+◌, ◌<◌, ◌≤◌, zero, suc, Bool, true, false, List, [], ◌∷◌, length, take, get_or, Some, filter, All, arith, ap, sym, refl, ◌∙◌, eqb, take_all}
 use Rattle.std.proofs.lemmas.Bool.{cases_Bool, eqb-true, eq-eqb, true≢false}
 use Rattle.std.proofs.lemmas.List.{take_more_same, take-take, get_or-take}
-use Rattle.std.proofs.lemmas.List.Elements.{All-head, All-tail, All-nil, All-cons, All-push}
+use Rattle.std.proofs.lemmas.List.Elements.{All-head, All-tail, All-nil, All-cons}
 use Rattle.tap_name.specs.Settings.{Parameters}
 use Rattle.tap_name.specs.Name.{IsName}
-use Rattle.tap_name.specs.Root.{Among, AreNames, has_digit, first_of}
+use Rattle.tap_name.specs.Root.{Among, has_digit, first_of}
 
 -- two tests that pass together are one
 pub same_tests : (a b : Bool) → (a ≡ true → b ≡ true) → (b ≡ true → a ≡ true) → a ≡ b
@@ -95,7 +95,3 @@ among-take zero names x h = absurd h
 among-take (suc n) [] x h = absurd h
 among-take (suc n) (y ∷ ys) x (inl e) = inl e
 among-take (suc n) (y ∷ ys) x (inr h) = inr (among-take n ys x h)
-
-pub AreNames-push : (p : Parameters) (names : List (List ℕ)) (x : List ℕ) → AreNames p names → IsName p x
-    → AreNames p (names ++ x ∷ [])
-AreNames-push p names x names_valid x_name = among-All (IsName p) (names ++ x ∷ []) (All-push (IsName p) names x (All-among (IsName p) names names_valid) x_name)

@@ -1,5 +1,5 @@
 -- tables at rest over members have settled links to the least members that fit, and no hole
-use Rattle.std.proofs.Common.{◌≡◌, inl, inr, ℕ, ◌+◌, ◌*◌, ◌/◌, ◌%◌, ◌<◌, ◌≤◌, nat_lt, Bool, true, false, Option, None, Some, IsSomeAnd, List, [], ◌∷◌, length, take, get_or, map, filter, All, arith, sym, refl, ap, subst, ◌∙◌}
+use Rattle.std.proofs.Common.{◌≡◌, inl, inr, ℕ, ◌*◌, ◌<◌, ◌≤◌, nat_lt, Bool, true, false, Option, None, Some, IsSomeAnd, List, [], ◌∷◌, take, map, filter, arith, sym, refl, ap, subst, ◌∙◌}
 use Rattle.std.specs.List.{range_with_len}
 use Rattle.std.specs.List.Sorted.{IsPermutation}
 use Rattle.std.proofs.Math.Nat.{mul-le-mul_left}
@@ -18,7 +18,7 @@ use Rattle.tap_table.specs.Members.{first_fitting, fitting, is_slot, settled_lin
 use Rattle.tap_table.specs.Table.{SlotLinks, Slots, slot_number, slot_numbered}
 use Rattle.tap_table.proofs.Slots.{number_inside}
 use Rattle.tap_surrogate.specs.Nodes.{Nodes, core_links, links_in}
-use Rattle.tap_surrogate.specs.Members.{AreLeastFitting, AreMembersAtRest, HaveLeastFitting, IsTableAtRest}
+use Rattle.tap_surrogate.specs.Members.{AreLeastFitting, AreMembersAtRest, IsTableAtRest}
 use Rattle.tap_surrogate.specs.Laws.{LeastLaw, RestLaw, TiesLaw}
 use Rattle.tap_surrogate.proofs.AtRest.{first_fitting_law_holds, is_slot-to, least_leave_no_hole}
 use Rattle.tap_surrogate.proofs.Names.{among-All, All-among, among-filter, among-take}

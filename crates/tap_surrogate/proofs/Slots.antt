@@ -1,5 +1,5 @@
 -- the slot of one name at another: what the two share, and where they differ
-use Rattle.std.proofs.Common.{◌≡◌, inl, inr, ℕ, ◌+◌, ◌*◌, ◌/◌, ◌%◌, ◌<◌, ap, zero, suc, true, false, List, [], ◌∷◌, length, take, get_or, None, Some, nat_eq, arith, refl, sym, subst, ◌∙◌, eqb}
+use Rattle.std.proofs.Common.{◌≡◌, inl, inr, ℕ, ◌<◌, ap, zero, suc, true, false, List, [], ◌∷◌, length, take, get_or, None, Some, nat_eq, arith, refl, sym, subst, ◌∙◌, eqb}
 use Rattle.std.specs.List.{common_prefix_len}
 use Rattle.std.proofs.lemmas.Bool.{cases_Bool, eqb-true, eq-eqb, eqb-false, ne_eqb}
 use Rattle.std.proofs.lemmas.List.Sums.{common_prefix_len-le}
