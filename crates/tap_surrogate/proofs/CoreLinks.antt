@@ -12,21 +12,26 @@ use Rattle.tap_surrogate.specs.Tables.{least_link}
 -- the names from here on
 from_here : (names : List (List ℕ)) (k : ℕ) (name : List ℕ) → slice_get names k ≡ Some name → drop k names ≡ name ∷ drop (k + 1) names
 from_here names k name is =
-    drop_more names k name (slice_get_within names k name is) ∙ ap (λ x. x ∷ drop (k + 1) names) (get_or_from_slice_get names k name name is)
+    let here = get_or_from_slice_get names k name name is in
+    drop_more names k name (slice_get_within names k name is) ∙ ap (λ x. x ∷ drop (k + 1) names) here
 
 -- with none before it that passes, the first name that passes is this one
-pub first_found : (passes : List ℕ → Bool) (names : List (List ℕ)) (k : ℕ) (name : List ℕ)
-    → first_of (filter passes names) ≡ first_of (filter passes (drop k names)) → slice_get names k ≡ Some name → passes name ≡ true
-    → first_of (filter passes names) ≡ Some name
-first_found passes names k name none_before is test =
+pub first_found : (passes : List ℕ → Bool) (names : List (List ℕ)) (k : ℕ) (name : List ℕ) (answer : Bool)
+    → first_of (filter passes names) ≡ first_of (filter passes (drop k names)) → slice_get names k ≡ Some name
+    → answer ≡ passes name → answer ≡ true → first_of (filter passes names) ≡ Some name
+first_found passes names k name answer none_before is answers passed =
+    let test : passes name ≡ true = sym answers ∙ passed in
     let here : first_of (filter passes (drop k names)) ≡ Some name = rw (from_here names k name is, test) refl in none_before ∙ here
 
 -- or it comes later
-pub first_comes_later : (passes : List ℕ → Bool) (names : List (List ℕ)) (k : ℕ) (name : List ℕ)
-    → first_of (filter passes names) ≡ first_of (filter passes (drop k names)) → slice_get names k ≡ Some name → passes name ≡ false
-    → first_of (filter passes names) ≡ first_of (filter passes (drop (k + 1) names))
-first_comes_later passes names k name none_before is test =
-    let later : first_of (filter passes (drop k names)) ≡ first_of (filter passes (drop (k + 1) names)) = rw (from_here names k name is, test) refl in none_before ∙ later
+pub first_comes_later : (passes : List ℕ → Bool) (names : List (List ℕ)) (k : ℕ) (name : List ℕ) (answer : Bool)
+    → first_of (filter passes names) ≡ first_of (filter passes (drop k names)) → slice_get names k ≡ Some name
+    → answer ≡ passes name → answer ≡ false → first_of (filter passes names) ≡ first_of (filter passes (drop (k + 1) names))
+first_comes_later passes names k name answer none_before is answers failed =
+    let test : passes name ≡ false = sym answers ∙ failed in
+    let later : first_of (filter passes (drop k names)) ≡ first_of (filter passes (drop (k + 1) names)) =
+    rw (from_here names k name is, test) refl in
+    none_before ∙ later
 
 -- the core links of a slot are the core targets that the slot of the table has
 pub core_links_of : (nodes : Nodes) (table : Slots) (node : List ℕ) (slot : Slot) (links : SlotLinks) → nodes.table_of node ≡ Some table

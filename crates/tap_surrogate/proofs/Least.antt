@@ -52,7 +52,9 @@ pub first_is_least : (core : List ℕ → Bool) (links : SlotLinks) (to : List �
     → first_of (filter core (map (λ e. e.target) links)) ≡ Some to
     → (other : List ℕ) → Among other (filter core (map (λ e. e.target) links)) → IsBelow other to → ⊥
 first_is_least core links to ascending first other among below =
-    first_of_ascending (filter core (map (λ e. e.target) links)) to other (AllPairs-filter IsBelow core (map (λ e. e.target) links) (targets_ascend links ascending)) first among below
+    let targets : List (List ℕ) = map (λ e. e.target) links in
+    let pairs = AllPairs-filter IsBelow core targets (targets_ascend links ascending) in
+    first_of_ascending (filter core targets) to other pairs first among below
 
 first_among : (names : List (List ℕ)) (to : List ℕ) → first_of names ≡ Some to → Among to names
 first_among [] to first = let wrong : None ≡ Some to = first in cc
@@ -67,7 +69,8 @@ place_where_it_fits a b slot fits = elim (cases_Bool (eqb (common_prefix_len nat
 
 -- a hop from a node leads to the least core node of one slot of its table
 pub hop_is_least : (nodes : Nodes) (table : Slots) (level digit : ℕ) (links : SlotLinks) (to : List ℕ) → IsTable table
-    → nodes.table_of table.owner ≡ Some table → digit < table.settings.base → links ≡ links_at table (record { level = level; digit = digit })
+    → nodes.table_of table.owner ≡ Some table → digit < table.settings.base
+    → links ≡ links_at table (record { level = level; digit = digit })
     → Some to ≡ first_of (filter nodes.core (map (λ e. e.target) links))
     → ((other : List ℕ) → Among other (filter nodes.core (map (λ e. e.target) links)) → IsBelow other to → ⊥)
     → IsLeastLink nodes table.owner to

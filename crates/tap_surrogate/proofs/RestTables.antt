@@ -1,5 +1,5 @@
 -- tables at rest over members have settled links to the least members that fit, and no hole
-use Rattle.std.proofs.Common.{◌≡◌, inl, inr, ℕ, ◌*◌, ◌<◌, ◌≤◌, nat_lt, Bool, true, false, Option, None, Some, IsSomeAnd, List, [], ◌∷◌, take, map, filter, arith, sym, refl, ap, subst, ◌∙◌}
+use Rattle.std.proofs.Common.{◌≡◌, inl, inr, ℕ, ◌*◌, ◌<◌, ◌≤◌, nat_lt, Bool, true, false, Option, None, Some, IsSomeAnd, List, [], ◌∷◌, length, take, map, filter, arith, sym, refl, ap, subst, ◌∙◌}
 use Rattle.std.specs.List.{range_with_len}
 use Rattle.std.specs.List.Sorted.{IsPermutation}
 use Rattle.std.proofs.Math.Nat.{mul-le-mul_left}
@@ -47,7 +47,8 @@ none_fit p owner slot (x ∷ xs) is_owner are outside =
       | inl fits ↦
           let is_x = are x (inl refl) in
           let shares = shares_what_fits p owner x slot is_owner is_x (is_slot-to slot (slot_at owner x) fits) in
-          let digit : slot.digit < p.base = subst (λ d. d < p.base) shares.digit (is_x.below slot.level 0 (omega (arith, shares.inside, is_x.len))) in
+          let within : slot.level < length x = omega (arith, shares.inside, is_x.len) in
+          let digit : slot.digit < p.base = subst (λ d. d < p.base) shares.digit (is_x.below slot.level 0 within) in
           absurd (outside (shares.inside, digit))
       | inr other ↦ rw other more
     ]
@@ -62,20 +63,25 @@ links_at_rest : (p : Parameters) (owner : List ℕ) (slot : Slot) (names : List 
 links_at_rest p owner slot names is_owner are =
     let of : ℕ → SlotLinks = λ number. settled_links (first_fitting p owner (slot_numbered p.base number) names) in
     let number = slot_number p.base slot in
+    let count = p.base * p.digits in
+    let none_there : ((slot.level < p.digits) × (slot.digit < p.base) → ⊥) → [] ≡ settled_links (first_fitting p owner slot names) =
+    λ outside. sym (none_first p owner slot names (none_fit p owner slot names is_owner are outside)) in
     elim (cases_lt slot.digit p.base) [
       | inr past ↦
           let test : nat_lt slot.digit p.base ≡ false = grind (arith, nat_tests) in
-          rw test (sym (none_first p owner slot names (none_fit p owner slot names is_owner are (λ inside. omega (arith, inside.1, past)))))
+          rw test (none_there (λ inside. omega (arith, inside.1, past)))
       | inl below ↦
           elim (cases_lt slot.level p.digits) [
             | inl inside ↦
-                let found = get_or-map-range_with_len of 0 (p.base * p.digits) number number [] (number_inside p slot inside below) (omega arith) in
-                rw (lt-ltb slot.digit p.base below) (found ∙ ap (λ s. settled_links (first_fitting p owner s names)) (number_back p.base slot below))
+                let number_below = number_inside p slot inside below in
+                let found = get_or-map-range_with_len of 0 count number number [] number_below (omega arith) in
+                let same = ap (λ s. settled_links (first_fitting p owner s names)) (number_back p.base slot below) in
+                rw (lt-ltb slot.digit p.base below) (found ∙ same)
             | inr past ↦
-                let many : p.base * p.digits ≤ number = omega (arith, mul-le-mul_left p.base past) in
-                let none = get_or_past (map of (range_with_len 0 (p.base * p.digits))) number [] (omega (arith, length-map-range_with_len of 0 (p.base * p.digits), many)) in
-                rw (lt-ltb slot.digit p.base below)
-                (none ∙ sym (none_first p owner slot names (none_fit p owner slot names is_owner are (λ inside. omega (arith, inside.0, past)))))
+                let many : count ≤ number = omega (arith, mul-le-mul_left p.base past) in
+                let len = length-map-range_with_len of 0 count in
+                let none = get_or_past (map of (range_with_len 0 count)) number [] (omega (arith, len, many)) in
+                rw (lt-ltb slot.digit p.base below) (none ∙ none_there (λ inside. omega (arith, inside.0, past)))
           ]
     ]
 
@@ -87,7 +93,9 @@ some_table (Some table) P h = (table, refl, h)
 
 -- a permutation has the same names
 moved : (xs ys : List (List ℕ)) → IsPermutation xs ys → (x : List ℕ) → Among x ys → Among x xs
-moved xs ys same = among-All (λ x. Among x xs) ys (All-permutation (λ x. Among x xs) xs ys same (All-among (λ x. Among x xs) xs (λ x among. among)))
+moved xs ys same =
+    let P : List ℕ → Type 0 = λ x. Among x xs in
+    among-All P ys (All-permutation P xs ys same (All-among P xs (λ x among. among)))
 
 -- what a slot of a member's table has
 record SlotAtRest (p : Parameters) (owner : List ℕ) (members : List (List ℕ)) (nodes : Nodes) (slot : Slot) : Type 0 where
@@ -106,13 +114,15 @@ slot_at_rest p members nodes valid rest owner slot among =
     let member : (x : List ℕ) → Among x names → Among x members = moved members names w.2.same in
     let has : nodes.table_of owner ≡ Some (table_at_rest p owner names) = w.1 ∙ ap Some w.2.is in
     let links = ap (λ o. links_in o slot) has ∙ links_at_rest p owner slot names (valid owner among) (λ x h. valid x (member x h)) in
+    let fit = λ (name : List ℕ). is_slot slot (slot_at owner name) in
     let pass : (x : List ℕ) → Among x first → nodes.core x ≡ true = λ x h.
-    (rest.core x).1 (member x (among-filter (λ name. is_slot slot (slot_at owner name)) names x (among-take p.width (fitting owner slot names) x h)).0) in
+    (rest.core x).1 (member x (among-filter fit names x (among-take p.width (filter fit names) x h)).0) in
+    let targets = λ (l : SlotLinks). map (λ e. e.target) l in
     record {
       names = names;
       same = w.2.same;
       links = links;
-      core = ap (λ l. filter nodes.core (map (λ e. e.target) l)) links ∙ ap (filter nodes.core) (targets_of_settled first) ∙ all_pass nodes.core first pass;
+      core = ap (filter nodes.core) (ap targets links ∙ targets_of_settled first) ∙ all_pass nodes.core first pass;
       least = first_fitting_law_holds p.width owner slot names w.2.ascending;
     }
 

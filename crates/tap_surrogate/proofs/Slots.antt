@@ -20,7 +20,10 @@ same_slot a b same_level same_digit =
 -- the slot of a number, from the number of the slot
 pub number_back : (base : ℕ) (slot : Slot) → slot.digit < base → slot_numbered base (slot_number base slot) ≡ slot
 number_back base slot below =
-    same_slot (slot_numbered base (slot_number base slot)) slot (div-mul-add slot.level base slot.digit below) (mod-mul-add slot.level base slot.digit below)
+    let number = slot_number base slot in
+    let level = div-mul-add slot.level base slot.digit below in
+    let digit = mod-mul-add slot.level base slot.digit below in
+    same_slot (slot_numbered base number) slot level digit
 
 -- what the digits behind a longer prefix say
 prefix_more : (x y : ℕ) (xs ys : List ℕ) → nat_eq x y ≡ true

@@ -41,7 +41,8 @@ fits_where_it_stands p owner b slot is_owner below inside stands =
     owner_outside p owner (slot_number p.base slot) is_owner inside (subst P same stands.place) in
     let place = place_of owner b in
     let digit = (place_inside p owner b is_owner stands.is_name other).1 in
-    let same : place ≡ slot = sym (number_back p.base place digit) ∙ ap (slot_numbered p.base) stands.place ∙ number_back p.base slot below in
+    let same : place ≡ slot =
+    sym (number_back p.base place digit) ∙ ap (slot_numbered p.base) stands.place ∙ number_back p.base slot below in
     slot_of_other p owner b is_owner stands.is_name other ∙ ap Some same
 
 -- each target in a slot is a name that fits it

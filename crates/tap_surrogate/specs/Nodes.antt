@@ -30,7 +30,11 @@ links_in (Some table) slot = if nat_lt slot.digit table.settings.base then links
 abbrev pub core_links : Nodes → Tables
 core_links nodes node slot = filter nodes.core (map (λ e. e.target) (links_in (nodes.table_of node) slot))
 
+-- none of the names is below this one
+abbrev pub IsLeast : List (List ℕ) → List ℕ → Type 0
+IsLeast names to = (other : List ℕ) → Among other names → ¬ (IsBelow other to)
+
 -- of the core nodes to which a node has links in one of its slots, this one is the least
 pub record IsLeastLink (nodes : Nodes) (node to : List ℕ) : Type 0 where
   pub linked : Among to (core_links nodes node (place_of node to))
-  pub least : (other : List ℕ) → Among other (core_links nodes node (place_of node to)) → ¬ (IsBelow other to)
+  pub least : IsLeast (core_links nodes node (place_of node to)) to

@@ -1,8 +1,7 @@
-ghost use Rattle.std.specs.Prelude.{◌≡◌, ℕ, ◌<◌, IfOk, IfSome, MatchOption, Some, List, ◌∷◌, [], map, filter};
+ghost use Rattle.std.specs.Prelude.{◌≡◌, ◌<◌, IfOk, IfSome, MatchOption, Some, ◌∷◌, [], map, filter};
 ghost use Rattle.tap_name.specs.Name.{IsName};
-ghost use Rattle.tap_name.specs.Root.{Among, first_of};
-ghost use Rattle.tap_table.specs.Members.{IsBelow};
-ghost use Rattle.tap_surrogate.specs.Nodes.{IsCore, IsLeastLink, core_links};
+ghost use Rattle.tap_name.specs.Root.{first_of};
+ghost use Rattle.tap_surrogate.specs.Nodes.{IsCore, IsLeast, IsLeastLink, core_links};
 ghost use Rattle.tap_surrogate.specs.Walk.{hop, walk};
 
 use crate::memory::NoMemory;
@@ -165,9 +164,8 @@ fn hop_at<T: Tables>(tables: &T, table: &Table, level: u8, wanted: u8) -> Option
 // The first core node among the targets of links, which is the least one.
 fn first_core<T: Tables>(tables: &T, links: &LinkSet<Name>) -> Option<Name>
     ensures core { IfSome result (IsCore (T.nodes tables.now)) }
-    ensures least { IfSome result (λ to. (other : List ℕ)
-        → Among other (filter (T.nodes tables.now).core (map (λ e. e.target) links.now.links))
-        → ¬ (IsBelow other to)) }
+    ensures least { IfSome result
+        (IsLeast (filter (T.nodes tables.now).core (map (λ e. e.target) links.now.links))) }
     ensures value { result
         ≡ first_of (filter (T.nodes tables.now).core (map (λ e. e.target) links.now.links)) }
 {
