@@ -1,4 +1,4 @@
-ghost use Rattle.std.specs.Prelude.{◌≡◌, nat_eq, All, Contains, IfOk, find, option_copied, slice_get, Some};
+ghost use Rattle.std.specs.Prelude.{◌≡◌, nat_eq, All, IfOk, find, option_copied};
 ghost use Rattle.std.specs.Option.{is_some};
 ghost use Rattle.std.specs.Cmp.Lexicographic.{pointwise};
 ghost use Rattle.tap_name.specs.Name.{IsName};
