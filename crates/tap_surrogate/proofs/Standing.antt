@@ -1,5 +1,5 @@
 -- each link of a table stands in its own slot
-use Rattle.std.proofs.Common.{◌≡◌, ◌≢◌, inl, inr, ℕ, ◌+◌, ◌*◌, ◌<◌, nat_lt, nat_eq, Some, List, [], ◌∷◌, length, get_or, map, All, arith, sym, ap, subst, ◌∙◌}
+use Rattle.std.proofs.Common.{◌≡◌, ◌≢◌, inl, inr, ℕ, ◌+◌, ◌*◌, ◌<◌, nat_lt, nat_eq, Some, List, [], ◌∷◌, length, get_or, map, All, arith, sym, ap, subst, ◌∙◌, ◌↔◌}
 use Rattle.std.specs.List.{common_prefix_len}
 use Rattle.std.proofs.lemmas.Bool.{cases_Bool, cases_lt, ltb-true}
 use Rattle.std.proofs.lemmas.List.{get_or_past}
@@ -13,7 +13,8 @@ use Rattle.tap_name.proofs.Prefix.{prefix_of_itself}
 use Rattle.tap_table.specs.Table.{IsTable, SlotLinks, Slots, StandsIn, links_at, place_of, slot_number, slot_numbered}
 use Rattle.tap_table.proofs.Fitting.{slot_of_other}
 use Rattle.tap_table.proofs.Slots.{place_inside}
-use Rattle.tap_surrogate.specs.Nodes.{Nodes, IsCore, core_links, links_in}
+use Rattle.tap_surrogate.specs.HoleFree.{IsHoleFree}
+use Rattle.tap_surrogate.specs.Nodes.{Nodes, IsCore, IsTableOf, core_links, links_in}
 use Rattle.tap_surrogate.proofs.Names.{among-filter}
 use Rattle.tap_surrogate.proofs.Slots.{number_back}
 
@@ -75,3 +76,26 @@ core_link_fits nodes table node slot b valid owner is among =
     let w = among-filter nodes.core (map (λ e. e.target) (links_in (nodes.table_of node) slot)) b among in
     let fits = target_fits table slot b valid (rw is at w.0) in
     (subst (λ o. Fits o b slot) owner fits.0, w.1)
+
+-- the core nodes are these, and each has a table of its own
+pub record HaveTables (p : Parameters) (core : List (List ℕ)) (nodes : Nodes) : Type 0 where
+  pub are : (name : List ℕ) → IsCore nodes name ↔ Among name core
+  pub tables : (node : List ℕ) → Among node core
+      → (table : Slots) × (nodes.table_of node ≡ Some table) × IsTableOf p node table × IsTable table
+
+-- then no table has a hole as soon as each slot that a core node fits has a core link
+pub hole_free_where_filled : (p : Parameters) (core : List (List ℕ)) (nodes : Nodes) → HaveTables p core nodes
+    → ((a b : List ℕ) (slot : Slot) → Among a core → Among b core → Fits a b slot → core_links nodes a slot ≢ [])
+    → IsHoleFree p core (core_links nodes)
+hole_free_where_filled p core nodes have filled =
+    record {
+      names = λ x among.
+          let w = have.tables x among in
+          let named : IsName w.0.settings w.0.owner = w.3.owner in
+          rw (w.2.owner_is, w.2.settings_are) at named;
+      filled = filled;
+      sound = λ a b slot among link.
+          let w = have.tables a among in
+          let fits = core_link_fits nodes w.0 a slot b w.3 w.2.owner_is w.1 link in
+          (fits.0, (have.are b).0 fits.1);
+    }
