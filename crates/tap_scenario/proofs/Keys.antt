@@ -6,6 +6,7 @@ use Rattle.toml.specs.declared.value.Value.{Value}
 use Rattle.toml.specs.View.{members_view}
 use Rattle.tap_scenario.specs.Key.{is_known, has_known_keys}
 
-pub known_keys : (entries : List (String Global × Value)) → list_all (λ key. is_known (string_bytes key)) (keys_of entries) ≡ has_known_keys (members_view entries)
+pub known_keys : (entries : List (String Global × Value))
+    → list_all (λ key. is_known (string_bytes key)) (keys_of entries) ≡ has_known_keys (members_view entries)
 known_keys [] = refl
 known_keys (entry ∷ others) = ap (λ rest. is_known (string_bytes entry.0) && rest) (known_keys others)

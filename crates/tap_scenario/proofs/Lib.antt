@@ -1,7 +1,10 @@
 pub mod Arrays
+pub mod Casts
 pub mod Keys
 pub mod Members
 pub mod Names
+pub mod Numbers
 pub mod Scripts
+pub mod Shapes
 pub mod Splits
 pub mod Steps

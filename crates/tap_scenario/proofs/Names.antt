@@ -39,7 +39,8 @@ text-digits (byte ∷ text) small =
 -- the text of a name has no space
 pub no_space_name : (name : List ℕ) → HasNoSpace (text_of_name name)
 no_space_name [] = All-nil (λ byte. (byte == 32) ≡ false)
-no_space_name (digit ∷ digits) = All-cons (λ byte. (byte == 32) ≡ false) (text_of_digit digit) (map text_of_digit digits) (no_space_digit digit) (no_space_name digits)
+no_space_name (digit ∷ digits) =
+    All-cons (λ byte. (byte == 32) ≡ false) (text_of_digit digit) (map text_of_digit digits) (no_space_digit digit) (no_space_name digits)
 
 -- the text of a name is read as that name
 pub name_of_word-text : (p : Parameters) (name : List ℕ) → p.base ≤ 16 → IsName p name → name_of_word p (text_of_name name) ≡ Some name
@@ -74,7 +75,8 @@ result_ok-back (Ok y) x e = cc
 result_ok-back (Err f) x e = absurd (cc)
 
 -- a word that is read as a name is the text of that name
-pub name_of_word-back : (p : Parameters) (word name : List ℕ) → p.base ≤ 16 → name_of_word p word ≡ Some name → (word ≡ text_of_name name) × IsName p name
+pub name_of_word-back : (p : Parameters) (word name : List ℕ) → p.base ≤ 16 → name_of_word p word ≡ Some name
+    → (word ≡ text_of_name name) × IsName p name
 name_of_word-back p word name small read =
     let back = name_of_digits-back p (map digit_of_text word) name (result_ok-back _ name read) in
     let below : All (λ d. d < 16) (map digit_of_text word) = rw back.0 (λ k d h. let b = back.1.below k d h in omega arith) in

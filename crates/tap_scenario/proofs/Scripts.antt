@@ -1,5 +1,5 @@
 -- what is read is within its limits
-use Rattle.std.proofs.Common.{◌≡◌, ◌&&◌, not, ℕ, suc, ◌+◌, ◌≤◌, nat_le, true, false, bytes_eq, pos, negsuc, arith, List, [], ◌∷◌, length, All, Option, None, Some, Result, Ok, Err, refl, ap, sym, inl, inr}
+use Rattle.std.proofs.Common.{◌≡◌, ◌∙◌, ◌&&◌, not, ℕ, suc, ◌+◌, ◌≤◌, nat_le, true, false, IsTrue, bytes_eq, pos, negsuc, arith, List, [], ◌∷◌, length, All, Option, None, Some, Result, Ok, Err, refl, ap, sym, inl, inr}
 use Rattle.std.specs.List.{list_any}
 use Rattle.std.specs.Option.{ok_or, option_and_then, is_some}
 use Rattle.std.proofs.lemmas.Bool.{cases_Bool, and_parts, or_parts, leb-true, not-true}
@@ -15,16 +15,17 @@ use Rattle.tap_scenario.specs.declared.fault.Key.TheVariants.{Base, Digits, Widt
 use Rattle.tap_scenario.specs.declared.fault.Fault.{Fault}
 use Rattle.tap_scenario.specs.declared.fault.Fault.TheVariants.{BadValue, BadStep}
 use Rattle.tap_scenario.specs.declared.step.Step.{Step}
-use Rattle.tap_scenario.specs.Document.{read_at, settings_of, default_frames, frames_of, members_of, numbered_step, steps_from, steps_of}
+use Rattle.tap_scenario.specs.Document.{read_at, settings_of, default_frames, frames_of, members_of, if_runs, numbered_step, steps_from, steps_of}
 use Rattle.tap_scenario.specs.Key.{value_at}
 use Rattle.tap_scenario.specs.Scenario.{IsScript, AreDistinct, most_frames}
-use Rattle.tap_scenario.specs.Step.{IsStep, name_of_word, step_of_text}
+use Rattle.tap_scenario.specs.Step.{IsStep, name_of_word, step_of_text, can_run}
 use Rattle.tap_scenario.specs.Fault.{◌>>=◌, cons_result}
 use Rattle.tap_scenario.specs.Value.{whole_number, array_of_strings, are_distinct, cons_option, names_of, distinct_names, members_of_texts}
 use Rattle.tap_scenario.proofs.Names.{name_of_word-back}
 use Rattle.tap_scenario.proofs.Steps.{step_of_text-back}
 
-then-Ok : {A B : Type 0} (r : Result A Fault) (next : A → Result B Fault) (y : B) → (r >>= next) ≡ Ok y → (x : A) × (r ≡ Ok x) × (next x ≡ Ok y)
+then-Ok : {A B : Type 0} (r : Result A Fault) (next : A → Result B Fault) (y : B) → (r >>= next) ≡ Ok y
+    → (x : A) × (r ≡ Ok x) × (next x ≡ Ok y)
 then-Ok (Ok x) next y e = (x, refl, e)
 then-Ok (Err fault) next y e = absurd (cc)
 
@@ -32,7 +33,8 @@ ok_or-Ok : {A : Type 0} (o : Option A) (fault : Fault) (x : A) → ok_or o fault
 ok_or-Ok None fault x e = absurd (cc)
 ok_or-Ok (Some y) fault x e = cc
 
-and_then-Some : {A B : Type 0} (f : A → Option B) (o : Option A) (y : B) → option_and_then f o ≡ Some y → (x : A) × (o ≡ Some x) × (f x ≡ Some y)
+and_then-Some : {A B : Type 0} (f : A → Option B) (o : Option A) (y : B) → option_and_then f o ≡ Some y
+    → (x : A) × (o ≡ Some x) × (f x ≡ Some y)
 and_then-Some f None y e = absurd (cc)
 and_then-Some f (Some x) y e = (x, refl, e)
 
@@ -84,12 +86,14 @@ frames_of-limits p t n e =
           rw (← is) (default_frames-limits p.digits)
     ]
 
-cons_option-Some : {A : Type 0} (first : Option A) (others : Option (List A)) (all : List A) → cons_option first others ≡ Some all → (x : A) × (xs : List A) × (first ≡ Some x) × (others ≡ Some xs) × (x ∷ xs ≡ all)
+cons_option-Some : {A : Type 0} (first : Option A) (others : Option (List A)) (all : List A) → cons_option first others ≡ Some all
+    → (x : A) × (xs : List A) × (first ≡ Some x) × (others ≡ Some xs) × (x ∷ xs ≡ all)
 cons_option-Some None others all e = absurd (cc)
 cons_option-Some (Some x) None all e = absurd (cc)
 cons_option-Some (Some x) (Some xs) all e = (x, xs, refl, refl, cc)
 
-names_of-names : (p : Parameters) (texts : List (List ℕ)) (names : List (List ℕ)) → p.base ≤ 16 → names_of p texts ≡ Some names → (length names ≡ length texts) × All (IsName p) names
+names_of-names : (p : Parameters) (texts : List (List ℕ)) (names : List (List ℕ)) → p.base ≤ 16 → names_of p texts ≡ Some names
+    → (length names ≡ length texts) × All (IsName p) names
 names_of-names p [] names small e = let none : [] ≡ names = cc in rw (← none) (refl, All-nil (IsName p))
 names_of-names p (text ∷ others) names small e =
     let parts = cons_option-Some (name_of_word p text) (names_of p others) names e in
@@ -97,7 +101,8 @@ names_of-names p (text ∷ others) names small e =
     let rest = names_of-names p others parts.1 small parts.3 in
     rw (← parts.4) (ap suc rest.0, All-cons (IsName p) parts.0 parts.1 first.1 rest.1)
 
-differ : (name : List ℕ) (others : List (List ℕ)) → list_any (λ other. bytes_eq other name) others ≡ false → All (λ other. name ≡ other → ⊥) others
+differ : (name : List ℕ) (others : List (List ℕ)) → list_any (λ other. bytes_eq other name) others ≡ false
+    → All (λ other. name ≡ other → ⊥) others
 differ name [] e = All-nil (λ other. name ≡ other → ⊥)
 differ name (other ∷ others) e =
     let parts = or_parts (bytes_eq other name) (list_any (λ o. bytes_eq o name) others) e in
@@ -116,7 +121,8 @@ record AreMembers (p : Parameters) (names : List (List ℕ)) : Type 0 where
   are_names : All (IsName p) names
   distinct : AreDistinct names
 
-members_of_texts-limits : (p : Parameters) (texts names : List (List ℕ)) → p.base ≤ 16 → members_of_texts p texts ≡ Some names → AreMembers p names
+members_of_texts-limits : (p : Parameters) (texts names : List (List ℕ)) → p.base ≤ 16 → members_of_texts p texts ≡ Some names
+    → AreMembers p names
 members_of_texts-limits p texts names small e =
     elim (cases_Bool (nat_le 1 (length texts) && nat_le (length texts) 64)) [
       | inr out ↦ absurd (let none : None ≡ Some names = rw out at e in cc)
@@ -140,36 +146,55 @@ members_of-limits p t names small e =
     let texts = then-Ok (read_at Members array_of_strings t) _ names e in
     members_of_texts-limits p texts.0 names small (ok_or-Ok _ (BadValue Members) names texts.2)
 
-cons_result-Ok : {A : Type 0} (first : Result A Fault) (others : Result (List A) Fault) (all : List A) → cons_result first others ≡ Ok all → (x : A) × (xs : List A) × (first ≡ Ok x) × (others ≡ Ok xs) × (x ∷ xs ≡ all)
+cons_result-Ok : {A : Type 0} (first : Result A Fault) (others : Result (List A) Fault) (all : List A) → cons_result first others ≡ Ok all
+    → (x : A) × (xs : List A) × (first ≡ Ok x) × (others ≡ Ok xs) × (x ∷ xs ≡ all)
 cons_result-Ok (Err fault) others all e = absurd (cc)
 cons_result-Ok (Ok x) (Err fault) all e = absurd (cc)
 cons_result-Ok (Ok x) (Ok xs) all e = (x, xs, refl, refl, cc)
 
-numbered_step-Ok : (p : Parameters) (number : ℕ) (text : List ℕ) (step : Step) → p.base ≤ 16 → numbered_step p number text ≡ Ok step → (number ≤ 10000) × IsStep p step
+-- a step of these settings that a run takes
+record IsRunning (p : Parameters) (step : Step) : Type 0 where
+  is_step : IsStep p false step
+  runs : IsTrue (can_run step)
+
+if_runs-Some : (read step : Step) → if_runs read ≡ Some step → (read ≡ step) × IsTrue (can_run step)
+if_runs-Some read step e =
+    elim (cases_Bool (can_run read)) [
+      | inr other ↦ absurd (let none : None ≡ Some step = rw other at e in cc)
+      | inl runs ↦ let whole : Some read ≡ Some step = rw runs at e in let same : read ≡ step = cc in (same, rw (← same) runs)
+    ]
+
+numbered_step-Ok : (p : Parameters) (number : ℕ) (text : List ℕ) (step : Step) → p.base ≤ 16 → numbered_step p number text ≡ Ok step
+    → (number ≤ 10000) × IsRunning p step
 numbered_step-Ok p number text step small e =
     elim (cases_Bool (nat_le number 10000)) [
       | inr out ↦ absurd (let none : Err (BadStep number) ≡ Ok step = rw out at e in cc)
       | inl within ↦
-          let read = ok_or-Ok (step_of_text p text) (BadStep number) step (rw within at e) in
-          (leb-true number 10000 within, (step_of_text-back p text step small read).1)
+          let told = ok_or-Ok (option_and_then if_runs (step_of_text p false text)) (BadStep number) step (rw within at e) in
+          let read = and_then-Some if_runs (step_of_text p false text) step told in
+          let runs = if_runs-Some read.0 step read.2 in
+          (leb-true number 10000 within, record { is_step = (step_of_text-back p false text step small (read.1 ∙ ap Some runs.0)).1; runs = runs.1 })
     ]
 
-steps_from-limits : (p : Parameters) (number : ℕ) (texts : List (List ℕ)) (steps : List Step) → p.base ≤ 16 → number ≤ 10001 → steps_from p number texts ≡ Ok steps → (number + length steps ≤ 10001) × All (IsStep p) steps
-steps_from-limits p number [] steps small few e = let none : [] ≡ steps = cc in rw (← none) (omega arith, All-nil (IsStep p))
+steps_from-limits : (p : Parameters) (number : ℕ) (texts : List (List ℕ)) (steps : List Step) → p.base ≤ 16 → number ≤ 10001
+    → steps_from p number texts ≡ Ok steps → (number + length steps ≤ 10001) × All (IsRunning p) steps
+steps_from-limits p number [] steps small few e = let none : [] ≡ steps = cc in rw (← none) (omega arith, All-nil (IsRunning p))
 steps_from-limits p number (text ∷ others) steps small few e =
     let parts = cons_result-Ok (numbered_step p number text) (steps_from p (number + 1) others) steps e in
     let first = numbered_step-Ok p number text parts.0 small parts.2 in
     let rest = steps_from-limits p (number + 1) others parts.1 small (omega arith) parts.3 in
-    rw (← parts.4) (omega arith, All-cons (IsStep p) parts.0 parts.1 first.1 rest.1)
+    rw (← parts.4) (omega arith, All-cons (IsRunning p) parts.0 parts.1 first.1 rest.1)
 
-steps_of-limits : (p : Parameters) (t : Table) (steps : List Step) → p.base ≤ 16 → steps_of p t ≡ Ok steps → (length steps ≤ 10000) × All (IsStep p) steps
+steps_of-limits : (p : Parameters) (t : Table) (steps : List Step) → p.base ≤ 16 → steps_of p t ≡ Ok steps
+    → (length steps ≤ 10000) × All (IsRunning p) steps
 steps_of-limits p t steps small e =
     let texts = then-Ok (read_at Steps array_of_strings t) _ steps e in
     let read = steps_from-limits p 1 texts.0 steps small (omega arith) texts.2 in
     (omega arith, read.1)
 
 -- the parts that a table gives are a script's
-pub IsScript-parts : (t : Table) (p : Parameters) (frames : ℕ) (members : List (List ℕ)) (steps : List Step) → settings_of t ≡ Ok p → frames_of p t ≡ Ok frames → members_of p t ≡ Ok members → steps_of p t ≡ Ok steps
+pub IsScript-parts : (t : Table) (p : Parameters) (frames : ℕ) (members : List (List ℕ)) (steps : List Step) → settings_of t ≡ Ok p
+    → frames_of p t ≡ Ok frames → members_of p t ≡ Ok members → steps_of p t ≡ Ok steps
     → IsScript (record { settings = p; frames = frames; members = members; steps = steps })
 IsScript-parts t p frames members steps is_p is_frames is_members is_steps =
     let settings = settings_of-limits t p is_p in
@@ -185,5 +210,6 @@ IsScript-parts t p frames members steps is_p is_frames is_members is_steps =
       members = names.are_names;
       distinct = names.distinct;
       steps_to = read.0;
-      steps = read.1;
+      steps = λ k d h. (read.1 k d h).is_step;
+      runs = λ k d h. (read.1 k d h).runs;
     }

@@ -7,7 +7,8 @@ use Rattle.std.proofs.lemmas.List.Splits.{slice_split_none, slice_split_at, slic
 use Rattle.tap_scenario.specs.Words.{words}
 
 -- the first word ends at the first space
-pub words-at_space : (text : List ℕ) (at : ℕ) → position (λ byte. byte == 32) text ≡ Some at → words text ≡ take at text ∷ words (drop (at + 1) text)
+pub words-at_space : (text : List ℕ) (at : ℕ) → position (λ byte. byte == 32) text ≡ Some at
+    → words text ≡ take at text ∷ words (drop (at + 1) text)
 words-at_space text at found =
     elim (cases_Bool (nat_lt (position_or_len (λ byte. byte == 32) text) (length text))) [
       | inl inside ↦
@@ -32,7 +33,8 @@ abbrev pub HasNoSpace : List ℕ → Type 0
 HasNoSpace word = All (λ byte. (byte == 32) ≡ false) word
 
 -- words with a space between them are read back
-pub words-join : (first : List ℕ) (others : List (List ℕ)) → HasNoSpace first → AllByRecursion HasNoSpace others → words (join_with_byte 32 (first ∷ others)) ≡ first ∷ others
+pub words-join : (first : List ℕ) (others : List (List ℕ)) → HasNoSpace first → AllByRecursion HasNoSpace others
+    → words (join_with_byte 32 (first ∷ others)) ≡ first ∷ others
 words-join first [] here there = slice_split_none (λ byte. byte == 32) first here
 words-join first (second ∷ others) here there =
     slice_split_at (λ byte. byte == 32) first 32 (join_with_byte 32 (second ∷ others)) here refl

@@ -1,5 +1,5 @@
 -- the scenario that a text is, over the TOML table that it writes
-use Rattle.std.specs.Prelude.{ℕ, ◌+◌, nat_le, List, [], ◌∷◌, Option, None, Some, is_some, ok_or, option_and_then, Result, Ok, Err, if◌then◌else◌}
+use Rattle.std.specs.Prelude.{ℕ, ◌+◌, nat_le, false, List, [], ◌∷◌, ◌++◌, Option, None, Some, is_some, ok_or, option_and_then, Result, Ok, Err, if◌then◌else◌}
 use Rattle.std.specs.Str.{is_utf8}
 use Rattle.toml.specs.Data.{Data, Members as Table}
 use Rattle.toml.specs.Parse.{parse_document}
@@ -11,7 +11,7 @@ use Rattle.tap_scenario.specs.declared.fault.Fault.TheVariants.{NotUtf8, NotToml
 use Rattle.tap_scenario.specs.declared.step.Step.{Step}
 use Rattle.tap_scenario.specs.Key.{value_at, wrong_key}
 use Rattle.tap_scenario.specs.Scenario.{Script, most_frames}
-use Rattle.tap_scenario.specs.Step.{step_of_text}
+use Rattle.tap_scenario.specs.Step.{step_of_text, can_run}
 use Rattle.tap_scenario.specs.Fault.{◌>>=◌, cons_result}
 use Rattle.tap_scenario.specs.Value.{whole_number, array_of_strings, members_of_texts}
 
@@ -37,9 +37,20 @@ frames_of p table =
 abbrev pub members_of : Parameters → Table → Result (List (List ℕ)) Fault
 members_of p table = read_at Members array_of_strings table >>= (λ texts. ok_or (members_of_texts p texts) (BadValue Members))
 
+-- a step that a run takes
+abbrev pub if_runs : Step → Option Step
+if_runs step = if can_run step then Some step else None
+
 -- the step of the string of this number, which is at most 10,000
 abbrev pub numbered_step : Parameters → ℕ → List ℕ → Result Step Fault
-numbered_step p number text = if nat_le number 10000 then ok_or (step_of_text p text) (BadStep number) else Err (BadStep number)
+numbered_step p number text =
+    if nat_le number 10000 then ok_or (option_and_then if_runs (step_of_text p false text)) (BadStep number)
+    else Err (BadStep number)
+
+-- the steps so far and this one, or its fault
+abbrev pub with_step : List Step → Result Step Fault → Result (List Step) Fault
+with_step steps (Ok step) = Ok (steps ++ step ∷ [])
+with_step steps (Err fault) = Err fault
 
 -- the steps of these strings, of which the first has this number
 abbrev pub steps_from : Parameters → ℕ → List (List ℕ) → Result (List Step) Fault

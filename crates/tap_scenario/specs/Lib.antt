@@ -1,5 +1,8 @@
+pub mod Prefix
+pub mod Places
 pub mod Key
 pub mod Words
+pub mod Kind
 pub mod Step
 pub mod Scenario
 pub mod Value

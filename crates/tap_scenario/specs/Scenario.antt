@@ -1,9 +1,9 @@
 -- what a scenario is
-use Rattle.std.specs.Prelude.{◌≡◌, ℕ, ◌<◌, ◌≤◌, nat_le, if◌then◌else◌, List, length, All, slice_index_or}
+use Rattle.std.specs.Prelude.{◌≡◌, ℕ, ◌<◌, ◌≤◌, nat_le, false, IsTrue, if◌then◌else◌, List, length, All, slice_index_or}
 use Rattle.tap_name.specs.Settings.{Parameters, AreWithinLimits}
 use Rattle.tap_name.specs.Name.{IsName}
 use Rattle.tap_scenario.specs.declared.step.Step.{Step}
-use Rattle.tap_scenario.specs.Step.{IsStep}
+use Rattle.tap_scenario.specs.Step.{IsStep, can_run}
 
 -- the settings, how many frames may be sent, the members at the start, and the steps
 pub record Script : Type 0 where
@@ -30,4 +30,5 @@ pub record IsScript (s : Script) : Type 0 where
   pub members : All (IsName s.settings) s.members
   pub distinct : AreDistinct s.members
   pub steps_to : length s.steps ≤ 10000
-  pub steps : All (IsStep s.settings) s.steps
+  pub steps : All (IsStep s.settings false) s.steps
+  pub runs : All (λ step. IsTrue (can_run step)) s.steps

@@ -1,10 +1,10 @@
-ghost use Rattle.std.specs.Prelude.{◌≡◌, ◌≤◌, IsTrue, IfOk, MatchResult, Ok, Err};
+ghost use Rattle.std.specs.Prelude.{◌≡◌, ◌+◌, ◌≤◌, length, IsTrue, IfOk, OnOk, MatchResult, Ok, Err};
 ghost use Rattle.std.specs.Option.{ok_or};
 ghost use Rattle.toml.specs.View.{table_view, items_view};
-ghost use Rattle.tap_scenario.specs.Document.{read_at, settings_of, frames_of, members_of, numbered_step, steps_from, steps_of, script_of, scenario_of_table, scenario_of};
+ghost use Rattle.tap_scenario.specs.Document.{read_at, settings_of, frames_of, members_of, numbered_step, with_step, steps_from, steps_of, script_of, scenario_of_table, scenario_of};
 ghost use Rattle.tap_scenario.specs.Key.{missing_key, is_known, has_known_keys, wrong_key};
 ghost use Rattle.tap_scenario.specs.Scenario.{IsScript};
-ghost use Rattle.tap_scenario.specs.ReadRefusal.{AnswersUnlessMemory};
+ghost use Rattle.tap_scenario.specs.ReadRefusal.{AnswersUnlessMemory, TellsFault};
 ghost use Rattle.tap_scenario.specs.Value.{whole_number, array_of_strings, are_strings, names_of, texts_of};
 
 use crate::fault::{Fault, Key, ReadRefusal};
@@ -169,7 +169,7 @@ fn read_members(
     Ok(names)
 }
 
-// The step of the string of this number, counted from 1.
+// The step of the string of this number, counted from 1, where it is one that a run takes.
 fn numbered_step(settings: &Settings, number: usize, text: &[u8]) -> Result<Step, Fault>
     requires { number ≤ 10001 }
     ensures { result ≡ numbered_step settings.now number text.now }
@@ -177,7 +177,22 @@ fn numbered_step(settings: &Settings, number: usize, text: &[u8]) -> Result<Step
     if number > MOST_STEPS {
         return Err(Fault::BadStep(number as u32));
     }
-    read_step(settings, text).ok_or(Fault::BadStep(number as u32))
+    match read_step(settings, false, text) {
+        Some(step) if step.can_run() => Ok(step),
+        _ => Err(Fault::BadStep(number as u32)),
+    }
+}
+
+// Adds the step of the next string to the steps of the strings before it.
+fn add_step(settings: &Settings, steps: &mut Vec<Step>, text: &[u8]) -> Result<(), ReadRefusal>
+    requires { length steps.now.items ≤ 10000 }
+    ensures value { let read = numbered_step settings.now (length steps.old.items + 1) text.now
+        in MatchResult result (λ _. with_step steps.old.items read ≡ Ok steps.new.items) (TellsFault read) }
+    ensures few { OnOk result (length steps.new.items ≤ 10000) }
+{
+    let step = numbered_step(settings, steps.len() + 1, text)?;
+    steps.push(step)?;
+    Ok(())
 }
 
 // The steps that a table gives.
@@ -188,8 +203,7 @@ fn read_steps(alloc: Global, settings: &Settings, table: &Table) -> Result<List<
     let mut steps = Vec::with_capacity(alloc, strings.len().min(MOST_STEPS))?;
     for value in strings {
         if let Some(text) = value.as_str() {
-            let step = numbered_step(settings, steps.len() + 1, text.as_bytes())?;
-            steps.push(step)?;
+            add_step(settings, &mut steps, text.as_bytes())?;
         }
     }
     Ok(List::from_vec(steps))

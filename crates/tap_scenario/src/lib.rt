@@ -1,8 +1,10 @@
 //! Scenarios: what they consist of, and how their text is read.
 #![tactic(auto)]
 
+mod cast;
 mod document;
 mod fault;
+mod kind;
 mod scenario;
 mod step;
 #[cfg(test)]
@@ -10,6 +12,7 @@ mod tests;
 mod values;
 mod words;
 
+pub use cast::{Prefix, Word};
 pub use document::read;
 pub use fault::{Fault, Key, ReadRefusal};
 pub use scenario::Scenario;

@@ -1,14 +1,52 @@
 ghost use Rattle.std.specs.Prelude.{◌≡◌, ◌↔◌, Some};
-ghost use Rattle.tap_scenario.specs.Step.{IsStep, step_of_text, step_of_words, text_of_step};
+ghost use Rattle.tap_scenario.specs.Step.{IsStep, settle_of_words, garble_of_words, cast_of_words, step_of_kind, step_of_words, step_of_text, text_of_step, can_run};
 
-use crate::words::Words;
-use tap_name::{Name, Settings};
+use crate::cast::{Prefix, Word};
+use crate::kind::Kind;
+use crate::words::{Words, read_number};
+use tap_name::{Name, Settings, read_name};
+
+// The greatest place.
+const PLACE_MAX: u64 = u32::MAX as u64;
 
 /// One step of a scenario.
 ///
 /// Rule: docs/FORMATS.md, "The scenario".
 #[derive(Clone, Copy, Debug, PartialEq, Eq)]
 pub enum Step {
+    /// A new node joins by a core node.
+    Join {
+        /// The new node.
+        name: Name,
+        /// The core node that it asks.
+        via: Name,
+    },
+    /// A core node departs.
+    Depart {
+        /// The node.
+        name: Name,
+    },
+    /// A core node publishes that it has an object.
+    Publish {
+        /// The object.
+        object: Name,
+        /// The node, which becomes a server of it.
+        server: Name,
+    },
+    /// A server of an object has it no more.
+    Withdraw {
+        /// The object.
+        object: Name,
+        /// The server.
+        server: Name,
+    },
+    /// A core node looks up a server of an object.
+    Find {
+        /// The object.
+        object: Name,
+        /// The node that asks.
+        asker: Name,
+    },
     /// Walks from a core node towards the root of an object.
     Walk {
         /// The object whose root is sought.
@@ -21,36 +59,205 @@ pub enum Step {
         /// The object.
         object: Name,
     },
+    /// Has one frame taken; in a carried scenario, one packet arrive.
+    Deliver {
+        /// The place of the frame among the outstanding ones, from 0, in the order in which they were sent.
+        place: u32,
+    },
+    /// Has the frame that was sent first taken, until none is outstanding.
+    Settle,
+    /// Has the frame that was sent last taken, until none is outstanding.
+    SettleNewest,
+    /// Has frames taken in a mixed order, until none is outstanding.
+    SettleMixed {
+        /// Where the mixing starts.
+        seed: u64,
+    },
+    /// Tells the links of a node's table.
+    Table {
+        /// The node.
+        name: Name,
+    },
+    /// Tells the object pointers that a node holds.
+    Pointers {
+        /// The node.
+        name: Name,
+    },
+    /// Offers a copy of a frame with one byte changed.
+    Garble {
+        /// The place of the frame among the outstanding ones, from 0.
+        place: u32,
+        /// The place of the byte, from 0.
+        at: u32,
+        /// What stands there instead.
+        byte: u8,
+    },
+    /// Offers the first bytes of a frame.
+    Cut {
+        /// The place of the frame among the outstanding ones, from 0.
+        place: u32,
+        /// How many bytes.
+        bytes: u32,
+    },
+    /// A joining node gives up.
+    Abandon {
+        /// The node.
+        name: Name,
+    },
+    /// Sends each frame that awaits its acknowledgement once more.
+    Tick,
+    /// Loses a packet.
+    Lose {
+        /// The place of the packet among those under way, from 0.
+        place: u32,
+    },
+    /// Repeats a packet.
+    Repeat {
+        /// The place of the packet among those under way, from 0.
+        place: u32,
+    },
+    /// Tells the roots of the four salted names of an object.
+    RootSet {
+        /// The object.
+        object: Name,
+        /// The core node that is asked.
+        asker: Name,
+    },
+    /// A core node spreads a word to all core nodes with a prefix.
+    Cast {
+        /// The word.
+        word: Word,
+        /// The prefix.
+        prefix: Prefix,
+        /// The node, whose own name begins with the prefix.
+        asker: Name,
+    },
 }
 
-// The step that these words are: the first one tells its kind.
-fn step_of_words(settings: &Settings, mut words: Words<'_>) -> Option<Step>
-    ensures { result ≡ step_of_words settings.now words.entry }
+impl Step {
+    /// Whether a run takes steps of this kind: a walk, a root or a table.
+    ///
+    /// Rule: docs/FORMATS.md, "The scenario".
+    pub fn can_run(&self) -> bool
+        ensures { result ≡ can_run self.now }
+    {
+        match self {
+            Step::Walk { .. } | Step::Root { .. } | Step::Table { .. } => true,
+            _ => false,
+        }
+    }
+}
+
+// The step of the words behind `settle`.
+fn read_settle(mut words: Words<'_>) -> Option<Step>
+    ensures { result ≡ settle_of_words words.entry }
 {
-    let kind = words.next()?;
-    if kind == b"walk".as_slice() {
-        let (object, asker) = words.two_names(settings, b"from")?;
-        Some(Step::Walk { object, asker })
-    } else if kind == b"root".as_slice() {
-        let object = words.one_name(settings)?;
-        Some(Step::Root { object })
+    let Some(word) = words.next() else {
+        return Some(Step::Settle);
+    };
+    if word == b"mixed".as_slice() {
+        let seed = words.one_number(u64::MAX)?;
+        Some(Step::SettleMixed { seed })
+    } else if word == b"newest".as_slice() {
+        words.only(Step::SettleNewest)
     } else {
         None
     }
 }
 
-/// The step that a text is, where it is one: `walk OBJECT from ASKER` or `root OBJECT`, with names of the settings, one
-/// space between two words and nothing before or behind.
+// The step of the words behind `garble`.
+fn read_garble(mut words: Words<'_>) -> Option<Step>
+    ensures { result ≡ garble_of_words words.entry }
+{
+    let place = read_number(words.next()?, PLACE_MAX)?;
+    let (at, byte) = words.two_numbers(PLACE_MAX, 255)?;
+    Some(Step::Garble {
+        place: place as u32,
+        at: at as u32,
+        byte: byte as u8,
+    })
+}
+
+// The step of the words behind `cast`.
+fn read_cast(settings: &Settings, mut words: Words<'_>) -> Option<Step>
+    ensures { result ≡ cast_of_words settings.now words.entry }
+{
+    let word = words.next()?;
+    let to = words.next()?;
+    let prefix = words.next()?;
+    let from = words.next()?;
+    let asker = words.next()?;
+    if words.next().is_some() || to != b"to".as_slice() || from != b"from".as_slice() {
+        return None;
+    }
+    let word = Word::of(word)?;
+    let prefix = Prefix::read(settings, prefix)?;
+    let asker = read_name(settings, asker).ok()?;
+    Some(Step::Cast {
+        word,
+        prefix,
+        asker,
+    })
+}
+
+// The step of a kind with these words behind its first one.
+fn step_of_kind(settings: &Settings, kind: Kind, words: Words<'_>) -> Option<Step>
+    ensures { result ≡ step_of_kind settings.now kind words.entry }
+{
+    match kind {
+        Kind::Name(kind) => {
+            let name = words.one_name(settings)?;
+            Some(kind.step(name))
+        }
+        Kind::Pair(kind) => {
+            let (first, second) = words.two_names(settings, kind.link().as_bytes())?;
+            Some(kind.step(first, second))
+        }
+        Kind::Place(kind) => {
+            let place = words.one_number(PLACE_MAX)?;
+            Some(kind.step(place as u32))
+        }
+        Kind::Settle => read_settle(words),
+        Kind::Garble => read_garble(words),
+        Kind::Cut => {
+            let (place, bytes) = words.two_numbers(PLACE_MAX, PLACE_MAX)?;
+            Some(Step::Cut {
+                place: place as u32,
+                bytes: bytes as u32,
+            })
+        }
+        Kind::Tick => words.only(Step::Tick),
+        Kind::Cast => read_cast(settings, words),
+    }
+}
+
+// The step that these words are: the first one tells its kind, which has to be there.
+fn step_of_words(settings: &Settings, carrier: bool, mut words: Words<'_>) -> Option<Step>
+    ensures { result ≡ step_of_words settings.now carrier words.entry }
+{
+    let kind = Kind::of(words.next()?)?;
+    if kind.is_there(settings, carrier) {
+        step_of_kind(settings, kind, words)
+    } else {
+        None
+    }
+}
+
+/// The step that a text is, where it is one: its words have one space between them and nothing before or behind, its
+/// names are names of the settings, and its numbers are decimal, with no sign and no leading zero. The steps `tick`,
+/// `lose` and `repeat` are there in a carried scenario only, `garble` and `cut` in any other only, and `rootset` only
+/// where names have 40 digits in base 16.
 ///
 /// Rule: docs/FORMATS.md, "The scenario".
-pub fn read_step(settings: &Settings, text: &[u8]) -> Option<Step>
-    ensures value { result ≡ step_of_text settings.now text.now }
+pub fn read_step(settings: &Settings, carrier: bool, text: &[u8]) -> Option<Step>
+    ensures value { result ≡ step_of_text settings.now carrier text.now }
 
-    // A text is read as a step exactly where it is that step's one text and the step's names are names of the settings.
-    ensures exact { (step : Step) → ((result ≡ Some step) ↔ ((text.now ≡ text_of_step step) × IsStep settings.now step)) }
+    // A text is read as a step exactly where it is that step's one text, and the step is one of these settings.
+    ensures exact { (step : Step)
+        → ((result ≡ Some step) ↔ ((text.now ≡ text_of_step step) × IsStep settings.now carrier step)) }
 {
     // A digit below this base prints as one byte, which is read as that digit alone.
     let base = settings.base();
     prove!(base <= 16);
-    step_of_words(settings, Words::of(text))
+    step_of_words(settings, carrier, Words::of(text))
 }

@@ -1,5 +1,6 @@
-use crate::{Fault, Key, ReadRefusal, Scenario, Step, read, read_step};
+use crate::{Fault, Key, Prefix, ReadRefusal, Scenario, Step, Word, read, read_step};
 use std::alloc::{AllocError, Global};
+use std::process::Abort;
 use std::test::Fail;
 use tap_name::{List, Name, Settings, read_name};
 
@@ -52,7 +53,7 @@ const TEXTS: [(&str, (u32, usize, usize)); 8] = [
 ];
 
 // Lines, each in place of its key's, with what is then wrong.
-const REFUSED: [(&str, &str, Fault); 38] = [
+const REFUSED: [(&str, &str, Fault); 40] = [
     ("base", "base = 4\nbase = 4\n", Fault::NotToml),
     ("steps", "steps = [\n", Fault::NotToml),
     ("base", "", Fault::BadKey(Key::Base)),
@@ -143,10 +144,20 @@ const REFUSED: [(&str, &str, Fault); 38] = [
         "steps = [\"root 000\", \"settle\", \"\"]\n",
         Fault::BadStep(2),
     ),
+    (
+        "steps",
+        "steps = [\"deliver 4294967296\"]\n",
+        Fault::BadStep(1),
+    ),
+    (
+        "steps",
+        "steps = [\"table 000\", \"join 123 via 000\"]\n",
+        Fault::BadStep(2),
+    ),
 ];
 
 // Texts that are no step of names of three digits below 4.
-const NO_STEPS: [&str; 25] = [
+const NO_STEPS: [&str; 45] = [
     "",
     " ",
     "walk",
@@ -170,8 +181,28 @@ const NO_STEPS: [&str; 25] = [
     "walk 123 from 00A",
     "walk 123 from 000 ",
     "walk from 123 000",
-    "find 123 from 000",
-    "settle",
+    "join 123 at 000",
+    "publish 123 from 000",
+    "find 123",
+    "deliver",
+    "deliver 007",
+    "deliver +7",
+    "deliver 4294967296",
+    "deliver 1 2",
+    "settle oldest",
+    "settle newest 1",
+    "settle mixed",
+    "settle mixed 18446744073709551616",
+    "garble 0 0 256",
+    "garble 0 0",
+    "cut 0 03",
+    "tick",
+    "lose 0",
+    "repeat 0",
+    "rootset 123 from 000",
+    "cast Hi to * from 000",
+    "cast abcdefghijklmnopqrstuvwxyz1234567 to * from 000",
+    "cast hi to 0000 from 000",
 ];
 
 // The text of these lines, with this one in place of its key's.
@@ -201,7 +232,11 @@ fn counts(alloc: Global, text: &str) -> Result<(u32, usize, usize), ReadRefusal>
 fn refuses_steps(rt: HostRuntime) -> Result<(), Fail> {
     let settings = Settings::new(4, 3, 2).ok_or("settings")?;
     for text in NO_STEPS.iter() {
-        assert_eq!(rt; read_step(&settings, text.as_bytes()), None, "{text}");
+        assert_eq!(rt;
+            read_step(&settings, false, text.as_bytes()),
+            None,
+            "{text}"
+        );
     }
     Ok(())
 }
@@ -254,17 +289,242 @@ fn named() -> Result<(Settings, Name, Name), Fail> {
     Ok((settings, object, asker))
 }
 
+// Checks that a text is read as this step.
+fn check_reads(rt: &impl Abort, settings: &Settings, carrier: bool, text: &str, step: Step) {
+    assert_eq!(rt;
+        read_step(settings, carrier, text.as_bytes()),
+        Some(step),
+        "{text}"
+    );
+}
+
 #[test]
-fn reads_steps(rt: HostRuntime) -> Result<(), Fail> {
+fn reads_observations(rt: HostRuntime) -> Result<(), Fail> {
     let (settings, object, asker) = named()?;
+    check_reads(
+        &rt,
+        &settings,
+        false,
+        "walk 123 from 000",
+        Step::Walk { object, asker },
+    );
+    check_reads(&rt, &settings, false, "root 123", Step::Root { object });
+    check_reads(
+        &rt,
+        &settings,
+        false,
+        "table 000",
+        Step::Table { name: asker },
+    );
+    check_reads(
+        &rt,
+        &settings,
+        false,
+        "pointers 000",
+        Step::Pointers { name: asker },
+    );
+    Ok(())
+}
+
+#[test]
+fn reads_starts(rt: HostRuntime) -> Result<(), Fail> {
+    let (settings, object, server) = named()?;
+    check_reads(
+        &rt,
+        &settings,
+        false,
+        "publish 123 at 000",
+        Step::Publish { object, server },
+    );
+    check_reads(
+        &rt,
+        &settings,
+        false,
+        "withdraw 123 at 000",
+        Step::Withdraw { object, server },
+    );
+    check_reads(
+        &rt,
+        &settings,
+        false,
+        "find 123 from 000",
+        Step::Find {
+            object,
+            asker: server,
+        },
+    );
+    Ok(())
+}
+
+#[test]
+fn reads_comings_and_goings(rt: HostRuntime) -> Result<(), Fail> {
+    let (settings, name, via) = named()?;
+    check_reads(
+        &rt,
+        &settings,
+        false,
+        "join 123 via 000",
+        Step::Join { name, via },
+    );
+    check_reads(&rt, &settings, false, "leave 123", Step::Depart { name });
+    check_reads(&rt, &settings, false, "abandon 123", Step::Abandon { name });
+    Ok(())
+}
+
+#[test]
+fn reads_casts(rt: HostRuntime) -> Result<(), Fail> {
+    let (settings, _, asker) = named()?;
+    let word = Word::of(b"hello").ok_or("a word")?;
+    let prefix = Prefix::of(&settings, &[]).ok_or("a prefix")?;
+    check_reads(
+        &rt,
+        &settings,
+        false,
+        "cast hello to * from 000",
+        Step::Cast {
+            word,
+            prefix,
+            asker,
+        },
+    );
+    let prefix = Prefix::of(&settings, &[2]).ok_or("a prefix")?;
+    check_reads(
+        &rt,
+        &settings,
+        false,
+        "cast hello to 2 from 000",
+        Step::Cast {
+            word,
+            prefix,
+            asker,
+        },
+    );
+    Ok(())
+}
+
+#[test]
+fn reads_deliveries(rt: HostRuntime) -> Result<(), Fail> {
+    let settings = Settings::new(4, 3, 2).ok_or("settings")?;
+    check_reads(
+        &rt,
+        &settings,
+        false,
+        "deliver 4294967295",
+        Step::Deliver { place: u32::MAX },
+    );
+    check_reads(&rt, &settings, false, "settle", Step::Settle);
+    check_reads(&rt, &settings, false, "settle newest", Step::SettleNewest);
+    check_reads(
+        &rt,
+        &settings,
+        false,
+        "settle mixed 18446744073709551615",
+        Step::SettleMixed { seed: u64::MAX },
+    );
+    check_reads(
+        &rt,
+        &settings,
+        false,
+        "settle mixed 0",
+        Step::SettleMixed { seed: 0 },
+    );
+    check_reads(
+        &rt,
+        &settings,
+        false,
+        "garble 0 10 255",
+        Step::Garble {
+            place: 0,
+            at: 10,
+            byte: 255,
+        },
+    );
+    check_reads(
+        &rt,
+        &settings,
+        false,
+        "cut 0 3",
+        Step::Cut { place: 0, bytes: 3 },
+    );
+    Ok(())
+}
+
+#[test]
+fn reads_packets(rt: HostRuntime) -> Result<(), Fail> {
+    let settings = Settings::new(4, 3, 2).ok_or("settings")?;
+    check_reads(
+        &rt,
+        &settings,
+        true,
+        "deliver 1",
+        Step::Deliver { place: 1 },
+    );
+    check_reads(&rt, &settings, true, "tick", Step::Tick);
+    check_reads(&rt, &settings, true, "lose 0", Step::Lose { place: 0 });
+    check_reads(&rt, &settings, true, "repeat 7", Step::Repeat { place: 7 });
+    assert_eq!(rt; read_step(&settings, true, b"garble 0 0 0"), None);
+    assert_eq!(rt; read_step(&settings, true, b"cut 0 3"), None);
+    Ok(())
+}
+
+#[test]
+fn tells_what_runs(rt: HostRuntime) -> Result<(), Fail> {
+    let (_, object, asker) = named()?;
+    assert_eq!(rt; Step::Walk { object, asker }.can_run(), true);
+    assert_eq!(rt; Step::Root { object }.can_run(), true);
+    assert_eq!(rt; Step::Table { name: asker }.can_run(), true);
+    assert_eq!(rt; Step::Find { object, asker }.can_run(), false);
+    assert_eq!(rt; Step::Settle.can_run(), false);
+    Ok(())
+}
+
+#[test]
+fn reads_root_sets(rt: HostRuntime) -> Result<(), Fail> {
+    let settings = Settings::new(16, 40, 2).ok_or("settings")?;
+    let object = read_name(&settings, b"da39a3ee5e6b4b0d3255bfef95601890afd80709").map_err(
+        |_| "a name",
+    )?;
+    let text =
+        b"rootset da39a3ee5e6b4b0d3255bfef95601890afd80709 from da39a3ee5e6b4b0d3255bfef95601890afd80709";
     assert_eq!(rt;
-        read_step(&settings, b"walk 123 from 000"),
-        Some(Step::Walk { object, asker })
+        read_step(&settings, false, text),
+        Some(Step::RootSet {
+            object,
+            asker: object
+        })
+    );
+    let shorter = Settings::new(16, 39, 2).ok_or("settings")?;
+    assert_eq!(rt; read_step(&shorter, false, text), None);
+    Ok(())
+}
+
+#[test]
+fn makes_words_and_prefixes(rt: HostRuntime) -> Result<(), Fail> {
+    let settings = Settings::new(4, 3, 2).ok_or("settings")?;
+    let longest = b"abcdefghijklmnopqrstuvwxyz012345".as_slice();
+    assert_eq!(rt; Word::of(longest).ok_or("a word")?.as_slice(), longest);
+    assert_eq!(rt; Word::of(b""), None);
+    assert_eq!(rt; Word::of(b"two words"), None);
+    assert_eq!(rt;
+        Prefix::of(&settings, &[])
+            .ok_or("a prefix")?
+            .as_slice()
+            .len(),
+        0
     );
     assert_eq!(rt;
-        read_step(&settings, b"root 123"),
-        Some(Step::Root { object })
+        Prefix::of(&settings, &[1, 2]),
+        Prefix::read(&settings, b"12")
     );
+    assert_eq!(rt;
+        Prefix::read(&settings, b"123")
+            .ok_or("a prefix")?
+            .as_slice(),
+        [1, 2, 3].as_slice()
+    );
+    assert_eq!(rt; Prefix::read(&settings, b""), None);
+    assert_eq!(rt; Prefix::of(&settings, &[1, 2, 3, 0]), None);
+    assert_eq!(rt; Prefix::of(&settings, &[4]), None);
     Ok(())
 }
 

@@ -1,7 +1,9 @@
-ghost use Rattle.std.specs.Prelude.{◌≡◌, ◌==◌, [], ◌∷◌, position, MatchOption};
-ghost use Rattle.tap_scenario.specs.Step.{one_name, two_names};
+ghost use Rattle.std.specs.Prelude.{◌≡◌, ◌==◌, ◌+◌, ◌≤◌, [], ◌∷◌, position, MatchOption, IfSome};
+ghost use Rattle.tap_scenario.specs.Step.{number_below, one_name, two_names, one_number, two_numbers, only};
 ghost use Rattle.tap_scenario.specs.Words.{words};
 
+use crate::step::Step;
+use itoa::Buffer;
 use std::marker::Model;
 use tap_name::{Name, Settings, read_name};
 
@@ -25,6 +27,36 @@ fn first_space(text: &[u8]) -> Option<usize>
     ensures { result ≡ position (λ byte. byte == 32) text.now }
 {
     text.iter().position(|byte| *byte == b' ')
+}
+
+// The number that a text writes, where it is at most so much. The text is parsed, and has to be what the number prints
+// as.
+fn number_of_text(text: &str, most: u64) -> Option<u64>
+    ensures value { result ≡ number_below (most + 1) text.now }
+    ensures to { IfSome result (λ number. number ≤ most) }
+{
+    match text.parse::<u64>() {
+        Ok(number) => {
+            let mut buffer = Buffer::new();
+            if buffer.format(number) == text {
+                if number <= most { Some(number) } else { None }
+            } else {
+                None
+            }
+        }
+        Err(_) => None,
+    }
+}
+
+// The number that a word writes, where it is at most so much.
+pub fn read_number(word: &[u8], most: u64) -> Option<u64>
+    ensures value { result ≡ number_below (most + 1) word.now }
+    ensures to { IfSome result (λ number. number ≤ most) }
+{
+    match std::str::from_utf8(word) {
+        Ok(text) => number_of_text(text, most),
+        Err(_) => None,
+    }
 }
 
 impl<'a> Words<'a> {
@@ -76,5 +108,37 @@ impl<'a> Words<'a> {
         let first = read_name(settings, first).ok()?;
         let second = read_name(settings, second).ok()?;
         Some((first, second))
+    }
+
+    // The number that the words are, where they are one number of at most so much.
+    pub fn one_number(mut self, most: u64) -> Option<u64>
+        ensures value { result ≡ one_number (most + 1) self.entry }
+        ensures to { IfSome result (λ number. number ≤ most) }
+    {
+        let word = self.next()?;
+        if self.next().is_some() {
+            return None;
+        }
+        read_number(word, most)
+    }
+
+    // The numbers that the words are, where they are two numbers of at most so much.
+    pub fn two_numbers(mut self, most: u64, more: u64) -> Option<(u64, u64)>
+        ensures value { result ≡ two_numbers (most + 1) (more + 1) self.entry }
+        ensures to { IfSome result (λ numbers. (numbers.0 ≤ most) × (numbers.1 ≤ more)) }
+    {
+        let first = read_number(self.next()?, most)?;
+        let second = self.one_number(more)?;
+        Some((first, second))
+    }
+
+    // This step, where no word is left.
+    pub fn only(mut self, step: Step) -> Option<Step>
+        ensures { result ≡ only step self.entry }
+    {
+        if self.next().is_some() {
+            return None;
+        }
+        Some(step)
     }
 }

@@ -1,0 +1,209 @@
+ghost use Rattle.std.specs.Prelude.{◌≡◌, ◌↔◌, ℕ, ◌<◌, ◌≤◌, List, [], ◌∷◌, ◌++◌, All, length, nat_eq, Some};
+ghost use Rattle.std.specs.Cmp.{partial_equiv_from_equiv};
+ghost use Rattle.std.specs.Cmp.Lexicographic.{pointwise, nat_list_eq_equiv};
+ghost use Rattle.std.specs.Option.{SomeIff};
+ghost use Rattle.tap_scenario.specs.Step.{IsWord, IsPrefix, is_word_byte, word_of_bytes, prefix_of_word, text_of_prefix};
+
+use std::marker::Model;
+use tap_name::{Name, Settings, read_name};
+
+/// The word that a cast spreads: 1 to 32 lower-case letters and digits. Contracts see its bytes.
+///
+/// Rule: docs/FORMATS.md, "The scenario".
+#[derive(Clone, Copy, Debug)]
+pub struct Word {
+    bytes: [u8; 32],
+    len: u8,
+}
+
+impl Model for Word {
+    ghost use Rattle.std.specs.Prelude.{List, ℕ, take, length};
+    ghost use Rattle.std.proofs.Common.{arith, length-take-le};
+    ghost use Rattle.tap_scenario.specs.Places.{IsPadded, padded, padded_take};
+
+    ghost Value = { List ℕ };
+
+    ghost view = { λ w. take w.len w.bytes };
+
+    ghost invariant = { λ w. IsPadded w.bytes w.len };
+
+    ghost inverse = { λ xs. record { bytes = padded xs; len = length xs } };
+
+    ghost inverse_ok = { λ w h i. record {
+      bytes = padded_take w.bytes w.len h i;
+      len = length-take-le w.len w.bytes (omega (arith, h.fits, h.all)) i;
+    } };
+}
+
+// Whether a byte is a lower-case letter or a digit.
+fn is_word_byte(byte: u8) -> bool
+    ensures { result ≡ is_word_byte byte }
+{
+    matches!(byte, b'a'..=b'z' | b'0'..=b'9')
+}
+
+impl Word {
+    // The word with no bytes.
+    fn empty() -> Word
+        ensures { result ≡ [] }
+    {
+        Word {
+            bytes: [0; 32],
+            len: 0,
+        }
+    }
+
+    // Adds a byte at the end.
+    fn push(&mut self, byte: u8)
+        requires { length self.old < 32 }
+        ensures { self.new ≡ self.old ++ byte ∷ [] }
+    {
+        self.bytes[self.len as usize] = byte;
+        self.len += 1;
+    }
+
+    /// The word of these bytes, `None` exactly where they aren't 1 to 32 lower-case letters and digits.
+    ///
+    /// Rule: docs/FORMATS.md, "The scenario".
+    pub fn of(bytes: &[u8]) -> Option<Word>
+        ensures value { result ≡ word_of_bytes bytes.now }
+        ensures exact { SomeIff result (IsWord bytes.now) bytes.now }
+    {
+        if bytes.is_empty() || bytes.len() > 32 {
+            return None;
+        }
+        let mut word = Word::empty();
+        for byte in bytes {
+            if !is_word_byte(*byte) {
+                return None;
+            }
+            word.push(*byte);
+        }
+        Some(word)
+    }
+
+    /// The bytes, lent.
+    pub fn as_slice(&self) -> &[u8]
+        ensures value { result.now ≡ self.now }
+        ensures len { length self.now ≤ 32 }
+    {
+        &self.bytes[..self.len as usize]
+    }
+}
+
+impl PartialEq for Word {
+    ghost eq = { pointwise nat_eq };
+
+    ghost laws = { partial_equiv_from_equiv nat_list_eq_equiv };
+
+    fn eq(&self, other: &Word) -> bool {
+        self.as_slice() == other.as_slice()
+    }
+}
+
+impl Eq for Word {
+    ghost laws = { nat_list_eq_equiv };
+}
+
+/// The prefix to whose nodes a cast goes: no digit, or so many first digits of a name. Contracts see the digits.
+///
+/// Rule: docs/FORMATS.md, "The scenario".
+#[derive(Clone, Copy, Debug)]
+pub struct Prefix {
+    digits: Option<Name>,
+}
+
+impl Model for Prefix {
+    ghost use Rattle.std.specs.Prelude.{List, ℕ};
+    ghost use Rattle.tap_scenario.specs.Prefix.{IsKept, digits_of, kept, kept_digits};
+
+    ghost Value = { List ℕ };
+
+    ghost view = { λ p. digits_of p.digits };
+
+    ghost invariant = { λ p. IsKept p.digits };
+
+    ghost inverse = { λ xs. record { digits = kept xs } };
+
+    ghost inverse_ok = { λ p h i. record { digits = kept_digits p.digits h i } };
+}
+
+impl Prefix {
+    /// The prefix of these digits, `None` exactly where they are more than a name of the settings has, or one of them
+    /// isn't below the base.
+    ///
+    /// Rule: docs/FORMATS.md, "The scenario".
+    pub fn of(settings: &Settings, digits: &[u8]) -> Option<Prefix>
+        ensures { SomeIff result (IsPrefix settings.now digits.now) digits.now }
+    {
+        if digits.is_empty() {
+            return Some(Prefix { digits: None });
+        }
+        if digits.len() > settings.digits() as usize {
+            return None;
+        }
+        let shorter = Settings::new(settings.base(), digits.len() as u8, settings.width())?;
+        match Name::from_digits(&shorter, digits) {
+            Ok(name) => Some(Prefix { digits: Some(name) }),
+            Err(_) => None,
+        }
+    }
+
+    // The prefix that a text spells.
+    fn spelled(settings: &Settings, text: &[u8]) -> Option<Prefix>
+        ensures { result ≡ prefix_of_word settings.now text.now }
+    {
+        if text == b"*".as_slice() {
+            return Some(Prefix { digits: None });
+        }
+        if text.is_empty() || text.len() > settings.digits() as usize {
+            return None;
+        }
+        let shorter = Settings::new(settings.base(), text.len() as u8, settings.width())?;
+        let digits = read_name(&shorter, text).ok()?;
+        Some(Prefix {
+            digits: Some(digits),
+        })
+    }
+
+    /// The prefix that a text spells, one byte for each digit as in a name, and `*` for no digit. `None` exactly where
+    /// the text is neither that nor 1 to as many digits below the base as a name of the settings has.
+    ///
+    /// Rule: docs/FORMATS.md, "The scenario".
+    pub fn read(settings: &Settings, text: &[u8]) -> Option<Prefix>
+        ensures value { result ≡ prefix_of_word settings.now text.now }
+        ensures exact { (prefix : List ℕ)
+            → ((result ≡ Some prefix) ↔ ((text.now ≡ text_of_prefix prefix) × IsPrefix settings.now prefix)) }
+    {
+        // A digit below this base prints as one byte, which is read as that digit alone.
+        let base = settings.base();
+        prove!(base <= 16);
+        Prefix::spelled(settings, text)
+    }
+
+    /// The digits, lent.
+    pub fn as_slice(&self) -> &[u8]
+        ensures value { result.now ≡ self.now }
+        ensures len { length self.now ≤ 40 }
+        ensures digits { All (λ digit. digit < 16) self.now }
+    {
+        match &self.digits {
+            Some(digits) => digits.as_slice(),
+            None => &[],
+        }
+    }
+}
+
+impl PartialEq for Prefix {
+    ghost eq = { pointwise nat_eq };
+
+    ghost laws = { partial_equiv_from_equiv nat_list_eq_equiv };
+
+    fn eq(&self, other: &Prefix) -> bool {
+        self.as_slice() == other.as_slice()
+    }
+}
+
+impl Eq for Prefix {
+    ghost laws = { nat_list_eq_equiv };
+}

@@ -1,0 +1,204 @@
+ghost use Rattle.std.specs.Prelude.{◌≡◌, bytes_eq, find};
+ghost use Rattle.tap_scenario.specs.Kind.{text_of_kind, kind_of_word, is_there, link_of_pair};
+ghost use Rattle.tap_scenario.specs.Step.{step_of_name, step_of_pair, step_of_place};
+
+use crate::step::Step;
+use tap_name::{Name, Settings};
+
+// The kinds of step that have one name.
+#[derive(Clone, Copy)]
+pub enum NameKind {
+    Leave,
+    Root,
+    Table,
+    Pointers,
+    Abandon,
+}
+
+// The kinds of step that have two names with a word between them.
+#[derive(Clone, Copy)]
+pub enum PairKind {
+    Join,
+    Publish,
+    Withdraw,
+    Find,
+    Walk,
+    RootSet,
+}
+
+// The kinds of step that have one place.
+#[derive(Clone, Copy)]
+pub enum PlaceKind {
+    Deliver,
+    Lose,
+    Repeat,
+}
+
+// What the first word of a step tells.
+#[derive(Clone, Copy)]
+pub enum Kind {
+    Name(NameKind),
+    Pair(PairKind),
+    Place(PlaceKind),
+    Settle,
+    Garble,
+    Cut,
+    Tick,
+    Cast,
+}
+
+// All kinds.
+const KINDS: [Kind; 19] = [
+    Kind::Name(NameKind::Leave),
+    Kind::Name(NameKind::Root),
+    Kind::Name(NameKind::Table),
+    Kind::Name(NameKind::Pointers),
+    Kind::Name(NameKind::Abandon),
+    Kind::Pair(PairKind::Join),
+    Kind::Pair(PairKind::Publish),
+    Kind::Pair(PairKind::Withdraw),
+    Kind::Pair(PairKind::Find),
+    Kind::Pair(PairKind::Walk),
+    Kind::Pair(PairKind::RootSet),
+    Kind::Place(PlaceKind::Deliver),
+    Kind::Place(PlaceKind::Lose),
+    Kind::Place(PlaceKind::Repeat),
+    Kind::Settle,
+    Kind::Garble,
+    Kind::Cut,
+    Kind::Tick,
+    Kind::Cast,
+];
+
+// The first of these kinds whose steps begin with this word.
+fn kind_among(kinds: &[Kind], word: &[u8]) -> Option<Kind>
+    ensures { result ≡ find (λ kind. bytes_eq word.now (text_of_kind kind)) kinds.now }
+{
+    for kind in kinds {
+        if word == kind.text().as_bytes() {
+            return Some(*kind);
+        }
+    }
+    None
+}
+
+impl NameKind {
+    // The step of this kind with this name.
+    pub fn step(self, name: Name) -> Step
+        ensures { result ≡ step_of_name self name }
+    {
+        match self {
+            NameKind::Leave => Step::Depart { name },
+            NameKind::Root => Step::Root { object: name },
+            NameKind::Table => Step::Table { name },
+            NameKind::Pointers => Step::Pointers { name },
+            NameKind::Abandon => Step::Abandon { name },
+        }
+    }
+}
+
+impl PairKind {
+    // The word between the names.
+    pub fn link(self) -> &'static str
+        ensures { result.now ≡ link_of_pair self }
+    {
+        match self {
+            PairKind::Join => "via",
+            PairKind::Publish | PairKind::Withdraw => "at",
+            PairKind::Find | PairKind::Walk | PairKind::RootSet => "from",
+        }
+    }
+
+    // The step of this kind with these names.
+    pub fn step(self, first: Name, second: Name) -> Step
+        ensures { result ≡ step_of_pair self first second }
+    {
+        match self {
+            PairKind::Join => Step::Join {
+                name: first,
+                via: second,
+            },
+            PairKind::Publish => Step::Publish {
+                object: first,
+                server: second,
+            },
+            PairKind::Withdraw => Step::Withdraw {
+                object: first,
+                server: second,
+            },
+            PairKind::Find => Step::Find {
+                object: first,
+                asker: second,
+            },
+            PairKind::Walk => Step::Walk {
+                object: first,
+                asker: second,
+            },
+            PairKind::RootSet => Step::RootSet {
+                object: first,
+                asker: second,
+            },
+        }
+    }
+}
+
+impl PlaceKind {
+    // The step of this kind with this place.
+    pub fn step(self, place: u32) -> Step
+        ensures { result ≡ step_of_place self place }
+    {
+        match self {
+            PlaceKind::Deliver => Step::Deliver { place },
+            PlaceKind::Lose => Step::Lose { place },
+            PlaceKind::Repeat => Step::Repeat { place },
+        }
+    }
+}
+
+impl Kind {
+    // The first word of the steps of this kind.
+    pub fn text(self) -> &'static str
+        ensures { result.now ≡ text_of_kind self }
+    {
+        match self {
+            Kind::Name(NameKind::Leave) => "leave",
+            Kind::Name(NameKind::Root) => "root",
+            Kind::Name(NameKind::Table) => "table",
+            Kind::Name(NameKind::Pointers) => "pointers",
+            Kind::Name(NameKind::Abandon) => "abandon",
+            Kind::Pair(PairKind::Join) => "join",
+            Kind::Pair(PairKind::Publish) => "publish",
+            Kind::Pair(PairKind::Withdraw) => "withdraw",
+            Kind::Pair(PairKind::Find) => "find",
+            Kind::Pair(PairKind::Walk) => "walk",
+            Kind::Pair(PairKind::RootSet) => "rootset",
+            Kind::Place(PlaceKind::Deliver) => "deliver",
+            Kind::Place(PlaceKind::Lose) => "lose",
+            Kind::Place(PlaceKind::Repeat) => "repeat",
+            Kind::Settle => "settle",
+            Kind::Garble => "garble",
+            Kind::Cut => "cut",
+            Kind::Tick => "tick",
+            Kind::Cast => "cast",
+        }
+    }
+
+    // The kind that a first word tells.
+    pub fn of(word: &[u8]) -> Option<Kind>
+        ensures { result ≡ kind_of_word word.now }
+    {
+        kind_among(&KINDS, word)
+    }
+
+    // Whether there are steps of this kind with these settings, in a scenario that is carried or not.
+    pub fn is_there(self, settings: &Settings, carrier: bool) -> bool
+        ensures { result ≡ is_there settings.now carrier self }
+    {
+        match self {
+            Kind::Pair(PairKind::RootSet) => settings.base() == 16 && settings.digits() == 40,
+            Kind::Place(PlaceKind::Lose | PlaceKind::Repeat) | Kind::Tick => carrier,
+            Kind::Garble | Kind::Cut => !carrier,
+            _ => true,
+        }
+    }
+}
