@@ -1,9 +1,23 @@
 -- What one more record at the end of a log changes.
-use Rattle.std.proofs.Common.{◌≡◌, ℕ, ◌+◌, ◌<◌, ◌≤◌, List, [], ◌∷◌, ◌++◌, length, Option, None, Some, refl, ap, sym, ◌∙◌, append_assoc, append-nil, subst}
-use Rattle.std.specs.Prelude.{fold}
-use Rattle.std.specs.List.{filter_map}
+use Rattle.std.proofs.Common.{◌≡◌, ◌≢◌, ℕ, ◌+◌, Bool, true, false, List, [], ◌∷◌, ◌++◌, length, not, nat_eq, Option, None, Some, refl, ap, sym, ◌∙◌, append_assoc, append-nil, length-append, subst, cond}
+use Rattle.std.specs.Prelude.{fold, ◌||◌, if◌then◌else◌}
+use Rattle.std.specs.List.{filter_map, cons_option}
+use Rattle.std.specs.Cmp.Lexicographic.{pointwise}
+use Rattle.std.proofs.lemmas.List.Elements.{filter_map-append, filter-append}
+use Rattle.std.proofs.lemmas.List.Folds.{list_any-append}
+use Rattle.std.proofs.lemmas.List.Sums.{fold-append}
+use Rattle.tap_name.specs.Settings.{Parameters}
+use Rattle.tap_scenario.specs.declared.step.Step.{Step}
+use Rattle.tap_log.specs.declared.record.Pair.{Pair}
 use Rattle.tap_log.specs.declared.record.Record.{Record}
-use Rattle.tap_log.specs.Moments.{core_after, core_of, step_of, steps_of, EachFrom, EachRecord, last_of}
+use Rattle.tap_log.specs.declared.record.Record.TheVariants.{Begin, Carrier}
+use Rattle.tap_log.specs.Kinds.{is_carried, members_in, sent_number, taken_number, packet_number, ended_number, core_name, gone_name, abandoned_name, published_pair, withdrawn_pair, join_name, depart_name}
+use Rattle.tap_log.specs.Moments.{EachFrom, EachRecord, last_of, outstanding, under_way, less}
+use Rattle.tap_log.specs.Core.{accepted_in, accepted_step, accepted_steps, core_of, departures_of, gone_of, has_name, joined_of, joins_of, members_of, names_less}
+use Rattle.tap_log.specs.Published.{has_pair, kept_pair, kept_pairs, pairs_less, published_of, same_pair, without_servers}
+use Rattle.tap_log.specs.Counts.{join_count, names_of, sent_count, with_name}
+use Rattle.tap_log.specs.Laws.{IsLater, OneMoreRecord, accepted_behind, accepted_by, at_most_one}
+use Rattle.tap_log.proofs.Less.{filter-swaps, filter-twice, less_by-more, less_by-none, not_or}
 
 pub last_of-push : (log : List Record) (item : Record) → last_of (log ++ item ∷ []) ≡ Some item
 last_of-push [] item = refl
@@ -20,9 +34,207 @@ EachFrom-push P before (first ∷ items) item each p =
 pub EachRecord-push : (P : List Record → Record → Type 0) (log : List Record) (item : Record) → EachRecord P log → P log item → EachRecord P (log ++ item ∷ [])
 EachRecord-push P log item each p = EachFrom-push P [] log item each p
 
-core_from-push : (core : List (List ℕ)) (log : List Record) (item : Record) → fold core_after core (log ++ item ∷ []) ≡ core_after (fold core_after core log) item
-core_from-push core [] item = refl
-core_from-push core (first ∷ items) item = core_from-push (core_after core first) items item
+-- what the records tell, with one more
+pub told-push : {Y : Type 0} (h : Record → Option Y) (log : List Record) (item : Record) → filter_map h (log ++ item ∷ []) ≡ filter_map h log ++ at_most_one (h item)
+told-push h log item = filter_map-append h log (item ∷ [])
 
-pub core_of-push : (log : List Record) (item : Record) → core_of (log ++ item ∷ []) ≡ core_after (core_of log) item
-core_of-push log item = core_from-push [] log item
+one_before : {X : Type 0} (one : Option X) (xs ys : List X) → cons_option one (xs ++ ys) ≡ cons_option one xs ++ ys
+one_before None xs ys = refl
+one_before (Some x) xs ys = refl
+
+-- ---- the beginning
+
+carried_alone : (item : Record) → is_carried (item ∷ []) ≡ false
+unfolding is_carried
+carried_alone (Begin settings frames members) = refl
+carried_alone item = refl
+
+carried_second : (first item : Record) → item ≢ Carrier → is_carried (first ∷ item ∷ []) ≡ false
+unfolding is_carried
+carried_second (Begin settings frames members) Carrier other = absurd (other refl)
+carried_second (Begin settings frames members) item other = refl
+carried_second first item other = refl
+
+carried_third : (first next : Record) (items more : List Record) → is_carried (first ∷ next ∷ items) ≡ is_carried (first ∷ next ∷ more)
+unfolding is_carried
+carried_third (Begin settings frames members) Carrier items more = refl
+carried_third (Begin settings frames members) next items more = refl
+carried_third first next items more = refl
+
+carried_none : is_carried [] ≡ false
+unfolding is_carried
+carried_none = refl
+
+pub is_carried-push : (log : List Record) (item : Record) → item ≢ Carrier → is_carried (log ++ item ∷ []) ≡ is_carried log
+is_carried-push [] item other = carried_alone item ∙ sym carried_none
+is_carried-push (first ∷ []) item other = carried_second first item other ∙ sym (carried_alone first)
+is_carried-push (first ∷ next ∷ items) item other = carried_third first next (items ++ item ∷ []) items
+
+members_of-push : (log : List Record) (item : Record) → members_in item ≡ [] → members_of (log ++ item ∷ []) ≡ members_of log
+members_of-push [] item none = none
+members_of-push (first ∷ items) item none = refl
+
+-- ---- accepted steps
+
+accepted_in-push : (carried : Bool) (log : List Record) (item : Record) → accepted_in carried (log ++ item ∷ []) ≡ accepted_in carried log ++ accepted_behind carried (last_of log) item
+accepted_in-push carried [] item = refl
+accepted_in-push carried (first ∷ []) item = refl
+accepted_in-push carried (first ∷ next ∷ items) item =
+    ap (λ l. cons_option (accepted_step carried (first, next)) l) (accepted_in-push carried (next ∷ items) item)
+    ∙ one_before (accepted_step carried (first, next)) (accepted_in carried (next ∷ items)) (accepted_behind carried (last_of (next ∷ items)) item)
+
+pub accepted_steps-push : (log : List Record) (item : Record) → item ≢ Carrier → accepted_steps (log ++ item ∷ []) ≡ accepted_steps log ++ accepted_by log item
+accepted_steps-push log item other =
+    ap (λ b. accepted_in b (log ++ item ∷ [])) (is_carried-push log item other) ∙ accepted_in-push (is_carried log) log item
+
+named-push : (h : Step → Option (List ℕ)) (log : List Record) (item : Record) → item ≢ Carrier
+    → filter_map h (accepted_steps (log ++ item ∷ [])) ≡ filter_map h (accepted_steps log) ++ filter_map h (accepted_by log item)
+named-push h log item other =
+    ap (filter_map h) (accepted_steps-push log item other) ∙ filter_map-append h (accepted_steps log) (accepted_by log item)
+
+-- ---- those who take part
+
+pub core_of-first : (item : Record) → gone_name item ≡ None → core_name item ≡ None → core_of (item ∷ []) ≡ members_in item
+core_of-first item stays none =
+    ap (λ o. names_less (members_in item ++ at_most_one (core_name item)) (at_most_one o)) stays
+    ∙ ap (λ o. names_less (members_in item ++ at_most_one o) []) none
+    ∙ less_by-none (pointwise nat_eq) (members_in item ++ []) ∙ append-nil (members_in item)
+
+came-push : (came told new gone ended : List (List ℕ)) (all all_gone : List (List ℕ)) → all ≡ (came ++ told) ++ new → all_gone ≡ gone ++ ended
+    → names_less all all_gone ≡ names_less (names_less (came ++ told) gone ++ names_less new gone) ended
+came-push came told new gone ended all all_gone is is_gone =
+    ap (λ l. names_less l all_gone) is ∙ ap (λ l. names_less ((came ++ told) ++ new) l) is_gone
+    ∙ less_by-more (pointwise nat_eq) (came ++ told) new gone ended
+
+pub core_of-push : (log : List Record) (item : Record) → members_in item ≡ []
+    → core_of (log ++ item ∷ []) ≡ names_less (core_of log ++ names_less (at_most_one (core_name item)) (gone_of log)) (at_most_one (gone_name item))
+core_of-push log item none =
+    came-push (members_of log) (filter_map core_name log) (at_most_one (core_name item)) (gone_of log) (at_most_one (gone_name item))
+    (members_of (log ++ item ∷ []) ++ filter_map core_name (log ++ item ∷ [])) (gone_of (log ++ item ∷ []))
+    (ap (λ l. l ++ filter_map core_name (log ++ item ∷ [])) (members_of-push log item none) ∙ ap (λ l. members_of log ++ l) (told-push core_name log item)
+    ∙ sym (append_assoc (members_of log) (filter_map core_name log) (at_most_one (core_name item))))
+    (told-push gone_name log item)
+
+-- the beginning gives its members
+pub core_of-begin : (settings : Parameters) (frames : ℕ) (members : List (List ℕ)) → core_of (Begin settings frames members ∷ []) ≡ members
+unfolding members_in core_name gone_name
+core_of-begin settings frames members = core_of-first (Begin settings frames members) refl refl
+
+-- a record that tells of no core node changes nothing
+pub core_of-same : (log : List Record) (item : Record) → members_in item ≡ [] → core_name item ≡ None → gone_name item ≡ None → core_of (log ++ item ∷ []) ≡ core_of log
+core_of-same log item none no_core stays =
+    core_of-push log item none
+    ∙ ap (λ o. names_less (core_of log ++ names_less (at_most_one o) (gone_of log)) (at_most_one (gone_name item))) no_core
+    ∙ ap (λ o. names_less (core_of log ++ []) (at_most_one o)) stays
+    ∙ less_by-none (pointwise nat_eq) (core_of log ++ []) ∙ append-nil (core_of log)
+
+pub joined_of-push : (log : List Record) (item : Record) → IsLater item
+    → joined_of (log ++ item ∷ []) ≡ names_less (joined_of log ++ names_less (filter_map join_name (accepted_by log item)) (gone_of log)) (at_most_one (gone_name item))
+joined_of-push log item later =
+    came-push (members_of log) (joins_of log) (filter_map join_name (accepted_by log item)) (gone_of log) (at_most_one (gone_name item))
+    (members_of (log ++ item ∷ []) ++ joins_of (log ++ item ∷ [])) (gone_of (log ++ item ∷ []))
+    (ap (λ l. l ++ joins_of (log ++ item ∷ [])) (members_of-push log item later.no_members) ∙ ap (λ l. members_of log ++ l) (named-push join_name log item later.no_carrier)
+    ∙ sym (append_assoc (members_of log) (joins_of log) (filter_map join_name (accepted_by log item))))
+    (told-push gone_name log item)
+
+-- ---- frames and packets
+
+numbers-push : (h k : Record → Option ℕ) (log : List Record) (item : Record)
+    → less (filter_map h (log ++ item ∷ [])) (filter_map k (log ++ item ∷ []))
+    ≡ less (less (filter_map h log) (filter_map k log) ++ less (at_most_one (h item)) (filter_map k log)) (at_most_one (k item))
+numbers-push h k log item =
+    ap (λ l. less l (filter_map k (log ++ item ∷ []))) (told-push h log item) ∙ ap (λ l. less (filter_map h log ++ at_most_one (h item)) l) (told-push k log item)
+    ∙ less_by-more nat_eq (filter_map h log) (at_most_one (h item)) (filter_map k log) (at_most_one (k item))
+
+pub outstanding-push : (log : List Record) (item : Record)
+    → outstanding (log ++ item ∷ []) ≡ less (outstanding log ++ less (at_most_one (sent_number item)) (filter_map taken_number log)) (at_most_one (taken_number item))
+outstanding-push log item = numbers-push sent_number taken_number log item
+
+pub under_way-push : (log : List Record) (item : Record)
+    → under_way (log ++ item ∷ []) ≡ less (under_way log ++ less (at_most_one (packet_number item)) (filter_map ended_number log)) (at_most_one (ended_number item))
+under_way-push log item = numbers-push packet_number ended_number log item
+
+-- ---- published pairs
+
+kept_cases : (a b : Bool) (pair : Pair) (pairs ended : List Pair) → has_pair ended pair ≡ b
+    → cons_option (if a || b then None else Some pair) (pairs_less pairs ended) ≡ pairs_less (cons_option (if a then None else Some pair) pairs) ended
+kept_cases true b pair pairs ended is = refl
+kept_cases false true pair pairs ended is = sym (ap (λ c. cond {A = List Pair} (not c) (pair ∷ pairs_less pairs ended) (pairs_less pairs ended)) is)
+kept_cases false false pair pairs ended is = sym (ap (λ c. cond {A = List Pair} (not c) (pair ∷ pairs_less pairs ended) (pairs_less pairs ended)) is)
+
+kept_here : (later : List Record) (item : Record) (published : Option Pair) (pairs : List Pair)
+    → cons_option (kept_pair published (later ++ item ∷ [])) (pairs_less pairs (at_most_one (withdrawn_pair item)))
+    ≡ pairs_less (cons_option (kept_pair published later) pairs) (at_most_one (withdrawn_pair item))
+kept_here later item None pairs = refl
+kept_here later item (Some pair) pairs =
+    let ended = at_most_one (withdrawn_pair item) in
+    let told = ap (λ l. has_pair l pair) (told-push withdrawn_pair later item) ∙ list_any-append (λ other. same_pair other pair) (filter_map withdrawn_pair later) ended in
+    ap (λ b. cons_option (if b then None else Some pair) (pairs_less pairs ended)) told
+    ∙ kept_cases (has_pair (filter_map withdrawn_pair later) pair) (has_pair ended pair) pair pairs ended refl
+
+alone : (published : Option Pair) → cons_option (kept_pair published []) [] ≡ at_most_one published
+alone None = refl
+alone (Some pair) = refl
+
+kept_pairs-push : (log : List Record) (item : Record)
+    → kept_pairs (log ++ item ∷ []) ≡ pairs_less (kept_pairs log) (at_most_one (withdrawn_pair item)) ++ at_most_one (published_pair item)
+kept_pairs-push [] item = alone (published_pair item)
+kept_pairs-push (first ∷ items) item =
+    let ended = at_most_one (withdrawn_pair item) in
+    ap (cons_option (kept_pair (published_pair first) (items ++ item ∷ []))) (kept_pairs-push items item)
+    ∙ one_before (kept_pair (published_pair first) (items ++ item ∷ [])) (pairs_less (kept_pairs items) ended) (at_most_one (published_pair item))
+    ∙ ap (λ l. l ++ at_most_one (published_pair item)) (kept_here items item (published_pair first) (kept_pairs items))
+
+servers-more : (servers more : List (List ℕ)) (pairs : List Pair) → without_servers (servers ++ more) pairs ≡ without_servers more (without_servers servers pairs)
+servers-more servers more pairs =
+    filter-twice (λ pair. not (has_name servers pair.server)) (λ pair. not (has_name more pair.server)) (λ pair. not (has_name (servers ++ more) pair.server))
+    (λ pair. ap not (list_any-append (λ other. pointwise nat_eq other pair.server) servers more) ∙ not_or (has_name servers pair.server) (has_name more pair.server)) pairs
+
+pub published_of-push : (log : List Record) (item : Record) → item ≢ Carrier
+    → published_of (log ++ item ∷ []) ≡ without_servers (filter_map depart_name (accepted_by log item))
+    (pairs_less (published_of log) (at_most_one (withdrawn_pair item)) ++ without_servers (departures_of log) (at_most_one (published_pair item)))
+published_of-push log item other =
+    let gone = departures_of log in
+    let more = filter_map depart_name (accepted_by log item) in
+    let ended = at_most_one (withdrawn_pair item) in
+    let new = at_most_one (published_pair item) in
+    ap (λ l. without_servers l (kept_pairs (log ++ item ∷ []))) (named-push depart_name log item other)
+    ∙ ap (without_servers (gone ++ more)) (kept_pairs-push log item)
+    ∙ servers-more gone more (pairs_less (kept_pairs log) ended ++ new)
+    ∙ ap (without_servers more) (filter-append (λ pair. not (has_name gone pair.server)) (pairs_less (kept_pairs log) ended) new)
+    ∙ ap (λ l. without_servers more (l ++ without_servers gone new))
+    (filter-swaps (λ pair. not (has_name gone pair.server)) (λ pair. not (has_pair ended pair)) (kept_pairs log))
+
+-- ---- counts
+
+pub sent_count-push : (log : List Record) (item : Record) → sent_count (log ++ item ∷ []) ≡ sent_count log + length (at_most_one (sent_number item))
+sent_count-push log item = ap length (told-push sent_number log item) ∙ length-append (filter_map sent_number log) (at_most_one (sent_number item))
+
+pub join_count-push : (log : List Record) (item : Record) → item ≢ Carrier → join_count (log ++ item ∷ []) ≡ join_count log + length (filter_map join_name (accepted_by log item))
+join_count-push log item other = ap length (named-push join_name log item other) ∙ length-append (joins_of log) (filter_map join_name (accepted_by log item))
+
+pub names_of-push : (log : List Record) (item : Record) → IsLater item → names_of (log ++ item ∷ []) ≡ fold with_name (names_of log) (filter_map join_name (accepted_by log item))
+names_of-push log item later =
+    let new = filter_map join_name (accepted_by log item) in
+    ap (λ l. fold with_name [] (l ++ joins_of (log ++ item ∷ []))) (members_of-push log item later.no_members)
+    ∙ ap (λ l. fold with_name [] (members_of log ++ l)) (named-push join_name log item later.no_carrier)
+    ∙ ap (fold with_name []) (sym (append_assoc (members_of log) (joins_of log) new))
+    ∙ fold-append with_name [] (members_of log ++ joins_of log) new
+
+-- ---- the law
+
+pub one_more_record_holds : OneMoreRecord
+one_more_record_holds =
+    record {
+      members = λ log item is stays none. ap core_of is ∙ core_of-first item stays none;
+      accepted = λ log item later. accepted_steps-push log item later.no_carrier;
+      core = λ log item later. core_of-push log item later.no_members;
+      joined = joined_of-push;
+      abandoned = told-push abandoned_name;
+      frames = outstanding-push;
+      packets = under_way-push;
+      published = λ log item later. published_of-push log item later.no_carrier;
+      sent = sent_count-push;
+      joins = λ log item later. join_count-push log item later.no_carrier;
+      names = names_of-push;
+    }

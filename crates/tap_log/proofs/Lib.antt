@@ -1,1 +1,6 @@
+pub mod Gathering
 pub mod Growing
+pub mod Instants
+pub mod KeptPairs
+pub mod Less
+pub mod Stepwise

@@ -1,2 +1,9 @@
 pub mod Log
+pub mod Kinds
+pub mod Asked
+pub mod Core
 pub mod Moments
+pub mod Departing
+pub mod Published
+pub mod Counts
+pub mod Laws

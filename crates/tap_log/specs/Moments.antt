@@ -1,38 +1,73 @@
--- The moments of a log, and what can be told of a log at one of them. A log at a moment is the list of the records up to it.
-use Rattle.std.specs.Prelude.{◌≡◌, ℕ, ◌+◌, ◌<◌, ◌≤◌, Bool, true, false, List, [], ◌∷◌, ◌++◌, length, fold, count_by, slice_get, Option, None, Some, IfSome, IsTrue}
-use Rattle.std.specs.List.{filter_map}
+-- The moments of a log, and what is under way at one of them. A log at a moment is the list of the records up to it.
+use Rattle.std.specs.Prelude.{ℕ, ◌≤◌, nat_eq, nat_le, Bool, true, false, not, ◌&&◌, ◌||◌, if◌then◌else◌, List, [], ◌∷◌, ◌++◌, length, filter, slice_get, Option, None, Some, IfSome, IsTrue}
+use Rattle.std.specs.List.{filter_map, list_any}
 use Rattle.tap_scenario.specs.declared.step.Step.{Step}
 use Rattle.tap_log.specs.declared.record.Record.{Record}
-use Rattle.tap_log.specs.declared.record.Record.TheVariants.{Begin, Step as StepRecord, Walked, RootOf, Refused, Finished}
+use Rattle.tap_log.specs.declared.record.Record.TheVariants.{Packet}
+pub use Rattle.tap_log.specs.Kinds.{is_carried, begins_group, step_of}
+pub use Rattle.tap_log.specs.Core.{core_of}
+use Rattle.tap_log.specs.Kinds.{sent_number, taken_number, packet_number, arrived_number, ended_number}
 
--- a group, which is what one step did, begins with this record
-abbrev pub begins_group : Record → Bool
-begins_group (StepRecord index step) = true
-begins_group other = false
+-- a group begins with the record, or none is there
+abbrev pub ends_before : Bool → Option Record → Bool
+ends_before carried None = true
+ends_before carried (Some next) = begins_group carried next
 
--- A moment is the end of `Begin` or of a group: behind it a group begins, or the log ends.
+-- A moment is the end of the beginning or of a group: behind it a group begins, or the log ends.
 pub record IsMoment (log : List Record) (m : ℕ) : Type 0 where
   pub from : 1 ≤ m
   pub to : m ≤ length log
-  pub behind : IfSome (slice_get log m) (λ next. IsTrue (begins_group next))
+  pub behind : IfSome (slice_get log m) (λ next. IsTrue (begins_group (is_carried log) next))
 
--- the core nodes after one more record
-abbrev pub core_after : List (List ℕ) → Record → List (List ℕ)
-core_after core (Begin settings frames members) = members
-core_after core other = core
-
--- the core nodes: the members at the start
-abbrev pub core_of : List Record → List (List ℕ)
-core_of log = fold core_after [] log
-
--- the step of a `Step` record
-abbrev pub step_of : Record → Option Step
-step_of (StepRecord index step) = Some step
-step_of other = None
+-- the same as a test
+abbrev pub is_moment : List Record → ℕ → Bool
+is_moment log m = nat_le 1 m && (nat_le m (length log) && ends_before (is_carried log) (slice_get log m))
 
 -- the steps that were begun, in their order
 abbrev pub steps_of : List Record → List Step
 steps_of log = filter_map step_of log
+
+-- the number is among these
+abbrev pub has_number : List ℕ → ℕ → Bool
+has_number numbers number = list_any (λ other. nat_eq other number) numbers
+
+-- the first numbers less the second ones
+abbrev pub less : List ℕ → List ℕ → List ℕ
+less numbers ended = filter (λ number. not (has_number ended number)) numbers
+
+-- the frames that are outstanding, by their numbers: those that were sent, less those that were taken
+abbrev pub outstanding : List Record → List ℕ
+outstanding log = less (filter_map sent_number log) (filter_map taken_number log)
+
+-- the packets that are under way, by their numbers: those that were made, less those that arrived or were lost
+abbrev pub under_way : List Record → List ℕ
+under_way log = less (filter_map packet_number log) (filter_map ended_number log)
+
+-- the frame that a packet acknowledges, where this packet is among those that have arrived
+unfoldable pub acknowledged_by : List ℕ → Record → Option ℕ
+acknowledged_by arrived (Packet number frame ack) = (if ack && has_number arrived number then Some frame else None)
+acknowledged_by arrived other = None
+
+-- the frames whose acknowledgement has arrived, by their numbers
+abbrev pub acknowledged : List Record → List ℕ
+acknowledged log = filter_map (acknowledged_by (filter_map arrived_number log)) log
+
+-- the frames that await their acknowledgement, by their numbers: those that were sent, less those acknowledged
+abbrev pub awaiting : List Record → List ℕ
+awaiting log = less (filter_map sent_number log) (acknowledged log)
+
+-- there is no number
+abbrev pub is_none : List ℕ → Bool
+is_none [] = true
+is_none (number ∷ numbers) = false
+
+-- no frame is outstanding
+abbrev pub is_still : List Record → Bool
+is_still log = is_none (outstanding log)
+
+-- Rest: no frame is outstanding; in a carried log also no packet is under way and no frame awaits its acknowledgement.
+abbrev pub is_rest : List Record → Bool
+is_rest log = is_still log && (not (is_carried log) || (is_none (under_way log) && is_none (awaiting log)))
 
 -- P holds of each record, given the records before it
 abbrev pub EachFrom : (List Record → Record → Type 0) → List Record → List Record → Type 0

@@ -1,13 +1,87 @@
-use tap_name::{List, Name, Settings};
+use tap_name::{List, Name, Settings, Slot};
 use tap_scenario::Step;
+use tap_wire::{Bytes, WireFault};
 
-/// Why a step is refused. A refused step changes nothing, and the run goes on.
+/// Why a step is refused. A refused step changes nothing, and the run goes on. Of several causes the first one in this
+/// order is told.
 ///
 /// Rule: docs/FORMATS.md, "The printed text".
 #[derive(Clone, Copy, Debug, PartialEq, Eq)]
 pub enum Refusal {
-    /// The name is no member's.
+    /// The name is no member's, and no node of this name joined; or it is gone.
     NoSuchNode,
+    /// The node is still joining.
+    NotCore,
+    /// This node is departing.
+    Departing(Name),
+    /// So many frames are outstanding.
+    NotAtRest(u32),
+    /// The new name was ever a member's, or joined.
+    NameTaken,
+    /// 256 names were ever members', or joined.
+    TooManyNodes,
+    /// The node is the one core node.
+    LastNode,
+    /// The node publishes the object already.
+    AlreadyPublished,
+    /// The node doesn't publish the object.
+    NotPublished,
+    /// Nothing is at this place: so many frames are outstanding, or packets under way.
+    NoSuchFlight(u32),
+    /// Nothing is at this place of the frame: so many bytes it has.
+    NoSuchByte(u32),
+    /// The copy is the spelling of a frame.
+    Readable,
+    /// The node is core or leaving.
+    NotJoining,
+    /// The node was abandoned before.
+    AlreadyAbandoned,
+    /// Ticks and repeats have made so many packets, and this step's would be too many.
+    TooManyPackets(u32),
+    /// The node's name doesn't begin with the prefix.
+    NotInPrefix,
+}
+
+/// What a node is, as its table is told.
+#[derive(Clone, Copy, Debug, PartialEq, Eq)]
+pub enum NodeWord {
+    /// It is joining.
+    Joining,
+    /// It takes full part.
+    Core,
+    /// It is departing, and core still.
+    Leaving,
+}
+
+/// What a link is, as a table is told.
+#[derive(Clone, Copy, Debug, PartialEq, Eq)]
+pub enum LinkWord {
+    /// A pin.
+    Pin,
+    /// A settled link.
+    Settled,
+    /// A settled link to a node that is departing.
+    Leaving,
+}
+
+/// A link of a table.
+#[derive(Clone, Copy, Debug)]
+pub struct LinkLine {
+    /// Its slot.
+    pub slot: Slot,
+    /// Its target.
+    pub name: Name,
+    /// What it is.
+    pub kind: LinkWord,
+}
+
+/// A pointer that a node holds.
+#[derive(Clone, Copy, Debug)]
+pub struct Pair {
+    /// The object.
+    pub object: Name,
+    /// A server of it.
+    pub server: Name,
 }
 
 /// One thing that a run did.
@@ -26,6 +100,23 @@ pub enum Record {
         index: u32,
         step: Step,
     },
+    /// A frame is sent. Frames are numbered from 0 over the whole run.
+    Sent {
+        number: u32,
+        bytes: Bytes,
+    },
+    /// The frame with this number is taken by its receiver.
+    Taken {
+        number: u32,
+    },
+    /// A joining node becomes core.
+    Core {
+        name: Name,
+    },
+    /// A node is gone: it has departed, or given up joining.
+    Gone {
+        name: Name,
+    },
     /// The nodes that a walk went through: the asker first, the object's root last.
     Walked {
         object: Name,
@@ -36,13 +127,98 @@ pub enum Record {
         object: Name,
         root: Name,
     },
+    /// A lookup is asked. Tickets are counted from 1.
+    Asked {
+        ticket: u32,
+        object: Name,
+        asker: Name,
+    },
+    /// A lookup is answered, with a server or none.
+    Answered {
+        ticket: u32,
+        server: Option<Name>,
+    },
+    /// A server publishes an object.
+    Published {
+        object: Name,
+        server: Name,
+    },
+    /// A server has an object no more.
+    Withdrawn {
+        object: Name,
+        server: Name,
+    },
+    /// What a node is, and the links of its table.
+    TableOf {
+        name: Name,
+        status: NodeWord,
+        links: List<LinkLine>,
+    },
+    /// The pointers that a node holds.
+    PointersOf {
+        name: Name,
+        pairs: List<Pair>,
+    },
     /// The step with this index is refused.
     Refused {
         index: u32,
         refusal: Refusal,
     },
+    /// The next step of a node would send more frames than may be sent, which are so many.
+    Spent {
+        limit: u32,
+    },
     /// All steps were run, which were so many.
     Finished {
         steps: u32,
+    },
+    /// A damaged copy of the frame with this number is refused with this fault.
+    Garbled {
+        number: u32,
+        fault: WireFault,
+    },
+    /// A joining node is to give up.
+    Abandoned {
+        name: Name,
+    },
+    /// The run is carried: frames travel in packets, which may be lost and repeated.
+    Carrier,
+    /// A packet is made, for the frame with this number or for its acknowledgement. Packets are numbered from 0.
+    Packet {
+        number: u32,
+        frame: u32,
+        ack: bool,
+    },
+    /// The packet with this number arrives.
+    Arrived {
+        packet: u32,
+    },
+    /// Each frame that awaits its acknowledgement is sent once more.
+    Ticked,
+    /// The packet with this number is lost.
+    Lost {
+        packet: u32,
+    },
+    /// The roots of the four salted names of an object.
+    RootsOf {
+        object: Name,
+        asker: Name,
+        roots: List<Name>,
+    },
+    /// A cast begins at a node, to all core nodes that share so many digits with it. Casts are counted from 1.
+    CastFrom {
+        cast: u32,
+        word: Bytes,
+        level: u8,
+        name: Name,
+    },
+    /// A cast reaches a core node.
+    Reached {
+        cast: u32,
+        name: Name,
+    },
+    /// A cast is done.
+    Closed {
+        cast: u32,
     },
 }

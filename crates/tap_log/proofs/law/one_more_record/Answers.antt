@@ -1,0 +1,5 @@
+use Rattle.tap_log.proofs.Growing.{one_more_record_holds}
+use Rattle.tap_log.proofs.law.one_more_record.Goals as goal
+
+pub returns : goal.returns
+returns c = one_more_record_holds

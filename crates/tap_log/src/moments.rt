@@ -1,0 +1,177 @@
+ghost use Rattle.std.specs.Prelude.{◌≡◌, ◌≤◌, ◌&&◌, length, not, OnOk, IfOk, IsTrue, ◌↔◌};
+ghost use Rattle.std.specs.List.{filter_map};
+ghost use Rattle.tap_log.specs.Asked.{number_of};
+ghost use Rattle.tap_log.specs.Moments.{
+  IsMoment,
+  acknowledged,
+  acknowledged_by,
+  awaiting,
+  has_number,
+  is_moment,
+  is_rest,
+  is_still,
+  less,
+  outstanding,
+  under_way,
+};
+
+use crate::kinds::{Number, begins_group, is_carried, number_of};
+use crate::log::NoMemory;
+use crate::record::Record;
+use std::alloc::Global;
+use tap_name::List;
+
+// The numbers of one kind that the records tell.
+pub(crate) fn numbers(
+    alloc: Global,
+    which: Number,
+    records: &[Record],
+) -> Result<Vec<u32>, NoMemory>
+    ensures { IfOk result (λ numbers. numbers.items ≡ filter_map (number_of which) records.now) }
+{
+    let mut numbers = Vec::new(alloc);
+    for item in records {
+        if let Some(number) = number_of(which, item) {
+            numbers.push(number)?;
+        }
+    }
+    Ok(numbers)
+}
+
+// The first numbers less the second ones.
+fn less(alloc: Global, numbers: &[u32], ended: &[u32]) -> Result<Vec<u32>, NoMemory>
+    ensures { IfOk result (λ left. left.items ≡ less numbers.now ended.now) }
+{
+    Ok(
+        numbers
+            .iter()
+            .copied()
+            .filter(|number| !ended.contains(number))
+            .collect(alloc)?,
+    )
+}
+
+// The frame that a packet acknowledges, where this packet is among those that have arrived.
+#[tactic(auto, unfolding(crate::specs::Moments::acknowledged_by))]
+fn acknowledged_by(arrived: &[u32], item: &Record) -> Option<u32>
+    ensures { result ≡ acknowledged_by arrived.now item.now }
+{
+    match item {
+        Record::Packet { number, frame, ack } => {
+            if is_acknowledgement(arrived, *number, *ack) {
+                Some(*frame)
+            } else {
+                None
+            }
+        }
+        _ => None,
+    }
+}
+
+fn is_acknowledgement(arrived: &[u32], number: u32, ack: bool) -> bool
+    ensures { result ≡ (ack && has_number arrived.now number) }
+{
+    ack && arrived.contains(&number)
+}
+
+// The numbers of the frames that the packets among these acknowledge.
+fn acknowledged_among(
+    alloc: Global,
+    arrived: &[u32],
+    records: &[Record],
+) -> Result<Vec<u32>, NoMemory>
+    ensures { IfOk result (λ frames. frames.items ≡ filter_map (acknowledged_by arrived.now) records.now) }
+{
+    let mut frames = Vec::new(alloc);
+    for item in records {
+        if let Some(frame) = acknowledged_by(arrived, item) {
+            frames.push(frame)?;
+        }
+    }
+    Ok(frames)
+}
+
+// The numbers of the frames whose acknowledgement has arrived.
+fn acknowledged(alloc: Global, records: &[Record]) -> Result<Vec<u32>, NoMemory>
+    ensures { IfOk result (λ frames. frames.items ≡ acknowledged records.now) }
+{
+    let arrived = numbers(alloc, Number::Arrived, records)?;
+    acknowledged_among(alloc, arrived.as_slice(), records)
+}
+
+/// The numbers of the frames that are outstanding: those that were sent, less those that were taken.
+///
+/// Rule: docs/FORMATS.md, "The printed text".
+pub fn outstanding(alloc: Global, records: &[Record]) -> Result<List<u32>, NoMemory>
+    ensures { IfOk result (λ numbers. numbers ≡ outstanding records.now) }
+{
+    let sent = numbers(alloc, Number::Sent, records)?;
+    let taken = numbers(alloc, Number::Taken, records)?;
+    Ok(List::from_vec(less(alloc, sent.as_slice(), taken.as_slice())?))
+}
+
+/// The numbers of the packets that are under way: those that were made, less those that arrived or were lost.
+///
+/// Rule: docs/FORMATS.md, "The printed text".
+pub fn under_way(alloc: Global, records: &[Record]) -> Result<List<u32>, NoMemory>
+    ensures { IfOk result (λ numbers. numbers ≡ under_way records.now) }
+{
+    let made = numbers(alloc, Number::Made, records)?;
+    let ended = numbers(alloc, Number::Ended, records)?;
+    Ok(List::from_vec(less(alloc, made.as_slice(), ended.as_slice())?))
+}
+
+/// The numbers of the frames that await their acknowledgement: those that were sent, less those acknowledged.
+///
+/// Rule: docs/FORMATS.md, "The printed text".
+pub fn awaiting(alloc: Global, records: &[Record]) -> Result<List<u32>, NoMemory>
+    ensures { IfOk result (λ numbers. numbers ≡ awaiting records.now) }
+{
+    let sent = numbers(alloc, Number::Sent, records)?;
+    let acknowledged = acknowledged(alloc, records)?;
+    Ok(List::from_vec(less(alloc, sent.as_slice(), acknowledged.as_slice())?))
+}
+
+/// Whether no frame is outstanding.
+///
+/// Rule: docs/FORMATS.md, "The printed text".
+pub fn is_still(alloc: Global, records: &[Record]) -> Result<bool, NoMemory>
+    ensures { IfOk result (λ still. still ≡ is_still records.now) }
+{
+    Ok(outstanding(alloc, records)?.is_empty())
+}
+
+/// Whether the log rests: no frame is outstanding, and in a carried log also no packet is under way and no frame awaits
+/// its acknowledgement.
+///
+/// Rule: docs/FORMATS.md, "The printed text".
+pub fn is_rest(alloc: Global, records: &[Record]) -> Result<bool, NoMemory>
+    ensures { IfOk result (λ rest. rest ≡ is_rest records.now) }
+{
+    if !is_still(alloc, records)? {
+        return Ok(false);
+    }
+    if !is_carried(records) {
+        return Ok(true);
+    }
+    if !under_way(alloc, records)?.is_empty() {
+        return Ok(false);
+    }
+    Ok(awaiting(alloc, records)?.is_empty())
+}
+
+/// Whether so many records are a moment of the log: the end of its beginning or of a group.
+///
+/// Rule: docs/FORMATS.md, "The printed text".
+pub fn is_moment(records: &[Record], m: usize) -> bool
+    ensures value { result ≡ is_moment records.now m }
+    ensures moment { IsTrue result ↔ IsMoment records.now m }
+{
+    if m == 0 || records.len() < m {
+        return false;
+    }
+    match records.get(m) {
+        None => true,
+        Some(next) => begins_group(is_carried(records), next),
+    }
+}

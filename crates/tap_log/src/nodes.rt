@@ -1,0 +1,199 @@
+ghost use Rattle.std.specs.Prelude.{◌≡◌, ◌++◌, filter, IfOk};
+ghost use Rattle.std.specs.List.{filter_map, last_or};
+ghost use Rattle.tap_log.specs.Kinds.{depart_name, join_name};
+ghost use Rattle.tap_log.specs.Asked.{name_of};
+ghost use Rattle.tap_log.specs.Core.{
+  abandoned_of,
+  accepted_in,
+  ceased_of,
+  core_of,
+  departures_of,
+  has_name,
+  joined_of,
+  joins_of,
+  members_of,
+  names_less,
+};
+
+use crate::kinds::{Naming, accepted_step, depart_name, is_carried, join_name, name_of};
+use crate::log::NoMemory;
+use crate::record::Record;
+use std::alloc::Global;
+use tap_name::{List, Name};
+use tap_scenario::Step;
+
+// The names of one kind that the records tell.
+pub(crate) fn names(alloc: Global, which: Naming, records: &[Record]) -> Result<Vec<Name>, NoMemory>
+    ensures { IfOk result (λ names. names.items ≡ filter_map (name_of which) records.now) }
+{
+    let mut names = Vec::new(alloc);
+    for item in records {
+        if let Some(name) = name_of(which, item) {
+            names.push(name)?;
+        }
+    }
+    Ok(names)
+}
+
+// The first names less the second ones.
+fn names_less(alloc: Global, names: &[Name], ended: &[Name]) -> Result<Vec<Name>, NoMemory>
+    ensures { IfOk result (λ left. left.items ≡ names_less names.now ended.now) }
+{
+    Ok(
+        names
+            .iter()
+            .copied()
+            .filter(|name| !ended.contains(name))
+            .collect(alloc)?,
+    )
+}
+
+// Those of the first names that are among the second ones.
+fn names_among(alloc: Global, names: &[Name], others: &[Name]) -> Result<Vec<Name>, NoMemory>
+    ensures { IfOk result (λ left. left.items ≡ filter (has_name others.now) names.now) }
+{
+    Ok(
+        names
+            .iter()
+            .copied()
+            .filter(|name| others.contains(name))
+            .collect(alloc)?,
+    )
+}
+
+// The accepted steps, in their order.
+fn accepted_in(alloc: Global, carried: bool, records: &[Record]) -> Result<Vec<Step>, NoMemory>
+    ensures { IfOk result (λ steps. steps.items ≡ accepted_in carried records.now) }
+{
+    let mut steps = Vec::new(alloc);
+    let pairs = records.len().saturating_sub(1);
+    for at in 0..pairs {
+        let item = &records[at];
+        let next = &records[at + 1];
+        if let Some(step) = accepted_step(carried, item, next) {
+            steps.push(step)?;
+        }
+    }
+    Ok(steps)
+}
+
+// The names that steps have join.
+fn joins_among(alloc: Global, steps: &[Step]) -> Result<Vec<Name>, NoMemory>
+    ensures { IfOk result (λ names. names.items ≡ filter_map join_name steps.now) }
+{
+    let mut names = Vec::new(alloc);
+    for step in steps {
+        if let Some(name) = join_name(step) {
+            names.push(name)?;
+        }
+    }
+    Ok(names)
+}
+
+// The names that steps have depart.
+fn departures_among(alloc: Global, steps: &[Step]) -> Result<Vec<Name>, NoMemory>
+    ensures { IfOk result (λ names. names.items ≡ filter_map depart_name steps.now) }
+{
+    let mut names = Vec::new(alloc);
+    for step in steps {
+        if let Some(name) = depart_name(step) {
+            names.push(name)?;
+        }
+    }
+    Ok(names)
+}
+
+// The last name that the accepted steps have depart.
+pub(crate) fn last_departure(
+    alloc: Global,
+    carried: bool,
+    records: &[Record],
+) -> Result<Option<Name>, NoMemory>
+    ensures { IfOk result (λ name. name ≡ last_or None (filter_map depart_name (accepted_in carried records.now))) }
+{
+    let steps = accepted_in(alloc, carried, records)?;
+    let names = departures_among(alloc, steps.as_slice())?;
+    Ok(names.last().copied())
+}
+
+// The members: those of the beginning.
+#[tactic(auto, unfolding(crate::specs::Kinds::members_in))]
+pub(crate) fn members(records: &[Record]) -> &[Name]
+    ensures { result.now ≡ members_of records.now }
+{
+    match records {
+        [Record::Begin { members, .. }, ..] => members.as_slice(),
+        _ => &[],
+    }
+}
+
+// The names whose join was accepted.
+pub(crate) fn joins(alloc: Global, records: &[Record]) -> Result<Vec<Name>, NoMemory>
+    ensures { IfOk result (λ names. names.items ≡ joins_of records.now) }
+{
+    let steps = accepted_in(alloc, is_carried(records), records)?;
+    joins_among(alloc, steps.as_slice())
+}
+
+// The names whose departure was accepted.
+pub(crate) fn departures(alloc: Global, records: &[Record]) -> Result<Vec<Name>, NoMemory>
+    ensures { IfOk result (λ names. names.items ≡ departures_of records.now) }
+{
+    let steps = accepted_in(alloc, is_carried(records), records)?;
+    departures_among(alloc, steps.as_slice())
+}
+
+// The first names, and then the second ones.
+pub(crate) fn both(alloc: Global, first: &[Name], second: &[Name]) -> Result<Vec<Name>, NoMemory>
+    ensures { IfOk result (λ names. names.items ≡ first.now ++ second.now) }
+{
+    let mut names = Vec::from_slice(alloc, first)?;
+    names.extend_from_slice(second)?;
+    Ok(names)
+}
+
+/// The core nodes at the end of the records: the members and those that became core, less those that are gone. A node
+/// that departs is core until it is gone.
+///
+/// Rule: docs/FORMATS.md, "The printed text".
+pub fn core_at(alloc: Global, records: &[Record]) -> Result<List<Name>, NoMemory>
+    ensures { IfOk result (λ names. names ≡ core_of records.now) }
+{
+    let became = names(alloc, Naming::Core, records)?;
+    let came = both(alloc, members(records), became.as_slice())?;
+    let gone = names(alloc, Naming::Gone, records)?;
+    Ok(List::from_vec(names_less(alloc, came.as_slice(), gone.as_slice())?))
+}
+
+/// The nodes that are there at the end of the records: the members and those whose join was accepted, less those that
+/// are gone.
+///
+/// Rule: docs/FORMATS.md, "The printed text".
+pub fn joined_at(alloc: Global, records: &[Record]) -> Result<List<Name>, NoMemory>
+    ensures { IfOk result (λ names. names ≡ joined_of records.now) }
+{
+    let joins = joins(alloc, records)?;
+    let there = both(alloc, members(records), joins.as_slice())?;
+    let gone = names(alloc, Naming::Gone, records)?;
+    Ok(List::from_vec(names_less(alloc, there.as_slice(), gone.as_slice())?))
+}
+
+/// The nodes that are to give up joining, or have, at the end of the records.
+///
+/// Rule: docs/FORMATS.md, "The printed text".
+pub fn abandoned_at(alloc: Global, records: &[Record]) -> Result<List<Name>, NoMemory>
+    ensures { IfOk result (λ names. names ≡ abandoned_of records.now) }
+{
+    Ok(List::from_vec(names(alloc, Naming::Abandoned, records)?))
+}
+
+/// The nodes that have given up joining: those that were abandoned and are gone.
+///
+/// Rule: docs/FORMATS.md, "The printed text".
+pub fn ceased_at(alloc: Global, records: &[Record]) -> Result<List<Name>, NoMemory>
+    ensures { IfOk result (λ names. names ≡ ceased_of records.now) }
+{
+    let gone = names(alloc, Naming::Gone, records)?;
+    let abandoned = names(alloc, Naming::Abandoned, records)?;
+    Ok(List::from_vec(names_among(alloc, abandoned.as_slice(), gone.as_slice())?))
+}

@@ -1,0 +1,81 @@
+ghost use Rattle.std.specs.Prelude.{◌≡◌, IfOk};
+ghost use Rattle.std.specs.List.{filter_map};
+ghost use Rattle.tap_log.specs.Kinds.{published_pair, withdrawn_pair};
+ghost use Rattle.tap_log.specs.Published.{has_pair, kept_pair, kept_pairs, published_of, same_pair, without_servers};
+
+use crate::kinds::{published_pair, withdrawn_pair};
+use crate::log::NoMemory;
+use crate::nodes::departures;
+use crate::record::{Pair, Record};
+use std::alloc::Global;
+use tap_name::{List, Name};
+
+fn same_pair(a: &Pair, b: &Pair) -> bool
+    ensures { result ≡ same_pair a.now b.now }
+{
+    a.object == b.object && a.server == b.server
+}
+
+// Whether one of the records withdraws the pair.
+fn is_withdrawn(records: &[Record], pair: &Pair) -> bool
+    ensures { result ≡ has_pair (filter_map withdrawn_pair records.now) pair.now }
+{
+    for item in records {
+        if let Some(other) = withdrawn_pair(item) {
+            if same_pair(&other, pair) {
+                return true;
+            }
+        }
+    }
+    false
+}
+
+// The pair that a record publishes, where none of the later ones withdraws it.
+fn kept_pair(item: &Record, later: &[Record]) -> Option<Pair>
+    ensures { result ≡ kept_pair (published_pair item.now) later.now }
+{
+    let pair = published_pair(item)?;
+    if is_withdrawn(later, &pair) {
+        None
+    } else {
+        Some(pair)
+    }
+}
+
+// The pairs that were published and not withdrawn later.
+fn kept_pairs(alloc: Global, records: &[Record]) -> Result<Vec<Pair>, NoMemory>
+    ensures { IfOk result (λ pairs. pairs.items ≡ kept_pairs records.now) }
+{
+    let mut pairs = Vec::new(alloc);
+    for at in 0..records.len() {
+        if let Some(pair) = kept_pair(&records[at], &records[at + 1..]) {
+            pairs.push(pair)?;
+        }
+    }
+    Ok(pairs)
+}
+
+// The pairs without those of these servers.
+fn without_servers(alloc: Global, pairs: &[Pair], servers: &[Name]) -> Result<Vec<Pair>, NoMemory>
+    ensures { IfOk result (λ left. left.items ≡ without_servers servers.now pairs.now) }
+{
+    Ok(
+        pairs
+            .iter()
+            .copied()
+            .filter(|pair| !servers.contains(&pair.server))
+            .collect(alloc)?,
+    )
+}
+
+/// The pairs that are published at the end of the records: those that were published, less those that were withdrawn
+/// later, less those of a server from its accepted departure on.
+///
+/// Rule: docs/FORMATS.md, "The printed text".
+pub fn published_at(alloc: Global, records: &[Record]) -> Result<List<Pair>, NoMemory>
+    ensures { IfOk result (λ pairs. pairs ≡ published_of records.now) }
+{
+    let pairs = kept_pairs(alloc, records)?;
+    let departed = departures(alloc, records)?;
+    Ok(List::from_vec(without_servers(alloc, pairs.as_slice(), departed.as_slice())?))
+}
