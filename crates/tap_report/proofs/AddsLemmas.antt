@@ -6,7 +6,7 @@ use Rattle.std.specs.List.{flat_map}
 use Rattle.std.proofs.KnownBytes.{Appends-nil, Appends-trans}
 use Rattle.std.specs.Io.KnownBytes.{Appends}
 use Rattle.tap_report.specs.Written.{FirstFails, WritesText, WritesTextAs}
-use Rattle.tap_report.specs.Text.{node_at}
+use Rattle.tap_report.specs.Lookups.{node_at}
 use Rattle.tap_report.specs.Outgoing.{Waiting, AddsText, AddsTextAs}
 use Rattle.tap_report.specs.declared.written.Written.{Written}
 use Rattle.tap_report.specs.declared.written.Written.TheVariants.{All, Failed}
@@ -85,6 +85,16 @@ AddsText-passed old new before now was written p = record {
   later = p.later;
   answer = rw (append-nil was.bytes) (passed_as old new before now was.bytes was.so_far written p.answer);
 }
+
+-- a text is written behind those that waited, which were written before it
+pub AddsText-written : {old mid new : Option (List ℕ)} {before between now : ℕ} {was waiting is : Waiting} {text : List ℕ}
+    (so_far written : Written) → AddsText old mid before between was waiting [] → waiting ≡ record { bytes = []; so_far = so_far }
+    → WritesText mid new between now text so_far written → is ≡ record { bytes = []; so_far = written }
+    → AddsText old new before now was is text
+AddsText-written {mid = mid} {new = new} {between = between} {now = now} {waiting = waiting} {is = is} {text = text} so_far written passes none writes after =
+    let written_now : AddsText mid new between now (record { bytes = []; so_far = so_far }) (record { bytes = []; so_far = written }) text =
+    record { later = writes.later; answer = passed_as mid new between now text so_far written writes.answer } in
+    AddsText-then passes (rw (none, after) written_now)
 
 whole_as : (old new : Option (List ℕ)) (before now : ℕ) (text : List ℕ) (first second : Written) → AddsTextAs old new before now text [] first second
     → WritesTextAs old new before now text first second

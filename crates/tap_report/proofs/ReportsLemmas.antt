@@ -2,49 +2,51 @@
 use Rattle.std.proofs.Common.{◌≡◌, ◌<◌, ℕ, zero, suc, ◌+◌, List, [], ◌∷◌, ◌++◌, length, take, get_or, true, Option, None, Some, IsNone, refl, sym, ap, ◌∙◌, subst, arith, append_assoc, append-nil, length-append}
 use Rattle.std.specs.Prelude.{◌↔◌, fold, is_some, IsSome}
 use Rattle.std.proofs.lemmas.List.{take_more}
-use Rattle.std.proofs.lemmas.List.Concat.{flat_map-append}
 use Rattle.std.proofs.lemmas.List.Elements.{All-get_or, All-push}
-use Rattle.std.proofs.lemmas.List.Sums.{fold-append}
 use Rattle.tap_name.specs.Settings.{Parameters}
 use Rattle.tap_log.specs.declared.record.Record.{Record}
-use Rattle.tap_log.specs.declared.record.Record.TheVariants.{Begin, Step, Walked, RootOf, Refused, Finished}
-use Rattle.tap_report.specs.Text.{IsBegin, IsPrintable, IsPrintableLog, BeginsOnce, text_of_record, text_of_log}
+use Rattle.tap_log.specs.declared.record.Record.TheVariants.{Begin}
+use Rattle.tap_report.specs.Summary.{ending, tally_after}
+use Rattle.tap_report.specs.Text.{IsBegin, IsPrintable, IsPrintableLog, BeginsOnce, text_of_record, text_of_log, settings_after, settings_of}
 use Rattle.tap_report.specs.Written.{WritesText}
-use Rattle.tap_report.specs.Reporter.{Kept, Puts, Finishes, PutsEach, PutsWriteTheText, Reports, kept_at_first, settings_after}
+use Rattle.tap_report.specs.Reporter.{Kept, Puts, Finishes, PutsEach, PutsWriteTheText, Reports, kept_at_first}
 use Rattle.tap_report.specs.declared.mode.Mode.{Mode}
 use Rattle.tap_report.specs.declared.written.Written.{Written}
 use Rattle.tap_report.specs.declared.written.Written.TheVariants.{All as AllWritten}
+use Rattle.tap_report.proofs.TextLemmas.{texts_after-push, settings_of-push, ArePrintable-push}
+use Rattle.tap_report.proofs.TallyLemmas.{tally_of-push}
 use Rattle.tap_report.proofs.WritesLemmas.{WritesText-then, WritesText-none}
 
 -- before the first put
 pub Reports-new : (mode : Mode) (held : Option (List ℕ)) (faults : ℕ) → Reports mode [] held held faults faults (kept_at_first mode)
-Reports-new mode held faults = record { same_mode = refl; settings = refl; count = refl; text = WritesText-none held faults AllWritten }
-
--- the text of a log with one record more
-pub text_of_log-push : (mode : Mode) (records : List Record) (item : Record)
-    → text_of_log mode (records ++ item ∷ []) ≡ text_of_log mode records ++ text_of_record mode item
-text_of_log-push mode records item =
-    flat_map-append (text_of_record mode) records (item ∷ []) ∙ ap (λ l. text_of_log mode records ++ l) (append-nil (text_of_record mode item))
+Reports-new mode held faults = record { same_mode = refl; settings = refl; count = refl; tally = refl; text = WritesText-none held faults AllWritten }
 
 -- one put more
 pub Reports-put : {mode : Mode} {records : List Record} {old mid new : Option (List ℕ)} {before between now : ℕ} {kept then_kept : Kept}
     {item : Record} {written : Written} → Reports mode records old mid before between kept → Puts kept then_kept item mid new between now written
     → Reports mode (records ++ item ∷ []) old new before now then_kept
 Reports-put {mode = mode} {records = records} {mid = mid} {new = new} {between = between} {now = now} {kept = kept} {item = item} {written = written} r p =
-    let text = subst (λ m. WritesText mid new between now (text_of_record m item) kept.so_far written) r.same_mode p.text in
+    let text =
+    subst (λ s. WritesText mid new between now (text_of_record mode s item) kept.so_far written) r.settings
+    (subst (λ m. WritesText mid new between now (text_of_record m kept.settings item) kept.so_far written) r.same_mode p.text) in
     rw p.keeps (record {
       same_mode = r.same_mode;
-      settings = ap (λ s. settings_after s item) r.settings ∙ sym (fold-append settings_after None records (item ∷ []));
+      settings = ap (λ s. settings_after s item) r.settings ∙ sym (settings_of-push records item);
       count = ap (λ n. n + 1) r.count ∙ sym (length-append records (item ∷ []));
-      text = rw (text_of_log-push mode records item) (WritesText-then r.text text);
+      tally = ap (λ t. tally_after t item) r.tally ∙ sym (tally_of-push records item);
+      text = rw (texts_after-push mode None records item) (WritesText-then r.text text);
     })
 
 -- a finish
 pub Reports-finish : {mode : Mode} {records : List Record} {old mid new : Option (List ℕ)} {before between now : ℕ} {kept then_kept : Kept}
     {written : Written} → Reports mode records old mid before between kept → Finishes kept then_kept mid new between now written
     → WritesText old new before now (text_of_log mode records) AllWritten written
-Reports-finish {mode = mode} {records = records} {old = old} {new = new} {before = before} {now = now} {written = written} r f =
-    subst (λ l. WritesText old new before now l AllWritten written) (append-nil (text_of_log mode records)) (WritesText-then r.text f.text)
+Reports-finish {mode = mode} {records = records} {mid = mid} {new = new} {between = between} {now = now} {kept = kept} {written = written} r f =
+    let last =
+    subst (λ t. WritesText mid new between now (ending mode (settings_of records) t) kept.so_far written) r.tally
+    (subst (λ s. WritesText mid new between now (ending mode s kept.tally) kept.so_far written) r.settings
+    (subst (λ m. WritesText mid new between now (ending m kept.settings kept.tally) kept.so_far written) r.same_mode f.text)) in
+    WritesText-then r.text last
 
 -- the put of the next record of a log
 pub Reports-next : {mode : Mode} {old mid new : Option (List ℕ)} {before between now : ℕ} {kept then_kept : Kept}
@@ -58,11 +60,7 @@ Reports-next {mode = mode} {old = old} {new = new} {before = before} {now = now}
 -- the settings of a `Begin` are kept
 begun : (first : Record) → IsBegin first → (s : Parameters) × (settings_after None first ≡ Some s)
 begun (Begin settings frames members) h = (settings, refl)
-begun (Step index step) h = cc
-begun (Walked object path) h = cc
-begun (RootOf object root) h = cc
-begun (Refused index refusal) h = cc
-begun (Finished steps) h = cc
+begun item h = cc
 
 still_begun : (settings : Parameters) (item : Record) → (s : Parameters) × (settings_after (Some settings) item ≡ Some s)
 still_begun settings (Begin begun frames members) = (begun, refl)
@@ -89,10 +87,10 @@ begins_next (first ∷ rest) (suc i) item settings begins inside is kept =
 -- ---- the log that grows while it is printed
 
 -- a log with a beginning alone
-pub IsPrintableLog-first : (first : Record) → IsBegin first → IsPrintable first → IsPrintableLog (first ∷ [])
+pub IsPrintableLog-first : (first : Record) → IsBegin first → IsPrintable None first → IsPrintableLog (first ∷ [])
 IsPrintableLog-first first begins printable = record {
   begins = (begins, λ k d inside. absurd (omega arith));
-  each = All-push IsPrintable [] first (λ k d inside. absurd (omega arith)) printable;
+  each = (printable, tt);
 }
 
 BeginsOnce-push : (records : List Record) (item : Record) → 0 < length records → ¬ IsBegin item → BeginsOnce records
@@ -101,11 +99,11 @@ BeginsOnce-push [] item some other begins = absurd (omega arith)
 BeginsOnce-push (first ∷ rest) item some other begins = (begins.0, All-push (λ x. ¬ IsBegin x) rest item begins.1 other)
 
 -- a log with one record more
-pub IsPrintableLog-push : (records : List Record) (item : Record) → 0 < length records → ¬ IsBegin item → IsPrintable item
+pub IsPrintableLog-push : (records : List Record) (item : Record) → 0 < length records → ¬ IsBegin item → IsPrintable (settings_of records) item
     → IsPrintableLog records → IsPrintableLog (records ++ item ∷ [])
 IsPrintableLog-push records item some other printable log = record {
   begins = BeginsOnce-push records item some other log.begins;
-  each = All-push IsPrintable records item log.each printable;
+  each = ArePrintable-push None records item log.each printable;
 }
 
 -- ---- the law

@@ -1,5 +1,12 @@
 pub mod Written
 pub mod Outgoing
+pub mod Shapes
 pub mod Refusal
+pub mod Starts
+pub mod Lookups
+pub mod Tables
+pub mod Frames
+pub mod Casts
+pub mod Summary
 pub mod Text
 pub mod Reporter

@@ -1,44 +1,48 @@
 -- What a reporter keeps, and what its calls do to it and to a sink. The bytes that the sink held and holds are `old` and
 -- `new`, and its count of faults was `before` and is `now`.
-use Rattle.std.specs.Prelude.{◌≡◌, ℕ, ◌+◌, List, [], ◌∷◌, length, fold, Option, None, Some}
+use Rattle.std.specs.Prelude.{◌≡◌, ℕ, ◌+◌, List, [], ◌∷◌, length, Option, None}
 use Rattle.tap_name.specs.Settings.{Parameters}
 use Rattle.tap_log.specs.declared.record.Record.{Record}
-use Rattle.tap_log.specs.declared.record.Record.TheVariants.{Begin}
-use Rattle.tap_report.specs.Text.{text_of_record, text_of_log}
+use Rattle.tap_report.specs.Summary.{ending, tally_of, tally_after}
+use Rattle.tap_report.specs.Text.{text_of_record, texts_after, text_of_log, settings_of}
+pub use Rattle.tap_report.specs.Text.{settings_after}
 use Rattle.tap_report.specs.Written.{WritesText}
 use Rattle.tap_report.specs.declared.mode.Mode.{Mode}
+use Rattle.tap_report.specs.declared.tally.Tally.{Tally}
 use Rattle.tap_report.specs.declared.written.Written.{Written}
 use Rattle.tap_report.specs.declared.written.Written.TheVariants.{All}
 
--- the mode, the settings of the `Begin` that was put, how many records were put, and whether all was written
+-- The mode, the settings of the `Begin` that was put, how many records were put, what the summary is made from, and
+-- whether all was written.
 pub record Kept : Type 0 where
   pub mode : Mode
   pub settings : Option Parameters
   pub records : ℕ
+  pub tally : Tally
   pub so_far : Written
 
 -- before the first put
 abbrev pub kept_at_first : Mode → Kept
-kept_at_first mode = record { mode = mode; settings = None; records = 0; so_far = All }
-
--- the settings of the `Begin` that was put, with one record more
-abbrev pub settings_after : Option Parameters → Record → Option Parameters
-settings_after settings (Begin begun frames members) = Some begun
-settings_after settings item = settings
+kept_at_first mode = record { mode = mode; settings = None; records = 0; tally = tally_of []; so_far = All }
 
 -- after the put of a record, whether it was written or not
 abbrev pub kept_after : Kept → Record → Written → Kept
 kept_after kept item written =
-    record kept { settings = settings_after kept.settings item; records = kept.records + 1; so_far = written }
+    record kept {
+      settings = settings_after kept.settings item;
+      records = kept.records + 1;
+      tally = tally_after kept.tally item;
+      so_far = written;
+    }
 
 -- the put of a record
 pub record Puts (kept then_kept : Kept) (item : Record) (old new : Option (List ℕ)) (before now : ℕ) (written : Written) : Type 0 where
-  pub text : WritesText old new before now (text_of_record kept.mode item) kept.so_far written
+  pub text : WritesText old new before now (text_of_record kept.mode kept.settings item) kept.so_far written
   pub keeps : then_kept ≡ kept_after kept item written
 
--- The finish, which writes what follows the last record: nothing, in these modes.
+-- The finish, which writes what follows the last record: the summary, in the mode Summary.
 pub record Finishes (kept then_kept : Kept) (old new : Option (List ℕ)) (before now : ℕ) (written : Written) : Type 0 where
-  pub text : WritesText old new before now [] kept.so_far written
+  pub text : WritesText old new before now (ending kept.mode kept.settings kept.tally) kept.so_far written
   pub keeps : then_kept ≡ record kept { so_far = written }
 
 -- the puts of records, one after another
@@ -58,6 +62,7 @@ PutsWriteTheText =
 -- Where a reporter and a sink stand after the puts of some records, from a new reporter on. A loop over records keeps this.
 pub record Reports (mode : Mode) (records : List Record) (old new : Option (List ℕ)) (before now : ℕ) (kept : Kept) : Type 0 where
   pub same_mode : kept.mode ≡ mode
-  pub settings : kept.settings ≡ fold settings_after None records
+  pub settings : kept.settings ≡ settings_of records
   pub count : kept.records ≡ length records
-  pub text : WritesText old new before now (text_of_log mode records) All kept.so_far
+  pub tally : kept.tally ≡ tally_of records
+  pub text : WritesText old new before now (texts_after mode None records) All kept.so_far

@@ -1,87 +1,117 @@
--- The text of a log: a line for each record, and one for each member behind the beginning.
-use Rattle.std.specs.Prelude.{ℕ, ◌-◌, ◌<◌, List, [], ◌∷◌, ◌++◌, length, slice_index_or, codes, decimal, All, Bool, true, false, IsTrue}
-use Rattle.std.specs.List.{flat_map}
+-- The text of a log: a line for each record, further lines behind a beginning, a table and pointers, and the summary.
+use Rattle.std.specs.Prelude.{◌≢◌, ℕ, ◌<◌, List, [], ◌∷◌, ◌++◌, length, codes, All, Bool, true, false, IsTrue, Option, None, Some, IsSomeAnd, IsOk, if◌then◌else◌, fold}
 use Rattle.tap_name.specs.Settings.{Parameters}
-use Rattle.tap_name.specs.Name.{text_of_name}
-use Rattle.tap_scenario.specs.Step.{text_of_step}
-use Rattle.tap_scenario.specs.declared.step.Step.{Step}
-use Rattle.tap_log.specs.declared.record.Refusal.{Refusal}
+use Rattle.tap_wire.specs.Reading.{head_of}
+use Rattle.tap_wire.specs.declared.fault.WireFault.TheVariants.{NoMemory}
 use Rattle.tap_log.specs.declared.record.Record.{Record}
-use Rattle.tap_log.specs.declared.record.Record.TheVariants.{Begin, Step as StepRecord, Walked, RootOf, Refused, Finished}
-use Rattle.tap_report.specs.Refusal.{code_of_refusal, words_of_refusal}
+use Rattle.tap_log.specs.declared.record.Record.TheVariants.{Begin, Step, Sent, Taken, Core, Gone, Walked, RootOf, Asked, Answered, Published, Withdrawn, TableOf, PointersOf, Refused, Spent, Finished, Garbled, Abandoned, Carrier, Packet, Arrived, Ticked, Lost, RootsOf, CastFrom, Reached, Closed}
+use Rattle.tap_report.specs.Shapes.{named, named_at, numbered, line}
+use Rattle.tap_report.specs.Starts.{begin_line, member_lines, step_line}
+use Rattle.tap_report.specs.Lookups.{walked_line, asked_line, answered_line, roots_line}
+use Rattle.tap_report.specs.Tables.{table_line, link_lines, pointers_line, pointer_lines}
+use Rattle.tap_report.specs.Frames.{sent_line, garbled_line, packet_line}
+use Rattle.tap_report.specs.Casts.{cast_line, reached_line}
+use Rattle.tap_report.specs.Refusal.{refused_line}
+use Rattle.tap_report.specs.Summary.{ending, tally_of}
 use Rattle.tap_report.specs.declared.mode.Mode.{Mode}
-use Rattle.tap_report.specs.declared.mode.Mode.TheVariants.{Long, Brief}
+use Rattle.tap_report.specs.declared.mode.Mode.TheVariants.{Long, Brief, Summary}
 
--- the line of a beginning
-abbrev pub begin_line : Parameters → ℕ → List ℕ
-begin_line settings frames =
-    codes "begin base " ++ decimal settings.base ++ codes " digits " ++ decimal settings.digits
-    ++ codes " width " ++ decimal settings.width ++ codes " frames " ++ decimal frames ++ codes "\n"
+-- The line of a record, or its first one. The settings are those of the `Begin` before it.
+abbrev pub line_of : Option Parameters → Record → List ℕ
+line_of settings (Begin begun frames members) = begin_line begun frames
+line_of settings (Step index step) = step_line index step
+line_of settings (Sent number bytes) = sent_line settings number bytes
+line_of settings (Taken number) = numbered (codes "taken ") number
+line_of settings (Core name) = named (codes "core ") name
+line_of settings (Gone name) = named (codes "gone ") name
+line_of settings (Walked object path) = walked_line object path
+line_of settings (RootOf object root) = named_at (codes "rooted ") object root
+line_of settings (Asked ticket object asker) = asked_line ticket object asker
+line_of settings (Answered ticket server) = answered_line ticket server
+line_of settings (Published object server) = named_at (codes "published ") object server
+line_of settings (Withdrawn object server) = named_at (codes "withdrawn ") object server
+line_of settings (TableOf name status links) = table_line name status (length links)
+line_of settings (PointersOf name pairs) = pointers_line name (length pairs)
+line_of settings (Refused index refusal) = refused_line index refusal
+line_of settings (Spent limit) = numbered (codes "spent ") limit
+line_of settings (Finished steps) = numbered (codes "done ") steps
+line_of settings (Garbled number fault) = garbled_line number fault
+line_of settings (Abandoned name) = named (codes "abandoned ") name
+line_of settings Carrier = codes "carrier"
+line_of settings (Packet number frame ack) = packet_line number frame ack
+line_of settings (Arrived packet) = numbered (codes "arrived ") packet
+line_of settings Ticked = codes "ticked"
+line_of settings (Lost packet) = numbered (codes "lost ") packet
+line_of settings (RootsOf object asker roots) = roots_line object asker roots
+line_of settings (CastFrom cast word level name) = cast_line cast word level name
+line_of settings (Reached cast name) = reached_line cast name
+line_of settings (Closed cast) = numbered (codes "closed ") cast
 
--- the line of a member, behind that of the beginning
-abbrev pub member_line : List ℕ → List ℕ
-member_line name = codes "member " ++ text_of_name name ++ codes "\n"
+-- whether the lines of members are printed
+abbrev pub members_in : Mode → List (List ℕ) → List ℕ
+members_in Long members = member_lines members
+members_in mode members = []
 
--- the line of a step that begins
-abbrev pub step_line : ℕ → Step → List ℕ
-step_line index step = codes "step " ++ decimal index ++ codes " " ++ text_of_step step ++ codes "\n"
+-- the further lines of a beginning, a table and pointers
+abbrev pub further_lines : Mode → Record → List ℕ
+further_lines mode (Begin begun frames members) = members_in mode members
+further_lines mode (TableOf name status links) = link_lines links
+further_lines mode (PointersOf name pairs) = pointer_lines pairs
+further_lines mode item = []
 
--- a name with a space before it
-abbrev pub spaced_name : List ℕ → List ℕ
-spaced_name name = codes " " ++ text_of_name name
+-- the brief text leaves out these records
+abbrev pub is_in_brief : Record → Bool
+is_in_brief (Step index step) = false
+is_in_brief (Sent number bytes) = false
+is_in_brief (Taken number) = false
+is_in_brief (Packet number frame ack) = false
+is_in_brief (Arrived packet) = false
+is_in_brief Ticked = false
+is_in_brief (Lost packet) = false
+is_in_brief item = true
 
--- the node at a place of a path
-abbrev pub node_at : List (List ℕ) → ℕ → List ℕ
-node_at path place = slice_index_or path place []
-
--- The line of a walk. The first node of the path is the asker, and the last one is the object's root.
-abbrev pub walked_line : List ℕ → List (List ℕ) → List ℕ
-walked_line object path =
-    codes "walked " ++ text_of_name object ++ codes " from " ++ text_of_name (node_at path 0)
-    ++ codes " path" ++ flat_map spaced_name path ++ codes " root " ++ text_of_name (node_at path (length path - 1))
-    ++ codes " hops " ++ decimal (length path - 1) ++ codes "\n"
-
--- the line of the root of an object
-abbrev pub rooted_line : List ℕ → List ℕ → List ℕ
-rooted_line object root = codes "rooted " ++ text_of_name object ++ codes " at " ++ text_of_name root ++ codes "\n"
-
--- the line of a refused step, with the refusal's code and words
-abbrev pub refused_line : ℕ → Refusal → List ℕ
-refused_line index refusal =
-    codes "refused " ++ decimal index ++ codes " " ++ decimal (code_of_refusal refusal) ++ codes " " ++ words_of_refusal refusal ++ codes "\n"
-
--- the line of the end of a run
-abbrev pub done_line : ℕ → List ℕ
-done_line steps = codes "done " ++ decimal steps ++ codes "\n"
-
--- the lines of a record in the long text
-abbrev pub long_text : Record → List ℕ
-long_text (Begin settings frames members) = begin_line settings frames ++ flat_map member_line members
-long_text (StepRecord index step) = step_line index step
-long_text (Walked object path) = walked_line object path
-long_text (RootOf object root) = rooted_line object root
-long_text (Refused index refusal) = refused_line index refusal
-long_text (Finished steps) = done_line steps
-
--- the lines of a record in the brief text, which leaves out members and steps
-abbrev pub brief_text : Record → List ℕ
-brief_text (Begin settings frames members) = begin_line settings frames
-brief_text (StepRecord index step) = []
-brief_text item = long_text item
+-- whether a record has lines in the text
+abbrev pub is_printed : Mode → Record → Bool
+is_printed Long item = true
+is_printed Brief item = is_in_brief item
+is_printed Summary item = false
 
 -- the text of a record
-abbrev pub text_of_record : Mode → Record → List ℕ
-text_of_record Long item = long_text item
-text_of_record Brief item = brief_text item
+abbrev pub text_of_record : Mode → Option Parameters → Record → List ℕ
+text_of_record mode settings item =
+    if is_printed mode item then line (line_of settings item) ++ further_lines mode item else []
 
--- the text of a log: those of its records, one after another
+-- the settings of the `Begin` that was put, with one record more
+abbrev pub settings_after : Option Parameters → Record → Option Parameters
+settings_after settings (Begin begun frames members) = Some begun
+settings_after settings item = settings
+
+-- the settings of the `Begin` of a log
+abbrev pub settings_of : List Record → Option Parameters
+settings_of records = fold settings_after None records
+
+-- the texts of records one after another, behind a `Begin` with these settings
+abbrev pub texts_after : Mode → Option Parameters → List Record → List ℕ
+texts_after mode settings [] = []
+texts_after mode settings (item ∷ items) = text_of_record mode settings item ++ texts_after mode (settings_after settings item) items
+
+-- the text of a log: those of its records, and in the mode Summary its summary
 abbrev pub text_of_log : Mode → List Record → List ℕ
-text_of_log mode records = flat_map (text_of_record mode) records
+text_of_log mode records = texts_after mode None records ++ ending mode (settings_of records) (tally_of records)
 
--- what a record must meet to be printed: a walk went through some node
-abbrev pub IsPrintable : Record → Type 0
-IsPrintable (Walked object path) = 0 < length path
-IsPrintable item = Unit {0}
+-- What a record must meet to be printed, behind a `Begin` with these settings: the head of a frame is read, a walk went
+-- through some node, the digits of slots are below the base, and want of memory isn't a fault.
+abbrev pub IsPrintable : Option Parameters → Record → Type 0
+IsPrintable settings (Sent number bytes) = IsSomeAnd settings (λ p. IsOk (head_of p bytes))
+IsPrintable settings (Walked object path) = 0 < length path
+IsPrintable settings (TableOf name status links) = IsSomeAnd settings (λ p. All (λ link. link.slot.digit < p.base) links)
+IsPrintable settings (Garbled number fault) = fault ≢ NoMemory
+IsPrintable settings item = Unit {0}
+
+-- each record is printable behind those before it
+abbrev pub ArePrintable : Option Parameters → List Record → Type 0
+ArePrintable settings [] = Unit {0}
+ArePrintable settings (item ∷ items) = IsPrintable settings item × ArePrintable (settings_after settings item) items
 
 -- whether a record is a beginning
 abbrev pub is_begin : Record → Bool
@@ -99,4 +129,4 @@ BeginsOnce (first ∷ rest) = IsBegin first × All (λ item. ¬ IsBegin item) re
 -- what a log must meet to be printed
 pub record IsPrintableLog (records : List Record) : Type 0 where
   pub begins : BeginsOnce records
-  pub each : All IsPrintable records
+  pub each : ArePrintable None records

@@ -1,13 +1,23 @@
-//! The text of a log, written to a sink: a line for each record, whole or in brief.
+//! The text of a log, written to a sink: a line for each record, whole or in brief, or a summary alone.
 //!
 //! A [`Reporter`] writes record by record while a run goes on, and [`write_log`] a whole log at once. Neither takes
 //! memory. After a failed write nothing more is written.
 #![tactic(auto)]
 
+mod casts;
+mod departures;
+mod frames;
 mod lines;
+mod lookups;
 mod mode;
 mod outgoing;
+mod refusals;
 mod reporter;
+mod shapes;
+mod starts;
+mod steps;
+mod tables;
+mod tally;
 mod written;
 
 pub use mode::Mode;

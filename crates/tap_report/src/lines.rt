@@ -1,56 +1,75 @@
-ghost use Rattle.std.specs.Prelude.{◌≡◌, ◌<◌, codes, length};
-ghost use Rattle.std.specs.List.{flat_map};
-ghost use Rattle.tap_scenario.specs.Step.{text_of_step};
+ghost use Rattle.std.specs.Prelude.{◌≡◌, ◌++◌, true, false};
+ghost use Rattle.tap_report.specs.Lookups.{is_lookup};
 ghost use Rattle.tap_report.specs.Outgoing.{AddsText};
-ghost use Rattle.tap_report.specs.Refusal.{code_of_refusal, words_of_refusal};
-ghost use Rattle.tap_report.specs.Text.{IsPrintable, begin_line, brief_text, done_line, long_text, member_line, refused_line, rooted_line, spaced_name, step_line, text_of_record, walked_line};
+ghost use Rattle.tap_report.specs.declared.mode.Mode.TheVariants.{Summary};
+ghost use Rattle.tap_report.specs.Shapes.{line};
+ghost use Rattle.tap_report.specs.Summary.{ending, summary_text};
+ghost use Rattle.tap_report.specs.Text.{IsPrintable, further_lines, is_in_brief, is_printed, line_of, text_of_record};
 
+use crate::lookups::is_lookup;
 use crate::mode::Mode;
 use crate::outgoing::Outgoing;
+use crate::tally::Tally;
+use itoa::Integer;
 use tap_io::Sink;
-use tap_log::{Record, Refusal};
-use tap_name::{Name, Settings};
-use tap_scenario::Step;
+use tap_log::Record;
+use tap_name::Settings;
 
-// The lines of the records.
+// The lines of records, and the summary.
 impl Outgoing {
-    pub(crate) fn add_record<K: Sink>(&mut self, sink: &mut K, mode: Mode, item: &Record)
-        requires { IsPrintable item.now }
+    // Adds the text of a record, behind a `Begin` with these settings.
+    pub(crate) fn add_record<K: Sink>(
+        &mut self,
+        sink: &mut K,
+        mode: Mode,
+        settings: &Option<Settings>,
+        item: &Record,
+    )
+        requires { IsPrintable settings.now item.now }
         ensures { AddsText (K.held sink.old) (K.held sink.new)
-            (K.faults sink.old) (K.faults sink.new) self.old self.new (text_of_record mode item.now) }
+            (K.faults sink.old) (K.faults sink.new) self.old self.new (text_of_record mode settings.now item.now) }
     {
-        match mode {
-            Mode::Long => self.add_long(sink, item),
-            Mode::Brief => self.add_brief(sink, item),
+        if is_printed(mode, item) {
+            self.add_line(sink, settings, item);
+            self.end_line(sink);
+            self.add_further_lines(sink, mode, settings, item);
         }
     }
 
-    fn add_long<K: Sink>(&mut self, sink: &mut K, item: &Record)
-        requires { IsPrintable item.now }
+    // Adds the first line of a record.
+    fn add_line<K: Sink>(&mut self, sink: &mut K, settings: &Option<Settings>, item: &Record)
+        requires { IsPrintable settings.now item.now }
         ensures { AddsText (K.held sink.old) (K.held sink.new)
-            (K.faults sink.old) (K.faults sink.new) self.old self.new (long_text item.now) }
+            (K.faults sink.old) (K.faults sink.new) self.old self.new (line_of settings.now item.now) }
     {
-        match item {
-            Record::Begin {
-                settings,
-                frames,
-                members,
-            } => {
-                self.add_begin(sink, settings, *frames);
-                self.add_members(sink, members.as_slice());
-            }
-            Record::Step { index, step } => self.add_step(sink, *index, step),
-            Record::Walked { object, path } => self.add_walked(sink, object, path.as_slice()),
-            Record::RootOf { object, root } => self.add_rooted(sink, object, root),
-            Record::Refused { index, refusal } => self.add_refused(sink, *index, *refusal),
-            Record::Finished { steps } => self.add_done(sink, *steps),
+        if is_in_brief(item) {
+            self.add_brief_line(sink, settings, item);
+        } else {
+            self.add_detail(sink, settings, item);
         }
     }
 
-    fn add_brief<K: Sink>(&mut self, sink: &mut K, item: &Record)
-        requires { IsPrintable item.now }
+    // Adds the first line of a record that the brief text has too.
+    fn add_brief_line<K: Sink>(&mut self, sink: &mut K, settings: &Option<Settings>, item: &Record)
+        requires printable { IsPrintable settings.now item.now }
+        requires brief { is_in_brief item.now ≡ true }
         ensures { AddsText (K.held sink.old) (K.held sink.new)
-            (K.faults sink.old) (K.faults sink.new) self.old self.new (brief_text item.now) }
+            (K.faults sink.old) (K.faults sink.new) self.old self.new (line_of settings.now item.now) }
+    {
+        if is_lookup(item) {
+            self.add_lookup(sink, settings, item);
+        } else {
+            self.add_event(sink, settings, item);
+        }
+    }
+
+    // Adds the first line of another record that the brief text has.
+    fn add_event<K: Sink>(&mut self, sink: &mut K, settings: &Option<Settings>, item: &Record)
+        requires printable { IsPrintable settings.now item.now }
+        requires brief { is_in_brief item.now ≡ true }
+        requires event { is_lookup item.now ≡ false }
+        ensures { AddsText (K.held sink.old) (K.held sink.new)
+            (K.faults sink.old) (K.faults sink.new) self.old self.new (line_of settings.now item.now) }
     {
         match item {
             Record::Begin {
@@ -58,167 +77,145 @@ impl Outgoing {
                 frames,
                 ..
             } => self.add_begin(sink, settings, *frames),
-            Record::Step { .. } => {}
-            _ => self.add_long(sink, item),
+            Record::Core { name } => self.add_named(sink, b"core ", name),
+            Record::Gone { name } => self.add_named(sink, b"gone ", name),
+            Record::TableOf {
+                name,
+                status,
+                links,
+            } => self.add_table(sink, name, *status, links.len()),
+            Record::PointersOf { name, pairs } => self.add_pointers(sink, name, pairs.len()),
+            Record::Refused { index, refusal } => self.add_refused(sink, *index, refusal),
+            Record::Spent { limit } => self.add_numbered(sink, b"spent ", *limit),
+            Record::Finished { steps } => self.add_numbered(sink, b"done ", *steps),
+            Record::Garbled { number, fault } => self.add_garbled(sink, *number, *fault),
+            Record::Abandoned { name } => self.add_named(sink, b"abandoned ", name),
+            Record::Carrier => self.add(sink, b"carrier"),
+            Record::CastFrom {
+                cast,
+                word,
+                level,
+                name,
+            } => self.add_cast(sink, *cast, word.as_slice(), *level, name),
+            Record::Reached { cast, name } => self.add_reached(sink, *cast, name),
+            Record::Closed { cast } => self.add_numbered(sink, b"closed ", *cast),
+            _ => unreachable!(),
         }
     }
 
-    fn end_line<K: Sink>(&mut self, sink: &mut K)
+    // Adds the line of a record that the brief text leaves out.
+    fn add_detail<K: Sink>(&mut self, sink: &mut K, settings: &Option<Settings>, item: &Record)
+        requires printable { IsPrintable settings.now item.now }
+        requires detail { is_in_brief item.now ≡ false }
         ensures { AddsText (K.held sink.old) (K.held sink.new)
-            (K.faults sink.old) (K.faults sink.new) self.old self.new (codes "\n") }
+            (K.faults sink.old) (K.faults sink.new) self.old self.new (line_of settings.now item.now) }
     {
-        self.add(sink, b"\n");
-    }
-
-    fn add_begin<K: Sink>(&mut self, sink: &mut K, settings: &Settings, frames: u32)
-        ensures { AddsText (K.held sink.old) (K.held sink.new)
-            (K.faults sink.old) (K.faults sink.new) self.old self.new (begin_line settings.now frames) }
-    {
-        self.add(sink, b"begin base ");
-        self.add_number(sink, settings.base());
-        self.add(sink, b" digits ");
-        self.add_number(sink, settings.digits());
-        self.add(sink, b" width ");
-        self.add_number(sink, settings.width());
-        self.add(sink, b" frames ");
-        self.add_number(sink, frames);
-        self.end_line(sink);
-    }
-
-    fn add_member<K: Sink>(&mut self, sink: &mut K, name: &Name)
-        ensures { AddsText (K.held sink.old) (K.held sink.new)
-            (K.faults sink.old) (K.faults sink.new) self.old self.new (member_line name.now) }
-    {
-        self.add(sink, b"member ");
-        self.add_name(sink, name);
-        self.end_line(sink);
-    }
-
-    fn add_members<K: Sink>(&mut self, sink: &mut K, members: &[Name])
-        ensures { AddsText (K.held sink.old) (K.held sink.new)
-            (K.faults sink.old) (K.faults sink.new) self.old self.new (flat_map member_line members.now) }
-    {
-        for name in members {
-            self.add_member(sink, name);
+        match item {
+            Record::Step { index, step } => self.add_step(sink, *index, step),
+            Record::Sent { number, bytes } => self.add_sent(
+                sink,
+                settings,
+                *number,
+                bytes.as_slice(),
+            ),
+            Record::Taken { number } => self.add_numbered(sink, b"taken ", *number),
+            Record::Packet { number, frame, ack } => self.add_packet(sink, *number, *frame, *ack),
+            Record::Arrived { packet } => self.add_numbered(sink, b"arrived ", *packet),
+            Record::Ticked => self.add(sink, b"ticked"),
+            Record::Lost { packet } => self.add_numbered(sink, b"lost ", *packet),
+            _ => unreachable!(),
         }
     }
 
-    fn add_step<K: Sink>(&mut self, sink: &mut K, index: u32, step: &Step)
+    // Adds the further lines of a beginning, a table and pointers.
+    fn add_further_lines<K: Sink>(
+        &mut self,
+        sink: &mut K,
+        mode: Mode,
+        settings: &Option<Settings>,
+        item: &Record,
+    )
+        requires { IsPrintable settings.now item.now }
         ensures { AddsText (K.held sink.old) (K.held sink.new)
-            (K.faults sink.old) (K.faults sink.new) self.old self.new (step_line index step.now) }
+            (K.faults sink.old) (K.faults sink.new) self.old self.new (further_lines mode item.now) }
     {
-        self.add(sink, b"step ");
-        self.add_number(sink, index);
-        self.add(sink, b" ");
-        self.add_step_text(sink, step);
-        self.end_line(sink);
-    }
-
-    // Adds a step as it is written in a scenario.
-    fn add_step_text<K: Sink>(&mut self, sink: &mut K, step: &Step)
-        ensures { AddsText (K.held sink.old) (K.held sink.new)
-            (K.faults sink.old) (K.faults sink.new) self.old self.new (text_of_step step.now) }
-    {
-        match step {
-            Step::Walk { object, asker } => {
-                self.add(sink, b"walk ");
-                self.add_name(sink, object);
-                self.add(sink, b" from ");
-                self.add_name(sink, asker);
-            }
-            Step::Root { object } => {
-                self.add(sink, b"root ");
-                self.add_name(sink, object);
-            }
+        match item {
+            Record::Begin { members, .. } => self.add_members_in(sink, mode, members.as_slice()),
+            Record::TableOf { links, .. } => self.add_links_in(sink, settings, links.as_slice()),
+            Record::PointersOf { pairs, .. } => self.add_pairs(sink, pairs.as_slice()),
+            _ => {}
         }
     }
 
-    fn add_walked<K: Sink>(&mut self, sink: &mut K, object: &Name, path: &[Name])
-        requires { 0 < length path.now }
+    // Adds what stands behind the last record.
+    pub(crate) fn add_ending<K: Sink>(
+        &mut self,
+        sink: &mut K,
+        mode: Mode,
+        settings: &Option<Settings>,
+        tally: &Tally,
+    )
         ensures { AddsText (K.held sink.old) (K.held sink.new)
-            (K.faults sink.old) (K.faults sink.new) self.old self.new (walked_line object.now path.now) }
+            (K.faults sink.old) (K.faults sink.new) self.old self.new (ending mode settings.now tally.now) }
     {
-        let hops = path.len() - 1;
-        self.add(sink, b"walked ");
-        self.add_name(sink, object);
-        self.add(sink, b" from ");
-        self.add_name(sink, &path[0]);
-        self.add(sink, b" path");
-        self.add_path(sink, path);
-        self.add(sink, b" root ");
-        self.add_name(sink, &path[hops]);
-        self.add(sink, b" hops ");
-        self.add_number(sink, hops);
-        self.end_line(sink);
-    }
-
-    // Adds each name of a path with a space before it.
-    fn add_path<K: Sink>(&mut self, sink: &mut K, path: &[Name])
-        ensures { AddsText (K.held sink.old) (K.held sink.new)
-            (K.faults sink.old) (K.faults sink.new) self.old self.new (flat_map spaced_name path.now) }
-    {
-        for name in path {
-            self.add_spaced_name(sink, name);
+        match mode {
+            Mode::Summary => self.add_summary(sink, settings, tally),
+            Mode::Long | Mode::Brief => {}
         }
     }
 
-    fn add_spaced_name<K: Sink>(&mut self, sink: &mut K, name: &Name)
+    fn add_summary<K: Sink>(&mut self, sink: &mut K, settings: &Option<Settings>, tally: &Tally)
         ensures { AddsText (K.held sink.old) (K.held sink.new)
-            (K.faults sink.old) (K.faults sink.new) self.old self.new (spaced_name name.now) }
+            (K.faults sink.old) (K.faults sink.new) self.old self.new (ending Summary settings.now tally.now) }
     {
-        self.add(sink, b" ");
-        self.add_name(sink, name);
-    }
-
-    fn add_rooted<K: Sink>(&mut self, sink: &mut K, object: &Name, root: &Name)
-        ensures { AddsText (K.held sink.old) (K.held sink.new)
-            (K.faults sink.old) (K.faults sink.new) self.old self.new (rooted_line object.now root.now) }
-    {
-        self.add(sink, b"rooted ");
-        self.add_name(sink, object);
-        self.add(sink, b" at ");
-        self.add_name(sink, root);
-        self.end_line(sink);
-    }
-
-    fn add_refused<K: Sink>(&mut self, sink: &mut K, index: u32, refusal: Refusal)
-        ensures { AddsText (K.held sink.old) (K.held sink.new)
-            (K.faults sink.old) (K.faults sink.new) self.old self.new (refused_line index refusal) }
-    {
-        self.add(sink, b"refused ");
-        self.add_number(sink, index);
-        self.add(sink, b" ");
-        self.add_number(sink, code_of(refusal));
-        self.add(sink, b" ");
-        self.add_words(sink, refusal);
-        self.end_line(sink);
-    }
-
-    // Adds the words of a refusal.
-    fn add_words<K: Sink>(&mut self, sink: &mut K, refusal: Refusal)
-        ensures { AddsText (K.held sink.old) (K.held sink.new)
-            (K.faults sink.old) (K.faults sink.new) self.old self.new (words_of_refusal refusal) }
-    {
-        match refusal {
-            Refusal::NoSuchNode => self.add(sink, b"no such node"),
+        if settings.is_some() {
+            self.add_numbers(sink, tally);
         }
     }
 
-    fn add_done<K: Sink>(&mut self, sink: &mut K, steps: u32)
+    fn add_numbers<K: Sink>(&mut self, sink: &mut K, tally: &Tally)
         ensures { AddsText (K.held sink.old) (K.held sink.new)
-            (K.faults sink.old) (K.faults sink.new) self.old self.new (done_line steps) }
+            (K.faults sink.old) (K.faults sink.new) self.old self.new (summary_text tally.now) }
     {
-        self.add(sink, b"done ");
-        self.add_number(sink, steps);
+        self.add_count(sink, b"nodes ", tally.nodes_left());
+        self.add_count(sink, b"frames ", tally.frames);
+        self.add_count(sink, b"hops ", tally.hops);
+        self.add_count(sink, b"answered ", tally.answered);
+    }
+
+    // Adds a line with one number.
+    fn add_count<K: Sink, I: Integer>(&mut self, sink: &mut K, word: &[u8], count: I)
+        ensures { AddsText (K.held sink.old) (K.held sink.new)
+            (K.faults sink.old) (K.faults sink.new) self.old self.new (line (word.now ++ I.text count)) }
+    {
+        self.add_numbered(sink, word, count);
         self.end_line(sink);
     }
 }
 
-// The number by which a refusal is known.
-fn code_of(refusal: Refusal) -> u32
-    ensures { result ≡ code_of_refusal refusal }
+// Whether a record has lines in the text.
+fn is_printed(mode: Mode, item: &Record) -> bool
+    ensures { result ≡ is_printed mode item.now }
 {
-    match refusal {
-        Refusal::NoSuchNode => 1,
+    match mode {
+        Mode::Long => true,
+        Mode::Brief => is_in_brief(item),
+        Mode::Summary => false,
+    }
+}
+
+// Whether the brief text has the lines of a record.
+fn is_in_brief(item: &Record) -> bool
+    ensures { result ≡ is_in_brief item.now }
+{
+    match item {
+        Record::Step { .. } => false,
+        Record::Sent { .. } => false,
+        Record::Taken { .. } => false,
+        Record::Packet { .. } => false,
+        Record::Arrived { .. } => false,
+        Record::Ticked => false,
+        Record::Lost { .. } => false,
+        _ => true,
     }
 }

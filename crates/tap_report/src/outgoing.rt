@@ -1,7 +1,8 @@
-ghost use Rattle.std.specs.Prelude.{◌≡◌, ◌+◌, ◌≤◌, [], ◌++◌, length};
+ghost use Rattle.std.specs.Prelude.{◌≡◌, ◌+◌, ◌<◌, ◌≤◌, [], ◌++◌, All, length};
 ghost use Rattle.tap_name.specs.Name.{text_of_name};
 ghost use Rattle.tap_report.specs.Outgoing.{AddsText};
 
+use crate::shapes::text_of;
 use crate::written::{Written, write_text};
 use itoa::{Buffer, Integer};
 use std::marker::Model;
@@ -76,14 +77,26 @@ impl Outgoing {
         self.len = end;
     }
 
-    // Adds a text.
-    pub(crate) fn add<K: Sink>(&mut self, sink: &mut K, text: &[u8])
-        requires { length text.now ≤ ROOM }
+    // Adds a text that is longer than the room: it is written at once.
+    fn add_at_once<K: Sink>(&mut self, sink: &mut K, text: &[u8])
         ensures { AddsText (K.held sink.old) (K.held sink.new)
             (K.faults sink.old) (K.faults sink.new) self.old self.new text.now }
     {
-        self.make_room(sink, text.len());
-        self.store(text);
+        let so_far = self.pass_on(sink);
+        self.so_far = write_text(sink, so_far, text);
+    }
+
+    // Adds a text.
+    pub(crate) fn add<K: Sink>(&mut self, sink: &mut K, text: &[u8])
+        ensures { AddsText (K.held sink.old) (K.held sink.new)
+            (K.faults sink.old) (K.faults sink.new) self.old self.new text.now }
+    {
+        if text.len() > ROOM {
+            self.add_at_once(sink, text);
+        } else {
+            self.make_room(sink, text.len());
+            self.store(text);
+        }
     }
 
     // Adds a number, in decimal.
@@ -100,10 +113,20 @@ impl Outgoing {
         ensures { AddsText (K.held sink.old) (K.held sink.new)
             (K.faults sink.old) (K.faults sink.new) self.old self.new (text_of_name name.now) }
     {
+        self.add_digits(sink, name.as_slice());
+    }
+
+    // Adds at most 40 digits as they are printed.
+    pub(crate) fn add_digits<K: Sink>(&mut self, sink: &mut K, digits: &[u8])
+        requires few { length digits.now ≤ 40 }
+        requires below { All (λ digit. digit < 16) digits.now }
+        ensures { AddsText (K.held sink.old) (K.held sink.new)
+            (K.faults sink.old) (K.faults sink.new) self.old self.new (text_of_name digits.now) }
+    {
         let mut text = [0; 40];
-        for at in 0..name.len() {
-            text[at] = name.text_byte(at);
+        for at in 0..digits.len() {
+            text[at] = text_of(digits[at]);
         }
-        self.add(sink, &text[..name.len()]);
+        self.add(sink, &text[..digits.len()]);
     }
 }

@@ -5,7 +5,8 @@ ghost use Rattle.tap_report.specs.Written.{WritesText};
 
 use crate::mode::Mode;
 use crate::outgoing::Outgoing;
-use crate::written::{Written, write_text};
+use crate::tally::Tally;
+use crate::written::Written;
 use std::marker::Model;
 use tap_io::Sink;
 use tap_log::{Log, Record};
@@ -13,8 +14,8 @@ use tap_name::Settings;
 
 /// Writes the text of a run, record by record.
 ///
-/// Contracts see what it keeps: the mode, the settings of the `Begin` that was put, how many records were put, and
-/// whether all was written. It takes no memory.
+/// Contracts see what it keeps: the mode, the settings of the `Begin` that was put, how many records were put, what the
+/// summary is made from, and whether all was written. It takes no memory.
 ///
 /// Rule: docs/FORMATS.md, "The printed text".
 #[derive(Debug, Drop)]
@@ -22,15 +23,20 @@ pub struct Reporter {
     mode: Mode,
     settings: Option<Settings>,
     records: u32,
+    tally: Tally,
     so_far: Written,
 }
 
 impl Model for Reporter {
+    ghost use Rattle.std.specs.Prelude.{◌≤◌};
     ghost use Rattle.tap_report.specs.Reporter.{Kept};
+    ghost use Rattle.tap_report.specs.Summary.{IsWithin};
 
     ghost Value = { Kept };
 
-    ghost view = { λ r. record { mode = r.mode; settings = r.settings; records = r.records; so_far = r.so_far } };
+    ghost view = { λ r. record { mode = r.mode; settings = r.settings; records = r.records; tally = r.tally; so_far = r.so_far } };
+
+    ghost invariant = { λ r. IsWithin r.records r.tally };
 }
 
 impl Reporter {
@@ -42,37 +48,42 @@ impl Reporter {
             mode,
             settings: None,
             records: 0,
+            tally: Tally::new(),
             so_far: Written::All,
         }
     }
 
-    /// Writes the text of one record. The first record, and no other one, is a `Begin`, the path of a walk isn't empty,
-    /// and fewer than 4,000,000,000 records were put.
+    /// Writes the text of one record. The first record, and no other one, is a `Begin`, and fewer than 4,000,000,000
+    /// records were put. The path of a walk isn't empty, the digit of each slot is below the base, the head of a frame
+    /// is read with the settings of the `Begin`, and want of memory isn't the fault of a damaged copy.
     ///
     /// The first `Failed` comes only where the sink counted a fault in this call, and some first bytes of the text are
     /// then written. After it each call answers `Failed` and writes nothing. A record that isn't written counts as put.
     pub fn put<K: Sink>(&mut self, item: &Record, sink: &mut K) -> Written
         requires begins { IsBegin item.now ↔ IsNone self.old.settings }
-        requires printable { IsPrintable item.now }
+        requires printable { IsPrintable self.old.settings item.now }
         requires few { self.old.records < 4000000000 }
         ensures { Puts self.old self.new item.now (K.held sink.old) (K.held sink.new)
             (K.faults sink.old) (K.faults sink.new) result }
     {
         let mut text = Outgoing::new(self.so_far);
-        text.add_record(sink, self.mode, item);
+        text.add_record(sink, self.mode, &self.settings, item);
         self.so_far = text.pass_on(sink);
         self.settings = settings_with(self.settings, item);
+        self.tally = self.tally.with(item);
         self.records += 1;
         self.so_far
     }
 
-    /// Ends the text. In both modes nothing follows the last record, so nothing is written, and the answer tells whether
-    /// all was.
+    /// Ends the text. In the mode Summary the summary follows the last record, where a `Begin` was put, and in the
+    /// other modes nothing does. The answer tells whether all was written.
     pub fn finish<K: Sink>(&mut self, sink: &mut K) -> Written
         ensures { Finishes self.old self.new (K.held sink.old) (K.held sink.new)
             (K.faults sink.old) (K.faults sink.new) result }
     {
-        self.so_far = write_text(sink, self.so_far, b"");
+        let mut last = Outgoing::new(self.so_far);
+        last.add_ending(sink, self.mode, &self.settings, &self.tally);
+        self.so_far = last.pass_on(sink);
         self.so_far
     }
 }
@@ -89,8 +100,8 @@ fn settings_with(settings: Option<Settings>, item: &Record) -> Option<Settings>
 
 /// Writes the text of a log, as the puts of its records and a finish do, and in larger pieces. Takes no memory.
 ///
-/// The log is empty, or its first record is its only `Begin`, and the path of no walk is empty. `Failed` comes only where
-/// the sink counted a fault in this call, and some first bytes of the text are then written.
+/// The log is empty, or its first record is its only `Begin`. Each record is as [`Reporter::put`] wants it. `Failed`
+/// comes only where the sink counted a fault in this call, and some first bytes of the text are then written.
 ///
 /// Rule: docs/FORMATS.md, "The printed text".
 pub fn write_log<K: Sink>(mode: Mode, log: &Log, sink: &mut K) -> Written
@@ -100,9 +111,14 @@ pub fn write_log<K: Sink>(mode: Mode, log: &Log, sink: &mut K) -> Written
 {
     let mut text = Outgoing::new(Written::All);
     let records = log.as_slice();
+    let mut settings = None;
+    let mut tally = Tally::new();
     for item in records {
-        text.add_record(sink, mode, item);
+        text.add_record(sink, mode, &settings, item);
+        settings = settings_with(settings, item);
+        tally = tally.with(item);
     }
+    text.add_ending(sink, mode, &settings, &tally);
     text.pass_on(sink)
 }
 

@@ -1,4 +1,4 @@
-ghost use Rattle.std.specs.Prelude.{◌<◌, IfOk, length};
+ghost use Rattle.std.specs.Prelude.{◌≡◌, ◌<◌, All, IfOk, IsTrue, Some, length};
 ghost use Rattle.tap_report.specs.Text.{IsBegin, IsPrintable, IsPrintableLog, text_of_log};
 ghost use Rattle.tap_report.specs.Written.{WritesText};
 
@@ -7,9 +7,10 @@ use std::alloc::Global;
 use std::process::Abort;
 use std::test::Fail;
 use tap_io::{MemorySink, Sink};
-use tap_log::{Log, Record, Refusal};
-use tap_name::{List, Name, Settings, read_name};
-use tap_scenario::Step;
+use tap_log::{Bytes, LinkLine, LinkWord, Log, NodeWord, Pair, Record, Refusal};
+use tap_name::{List, Name, Settings, Slot, read_name};
+use tap_scenario::{Step, read_step};
+use tap_wire::{WireFault, decode_head};
 
 fn name(rt: &impl Abort, settings: &Settings, text: &str) -> Name {
     read_name(settings, text.as_bytes()).expect(rt, "a name")
@@ -29,16 +30,38 @@ fn names(
     Ok(names)
 }
 
-// Sees that a record may follow a beginning.
-fn check_follows(rt: &impl Abort, item: &Record)
+// Whether the digit of each slot is below the base.
+fn are_below(base: u8, links: &[LinkLine]) -> bool
+    ensures { IsTrue result → All (λ link. link.slot.digit < base) links.now }
+{
+    for link in links {
+        if link.slot.digit >= base {
+            return false;
+        }
+    }
+    true
+}
+
+// Sees that a record may follow a beginning with these settings.
+fn check_follows(rt: &impl Abort, settings: &Settings, item: &Record)
     ensures other { ¬ IsBegin item.now }
-    ensures printable { IsPrintable item.now }
+    ensures printable { IsPrintable (Some settings.now) item.now }
 {
     match item {
         Record::Begin { .. } => rt.abort(),
         Record::Walked { path, .. } => {
             assert!(rt; !path.is_empty());
         }
+        Record::Sent { bytes, .. } => {
+            assert!(rt; decode_head(settings, bytes.as_slice()).is_ok());
+        }
+        Record::TableOf { links, .. } => {
+            assert!(rt; are_below(settings.base(), links.as_slice()));
+        }
+        Record::Garbled { fault, .. } => match fault {
+            WireFault::NoMemory => rt.abort(),
+            _ => {}
+        },
         _ => {}
     }
 }
@@ -60,7 +83,7 @@ fn log_of(
         members: names(rt, alloc, settings, members)?,
     })?;
     for item in rest {
-        check_follows(rt, &item);
+        check_follows(rt, settings, &item);
         log.push(item)?;
     }
     Ok(log)
@@ -94,176 +117,519 @@ fn check_text(
     requires { IsPrintableLog log.now.records }
 {
     assert!(rt; log.len() < 100);
-    let mut at_once = MemorySink::new(alloc, 10, 1000, fails)?;
+    let mut at_once = MemorySink::new(alloc, 10, 2000, fails)?;
     assert_eq!(rt; write_log(mode, log, &mut at_once), answer);
     assert_eq!(rt; at_once.bytes(), text.as_bytes());
-    let mut one_by_one = MemorySink::new(alloc, 10, 1000, fails)?;
+    let mut one_by_one = MemorySink::new(alloc, 10, 2000, fails)?;
     assert_eq!(rt; put_each(mode, log, &mut one_by_one), answer);
     assert_eq!(rt; one_by_one.bytes(), text.as_bytes());
     Ok(())
 }
 
-// A walk from the first node of a path.
-fn walked(
+// Prints these records behind a beginning with no member, in each mode. The texts are the lines that the brief text leaves
+// out, which stand first, those that it has, and the summary.
+fn check_records(
     rt: &impl Abort,
     alloc: Global,
     settings: &Settings,
-    object: &str,
-    path: &[&str],
-) -> Result<Record, Fail> {
-    Ok(Record::Walked {
-        object: name(rt, settings, object),
-        path: names(rt, alloc, settings, path)?,
-    })
+    rest: Vec<Record>,
+    texts: [&str; 3],
+) -> Result<(), Fail> {
+    let log = log_of(rt, alloc, settings, &[], rest)?;
+    let [detail, lines, summary] = texts;
+    let begin = "begin base 4 digits 3 width 2 frames 200000\n";
+    let long = format!(in alloc; "{begin}{detail}{lines}")?;
+    check_text(
+        rt,
+        alloc,
+        Mode::Long,
+        &log,
+        &[],
+        Written::All,
+        long.as_str(),
+    )?;
+    let brief = format!(in alloc; "{begin}{lines}")?;
+    check_text(
+        rt,
+        alloc,
+        Mode::Brief,
+        &log,
+        &[],
+        Written::All,
+        brief.as_str(),
+    )?;
+    check_text(rt, alloc, Mode::Summary, &log, &[], Written::All, summary)
+}
+
+fn settings(rt: &impl Abort) -> Settings {
+    Settings::new(4, 3, 2).expect(rt, "settings")
 }
 
 #[test]
-fn a_long_text_has_every_line(rt: HostRuntime) -> Result<(), Fail> {
-    let alloc = rt.alloc();
-    let settings = Settings::new(4, 3, 2).ok_or("settings")?;
+fn starts_and_lookups_are_printed(rt: HostRuntime) -> Result<(), Fail> {
+    let (alloc, settings) = (rt.alloc(), settings(&rt));
     let object = name(&rt, &settings, "123");
-    let asker = name(&rt, &settings, "000");
+    let server = name(&rt, &settings, "230");
+    let path = names(&rt, alloc, &settings, &["000", "230", "233"])?;
+    let roots = names(&rt, alloc, &settings, &["000", "230", "233", "301"])?;
     let rest = vec![in alloc;
         Record::Step {
             index: 1,
-            step: Step::Walk { object, asker }
-        },
-        walked(&rt, alloc, &settings, "123", &["000", "230", "233"])?,
-        Record::Step {
-            index: 2,
             step: Step::Root { object }
         },
         Record::RootOf {
             object,
-            root: asker
+            root: server
         },
-        Record::Refused {
-            index: 3,
-            refusal: Refusal::NoSuchNode
+        Record::Walked { object, path },
+        Record::Published { object, server },
+        Record::Withdrawn { object, server },
+        Record::Asked {
+            ticket: 7,
+            object,
+            asker: server
         },
-        Record::Finished { steps: 3 },
+        Record::Answered {
+            ticket: 7,
+            server: Some(server)
+        },
+        Record::Answered {
+            ticket: 8,
+            server: None
+        },
+        Record::RootsOf {
+            object,
+            asker: server,
+            roots
+        },
+        Record::Spent { limit: 12 },
+        Record::Finished { steps: 1 },
     ]?;
-    let log = log_of(&rt, alloc, &settings, &["000", "230", "233"], rest)?;
-    let text = "begin base 4 digits 3 width 2 frames 200000\n\
-        member 000\nmember 230\nmember 233\n\
-        step 1 walk 123 from 000\n\
+    let brief = "rooted 123 at 230\n\
         walked 123 from 000 path 000 230 233 root 233 hops 2\n\
-        step 2 root 123\nrooted 123 at 000\nrefused 3 1 no such node\ndone 3\n";
-    check_text(&rt, alloc, Mode::Long, &log, &[], Written::All, text)?;
-    check_text(
+        published 123 at 230\nwithdrawn 123 at 230\nasked 7 123 from 230\n\
+        answered 7 server 230\nanswered 8 none\n\
+        rootset 123 from 230 roots 000 230 233 301\nspent 12\ndone 1\n";
+    let summary = "nodes 0\nframes 0\nhops 2\nanswered 1\n";
+    check_records(
         &rt,
         alloc,
-        Mode::Long,
-        &log,
-        &[2],
-        Written::Failed,
-        "begin base",
+        &settings,
+        rest,
+        ["step 1 root 123\n", brief, summary],
     )
 }
 
 #[test]
-fn a_brief_text_leaves_out_members_and_steps(rt: HostRuntime) -> Result<(), Fail> {
-    let alloc = rt.alloc();
-    let settings = Settings::new(2, 1, 1).ok_or("settings")?;
-    let object = name(&rt, &settings, "0");
+fn tables_and_frames_are_printed(rt: HostRuntime) -> Result<(), Fail> {
+    let (alloc, settings) = (rt.alloc(), settings(&rt));
+    let name = name(&rt, &settings, "123");
+    let slot = Slot { level: 1, digit: 3 };
+    let mut links = List::new(alloc);
+    links.push(LinkLine {
+        slot,
+        name,
+        kind: LinkWord::Pin,
+    })?;
+    links.push(LinkLine {
+        slot,
+        name,
+        kind: LinkWord::Settled,
+    })?;
+    links.push(LinkLine {
+        slot,
+        name,
+        kind: LinkWord::Leaving,
+    })?;
+    let mut pairs = List::new(alloc);
+    pairs.push(Pair {
+        object: name,
+        server: name,
+    })?;
+    let bytes = Bytes::copy_of(alloc, &[1, 15, 0, 0, 1, 2, 3, 3, 0, 1])?;
     let rest = vec![in alloc;
-        walked(&rt, alloc, &settings, "1", &["0", "1"])?,
-        Record::Step {
-            index: 2,
-            step: Step::Root { object }
+        Record::Sent { number: 4, bytes },
+        Record::Taken { number: 4 },
+        Record::Core { name },
+        Record::TableOf {
+            name,
+            status: NodeWord::Joining,
+            links
         },
-        Record::RootOf {
-            object,
-            root: object
+        Record::PointersOf { name, pairs },
+        Record::Garbled {
+            number: 4,
+            fault: WireFault::BadDigit(300)
         },
-        Record::Refused {
-            index: 11,
-            refusal: Refusal::NoSuchNode
-        },
-        Record::Finished { steps: 2 },
+        Record::Abandoned { name },
+        Record::Gone { name },
     ]?;
-    let log = log_of(&rt, alloc, &settings, &["0", "1"], rest)?;
-    let text = "begin base 2 digits 1 width 1 frames 200000\n\
-        walked 1 from 0 path 0 1 root 1 hops 1\n\
-        rooted 0 at 0\nrefused 11 1 no such node\ndone 2\n";
-    check_text(&rt, alloc, Mode::Brief, &log, &[], Written::All, text)
-}
-
-// The records after the beginning of a run whose one step is a walk over this path, or which has no step.
-fn run_of(
-    rt: &impl Abort,
-    alloc: Global,
-    settings: &Settings,
-    object: &str,
-    path: &[&str],
-) -> Result<Vec<Record>, Fail> {
-    let Some(asker) = path.first() else {
-        return Ok(vec![in alloc; Record::Finished { steps: 0 }]?);
-    };
-    let step = Step::Walk {
-        object: name(rt, settings, object),
-        asker: name(rt, settings, asker),
-    };
-    Ok(vec![in alloc;
-        Record::Step { index: 1, step },
-        walked(rt, alloc, settings, object, path)?,
-        Record::Finished { steps: 1 },
-    ]?)
+    let brief = "core 123\ntable 123 joining links 3\n\
+        link 1 3 123 pin\nlink 1 3 123 settled\nlink 1 3 123 leaving\n\
+        pointers 123 count 1\npointer 123 123\n\
+        garbled 4 bad digit 300\nabandoned 123\ngone 123\n";
+    let detail = "sent 4 forget 123 301 010f0000010203030001\ntaken 4\n";
+    let summary = "nodes 1\nframes 1\nhops 0\nanswered 0\n";
+    check_records(&rt, alloc, &settings, rest, [detail, brief, summary])
 }
 
 #[test]
-fn runs_are_printed(rt: HostRuntime) -> Result<(), Fail> {
+fn packets_and_casts_are_printed(rt: HostRuntime) -> Result<(), Fail> {
+    let (alloc, settings) = (rt.alloc(), settings(&rt));
+    let name = name(&rt, &settings, "123");
+    let word = Bytes::copy_of(alloc, b"hello")?;
+    let rest = vec![in alloc;
+        Record::Packet {
+            number: 0,
+            frame: 5,
+            ack: false
+        },
+        Record::Packet {
+            number: 1,
+            frame: 5,
+            ack: true
+        },
+        Record::Arrived { packet: 0 },
+        Record::Ticked,
+        Record::Lost { packet: 1 },
+        Record::Carrier,
+        Record::CastFrom {
+            cast: 1,
+            word,
+            level: 0,
+            name
+        },
+        Record::Reached { cast: 1, name },
+        Record::Closed { cast: 1 },
+        Record::Refused {
+            index: 3,
+            refusal: Refusal::Departing(name)
+        },
+        Record::Refused {
+            index: 4,
+            refusal: Refusal::NoSuchByte(10)
+        },
+        Record::Refused {
+            index: 5,
+            refusal: Refusal::NotInPrefix
+        },
+    ]?;
+    let detail = "packet 0 data 5\npacket 1 ack 5\narrived 0\nticked\nlost 1\n";
+    let brief = "carrier\ncast 1 hello level 0 from 123\nreached 1 123\nclosed 1\n\
+        refused 3 3 departing 123\nrefused 4 11 no such byte 10\nrefused 5 16 not in prefix\n";
+    let summary = "nodes 0\nframes 0\nhops 0\nanswered 0\n";
+    check_records(&rt, alloc, &settings, rest, [detail, brief, summary])
+}
+
+// A frame of one join, by its number.
+fn frame_of_join(number: u32) -> &'static [u8] {
+    match number {
+        0 => &[1, 1, 0, 2, 0, 1, 0, 0, 0, 1],
+        1 => &[1, 8, 0, 5, 0, 0, 0, 1, 0, 0, 0, 1, 1],
+        2 => &[1, 3, 0, 5, 0, 0, 0, 1, 0, 0, 0, 1, 1],
+        3 => &[1, 8, 0, 5, 0, 1, 0, 0, 0, 0, 0, 1, 1],
+        4 => &[1, 4, 0, 4, 0, 1, 0, 0, 0, 0, 0, 1],
+        5 => &[1, 7, 0, 0, 0, 0, 0, 1],
+        6 => &[1, 6, 0, 0, 0, 0, 0, 1],
+        _ => &[1, 7, 0, 0, 0, 1, 0, 0],
+    }
+}
+
+fn sent(alloc: Global, number: u32) -> Result<Record, Fail> {
+    let bytes = Bytes::copy_of(alloc, frame_of_join(number))?;
+    Ok(Record::Sent { number, bytes })
+}
+
+// The table of a node with one settled link, in the slot of level 1 and this digit.
+fn table(alloc: Global, name: Name, digit: u8, target: Name) -> Result<Record, Fail> {
+    let mut links = List::new(alloc);
+    links.push(LinkLine {
+        slot: Slot { level: 1, digit },
+        name: target,
+        kind: LinkWord::Settled,
+    })?;
+    Ok(Record::TableOf {
+        name,
+        status: NodeWord::Core,
+        links,
+    })
+}
+
+// The records of one join behind the beginning, up to the last frame.
+fn join(alloc: Global, old: Name, new: Name) -> Result<Vec<Record>, Fail> {
+    let step = Step::Join {
+        name: new,
+        via: old,
+    };
+    let mut records = vec![in alloc; Record::Step { index: 1, step }, sent(alloc, 0)?]?;
+    records.push(Record::Step {
+        index: 2,
+        step: Step::Settle,
+    })?;
+    records.push(Record::Taken { number: 0 })?;
+    records.push(sent(alloc, 1)?)?;
+    records.push(sent(alloc, 2)?)?;
+    records.push(Record::Taken { number: 1 })?;
+    records.push(Record::Taken { number: 2 })?;
+    records.push(sent(alloc, 3)?)?;
+    records.push(sent(alloc, 4)?)?;
+    records.push(Record::Taken { number: 3 })?;
+    records.push(sent(alloc, 5)?)?;
+    records.push(Record::Taken { number: 4 })?;
+    records.push(sent(alloc, 6)?)?;
+    records.push(Record::Taken { number: 5 })?;
+    records.push(Record::Taken { number: 6 })?;
+    records.push(Record::Core { name: new })?;
+    records.push(sent(alloc, 7)?)?;
+    records.push(Record::Taken { number: 7 })?;
+    Ok(records)
+}
+
+#[test]
+fn one_join_is_printed(rt: HostRuntime) -> Result<(), Fail> {
     let alloc = rt.alloc();
-    let long =
-        "member 000\nmember 012\nmember 230\nmember 233\nmember 301\nstep 1 walk 123 from 000\n\
-        walked 123 from 000 path 000 230 233 root 233 hops 2\ndone 1\n";
-    let rows: [(Mode, u8, u8, &[&str], &str, &[&str], &str); 5] = [
-        (
-            Mode::Long,
-            4,
-            3,
-            &["000", "012", "230", "233", "301"],
-            "123",
-            &["000", "230", "233"],
-            long,
-        ),
-        (
-            Mode::Brief,
-            4,
-            3,
-            &["000", "012"],
-            "333",
-            &["012", "000"],
-            "walked 333 from 012 path 012 000 root 000 hops 1\ndone 1\n",
-        ),
-        (
-            Mode::Brief,
-            16,
-            4,
-            &["beef"],
-            "0000",
-            &["beef"],
-            "walked 0000 from beef path beef root beef hops 0\ndone 1\n",
-        ),
-        (
-            Mode::Brief,
-            16,
-            8,
-            &["89abcdee", "89abcdef"],
-            "00000000",
-            &["89abcdef", "89abcdee"],
-            "walked 00000000 from 89abcdef path 89abcdef 89abcdee root 89abcdee hops 1\ndone 1\n",
-        ),
-        (Mode::Brief, 4, 3, &["000"], "", &[], "done 0\n"),
+    let settings = Settings::new(2, 2, 1).ok_or("settings")?;
+    let old = name(&rt, &settings, "00");
+    let new = name(&rt, &settings, "01");
+    let mut rest = join(alloc, old, new)?;
+    rest.push(Record::Step {
+        index: 3,
+        step: Step::Table { name: old },
+    })?;
+    rest.push(table(alloc, old, 1, new)?)?;
+    rest.push(Record::Step {
+        index: 4,
+        step: Step::Table { name: new },
+    })?;
+    rest.push(table(alloc, new, 0, old)?)?;
+    rest.push(Record::Finished { steps: 4 })?;
+    let log = log_of(&rt, alloc, &settings, &["00"], rest)?;
+    let long = "begin base 2 digits 2 width 1 frames 200000\nmember 00\n\
+        step 1 join 01 via 00\nsent 0 seek 01 00 01010002000100000001\n\
+        step 2 settle\ntaken 0\n\
+        sent 1 link 00 01 01080005000000010000000101\n\
+        sent 2 hello 00 01 01030005000000010000000101\ntaken 1\ntaken 2\n\
+        sent 3 link 01 00 01080005000100000000000101\n\
+        sent 4 heard 01 00 010400040001000000000001\ntaken 3\n\
+        sent 5 release 00 01 0107000000000001\ntaken 4\n\
+        sent 6 done 00 01 0106000000000001\ntaken 5\ntaken 6\ncore 01\n\
+        sent 7 release 01 00 0107000000010000\ntaken 7\n\
+        step 3 table 00\ntable 00 core links 1\nlink 1 1 01 settled\n\
+        step 4 table 01\ntable 01 core links 1\nlink 1 0 00 settled\ndone 4\n";
+    check_text(&rt, alloc, Mode::Long, &log, &[], Written::All, long)?;
+    let brief = "begin base 2 digits 2 width 1 frames 200000\ncore 01\n\
+        table 00 core links 1\nlink 1 1 01 settled\n\
+        table 01 core links 1\nlink 1 0 00 settled\ndone 4\n";
+    check_text(&rt, alloc, Mode::Brief, &log, &[], Written::All, brief)?;
+    check_text(
+        &rt,
+        alloc,
+        Mode::Brief,
+        &log,
+        &[2],
+        Written::Failed,
+        "begin base",
+    )?;
+    let summary = "nodes 2\nframes 8\nhops 0\nanswered 0\n";
+    check_text(&rt, alloc, Mode::Summary, &log, &[], Written::All, summary)
+}
+
+#[test]
+fn a_carried_join_is_printed_in_brief(rt: HostRuntime) -> Result<(), Fail> {
+    let alloc = rt.alloc();
+    let settings = Settings::new(2, 2, 1).ok_or("settings")?;
+    let old = name(&rt, &settings, "00");
+    let new = name(&rt, &settings, "01");
+    let step = Step::Join {
+        name: new,
+        via: old,
+    };
+    let rest = vec![in alloc;
+        Record::Carrier,
+        Record::Step { index: 1, step },
+        sent(alloc, 0)?,
+        Record::Packet {
+            number: 0,
+            frame: 0,
+            ack: false
+        },
+        Record::Step {
+            index: 2,
+            step: Step::Repeat { place: 0 }
+        },
+        Record::Packet {
+            number: 1,
+            frame: 0,
+            ack: false
+        },
+        Record::Step {
+            index: 5,
+            step: Step::Lose { place: 0 }
+        },
+        Record::Lost { packet: 2 },
+        Record::Ticked,
+        Record::Arrived { packet: 9 },
+        Record::Taken { number: 6 },
+        Record::Core { name: new },
+        table(alloc, old, 1, new)?,
+        Record::Finished { steps: 7 },
+    ]?;
+    let log = log_of(&rt, alloc, &settings, &["00"], rest)?;
+    let brief = "begin base 2 digits 2 width 1 frames 200000\ncarrier\ncore 01\n\
+        table 00 core links 1\nlink 1 1 01 settled\ndone 7\n";
+    check_text(&rt, alloc, Mode::Brief, &log, &[], Written::All, brief)
+}
+
+#[test]
+fn departed_nodes_are_counted(rt: HostRuntime) -> Result<(), Fail> {
+    let alloc = rt.alloc();
+    let settings = settings(&rt);
+    let first = name(&rt, &settings, "000");
+    let second = name(&rt, &settings, "230");
+
+    let rest = vec![in alloc;
+        leaves_of(first),
+        Record::Gone { name: first },
+        leaves_of(second),
+        Record::Refused {
+            index: 2,
+            refusal: Refusal::LastNode
+        },
+        Record::Gone { name: second },
+        Record::Gone { name: first },
+    ]?;
+    let log = log_of(&rt, alloc, &settings, &["000", "230", "233"], rest)?;
+    let summary = "nodes 1\nframes 0\nhops 0\nanswered 0\n";
+    check_text(&rt, alloc, Mode::Summary, &log, &[], Written::All, summary)?;
+    let none = log_of(
+        &rt,
+        alloc,
+        &settings,
+        &[],
+        vec![in alloc; leaves_of(first), Record::Gone { name: first }]?,
+    )?;
+    let summary = "nodes 0\nframes 0\nhops 0\nanswered 0\n";
+    check_text(&rt, alloc, Mode::Summary, &none, &[], Written::All, summary)?;
+    check_text(
+        &rt,
+        alloc,
+        Mode::Summary,
+        &Log::new(alloc),
+        &[],
+        Written::All,
+        "",
+    )
+}
+
+fn leaves_of(name: Name) -> Record {
+    Record::Step {
+        index: 1,
+        step: Step::Depart { name },
+    }
+}
+
+// Prints one record behind a beginning.
+fn check_line(
+    rt: &impl Abort,
+    alloc: Global,
+    settings: &Settings,
+    item: Record,
+    line: &str,
+) -> Result<(), Fail> {
+    let log = log_of(rt, alloc, settings, &[], vec![in alloc; item]?)?;
+    let text = format!(in alloc; "begin base 4 digits 3 width 2 frames 200000\n{line}\n")?;
+    check_text(
+        rt,
+        alloc,
+        Mode::Long,
+        &log,
+        &[],
+        Written::All,
+        text.as_str(),
+    )
+}
+
+#[test]
+fn steps_are_printed_as_they_are_read(rt: HostRuntime) -> Result<(), Fail> {
+    let (alloc, settings) = (rt.alloc(), settings(&rt));
+    let rows: [(bool, &str); 21] = [
+        (false, "join 123 via 000"),
+        (false, "leave 123"),
+        (false, "publish 123 at 000"),
+        (false, "withdraw 123 at 000"),
+        (false, "find 123 from 000"),
+        (false, "walk 123 from 000"),
+        (false, "root 123"),
+        (false, "deliver 4294967295"),
+        (false, "settle"),
+        (false, "settle newest"),
+        (false, "settle mixed 18446744073709551615"),
+        (false, "table 123"),
+        (false, "pointers 123"),
+        (false, "garble 1 20 255"),
+        (false, "cut 1 20"),
+        (false, "abandon 123"),
+        (true, "tick"),
+        (true, "lose 3"),
+        (true, "repeat 3"),
+        (false, "cast hello to * from 000"),
+        (false, "cast w2 to 12 from 123"),
     ];
-    for (mode, base, digits, members, object, path, lines) in rows {
-        let settings = Settings::new(base, digits, 2).ok_or("settings")?;
-        let rest = run_of(&rt, alloc, &settings, object, path)?;
-        let log = log_of(&rt, alloc, &settings, members, rest)?;
-        let text = format!(in alloc;
-            "begin base {base} digits {digits} width 2 frames 200000\n{lines}"
+    for (carried, words) in rows {
+        let step = read_step(&settings, carried, words.as_bytes()).ok_or("step")?;
+        let line = format!(in alloc; "step 9 {words}")?;
+        check_line(
+            &rt,
+            alloc,
+            &settings,
+            Record::Step { index: 9, step },
+            line.as_str(),
         )?;
-        check_text(&rt, alloc, mode, &log, &[], Written::All, text.as_str())?;
+    }
+    Ok(())
+}
+
+#[test]
+fn refusals_and_faults_are_printed(rt: HostRuntime) -> Result<(), Fail> {
+    let (alloc, settings) = (rt.alloc(), settings(&rt));
+    let rows: [(Refusal, &str); 8] = [
+        (Refusal::NoSuchNode, "1 no such node"),
+        (Refusal::NotCore, "2 not core"),
+        (Refusal::NotAtRest(7), "4 not at rest 7"),
+        (Refusal::NameTaken, "5 name taken"),
+        (Refusal::LastNode, "7 last node"),
+        (Refusal::NoSuchFlight(0), "10 no such flight 0"),
+        (Refusal::Readable, "12 readable"),
+        (
+            Refusal::TooManyPackets(100_000),
+            "15 too many packets 100000",
+        ),
+    ];
+    for (refusal, words) in rows {
+        let line = format!(in alloc; "refused 2 {words}")?;
+        check_line(
+            &rt,
+            alloc,
+            &settings,
+            Record::Refused { index: 2, refusal },
+            line.as_str(),
+        )?;
+    }
+    let rows: [(WireFault, &str); 4] = [
+        (WireFault::Short(3), "short 3"),
+        (WireFault::BadVersion(9), "bad version 9"),
+        (WireFault::Trailing(1), "trailing 1"),
+        (WireFault::BadBody(9), "bad body 9"),
+    ];
+    for (fault, words) in rows {
+        let line = format!(in alloc; "garbled 5 {words}")?;
+        check_line(
+            &rt,
+            alloc,
+            &settings,
+            Record::Garbled { number: 5, fault },
+            line.as_str(),
+        )?;
     }
     Ok(())
 }

@@ -1,18 +1,40 @@
-use Rattle.std.proofs.Common.{◌≡◌, take, refl}
+use Rattle.std.proofs.Common.{◌≡◌, take, None, refl, ap, sym, ◌∙◌}
 use Rattle.std.proofs.lemmas.List.{take_all}
-use Rattle.tap_report.specs.Text.{text_of_record}
+use Rattle.tap_report.specs.Summary.{tally_after}
+use Rattle.tap_report.specs.Text.{ArePrintable, settings_after}
 use Rattle.tap_report.specs.declared.written.Written.TheVariants.{All}
-use Rattle.tap_report.proofs.AddsLemmas.{◌⨾◌, AddsText-whole, flat_map-take_more}
+use Rattle.tap_report.proofs.AddsLemmas.{◌⨾◌, AddsText-whole}
+use Rattle.tap_report.proofs.TallyLemmas.{tally_of-push, IsWithin-after}
+use Rattle.tap_report.proofs.TextLemmas.{ArePrintable-at, settings_of-push, take_next, texts_after-push}
 use Rattle.tap_report.proofs.reporter.write_log.Goals as goal
+
+pub add_record-requires : goal.add_record-requires
+add_record-requires g c =
+    let records = c.as_slice-records.result.now in
+    let each : ArePrintable None records = rw c.as_slice-records.ensures c.requires.each in
+    rw c.loop-item.invariant.settings
+    (ArePrintable-at None records c.loop-item.item-index c.item-item.result each c.loop-item-test.true c.item-item.is)
 
 pub loop-item-preserved : goal.loop-item-preserved
 loop-item-preserved g c =
-    rw (flat_map-take_more (text_of_record c.args.mode) c.as_slice-records.result.now c.loop-item.item-index c.item-item.result c.loop-item-test.true c.item-item.is)
-    (c.loop-item.invariant ⨾ c.add_record.ensures)
+    let records = c.as_slice-records.result.now in
+    let i = c.loop-item.item-index in
+    let item = c.item-item.result in
+    let was = c.loop-item.invariant in
+    let first = take i records in
+    let next = take_next records i item c.loop-item-test.true c.item-item.is in
+    rw (next, c.settings_with-settings.ensures, c.with-tally.ensures) (record {
+      text = rw (texts_after-push c.args.mode None first item) (was.text ⨾ rw was.settings at c.add_record.ensures);
+      settings = ap (λ s. settings_after s item) was.settings ∙ sym (settings_of-push first item);
+      tally = ap (λ t. tally_after t item) was.tally ∙ sym (tally_of-push first item);
+      within = IsWithin-after i c.loop-item.tally item was.within;
+    })
 
 pub returns : goal.returns
 returns g c =
     let records = c.as_slice-records.result.now in
+    let was = c.loop-item.invariant in
     let all : take c.loop-item.item-index records ≡ records = take_all c.loop-item.item-index records c.loop-item-test.false in
+    let ends = rw (was.settings, was.tally) at c.add_ending.ensures in
     rw (← c.as_slice-records.ensures)
-    (AddsText-whole All c.pass_on.result refl (rw all at c.loop-item.invariant) c.pass_on.ensures.adds c.pass_on.ensures.after)
+    (AddsText-whole All c.pass_on.result refl (rw all at (was.text ⨾ ends)) c.pass_on.ensures.adds c.pass_on.ensures.after)

@@ -1,10 +1,16 @@
-use Rattle.std.proofs.Common.{[], take}
+use Rattle.std.proofs.Common.{◌≡◌, [], take, None}
 use Rattle.tap_report.specs.Outgoing.{AddsText}
-use Rattle.tap_report.specs.Text.{text_of_log}
+use Rattle.tap_report.specs.Summary.{IsWithin, tally_of}
+use Rattle.tap_report.specs.Text.{settings_of, texts_after}
 use Rattle.tap_report.specs.declared.written.Written.TheVariants.{All}
 use Rattle.tap_report.proofs.reporter.write_log.Given as goal
 
 abbrev pub invariant-loop-item : goal.invariant-loop-item
-invariant-loop-item g l =
-    AddsText (g.K.Sink.held l.fn.sink) (g.K.Sink.held l.sink) (g.K.Sink.faults l.fn.sink) (g.K.Sink.faults l.sink)
-    (record { bytes = []; so_far = All }) l.text (text_of_log l.mode (take l.item-index l.records))
+invariant-loop-item g l = record {
+  text :
+      AddsText (g.K.Sink.held l.fn.sink) (g.K.Sink.held l.sink) (g.K.Sink.faults l.fn.sink) (g.K.Sink.faults l.sink)
+      (record { bytes = []; so_far = All }) l.text (texts_after l.mode None (take l.item-index l.records));
+  settings : l.settings ≡ settings_of (take l.item-index l.records);
+  tally : l.tally ≡ tally_of (take l.item-index l.records);
+  within : IsWithin l.item-index l.tally;
+}

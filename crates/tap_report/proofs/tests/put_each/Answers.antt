@@ -1,7 +1,8 @@
-use Rattle.std.proofs.Common.{◌≡◌, take}
+use Rattle.std.proofs.Common.{◌≡◌, take, None}
 use Rattle.std.proofs.lemmas.List.{take_all}
-use Rattle.tap_report.specs.Text.{BeginsOnce}
+use Rattle.tap_report.specs.Text.{ArePrintable, BeginsOnce}
 use Rattle.tap_report.proofs.ReportsLemmas.{Reports-next, Reports-finish, begins_next}
+use Rattle.tap_report.proofs.TextLemmas.{ArePrintable-at}
 use Rattle.tap_report.proofs.tests.put_each.Goals as goal
 
 pub put-requires-clause-begins : goal.put-requires-clause-begins
@@ -10,6 +11,13 @@ put-requires-clause-begins g c =
     let begins : BeginsOnce records = rw c.as_slice-records.ensures c.requires.printable.begins in
     begins_next records c.loop-item.item-index c.item-item.result c.loop-item.reporter.settings begins
     c.loop-item-test.true c.item-item.is c.loop-item.invariant.settings
+
+pub put-requires-clause-printable : goal.put-requires-clause-printable
+put-requires-clause-printable g c =
+    let records = c.as_slice-records.result.now in
+    let each : ArePrintable None records = rw c.as_slice-records.ensures c.requires.printable.each in
+    rw c.loop-item.invariant.settings
+    (ArePrintable-at None records c.loop-item.item-index c.item-item.result each c.loop-item-test.true c.item-item.is)
 
 pub loop-item-preserved : goal.loop-item-preserved
 loop-item-preserved g c =

@@ -1,4 +1,4 @@
-use Rattle.tap_report.specs.Text.{member_line}
+use Rattle.tap_report.specs.Starts.{member_line}
 use Rattle.tap_report.proofs.AddsLemmas.{◌⨾◌, flat_map-take_more}
 use Rattle.tap_report.proofs.outgoing.Outgoing.add_members.Goals as goal
 

@@ -1,7 +1,7 @@
 use Rattle.std.proofs.Common.{take}
 use Rattle.std.specs.List.{flat_map}
 use Rattle.tap_report.specs.Outgoing.{AddsText}
-use Rattle.tap_report.specs.Text.{member_line}
+use Rattle.tap_report.specs.Starts.{member_line}
 use Rattle.tap_report.proofs.outgoing.Outgoing.add_members.Given as goal
 
 abbrev pub invariant-loop-name : goal.invariant-loop-name

@@ -3,4 +3,4 @@ use Rattle.tap_report.proofs.outgoing.Outgoing.add_step.Goals as goal
 
 pub returns : goal.returns
 returns g c =
-    c.add.ensures ⨾ c.add_number.ensures ⨾ c.add-2.ensures ⨾ c.add_step_text.ensures ⨾ c.end_line.ensures
+    c.add_numbered.ensures ⨾ c.add.ensures ⨾ c.add_step_text.ensures

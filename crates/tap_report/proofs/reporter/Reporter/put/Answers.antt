@@ -6,7 +6,7 @@ pub returns : goal.returns
 returns g c =
     let inside = c.self.inside in
     let passed = c.pass_on-self-inside in
-    rw (← c.self.view_is, c.settings_with-self-inside.ensures) (record {
+    rw (← c.self.view_is, c.settings_with-self-inside.ensures, c.with-self-inside.ensures) (record {
       text = AddsText-whole inside.so_far passed.result c.new-text.ensures c.add_record.ensures passed.ensures.adds passed.ensures.after;
       keeps = refl;
     })

@@ -1,0 +1,10 @@
+use Rattle.std.proofs.Common.{take}
+use Rattle.std.specs.List.{flat_map}
+use Rattle.tap_report.specs.Outgoing.{AddsText}
+use Rattle.tap_report.specs.Shapes.{spaced_name}
+use Rattle.tap_report.proofs.outgoing.Outgoing.add_names.Given as goal
+
+abbrev pub invariant-loop-name : goal.invariant-loop-name
+invariant-loop-name g l =
+    AddsText (g.K.Sink.held l.fn.sink) (g.K.Sink.held l.sink) (g.K.Sink.faults l.fn.sink) (g.K.Sink.faults l.sink)
+    l.fn.self l.self (flat_map spaced_name (take l.name-index l.names))
