@@ -1,5 +1,5 @@
-pub mod Fitting
-pub mod Tables
-pub mod Ascending
-pub mod Texts
+pub mod Growing
+pub mod Kept
+pub mod Lines
 pub mod RunLemmas
+pub mod Texts

@@ -6,9 +6,9 @@ use Rattle.tap_scenario.specs.Scenario.{Script}
 use Rattle.tap_log.specs.declared.record.Record.{Record}
 use Rattle.tap_log.specs.declared.record.Record.TheVariants.{Begin, Walked, RootOf, Finished}
 use Rattle.tap_log.specs.Moments.{EachRecord, IsMoment, core_of, last_of, steps_of}
-use Rattle.tap_surrogate.specs.Tables.{Tables}
+use Rattle.tap_surrogate.specs.Nodes.{Nodes, core_links}
 use Rattle.tap_surrogate.specs.HoleFree.{IsHoleFree}
-use Rattle.tap_surrogate.specs.Members.{AreMembersTables}
+use Rattle.tap_surrogate.specs.Members.{AreMembersAtRest}
 use Rattle.tap_surrogate.specs.Laws.{LeadsToRoot}
 use Rattle.tap_top.specs.Lawful.{IsLawful}
 
@@ -25,12 +25,12 @@ pub record IsLogOf (s : Script) (log : List Record) : Type 0 where
   pub begins : (rest : List Record) × (log ≡ Begin s.settings s.frames s.members ∷ rest)
   -- the steps that were begun are the script's first ones
   pub steps : steps_of log ≡ take (length (steps_of log)) s.steps
-  -- Over tables that have the least members in each slot: the log is lawful, at every moment no core node's table has a hole
-  -- that another core node could fill, and every walk finds the one root.
-  pub tables : Tables
-  pub at_rest : AreMembersTables s.settings s.members tables
-  pub lawful : IsLawful s.settings tables log
-  pub hole_free : (m : ℕ) → IsMoment log m → IsHoleFree s.settings (core_of (take m log)) tables
+  -- Over the members at rest: the log is lawful, at every moment no core node's table has a hole that another core node could
+  -- fill, and every walk finds the one root.
+  pub nodes : Nodes
+  pub at_rest : AreMembersAtRest s.settings s.members nodes
+  pub lawful : IsLawful s.settings nodes log
+  pub hole_free : (m : ℕ) → IsMoment log m → IsHoleFree s.settings (core_of (take m log)) (core_links nodes)
   pub finds_roots : EachRecord (FindsRoot s.settings) log
 
 -- every step of the script was run

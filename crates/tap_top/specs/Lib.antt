@@ -1,5 +1,6 @@
 pub mod Members
 pub mod AtRest
+pub mod Lines
 pub mod FaultLine
 pub mod Lawful
 pub mod Headline

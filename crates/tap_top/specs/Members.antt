@@ -1,35 +1,20 @@
--- the tables of members, as they are kept: by the member's name, and by the number of the slot
-use Rattle.std.specs.Prelude.{ℕ, ◌+◌, ◌*◌, ◌/◌, ◌%◌, Bool, nat_lt, bytes_eq, if◌then◌else◌, List, [], map, take, Option, None, Some}
-use Rattle.std.specs.List.{list_any, slice_index_or, range_with_len}
-use Rattle.tap_name.specs.declared.slot.Slot.{Slot}
+-- the ties of members, by their names
+use Rattle.std.specs.Prelude.{◌≡◌, ℕ, List, Option, Some, MatchOption}
 use Rattle.tap_name.specs.Settings.{Parameters}
-use Rattle.tap_surrogate.specs.Members.{fitting}
+use Rattle.tap_name.specs.Root.{Among}
+use Rattle.tap_table.specs.Members.{AreAtRest}
+use Rattle.tap_table.specs.Ties.{BothWays}
+use Rattle.tap_surrogate.specs.Nodes.{IsTableOf}
 
--- The slots of a table are numbered level by level.
-abbrev pub slot_number : ℕ → Slot → ℕ
-slot_number base slot = slot.level * base + slot.digit
+-- the table under each name is that name's
+abbrev pub HaveOwnTables : Parameters → (List ℕ → Option BothWays) → Type 0
+HaveOwnTables p kept = (name : List ℕ) (ties : BothWays) → kept name ≡ Some ties → IsTableOf p name ties.table
 
-abbrev pub slot_numbered : ℕ → ℕ → Slot
-slot_numbered base number = record { level = number / base; digit = number % base }
+-- what is kept under a name: the ties at rest over the members, where it is one of these owners, and else nothing
+abbrev pub IsKept : Parameters → List (List ℕ) → List (List ℕ) → List ℕ → Option BothWays → Type 0
+IsKept p members owners name kept =
+    MatchOption kept (Among name owners → ⊥) (λ ties. Among name owners × AreAtRest p name members ties)
 
--- the first ones of these names that fit a slot of the owner, as many as the width allows
-abbrev pub first_fitting : Parameters → List ℕ → List (List ℕ) → Slot → List (List ℕ)
-first_fitting p owner names slot = take p.width (fitting owner slot names)
-
--- the table of an owner: these names in each slot, by its number
-abbrev pub table_at_rest : Parameters → List (List ℕ) → List ℕ → List (List (List ℕ))
-table_at_rest p names owner =
-    map (λ number. first_fitting p owner names (slot_numbered p.base number)) (range_with_len 0 (p.base * p.digits))
-
--- the links of a slot in a table, where there is one
-abbrev pub links_in : Parameters → Option (List (List (List ℕ))) → Slot → List (List ℕ)
-links_in p None slot = []
-links_in p (Some slots) slot = if nat_lt slot.digit p.base then slice_index_or slots (slot_number p.base slot) [] else []
-
--- whether a name is among these
-abbrev pub is_among : List (List ℕ) → List ℕ → Bool
-is_among names name = list_any (λ member. bytes_eq member name) names
-
--- the table of a name, where it is among these
-abbrev pub table_among : Parameters → List (List ℕ) → List (List ℕ) → List ℕ → Option (List (List (List ℕ)))
-table_among p names owners name = if is_among owners name then Some (table_at_rest p names name) else None
+-- each of these owners, and no other name, has its ties at rest over the members
+abbrev pub AreTiesOf : Parameters → List (List ℕ) → List (List ℕ) → (List ℕ → Option BothWays) → Type 0
+AreTiesOf p members owners kept = (name : List ℕ) → IsKept p members owners name (kept name)

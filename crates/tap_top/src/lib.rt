@@ -4,6 +4,7 @@
 //! written. A log is that of a run over fixed members, whose tables have no hole, and whose walks find the one root.
 #![tactic(auto)]
 
+mod answers;
 mod fault_line;
 mod members;
 mod memory;

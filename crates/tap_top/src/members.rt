@@ -1,164 +1,78 @@
-ghost use Rattle.std.specs.Prelude.{◌≡◌, ◌<◌, ◌≤◌, ◌∷◌, [], ◌++◌, nat_lt, if◌then◌else◌, IfOk, OnOk, length, All, AllPairs, is_some, List as Items, ℕ};
+ghost use Rattle.std.specs.Prelude.{IfOk, All};
 ghost use Rattle.std.specs.Cmp.Lexicographic.{slice_cmp};
 ghost use Rattle.std.specs.Ordering.{nat_cmp};
 ghost use Rattle.std.specs.BTreeMap.{get};
 ghost use Rattle.tap_name.specs.Name.{IsName};
-ghost use Rattle.tap_name.specs.Slot.{slot_at};
 ghost use Rattle.tap_scenario.specs.Scenario.{AreDistinct};
-ghost use Rattle.tap_surrogate.specs.Members.{is_slot};
-ghost use Rattle.tap_top.specs.Members.{first_fitting, table_among, table_at_rest};
+ghost use Rattle.tap_top.specs.Members.{AreTiesOf, HaveOwnTables};
 
 use crate::memory::NoMemory;
 use std::alloc::Global;
 use std::collections::BTreeMap;
-use std::marker::Model;
-use tap_name::{List, Name, Settings, Slot, slot_of};
-use tap_surrogate::Links;
+use tap_name::{List, Name, Settings};
+use tap_surrogate::Tables;
+use tap_table::{Table, Ties};
 
-// The links of one member: a list for each slot of its table, found by the slot's number.
-#[derive(Drop)]
-struct Table {
-    slots: Vec<List<Name>>,
-}
-
-impl Model for Table {
-    ghost use Rattle.std.specs.Prelude.{List, ℕ};
-
-    ghost Value = { List (List (List ℕ)) };
-
-    ghost view = { λ t. t.slots.items };
-}
-
-// The tables of the members of an overlay: each slot has the least members that fit it, as many as the width allows.
+// The members of an overlay, each with its ties at rest.
 #[derive(Drop)]
 pub(crate) struct Members {
     settings: Settings,
-    tables: BTreeMap<Name, Table>,
+    ties: BTreeMap<Name, Ties>,
+    ghost valid: { HaveOwnTables settings (get (slice_cmp nat_cmp) ties) },
 }
 
-impl Links for Members {
-    ghost use Rattle.tap_top.specs.AtRest.{tables_of};
+impl Tables for Members {
+    ghost use Rattle.tap_top.specs.AtRest.{nodes_of};
 
     ghost parameters = { λ m. m.settings };
 
-    ghost tables = { tables_of };
+    ghost nodes = { nodes_of };
 
     fn settings(&self) -> Settings {
         self.settings
     }
 
-    fn least_link(&self, node: &Name, slot: Slot) -> Option<Name> {
-        let table = self.tables.get(node)?;
-        let number = slot.level as usize * self.settings.base() as usize + slot.digit as usize;
-        table.slots.get(number)?.as_slice().first().copied()
+    fn table_of(&self, name: Name) -> Option<&Table> {
+        Some(self.ties.get(&name)?.table())
+    }
+
+    fn is_core(&self, name: Name) -> bool {
+        self.ties.contains_key(&name)
     }
 }
 
 impl Members {
-    ghost use Rattle.tap_top.specs.AtRest.{AreAtRest};
+    ghost use Rattle.tap_top.specs.AtRest.{AreKeptAtRest};
 
-    // The tables of distinct members.
+    // The ties of distinct members.
     pub(crate) fn new(
         alloc: Global,
         settings: Settings,
-        members: &[Name],
+        members: &List<Name>,
     ) -> Result<Members, NoMemory>
         requires names { All (IsName settings) members.now }
         requires distinct { AreDistinct members.now }
-        ensures { IfOk result (AreAtRest settings members.now) }
+        ensures { IfOk result (AreKeptAtRest settings members.now) }
     {
-        let mut names = Vec::from_slice(alloc, members)?;
-        names.sort()?;
-        let tables = tables_of(alloc, &settings, names.as_slice())?;
-        Ok(Members { settings, tables })
-    }
-
-    // Whether a name is a member's.
-    pub(crate) fn has(&self, name: &Name) -> bool
-        ensures { result ≡ is_some (get (slice_cmp nat_cmp) self.now.tables name.now) }
-    {
-        self.tables.contains_key(name)
+        let ties = ties_of(alloc, &settings, members)?;
+        Ok(Members { settings, ties })
     }
 }
 
-// The table of each of these names, over all of them.
-fn tables_of(
+// The ties at rest of each member.
+fn ties_of(
     alloc: Global,
     settings: &Settings,
-    names: &[Name],
-) -> Result<BTreeMap<Name, Table>, NoMemory>
-    requires { All (IsName settings.now) names.now }
-    ensures { IfOk result (λ tables. (name : Items ℕ) → get (slice_cmp nat_cmp) tables name ≡ table_among settings.now names.now names.now name) }
+    members: &List<Name>,
+) -> Result<BTreeMap<Name, Ties>, NoMemory>
+    requires names { All (IsName settings.now) members.now }
+    requires distinct { AreDistinct members.now }
+    ensures { IfOk result (λ ties. AreTiesOf settings.now members.now members.now (get (slice_cmp nat_cmp) ties)) }
 {
-    let mut tables = BTreeMap::new(alloc);
-    for owner in names {
-        let table = table_of(alloc, settings, owner, names)?;
-        tables.insert(*owner, table)?;
+    let mut ties = BTreeMap::new(alloc);
+    for member in members.as_slice() {
+        let at_rest = Ties::at_rest(alloc, *member, settings, members)?;
+        ties.insert(*member, at_rest)?;
     }
-    Ok(tables)
-}
-
-// The table of an owner over these names: the links of each slot, in the order of the slots' numbers.
-fn table_of(
-    alloc: Global,
-    settings: &Settings,
-    owner: &Name,
-    names: &[Name],
-) -> Result<Table, NoMemory>
-    requires owner { IsName settings.now owner.now }
-    requires names { All (IsName settings.now) names.now }
-    ensures { IfOk result (λ table. table ≡ table_at_rest settings.now names.now owner.now) }
-{
-    let base = settings.base() as usize;
-    let mut slots = Vec::new(alloc);
-    for number in 0..base * settings.digits() as usize {
-        let slot = Slot {
-            level: (number / base) as u8,
-            digit: (number % base) as u8,
-        };
-        slots.push(links_of(alloc, settings, owner, names, slot)?)?;
-    }
-    Ok(Table { slots })
-}
-
-// The first ones of these names that fit a slot of the owner, as many as the width allows.
-fn links_of(
-    alloc: Global,
-    settings: &Settings,
-    owner: &Name,
-    names: &[Name],
-    slot: Slot,
-) -> Result<List<Name>, NoMemory>
-    requires owner { IsName settings.now owner.now }
-    requires names { All (IsName settings.now) names.now }
-    ensures { IfOk result (λ links. links ≡ first_fitting settings.now owner.now names.now slot) }
-{
-    let mut links = List::new(alloc);
-    for name in names {
-        if is_in_slot(owner, name, slot) {
-            add_within(&mut links, settings.width(), *name)?;
-        }
-    }
-    Ok(links)
-}
-
-// Adds a name to a list that has fewer than so many.
-fn add_within(links: &mut List<Name>, most: u8, name: Name) -> Result<(), NoMemory>
-    ensures { OnOk result (links.new ≡ (if nat_lt (length links.old) most then links.old ++ name ∷ [] else links.old)) }
-{
-    if links.len() < most as usize {
-        links.push(name)?;
-    }
-    Ok(())
-}
-
-// Whether `b` stands in this slot of the table of `a`.
-fn is_in_slot(a: &Name, b: &Name, slot: Slot) -> bool
-    requires { length a.now ≡ length b.now }
-    ensures { result ≡ is_slot slot (slot_at a.now b.now) }
-{
-    match slot_of(a, b) {
-        Some(other) => other.level == slot.level && other.digit == slot.digit,
-        None => false,
-    }
+    Ok(ties)
 }

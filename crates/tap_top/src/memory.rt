@@ -33,3 +33,9 @@ impl From<tap_surrogate::NoMemory> for NoMemory {
         NoMemory
     }
 }
+
+impl From<tap_table::NoMemory> for NoMemory {
+    fn from(_: tap_table::NoMemory) -> NoMemory {
+        NoMemory
+    }
+}

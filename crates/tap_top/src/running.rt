@@ -1,79 +1,20 @@
 ghost use Rattle.std.specs.Prelude.{◌≡◌, ◌<◌, ◌≤◌, ◌+◌, [], ◌∷◌, ◌++◌, ℕ, List as Items, Option as Optional, None, Some, OnOk, OnErr, IfOk, length, ◌⊎◌, fold, take};
-ghost use Rattle.tap_name.specs.Name.{IsName};
-ghost use Rattle.tap_name.specs.Root.{root};
-ghost use Rattle.tap_scenario.specs.Step.{IsStep};
 ghost use Rattle.tap_report.specs.Text.{IsPrintableLog};
 ghost use Rattle.tap_report.specs.Reporter.{Reports, settings_after, kept_at_first};
 ghost use Rattle.tap_report.specs.declared.mode.Mode.{Mode as ReportMode};
-ghost use Rattle.tap_top.specs.AtRest.{AreAtRest, tables_of};
-ghost use Rattle.tap_top.specs.Lawful.{Answers};
+ghost use Rattle.tap_top.specs.AtRest.{AreKeptAtRest, nodes_of};
 ghost use Rattle.tap_top.specs.Headline.{IsLogOf, IsWholeLogOf};
 ghost use Rattle.tap_top.specs.Running.{HasRun};
 
+use crate::answers::answer;
 use crate::members::Members;
 use crate::memory::NoMemory;
 use std::alloc::Global;
 use tap_io::Sink;
-use tap_log::{Log, Record, Refusal};
-use tap_name::{List, Name};
+use tap_log::{Log, Record};
+use tap_name::List;
 use tap_report::Reporter;
-use tap_scenario::{Scenario, Step};
-use tap_surrogate::{root_of, walk_path};
-
-// The record that answers a step.
-fn answer(
-    alloc: Global,
-    scenario: &Scenario,
-    members: &Members,
-    index: u32,
-    step: &Step,
-) -> Result<Record, NoMemory>
-    requires at_rest { AreAtRest scenario.now.settings scenario.now.members members.now }
-    requires step { IsStep scenario.now.settings step.now }
-    ensures { IfOk result (Answers scenario.now.settings (tables_of members.now) scenario.now.members index step.now) }
-{
-    match step {
-        Step::Root { object } => Ok(Record::RootOf {
-            object: *object,
-            root: root_over_members(scenario, object),
-        }),
-        Step::Walk { object, asker } => {
-            walk_from(alloc, scenario, members, index, *object, *asker)
-        }
-    }
-}
-
-// The record of a walk, or of its refusal where the asker is no member.
-fn walk_from(
-    alloc: Global,
-    scenario: &Scenario,
-    members: &Members,
-    index: u32,
-    object: Name,
-    asker: Name,
-) -> Result<Record, NoMemory>
-    requires at_rest { AreAtRest scenario.now.settings scenario.now.members members.now }
-    requires object { IsName scenario.now.settings object }
-    requires asker { IsName scenario.now.settings asker }
-    ensures { IfOk result (Answers scenario.now.settings (tables_of members.now) scenario.now.members index (Step.Walk object asker)) }
-{
-    if !members.has(&asker) {
-        return Ok(Record::Refused {
-            index,
-            refusal: Refusal::NoSuchNode,
-        });
-    }
-    let path = walk_path(alloc, members, asker, object)?;
-    Ok(Record::Walked { object, path })
-}
-
-// The root of an object over all members.
-fn root_over_members(scenario: &Scenario, object: &Name) -> Name
-    requires { IsName scenario.now.settings object.now }
-    ensures { root scenario.now.settings.base scenario.now.members object.now ≡ Some result }
-{
-    root_of(scenario.members(), &scenario.settings(), object).unwrap()
-}
+use tap_scenario::Scenario;
 
 // Adds the group of the step at a place: the step, and the record that answers it. A refused call adds nothing.
 fn add_group(
@@ -83,10 +24,10 @@ fn add_group(
     place: usize,
     log: &mut Log,
 ) -> Result<(), NoMemory>
-    requires at_rest { AreAtRest scenario.now.settings scenario.now.members members.now }
+    requires at_rest { AreKeptAtRest scenario.now.settings scenario.now.members members.now }
     requires place { place < length scenario.now.steps }
-    requires run { HasRun scenario.now (tables_of members.now) log.old.records place }
-    ensures ok { OnOk result (HasRun scenario.now (tables_of members.now) log.new.records (place + 1)) }
+    requires run { HasRun scenario.now (nodes_of members.now) log.old.records place }
+    ensures ok { OnOk result (HasRun scenario.now (nodes_of members.now) log.new.records (place + 1)) }
     ensures grows { OnOk result (take (length log.old.records) log.new.records ≡ log.old.records) }
     ensures err { OnErr result (log.new.records ≡ log.old.records) }
 {
@@ -141,7 +82,7 @@ pub(crate) fn run_scenario<K: Sink>(
     ensures reports { Reports reporter.old.mode log.new.records (K.held sink.old) (K.held sink.new)
         (K.faults sink.old) (K.faults sink.new) reporter.new }
 {
-    let members = Members::new(alloc, scenario.settings(), scenario.members().as_slice())?;
+    let members = Members::new(alloc, scenario.settings(), scenario.members())?;
     let first = begin(alloc, scenario)?;
     log.push(first)?;
     put_from(log, 0, reporter, sink);

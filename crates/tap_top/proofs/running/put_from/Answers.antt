@@ -12,7 +12,8 @@ put-requires-clause-begins g c =
 
 pub put-requires-clause-printable : goal.put-requires-clause-printable
 put-requires-clause-printable g c =
-    printable_at c.args.log.now.records c.loop-place.place c.at.result.now (omega arith) c.at.ensures c.requires.printable.each
+    printable_at c.args.log.now.records c.loop-place.place c.at.result.now c.loop-place.reporter.settings (omega arith) c.at.ensures c.loop-place.invariant.settings
+    c.requires.printable.each
 
 pub loop-place-preserved : goal.loop-place-preserved
 loop-place-preserved g c =

@@ -1,15 +1,15 @@
-use Rattle.std.proofs.Common.{◌⊎◌, inr, [], ◌≡◌, arith, ap, ◌∙◌, List}
+use Rattle.std.proofs.Common.{◌⊎◌, inr, [], ◌≡◌, arith, ap, List}
 use Rattle.tap_log.specs.Log.{Contents}
 use Rattle.tap_log.specs.declared.record.Record.{Record}
 use Rattle.tap_log.specs.declared.record.Record.TheVariants.{Finished}
-use Rattle.tap_top.specs.AtRest.{tables_of}
+use Rattle.tap_top.specs.AtRest.{nodes_of}
 use Rattle.tap_top.specs.Headline.{IsLogOf}
-use Rattle.tap_top.proofs.RunLemmas.{begun_run, finished_run, front_of_push, log_kept, on_err, reports_fresh, reports_front, tables_at_rest}
+use Rattle.tap_top.proofs.RunLemmas.{begun_run, finished_run, front_of_push, log_kept, on_err, reports_fresh, reports_front, nodes_at_rest}
 use Rattle.tap_top.proofs.running.run_scenario.Goals as goal
 
 pub loop-place-init : goal.loop-place-init
 loop-place-init g c = record {
-  run = begun_run c.args.scenario.now (tables_of c.in_ok-members.members) c.args.log.now.records c.push.new.self.records c.in_ok-first.first c.requires.empty
+  run = begun_run c.args.scenario.now (nodes_of c.in_ok-members.members) c.args.log.now.records c.push.new.self.records c.in_ok-first.first c.requires.empty
       c.in_ok-push.ensures.ok c.in_ok-first.ensures;
   reports = c.put_from.ensures c.args.reporter.now.mode (g.K.Sink.held c.args.sink.now) (g.K.Sink.faults c.args.sink.now)
       (reports_fresh (g.K.Sink.held c.args.sink.now) (g.K.Sink.faults c.args.sink.now) c.args.reporter.now c.requires.fresh);
@@ -19,10 +19,10 @@ pub returns-in_err-add_group-clause-part : goal.returns-in_err-add_group-clause-
 returns-in_err-add_group-clause-part g c =
     let script = c.args.scenario.now in
     let new = c.add_group.new.log.records in
-    let rest = tables_at_rest c.settings.result c.args.scenario.now.settings c.as_slice.result.now c.args.scenario.now.members c.in_ok-members.members c.settings.ensures.value
-    (c.as_slice.ensures ∙ c.members.ensures.value) c.in_ok-members.ensures in
+    let rest = nodes_at_rest c.settings.result c.args.scenario.now.settings c.members.result.now c.args.scenario.now.members c.in_ok-members.members c.settings.ensures.value
+    c.members.ensures.value c.in_ok-members.ensures in
     on_err c.from_residual-in_err-add_group.result ((new ≡ []) ⊎ IsLogOf script new)
-    (inr (log_kept script (tables_of c.in_ok-members.members) c.loop-place.log.records new c.loop-place.place c.step_count-count.ensures.valid rest
+    (inr (log_kept script (nodes_of c.in_ok-members.members) c.loop-place.log.records new c.loop-place.place c.step_count-count.ensures.valid rest
     c.loop-place.invariant.run (omega arith) c.in_err-add_group.ensures.err))
 
 pub loop-place-preserved : goal.loop-place-preserved
@@ -38,24 +38,24 @@ returns-in_err-push-2-clause-part g c =
     let script = c.args.scenario.now in
     let new = c.push-2.new.self.records in
     let records_of : Contents → List Record = λ log. log.records in
-    let rest = tables_at_rest c.settings.result c.args.scenario.now.settings c.as_slice.result.now c.args.scenario.now.members c.in_ok-members.members c.settings.ensures.value
-    (c.as_slice.ensures ∙ c.members.ensures.value) c.in_ok-members.ensures in
+    let rest = nodes_at_rest c.settings.result c.args.scenario.now.settings c.members.result.now c.args.scenario.now.members c.in_ok-members.members c.settings.ensures.value
+    c.members.ensures.value c.in_ok-members.ensures in
     on_err c.from_residual-in_err-push-2.result ((new ≡ []) ⊎ IsLogOf script new)
-    (inr (log_kept script (tables_of c.in_ok-members.members) c.loop-place.log.records new c.loop-place.place c.step_count-count.ensures.valid rest
+    (inr (log_kept script (nodes_of c.in_ok-members.members) c.loop-place.log.records new c.loop-place.place c.step_count-count.ensures.valid rest
     c.loop-place.invariant.run (omega arith) (ap records_of c.in_err-push-2.ensures.err)))
 
 pub put_from-requires-2-clause-printable : goal.put_from-requires-2-clause-printable
 put_from-requires-2-clause-printable g c =
-    let rest = tables_at_rest c.settings.result c.args.scenario.now.settings c.as_slice.result.now c.args.scenario.now.members c.in_ok-members.members c.settings.ensures.value
-    (c.as_slice.ensures ∙ c.members.ensures.value) c.in_ok-members.ensures in
-    (finished_run c.args.scenario.now (tables_of c.in_ok-members.members) c.loop-place.log.records c.push-2.new.self.records c.loop-place.place c.step_count-count.result
+    let rest = nodes_at_rest c.settings.result c.args.scenario.now.settings c.members.result.now c.args.scenario.now.members c.in_ok-members.members c.settings.ensures.value
+    c.members.ensures.value c.in_ok-members.ensures in
+    (finished_run c.args.scenario.now (nodes_of c.in_ok-members.members) c.loop-place.log.records c.push-2.new.self.records c.loop-place.place c.step_count-count.result
     c.step_count-count.ensures.valid rest c.loop-place.invariant.run c.step_count-count.ensures.value (omega arith) (omega arith) c.in_ok-push-2.ensures.ok).1
 
 pub returns-clause-done : goal.returns-clause-done
 returns-clause-done g c =
-    let rest = tables_at_rest c.settings.result c.args.scenario.now.settings c.as_slice.result.now c.args.scenario.now.members c.in_ok-members.members c.settings.ensures.value
-    (c.as_slice.ensures ∙ c.members.ensures.value) c.in_ok-members.ensures in
-    (finished_run c.args.scenario.now (tables_of c.in_ok-members.members) c.loop-place.log.records c.push-2.new.self.records c.loop-place.place c.step_count-count.result
+    let rest = nodes_at_rest c.settings.result c.args.scenario.now.settings c.members.result.now c.args.scenario.now.members c.in_ok-members.members c.settings.ensures.value
+    c.members.ensures.value c.in_ok-members.ensures in
+    (finished_run c.args.scenario.now (nodes_of c.in_ok-members.members) c.loop-place.log.records c.push-2.new.self.records c.loop-place.place c.step_count-count.result
     c.step_count-count.ensures.valid rest c.loop-place.invariant.run c.step_count-count.ensures.value (omega arith) (omega arith) c.in_ok-push-2.ensures.ok).0
 
 pub returns-clause-reports : goal.returns-clause-reports
