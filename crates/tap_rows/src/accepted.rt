@@ -30,6 +30,10 @@ fn accepted_texts_run_to_their_end(rt: HostRuntime) -> Result<(), Fail> {
             "base = 4\ndigits = 3\nwidth = 2\nmembers = [\"000\", \"012\"]\nsteps = [\"walk 123 from 111\", \"root 123\"]\n",
             "begin base 4 digits 3 width 2 frames 200000\nmember 000\nmember 012\nstep 1 walk 123 from 111\nrefused 1 1 no such node\nstep 2 root 123\nrooted 123 at 000\ndone 2\n",
         ),
+        (
+            "base = 4\ndigits = 3\nwidth = 2\nmembers = [\"000\", \"012\", \"230\", \"233\", \"301\"]\nsteps = [\"table 000\", \"table 111\"]\n",
+            "begin base 4 digits 3 width 2 frames 200000\nmember 000\nmember 012\nmember 230\nmember 233\nmember 301\nstep 1 table 000\ntable 000 core links 4\nlink 0 2 230 settled\nlink 0 2 233 settled\nlink 0 3 301 settled\nlink 1 1 012 settled\nstep 2 table 111\nrefused 2 1 no such node\ndone 2\n",
+        ),
     ];
     for (text, printed) in cases.iter() {
         let outcome = run_text(alloc, text.as_bytes(), &[], &[])?;
