@@ -573,7 +573,7 @@ fn steps_are_printed_as_they_are_read(rt: HostRuntime) -> Result<(), Fail> {
         (true, "lose 3"),
         (true, "repeat 3"),
         (false, "cast hello to * from 000"),
-        (false, "cast w2 to 12 from 123"),
+        (false, "cast again to 12 from 123"),
     ];
     for (carried, words) in rows {
         let step = read_step(&settings, carried, words.as_bytes()).ok_or("step")?;
