@@ -79,6 +79,7 @@ pub(crate) fn run_scenario<K: Sink>(
     requires fresh { reporter.old ≡ kept_at_first reporter.old.mode }
     ensures done { OnOk result (IsWholeLogOf scenario.now log.new.records) }
     ensures part { OnErr result ((log.new.records ≡ []) ⊎ IsLogOf scenario.now log.new.records) }
+    ensures printable { IsPrintableLog log.new.records }
     ensures reports { Reports reporter.old.mode log.new.records (K.held sink.old) (K.held sink.new)
         (K.faults sink.old) (K.faults sink.new) reporter.new }
 {

@@ -2,6 +2,7 @@ ghost use Rattle.std.specs.Prelude.{◌≡◌, ◌≢◌, ◌<◌, ◌↔◌, �
 ghost use Rattle.std.specs.Io.KnownBytes.{IsAtEnd};
 ghost use Rattle.tap_io.specs.Faults.{HasRisen};
 ghost use Rattle.tap_report.specs.Reporter.{Reports, kept_at_first};
+ghost use Rattle.tap_report.specs.Text.{IsPrintableLog};
 ghost use Rattle.tap_report.specs.declared.mode.Mode.TheVariants.{Long as LongMode};
 ghost use Rattle.tap_top.specs.Ending.{HasCause, HasRunAll, HasRunSome, HasWritten, IsRefusedWith, IsTextOf, IsUnread, text_of_run};
 
@@ -47,6 +48,7 @@ fn read_and_run<S: Source, K: Sink>(
     requires fresh { reporter.old ≡ kept_at_first reporter.old.mode }
     ensures cause { HasCause (vec_len words.now) (S.left source.old) (S.left source.new)
         (S.faults source.old) (S.faults source.new) log.new.records result }
+    ensures printable { IsPrintableLog log.new.records }
     ensures reports { Reports reporter.old.mode log.new.records (K.held sink.old) (K.held sink.new)
         (K.faults sink.old) (K.faults sink.new) reporter.new }
 {
@@ -92,6 +94,9 @@ pub fn run<S: Source, K: Sink>(
     ensures not_scenario { (fault : Fault) → result.before ≡ Status.NotScenario fault → IsRefusedWith (S.left source.old) fault }
     ensures write_fault { result.status ≡ Status.WriteFault → HasRisen (K.faults sink.old) (K.faults sink.new) }
     ensures before { result.before ≢ Status.WriteFault }
+
+    // Its log can be printed in each mode.
+    ensures printable { IsPrintableLog result.log.records }
 
     // The headline: there is no log, or it is that of a run.
     ensures headline { (result.log.records ≡ []) ⊎ HasRunSome (S.left source.old) (S.left source.new) result.log.records }

@@ -58,6 +58,13 @@ returns-clause-done g c =
     (finished_run c.args.scenario.now (nodes_of c.in_ok-members.members) c.loop-place.log.records c.push-2.new.self.records c.loop-place.place c.step_count-count.result
     c.step_count-count.ensures.valid rest c.loop-place.invariant.run c.step_count-count.ensures.value (omega arith) (omega arith) c.in_ok-push-2.ensures.ok).0
 
+pub returns-clause-printable : goal.returns-clause-printable
+returns-clause-printable g c =
+    let rest = nodes_at_rest c.settings.result c.args.scenario.now.settings c.members.result.now c.args.scenario.now.members c.in_ok-members.members c.settings.ensures.value
+    c.members.ensures.value c.in_ok-members.ensures in
+    (finished_run c.args.scenario.now (nodes_of c.in_ok-members.members) c.loop-place.log.records c.push-2.new.self.records c.loop-place.place c.step_count-count.result
+    c.step_count-count.ensures.valid rest c.loop-place.invariant.run c.step_count-count.ensures.value (omega arith) (omega arith) c.in_ok-push-2.ensures.ok).1
+
 pub returns-clause-reports : goal.returns-clause-reports
 returns-clause-reports g c =
     c.put_from-2.ensures c.args.reporter.now.mode (g.K.Sink.held c.args.sink.now) (g.K.Sink.faults c.args.sink.now)
