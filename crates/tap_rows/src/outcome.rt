@@ -1,6 +1,11 @@
+ghost use Rattle.std.specs.Prelude.{IfOk};
+ghost use Rattle.tap_report.specs.Text.{IsPrintableLog};
+
 use std::alloc::{AllocError, Global};
 use std::test::Fail;
 use tap_io::{MemorySink, MemorySource};
+use tap_log::Log;
+use tap_report::{Mode, Written, write_log};
 use tap_top::{Ended, run};
 
 /// A scenario of one walk over five members, line by line.
@@ -47,11 +52,24 @@ pub(crate) fn run_text(
     text: &[u8],
     read_fails: &[u32],
     write_fails: &[u32],
-) -> Result<Outcome, Fail> {
+) -> Result<Outcome, Fail>
+    ensures { IfOk result (λ outcome. IsPrintableLog outcome.ended.log.records) }
+{
     let mut source = MemorySource::new(alloc, text, 16, read_fails).map_err(|_| "no memory")?;
     let mut sink = MemorySink::new(alloc, 10, 65536, write_fails).map_err(|_| "no memory")?;
     let words = Vec::new(alloc);
     let ended = run(alloc, &words, &mut source, &mut sink);
     let written = Vec::from_slice(alloc, sink.bytes())?;
     Ok(Outcome { ended, written })
+}
+
+/// The brief text of a log.
+pub(crate) fn brief_text(alloc: Global, log: &Log) -> Result<Vec<u8>, Fail>
+    requires { IsPrintableLog log.now.records }
+{
+    let mut sink = MemorySink::new(alloc, 4096, 65536, &[]).map_err(|_| "no memory")?;
+    match write_log(Mode::Brief, log, &mut sink) {
+        Written::All => Ok(Vec::from_slice(alloc, sink.bytes())?),
+        Written::Failed => Err("a write failed")?,
+    }
 }
