@@ -17,6 +17,7 @@ use Rattle.tap_log.specs.Core.{accepted_in, accepted_step, accepted_steps, core_
 use Rattle.tap_log.specs.Published.{has_pair, kept_pair, kept_pairs, pairs_less, published_of, same_pair, without_servers}
 use Rattle.tap_log.specs.Counts.{join_count, names_of, sent_count, with_name}
 use Rattle.tap_log.specs.Laws.{IsLater, OneMoreRecord, accepted_behind, accepted_by, at_most_one}
+use Rattle.tap_log.proofs.Acknowledging.{awaiting-arrived, awaiting-push}
 use Rattle.tap_log.proofs.Less.{filter-swaps, filter-twice, less_by-more, less_by-none, not_or}
 
 pub last_of-push : (log : List Record) (item : Record) → last_of (log ++ item ∷ []) ≡ Some item
@@ -233,6 +234,8 @@ one_more_record_holds =
       abandoned = told-push abandoned_name;
       frames = outstanding-push;
       packets = under_way-push;
+      awaits = awaiting-push;
+      arrives = awaiting-arrived;
       published = λ log item later. published_of-push log item later.no_carrier;
       sent = sent_count-push;
       joins = λ log item later. join_count-push log item later.no_carrier;

@@ -3,4 +3,5 @@ pub mod Growing
 pub mod Instants
 pub mod KeptPairs
 pub mod Less
+pub mod Acknowledging
 pub mod Stepwise

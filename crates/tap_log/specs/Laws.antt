@@ -1,11 +1,11 @@
 -- What one more record at the end of a log changes.
-use Rattle.std.specs.Prelude.{◌≡◌, ◌≢◌, ◌+◌, Bool, List, [], ◌∷◌, ◌++◌, length, fold, Option, None, Some}
+use Rattle.std.specs.Prelude.{◌≡◌, ℕ, ◌≢◌, ◌+◌, Bool, List, [], ◌∷◌, ◌++◌, length, fold, Option, None, Some}
 use Rattle.std.specs.List.{filter_map, cons_option}
 use Rattle.tap_scenario.specs.declared.step.Step.{Step}
 use Rattle.tap_log.specs.declared.record.Record.{Record}
-use Rattle.tap_log.specs.declared.record.Record.TheVariants.{Carrier}
-use Rattle.tap_log.specs.Kinds.{is_carried, members_in, sent_number, taken_number, packet_number, ended_number, core_name, gone_name, abandoned_name, published_pair, withdrawn_pair, join_name, depart_name}
-use Rattle.tap_log.specs.Moments.{last_of, less, outstanding, under_way}
+use Rattle.tap_log.specs.declared.record.Record.TheVariants.{Arrived, Carrier}
+use Rattle.tap_log.specs.Kinds.{is_carried, members_in, sent_number, taken_number, packet_number, arrived_number, ended_number, core_name, gone_name, abandoned_name, published_pair, withdrawn_pair, join_name, depart_name}
+use Rattle.tap_log.specs.Moments.{acknowledged, acknowledged_by, acknowledged_by_all, awaiting, last_of, less, outstanding, under_way}
 use Rattle.tap_log.specs.Core.{abandoned_of, accepted_step, accepted_steps, core_of, departures_of, gone_of, joined_of, names_less}
 use Rattle.tap_log.specs.Published.{pairs_less, published_of, without_servers}
 use Rattle.tap_log.specs.Counts.{join_count, names_of, sent_count, with_name}
@@ -41,6 +41,11 @@ pub record OneMoreRecord : Type 0 where
       → outstanding (log ++ item ∷ []) ≡ less (outstanding log ++ less (at_most_one (sent_number item)) (filter_map taken_number log)) (at_most_one (taken_number item))
   pub packets : (log : List Record) (item : Record)
       → under_way (log ++ item ∷ []) ≡ less (under_way log ++ less (at_most_one (packet_number item)) (filter_map ended_number log)) (at_most_one (ended_number item))
+  pub awaits : (log : List Record) (item : Record) → arrived_number item ≡ None
+      → awaiting (log ++ item ∷ [])
+      ≡ less (awaiting log ++ less (at_most_one (sent_number item)) (acknowledged log)) (at_most_one (acknowledged_by (filter_map arrived_number log) item))
+  pub arrives : (log : List Record) (packet : ℕ)
+      → awaiting (log ++ Arrived packet ∷ []) ≡ less (awaiting log) (acknowledged_by_all (packet ∷ []) log)
   pub published : (log : List Record) (item : Record) → IsLater item
       → published_of (log ++ item ∷ []) ≡ without_servers (filter_map depart_name (accepted_by log item))
       (pairs_less (published_of log) (at_most_one (withdrawn_pair item)) ++ without_servers (departures_of log) (at_most_one (published_pair item)))

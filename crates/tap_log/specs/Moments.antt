@@ -48,9 +48,13 @@ unfoldable pub acknowledged_by : List ℕ → Record → Option ℕ
 acknowledged_by arrived (Packet number frame ack) = (if ack && has_number arrived number then Some frame else None)
 acknowledged_by arrived other = None
 
+-- the frames that these packets acknowledge, by their numbers
+abbrev pub acknowledged_by_all : List ℕ → List Record → List ℕ
+acknowledged_by_all packets log = filter_map (acknowledged_by packets) log
+
 -- the frames whose acknowledgement has arrived, by their numbers
 abbrev pub acknowledged : List Record → List ℕ
-acknowledged log = filter_map (acknowledged_by (filter_map arrived_number log)) log
+acknowledged log = acknowledged_by_all (filter_map arrived_number log) log
 
 -- the frames that await their acknowledgement, by their numbers: those that were sent, less those acknowledged
 abbrev pub awaiting : List Record → List ℕ

@@ -37,9 +37,11 @@ pub(crate) fn step_of(item: &Record) -> Option<Step>
     }
 }
 
-// Whether a group begins with the record.
+/// Whether a group, which is what one step or one delivery did, begins with the record, in a log that is carried or not.
+///
+/// Rule: docs/FORMATS.md, "The printed text".
 #[tactic(auto, unfolding(crate::specs::Kinds::begins_group))]
-pub(crate) fn begins_group(carried: bool, item: &Record) -> bool
+pub fn begins_group(carried: bool, item: &Record) -> bool
     ensures { result ≡ begins_group carried item.now }
 {
     match item {
@@ -50,9 +52,11 @@ pub(crate) fn begins_group(carried: bool, item: &Record) -> bool
     }
 }
 
-// Whether the first record behind a step accepts it.
+/// Whether the first record behind a start accepts it: it is of the start's group, and neither `Refused` nor `Spent`.
+///
+/// Rule: docs/FORMATS.md, "The printed text".
 #[tactic(auto, unfolding(crate::specs::Kinds::accepts))]
-pub(crate) fn accepts(carried: bool, next: &Record) -> bool
+pub fn accepts(carried: bool, next: &Record) -> bool
     ensures { result ≡ accepts carried next.now }
 {
     match next {
@@ -166,9 +170,11 @@ pub(crate) fn join_name(step: &Step) -> Option<Name>
     }
 }
 
-// The name of the node that a step has depart.
+/// The name of the node that a step has depart, `None` exactly where it is no departure.
+///
+/// Rule: docs/FORMATS.md, "The scenario".
 #[tactic(auto, unfolding(crate::specs::Kinds::depart_name))]
-pub(crate) fn depart_name(step: &Step) -> Option<Name>
+pub fn depart_name(step: &Step) -> Option<Name>
     ensures { result ≡ depart_name step.now }
 {
     match step {

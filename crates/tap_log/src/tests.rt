@@ -1,6 +1,7 @@
 use crate::{
-    Bytes, Log, Record, Refusal, awaiting, core_at, departing_at, is_moment, is_rest, join_count,
-    joined_at, name_count, outstanding, published_at, sent_count, under_way,
+    Bytes, Log, Record, Refusal, accepts, awaiting, begins_group, core_at, depart_name,
+    departing_at, is_moment, is_rest, join_count, joined_at, name_count, outstanding, published_at,
+    sent_count, under_way,
 };
 use std::alloc::Global;
 use std::process::Abort;
@@ -263,6 +264,17 @@ fn grows_record_by_record(rt: HostRuntime) -> Result<(), Fail> {
     assert!(rt; matches!(log.at(0), Record::Finished { steps: 3 }));
     assert!(rt; matches!(log.at(1), Record::Refused { index: 7, .. }));
     assert_eq!(rt; log.as_slice().len(), 2);
+    Ok(())
+}
+
+#[test]
+fn a_taken_frame_begins_a_group_unless_it_is_carried(rt: HostRuntime) -> Result<(), Fail> {
+    let taken = Record::Taken { number: 0 };
+    assert!(rt; begins_group(false, &taken));
+    assert!(rt; !begins_group(true, &taken));
+    assert!(rt; !accepts(false, &taken));
+    assert!(rt; accepts(true, &taken));
+    assert_eq!(rt; depart_name(&Step::Settle), None);
     Ok(())
 }
 
