@@ -1,12 +1,11 @@
 -- The summary of a log: how many nodes are left, how many frames were sent, the greatest number of hops of a walk, and how
 -- many lookups were answered with a server.
-use Rattle.std.specs.Prelude.{ℕ, ◌+◌, ◌-◌, ◌≤◌, max, List, [], ◌++◌, length, fold, count_by, cond, codes, bytes_eq, Bool, true, false, not, ◌&&◌, Option, None, Some, if◌then◌else◌}
+use Rattle.std.specs.Prelude.{ℕ, ◌+◌, ◌-◌, ◌≤◌, max, List, [], ◌++◌, length, fold, count_by, cond, codes, bytes_eq, Bool, true, false, Option, None, Some, if◌then◌else◌}
 use Rattle.std.specs.Option.{option_or}
 use Rattle.tap_name.specs.Settings.{Parameters}
-use Rattle.tap_scenario.specs.declared.step.Step.{Step}
-use Rattle.tap_scenario.specs.declared.step.Step.TheVariants.{Depart}
 use Rattle.tap_log.specs.declared.record.Record.{Record}
 use Rattle.tap_log.specs.declared.record.Record.TheVariants as rec
+use Rattle.tap_log.specs.Kinds.{accepts, depart_name}
 use Rattle.tap_report.specs.Shapes.{numbered, line}
 use Rattle.tap_report.specs.declared.mode.Mode.{Mode}
 use Rattle.tap_report.specs.declared.mode.Mode.TheVariants.{Summary}
@@ -53,30 +52,9 @@ is_core item = false
 abbrev pub joined_of : List Record → ℕ
 joined_of records = count_by is_core records
 
--- a group of records begins with this one, in a carried log or another
-abbrev pub begins_group : Bool → Record → Bool
-begins_group carried (rec.Step index step) = true
-begins_group carried (rec.Taken number) = not carried
-begins_group carried (rec.Arrived packet) = carried
-begins_group carried rec.Ticked = carried
-begins_group carried item = false
-
-abbrev pub is_refusal : Record → Bool
-is_refusal (rec.Refused index refusal) = true
-is_refusal (rec.Spent limit) = true
-is_refusal item = false
-
--- a step is accepted where a record stands behind it in its group, and that isn't a refusal
-abbrev pub accepts : Bool → Record → Bool
-accepts carried item = not (begins_group carried item) && not (is_refusal item)
-
 -- the departure that a record asks for
-abbrev pub leaver_of_step : Step → Option (List ℕ)
-leaver_of_step (Depart name) = Some name
-leaver_of_step step = None
-
 abbrev pub asked_by : Record → Option (List ℕ)
-asked_by (rec.Step index step) = leaver_of_step step
+asked_by (rec.Step index step) = depart_name step
 asked_by item = None
 
 abbrev pub is_carrier : Record → Bool

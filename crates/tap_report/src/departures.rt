@@ -1,9 +1,8 @@
 ghost use Rattle.std.specs.Prelude.{◌≡◌, ◌<◌};
-ghost use Rattle.tap_report.specs.Summary.{accepted_after, accepts, asked_by, begins_group, departures_after, departures_at_first, is_carrier, is_gone, is_refusal, leaver_of_step};
+ghost use Rattle.tap_report.specs.Summary.{accepted_after, asked_by, departures_after, departures_at_first, is_carrier, is_gone};
 
-use tap_log::Record;
+use tap_log::{Record, accepts, depart_name};
 use tap_name::Name;
-use tap_scenario::Step;
 
 // What is known of departures behind some records.
 #[derive(Clone, Copy, Debug)]
@@ -57,36 +56,6 @@ impl Departures {
     }
 }
 
-// Whether a step is accepted before this record, which isn't in another group, and no refusal.
-fn accepts(carried: bool, item: &Record) -> bool
-    ensures { result ≡ accepts carried item.now }
-{
-    !begins_group(carried, item) && !is_refusal(item)
-}
-
-// Whether a group of records begins with this one.
-fn begins_group(carried: bool, item: &Record) -> bool
-    ensures { result ≡ begins_group carried item.now }
-{
-    match item {
-        Record::Step { .. } => true,
-        Record::Taken { .. } => !carried,
-        Record::Arrived { .. } => carried,
-        Record::Ticked => carried,
-        _ => false,
-    }
-}
-
-fn is_refusal(item: &Record) -> bool
-    ensures { result ≡ is_refusal item.now }
-{
-    match item {
-        Record::Refused { .. } => true,
-        Record::Spent { .. } => true,
-        _ => false,
-    }
-}
-
 fn is_carrier(item: &Record) -> bool
     ensures { result ≡ is_carrier item.now }
 {
@@ -101,16 +70,7 @@ fn asked_by(item: &Record) -> Option<Name>
     ensures { result ≡ asked_by item.now }
 {
     match item {
-        Record::Step { step, .. } => leaver_of(step),
-        _ => None,
-    }
-}
-
-fn leaver_of(step: &Step) -> Option<Name>
-    ensures { result ≡ leaver_of_step step.now }
-{
-    match step {
-        Step::Depart { name } => Some(*name),
+        Record::Step { step, .. } => depart_name(step),
         _ => None,
     }
 }
