@@ -21,8 +21,8 @@ use Rattle.tap_log.specs.declared.record.Refusal.TheVariants.{NoSuchNode}
 use Rattle.tap_log.specs.declared.record.NodeWord.TheVariants.{Core as CoreWord}
 use Rattle.tap_log.specs.Core.{core_of}
 use Rattle.tap_log.specs.Moments.{EachFrom, EachRecord, IsMoment, last_of, step_of, steps_of}
-use Rattle.tap_log.proofs.Growing.{EachRecord-push, core_of-first, last_of-push}
-use Rattle.tap_top.proofs.Growing.{core_of-same, leaves_nodes, members_in-begin, no_core, no_gone, steps_of-push}
+use Rattle.tap_log.proofs.Growing.{EachRecord-push, core_of-begin, last_of-push}
+use Rattle.tap_top.proofs.Growing.{core_of-left, leaves_nodes, steps_of-push}
 use Rattle.tap_report.specs.Text.{ArePrintable, IsBegin, IsPrintable, IsPrintableLog, settings_of}
 use Rattle.tap_report.proofs.TextLemmas.{ArePrintable-at, settings_of-push}
 use Rattle.tap_report.proofs.ReportsLemmas.{IsPrintableLog-first, IsPrintableLog-push, Reports-new}
@@ -169,8 +169,7 @@ after_each Q before (item ∷ items) (suc (suc k)) each from to =
 -- the first record of a run
 pub has_begun : (s : Script) (nodes : Nodes) (first : Record) → first ≡ Begin s.settings s.frames s.members → HasRun s nodes (first ∷ []) 0
 has_begun s nodes first is =
-    let begin = Begin s.settings s.frames s.members in
-    let core = core_of-first begin (no_gone begin refl) (no_core begin refl) ∙ members_in-begin s.settings s.frames s.members in
+    let core = core_of-begin s.settings s.frames s.members in
     let P : Record → Type 0 = λ item. HasRun s nodes (item ∷ []) 0 in
     subst P (sym is) (record {
       begins = ([], refl);
@@ -202,7 +201,7 @@ has_run_more s nodes log count index step answer script rest run this within ind
     let this_step : get_or s.steps count step ≡ step = get_or_from_slice_get s.steps count step step this in
     let Valid : Step → Type 0 = IsStep s.settings false in
     let is_step = subst Valid this_step (All-get_or Valid s.steps count step within script.steps) in
-    let core_mid : core_of mid ≡ s.members = core_of-same log (StepRecord index step) (omega (arith, run.size)) refl ∙ run.core in
+    let core_mid : core_of mid ≡ s.members = core_of-left log (StepRecord index step) refl ∙ run.core in
     let Free : List (List ℕ) → Type 0 = λ core. IsHoleFree s.settings core (core_links nodes) in
     let free = subst Free (sym core_mid) (hole_free_at_rest s nodes script rest) in
     let Answered : List (List ℕ) → Type 0 = λ core. Answers s.settings nodes core index step answer in
@@ -212,7 +211,7 @@ has_run_more s nodes log count index step answer script rest run this within ind
     let some : 0 < s.settings.base = omega (arith, script.settings.base_from) in
     let says = answer_says s.settings nodes mid index step answer is_step some have free (last_of-push log (StepRecord index step)) answered in
     let core_new : core_of new ≡ s.members =
-    core_of-same mid answer (omega (arith, run.size, length-append log (StepRecord index step ∷ []))) says.leaves ∙ core_mid in
+    core_of-left mid answer says.leaves ∙ core_mid in
     let steps_mid : steps_of mid ≡ steps_of log ++ step ∷ [] = steps_of-push log (StepRecord index step) in
     let no_more : steps_of new ≡ steps_of mid = steps_of-push mid answer ∙ ap (λ o. steps_of mid ++ cons_option o []) says.no_step ∙ append-nil (steps_of mid) in
     let Ends : Option Record → Type 0 = λ last. IsTrue (ends_group last) in
@@ -270,7 +269,7 @@ whole_run s nodes log last script rest run is =
     let end = Finished (length s.steps) in
     let new = log ++ end ∷ [] in
     let begun = steps_begun s nodes log (length s.steps) run (omega arith) in
-    let core_new : core_of new ≡ s.members = core_of-same log end (omega (arith, run.size)) refl ∙ run.core in
+    let core_new : core_of new ≡ s.members = core_of-left log end refl ∙ run.core in
     let steps_new : steps_of new ≡ s.steps = steps_of-push log end ∙ append-nil (steps_of log) ∙ run.steps ∙ take_all (length s.steps) s.steps (omega arith) in
     let IsWholeAt : Option Record → Type 0 = λ o. IsTrue (is_whole o) in
     let keeps = EachRecord-push (KeepsCore s.members) log end run.keeps_core core_new in

@@ -1,11 +1,13 @@
 -- texts that are written
 use Rattle.std.proofs.Common.{◌≡◌, inl, inr, ℕ, List, Option, subst}
+use Rattle.tap_io.specs.Faults.{HasRisen}
+use Rattle.tap_log.specs.declared.record.Record.{Record}
 use Rattle.tap_report.specs.Written.{WritesText}
 use Rattle.tap_report.specs.declared.written.Written.{Written}
 use Rattle.tap_report.specs.declared.written.Written.TheVariants.{All, Failed}
 use Rattle.tap_top.specs.declared.status.Status.{Status}
 use Rattle.tap_top.specs.declared.status.Status.TheVariants.{WriteFault}
-use Rattle.tap_top.specs.Ending.{HasWritten}
+use Rattle.tap_top.specs.Ending.{HasCause, HasWritten}
 
 pub WritesText-same : {old new : Option (List ℕ)} {before now : ℕ} {first second : Written} (text other : List ℕ) → text ≡ other
     → WritesText old new before now text first second → WritesText old new before now other first second
@@ -23,3 +25,15 @@ pub written_part : (old new : Option (List ℕ)) (before now : ℕ) (text : List
     → written ≡ Failed → status ≡ WriteFault → HasWritten old new before now text without status
 written_part old new before now text without status written writes is fault =
     let P : Written → Type 0 = λ w. WritesText old new before now text All w in inr (fault, (subst P is writes).answer)
+
+-- the sink has counted a fault
+pub written_risen : (old new : Option (List ℕ)) (before now : ℕ) (text : List ℕ) (written : Written) → WritesText old new before now text All written
+    → written ≡ Failed → HasRisen before now
+written_risen old new before now text written writes is =
+    let P : Written → Type 0 = λ w. WritesText old new before now text All w in (subst P is writes).answer.risen
+
+-- writing is no cause
+pub never_write_fault : (words : ℕ) (left rest : Option (List ℕ)) (before now : ℕ) (log : List Record) (status : Status)
+    → HasCause words left rest before now log status → status ≡ WriteFault → ⊥
+never_write_fault words left rest before now log status cause is =
+    let P : Status → Type 0 = λ s. HasCause words left rest before now log s in (subst P is cause).2

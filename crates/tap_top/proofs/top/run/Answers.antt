@@ -1,4 +1,4 @@
-use Rattle.std.proofs.Common.{◌++◌, ℕ, List, ap}
+use Rattle.std.proofs.Common.{◌++◌, ◌∙◌, ℕ, List, ap, sym}
 use Rattle.tap_report.specs.Reporter.{Kept}
 use Rattle.tap_report.specs.Text.{text_of_log}
 use Rattle.tap_report.specs.declared.mode.Mode.{Mode}
@@ -7,7 +7,7 @@ use Rattle.tap_report.proofs.ReportsLemmas.{Reports-finish}
 use Rattle.tap_report.proofs.WritesLemmas.{WritesText-then}
 use Rattle.tap_top.specs.Ending.{text_of_run}
 use Rattle.tap_top.specs.FaultLine.{fault_line}
-use Rattle.tap_top.proofs.Texts.{WritesText-same, written_all, written_part}
+use Rattle.tap_top.proofs.Texts.{WritesText-same, never_write_fault, written_all, written_part, written_risen}
 use Rattle.tap_top.proofs.top.run.Goals as goal
 use Rattle.tap_top.proofs.top.run.Goals.{in-All, in-Failed}
 
@@ -22,4 +22,12 @@ returns-clause-written g c =
     elim c.match-written.branch [
       | in-All w ↦ written_all _ _ _ _ (text_of_run Long log before) before c.match-written.status c.write_fault_line-written.result all w.in-All.is w.status-is
       | in-Failed w ↦ written_part _ _ _ _ (text_of_run Long log before) before c.match-written.status c.write_fault_line-written.result all w.in-Failed.is w.status-is
+    ]
+
+pub returns-clause-write_fault : goal.returns-clause-write_fault
+returns-clause-write_fault g c = λ is.
+    let whole = WritesText-then (Reports-finish c.read_and_run-before.ensures.reports c.finish-finished.ensures) c.write_fault_line-written.ensures in
+    elim c.match-written.branch [
+      | in-All w ↦ absurd (never_write_fault _ _ _ _ _ _ c.read_and_run-before.result c.read_and_run-before.ensures.cause (sym w.status-is ∙ is))
+      | in-Failed w ↦ written_risen _ _ _ _ _ c.write_fault_line-written.result whole w.in-Failed.is
     ]
