@@ -1,7 +1,7 @@
 use crate::{
-    Bytes, Log, Record, Refusal, accepts, awaiting, begins_group, core_at, depart_name,
-    departing_at, is_moment, is_rest, join_count, joined_at, name_count, outstanding, published_at,
-    sent_count, under_way,
+    Bytes, Log, Record, Refusal, abandoned_at, accepts, awaiting, begins_group, ceased_at, core_at,
+    depart_name, departing_at, is_moment, is_rest, join_count, joined_at, name_count, outstanding,
+    published_at, sent_count, under_way,
 };
 use std::alloc::Global;
 use std::process::Abort;
@@ -278,6 +278,25 @@ fn a_taken_frame_begins_a_group_unless_it_is_carried(rt: HostRuntime) -> Result<
     Ok(())
 }
 
+#[test]
+fn a_node_that_gave_up_and_is_gone_has_ceased(rt: HostRuntime) -> Result<(), Fail> {
+    let settings = Settings::new(2, 2, 1).ok_or("settings")?;
+    let name = name_of(&settings, "01")?;
+    let mut log = Log::new(rt.alloc());
+    log.push(Record::Abandoned { name })?;
+    assert_eq!(rt;
+        abandoned_at(rt.alloc(), log.as_slice())?.as_slice(),
+        [name].as_slice()
+    );
+    assert_eq!(rt; ceased_at(rt.alloc(), log.as_slice())?.len(), 0);
+    log.push(Record::Gone { name })?;
+    assert_eq!(rt;
+        ceased_at(rt.alloc(), log.as_slice())?.as_slice(),
+        [name].as_slice()
+    );
+    Ok(())
+}
+
 // One node joins, every frame.
 #[test]
 fn one_join(rt: HostRuntime) -> Result<(), Fail> {
@@ -405,7 +424,14 @@ fn a_departure(rt: HostRuntime) -> Result<(), Fail> {
     run.check_counts(&rt, 35, 2, 3)
 }
 
+// Two nodes join at once, every frame.
 fn add_two_joins(run: &mut Typed) -> Result<(), Fail> {
+    add_seeks_and_hellos(run)?;
+    add_answers(run)
+}
+
+// Both seek their surrogate, which greets them and tells the first of the second.
+fn add_seeks_and_hellos(run: &mut Typed) -> Result<(), Fail> {
     run.add(&[
         Line::Join("100", "000"),
         Line::Sent(0),
@@ -445,6 +471,11 @@ fn add_two_joins(run: &mut Typed) -> Result<(), Fail> {
         Line::Sent(15),
         Line::Taken(9),
     ])?;
+    Ok(())
+}
+
+// The answers come back, both become core and release their holders.
+fn add_answers(run: &mut Typed) -> Result<(), Fail> {
     run.add(&[
         Line::Sent(16),
         Line::Taken(10),
