@@ -11,7 +11,8 @@ use Rattle.tap_log.specs.Laws.{at_most_one}
 use Rattle.tap_log.specs.Moments.{acknowledged, acknowledged_by, acknowledged_by_all, awaiting, has_number, less}
 use Rattle.tap_log.proofs.Less.{filter-twice, less_by-more, not_or}
 
-told : {Y : Type 0} (h : Record → Option Y) (log : List Record) (item : Record) → filter_map h (log ++ item ∷ []) ≡ filter_map h log ++ at_most_one (h item)
+-- what the records tell, with one more
+pub told : {Y : Type 0} (h : Record → Option Y) (log : List Record) (item : Record) → filter_map h (log ++ item ∷ []) ≡ filter_map h log ++ at_most_one (h item)
 told h log item = filter_map-append h log (item ∷ [])
 
 told-none : {Y : Type 0} (h : Record → Option Y) (log : List Record) (item : Record) → h item ≡ None → filter_map h (log ++ item ∷ []) ≡ filter_map h log

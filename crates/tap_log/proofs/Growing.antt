@@ -1,5 +1,5 @@
 -- What one more record at the end of a log changes.
-use Rattle.std.proofs.Common.{◌≡◌, ◌≢◌, ℕ, ◌+◌, Bool, true, false, List, [], ◌∷◌, ◌++◌, length, not, nat_eq, Option, None, Some, refl, ap, sym, ◌∙◌, append_assoc, append-nil, length-append, subst, cond}
+use Rattle.std.proofs.Common.{◌≡◌, ◌≢◌, ℕ, ◌+◌, Bool, true, false, List, [], ◌∷◌, ◌++◌, length, filter, not, nat_eq, Option, None, Some, refl, ap, sym, ◌∙◌, append_assoc, append-nil, length-append, subst, cond}
 use Rattle.std.specs.Prelude.{fold, ◌||◌, if◌then◌else◌}
 use Rattle.std.specs.List.{filter_map, cons_option}
 use Rattle.std.specs.Cmp.Lexicographic.{pointwise}
@@ -11,13 +11,13 @@ use Rattle.tap_scenario.specs.declared.step.Step.{Step}
 use Rattle.tap_log.specs.declared.record.Pair.{Pair}
 use Rattle.tap_log.specs.declared.record.Record.{Record}
 use Rattle.tap_log.specs.declared.record.Record.TheVariants.{Begin, Carrier}
-use Rattle.tap_log.specs.Kinds.{is_carried, members_in, sent_number, taken_number, packet_number, ended_number, core_name, gone_name, abandoned_name, published_pair, withdrawn_pair, join_name, depart_name}
+use Rattle.tap_log.specs.Kinds.{accepts, begins_group, is_carried, members_in, step_of, sent_number, taken_number, packet_number, ended_number, core_name, gone_name, abandoned_name, published_pair, withdrawn_pair, join_name, depart_name}
 use Rattle.tap_log.specs.Moments.{EachFrom, EachRecord, last_of, outstanding, under_way, less}
-use Rattle.tap_log.specs.Core.{accepted_in, accepted_step, accepted_steps, core_of, departures_of, gone_of, has_name, joined_of, joins_of, members_of, names_less}
+use Rattle.tap_log.specs.Core.{abandoned_of, accepted_in, accepted_step, accepted_steps, ceased_of, core_of, departures_of, gone_of, has_name, joined_of, joins_of, members_of, names_less}
 use Rattle.tap_log.specs.Published.{has_pair, kept_pair, kept_pairs, pairs_less, published_of, same_pair, without_servers}
 use Rattle.tap_log.specs.Counts.{join_count, names_of, sent_count, with_name}
-use Rattle.tap_log.specs.Laws.{IsLater, OneMoreRecord, accepted_behind, accepted_by, at_most_one}
-use Rattle.tap_log.proofs.Acknowledging.{awaiting-arrived, awaiting-push}
+use Rattle.tap_log.specs.Laws.{IsLater, IsNew, OneMoreRecord, accepted_behind, accepted_by, at_most_one}
+use Rattle.tap_log.proofs.Acknowledging.{awaiting-arrived, awaiting-push, told}
 use Rattle.tap_log.proofs.Less.{filter-swaps, filter-twice, less_by-more, less_by-none, not_or}
 
 pub last_of-push : (log : List Record) (item : Record) → last_of (log ++ item ∷ []) ≡ Some item
@@ -35,17 +35,13 @@ EachFrom-push P before (first ∷ items) item each p =
 pub EachRecord-push : (P : List Record → Record → Type 0) (log : List Record) (item : Record) → EachRecord P log → P log item → EachRecord P (log ++ item ∷ [])
 EachRecord-push P log item each p = EachFrom-push P [] log item each p
 
--- what the records tell, with one more
-pub told-push : {Y : Type 0} (h : Record → Option Y) (log : List Record) (item : Record) → filter_map h (log ++ item ∷ []) ≡ filter_map h log ++ at_most_one (h item)
-told-push h log item = filter_map-append h log (item ∷ [])
-
-one_before : {X : Type 0} (one : Option X) (xs ys : List X) → cons_option one (xs ++ ys) ≡ cons_option one xs ++ ys
+pub one_before : {X : Type 0} (one : Option X) (xs ys : List X) → cons_option one (xs ++ ys) ≡ cons_option one xs ++ ys
 one_before None xs ys = refl
 one_before (Some x) xs ys = refl
 
 -- ---- the beginning
 
-carried_alone : (item : Record) → is_carried (item ∷ []) ≡ false
+pub carried_alone : (item : Record) → is_carried (item ∷ []) ≡ false
 unfolding is_carried
 carried_alone (Begin settings frames members) = refl
 carried_alone item = refl
@@ -56,13 +52,13 @@ carried_second (Begin settings frames members) Carrier other = absurd (other ref
 carried_second (Begin settings frames members) item other = refl
 carried_second first item other = refl
 
-carried_third : (first next : Record) (items more : List Record) → is_carried (first ∷ next ∷ items) ≡ is_carried (first ∷ next ∷ more)
+pub carried_third : (first next : Record) (items more : List Record) → is_carried (first ∷ next ∷ items) ≡ is_carried (first ∷ next ∷ more)
 unfolding is_carried
 carried_third (Begin settings frames members) Carrier items more = refl
 carried_third (Begin settings frames members) next items more = refl
 carried_third first next items more = refl
 
-carried_none : is_carried [] ≡ false
+pub carried_none : is_carried [] ≡ false
 unfolding is_carried
 carried_none = refl
 
@@ -112,9 +108,9 @@ pub core_of-push : (log : List Record) (item : Record) → members_in item ≡ [
 core_of-push log item none =
     came-push (members_of log) (filter_map core_name log) (at_most_one (core_name item)) (gone_of log) (at_most_one (gone_name item))
     (members_of (log ++ item ∷ []) ++ filter_map core_name (log ++ item ∷ [])) (gone_of (log ++ item ∷ []))
-    (ap (λ l. l ++ filter_map core_name (log ++ item ∷ [])) (members_of-push log item none) ∙ ap (λ l. members_of log ++ l) (told-push core_name log item)
+    (ap (λ l. l ++ filter_map core_name (log ++ item ∷ [])) (members_of-push log item none) ∙ ap (λ l. members_of log ++ l) (told core_name log item)
     ∙ sym (append_assoc (members_of log) (filter_map core_name log) (at_most_one (core_name item))))
-    (told-push gone_name log item)
+    (told gone_name log item)
 
 -- the beginning gives its members
 pub core_of-begin : (settings : Parameters) (frames : ℕ) (members : List (List ℕ)) → core_of (Begin settings frames members ∷ []) ≡ members
@@ -136,7 +132,13 @@ joined_of-push log item later =
     (members_of (log ++ item ∷ []) ++ joins_of (log ++ item ∷ [])) (gone_of (log ++ item ∷ []))
     (ap (λ l. l ++ joins_of (log ++ item ∷ [])) (members_of-push log item later.no_members) ∙ ap (λ l. members_of log ++ l) (named-push join_name log item later.no_carrier)
     ∙ sym (append_assoc (members_of log) (joins_of log) (filter_map join_name (accepted_by log item))))
-    (told-push gone_name log item)
+    (told gone_name log item)
+
+ceased_of-push : (log : List Record) (item : Record)
+    → ceased_of (log ++ item ∷ []) ≡ filter (has_name (gone_of log ++ at_most_one (gone_name item))) (abandoned_of log ++ at_most_one (abandoned_name item))
+ceased_of-push log item =
+    ap (λ l. filter (has_name l) (abandoned_of (log ++ item ∷ []))) (told gone_name log item)
+    ∙ ap (filter (has_name (gone_of log ++ at_most_one (gone_name item)))) (told abandoned_name log item)
 
 -- ---- frames and packets
 
@@ -144,7 +146,7 @@ numbers-push : (h k : Record → Option ℕ) (log : List Record) (item : Record)
     → less (filter_map h (log ++ item ∷ [])) (filter_map k (log ++ item ∷ []))
     ≡ less (less (filter_map h log) (filter_map k log) ++ less (at_most_one (h item)) (filter_map k log)) (at_most_one (k item))
 numbers-push h k log item =
-    ap (λ l. less l (filter_map k (log ++ item ∷ []))) (told-push h log item) ∙ ap (λ l. less (filter_map h log ++ at_most_one (h item)) l) (told-push k log item)
+    ap (λ l. less l (filter_map k (log ++ item ∷ []))) (told h log item) ∙ ap (λ l. less (filter_map h log ++ at_most_one (h item)) l) (told k log item)
     ∙ less_by-more nat_eq (filter_map h log) (at_most_one (h item)) (filter_map k log) (at_most_one (k item))
 
 pub outstanding-push : (log : List Record) (item : Record)
@@ -169,7 +171,7 @@ kept_here : (later : List Record) (item : Record) (published : Option Pair) (pai
 kept_here later item None pairs = refl
 kept_here later item (Some pair) pairs =
     let ended = at_most_one (withdrawn_pair item) in
-    let told = ap (λ l. has_pair l pair) (told-push withdrawn_pair later item) ∙ list_any-append (λ other. same_pair other pair) (filter_map withdrawn_pair later) ended in
+    let told = ap (λ l. has_pair l pair) (told withdrawn_pair later item) ∙ list_any-append (λ other. same_pair other pair) (filter_map withdrawn_pair later) ended in
     ap (λ b. cons_option (if b then None else Some pair) (pairs_less pairs ended)) told
     ∙ kept_cases (has_pair (filter_map withdrawn_pair later) pair) (has_pair ended pair) pair pairs ended refl
 
@@ -209,7 +211,7 @@ published_of-push log item other =
 -- ---- counts
 
 pub sent_count-push : (log : List Record) (item : Record) → sent_count (log ++ item ∷ []) ≡ sent_count log + length (at_most_one (sent_number item))
-sent_count-push log item = ap length (told-push sent_number log item) ∙ length-append (filter_map sent_number log) (at_most_one (sent_number item))
+sent_count-push log item = ap length (told sent_number log item) ∙ length-append (filter_map sent_number log) (at_most_one (sent_number item))
 
 pub join_count-push : (log : List Record) (item : Record) → item ≢ Carrier → join_count (log ++ item ∷ []) ≡ join_count log + length (filter_map join_name (accepted_by log item))
 join_count-push log item other = ap length (named-push join_name log item other) ∙ length-append (joins_of log) (filter_map join_name (accepted_by log item))
@@ -222,16 +224,48 @@ names_of-push log item later =
     ∙ ap (fold with_name []) (sym (append_assoc (members_of log) (joins_of log) new))
     ∙ fold-append with_name [] (members_of log ++ joins_of log) new
 
+-- ---- the beginning alone
+
+all_names : (names : List (List ℕ)) → names_less (names ++ []) [] ≡ names
+all_names names = less_by-none (pointwise nat_eq) (names ++ []) ∙ append-nil names
+
+begins_new : (settings : Parameters) (frames : ℕ) (members : List (List ℕ)) → IsNew members (Begin settings frames members ∷ [])
+unfolding is_carried members_in core_name gone_name published_pair withdrawn_pair sent_number taken_number
+begins_new settings frames members =
+    record {
+      accepted = refl;
+      core = all_names members;
+      joined = all_names members;
+      published = refl;
+      departing = refl;
+      names = ap (fold with_name []) (append-nil members);
+    }
+
+begins_carried : (settings : Parameters) (frames : ℕ) (members : List (List ℕ)) → IsNew members (Begin settings frames members ∷ Carrier ∷ [])
+unfolding is_carried begins_group accepts accepted_step members_in core_name gone_name published_pair withdrawn_pair sent_number taken_number
+begins_carried settings frames members =
+    record {
+      accepted = refl;
+      core = all_names members;
+      joined = all_names members;
+      published = refl;
+      departing = refl;
+      names = ap (fold with_name []) (append-nil members);
+    }
+
 -- ---- the law
 
 pub one_more_record_holds : OneMoreRecord
 one_more_record_holds =
     record {
-      members = λ log item is stays none. ap core_of is ∙ core_of-first item stays none;
+      begins = begins_new;
+      begins_carried = begins_carried;
+      steps = told step_of;
       accepted = λ log item later. accepted_steps-push log item later.no_carrier;
       core = λ log item later. core_of-push log item later.no_members;
       joined = joined_of-push;
-      abandoned = told-push abandoned_name;
+      abandoned = told abandoned_name;
+      ceased = ceased_of-push;
       frames = outstanding-push;
       packets = under_way-push;
       awaits = awaiting-push;

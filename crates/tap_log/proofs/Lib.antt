@@ -1,4 +1,5 @@
 pub mod Gathering
+pub mod Groups
 pub mod Growing
 pub mod Instants
 pub mod KeptPairs

@@ -37,7 +37,7 @@ last_push o (x ∷ xs) y = last_push (Some x) xs y
 filter_one : (p : ℕ → Bool) (b : Bool) (y : ℕ) → p y ≡ b → filter p (y ∷ []) ≡ (if b then y ∷ [] else [])
 filter_one p b y is = ap (λ c. if c then y ∷ [] else []) is
 
-passing_more : (p : ℕ → Bool) (n : ℕ) (b : Bool) → p (n + 1) ≡ b → filter p (range_with_len 1 (n + 1)) ≡ filter p (range_with_len 1 n) ++ (if b then (n + 1) ∷ [] else [])
+pub passing_more : (p : ℕ → Bool) (n : ℕ) (b : Bool) → p (n + 1) ≡ b → filter p (range_with_len 1 (n + 1)) ≡ filter p (range_with_len 1 n) ++ (if b then (n + 1) ∷ [] else [])
 passing_more p n b is =
     let next : range_with_len 1 (n + 1) ≡ range_with_len 1 n ++ (n + 1) ∷ [] =
     ap (range_with_len 1) (let e : n + 1 ≡ suc n = omega arith in e) ∙ range_more 1 n ∙ ap (λ k. range_with_len 1 n ++ k ∷ []) (let e : 1 + n ≡ n + 1 = omega arith in e) in

@@ -1,12 +1,14 @@
--- What one more record at the end of a log changes.
-use Rattle.std.specs.Prelude.{◌≡◌, ℕ, ◌≢◌, ◌+◌, Bool, List, [], ◌∷◌, ◌++◌, length, fold, Option, None, Some}
-use Rattle.std.specs.List.{filter_map, cons_option}
+-- What one more record at the end of a log changes, and what one more group does.
+use Rattle.std.specs.Prelude.{◌≡◌, ℕ, ◌≢◌, ◌+◌, ◌<◌, ◌≤◌, All, Bool, false, true, if◌then◌else◌, List, [], ◌∷◌, ◌++◌, length, filter, fold, Option, None, Some}
+use Rattle.std.specs.List.{filter_map, cons_option, last_or}
+use Rattle.tap_name.specs.Settings.{Parameters}
 use Rattle.tap_scenario.specs.declared.step.Step.{Step}
 use Rattle.tap_log.specs.declared.record.Record.{Record}
-use Rattle.tap_log.specs.declared.record.Record.TheVariants.{Arrived, Carrier}
-use Rattle.tap_log.specs.Kinds.{is_carried, members_in, sent_number, taken_number, packet_number, arrived_number, ended_number, core_name, gone_name, abandoned_name, published_pair, withdrawn_pair, join_name, depart_name}
-use Rattle.tap_log.specs.Moments.{acknowledged, acknowledged_by, acknowledged_by_all, awaiting, last_of, less, outstanding, under_way}
-use Rattle.tap_log.specs.Core.{abandoned_of, accepted_step, accepted_steps, core_of, departures_of, gone_of, joined_of, names_less}
+use Rattle.tap_log.specs.declared.record.Record.TheVariants.{Arrived, Begin, Carrier}
+use Rattle.tap_log.specs.Kinds.{begins_group, is_carried, members_in, step_of, sent_number, taken_number, packet_number, arrived_number, ended_number, core_name, gone_name, abandoned_name, published_pair, withdrawn_pair, join_name, depart_name}
+use Rattle.tap_log.specs.Moments.{acknowledged, acknowledged_by, acknowledged_by_all, awaiting, is_moment, is_still, last_of, less, outstanding, steps_of, under_way}
+use Rattle.tap_log.specs.Core.{abandoned_of, accepted_in, accepted_step, accepted_steps, ceased_of, core_of, departures_of, gone_of, has_name, joined_of, names_less}
+use Rattle.tap_log.specs.Departing.{departing_of}
 use Rattle.tap_log.specs.Published.{pairs_less, published_of, without_servers}
 use Rattle.tap_log.specs.Counts.{join_count, names_of, sent_count, with_name}
 
@@ -28,15 +30,28 @@ pub record IsLater (item : Record) : Type 0 where
   pub no_members : members_in item ≡ []
   pub no_carrier : item ≢ Carrier
 
+-- what holds of a log that has its beginning alone: the members are core and joined, and nothing has happened
+pub record IsNew (members : List (List ℕ)) (log : List Record) : Type 0 where
+  pub accepted : accepted_steps log ≡ []
+  pub core : core_of log ≡ members
+  pub joined : joined_of log ≡ members
+  pub published : published_of log ≡ []
+  pub departing : departing_of log ≡ None
+  pub names : names_of log ≡ fold with_name [] members
+
 -- The beginning gives the members. Of one more record, what it tells is added, and what it ends is taken away.
 pub record OneMoreRecord : Type 0 where
-  pub members : (log : List Record) (item : Record) → log ≡ item ∷ [] → gone_name item ≡ None → core_name item ≡ None → core_of log ≡ members_in item
+  pub begins : (settings : Parameters) (frames : ℕ) (members : List (List ℕ)) → IsNew members (Begin settings frames members ∷ [])
+  pub begins_carried : (settings : Parameters) (frames : ℕ) (members : List (List ℕ)) → IsNew members (Begin settings frames members ∷ Carrier ∷ [])
+  pub steps : (log : List Record) (item : Record) → steps_of (log ++ item ∷ []) ≡ steps_of log ++ at_most_one (step_of item)
   pub accepted : (log : List Record) (item : Record) → IsLater item → accepted_steps (log ++ item ∷ []) ≡ accepted_steps log ++ accepted_by log item
   pub core : (log : List Record) (item : Record) → IsLater item
       → core_of (log ++ item ∷ []) ≡ names_less (core_of log ++ names_less (at_most_one (core_name item)) (gone_of log)) (at_most_one (gone_name item))
   pub joined : (log : List Record) (item : Record) → IsLater item
       → joined_of (log ++ item ∷ []) ≡ names_less (joined_of log ++ names_less (filter_map join_name (accepted_by log item)) (gone_of log)) (at_most_one (gone_name item))
   pub abandoned : (log : List Record) (item : Record) → abandoned_of (log ++ item ∷ []) ≡ abandoned_of log ++ at_most_one (abandoned_name item)
+  pub ceased : (log : List Record) (item : Record)
+      → ceased_of (log ++ item ∷ []) ≡ filter (has_name (gone_of log ++ at_most_one (gone_name item))) (abandoned_of log ++ at_most_one (abandoned_name item))
   pub frames : (log : List Record) (item : Record)
       → outstanding (log ++ item ∷ []) ≡ less (outstanding log ++ less (at_most_one (sent_number item)) (filter_map taken_number log)) (at_most_one (taken_number item))
   pub packets : (log : List Record) (item : Record)
@@ -54,3 +69,26 @@ pub record OneMoreRecord : Type 0 where
       → join_count (log ++ item ∷ []) ≡ join_count log + length (filter_map join_name (accepted_by log item))
   pub names : (log : List Record) (item : Record) → IsLater item
       → names_of (log ++ item ∷ []) ≡ fold with_name (names_of log) (filter_map join_name (accepted_by log item))
+
+-- the records of one group, behind a log that has begun: the first one begins the group, and none behind it begins another
+pub record IsGroup (log : List Record) (first : Record) (behind : List Record) : Type 0 where
+  pub begun : 1 ≤ length log
+  pub begins : begins_group (is_carried log) first ≡ true
+  pub alone : All (λ item. begins_group (is_carried log) item ≡ false) behind
+
+-- The node that is departing once a group has ended: none where no frame is then outstanding; else the one whose departure the
+-- group accepts; and where it accepts none, the one that was departing before.
+abbrev pub departing_after : List Record → List Record → Option (List ℕ)
+departing_after log group =
+    (if is_still (log ++ group) then None else last_or (departing_of log) (filter_map depart_name (accepted_in (is_carried log) group)))
+
+-- One more group keeps the moments that there were. Its end is the next one, and no moment is within it.
+pub record OneMoreGroup : Type 0 where
+  pub earlier : (log : List Record) (first : Record) (behind : List Record) → IsGroup log first behind
+      → (m : ℕ) → m ≤ length log → is_moment (log ++ first ∷ behind) m ≡ is_moment log m
+  pub within : (log : List Record) (first : Record) (behind : List Record) → IsGroup log first behind
+      → (m : ℕ) → length log < m → m < length (log ++ first ∷ behind) → is_moment (log ++ first ∷ behind) m ≡ false
+  pub end : (log : List Record) (first : Record) (behind : List Record) → IsGroup log first behind
+      → is_moment (log ++ first ∷ behind) (length (log ++ first ∷ behind)) ≡ true
+  pub departing : (log : List Record) (first : Record) (behind : List Record) → IsGroup log first behind
+      → departing_of (log ++ first ∷ behind) ≡ departing_after log (first ∷ behind)

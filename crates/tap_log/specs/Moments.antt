@@ -1,5 +1,5 @@
 -- The moments of a log, and what is under way at one of them. A log at a moment is the list of the records up to it.
-use Rattle.std.specs.Prelude.{ℕ, ◌≤◌, nat_eq, nat_le, Bool, true, false, not, ◌&&◌, ◌||◌, if◌then◌else◌, List, [], ◌∷◌, ◌++◌, length, filter, slice_get, Option, None, Some, IfSome, IsTrue}
+use Rattle.std.specs.Prelude.{ℕ, nat_eq, nat_le, Bool, true, false, not, ◌&&◌, ◌||◌, if◌then◌else◌, List, [], ◌∷◌, ◌++◌, length, take, filter, slice_get, Option, None, Some}
 use Rattle.std.specs.List.{filter_map, list_any}
 use Rattle.tap_scenario.specs.declared.step.Step.{Step}
 use Rattle.tap_log.specs.declared.record.Record.{Record}
@@ -8,20 +8,22 @@ pub use Rattle.tap_log.specs.Kinds.{is_carried, begins_group, step_of}
 pub use Rattle.tap_log.specs.Core.{core_of}
 use Rattle.tap_log.specs.Kinds.{sent_number, taken_number, packet_number, arrived_number, ended_number}
 
+-- how many records a log begins with: `Begin`, and `Carrier` where it is carried
+abbrev pub beginning : List Record → ℕ
+beginning log = (if is_carried log then 2 else 1)
+
 -- a group begins with the record, or none is there
 abbrev pub ends_before : Bool → Option Record → Bool
 ends_before carried None = true
 ends_before carried (Some next) = begins_group carried next
 
--- A moment is the end of the beginning or of a group: behind it a group begins, or the log ends.
-pub record IsMoment (log : List Record) (m : ℕ) : Type 0 where
-  pub from : 1 ≤ m
-  pub to : m ≤ length log
-  pub behind : IfSome (slice_get log m) (λ next. IsTrue (begins_group (is_carried log) next))
+-- The first m records end a group: one has begun among them, and behind them the next one begins, or the log ends.
+abbrev pub is_group_end : List Record → ℕ → Bool
+is_group_end log m = list_any (begins_group (is_carried log)) (take m log) && ends_before (is_carried log) (slice_get log m)
 
--- the same as a test
+-- A moment is the end of the beginning, or of a group.
 abbrev pub is_moment : List Record → ℕ → Bool
-is_moment log m = nat_le 1 m && (nat_le m (length log) && ends_before (is_carried log) (slice_get log m))
+is_moment log m = nat_le m (length log) && (nat_eq m (beginning log) || is_group_end log m)
 
 -- the steps that were begun, in their order
 abbrev pub steps_of : List Record → List Step

@@ -11,7 +11,7 @@ use tap_name::{List, Name};
 
 /// How many frames were sent.
 ///
-/// Rule: docs/FORMATS.md, "The printed text".
+/// Rule: docs/FORMATS.md, "Groups and moments".
 pub fn sent_count(alloc: Global, records: &[Record]) -> Result<usize, NoMemory>
     ensures { IfOk result (λ count. count ≡ sent_count records.now) }
 {
@@ -20,7 +20,7 @@ pub fn sent_count(alloc: Global, records: &[Record]) -> Result<usize, NoMemory>
 
 /// How many joins were accepted.
 ///
-/// Rule: docs/FORMATS.md, "The printed text".
+/// Rule: docs/FORMATS.md, "Groups and moments".
 pub fn join_count(alloc: Global, records: &[Record]) -> Result<usize, NoMemory>
     ensures { IfOk result (λ count. count ≡ join_count records.now) }
 {
@@ -42,7 +42,7 @@ fn each_once(alloc: Global, names: &[Name]) -> Result<Vec<Name>, NoMemory>
 
 /// The names that were ever members or joined, each once.
 ///
-/// Rule: docs/FORMATS.md, "The printed text".
+/// Rule: docs/FORMATS.md, "Groups and moments".
 pub fn names_at(alloc: Global, records: &[Record]) -> Result<List<Name>, NoMemory>
     ensures { IfOk result (λ names. names ≡ names_of records.now) }
 {
@@ -53,7 +53,7 @@ pub fn names_at(alloc: Global, records: &[Record]) -> Result<List<Name>, NoMemor
 
 /// How many names were ever members or joined.
 ///
-/// Rule: docs/FORMATS.md, "The printed text".
+/// Rule: docs/FORMATS.md, "Groups and moments".
 pub fn name_count(alloc: Global, records: &[Record]) -> Result<usize, NoMemory>
     ensures { IfOk result (λ count. count ≡ name_count records.now) }
 {

@@ -39,7 +39,7 @@ fn last_still(alloc: Global, records: &[Record]) -> Result<usize, NoMemory>
 /// The node that is departing at the end of the records: the last one whose departure was accepted since the last
 /// moment at which no frame was outstanding.
 ///
-/// Rule: docs/FORMATS.md, "The printed text".
+/// Rule: docs/FORMATS.md, "Groups and moments".
 pub fn departing_at(alloc: Global, records: &[Record]) -> Result<Option<Name>, NoMemory>
     ensures { IfOk result (λ name. name ≡ departing_of records.now) }
 {

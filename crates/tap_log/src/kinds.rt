@@ -39,7 +39,7 @@ pub(crate) fn step_of(item: &Record) -> Option<Step>
 
 /// Whether a group, which is what one step or one delivery did, begins with the record, in a log that is carried or not.
 ///
-/// Rule: docs/FORMATS.md, "The printed text".
+/// Rule: docs/FORMATS.md, "Groups and moments".
 #[tactic(auto, unfolding(crate::specs::Kinds::begins_group))]
 pub fn begins_group(carried: bool, item: &Record) -> bool
     ensures { result ≡ begins_group carried item.now }
@@ -54,7 +54,7 @@ pub fn begins_group(carried: bool, item: &Record) -> bool
 
 /// Whether the first record behind a start accepts it: it is of the start's group, and neither `Refused` nor `Spent`.
 ///
-/// Rule: docs/FORMATS.md, "The printed text".
+/// Rule: docs/FORMATS.md, "Groups and moments".
 #[tactic(auto, unfolding(crate::specs::Kinds::accepts))]
 pub fn accepts(carried: bool, next: &Record) -> bool
     ensures { result ≡ accepts carried next.now }

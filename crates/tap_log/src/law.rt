@@ -1,11 +1,22 @@
-ghost use Rattle.tap_log.specs.Laws.{OneMoreRecord};
+ghost use Rattle.tap_log.specs.Laws.{OneMoreGroup, OneMoreRecord};
 
-/// What the accepted steps, the core and joined nodes, the outstanding frames, those that await their
-/// acknowledgement, the packets under way, the published pairs and the counts of a log are after one more record.
+/// What a log tells with its beginning alone; and after one more record the steps, those that were accepted, the nodes that
+/// are core, joined, abandoned or ceased, the frames that are outstanding, those that await their acknowledgement, the
+/// packets under way, the published pairs and the counts.
 ///
 /// It does nothing: its contract is the law.
 ///
-/// Rule: docs/FORMATS.md, "The printed text".
+/// Rule: docs/FORMATS.md, "Groups and moments".
 pub fn one_more_record()
     ensures { OneMoreRecord }
+{}
+
+/// What one more group of records changes: its end is the one new moment; and the node that is departing is then none where
+/// no frame is outstanding, else the one whose departure the group accepts, else the one that was departing before.
+///
+/// It does nothing: its contract is the law.
+///
+/// Rule: docs/FORMATS.md, "Groups and moments".
+pub fn one_more_group()
+    ensures { OneMoreGroup }
 {}

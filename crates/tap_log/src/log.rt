@@ -27,7 +27,15 @@ impl From<tap_name::NoMemory> for NoMemory {
     }
 }
 
+impl From<tap_wire::NoMemory> for NoMemory {
+    fn from(_: tap_wire::NoMemory) -> NoMemory {
+        NoMemory
+    }
+}
+
 /// A list of records, which only grows. Contracts see the records, and for how many more there is room.
+///
+/// Rule: docs/FORMATS.md, "Groups and moments".
 #[derive(Debug, Drop)]
 pub struct Log {
     items: Vec<Record>,

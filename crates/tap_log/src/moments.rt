@@ -1,12 +1,14 @@
-ghost use Rattle.std.specs.Prelude.{◌≡◌, ◌≤◌, ◌&&◌, length, not, OnOk, IfOk, IsTrue, ◌↔◌};
-ghost use Rattle.std.specs.List.{filter_map};
+ghost use Rattle.std.specs.Prelude.{◌≡◌, ◌≤◌, ◌&&◌, length, not, OnOk, IfOk};
+ghost use Rattle.std.specs.List.{filter_map, list_any};
+ghost use Rattle.tap_log.specs.Kinds.{begins_group};
 ghost use Rattle.tap_log.specs.Asked.{number_of};
 ghost use Rattle.tap_log.specs.Moments.{
-  IsMoment,
   acknowledged,
   acknowledged_by,
   awaiting,
+  beginning,
   has_number,
+  is_group_end,
   is_moment,
   is_rest,
   is_still,
@@ -101,7 +103,7 @@ fn acknowledged(alloc: Global, records: &[Record]) -> Result<Vec<u32>, NoMemory>
 
 /// The numbers of the frames that are outstanding: those that were sent, less those that were taken.
 ///
-/// Rule: docs/FORMATS.md, "The printed text".
+/// Rule: docs/FORMATS.md, "Groups and moments".
 pub fn outstanding(alloc: Global, records: &[Record]) -> Result<List<u32>, NoMemory>
     ensures { IfOk result (λ numbers. numbers ≡ outstanding records.now) }
 {
@@ -112,7 +114,7 @@ pub fn outstanding(alloc: Global, records: &[Record]) -> Result<List<u32>, NoMem
 
 /// The numbers of the packets that are under way: those that were made, less those that arrived or were lost.
 ///
-/// Rule: docs/FORMATS.md, "The printed text".
+/// Rule: docs/FORMATS.md, "Groups and moments".
 pub fn under_way(alloc: Global, records: &[Record]) -> Result<List<u32>, NoMemory>
     ensures { IfOk result (λ numbers. numbers ≡ under_way records.now) }
 {
@@ -123,7 +125,7 @@ pub fn under_way(alloc: Global, records: &[Record]) -> Result<List<u32>, NoMemor
 
 /// The numbers of the frames that await their acknowledgement: those that were sent, less those acknowledged.
 ///
-/// Rule: docs/FORMATS.md, "The printed text".
+/// Rule: docs/FORMATS.md, "Groups and moments".
 pub fn awaiting(alloc: Global, records: &[Record]) -> Result<List<u32>, NoMemory>
     ensures { IfOk result (λ numbers. numbers ≡ awaiting records.now) }
 {
@@ -134,7 +136,7 @@ pub fn awaiting(alloc: Global, records: &[Record]) -> Result<List<u32>, NoMemory
 
 /// Whether no frame is outstanding.
 ///
-/// Rule: docs/FORMATS.md, "The printed text".
+/// Rule: docs/FORMATS.md, "Groups and moments".
 pub fn is_still(alloc: Global, records: &[Record]) -> Result<bool, NoMemory>
     ensures { IfOk result (λ still. still ≡ is_still records.now) }
 {
@@ -144,7 +146,7 @@ pub fn is_still(alloc: Global, records: &[Record]) -> Result<bool, NoMemory>
 /// Whether the log rests: no frame is outstanding, and in a carried log also no packet is under way and no frame awaits
 /// its acknowledgement.
 ///
-/// Rule: docs/FORMATS.md, "The printed text".
+/// Rule: docs/FORMATS.md, "Groups and moments".
 pub fn is_rest(alloc: Global, records: &[Record]) -> Result<bool, NoMemory>
     ensures { IfOk result (λ rest. rest ≡ is_rest records.now) }
 {
@@ -160,18 +162,47 @@ pub fn is_rest(alloc: Global, records: &[Record]) -> Result<bool, NoMemory>
     Ok(awaiting(alloc, records)?.is_empty())
 }
 
-/// Whether so many records are a moment of the log: the end of its beginning or of a group.
-///
-/// Rule: docs/FORMATS.md, "The printed text".
-pub fn is_moment(records: &[Record], m: usize) -> bool
-    ensures value { result ≡ is_moment records.now m }
-    ensures moment { IsTrue result ↔ IsMoment records.now m }
+// How many records a log begins with: `Begin`, and `Carrier` where it is carried.
+fn beginning(records: &[Record]) -> usize
+    ensures { result ≡ beginning records.now }
 {
-    if m == 0 || records.len() < m {
+    if is_carried(records) { 2 } else { 1 }
+}
+
+// Whether so many records end a group.
+fn is_group_end(records: &[Record], m: usize) -> bool
+    requires { m ≤ length records.now }
+    ensures { result ≡ is_group_end records.now m }
+{
+    let carried = is_carried(records);
+    if !has_begun(carried, &records[..m]) {
         return false;
     }
     match records.get(m) {
         None => true,
-        Some(next) => begins_group(is_carried(records), next),
+        Some(next) => begins_group(carried, next),
     }
+}
+
+// Whether a group has begun among these records.
+fn has_begun(carried: bool, records: &[Record]) -> bool
+    ensures { result ≡ list_any (begins_group carried) records.now }
+{
+    records.iter().any(|item| begins_group(carried, item))
+}
+
+/// Whether so many records are a moment of the log: the end of its beginning or of a group. The last group ends with the
+/// log.
+///
+/// Rule: docs/FORMATS.md, "Groups and moments".
+pub fn is_moment(records: &[Record], m: usize) -> bool
+    ensures { result ≡ is_moment records.now m }
+{
+    if records.len() < m {
+        return false;
+    }
+    if m == beginning(records) {
+        return true;
+    }
+    is_group_end(records, m)
 }

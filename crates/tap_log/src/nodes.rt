@@ -155,7 +155,7 @@ pub(crate) fn both(alloc: Global, first: &[Name], second: &[Name]) -> Result<Vec
 /// The core nodes at the end of the records: the members and those that became core, less those that are gone. A node
 /// that departs is core until it is gone.
 ///
-/// Rule: docs/FORMATS.md, "The printed text".
+/// Rule: docs/FORMATS.md, "Groups and moments".
 pub fn core_at(alloc: Global, records: &[Record]) -> Result<List<Name>, NoMemory>
     ensures { IfOk result (λ names. names ≡ core_of records.now) }
 {
@@ -168,7 +168,7 @@ pub fn core_at(alloc: Global, records: &[Record]) -> Result<List<Name>, NoMemory
 /// The nodes that are there at the end of the records: the members and those whose join was accepted, less those that
 /// are gone.
 ///
-/// Rule: docs/FORMATS.md, "The printed text".
+/// Rule: docs/FORMATS.md, "Groups and moments".
 pub fn joined_at(alloc: Global, records: &[Record]) -> Result<List<Name>, NoMemory>
     ensures { IfOk result (λ names. names ≡ joined_of records.now) }
 {
@@ -180,7 +180,7 @@ pub fn joined_at(alloc: Global, records: &[Record]) -> Result<List<Name>, NoMemo
 
 /// The nodes that are to give up joining, or have, at the end of the records.
 ///
-/// Rule: docs/FORMATS.md, "The printed text".
+/// Rule: docs/FORMATS.md, "Groups and moments".
 pub fn abandoned_at(alloc: Global, records: &[Record]) -> Result<List<Name>, NoMemory>
     ensures { IfOk result (λ names. names ≡ abandoned_of records.now) }
 {
@@ -189,7 +189,7 @@ pub fn abandoned_at(alloc: Global, records: &[Record]) -> Result<List<Name>, NoM
 
 /// The nodes that have given up joining: those that were abandoned and are gone.
 ///
-/// Rule: docs/FORMATS.md, "The printed text".
+/// Rule: docs/FORMATS.md, "Groups and moments".
 pub fn ceased_at(alloc: Global, records: &[Record]) -> Result<List<Name>, NoMemory>
     ensures { IfOk result (λ names. names ≡ ceased_of records.now) }
 {

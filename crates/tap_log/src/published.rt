@@ -71,7 +71,7 @@ fn without_servers(alloc: Global, pairs: &[Pair], servers: &[Name]) -> Result<Ve
 /// The pairs that are published at the end of the records: those that were published, less those that were withdrawn
 /// later, less those of a server from its accepted departure on.
 ///
-/// Rule: docs/FORMATS.md, "The printed text".
+/// Rule: docs/FORMATS.md, "Groups and moments".
 pub fn published_at(alloc: Global, records: &[Record]) -> Result<List<Pair>, NoMemory>
     ensures { IfOk result (λ pairs. pairs ≡ published_of records.now) }
 {

@@ -43,6 +43,8 @@ pub enum Refusal {
 }
 
 /// What a node is, as its table is told.
+///
+/// Rule: docs/FORMATS.md, "The printed text".
 #[derive(Clone, Copy, Debug, PartialEq, Eq)]
 pub enum NodeWord {
     /// It is joining.
@@ -54,6 +56,8 @@ pub enum NodeWord {
 }
 
 /// What a link is, as a table is told.
+///
+/// Rule: docs/FORMATS.md, "The printed text".
 #[derive(Clone, Copy, Debug, PartialEq, Eq)]
 pub enum LinkWord {
     /// A pin.
@@ -64,7 +68,9 @@ pub enum LinkWord {
     Leaving,
 }
 
-/// A link of a table.
+/// A link of a table, as it is told.
+///
+/// Rule: docs/FORMATS.md, "The printed text".
 #[derive(Clone, Copy, Debug)]
 pub struct LinkLine {
     /// Its slot.
@@ -75,7 +81,9 @@ pub struct LinkLine {
     pub kind: LinkWord,
 }
 
-/// A pointer that a node holds.
+/// An object and a server of it: a pointer that a node holds, or what is published.
+///
+/// Rule: docs/FORMATS.md, "The printed text".
 #[derive(Clone, Copy, Debug)]
 pub struct Pair {
     /// The object.
@@ -183,7 +191,7 @@ pub enum Record {
     },
     /// The run is carried: frames travel in packets, which may be lost and repeated.
     Carrier,
-    /// A packet is made, for the frame with this number or for its acknowledgement. Packets are numbered from 0.
+    /// A packet is made, for this frame or, where `ack` is true, for its acknowledgement. Packets are numbered from 0.
     Packet {
         number: u32,
         frame: u32,

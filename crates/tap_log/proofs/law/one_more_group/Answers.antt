@@ -1,0 +1,5 @@
+use Rattle.tap_log.proofs.Groups.{one_more_group_holds}
+use Rattle.tap_log.proofs.law.one_more_group.Goals as goal
+
+pub returns : goal.returns
+returns c = one_more_group_holds
