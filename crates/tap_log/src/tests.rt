@@ -1,46 +1,21 @@
 use crate::{
-    Bytes, Log, Record, Refusal, abandoned_at, accepts, awaiting, begins_group, ceased_at, core_at,
-    depart_name, departing_at, is_moment, is_rest, join_count, joined_at, name_count, outstanding,
-    published_at, sent_count, under_way,
+    Bytes, LinkLine, LinkWord, Log, NoMemory, NodeWord, Pair, Record, Refusal, abandoned_at,
+    accepts, awaiting, begins_group, ceased_at, core_at, depart_name, departing_at, is_moment,
+    is_rest, is_still, join_count, joined_at, name_count, names_at, one_more_group,
+    one_more_record, outstanding, published_at, sent_count, under_way,
 };
 use std::alloc::Global;
 use std::process::Abort;
 use std::test::Fail;
-use tap_name::{List, Name, Settings, read_name};
-use tap_scenario::Step;
-
-// A record, told in short. Steps are numbered as they come, and the bytes of frames are left out.
-#[derive(Drop)]
-enum Line {
-    Join(&'static str, &'static str),
-    Leave(&'static str),
-    Publish(&'static str, &'static str),
-    Withdraw(&'static str, &'static str),
-    Settle,
-    Repeat(u32),
-    Deliver(u32),
-    Lose(u32),
-    Sent(u32),
-    Taken(u32),
-    Core(&'static str),
-    Gone(&'static str),
-    Published(&'static str, &'static str),
-    Withdrawn(&'static str, &'static str),
-    Refused(Refusal),
-    Carrier,
-    Data(u32, u32),
-    Ack(u32, u32),
-    Arrived(u32),
-    Ticked,
-    Lost(u32),
-    Done,
-}
+use tap_name::{List, Name, Settings, Slot, read_name};
+use tap_scenario::{Step, read_step};
 
 // A log that is typed in, with the settings of its names.
 #[derive(Drop)]
 struct Typed {
     alloc: Global,
     settings: Settings,
+    carried: bool,
     steps: u32,
     log: Log,
 }
@@ -64,84 +39,16 @@ fn names_of(alloc: Global, settings: &Settings, texts: &str) -> Result<List<Name
     Ok(names)
 }
 
-// The step that a line tells, where it tells one.
-fn step_of(settings: &Settings, line: &Line) -> Result<Option<Step>, Fail> {
-    let step = match line {
-        Line::Join(name, via) => Step::Join {
-            name: name_of(settings, name)?,
-            via: name_of(settings, via)?,
-        },
-        Line::Leave(name) => Step::Depart {
-            name: name_of(settings, name)?,
-        },
-        Line::Publish(object, server) => Step::Publish {
-            object: name_of(settings, object)?,
-            server: name_of(settings, server)?,
-        },
-        Line::Withdraw(object, server) => Step::Withdraw {
-            object: name_of(settings, object)?,
-            server: name_of(settings, server)?,
-        },
-        Line::Settle => Step::Settle,
-        Line::Repeat(place) => Step::Repeat { place: *place },
-        Line::Deliver(place) => Step::Deliver { place: *place },
-        Line::Lose(place) => Step::Lose { place: *place },
-        _ => return Ok(None),
-    };
-    Ok(Some(step))
+fn number_of(text: &str) -> Result<u32, Fail> {
+    match text.parse::<u32>() {
+        Ok(number) => Ok(number),
+        Err(_) => Err("a number")?,
+    }
 }
 
-// The record that a line tells, where it tells of names.
-fn named(settings: &Settings, line: &Line) -> Result<Option<Record>, Fail> {
-    let item = match line {
-        Line::Core(name) => Record::Core {
-            name: name_of(settings, name)?,
-        },
-        Line::Gone(name) => Record::Gone {
-            name: name_of(settings, name)?,
-        },
-        Line::Published(object, server) => Record::Published {
-            object: name_of(settings, object)?,
-            server: name_of(settings, server)?,
-        },
-        Line::Withdrawn(object, server) => Record::Withdrawn {
-            object: name_of(settings, object)?,
-            server: name_of(settings, server)?,
-        },
-        _ => return Ok(None),
-    };
-    Ok(Some(item))
-}
-
-// The record that another line tells.
-fn numbered(alloc: Global, steps: u32, line: &Line) -> Result<Record, Fail> {
-    let item = match line {
-        Line::Sent(number) => Record::Sent {
-            number: *number,
-            bytes: Bytes::copy_of(alloc, b"frame")?,
-        },
-        Line::Taken(number) => Record::Taken { number: *number },
-        Line::Refused(refusal) => Record::Refused {
-            index: steps,
-            refusal: *refusal,
-        },
-        Line::Data(number, frame) => Record::Packet {
-            number: *number,
-            frame: *frame,
-            ack: false,
-        },
-        Line::Ack(number, frame) => Record::Packet {
-            number: *number,
-            frame: *frame,
-            ack: true,
-        },
-        Line::Arrived(packet) => Record::Arrived { packet: *packet },
-        Line::Lost(packet) => Record::Lost { packet: *packet },
-        Line::Ticked => Record::Ticked,
-        Line::Carrier => Record::Carrier,
-        _ => Record::Finished { steps },
-    };
-    Ok(item)
+// The first word of a text, and those behind it.
+fn first_word(text: &str) -> (&str, &str) {
+    text.split_once(' ').unwrap_or((text, ""))
 }
 
 // A log with its beginning alone.
@@ -156,33 +63,162 @@ fn begun(alloc: Global, base: u8, digits: u8, members: &str) -> Result<Typed, Fa
     Ok(Typed {
         alloc,
         settings,
+        carried: false,
         steps: 0,
         log,
     })
 }
 
 impl Typed {
-    // Adds records.
-    fn add(&mut self, lines: &[Line]) -> Result<(), Fail> {
-        for line in lines {
-            let item = self.record_of(line)?;
+    // Adds records: lines of a word and what it tells, parted by semicolons. `sent 3 4` are two records. The bytes of the
+    // frames are left out.
+    fn add(&mut self, lines: &str) -> Result<(), Fail> {
+        for line in lines.split(';') {
+            let (word, rest) = first_word(line.trim());
+            self.add_line(word, rest)?;
+        }
+        Ok(())
+    }
+
+    fn add_line(&mut self, word: &str, rest: &str) -> Result<(), Fail> {
+        match word {
+            "step" => self.add_step(rest),
+            "packet" => self.add_packet(rest),
+            "core" | "gone" => self.add_node(word, rest),
+            "published" | "withdrawn" => self.add_pair(word, rest),
+            "asked" | "answered" => self.add_answer(word, rest),
+            "carrier" | "ticked" | "done" => self.add_word(word),
+            _ => self.add_numbers(word, rest),
+        }
+    }
+
+    fn add_step(&mut self, text: &str) -> Result<(), Fail> {
+        let step = read_step(&self.settings, self.carried, text.as_bytes()).ok_or("a step")?;
+        self.steps = self.steps.saturating_add(1);
+        self.log.push(Record::Step {
+            index: self.steps,
+            step,
+        })?;
+        Ok(())
+    }
+
+    // `packet 4 ack 0`
+    fn add_packet(&mut self, text: &str) -> Result<(), Fail> {
+        let (number, rest) = first_word(text);
+        let (kind, frame) = first_word(rest);
+        self.log.push(Record::Packet {
+            number: number_of(number)?,
+            frame: number_of(frame)?,
+            ack: kind == "ack",
+        })?;
+        Ok(())
+    }
+
+    fn add_node(&mut self, word: &str, text: &str) -> Result<(), Fail> {
+        let name = name_of(&self.settings, text)?;
+        self.log.push(match word {
+            "core" => Record::Core { name },
+            _ => Record::Gone { name },
+        })?;
+        Ok(())
+    }
+
+    // `published 123 301`
+    fn add_pair(&mut self, word: &str, text: &str) -> Result<(), Fail> {
+        let (object, server) = first_word(text);
+        let object = name_of(&self.settings, object)?;
+        let server = name_of(&self.settings, server)?;
+        self.log.push(match word {
+            "published" => Record::Published { object, server },
+            _ => Record::Withdrawn { object, server },
+        })?;
+        Ok(())
+    }
+
+    // `asked 123 233`, `answered 301`: there is one lookup.
+    fn add_answer(&mut self, word: &str, text: &str) -> Result<(), Fail> {
+        let (first, second) = first_word(text);
+        let name = name_of(&self.settings, first)?;
+        self.log.push(match word {
+            "asked" => Record::Asked {
+                ticket: 1,
+                object: name,
+                asker: name_of(&self.settings, second)?,
+            },
+            _ => Record::Answered {
+                ticket: 1,
+                server: Some(name),
+            },
+        })?;
+        Ok(())
+    }
+
+    fn add_word(&mut self, word: &str) -> Result<(), Fail> {
+        let item = match word {
+            "ticked" => Record::Ticked,
+            "done" => Record::Finished { steps: self.steps },
+            _ => {
+                self.carried = true;
+                Record::Carrier
+            }
+        };
+        self.log.push(item)?;
+        Ok(())
+    }
+
+    // `sent 3 4`
+    fn add_numbers(&mut self, word: &str, numbers: &str) -> Result<(), Fail> {
+        for number in numbers.split(' ') {
+            let item = self.numbered(word, number_of(number)?)?;
             self.log.push(item)?;
         }
         Ok(())
     }
 
-    fn record_of(&mut self, line: &Line) -> Result<Record, Fail> {
-        if let Some(step) = step_of(&self.settings, line)? {
-            self.steps = self.steps.saturating_add(1);
-            return Ok(Record::Step {
-                index: self.steps,
-                step,
-            });
+    fn numbered(&self, word: &str, number: u32) -> Result<Record, Fail> {
+        match word {
+            "sent" => Ok(Record::Sent {
+                number,
+                bytes: Bytes::copy_of(self.alloc, b"frame")?,
+            }),
+            "taken" => Ok(Record::Taken { number }),
+            "arrived" => Ok(Record::Arrived { packet: number }),
+            "lost" => Ok(Record::Lost { packet: number }),
+            _ => Err("a word")?,
         }
-        match named(&self.settings, line)? {
-            Some(item) => Ok(item),
-            None => numbered(self.alloc, self.steps, line),
+    }
+
+    // Adds the table of a core node that has one settled link.
+    fn add_table(&mut self, name: &str, slot: Slot, target: &str) -> Result<(), Fail> {
+        let mut links = List::new(self.alloc);
+        links.push(LinkLine {
+            slot,
+            name: name_of(&self.settings, target)?,
+            kind: LinkWord::Settled,
+        })?;
+        self.log.push(Record::TableOf {
+            name: name_of(&self.settings, name)?,
+            status: NodeWord::Core,
+            links,
+        })?;
+        Ok(())
+    }
+
+    // Adds the pointers of a node, one for each server.
+    fn add_pointers(&mut self, name: &str, object: &str, servers: &str) -> Result<(), Fail> {
+        let object = name_of(&self.settings, object)?;
+        let mut pairs = List::new(self.alloc);
+        for server in names_of(self.alloc, &self.settings, servers)?.as_slice() {
+            pairs.push(Pair {
+                object,
+                server: *server,
+            })?;
         }
+        self.log.push(Record::PointersOf {
+            name: name_of(&self.settings, name)?,
+            pairs,
+        })?;
+        Ok(())
     }
 
     // Compares who takes part at the end with what it is to be.
@@ -194,7 +230,6 @@ impl Typed {
         departing: &str,
     ) -> Result<(), Fail> {
         let records = self.log.as_slice();
-        assert!(rt; is_moment(records, records.len()));
         let want = names_of(self.alloc, &self.settings, core)?;
         assert_eq!(rt; core_at(self.alloc, records)?.as_slice(), want.as_slice());
         let want = names_of(self.alloc, &self.settings, joined)?;
@@ -218,7 +253,26 @@ impl Typed {
         let records = self.log.as_slice();
         assert_eq!(rt; outstanding(self.alloc, records)?.as_slice(), frames);
         assert_eq!(rt; under_way(self.alloc, records)?.as_slice(), packets);
+        assert_eq!(rt; is_still(self.alloc, records)?, frames.is_empty());
         assert_eq!(rt; is_rest(self.alloc, records)?, rest);
+        Ok(())
+    }
+
+    // Compares the frames that await their acknowledgement with what they are to be.
+    fn check_awaiting(&self, rt: &impl Abort, frames: &[u32]) -> Result<(), Fail> {
+        assert_eq!(rt;
+            awaiting(self.alloc, self.log.as_slice())?.as_slice(),
+            frames
+        );
+        Ok(())
+    }
+
+    // Compares the moments of the log with what they are to be.
+    fn check_moments(&self, rt: &impl Abort, moments: &[usize]) -> Result<(), Fail> {
+        let records = self.log.as_slice();
+        for m in 0..20 {
+            assert_eq!(rt; is_moment(records, m), moments.contains(&m));
+        }
         Ok(())
     }
 
@@ -228,12 +282,14 @@ impl Typed {
         rt: &impl Abort,
         sent: usize,
         joins: usize,
-        names: usize,
+        names: &str,
     ) -> Result<(), Fail> {
         let records = self.log.as_slice();
+        let names = names_of(self.alloc, &self.settings, names)?;
         assert_eq!(rt; sent_count(self.alloc, records)?, sent);
         assert_eq!(rt; join_count(self.alloc, records)?, joins);
-        assert_eq!(rt; name_count(self.alloc, records)?, names);
+        assert_eq!(rt; names_at(self.alloc, records)?.as_slice(), names.as_slice());
+        assert_eq!(rt; name_count(self.alloc, records)?, names.len());
         Ok(())
     }
 
@@ -264,6 +320,13 @@ fn grows_record_by_record(rt: HostRuntime) -> Result<(), Fail> {
     assert!(rt; matches!(log.at(0), Record::Finished { steps: 3 }));
     assert!(rt; matches!(log.at(1), Record::Refused { index: 7, .. }));
     assert_eq!(rt; log.as_slice().len(), 2);
+    Ok(())
+}
+
+#[test]
+fn want_of_memory_is_passed_on(rt: HostRuntime) -> Result<(), Fail> {
+    assert_eq!(rt; NoMemory::from(tap_wire::NoMemory), NoMemory);
+    assert_eq!(rt; NoMemory::from(tap_name::NoMemory), NoMemory);
     Ok(())
 }
 
@@ -303,310 +366,211 @@ fn one_join(rt: HostRuntime) -> Result<(), Fail> {
     let mut run = begun(rt.alloc(), 2, 2, "00")?;
     run.check_nodes(&rt, "00", "00", "")?;
     run.check_frames(&rt, &[], &[], true)?;
-    run.add(&[Line::Join("01", "00"), Line::Sent(0)])?;
+    run.add("step join 01 via 00; sent 0")?;
     run.check_nodes(&rt, "00", "00 01", "")?;
     run.check_frames(&rt, &[0], &[], false)?;
-    run.add(&[
-        Line::Settle,
-        Line::Taken(0),
-        Line::Sent(1),
-        Line::Sent(2),
-        Line::Taken(1),
-        Line::Taken(2),
-    ])?;
-    run.add(&[
-        Line::Sent(3),
-        Line::Sent(4),
-        Line::Taken(3),
-        Line::Sent(5),
-        Line::Taken(4),
-        Line::Sent(6),
-    ])?;
+    run.add(
+        "step settle; taken 0; sent 1 2; taken 1 2; sent 3 4; taken 3; sent 5; taken 4; sent 6",
+    )?;
     run.check_nodes(&rt, "00", "00 01", "")?;
     run.check_frames(&rt, &[5, 6], &[], false)?;
-    run.add(&[
-        Line::Taken(5),
-        Line::Taken(6),
-        Line::Core("01"),
-        Line::Sent(7),
-    ])?;
+    run.add("taken 5 6; core 01; sent 7")?;
     run.check_nodes(&rt, "00 01", "00 01", "")?;
     run.check_frames(&rt, &[7], &[], false)?;
-    run.add(&[Line::Taken(7), Line::Done])?;
+    run.add("taken 7; step table 00")?;
+    run.add_table("00", Slot { level: 1, digit: 1 }, "01")?;
+    run.add("step table 01")?;
+    run.add_table("01", Slot { level: 1, digit: 0 }, "00")?;
+    run.add("done")?;
     run.check_frames(&rt, &[], &[], true)?;
-    run.check_counts(&rt, 8, 1, 2)
+    run.check_counts(&rt, 8, 1, "00 01")
 }
 
-// A group isn't over at its first record, and a refused join is none.
+// The end of the beginning is a moment, and so is the end of each group. Within a group there is none.
 #[test]
 fn moments_and_refused_joins(rt: HostRuntime) -> Result<(), Fail> {
     let mut run = begun(rt.alloc(), 2, 2, "00")?;
-    run.add(&[
-        Line::Join("00", "00"),
-        Line::Refused(Refusal::NameTaken),
-        Line::Settle,
-    ])?;
-    let records = run.log.as_slice();
-    assert!(rt; !is_moment(records, 0));
-    assert!(rt; is_moment(records, 1));
-    assert!(rt; !is_moment(records, 2));
-    assert!(rt; is_moment(records, 3));
-    assert!(rt; !is_moment(records, 5));
+    run.check_moments(&rt, &[1])?;
+    run.add("done")?;
+    run.check_moments(&rt, &[1])?;
+    let mut run = begun(rt.alloc(), 2, 2, "00")?;
+    run.add("step join 00 via 00")?;
+    run.log.push(Record::Refused {
+        index: 1,
+        refusal: Refusal::NameTaken,
+    })?;
+    run.add("step settle; done")?;
+    run.check_moments(&rt, &[1, 3, 5])?;
     run.check_nodes(&rt, "00", "00", "")?;
-    run.check_counts(&rt, 0, 0, 1)
+    run.check_counts(&rt, 0, 0, "00")?;
+    let mut run = begun(rt.alloc(), 2, 2, "00")?;
+    run.add("carrier")?;
+    run.check_moments(&rt, &[2])?;
+    run.add(
+        "step join 01 via 00; sent 0; packet 0 data 0; step settle; arrived 0; taken 0; packet 1 ack 0",
+    )?;
+    run.check_moments(&rt, &[2, 5, 6, 9])
 }
 
-// A newcomer becomes the root of an object that is published. Of its join one frame is told.
+// A newcomer becomes the root of an object that is published, and takes over the pointer: every frame.
+#[test]
+fn the_pointer_moves_to_the_newcomer(rt: HostRuntime) -> Result<(), Fail> {
+    let mut run = begun(rt.alloc(), 4, 3, "000 012 230 233 301")?;
+    run.add("step publish 123 at 301; published 123 301; sent 0")?;
+    run.check_servers(&rt, "123", "301")?;
+    run.add("step settle; taken 0; sent 1; taken 1; step pointers 233")?;
+    run.add_pointers("233", "123", "301")?;
+    add_newcomer(&mut run)?;
+    run.check_nodes(&rt, "000 012 230 233 301", "000 012 230 233 301 120", "")?;
+    run.check_frames(&rt, &[36], &[], false)?;
+    run.add("taken 36; core 120; sent 37 38 39 40 41")?;
+    run.check_nodes(
+        &rt,
+        "000 012 230 233 301 120",
+        "000 012 230 233 301 120",
+        "",
+    )?;
+    run.add("taken 37 38 39 40 41; sent 42 43; taken 42; sent 44; taken 43 44; step pointers 233")?;
+    run.add_pointers("233", "123", "")?;
+    run.add("step pointers 120")?;
+    run.add_pointers("120", "123", "301")?;
+    run.add("step find 123 from 233; asked 123 233; sent 45")?;
+    run.check_frames(&rt, &[45], &[], false)?;
+    run.add("step settle; taken 45; sent 46; taken 46; answered 301; done")?;
+    run.check_servers(&rt, "123", "301")?;
+    run.check_frames(&rt, &[], &[], true)?;
+    run.check_counts(&rt, 47, 1, "000 012 230 233 301 120")
+}
+
+// 120 joins, up to its last frame before it is core.
+fn add_newcomer(run: &mut Typed) -> Result<(), Fail> {
+    run.add(
+        "step join 120 via 012; sent 2; step settle; taken 2; sent 3 4 5 6 7; taken 3 4; sent 8 9 10 11; taken 5",
+    )?;
+    run.add(
+        "sent 12 13; taken 6; sent 14 15 16; taken 7; sent 17 18; taken 8; sent 19; taken 9; sent 20; taken 10",
+    )?;
+    run.add(
+        "sent 21; taken 11 12 13; sent 22 23; taken 14 15; sent 24; taken 16; sent 25 26; taken 17 18; sent 27",
+    )?;
+    run.add(
+        "taken 19 20 21 22; sent 28; taken 23; sent 29; taken 24 25 26; sent 30 31; taken 27; sent 32",
+    )?;
+    run.add(
+        "taken 28 29 30; sent 33; taken 31; sent 34; taken 32 33 34; sent 35; taken 35; sent 36",
+    )
+}
+
+// An object has two servers. One of them withdraws it, and the other one departs.
 #[test]
 fn servers_come_and_go(rt: HostRuntime) -> Result<(), Fail> {
     let mut run = begun(rt.alloc(), 4, 3, "000 012 230 233 301")?;
-    run.add(&[
-        Line::Publish("123", "301"),
-        Line::Published("123", "301"),
-        Line::Sent(0),
-    ])?;
-    run.add(&[
-        Line::Settle,
-        Line::Taken(0),
-        Line::Sent(1),
-        Line::Taken(1),
-        Line::Join("120", "012"),
-        Line::Sent(2),
-    ])?;
-    run.add(&[Line::Settle, Line::Taken(2), Line::Core("120")])?;
-    run.check_servers(&rt, "123", "301")?;
-    run.check_counts(&rt, 3, 1, 6)?;
-    run.add(&[Line::Publish("123", "012"), Line::Published("123", "012")])?;
-    run.add(&[Line::Withdraw("123", "301"), Line::Withdrawn("123", "301")])?;
+    run.add("step publish 123 at 301; published 123 301")?;
+    run.add("step publish 123 at 012; published 123 012")?;
+    run.check_servers(&rt, "123", "301 012")?;
+    run.add("step withdraw 123 at 301; withdrawn 123 301")?;
     run.check_servers(&rt, "123", "012")?;
-    run.add(&[Line::Publish("123", "301"), Line::Published("123", "301")])?;
+    run.add("step publish 123 at 301; published 123 301")?;
     run.check_servers(&rt, "123", "012 301")?;
-    run.add(&[Line::Leave("012"), Line::Sent(3)])?;
+    run.add("step leave 012; sent 0")?;
     run.check_servers(&rt, "123", "301")
 }
 
-// Two nodes join at once, and one of them departs.
+// Two nodes join at once, and one of them departs: every frame.
 #[test]
 fn a_departure(rt: HostRuntime) -> Result<(), Fail> {
     let mut run = begun(rt.alloc(), 4, 3, "000")?;
     add_two_joins(&mut run)?;
     run.check_nodes(&rt, "000 100 120", "000 100 120", "")?;
     run.check_frames(&rt, &[], &[], true)?;
-    run.add(&[Line::Leave("100"), Line::Sent(25), Line::Sent(26)])?;
+    run.add("step table 000")?;
+    run.add_table("000", Slot { level: 0, digit: 1 }, "100")?;
+    run.add("step leave 100; sent 25 26")?;
     run.check_nodes(&rt, "000 100 120", "000 100 120", "100")?;
-    run.add(&[
-        Line::Settle,
-        Line::Taken(25),
-        Line::Sent(27),
-        Line::Sent(28),
-        Line::Taken(26),
-        Line::Sent(29),
-    ])?;
-    run.add(&[
-        Line::Taken(27),
-        Line::Sent(30),
-        Line::Taken(28),
-        Line::Taken(29),
-        Line::Gone("100"),
-        Line::Sent(31),
-    ])?;
-    run.add(&[Line::Sent(32), Line::Sent(33), Line::Sent(34)])?;
+    run.add(
+        "step settle; taken 25; sent 27 28; taken 26; sent 29; taken 27; sent 30; taken 28 29; gone 100",
+    )?;
+    run.add("sent 31 32 33 34")?;
     run.check_nodes(&rt, "000 120", "000 120", "100")?;
-    run.add(&[
-        Line::Taken(30),
-        Line::Taken(31),
-        Line::Taken(32),
-        Line::Taken(33),
-        Line::Taken(34),
-        Line::Done,
-    ])?;
+    run.add("taken 30 31 32 33 34; step table 000")?;
     run.check_nodes(&rt, "000 120", "000 120", "")?;
-    run.check_counts(&rt, 35, 2, 3)
+    run.add_table("000", Slot { level: 0, digit: 1 }, "120")?;
+    run.add("step walk 100 from 000")?;
+    run.log.push(Record::Walked {
+        object: name_of(&run.settings, "100")?,
+        path: names_of(run.alloc, &run.settings, "000 120")?,
+    })?;
+    run.add("done")?;
+    run.check_nodes(&rt, "000 120", "000 120", "")?;
+    run.check_counts(&rt, 35, 2, "000 100 120")
 }
 
-// Two nodes join at once, every frame.
+// 100 and 120 join at once.
 fn add_two_joins(run: &mut Typed) -> Result<(), Fail> {
-    add_seeks_and_hellos(run)?;
-    add_answers(run)
+    run.add(
+        "step join 100 via 000; sent 0; step join 120 via 000; sent 1; step settle; taken 0; sent 2 3; taken 1",
+    )?;
+    run.add(
+        "sent 4 5 6; taken 2 3; sent 7 8; taken 4 5; sent 9 10 11; taken 6; sent 12 13; taken 7; sent 14; taken 8",
+    )?;
+    run.add(
+        "sent 15; taken 9; sent 16; taken 10 11 12 13; sent 17; taken 14 15; core 100; sent 18 19; taken 16 17",
+    )?;
+    run.add(
+        "sent 20; taken 18 19 20; sent 21; taken 21; core 120; sent 22 23; taken 22; sent 24; taken 23 24",
+    )
 }
 
-// Both seek their surrogate, which greets them and tells the first of the second.
-fn add_seeks_and_hellos(run: &mut Typed) -> Result<(), Fail> {
-    run.add(&[
-        Line::Join("100", "000"),
-        Line::Sent(0),
-        Line::Join("120", "000"),
-        Line::Sent(1),
-        Line::Settle,
-    ])?;
-    run.add(&[
-        Line::Taken(0),
-        Line::Sent(2),
-        Line::Sent(3),
-        Line::Taken(1),
-        Line::Sent(4),
-        Line::Sent(5),
-    ])?;
-    run.add(&[
-        Line::Sent(6),
-        Line::Taken(2),
-        Line::Taken(3),
-        Line::Sent(7),
-        Line::Sent(8),
-        Line::Taken(4),
-    ])?;
-    run.add(&[
-        Line::Taken(5),
-        Line::Sent(9),
-        Line::Sent(10),
-        Line::Sent(11),
-        Line::Taken(6),
-        Line::Sent(12),
-    ])?;
-    run.add(&[
-        Line::Sent(13),
-        Line::Taken(7),
-        Line::Sent(14),
-        Line::Taken(8),
-        Line::Sent(15),
-        Line::Taken(9),
-    ])?;
-    Ok(())
-}
-
-// The answers come back, both become core and release their holders.
-fn add_answers(run: &mut Typed) -> Result<(), Fail> {
-    run.add(&[
-        Line::Sent(16),
-        Line::Taken(10),
-        Line::Taken(11),
-        Line::Taken(12),
-        Line::Taken(13),
-        Line::Sent(17),
-    ])?;
-    run.add(&[
-        Line::Taken(14),
-        Line::Taken(15),
-        Line::Core("100"),
-        Line::Sent(18),
-        Line::Sent(19),
-        Line::Taken(16),
-    ])?;
-    run.add(&[
-        Line::Taken(17),
-        Line::Sent(20),
-        Line::Taken(18),
-        Line::Taken(19),
-        Line::Taken(20),
-        Line::Sent(21),
-    ])?;
-    run.add(&[
-        Line::Taken(21),
-        Line::Core("120"),
-        Line::Sent(22),
-        Line::Sent(23),
-        Line::Taken(22),
-        Line::Sent(24),
-    ])?;
-    run.add(&[Line::Taken(23), Line::Taken(24)])
-}
-
-// A packet is repeated and another one lost, in a carried log.
+// A packet is repeated and another one lost, in a carried log: every frame and packet.
 #[test]
 fn a_carried_join(rt: HostRuntime) -> Result<(), Fail> {
     let mut run = begun(rt.alloc(), 2, 2, "00")?;
-    run.add(&[
-        Line::Carrier,
-        Line::Join("01", "00"),
-        Line::Sent(0),
-        Line::Data(0, 0),
-        Line::Repeat(0),
-        Line::Data(1, 0),
-    ])?;
+    run.add(
+        "carrier; step join 01 via 00; sent 0; packet 0 data 0; step repeat 0; packet 1 data 0",
+    )?;
     run.check_frames(&rt, &[0], &[0, 1], false)?;
-    run.add(&[
-        Line::Deliver(0),
-        Line::Arrived(0),
-        Line::Taken(0),
-        Line::Sent(1),
-        Line::Sent(2),
-        Line::Data(2, 1),
-    ])?;
-    run.add(&[
-        Line::Data(3, 2),
-        Line::Ack(4, 0),
-        Line::Deliver(0),
-        Line::Arrived(1),
-        Line::Ack(5, 0),
-    ])?;
-    run.add(&[Line::Lose(0), Line::Lost(2)])?;
+    run.add(
+        "step deliver 0; arrived 0; taken 0; sent 1 2; packet 2 data 1; packet 3 data 2; packet 4 ack 0",
+    )?;
+    run.add("step deliver 0; arrived 1; packet 5 ack 0; step lose 0; lost 2")?;
     run.check_frames(&rt, &[1, 2], &[3, 4, 5], false)?;
-    add_arrivals(&mut run)?;
+    run.add(
+        "step settle; arrived 3; taken 2; sent 3 4; packet 6 data 3; packet 7 data 4; packet 8 ack 2",
+    )?;
+    run.add(
+        "arrived 4 5 6; taken 3; sent 5; packet 9 data 5; packet 10 ack 3; arrived 7; taken 4; sent 6",
+    )?;
+    run.add(
+        "packet 11 data 6; packet 12 ack 4; arrived 8 9; taken 5; packet 13 ack 5; arrived 10 11; taken 6",
+    )?;
+    run.add("core 01; packet 14 ack 6; arrived 12 13 14")?;
     run.check_nodes(&rt, "00 01", "00 01", "")?;
     run.check_frames(&rt, &[1], &[], false)?;
-    run.add(&[
-        Line::Ticked,
-        Line::Data(15, 1),
-        Line::Arrived(15),
-        Line::Taken(1),
-        Line::Sent(7),
-        Line::Data(16, 7),
-    ])?;
-    run.add(&[
-        Line::Ack(17, 1),
-        Line::Arrived(16),
-        Line::Taken(7),
-        Line::Ack(18, 7),
-    ])?;
+    run.add(
+        "ticked; packet 15 data 1; arrived 15; taken 1; sent 7; packet 16 data 7; packet 17 ack 1",
+    )?;
+    run.add("arrived 16; taken 7; packet 18 ack 7")?;
     run.check_frames(&rt, &[], &[17, 18], false)?;
-    assert_eq!(rt;
-        awaiting(run.alloc, run.log.as_slice())?.as_slice(),
-        [1, 7].as_slice()
-    );
-    run.add(&[Line::Arrived(17), Line::Arrived(18)])?;
+    run.check_awaiting(&rt, &[1, 7])?;
+    run.add("arrived 17 18; step table 00")?;
+    run.check_awaiting(&rt, &[])?;
     run.check_frames(&rt, &[], &[], true)?;
-    run.check_counts(&rt, 8, 1, 2)
+    run.add_table("00", Slot { level: 1, digit: 1 }, "01")?;
+    run.add("done")?;
+    run.check_frames(&rt, &[], &[], true)?;
+    run.check_counts(&rt, 8, 1, "00 01")
 }
 
-fn add_arrivals(run: &mut Typed) -> Result<(), Fail> {
-    run.add(&[
-        Line::Settle,
-        Line::Arrived(3),
-        Line::Taken(2),
-        Line::Sent(3),
-        Line::Sent(4),
-        Line::Data(6, 3),
-    ])?;
-    run.add(&[
-        Line::Data(7, 4),
-        Line::Ack(8, 2),
-        Line::Arrived(4),
-        Line::Arrived(5),
-        Line::Arrived(6),
-        Line::Taken(3),
-    ])?;
-    run.add(&[
-        Line::Sent(5),
-        Line::Data(9, 5),
-        Line::Ack(10, 3),
-        Line::Arrived(7),
-        Line::Taken(4),
-        Line::Sent(6),
-    ])?;
-    run.add(&[
-        Line::Data(11, 6),
-        Line::Ack(12, 4),
-        Line::Arrived(8),
-        Line::Arrived(9),
-        Line::Taken(5),
-        Line::Ack(13, 5),
-    ])?;
-    run.add(&[
-        Line::Arrived(10),
-        Line::Arrived(11),
-        Line::Taken(6),
-        Line::Core("01"),
-        Line::Ack(14, 6),
-    ])?;
-    run.add(&[Line::Arrived(12), Line::Arrived(13), Line::Arrived(14)])
+// In a carried log, too, a node departs until no frame is outstanding, though packets are still under way.
+#[test]
+fn a_carried_departure(rt: HostRuntime) -> Result<(), Fail> {
+    let mut run = begun(rt.alloc(), 2, 2, "00 01")?;
+    run.add(
+        "carrier; step leave 01; sent 0; packet 0 data 0; arrived 0; taken 0; sent 1; packet 1 data 1",
+    )?;
+    run.add("packet 2 ack 0")?;
+    run.check_nodes(&rt, "00 01", "00 01", "01")?;
+    run.add("arrived 1; taken 1; gone 01; packet 3 ack 1")?;
+    run.check_frames(&rt, &[], &[2, 3], false)?;
+    run.check_nodes(&rt, "00", "00", "")
 }
