@@ -1,8 +1,8 @@
 -- the longest common prefix, as a loop finds it
-use Rattle.std.proofs.Common.{◌≡◌, ◌⊎◌, inl, inr, ℕ, ◌+◌, ◌<◌, ◌≤◌, List, [], ◌∷◌, length, drop, get_or, nat_eq, true, false, arith, min, length-drop, refl, ap}
+use Rattle.std.proofs.Common.{◌≡◌, inl, inr, ℕ, ◌+◌, ◌≤◌, List, [], ◌∷◌, length, drop, nat_eq, arith, min, length-drop, refl}
 use Rattle.std.proofs.lemmas.Bool.{cases_Bool, eqb-true, eq-eqb}
 use Rattle.std.specs.List.{common_prefix_len}
-use Rattle.std.proofs.lemmas.List.Sums.{common_prefix_len-le, common_prefix_len-drop_yes, common_prefix_len-drop_no}
+use Rattle.std.proofs.lemmas.List.Sums.{common_prefix_len-le}
 
 -- nothing is common behind the end of one
 pub nothing_behind : (xs ys : List ℕ) (n : ℕ) → min (length xs) (length ys) ≤ n → common_prefix_len nat_eq (drop n xs) (drop n ys) ≡ 0

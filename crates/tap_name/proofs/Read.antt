@@ -1,13 +1,12 @@
 -- what a loop over digits answers
-use Rattle.std.proofs.Common.{◌≡◌, ℕ, ◌+◌, ◌<◌, ◌≤◌, List, length, get_or, nat_le, true, false, arith, Result, Ok, Err, refl, take, take_all, ap, sym, ◌∙◌}
+use Rattle.std.proofs.Common.{◌≡◌, ℕ, ◌<◌, ◌≤◌, List, length, get_or, nat_le, arith, Ok, Err, take, take_all, ap, sym, ◌∙◌}
 use Rattle.std.proofs.lemmas.List.Sums.{position_or_len_is}
 use Rattle.std.specs.List.{position_or_len}
 use Rattle.std.proofs.lemmas.Bool.Decides.{nat_tests}
-use Rattle.tap_name.specs.declared.name.NameFault.{NameFault}
-use Rattle.tap_name.specs.declared.name.NameFault.TheVariants.{BadLength, BadDigit}
+use Rattle.tap_name.specs.declared.name.NameFault.TheVariants.{BadDigit}
 use Rattle.tap_name.specs.Settings.{Parameters}
 use Rattle.std.proofs.lemmas.List.Elements.{All-same, All-from_get_or}
-use Rattle.tap_name.specs.Name.{IsName, name_of_digits, unless_bad}
+use Rattle.tap_name.specs.Name.{IsName, name_of_digits}
 
 -- each digit before a place is below the base
 abbrev pub AreBelow : ℕ → List ℕ → ℕ → Type 0

@@ -5,3 +5,4 @@ pub mod Name
 pub mod Cyclic
 pub mod Slot
 pub mod Root
+pub mod Distinct

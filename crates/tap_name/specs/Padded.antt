@@ -1,6 +1,6 @@
 -- forty places, of which the first are in use
-use Rattle.std.specs.Prelude.{◌≡◌, ℕ, ◌+◌, ◌-◌, ◌<◌, ◌≤◌, List, [], ◌∷◌, ◌++◌, length, take, drop, replicate, All}
-use Rattle.std.proofs.Common.{arith, ap, sym, set, ◌∙◌, take-append-drop, length-take-le, length-set}
+use Rattle.std.specs.Prelude.{◌≡◌, ℕ, ◌+◌, ◌-◌, ◌<◌, ◌≤◌, List, ◌++◌, length, take, drop, replicate, All}
+use Rattle.std.proofs.Common.{arith, ap, set, ◌∙◌, take-append-drop, length-take-le, length-set}
 use Rattle.std.proofs.lemmas.List.{take_more_set, drop-set-lt, drop-drop, drop-replicate}
 use Rattle.std.proofs.lemmas.List.Elements.{All-push}
 

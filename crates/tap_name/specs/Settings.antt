@@ -1,7 +1,8 @@
 -- what settings are seen as
 use Rattle.std.specs.Prelude.{ℕ, ◌≤◌}
 
--- the base of the digits, the digits of a name, and how many settled links a slot of a table holds
+-- the base of the digits, the digits of a name, and how many links that are settled and not leaving a slot of a table
+-- holds at most
 pub record Parameters : Type 0 where
   pub base : ℕ
   pub digits : ℕ

@@ -1,4 +1,4 @@
-//! Names made of digits, the settings that they have in common, the slots of tables, and short lists.
+//! Names made of digits, the settings that they have in common, the slots of tables, and lists.
 #![tactic(auto)]
 
 mod list;

@@ -19,7 +19,7 @@ impl<T: Drop> From<AllocFailed<T>> for NoMemory {
     }
 }
 
-/// A short list of plain values, which contracts see as a list.
+/// Plain values in order, which contracts see as a list.
 #[derive(Debug, Drop)]
 pub struct List<T: Copy> {
     items: Vec<T>,

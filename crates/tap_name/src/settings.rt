@@ -7,7 +7,8 @@ use std::marker::Model;
 /// What all nodes of one overlay have in common.
 ///
 /// The base of the digits is from 2 to 16, a name has 1 to 40 digits, and a slot of a table holds at most
-/// `width` settled links, 1 to 4. Contracts see the record of the three numbers.
+/// `width` links that are settled and not leaving, 1 to 4. Pins and leaving links aren't counted. Contracts see the
+/// record of the three numbers.
 ///
 /// Rule: docs/PROTOCOL.md, "Names".
 #[derive(Clone, Copy, Debug, PartialEq, Eq)]

@@ -92,5 +92,6 @@ fn keeps_a_list(rt: HostRuntime) -> Result<(), Fail> {
     assert_eq!(rt; list.as_slice(), [offered].as_slice());
     let again = List::from_vec(list.into_vec());
     assert_eq!(rt; again.len(), 1);
+    assert_eq!(rt; again.at(0), offered);
     Ok(())
 }

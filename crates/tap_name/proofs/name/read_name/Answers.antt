@@ -1,4 +1,4 @@
-use Rattle.std.proofs.Common.{arith, sym, ◌∙◌, ap, ◌≡◌, length, map, rules, take, below_more}
+use Rattle.std.proofs.Common.{arith, sym, map, below_more}
 use Rattle.std.proofs.lemmas.List.{length-map, take_more, get_or-map}
 use Rattle.std.proofs.lemmas.Grind.{common_steps}
 use Rattle.tap_name.specs.Digits.{digit_of_text}

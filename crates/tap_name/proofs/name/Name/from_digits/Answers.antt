@@ -1,4 +1,4 @@
-use Rattle.std.proofs.Common.{arith, sym, ◌∙◌, ap, ◌≡◌, length, rules}
+use Rattle.std.proofs.Common.{arith, sym}
 use Rattle.tap_name.proofs.Read.{bad_at, at_end, is_name}
 use Rattle.tap_name.proofs.name.Name.from_digits.Goals as goal
 

@@ -1,0 +1,66 @@
+-- a name and its text
+use Rattle.std.proofs.Common.{◌≡◌, ◌==◌, ℕ, ◌<◌, ◌≤◌, nat_lt, nat_le, arith, List, [], ◌∷◌, length, get_or, map, All, Ok, refl, ap, sym, ◌∙◌, inl, inr}
+use Rattle.std.specs.List.{position_or_len}
+use Rattle.std.proofs.lemmas.Bool.{cases_Bool, ltb-false, leb-false, eqb-true}
+use Rattle.std.proofs.lemmas.Bool.Decides.{nat_tests}
+use Rattle.std.proofs.lemmas.List.Sums.{fails_before_first}
+use Rattle.std.proofs.lemmas.List.Elements.{All-head, All-tail}
+use Rattle.tap_name.specs.Settings.{Parameters}
+use Rattle.tap_name.specs.Digits.{text_of_digit, digit_of_text}
+use Rattle.tap_name.specs.Name.{IsName, name_of_digits, name_of_text, text_of_name}
+use Rattle.tap_name.proofs.Read.{all_good}
+
+-- a digit is read back from its text
+pub digit_of_text-text : (digit : ℕ) → digit < 16 → digit_of_text (text_of_digit digit) ≡ digit
+digit_of_text-text digit small = grind (arith, nat_tests)
+
+-- a byte that is read as a digit is that digit's text
+pub text_of_digit-digit : (byte : ℕ) → digit_of_text byte < 16 → text_of_digit (digit_of_text byte) ≡ byte
+text_of_digit-digit byte small = grind (arith, nat_tests)
+
+pub digits-text : (digits : List ℕ) → All (λ d. d < 16) digits → map digit_of_text (map text_of_digit digits) ≡ digits
+digits-text [] small = refl
+digits-text (digit ∷ digits) small =
+    let first = digit_of_text-text digit (All-head (λ d. d < 16) digit digits small) in
+    let others = digits-text digits (All-tail (λ d. d < 16) digit digits small) in cc
+
+pub text-digits : (text : List ℕ) → All (λ d. d < 16) (map digit_of_text text) → map text_of_digit (map digit_of_text text) ≡ text
+text-digits [] small = refl
+text-digits (byte ∷ text) small =
+    let first = text_of_digit-digit byte (All-head (λ d. d < 16) (digit_of_text byte) (map digit_of_text text) small) in
+    let others = text-digits text (All-tail (λ d. d < 16) (digit_of_text byte) (map digit_of_text text) small) in cc
+
+-- digits that were read are a name, and are what was read
+pub name_of_digits-back : (p : Parameters) (digits name : List ℕ) → name_of_digits p digits ≡ Ok name → (digits ≡ name) × IsName p name
+name_of_digits-back p digits name read =
+    elim (cases_Bool (length digits == p.digits)) [
+      | inr other ↦ absurd (let failed = rw other at read in cc)
+      | inl len ↦
+          elim (cases_Bool (nat_lt (position_or_len (λ d. nat_le p.base d) digits) (length digits))) [
+            | inl bad ↦ absurd (let failed = rw (len, bad) at read in cc)
+            | inr all ↦
+                let far : length digits ≤ position_or_len (λ d. nat_le p.base d) digits = ltb-false _ _ all in
+                let whole : Ok digits ≡ Ok name = rw (len, all) at read in
+                let same : digits ≡ name = cc in (
+                  same,
+                  rw (← same) (record {
+                    len = eqb-true _ _ len;
+                    below = λ k d h. leb-false p.base (get_or digits k d) (fails_before_first (λ d. nat_le p.base d) digits k d (omega arith));
+                  }),
+                )
+          ]
+    ]
+
+-- the text of a name is read as that name
+pub name_of_text-text : (p : Parameters) (name : List ℕ) → p.base ≤ 16 → IsName p name → name_of_text p (text_of_name name) ≡ Ok name
+name_of_text-text p name small is =
+    let digits = digits-text name (λ k d h. let below = is.below k d h in omega arith) in
+    rw digits (all_good p name is.len (λ k h. is.below k 0 h))
+
+-- a text that is read as a name is the text of that name
+pub name_of_text-back : (p : Parameters) (text name : List ℕ) → p.base ≤ 16 → name_of_text p text ≡ Ok name
+    → (text ≡ text_of_name name) × IsName p name
+name_of_text-back p text name small read =
+    let back = name_of_digits-back p (map digit_of_text text) name read in
+    let below : All (λ d. d < 16) (map digit_of_text text) = rw back.0 (λ k d h. let b = back.1.below k d h in omega arith) in
+    (sym (text-digits text below) ∙ ap (map text_of_digit) back.0, back.1)
