@@ -1,5 +1,5 @@
 -- searching and striking in ascending slots
-use Rattle.std.proofs.Common.{◌≡◌, ℕ, zero, suc, ◌<◌, ◌≤◌, true, false, List, [], ◌∷◌, length, get_or, slice_get, remove, Some, IsNone, Result, Ok, Err, Contains, refl, sym, ap, ap₂, subst, inl, inr, arith}
+use Rattle.std.proofs.Common.{◌≡◌, ℕ, zero, suc, ◌<◌, ◌≤◌, true, false, List, [], ◌∷◌, length, get_or, slice_get, remove, Some, IsNone, Result, Ok, Err, Contains, refl, sym, ap, subst, inl, inr, arith}
 use Rattle.std.specs.Ordering.{nat_cmp, ordering_index, ordering_then}
 use Rattle.std.specs.declared.cmp.Ordering.{Ordering}
 use Rattle.std.specs.declared.cmp.Ordering.TheVariants.{Equal}
@@ -9,6 +9,7 @@ use Rattle.std.proofs.lemmas.Bool.{cases_lt, cases_Bool}
 use Rattle.std.proofs.lemmas.Option.{get_or_from_slice_get, slice_get_past}
 use Rattle.std.proofs.lemmas.Bool.Decides.{nat_tests}
 use Rattle.tap_name.specs.declared.slot.Slot.{Slot}
+pub use Rattle.tap_name.proofs.Slots.{same_slot as same_parts}
 use Rattle.tap_watch.specs.Watch.{Precedes, IsAscending, is_other, without}
 
 -- how slots compare
@@ -48,10 +49,6 @@ other_is_behind s x h = grind (arith, nat_tests, h.level, h.digit)
 
 itself : (x : Slot) → is_other x x ≡ false
 itself x = grind (arith, nat_tests)
-
--- two slots with the same parts are one
-pub same_parts : (s x : Slot) → s.level ≡ x.level → s.digit ≡ x.digit → s ≡ x
-same_parts s x level digit = ap₂ (λ (a b : ℕ). let slot : Slot = record { level = a; digit = b } in slot) level digit
 
 tests_agree : (s x : Slot) → is_other x s ≡ false → (s.level ≡ x.level) × (s.digit ≡ x.digit)
 tests_agree s x h = (grind (arith, nat_tests), grind (arith, nat_tests))
