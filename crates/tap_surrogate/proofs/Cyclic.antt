@@ -1,21 +1,10 @@
 -- the first digit, cyclically, that passes a test
-use Rattle.std.proofs.Common.{◌≡◌, ◌==◌, ◌⊎◌, inl, inr, ℕ, ◌+◌, ◌<◌, ◌≤◌, zero, suc, cond, Bool, true, false, nat_le, arith, ap, sym, refl, ◌∙◌}
-use Rattle.std.proofs.lemmas.Bool.{cases_Bool, cases_lt, eqb-true, eqb-false, true≢false}
+use Rattle.std.proofs.Common.{◌≡◌, ◌⊎◌, inl, inr, ℕ, ◌+◌, ◌<◌, ◌≤◌, zero, suc, cond, Bool, true, false, nat_le, arith, ap, sym, refl, ◌∙◌}
+use Rattle.std.proofs.lemmas.Bool.{cases_Bool, cases_lt, true≢false}
 use Rattle.std.proofs.lemmas.Bool.Decides.{nat_tests}
 use Rattle.tap_name.specs.Cyclic.{next_digit, first_from, first_cyclic}
+use Rattle.tap_name.proofs.Digits.{next_below, next_is}
 use Rattle.tap_surrogate.specs.Distance.{cyclic_distance}
-
--- the next digit is one more, or 0
-pub next_is : (base digit : ℕ) → digit < base
-    → (next_digit base digit ≡ digit + 1) × (digit + 1 < base) ⊎ (next_digit base digit ≡ 0) × (digit + 1 ≡ base)
-next_is base digit below =
-    elim (cases_Bool (digit + 1 == base)) [
-      | inl e ↦ inr (rw e refl, eqb-true (digit + 1) base e)
-      | inr e ↦ let apart = eqb-false (digit + 1) base e in inl (rw e refl, omega (arith, apart))
-    ]
-
-pub next_below : (base digit : ℕ) → digit < base → next_digit base digit < base
-next_below base digit below = elim (next_is base digit below) [ inl w ↦ rw w.0 w.1 | inr w ↦ rw w.0 (omega arith) ]
 
 -- the distance leads up to the digit, or up to it past the base
 pub distance_is : (base from to : ℕ) → from < base → to < base

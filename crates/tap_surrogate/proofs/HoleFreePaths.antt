@@ -13,8 +13,8 @@ use Rattle.tap_surrogate.specs.HoleFree.{IsHoleFree}
 use Rattle.tap_surrogate.specs.Walk.{taken_digit, hop, walk_on}
 use Rattle.tap_surrogate.specs.Laws.{WalkLaw}
 use Rattle.tap_surrogate.proofs.Cyclic.{first_from_agree, first_cyclic_passes}
-use Rattle.tap_surrogate.proofs.Names.{same_tests, has_digit-from, has_digit-to, among-filter, among-filter_from, only_left, share_more, share_fewer, same_at, share_all}
-use Rattle.tap_surrogate.proofs.Slots.{shares_what_fits, fits_what_shares}
+use Rattle.tap_name.proofs.Names.{same_tests, has_digit-from, has_digit-to, among-filter, among-filter_from, only_left, share_more, share_fewer, same_at, share_all}
+use Rattle.tap_name.proofs.Slots.{shares_what_fits, fits_what_shares}
 use Rattle.tap_surrogate.proofs.Paths.{leads, walk_on-stays, walk_on-hops}
 
 -- what has been narrowed at a level: the core nodes that share so many digits with the node where the walk stands

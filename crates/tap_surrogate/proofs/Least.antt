@@ -13,12 +13,12 @@ use Rattle.tap_name.specs.Root.{Among, first_of}
 use Rattle.tap_link.specs.declared.kind.Kind.TheVariants.{Settled}
 use Rattle.tap_link.specs.Entry.{Entry}
 use Rattle.tap_link.specs.LinkSet.{IsAscending}
+use Rattle.tap_name.proofs.Names.{among-All}
 use Rattle.tap_table.specs.Members.{IsBelow}
+use Rattle.tap_table.proofs.Least.{below_later}
 use Rattle.tap_table.specs.Table.{IsTable, SlotLinks, Slots, links_at, name_cmp, place_of}
 use Rattle.tap_surrogate.specs.Nodes.{IsLeastLink, Nodes, core_links}
-use Rattle.tap_surrogate.proofs.AtRest.{below_later}
 use Rattle.tap_surrogate.proofs.CoreLinks.{core_links_of}
-use Rattle.tap_surrogate.proofs.Names.{among-All}
 use Rattle.tap_surrogate.proofs.Standing.{core_link_fits}
 
 -- the targets of ascending links ascend

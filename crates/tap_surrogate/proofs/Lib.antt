@@ -1,7 +1,6 @@
 pub mod Cyclic
 pub mod Names
 pub mod Nearest
-pub mod Slots
 pub mod Paths
 pub mod CoreLinks
 pub mod Standing

@@ -9,7 +9,7 @@ use Rattle.tap_name.specs.Cyclic.{first_cyclic}
 use Rattle.tap_name.specs.Root.{Among, AreNames, has_digit, narrowed, first_of, root}
 use Rattle.tap_surrogate.specs.Distance.{cyclic_distance, IsAsNear}
 use Rattle.tap_surrogate.proofs.Cyclic.{same_distance, first_cyclic_is}
-use Rattle.tap_surrogate.proofs.Names.{has_digit-from, has_digit-to, among-All, All-among, among_item, among-take, among-filter, among-filter_from, only_left, share_more, share_fewer, same_at, share_all}
+use Rattle.tap_name.proofs.Names.{has_digit-from, has_digit-to, among-All, All-among, among_item, among-take, among-filter, among-filter_from, only_left, share_more, share_fewer, same_at, share_all}
 
 -- the first digit at which two names differ decides
 pub as_near_at : (base : ℕ) (object a b : List ℕ) (level : ℕ) → take level a ≡ take level b

@@ -14,15 +14,17 @@ use Rattle.tap_name.specs.Name.{IsName}
 use Rattle.tap_name.specs.Settings.{Parameters}
 use Rattle.tap_name.specs.Slot.{slot_at}
 use Rattle.tap_name.specs.Root.{Among, AreNames}
-use Rattle.tap_table.specs.Members.{first_fitting, fitting, is_slot, settled_links, table_at_rest}
+use Rattle.tap_name.proofs.Names.{among-All, All-among, among-filter, among-take}
+use Rattle.tap_name.proofs.Slots.{shares_what_fits}
+use Rattle.tap_table.specs.Members.{AreLeastFitting, IsTableAtRest, first_fitting, fitting, is_slot, settled_links, table_at_rest}
 use Rattle.tap_table.specs.Table.{SlotLinks, Slots, slot_number, slot_numbered}
-use Rattle.tap_table.proofs.Slots.{number_inside}
+use Rattle.tap_table.proofs.Least.{first_fitting_law_holds, is_slot-to}
+pub use Rattle.tap_table.proofs.Least.{ties_law_holds}
+use Rattle.tap_table.proofs.Slots.{number_back, number_inside}
 use Rattle.tap_surrogate.specs.Nodes.{Nodes, core_links, links_in}
-use Rattle.tap_surrogate.specs.Members.{AreLeastFitting, AreMembersAtRest, IsTableAtRest}
-use Rattle.tap_surrogate.specs.Laws.{LeastLaw, RestLaw, TiesLaw}
-use Rattle.tap_surrogate.proofs.AtRest.{first_fitting_law_holds, is_slot-to, least_leave_no_hole}
-use Rattle.tap_surrogate.proofs.Names.{among-All, All-among, among-filter, among-take}
-use Rattle.tap_surrogate.proofs.Slots.{number_back, shares_what_fits}
+use Rattle.tap_surrogate.specs.Members.{AreMembersAtRest}
+use Rattle.tap_surrogate.specs.Laws.{LeastLaw, RestLaw}
+use Rattle.tap_surrogate.proofs.AtRest.{least_leave_no_hole}
 
 -- ---- one slot of one table
 
@@ -150,6 +152,3 @@ least_law_holds p members nodes limits valid rest =
 pub rest_law_holds : RestLaw
 rest_law_holds p members nodes limits valid rest =
     least_leave_no_hole p members (core_links nodes) limits valid (least_law_holds p members nodes limits valid rest).least
-
-pub ties_law_holds : TiesLaw
-ties_law_holds p owner members ties rest = record { names = rest.names; same = rest.same; ascending = rest.ascending; is = rest.table }

@@ -9,14 +9,13 @@ use Rattle.tap_name.specs.Name.{IsName}
 use Rattle.tap_name.specs.Settings.{Parameters}
 use Rattle.tap_name.specs.Slot.{Fits}
 use Rattle.tap_name.specs.Root.{Among}
+use Rattle.tap_name.proofs.Names.{among-filter}
 use Rattle.tap_name.proofs.Prefix.{prefix_of_itself}
 use Rattle.tap_table.specs.Table.{IsTable, SlotLinks, Slots, StandsIn, links_at, place_of, slot_number, slot_numbered}
 use Rattle.tap_table.proofs.Fitting.{slot_of_other}
-use Rattle.tap_table.proofs.Slots.{place_inside}
+use Rattle.tap_table.proofs.Slots.{number_back, place_inside}
 use Rattle.tap_surrogate.specs.HoleFree.{IsHoleFree}
 use Rattle.tap_surrogate.specs.Nodes.{Nodes, IsCore, IsTableOf, core_links, links_in}
-use Rattle.tap_surrogate.proofs.Names.{among-filter}
-use Rattle.tap_surrogate.proofs.Slots.{number_back}
 
 among_targets : (P : List ℕ → Type 0) (links : SlotLinks) → All (λ e. P e.target) links → (b : List ℕ)
     → Among b (map (λ e. e.target) links) → P b

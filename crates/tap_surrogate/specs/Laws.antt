@@ -1,15 +1,12 @@
 -- The laws of walks and of tables at rest.
-use Rattle.std.specs.Prelude.{◌≡◌, ℕ, ◌≤◌, List, Some, take, AllPairs}
-use Rattle.tap_name.specs.declared.slot.Slot.{Slot}
+use Rattle.std.specs.Prelude.{◌≡◌, ℕ, ◌≤◌, List, Some}
 use Rattle.tap_name.specs.Settings.{Parameters, AreWithinLimits}
 use Rattle.tap_name.specs.Name.{IsName}
 use Rattle.tap_name.specs.Root.{Among, AreNames, first_of, root}
-use Rattle.tap_table.specs.Members.{AreAtRest, IsBelow, fitting}
-use Rattle.tap_table.specs.Ties.{BothWays}
 use Rattle.tap_surrogate.specs.Tables.{Tables}
 use Rattle.tap_surrogate.specs.Nodes.{Nodes, core_links}
 use Rattle.tap_surrogate.specs.HoleFree.{IsHoleFree}
-use Rattle.tap_surrogate.specs.Members.{AreLeastFitting, AreMembersAtRest, HaveLeastFitting, IsTableAtRest}
+use Rattle.tap_surrogate.specs.Members.{AreMembersAtRest, HaveLeastFitting}
 use Rattle.tap_surrogate.specs.Walk.{walk, hops, walk_end}
 
 -- The path of a walk over a core set: it leads from the node to the root of the object, over core
@@ -27,11 +24,6 @@ WalkLaw = (p : Parameters) (core : List (List ℕ)) (tables : Tables) → IsHole
     → (node object : List ℕ) → Among node core → IsName p object
     → LeadsToRoot p core node object (walk p.base tables node object)
 
--- a member that is made at rest has its table at rest
-abbrev pub TiesLaw : Type 0
-TiesLaw = (p : Parameters) (owner : List ℕ) (members : List (List ℕ)) (ties : BothWays)
-    → AreAtRest p owner members ties → IsTableAtRest p owner members ties.table
-
 -- tables at rest over members have no hole
 abbrev pub RestLaw : Type 0
 RestLaw = (p : Parameters) (members : List (List ℕ)) (nodes : Nodes) → AreWithinLimits p
@@ -41,8 +33,3 @@ RestLaw = (p : Parameters) (members : List (List ℕ)) (nodes : Nodes) → AreWi
 abbrev pub LeastLaw : Type 0
 LeastLaw = (p : Parameters) (members : List (List ℕ)) (nodes : Nodes) → AreWithinLimits p
     → AreNames p members → AreMembersAtRest p members nodes → HaveLeastFitting p members nodes
-
--- of ascending members the first ones that fit a slot are the least ones
-abbrev pub FirstFittingLaw : Type 0
-FirstFittingLaw = (width : ℕ) (owner : List ℕ) (slot : Slot) (members : List (List ℕ))
-    → AllPairs IsBelow members → AreLeastFitting width owner slot members (take width (fitting owner slot members))

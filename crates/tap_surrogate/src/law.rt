@@ -1,4 +1,5 @@
-ghost use Rattle.tap_surrogate.specs.Laws.{WalkLaw, TiesLaw, RestLaw, LeastLaw, FirstFittingLaw};
+ghost use Rattle.tap_table.specs.Laws.{TiesLaw, FirstFittingLaw};
+ghost use Rattle.tap_surrogate.specs.Laws.{WalkLaw, RestLaw, LeastLaw};
 
 /// Over tables without holes a walk from any core node, to any object, passes core nodes alone and
 /// ends at the object's one root, in as many hops as a name has digits or fewer.

@@ -2,7 +2,7 @@ ghost use Rattle.std.specs.Prelude.{◌≡◌, nat_eq, All, IfOk, find, option_c
 ghost use Rattle.std.specs.Option.{is_some};
 ghost use Rattle.std.specs.Cmp.Lexicographic.{pointwise};
 ghost use Rattle.tap_name.specs.Name.{IsName};
-ghost use Rattle.tap_table.specs.Members.{AreDistinct};
+ghost use Rattle.tap_name.specs.Distinct.{AreDistinct};
 
 use crate::{Step1, Tables, Walk, members_law, root_of, walk_law, walk_path};
 use std::alloc::Global;

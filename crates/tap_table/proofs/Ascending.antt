@@ -12,7 +12,8 @@ use Rattle.std.proofs.lemmas.Map.Keys.{IsDistinct-IsPermutation, IsDistinct-from
 use Rattle.std.proofs.lemmas.Map.Text.{is_eq-slice_cmp}
 use Rattle.std.proofs.lemmas.List.Sorted.{ranks_by, sorted_far}
 use Rattle.std.proofs.lemmas.Cmp.{nat_list_cmp_total}
-use Rattle.tap_table.specs.Members.{AreDistinct, IsBelow}
+use Rattle.tap_name.specs.Distinct.{AreDistinct}
+use Rattle.tap_table.specs.Members.{IsBelow}
 use Rattle.tap_table.specs.Table.{name_cmp}
 
 pub same_name : (a b : List ℕ) → bytes_eq a b ≡ true → a ≡ b

@@ -16,8 +16,9 @@ use Rattle.tap_link.specs.Entry.{Entry}
 use Rattle.tap_link.specs.LinkSet.{Links, has_room, kind_of, with_link, with_kind, without, after_release}
 use Rattle.tap_link.proofs.Counts.{length-with_link}
 use Rattle.tap_link.proofs.Targets.{all_targets-with_link, all_targets-with_kind, all_targets-without}
+use Rattle.tap_table.specs.declared.table.TheConstants.{MOST_LINKS}
 use Rattle.tap_table.specs.declared.memory.NoMemory.{NoMemory}
-use Rattle.tap_table.specs.Table.{AreSets, SlotLinks, Slots, has_room_near, kind_in, StandsIn, links_near, most_links, name_cmp, place_of, slot_number, table_of, with_links}
+use Rattle.tap_table.specs.Table.{AreSets, SlotLinks, Slots, has_room_near, kind_in, StandsIn, links_near, name_cmp, place_of, slot_number, table_of, with_links}
 use Rattle.tap_table.proofs.Slots.{links_of_set, sets-set, table-set, target_inside}
 
 -- what follows from the fact for the answer true
@@ -64,7 +65,7 @@ module _ (owner : List ℕ) (p : Parameters) (sets : List (Links (List ℕ))) (t
   pub kind : IsSetOf owner p sets target number old → kind_of name_cmp old.links target ≡ kind_in (table_of owner p sets) target
   kind is = ap (λ l. kind_of name_cmp l target) (near is)
 
-  pub few : IsSetOf owner p sets target number old → length old.links ≤ most_links
+  pub few : IsSetOf owner p sets target number old → length old.links ≤ MOST_LINKS
   few is =
       let small = is.are.valid.few (slot_number p.base (place_of owner target)) in
       let len : length old.links ≡ length (links_near (table_of owner p sets) target) = ap length (near is) in
@@ -88,20 +89,20 @@ module _ (owner : List ℕ) (p : Parameters) (sets : List (Links (List ℕ))) (t
 
   pub kept_as : (is : IsSetOf owner p sets target number old) (new : Links (List ℕ)) (change : SlotLinks → SlotLinks)
       → new ≡ record old { links = change old.links } → All (λ e. StandsIn p owner number e.target) (change old.links)
-      → length new.links ≤ most_links → AreSets owner p (set sets number new)
+      → length new.links ≤ MOST_LINKS → AreSets owner p (set sets number new)
   kept_as is new change new_is stand small =
       let P : SlotLinks → Type 0 = All (λ e. StandsIn p owner number e.target) in
       sets-set owner p sets number new is.are (ap (λ s. s.width) new_is ∙ width is) (subst P (sym (ap (λ s. s.links) new_is)) stand) small
 
   pub kept_same : (is : IsSetOf owner p sets target number old) (new : Links (List ℕ)) → new ≡ old → AreSets owner p (set sets number new)
   kept_same is new same =
-      let small : length new.links ≤ most_links = rw same (few is) in
+      let small : length new.links ≤ MOST_LINKS = rw same (few is) in
       kept_as is new (λ links. links) same (standing is) small
 
   -- a link more, or none
   pub kept-with_link : (is : IsSetOf owner p sets target number old) (new : Links (List ℕ)) (kind : Kind) (answer : Result Bool NoMemory)
       → (answer ≡ Ok true → new ≡ record old { links = with_link name_cmp old.links target kind })
-      → ((answer ≡ Ok true → ⊥) → new ≡ old) → length new.links ≤ most_links → AreSets owner p (set sets number new)
+      → ((answer ≡ Ok true → ⊥) → new ≡ old) → length new.links ≤ MOST_LINKS → AreSets owner p (set sets number new)
   kept-with_link is new kind (Ok true) added same small =
       let here : StandsIn p owner number target = record { is_name = is.is_name; place = sym is.place } in
       kept_as is new (λ links. with_link name_cmp links target kind) (added refl)
@@ -144,10 +145,10 @@ module _ (owner : List ℕ) (p : Parameters) (sets : List (Links (List ℕ))) (t
   kept-after_release is new Nothing after = kept_same is new after
 
 -- the links of a set that has room for one more, after a call that may add one
-pub few-with_link : (old new : Links (List ℕ)) (target : List ℕ) (kind : Kind) (answer : Bool) → length old.links < most_links
+pub few-with_link : (old new : Links (List ℕ)) (target : List ℕ) (kind : Kind) (answer : Bool) → length old.links < MOST_LINKS
     → (answer ≡ true → new ≡ record old { links = with_link name_cmp old.links target kind })
     → ((answer ≡ true → ⊥) → new ≡ old) → (answer ≡ true → kind_of name_cmp old.links target ≡ None)
-    → length new.links ≤ most_links
+    → length new.links ≤ MOST_LINKS
 few-with_link old new target kind true small added same absent =
     let links : length new.links ≡ length (with_link name_cmp old.links target kind) = ap (λ (s : Links (List ℕ)). length s.links) (added refl) in
     let len = length-with_link name_cmp old.links target kind (absent refl) in

@@ -8,3 +8,4 @@ pub mod Fitting
 pub mod Grown
 pub mod Holding
 pub mod Ascending
+pub mod Least

@@ -10,9 +10,10 @@ use Rattle.std.proofs.lemmas.Option.{slice_get-map, slice_get_past}
 use Rattle.tap_name.specs.Settings.{Parameters}
 use Rattle.tap_link.specs.Entry.{Entry}
 use Rattle.tap_link.specs.LinkSet.{Links}
+use Rattle.tap_table.specs.declared.table.TheConstants.{MOST_LINKS}
 use Rattle.tap_table.specs.declared.table.Place.{Place}
 use Rattle.tap_table.specs.Place.{IsPlace}
-use Rattle.tap_table.specs.Table.{AreSets, Row, SlotLinks, Slots, most_links, rows, rows_of, slot_numbered, table_of}
+use Rattle.tap_table.specs.Table.{AreSets, Row, SlotLinks, Slots, rows, rows_of, slot_numbered, table_of}
 use Rattle.tap_table.proofs.Slots.{links_of_set}
 
 module _ {X : Type 0} where
@@ -43,19 +44,19 @@ length-rows base n (s ∷ sets) =
     let sum = sum_by-cons (λ (s : Links (List ℕ)). length s.links) s sets in
     omega (arith, both, here, rest, sum)
 
-sum_le : (sets : List (Links (List ℕ))) → All (λ s. length s.links ≤ most_links) sets → sum_by (λ s. length s.links) sets ≤ length sets * most_links
+sum_le : (sets : List (Links (List ℕ))) → All (λ s. length s.links ≤ MOST_LINKS) sets → sum_by (λ s. length s.links) sets ≤ length sets * MOST_LINKS
 sum_le [] few = omega arith
 sum_le (s ∷ sets) few =
-    let rest = sum_le sets (All-tail (λ s. length s.links ≤ most_links) s sets few) in
-    let here = All-head (λ s. length s.links ≤ most_links) s sets few in
+    let rest = sum_le sets (All-tail (λ s. length s.links ≤ MOST_LINKS) s sets few) in
+    let here = All-head (λ s. length s.links ≤ MOST_LINKS) s sets few in
     let sum = sum_by-cons (λ (s : Links (List ℕ)). length s.links) s sets in
     omega (arith, rest, here, sum)
 
 -- the links of all slots are counted in 64 bits
 pub links_fit : (owner : List ℕ) (p : Parameters) (sets : List (Links (List ℕ))) → AreSets owner p sets
-    → sum_by (λ s. length s.links) sets ≤ 640 * most_links
+    → sum_by (λ s. length s.links) sets ≤ 640 * MOST_LINKS
 links_fit owner p sets are =
-    let few : All (λ s. length s.links ≤ most_links) sets = All-from_get_or (λ s. length s.links ≤ most_links) sets (record { width = 0; links = [] })
+    let few : All (λ s. length s.links ≤ MOST_LINKS) sets = All-from_get_or (λ s. length s.links ≤ MOST_LINKS) sets (record { width = 0; links = [] })
     (λ i within.
     let is = links_of_set sets i (record { width = 0; links = [] }) within in
     let small = are.valid.few i in

@@ -3,6 +3,7 @@ use Rattle.std.proofs.Common.{◌≡◌, ◌≢◌, ℕ, ◌+◌, ◌*◌, ◌<�
 use Rattle.std.specs.List.{common_prefix_len}
 use Rattle.std.proofs.Math.Nat.{mul-le-mul_left}
 use Rattle.std.proofs.lemmas.Bool.{cases_eq, cases_lt}
+use Rattle.std.proofs.lemmas.Nat.{div-mul-add, mod-mul-add}
 use Rattle.std.proofs.lemmas.List.{get_or-map, get_or-set_same, get_or-set_other, get_or_past, get_or-replicate, length-replicate, replicate-append-replicate, length-set, map-set}
 use Rattle.std.proofs.lemmas.List.Elements.{All-nil, All-replicate, All-set}
 use Rattle.std.proofs.lemmas.List.Sums.{common_prefix_len-le}
@@ -10,12 +11,22 @@ use Rattle.tap_name.specs.declared.slot.Slot.{Slot}
 use Rattle.tap_name.specs.Name.{IsName}
 use Rattle.tap_name.specs.Settings.{AreWithinLimits, Parameters}
 use Rattle.tap_name.proofs.Prefix.{whole_prefix}
+use Rattle.tap_name.proofs.Slots.{same_slot}
 use Rattle.tap_link.specs.LinkSet.{Links}
-use Rattle.tap_table.specs.Table.{AreSets, SlotLinks, Slots, StandsIn, empty_table, most_links, place_of, slot_number, table_of}
+use Rattle.tap_table.specs.declared.table.TheConstants.{MOST_LINKS}
+use Rattle.tap_table.specs.Table.{AreSets, SlotLinks, Slots, StandsIn, empty_table, place_of, slot_number, slot_numbered, table_of}
 
 -- a slot of the table has its number below the number of slots
 pub number_inside : (p : Parameters) (slot : Slot) → slot.level < p.digits → slot.digit < p.base → slot_number p.base slot < p.base * p.digits
 number_inside p slot level digit = omega (arith, mul-le-mul_left p.base level)
+
+-- the slot of a number, from the number of the slot
+pub number_back : (base : ℕ) (slot : Slot) → slot.digit < base → slot_numbered base (slot_number base slot) ≡ slot
+number_back base slot below =
+    let number = slot_number base slot in
+    let level = div-mul-add slot.level base slot.digit below in
+    let digit = mod-mul-add slot.level base slot.digit below in
+    same_slot (slot_numbered base number) slot level digit
 
 -- the slot of another name is one of the table
 pub place_inside : (p : Parameters) (owner name : List ℕ) → IsName p owner → IsName p name → name ≢ owner
@@ -45,14 +56,14 @@ table-set owner p sets number new links is =
     ap with (map-set (λ s. s.links) sets number new ∙ ap (set (map (λ s. s.links) sets) number) is)
 
 pub sets-set : (owner : List ℕ) (p : Parameters) (sets : List (Links (List ℕ))) (number : ℕ) (new : Links (List ℕ)) → AreSets owner p sets
-    → new.width ≡ p.width → All (λ e. StandsIn p owner number e.target) new.links → length new.links ≤ most_links
+    → new.width ≡ p.width → All (λ e. StandsIn p owner number e.target) new.links → length new.links ≤ MOST_LINKS
     → AreSets owner p (set sets number new)
 sets-set owner p sets number new are width standing few =
     let links = λ (s : Links (List ℕ)). s.links in
     let slots = map links sets in
     let changed = map-set links sets number new in
     let Stand : ℕ → SlotLinks → Type 0 = λ k. All (λ e. StandsIn p owner k e.target) in
-    let Few : SlotLinks → Type 0 = λ l. length l ≤ most_links in
+    let Few : SlotLinks → Type 0 = λ l. length l ≤ MOST_LINKS in
     let at : (P : ℕ → SlotLinks → Type 0) → P number new.links → ((k : ℕ) → P k (get_or slots k [])) → (k : ℕ) → P k (get_or (map links (set sets number new)) k []) = λ P here old k.
     rw changed (elim (cases_eq k number) [
       | inl is ↦

@@ -1,10 +1,11 @@
 -- The first digit that passes, as a loop finds it, and where a message stays for good.
-use Rattle.std.proofs.Common.{◌≡◌, ◌==◌, ◌⊎◌, ◌↔◌, inl, inr, ℕ, ◌+◌, ◌-◌, ◌<◌, ◌≤◌, Bool, true, false, zero, suc, List, [], ◌∷◌, length, drop, get_or, All, Option, None, Some, arith, ap, sym, subst, refl, ◌∙◌, eqb, is_some}
+use Rattle.std.proofs.Common.{◌≡◌, ◌⊎◌, ◌↔◌, inl, inr, ℕ, ◌+◌, ◌-◌, ◌<◌, ◌≤◌, Bool, true, false, zero, suc, List, [], ◌∷◌, length, drop, get_or, All, Option, None, Some, arith, ap, sym, subst, refl, ◌∙◌, eqb, is_some}
 use Rattle.std.proofs.lemmas.Bool.{cases_Bool, cases_lt, eq-eqb, eqb-true, eqb-false, or_cases, true≢false}
 use Rattle.std.proofs.lemmas.List.{get_or-drop, length-drop}
 use Rattle.std.proofs.lemmas.List.Elements.{All-drop, All-head, All-tail}
 use Rattle.tap_name.specs.Cyclic.{first_from, next_digit}
 use Rattle.tap_name.specs.Name.{IsName}
+use Rattle.tap_name.proofs.Digits.{next_is}
 use Rattle.tap_table.specs.declared.next.Next.TheVariants.{Root}
 use Rattle.tap_table.specs.Next.{TakesOwnFrom, can_take, hop_to, next_from, primary_at, taken_digit}
 use Rattle.tap_table.specs.Table.{IsTable, Slots}
@@ -12,15 +13,6 @@ use Rattle.tap_table.specs.Table.{IsTable, Slots}
 pub taken_later : (base : ℕ) (p : ℕ → Bool) (left less digit : ℕ) → left ≡ suc less → p digit ≡ false
     → first_from base p left digit ≡ first_from base p less (next_digit base digit)
 taken_later base p left less digit is h = rw (is, h) refl
-
--- the next digit is one more, or 0
-next_is : (base digit : ℕ) → digit < base
-    → (next_digit base digit ≡ digit + 1) × (digit + 1 < base) ⊎ (next_digit base digit ≡ 0) × (digit + 1 ≡ base)
-next_is base digit below =
-    elim (cases_Bool (digit + 1 == base)) [
-      | inl e ↦ inr (rw e refl, eqb-true (digit + 1) base e)
-      | inr e ↦ let apart = eqb-false (digit + 1) base e in inl (rw e refl, omega (arith, apart))
-    ]
 
 -- a digit is one of those that are tried: as many as are left, cyclically from this one on
 abbrev IsTried : ℕ → ℕ → ℕ → ℕ → Type 0

@@ -3,3 +3,4 @@ pub mod Place
 pub mod Next
 pub mod Ties
 pub mod Members
+pub mod Laws

@@ -1,21 +1,17 @@
--- The ties at rest over the members of an overlay.
-use Rattle.std.specs.Prelude.{◌≡◌, ◌≢◌, ◌==◌, ◌&&◌, ℕ, ◌*◌, ◌<◌, Bool, true, false, Option, None, Some, List, length, map, filter, take, nat_eq, AllPairs}
-use Rattle.std.specs.List.{list_any, range_with_len, slice_index_or}
+-- The tables and ties at rest over the members of an overlay.
+use Rattle.std.specs.Prelude.{◌≡◌, ◌==◌, ◌&&◌, ℕ, ◌*◌, ◌≤◌, Bool, true, false, Option, None, Some, List, length, map, filter, take, nat_eq, All, AllPairs, ◌⊎◌}
+use Rattle.std.specs.List.{list_any, range_with_len}
 use Rattle.std.specs.List.Sorted.{IsPermutation}
 use Rattle.std.specs.Cmp.Lexicographic.{pointwise}
 use Rattle.std.specs.declared.cmp.Ordering.TheVariants.{Less}
 use Rattle.tap_name.specs.declared.slot.Slot.{Slot}
 use Rattle.tap_name.specs.Settings.{Parameters}
-use Rattle.tap_name.specs.Slot.{slot_at}
+use Rattle.tap_name.specs.Slot.{slot_at, Fits}
+use Rattle.tap_name.specs.Root.{Among}
 use Rattle.tap_link.specs.declared.kind.Kind.TheVariants.{Settled}
 use Rattle.tap_register.specs.declared.registers.Entry.{Entry}
 use Rattle.tap_table.specs.Table.{SlotLinks, Slots, name_cmp, place_of, slot_numbered}
 use Rattle.tap_table.specs.Ties.{BothWays}
-
--- no two of these are one
-abbrev pub AreDistinct : List (List ℕ) → Type 0
-AreDistinct names =
-    (i j : ℕ) (d : List ℕ) → i < j → j < length names → slice_index_or names i d ≢ slice_index_or names j d
 
 -- one name stands before another, digit by digit
 abbrev pub IsBelow : List ℕ → List ℕ → Type 0
@@ -59,12 +55,26 @@ abbrev pub holders_at_rest : Parameters → List ℕ → List (List ℕ) → Lis
 holders_at_rest p owner names members =
     map (λ member. record { key = member; version = 0; value = true }) (filter (holds p owner names) members)
 
--- The ties of an owner at rest over the members. With the members in ascending order, the first ones that fit a slot
--- are the least ones.
-pub record AreAtRest (p : Parameters) (owner : List ℕ) (members : List (List ℕ)) (ties : BothWays) : Type 0 where
-  -- the members in ascending order
+-- These links are the `width` least members that fit a slot of the owner, ascending; all that fit, where they are fewer.
+pub record AreLeastFitting (width : ℕ) (owner : List ℕ) (slot : Slot)
+    (members links : List (List ℕ)) : Type 0 where
+  pub ascending : AllPairs IsBelow links
+  pub few : length links ≤ width
+  -- each link is a member that fits
+  pub fitting : (link : List ℕ) → Among link links → Among link members × Fits owner link slot
+  -- each member that fits is a link, unless there are `width` links, all below it
+  pub least : (member : List ℕ) → Among member members → Fits owner member slot
+      → Among member links ⊎ (length links ≡ width) × All (λ link. IsBelow link member) links
+
+-- The table of an owner at rest over the members: the one over their names in ascending order. There the first ones that
+-- fit a slot are the least ones.
+pub record IsTableAtRest (p : Parameters) (owner : List ℕ) (members : List (List ℕ)) (table : Slots) : Type 0 where
   pub names : List (List ℕ)
   pub same : IsPermutation members names
   pub ascending : AllPairs IsBelow names
-  pub table : ties.table ≡ table_at_rest p owner names
-  pub holders : ties.holders ≡ holders_at_rest p owner names names
+  pub is : table ≡ table_at_rest p owner names
+
+-- The ties of an owner at rest over the members: its table, and what it has heard of its holders, over the same names.
+pub record AreAtRest (p : Parameters) (owner : List ℕ) (members : List (List ℕ)) (ties : BothWays) : Type 0 where
+  pub table : IsTableAtRest p owner members ties.table
+  pub holders : ties.holders ≡ holders_at_rest p owner table.names table.names

@@ -10,6 +10,7 @@ use Rattle.tap_name.specs.Settings.{Parameters, AreWithinLimits}
 use Rattle.tap_link.specs.declared.kind.Kind.{Kind}
 use Rattle.tap_link.specs.Entry.{Entry}
 use Rattle.tap_link.specs.LinkSet.{Links, has_room, kind_of}
+use Rattle.tap_table.specs.declared.table.TheConstants.{MOST_LINKS}
 
 -- the links of one slot
 abbrev pub SlotLinks : Type 0
@@ -64,10 +65,6 @@ abbrev pub with_links : Slots → List ℕ → SlotLinks → Slots
 with_links t name links =
     record t { slots = slice_set t.slots (slot_number t.settings.base (place_of t.owner name)) links }
 
--- No slot has more links than this many. No memory holds so many, and the links of all slots are counted in 64 bits.
-abbrev pub most_links : ℕ
-most_links = 18014398509481984
-
 -- a target stands in the slot of this number in the table of an owner
 pub record StandsIn (p : Parameters) (owner : List ℕ) (number : ℕ) (target : List ℕ) : Type 0 where
   pub is_name : IsName p target
@@ -80,7 +77,7 @@ pub record IsTable (t : Slots) : Type 0 where
   pub count : length t.slots ≡ t.settings.base * t.settings.digits
   -- each target stands in its own slot
   pub standing : (number : ℕ) → All (λ e. StandsIn t.settings t.owner number e.target) (slice_index_or t.slots number [])
-  pub few : (number : ℕ) → length (slice_index_or t.slots number []) ≤ most_links
+  pub few : (number : ℕ) → length (slice_index_or t.slots number []) ≤ MOST_LINKS
 
 -- the table of an owner with these link sets in its slots
 abbrev pub table_of : List ℕ → Parameters → List (Links (List ℕ)) → Slots

@@ -2,7 +2,7 @@ use tap_name::Name;
 
 /// Where a message towards an object goes next.
 ///
-/// Rule: docs/PROTOCOL.md, "Walks".
+/// Rule: docs/PROTOCOL.md, "Next hops".
 #[derive(Clone, Copy, Debug, PartialEq, Eq)]
 pub enum Next {
     /// It stays: the owner of the table is the object's root.

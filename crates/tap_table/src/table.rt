@@ -4,7 +4,7 @@ ghost use Rattle.std.specs.Option.{is_none};
 ghost use Rattle.tap_link.specs.LinkSet.{has_room, kind_of, with_link, with_kind, without, is_pinned, is_settled, is_settled_or_leaving, least_settled, released_as, after_release};
 ghost use Rattle.tap_name.specs.Name.{IsName};
 ghost use Rattle.tap_table.specs.Next.{TakesOwnFrom, can_take, hop_to, next_from, primary_at, taken_digit};
-ghost use Rattle.tap_table.specs.Table.{IsTable, most_links, name_cmp, empty_table, place_of, slot_number, links_at, links_near, has_room_near, kind_in, with_links, rows};
+ghost use Rattle.tap_table.specs.Table.{IsTable, name_cmp, empty_table, place_of, slot_number, links_at, links_near, has_room_near, kind_in, with_links, rows};
 
 use crate::memory::NoMemory;
 use crate::next::Next;
@@ -174,8 +174,9 @@ impl Table {
 
     /// Pins a target that the table has no link to, and answers whether it had none.
     ///
-    /// Where the target's slot has fewer than four links, it needs no memory. A table that is refused
-    /// memory stays as it was. The target is a name of the settings, and not the owner.
+    /// Where the target's slot has fewer than four links, it needs no memory, and where it has 2^54 links,
+    /// the answer is `NoMemory`. A table that is refused memory stays as it was. The target is a name of
+    /// the settings, and not the owner.
     pub fn pin(&mut self, target: Name) -> Result<bool, NoMemory>
         requires name { IsName self.old.settings target }
         requires other { target ≢ self.old.owner }
@@ -195,8 +196,9 @@ impl Table {
     /// and answers whether it did. There is room where fewer links of the slot are settled and not
     /// leaving than the width of the settings.
     ///
-    /// Where the target's slot has fewer than four links, it needs no memory. A table that is refused
-    /// memory stays as it was. The target is a name of the settings, and not the owner.
+    /// Where the target's slot has fewer than four links, it needs no memory, and where it has 2^54 links,
+    /// the answer is `NoMemory`. A table that is refused memory stays as it was. The target is a name of
+    /// the settings, and not the owner.
     pub fn offer(&mut self, target: Name) -> Result<bool, NoMemory>
         requires name { IsName self.old.settings target }
         requires other { target ≢ self.old.owner }
@@ -304,7 +306,7 @@ impl Table {
     /// The object has as many digits as a name, all below the base, and the level is at most their
     /// number.
     ///
-    /// Rule: docs/PROTOCOL.md, "Walks".
+    /// Rule: docs/PROTOCOL.md, "Next hops".
     pub fn next_hop(&self, object: &Name, level: usize) -> Next
         requires name { IsName self.now.settings object.now }
         requires level { level ≤ self.now.settings.digits }
@@ -352,7 +354,9 @@ impl Table {
         ensures value { result ≡ record { level = level; digit = digit } }
         ensures level { result.level < 40 }
     {
-        let _digits = self.settings.digits();
+        // A name has at most 40 digits, so that a level fits a byte.
+        let digits = self.settings.digits();
+        prove!(digits <= 40);
         Slot {
             level: level as u8,
             digit,
@@ -406,13 +410,13 @@ fn digit_or_zero(name: &Name, at: usize) -> u8
 
 // Pins a target in a link set, as the set does, where it has few enough links.
 fn pin_in(set: &mut LinkSet<Name>, target: Name) -> Result<bool, NoMemory>
-    requires { length set.old.links ≤ most_links }
+    requires { length set.old.links ≤ MOST_LINKS }
     ensures answer { IfOk result (λ added. added ≡ is_none (kind_of name_cmp set.old.links target)) }
     ensures pinned { result ≡ Ok true
         → set.new ≡ record set.old { links = with_link name_cmp set.old.links target Kind.Pin } }
     ensures same { ¬ (result ≡ Ok true) → set.new ≡ set.old }
     ensures inline { length set.old.links < 4 → IsOk result }
-    ensures few { length set.new.links ≤ most_links }
+    ensures few { length set.new.links ≤ MOST_LINKS }
 {
     if set.len() >= MOST_LINKS {
         return Err(NoMemory);
@@ -422,14 +426,14 @@ fn pin_in(set: &mut LinkSet<Name>, target: Name) -> Result<bool, NoMemory>
 
 // Offers a target to a link set, as the set does, where it has few enough links.
 fn offer_in(set: &mut LinkSet<Name>, target: Name) -> Result<bool, NoMemory>
-    requires { length set.old.links ≤ most_links }
+    requires { length set.old.links ≤ MOST_LINKS }
     ensures answer { IfOk result (λ added. added
         ≡ (is_none (kind_of name_cmp set.old.links target) && has_room set.old)) }
     ensures settled { result ≡ Ok true
         → set.new ≡ record set.old { links = with_link name_cmp set.old.links target Kind.Settled } }
     ensures same { ¬ (result ≡ Ok true) → set.new ≡ set.old }
     ensures inline { length set.old.links < 4 → IsOk result }
-    ensures few { length set.new.links ≤ most_links }
+    ensures few { length set.new.links ≤ MOST_LINKS }
 {
     if set.len() >= MOST_LINKS {
         return Err(NoMemory);

@@ -2,7 +2,7 @@ use tap_name::Name;
 
 /// A word for another node: that the sender has a link to it, or has it no more.
 ///
-/// Rule: docs/PROTOCOL.md, "Versions".
+/// Rule: docs/PROTOCOL.md, "Links in both directions".
 #[derive(Clone, Copy, Debug, PartialEq, Eq)]
 pub struct Tie {
     /// The node that is told.

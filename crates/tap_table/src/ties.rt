@@ -24,7 +24,7 @@ use tap_register::{Entry, Registers, Stamp};
 /// counts. In turn each change of the table that adds a link, or drops one at a release, gives the
 /// word for its target, with the next number of the node's stamp.
 ///
-/// Rule: docs/PROTOCOL.md, "Links".
+/// Rule: docs/PROTOCOL.md, "Links in both directions".
 #[derive(Drop)]
 pub struct Ties {
     table: Table,
@@ -40,7 +40,8 @@ impl Model for Ties {
 }
 
 impl Ties {
-    ghost use Rattle.tap_table.specs.Members.{AreAtRest, AreDistinct};
+    ghost use Rattle.tap_name.specs.Distinct.{AreDistinct};
+    ghost use Rattle.tap_table.specs.Members.{AreAtRest};
 
     /// No links and no holders. The owner is a name of the settings.
     pub fn new(alloc: Global, owner: Name, settings: &Settings) -> Result<Ties, NoMemory>

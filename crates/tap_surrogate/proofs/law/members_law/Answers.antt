@@ -1,5 +1,5 @@
-use Rattle.tap_surrogate.proofs.AtRest.{first_fitting_law_holds}
-use Rattle.tap_surrogate.proofs.RestTables.{least_law_holds, rest_law_holds, ties_law_holds}
+use Rattle.tap_table.proofs.Least.{first_fitting_law_holds, ties_law_holds}
+use Rattle.tap_surrogate.proofs.RestTables.{least_law_holds, rest_law_holds}
 use Rattle.tap_surrogate.proofs.law.members_law.Goals as goal
 
 pub returns-clause-ties : goal.returns-clause-ties

@@ -1,5 +1,5 @@
 use Rattle.tap_name.specs.Name.{IsName}
-use Rattle.tap_surrogate.proofs.Names.{among-All}
+use Rattle.tap_name.proofs.Names.{among-All}
 use Rattle.tap_surrogate.proofs.tests.check_case.Goals as goal
 
 pub root_of-root-requires-clause-names : goal.root_of-root-requires-clause-names

@@ -1,6 +1,6 @@
 use Rattle.std.proofs.Common.{All}
 use Rattle.tap_name.specs.Name.{IsName}
-use Rattle.tap_table.specs.Members.{AreDistinct}
+use Rattle.tap_name.specs.Distinct.{AreDistinct}
 use Rattle.tap_surrogate.proofs.tests.names_of.Given as goal
 
 abbrev pub invariant-loop-text : goal.invariant-loop-text

@@ -2,7 +2,7 @@ use Rattle.std.proofs.Common.{◌≡◌, ◌≤◌, ◌+◌, ◌*◌, length, ta
 use Rattle.std.specs.List.{sum_by}
 use Rattle.std.proofs.lemmas.List.Sums.{sum_by_more, sum_by_more_le}
 use Rattle.tap_link.specs.LinkSet.{Links}
-use Rattle.tap_table.specs.Table.{most_links}
+use Rattle.tap_table.specs.declared.table.TheConstants.{MOST_LINKS}
 use Rattle.tap_table.proofs.Rows.{length-rows, links_fit}
 use Rattle.tap_table.proofs.table.Table.len.Goals as goal
 
@@ -10,7 +10,7 @@ pub overflow_add-links : goal.overflow_add-links
 overflow_add-links c =
     let sets = c.as_slice-sets.result.now in
     let f = λ (s : Links (List ℕ)). length s.links in
-    let most : sum_by f sets ≤ 640 * most_links = rw c.as_slice-sets.ensures.value (links_fit c.self.inside.owner c.self.inside.settings c.self.inside.sets.items c.self.invariant) in
+    let most : sum_by f sets ≤ 640 * MOST_LINKS = rw c.as_slice-sets.ensures.value (links_fit c.self.inside.owner c.self.inside.settings c.self.inside.sets.items c.self.invariant) in
     let part = sum_by_more_le f sets c.loop-set.set-index c.set-item.result c.loop-set-test.true in
     let here = ap f c.set-item.is in
     omega (arith, most, part, here, c.len-links.ensures.count, c.loop-set.invariant)

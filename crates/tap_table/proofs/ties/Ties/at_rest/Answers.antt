@@ -41,9 +41,11 @@ returns c =
     let sorted = sorted_lent c.sort.new.self.items names c.in_ok-sort.ensures.sorted c.as_slice-2.ensures.value in
     let lent : c.as_slice-3.result.now ≡ names = c.as_slice-3.ensures.value ∙ sym c.as_slice-2.ensures.value in
     record {
-      names = names;
-      same = moved;
-      ascending = ascending_from_sorted c.args.members.now names moved sorted c.requires.distinct;
-      table = c.in_ok-table_over.ensures;
+      table = record {
+        names = names;
+        same = moved;
+        ascending = ascending_from_sorted c.args.members.now names moved sorted c.requires.distinct;
+        is = c.in_ok-table_over.ensures;
+      };
       holders = c.in_ok-holders_over.ensures ∙ ap (λ l. holders_at_rest c.args.settings.now c.args.owner l l) lent;
     }
