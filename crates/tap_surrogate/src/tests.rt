@@ -107,7 +107,7 @@ fn overlay_of<'a>(alloc: Global, settings: Settings, all: &'a [Ties]) -> Result<
 }
 
 // Compares the path of a walk from a core node with the one that it is to be, and each of its
-// steps.
+// steps: a hop to each further node, and then the root, which is said again when it is asked again.
 fn check_walk(
     rt: &impl Abort,
     alloc: Global,
@@ -123,14 +123,16 @@ fn check_walk(
     }
     let path = walk_path(alloc, overlay, from, object)?;
     assert_eq!(rt; path.as_slice(), expected.as_slice());
+    let root = *expected.as_slice().last().ok_or("a path")?;
     let mut walk = Walk::new(from, object);
-    for node in expected.as_slice() {
-        assert_eq!(rt; walk.node(), *node);
-        match walk.next(overlay) {
-            Step1::Hop(to) => assert_eq!(rt; to, walk.node()),
-            Step1::Root(at) => assert_eq!(rt; at, walk.node()),
-        }
+    assert_eq!(rt; walk.node(), from);
+    for place in 1..expected.len() {
+        let to = expected.at(place);
+        assert_eq!(rt; walk.next(overlay), Step1::Hop(to));
+        assert_eq!(rt; walk.node(), to);
     }
+    assert_eq!(rt; walk.next(overlay), Step1::Root(root));
+    assert_eq!(rt; walk.next(overlay), Step1::Root(root));
     Ok(())
 }
 

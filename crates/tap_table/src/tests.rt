@@ -79,7 +79,7 @@ fn ties_give_the_words_for_their_targets(rt: HostRuntime) -> Result<(), Fail> {
     );
     assert!(rt; ties.mark_leaving(target));
     assert!(rt; ties.remove_settled(target));
-    assert!(rt; stamp.last() < 9);
+    assert!(rt; stamp.last() == 1);
     let pinned = ties.pin(&mut stamp, target)?;
     assert_eq!(rt;
         pinned,
@@ -90,7 +90,7 @@ fn ties_give_the_words_for_their_targets(rt: HostRuntime) -> Result<(), Fail> {
         })
     );
     assert!(rt; ties.forget(Forget { from: target }));
-    assert!(rt; stamp.last() < 9);
+    assert!(rt; stamp.last() == 2);
     assert_eq!(rt; ties.release(&mut stamp, Release { from: target }), None);
     ties.cease(&Cease { owner });
     Ok(())

@@ -4,8 +4,8 @@ use Rattle.std.specs.Cmp.Lexicographic.{pointwise}
 use Rattle.tap_surrogate.specs.Standing.{IsStanding}
 use Rattle.tap_surrogate.proofs.tests.check_walk.Given as goal
 
-abbrev pub invariant-loop-node : goal.invariant-loop-node
-invariant-loop-node g l =
+abbrev pub invariant-loop-place : goal.invariant-loop-place
+invariant-loop-place g l =
     IsStanding l.overlay.settings
     (record {
       table_of = λ name. option_copied (find (λ t. pointwise nat_eq t.now.owner name) l.overlay.tables.items);
