@@ -10,7 +10,7 @@ use std::alloc::Global;
 use std::collections::BTreeMap;
 use std::marker::Model;
 
-/// How many sessions one value may open.
+/// How many sessions the `Sessions` of one node may open.
 ///
 /// Rule: docs/PROTOCOL.md, "Sessions".
 pub const MOST_SESSIONS: u32 = 500_001;

@@ -62,7 +62,7 @@ impl Watch {
         Ok(Watch { slots })
     }
 
-    /// The watch of a vector's slots. It takes no memory.
+    /// The watch of a vector's slots, which ascend strictly, by level and then digit. It takes no memory.
     pub fn from_vec(slots: Vec<Slot>) -> Watch
         requires { IsAscending slots.items }
         ensures { result ≡ slots.items }

@@ -6,6 +6,7 @@ use Rattle.tap_wire.specs.declared.fault.BodyFault.TheVariants as body
 use Rattle.tap_wire.specs.declared.fault.WireFault.{WireFault}
 use Rattle.tap_wire.specs.declared.fault.WireFault.TheVariants.{Short, BadVersion, BadKind, BadLength, BadCount, Trailing, BadDigit, BadBody, NoMemory}
 
+-- a fault of the head
 abbrev pub fault_of_head : HeadFault → WireFault
 fault_of_head (head.Short missing) = Short missing
 fault_of_head (head.BadVersion version) = BadVersion version
@@ -15,6 +16,7 @@ fault_of_head (head.BadCount count) = BadCount count
 fault_of_head (head.Trailing more) = Trailing more
 fault_of_head (head.BadDigit at) = BadDigit at
 
+-- a fault of the body: the place of its bad field
 abbrev pub fault_of_body : BodyFault → WireFault
 fault_of_body (body.Field broken) = BadBody broken.at
 fault_of_body body.NoMemory = NoMemory

@@ -35,6 +35,7 @@ session_at place bytes = field (nat_le 1 (number_at 4 place bytes)) place (numbe
 abbrev pub is_level : Parameters → ℕ → Bool
 is_level p level = nat_le 1 level && nat_le level p.digits
 
+-- the level at a place
 abbrev pub level_at : Parameters → ℕ → List ℕ → Result ℕ Broken
 level_at p place bytes = field (is_level p (slice_index bytes place)) place (slice_index bytes place)
 
@@ -53,6 +54,7 @@ digits_at bad p place bytes =
     let digits = take p.digits (drop place bytes)
     in digits_unless (λ at. bad (place + at)) digits (position (λ d. nat_le p.base d) digits)
 
+-- the name at a place
 abbrev pub name_at : Parameters → ℕ → List ℕ → Result (List ℕ) Broken
 name_at p place bytes = digits_at (λ at. record { at = at }) p place bytes
 

@@ -6,6 +6,7 @@ use Rattle.tap_wire.specs.declared.kind.Kind.TheVariants.{Seek, Tell, Hello, Hea
 use Rattle.tap_wire.specs.declared.frame.Body.{Body}
 use Rattle.tap_wire.specs.declared.frame.Body.TheVariants as body
 
+-- the code of a kind
 abbrev pub code_of : Kind → ℕ
 code_of Seek = 1
 code_of Tell = 2
@@ -34,6 +35,7 @@ abbrev pub kind_of_code : ℕ → Option Kind
 kind_of_code zero = None
 kind_of_code (suc before) = slice_get kinds before
 
+-- the kind of a body
 abbrev pub kind_of : Body → Kind
 kind_of (body.Seek joiner) = Seek
 kind_of (body.Tell joiner prefix level session depth watch) = Tell

@@ -22,6 +22,7 @@ use Rattle.tap_wire.specs.Fields.{◌>>=◌, field, number_at, session_at, level
 abbrev pub is_long : Parameters → Bool
 is_long p = nat_lt 8 p.digits
 
+-- the version of frames
 abbrev pub version_of : Parameters → ℕ
 version_of p = if is_long p then 2 else 1
 
@@ -49,6 +50,7 @@ sized p kind len bytes =
     else if nat_lt (body_start p + len) (length bytes) then Err (Trailing (length bytes - (body_start p + len)))
     else names_at p kind bytes
 
+-- the rest of the head of a frame of this kind, where its code is one
 abbrev pub of_kind : Parameters → Option Kind → List ℕ → Result Opening HeadFault
 of_kind p None bytes = Err (BadKind (slice_index bytes 1))
 of_kind p (Some kind) bytes = sized p kind (number_at 2 2 bytes) bytes
@@ -66,6 +68,7 @@ head_of p bytes = opening_of p bytes >>= λ opening. Ok (record { kind = code_of
 
 -- the bodies, field by field from the place where they start
 
+-- a Seek: the joiner
 abbrev pub seek_at : Parameters → ℕ → List ℕ → Result Body Broken
 seek_at p start bytes = name_at p start bytes >>= λ joiner. Ok (Seek joiner)
 
@@ -78,6 +81,7 @@ abbrev pub level_above_at : Parameters → ℕ → ℕ → List ℕ → Result �
 level_above_at p prefix place bytes =
     field (nat_lt prefix (slice_index bytes place) && nat_le (slice_index bytes place) p.digits) place (slice_index bytes place)
 
+-- a Tell: the joiner, the prefix, the level, the session, the depth and the watch list
 unfoldable pub tell_at : Parameters → ℕ → List ℕ → Result Body Broken
 tell_at p start bytes =
     let at = start + p.digits in
@@ -88,6 +92,7 @@ tell_at p start bytes =
     slots_at p prefix ((length bytes - (at + 8)) / 2) None (at + 8) bytes >>= λ watch.
     Ok (Tell joiner prefix level session (number_at 2 (at + 6) bytes) watch)
 
+-- a Hello: the session, whether its sender is core, and the links
 unfoldable pub hello_at : Parameters → ℕ → List ℕ → Result Body Broken
 hello_at p start bytes =
     session_at start bytes >>= λ session.
@@ -95,9 +100,11 @@ hello_at p start bytes =
     links_at p ((length bytes - (start + 5)) / (p.digits + 1)) None (start + 5) bytes >>= λ links.
     Ok (Hello session core links)
 
+-- a Link: the version, and whether there is a link
 abbrev pub link_body_at : ℕ → List ℕ → Result Body Broken
 link_body_at start bytes = flag_at (start + 4) bytes >>= λ on. Ok (Link (number_at 4 start bytes) on)
 
+-- a Lay: the object, the server, the level, the version, and whether there is a pointer
 unfoldable pub lay_at : Parameters → ℕ → List ℕ → Result Body Broken
 lay_at p start bytes =
     let at = start + 2 * p.digits in
@@ -107,6 +114,7 @@ lay_at p start bytes =
     flag_at (at + 5) bytes >>= λ on.
     Ok (Lay object server level (number_at 4 (at + 1) bytes) on)
 
+-- a Find: the ticket, the object, the asker and the level
 unfoldable pub find_at : Parameters → ℕ → List ℕ → Result Body Broken
 find_at p start bytes =
     name_at p (start + 4) bytes >>= λ object.
@@ -114,12 +122,15 @@ find_at p start bytes =
     level_at p (start + 4 + 2 * p.digits) bytes >>= λ level.
     Ok (Find (number_at 4 start bytes) object asker level)
 
+-- an Answer: the ticket, and a server where one is found
 abbrev pub answer_at : Parameters → ℕ → List ℕ → Result Body Broken
 answer_at p start bytes = optional_at p (start + 4) bytes >>= λ server. Ok (Answer (number_at 4 start bytes) server)
 
+-- a Leave: a replacement where one is given
 abbrev pub leave_at : Parameters → ℕ → List ℕ → Result Body Broken
 leave_at p start bytes = optional_at p start bytes >>= λ replacement. Ok (Leave replacement)
 
+-- a Cast: the cast, the level, the session, the depth and the word
 unfoldable pub cast_at : Parameters → ℕ → List ℕ → Result Body Broken
 cast_at p start bytes =
     level_at p (start + 4) bytes >>= λ level.
@@ -159,11 +170,12 @@ frame_of p bytes =
     in_frame (λ b. fault_of_body (faults.Field b)) (body_at p opening.kind (body_start p) bytes) >>= λ body.
     Ok (record { from = opening.sender; to = opening.receiver; body = body })
 
--- what a reader answered is what is read, unless memory ran out
+-- a reader's fault is the field that breaks its rule, unless memory ran out
 abbrev pub Fails : {X : Type 0} → BodyFault → Result X Broken → Type 0
 Fails faults.NoMemory read = Unit {0}
 Fails (faults.Field b) read = read ≡ Err b
 
+-- what a reader answered is what is read, unless memory ran out
 abbrev pub Gives : {X : Type 0} → Result X BodyFault → Result X Broken → Type 0
 Gives (Ok x) read = read ≡ Ok x
 Gives (Err e) read = Fails e read

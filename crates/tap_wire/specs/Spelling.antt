@@ -19,6 +19,7 @@ use Rattle.tap_wire.specs.Reading.{is_long, version_of}
 
 -- ---- the spelling
 
+-- the byte of a flag
 abbrev pub flag : Bool → ℕ
 flag b = if b then 1 else 0
 
@@ -35,6 +36,7 @@ abbrev pub optional_bytes : Option (List ℕ) → List ℕ
 optional_bytes None = 0 ∷ []
 optional_bytes (Some name) = 1 ∷ name
 
+-- the fields of a body, one after another
 abbrev pub body_bytes : Body → List ℕ
 body_bytes (Seek joiner) = joiner
 body_bytes (Tell joiner prefix level session depth watch) =
@@ -75,6 +77,7 @@ pub record AreSlots (p : Parameters) (prefix : ℕ) (watch : List Slot) : Type 0
   pub digits : All (λ slot. slot.digit < p.base) watch
   pub few : length watch ≤ p.digits * (p.base - 1)
 
+-- the fields of a Tell keep their rules
 pub record IsTell (p : Parameters) (joiner : List ℕ) (prefix level session : ℕ) (watch : List Slot) : Type 0 where
   pub joiner_is : IsName p joiner
   pub prefix_below : prefix < p.digits

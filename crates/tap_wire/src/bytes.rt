@@ -4,7 +4,9 @@ use crate::memory::NoMemory;
 use std::alloc::Global;
 use std::marker::Model;
 
-/// A list of bytes, which contracts see as a list of numbers.
+/// A list of bytes, as of a frame's spelling or the word of a cast. Contracts see the list of their numbers.
+///
+/// Rule: docs/FORMATS.md, "Frames".
 #[derive(Debug, Drop)]
 pub struct Bytes {
     bytes: Vec<u8>,
