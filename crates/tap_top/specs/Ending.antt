@@ -10,27 +10,24 @@ use Rattle.tap_log.specs.declared.record.Record.{Record}
 use Rattle.tap_report.specs.Text.{text_of_log}
 use Rattle.tap_report.specs.Written.{FirstFails}
 use Rattle.tap_report.specs.declared.mode.Mode.{Mode}
+use Rattle.tap_top.specs.declared.reading.TheConstants.{MOST_BYTES}
 use Rattle.tap_top.specs.declared.status.Status.{Status}
 use Rattle.tap_top.specs.declared.status.Status.TheVariants.{Done, Usage, TooLong, NotScenario, ReadFault, WriteFault, NoMemory}
 use Rattle.tap_top.specs.Headline.{IsLogOf, IsWholeLogOf}
 use Rattle.tap_top.specs.FaultLine.{fault_line}
 
--- the most bytes that a scenario's text may have
-abbrev pub most_bytes : ℕ
-most_bytes = 1048576
-
 -- the bytes, where they are told, are no more than a text may have, and the text of this script
 abbrev pub IsTextOf : Option (List ℕ) → Script → Type 0
-IsTextOf left s = IfSome left (λ all. (length all ≤ most_bytes) × (scenario_of all ≡ Ok s))
+IsTextOf left s = IfSome left (λ all. (length all ≤ MOST_BYTES) × (scenario_of all ≡ Ok s))
 
 -- the bytes, where they are told, are no more than a text may have, and refused with this fault
 abbrev pub IsRefusedWith : Option (List ℕ) → Fault → Type 0
-IsRefusedWith left fault = IfSome left (λ all. (length all ≤ most_bytes) × (scenario_of all ≡ Err fault))
+IsRefusedWith left fault = IfSome left (λ all. (length all ≤ MOST_BYTES) × (scenario_of all ≡ Err fault))
 
 -- why no script was read; where a script was read or nothing was tried, there is no such reason
 abbrev pub IsUnread : Option (List ℕ) → Option (List ℕ) → ℕ → ℕ → Status → Type 0
 IsUnread left rest before now ReadFault = HasRisen before now
-IsUnread left rest before now TooLong = IfSome left (λ all. most_bytes < length all)
+IsUnread left rest before now TooLong = IfSome left (λ all. MOST_BYTES < length all)
 IsUnread left rest before now (NotScenario fault) = IsRefusedWith left fault × IsAtEnd rest
 IsUnread left rest before now NoMemory = Unit {0}
 IsUnread left rest before now Done = ⊥

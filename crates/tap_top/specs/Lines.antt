@@ -7,11 +7,13 @@ use Rattle.tap_log.specs.declared.record.LinkWord.{LinkWord}
 use Rattle.tap_log.specs.declared.record.LinkWord.TheVariants.{Pin as PinWord, Settled as SettledWord, Leaving as LeavingWord}
 use Rattle.tap_table.specs.Table.{Row, Slots, rows}
 
+-- the word of a link's kind
 abbrev pub word_of : Kind → LinkWord
 word_of Pin = PinWord
 word_of Settled = SettledWord
 word_of Leaving = LeavingWord
 
+-- the link of a row: its slot, its target and the word of its kind
 abbrev pub line_of : Row → LinkLine
 line_of row = record { slot = row.slot; name = row.entry.target; kind = word_of row.entry.kind }
 

@@ -1,13 +1,27 @@
 ghost use Rattle.std.specs.Prelude.{◌≡◌};
 ghost use Rattle.tap_report.specs.Written.{WritesText};
-ghost use Rattle.tap_scenario.specs.Key.{text_of_key};
+ghost use Rattle.tap_top.specs.Ending.{HasWritten};
 ghost use Rattle.tap_top.specs.FaultLine.{fault_line, text_of_fault};
 
 use crate::status::Status;
 use itoa::Buffer;
 use tap_io::Sink;
 use tap_report::{Written, write_text};
-use tap_scenario::{Fault, Key};
+use tap_scenario::Fault;
+
+/// Writes the fault line of a program that ends before it calls [`run`](crate::run), as one whose words can't be had, and
+/// says how it then ends: so, or with `WriteFault` where a write failed.
+///
+/// Rule: docs/FORMATS.md, "The fault line and the exit status".
+pub fn tell_fault<K: Sink>(before: Status, sink: &mut K) -> Status
+    ensures { HasWritten (K.held sink.old) (K.held sink.new) (K.faults sink.old) (K.faults sink.new)
+        (fault_line before) before result }
+{
+    match write_fault_line(sink, Written::All, before) {
+        Written::All => before,
+        Written::Failed => Status::WriteFault,
+    }
+}
 
 // Writes the line that says why a run didn't end with `done`, behind the text of its log.
 pub(crate) fn write_fault_line<K: Sink>(sink: &mut K, so_far: Written, status: Status) -> Written
@@ -48,31 +62,16 @@ fn write_fault<K: Sink>(sink: &mut K, so_far: Written, fault: Fault) -> Written
         Fault::NotToml => write_text(sink, so_far, b"not TOML"),
         Fault::BadKey(key) => {
             let so_far = write_text(sink, so_far, b"bad key ");
-            write_text(sink, so_far, key_text(key).as_bytes())
+            write_text(sink, so_far, key.text().as_bytes())
         }
         Fault::BadValue(key) => {
             let so_far = write_text(sink, so_far, b"bad value ");
-            write_text(sink, so_far, key_text(key).as_bytes())
+            write_text(sink, so_far, key.text().as_bytes())
         }
         Fault::BadStep(index) => {
             let so_far = write_text(sink, so_far, b"bad step ");
             let mut buffer = Buffer::new();
             write_text(sink, so_far, buffer.format(index).as_bytes())
         }
-    }
-}
-
-// A key as it is written.
-fn key_text(key: Key) -> &'static str
-    ensures { result.now ≡ text_of_key key }
-{
-    match key {
-        Key::Base => "base",
-        Key::Digits => "digits",
-        Key::Width => "width",
-        Key::Frames => "frames",
-        Key::Members => "members",
-        Key::Steps => "steps",
-        Key::Unknown => "unknown",
     }
 }

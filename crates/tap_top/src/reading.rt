@@ -7,7 +7,7 @@ use tap_io::{Got, Source};
 /// The most bytes that a scenario's text may have.
 ///
 /// Rule: docs/PROTOCOL.md, "Limits".
-pub const LIMIT: usize = 1_048_576;
+pub const MOST_BYTES: usize = 1_048_576;
 
 // Why the bytes of a source weren't read to their end.
 #[derive(Clone, Copy, Debug, PartialEq, Eq)]
@@ -21,20 +21,20 @@ pub(crate) enum Unread {
 pub(crate) fn read_all<S: Source>(alloc: Global, source: &mut S) -> Result<Vec<u8>, Unread>
     ensures bytes { IfOk result (λ bytes. IfSome (S.left source.old) (λ all. bytes.items ≡ all)) }
     ensures ended { OnOk result (IfSome (S.left source.new) (λ rest. rest ≡ [])) }
-    ensures within { IfOk result (λ bytes. vec_len bytes ≤ LIMIT) }
+    ensures within { IfOk result (λ bytes. vec_len bytes ≤ MOST_BYTES) }
     ensures later { S.faults source.old ≤ S.faults source.new }
     ensures failed { IsErrOf result Unread.Failed → HasRisen (S.faults source.old) (S.faults source.new) }
-    ensures too_long { IsErrOf result Unread.TooLong → IfSome (S.left source.old) (λ all. LIMIT < length all) }
+    ensures too_long { IsErrOf result Unread.TooLong → IfSome (S.left source.old) (λ all. MOST_BYTES < length all) }
 {
     let mut bytes = Vec::new(alloc);
     let mut piece = [0u8; 16384];
     loop {
-        let wanted = piece.len().min(LIMIT + 1 - bytes.len());
+        let wanted = piece.len().min(MOST_BYTES + 1 - bytes.len());
         match source.read(&mut piece[..wanted]) {
             Got::End => return Ok(bytes),
             Got::Failed => return Err(Unread::Failed),
             Got::Got(n) => {
-                if n > LIMIT - bytes.len() {
+                if n > MOST_BYTES - bytes.len() {
                     return Err(Unread::TooLong);
                 }
                 if bytes.extend_from_slice(&piece[..n]).is_err() {

@@ -7,7 +7,7 @@ ghost use Rattle.tap_report.specs.declared.mode.Mode.TheVariants.{Long as LongMo
 ghost use Rattle.tap_top.specs.Ending.{HasCause, HasRunAll, HasRunSome, HasWritten, IsRefusedWith, IsTextOf, IsUnread, text_of_run};
 
 use crate::fault_line::write_fault_line;
-use crate::reading::{LIMIT, Unread, read_all};
+use crate::reading::{MOST_BYTES, Unread, read_all};
 use crate::running::run_scenario;
 use crate::status::{Ended, Status};
 use std::alloc::Global;
@@ -38,7 +38,7 @@ fn read_scenario<S: Source>(alloc: Global, source: &mut S) -> Result<Scenario, S
 // Reads, runs and prints all but the fault line, and says how that ended.
 fn read_and_run<S: Source, K: Sink>(
     alloc: Global,
-    words: &Vec<String>,
+    words: &[String],
     source: &mut S,
     log: &mut Log,
     reporter: &mut Reporter,
@@ -46,7 +46,7 @@ fn read_and_run<S: Source, K: Sink>(
 ) -> Status
     requires empty { log.old.records ≡ [] }
     requires fresh { reporter.old ≡ kept_at_first reporter.old.mode }
-    ensures cause { HasCause (vec_len words.now) (S.left source.old) (S.left source.new)
+    ensures cause { HasCause (length words.now) (S.left source.old) (S.left source.new)
         (S.faults source.old) (S.faults source.new) log.new.records result }
     ensures printable { IsPrintableLog log.new.records }
     ensures reports { Reports reporter.old.mode log.new.records (K.held sink.old) (K.held sink.new)
@@ -90,7 +90,7 @@ pub fn run<S: Source, K: Sink>(
     ensures usage { (result.before ≡ Status.Usage) ↔ (0 < vec_len words.now) }
     ensures done { result.before ≡ Status.Done → HasRunAll (S.left source.old) (S.left source.new) result.log.records }
     ensures read_fault { result.before ≡ Status.ReadFault → HasRisen (S.faults source.old) (S.faults source.new) }
-    ensures too_long { result.before ≡ Status.TooLong → IfSome (S.left source.old) (λ all. LIMIT < length all) }
+    ensures too_long { result.before ≡ Status.TooLong → IfSome (S.left source.old) (λ all. MOST_BYTES < length all) }
     ensures not_scenario { (fault : Fault) → result.before ≡ Status.NotScenario fault → IsRefusedWith (S.left source.old) fault }
     ensures write_fault { result.status ≡ Status.WriteFault → HasRisen (K.faults sink.old) (K.faults sink.new) }
     ensures before { result.before ≢ Status.WriteFault }
@@ -103,7 +103,7 @@ pub fn run<S: Source, K: Sink>(
 {
     let mut log = Log::new(alloc);
     let mut reporter = Reporter::new(Mode::Long);
-    let before = read_and_run(alloc, words, source, &mut log, &mut reporter, sink);
+    let before = read_and_run(alloc, words.as_slice(), source, &mut log, &mut reporter, sink);
     let finished = reporter.finish(sink);
     let written = write_fault_line(sink, finished, before);
     let status = match written {
