@@ -18,24 +18,32 @@ fn exit_status(status: Status) -> u8 {
     }
 }
 
-// The words behind the program's name, or the exit status where they can't be had.
-fn words_of(rt: &HostRuntime) -> Result<Vec<String>, u8> {
+// How the program ends where its arguments can't be had: for want of memory, or since one of them isn't UTF-8.
+fn unread(error: io::Error) -> Status {
+    match error.kind() {
+        io::ErrorKind::OutOfMemory => Status::NoMemory,
+        _ => Status::Usage,
+    }
+}
+
+// The words behind the program's name, or how the program ends where they can't be had.
+fn words_of(rt: &HostRuntime) -> Result<Vec<String>, Status> {
     let mut words = Vec::new(rt.alloc());
-    let arguments = std::env::args(rt).map_err(|_| 2u8)?;
+    let arguments = std::env::args(rt).map_err(unread)?;
     for word in arguments.skip(1) {
-        words.push(word).map_err(|_| 6u8)?;
+        words.push(word).map_err(|_| Status::NoMemory)?;
     }
     Ok(words)
 }
 
 fn main(rt: HostRuntime) -> ExitCode {
-    match words_of(&rt) {
-        Err(status) => ExitCode::from(status),
+    let mut sink = StdSink::new(io::writer(&rt));
+    let status = match words_of(&rt) {
+        Err(before) => tap_top::tell_fault(before, &mut sink),
         Ok(words) => {
             let mut source = StdSource::new(rt.stdin());
-            let mut sink = StdSink::new(io::writer(&rt));
-            let ended = tap_top::run(rt.alloc(), &words, &mut source, &mut sink);
-            ExitCode::from(exit_status(ended.status))
+            tap_top::run(rt.alloc(), &words, &mut source, &mut sink).status
         }
-    }
+    };
+    ExitCode::from(exit_status(status))
 }
