@@ -7,7 +7,7 @@ use tap_name::{Name, Settings};
 
 // The kinds of step that have one name.
 #[derive(Clone, Copy)]
-pub enum NameKind {
+pub(crate) enum NameKind {
     Leave,
     Root,
     Table,
@@ -17,7 +17,7 @@ pub enum NameKind {
 
 // The kinds of step that have two names with a word between them.
 #[derive(Clone, Copy)]
-pub enum PairKind {
+pub(crate) enum PairKind {
     Join,
     Publish,
     Withdraw,
@@ -28,7 +28,7 @@ pub enum PairKind {
 
 // The kinds of step that have one place.
 #[derive(Clone, Copy)]
-pub enum PlaceKind {
+pub(crate) enum PlaceKind {
     Deliver,
     Lose,
     Repeat,
@@ -36,7 +36,7 @@ pub enum PlaceKind {
 
 // What the first word of a step tells.
 #[derive(Clone, Copy)]
-pub enum Kind {
+pub(crate) enum Kind {
     Name(NameKind),
     Pair(PairKind),
     Place(PlaceKind),
@@ -84,7 +84,7 @@ fn kind_among(kinds: &[Kind], word: &[u8]) -> Option<Kind>
 
 impl NameKind {
     // The step of this kind with this name.
-    pub fn step(self, name: Name) -> Step
+    pub(crate) fn step(self, name: Name) -> Step
         ensures { result ≡ step_of_name self name }
     {
         match self {
@@ -99,7 +99,7 @@ impl NameKind {
 
 impl PairKind {
     // The word between the names.
-    pub fn link(self) -> &'static str
+    pub(crate) fn link(self) -> &'static str
         ensures { result.now ≡ link_of_pair self }
     {
         match self {
@@ -110,7 +110,7 @@ impl PairKind {
     }
 
     // The step of this kind with these names.
-    pub fn step(self, first: Name, second: Name) -> Step
+    pub(crate) fn step(self, first: Name, second: Name) -> Step
         ensures { result ≡ step_of_pair self first second }
     {
         match self {
@@ -144,7 +144,7 @@ impl PairKind {
 
 impl PlaceKind {
     // The step of this kind with this place.
-    pub fn step(self, place: u32) -> Step
+    pub(crate) fn step(self, place: u32) -> Step
         ensures { result ≡ step_of_place self place }
     {
         match self {
@@ -157,7 +157,7 @@ impl PlaceKind {
 
 impl Kind {
     // The first word of the steps of this kind.
-    pub fn text(self) -> &'static str
+    pub(crate) fn text(self) -> &'static str
         ensures { result.now ≡ text_of_kind self }
     {
         match self {
@@ -184,14 +184,14 @@ impl Kind {
     }
 
     // The kind that a first word tells.
-    pub fn of(word: &[u8]) -> Option<Kind>
+    pub(crate) fn of(word: &[u8]) -> Option<Kind>
         ensures { result ≡ kind_of_word word.now }
     {
         kind_among(&KINDS, word)
     }
 
     // Whether there are steps of this kind with these settings, in a scenario that is carried or not.
-    pub fn is_there(self, settings: &Settings, carrier: bool) -> bool
+    pub(crate) fn is_there(self, settings: &Settings, carrier: bool) -> bool
         ensures { result ≡ is_there settings.now carrier self }
     {
         match self {

@@ -8,14 +8,14 @@ use tap_name::Name;
 use toml::{Table, Value};
 
 // The value under a key.
-pub fn value_at(table: &Table, key: Key) -> Option<&Value>
+pub(crate) fn value_at(table: &Table, key: Key) -> Option<&Value>
     ensures { option_map (λ value. view value.now) result ≡ value_at key (table_view table.now) }
 {
     table.get(key.text())
 }
 
 // The number that a value is, where it is whole and within these limits.
-pub fn whole_number(value: &Value, low: u32, high: u32) -> Option<u32>
+pub(crate) fn whole_number(value: &Value, low: u32, high: u32) -> Option<u32>
     ensures value { result ≡ whole_number low high (view value.now) }
     ensures from { IfSome result (λ number. low ≤ number) }
     ensures to { IfSome result (λ number. number ≤ high) }
@@ -42,7 +42,7 @@ fn are_strings(values: &[Value]) -> bool
 }
 
 // The values of an array of strings.
-pub fn strings(value: &Value) -> Option<&[Value]>
+pub(crate) fn strings(value: &Value) -> Option<&[Value]>
     ensures value { option_map (λ values. texts_of (items_view values.now)) result ≡ array_of_strings (view value.now) }
     ensures strings { IfSome result (λ values. IsTrue (are_strings (items_view values.now))) }
 {
@@ -60,7 +60,7 @@ pub fn strings(value: &Value) -> Option<&[Value]>
 }
 
 // Whether no two of these names are the same.
-pub fn are_distinct(names: &[Name]) -> bool
+pub(crate) fn are_distinct(names: &[Name]) -> bool
     ensures { result ≡ are_distinct names.now }
 {
     for (i, name) in names.iter().enumerate() {

@@ -9,7 +9,7 @@ use tap_name::{Name, Settings, read_name};
 
 // The words of a text that are left, one space standing between each two. Contracts see them as a list.
 #[derive(Drop)]
-pub struct Words<'a> {
+pub(crate) struct Words<'a> {
     rest: Option<&'a [u8]>,
 }
 
@@ -49,7 +49,7 @@ fn number_of_text(text: &str, most: u64) -> Option<u64>
 }
 
 // The number that a word writes, where it is at most so much.
-pub fn read_number(word: &[u8], most: u64) -> Option<u64>
+pub(crate) fn read_number(word: &[u8], most: u64) -> Option<u64>
     ensures value { result ≡ number_below (most + 1) word.now }
     ensures to { IfSome result (λ number. number ≤ most) }
 {
@@ -61,14 +61,14 @@ pub fn read_number(word: &[u8], most: u64) -> Option<u64>
 
 impl<'a> Words<'a> {
     // All words of a text.
-    pub fn of(text: &'a [u8]) -> Words<'a>
+    pub(crate) fn of(text: &'a [u8]) -> Words<'a>
         ensures { result ≡ words text.now }
     {
         Words { rest: Some(text) }
     }
 
     // Takes the next word.
-    pub fn next(&mut self) -> Option<&'a [u8]>
+    pub(crate) fn next(&mut self) -> Option<&'a [u8]>
         ensures { MatchOption result ((self.old ≡ []) × (self.new ≡ [])) (λ word. self.old ≡ word.now ∷ self.new) }
     {
         let text = self.rest?;
@@ -85,7 +85,7 @@ impl<'a> Words<'a> {
     }
 
     // The name that the words are, where they are one name.
-    pub fn one_name(mut self, settings: &Settings) -> Option<Name>
+    pub(crate) fn one_name(mut self, settings: &Settings) -> Option<Name>
         ensures { result ≡ one_name settings.now self.entry }
     {
         let name = self.next()?;
@@ -96,7 +96,7 @@ impl<'a> Words<'a> {
     }
 
     // The names that the words are, where they are two names with this word between them.
-    pub fn two_names(mut self, settings: &Settings, link: &[u8]) -> Option<(Name, Name)>
+    pub(crate) fn two_names(mut self, settings: &Settings, link: &[u8]) -> Option<(Name, Name)>
         ensures { result ≡ two_names settings.now link.now self.entry }
     {
         let first = self.next()?;
@@ -111,7 +111,7 @@ impl<'a> Words<'a> {
     }
 
     // The number that the words are, where they are one number of at most so much.
-    pub fn one_number(mut self, most: u64) -> Option<u64>
+    pub(crate) fn one_number(mut self, most: u64) -> Option<u64>
         ensures value { result ≡ one_number (most + 1) self.entry }
         ensures to { IfSome result (λ number. number ≤ most) }
     {
@@ -123,7 +123,7 @@ impl<'a> Words<'a> {
     }
 
     // The numbers that the words are, where they are two numbers of at most so much.
-    pub fn two_numbers(mut self, most: u64, more: u64) -> Option<(u64, u64)>
+    pub(crate) fn two_numbers(mut self, most: u64, more: u64) -> Option<(u64, u64)>
         ensures value { result ≡ two_numbers (most + 1) (more + 1) self.entry }
         ensures to { IfSome result (λ numbers. (numbers.0 ≤ most) × (numbers.1 ≤ more)) }
     {
@@ -133,7 +133,7 @@ impl<'a> Words<'a> {
     }
 
     // This step, where no word is left.
-    pub fn only(mut self, step: Step) -> Option<Step>
+    pub(crate) fn only(mut self, step: Step) -> Option<Step>
         ensures { result ≡ only step self.entry }
     {
         if self.next().is_some() {
