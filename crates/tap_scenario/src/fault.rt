@@ -12,7 +12,7 @@ pub enum Key {
     Base,
     /// The number of digits of a name.
     Digits,
-    /// How many settled links a slot of a table holds.
+    /// How many links that are settled and not leaving a slot of a table holds at most.
     Width,
     /// How many frames a run may send.
     Frames,

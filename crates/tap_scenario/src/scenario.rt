@@ -31,6 +31,10 @@ impl Model for Scenario {
 
 impl Scenario {
     /// The scenario of these parts. It takes no memory.
+    ///
+    /// Condition: the parts are within the limits of a scenario. There are 1 to 64 members, distinct names of the
+    /// settings, and at most 10,000 steps; each is one of these settings, in a scenario that isn't carried, and one that a
+    /// run takes. The frames are 1 to 500,000, or 1 to 100,000 where names have more than eight digits.
     pub fn of(settings: &Settings, frames: u32, members: List<Name>, steps: List<Step>) -> Scenario
         requires { IsScript (record { settings = settings.now; frames = frames; members = members; steps = steps }) }
         ensures { result ≡ record { settings = settings.now; frames = frames; members = members; steps = steps } }
