@@ -19,6 +19,7 @@ use Rattle.tap_scenario.specs.Value.{whole_number, array_of_strings, members_of_
 abbrev pub read_at : {A : Type 0} → Key → (Data → Option A) → Table → Result A Fault
 read_at key reading table = ok_or (option_and_then reading (value_at key table)) (BadValue key)
 
+-- the settings that a table gives, or the first fault
 abbrev pub settings_of : Table → Result Parameters Fault
 settings_of table =
     read_at Base (whole_number 2 16) table >>= (λ base.
@@ -30,10 +31,12 @@ settings_of table =
 abbrev pub default_frames : ℕ → ℕ
 default_frames digits = if nat_le digits 8 then 200000 else 100000
 
+-- how many frames may be sent: as the table says, or else the default
 abbrev pub frames_of : Parameters → Table → Result ℕ Fault
 frames_of p table =
     if is_some (value_at Frames table) then read_at Frames (whole_number 1 (most_frames p.digits)) table else Ok (default_frames p.digits)
 
+-- the members that a table gives
 abbrev pub members_of : Parameters → Table → Result (List (List ℕ)) Fault
 members_of p table = read_at Members array_of_strings table >>= (λ texts. ok_or (members_of_texts p texts) (BadValue Members))
 
@@ -57,6 +60,7 @@ abbrev pub steps_from : Parameters → ℕ → List (List ℕ) → Result (List 
 steps_from p number [] = Ok []
 steps_from p number (text ∷ others) = cons_result (numbered_step p number text) (steps_from p (number + 1) others)
 
+-- the steps that a table gives, counted from 1
 abbrev pub steps_of : Parameters → Table → Result (List Step) Fault
 steps_of p table = read_at Steps array_of_strings table >>= steps_from p 1
 
@@ -69,6 +73,7 @@ script_of table =
     steps_of settings table >>= (λ steps.
     let script : Script = record { settings = settings; frames = frames; members = members; steps = steps } in Ok script))))
 
+-- this answer, where no key is wrong
 abbrev pub unless_wrong : Option Key → Result Script Fault → Result Script Fault
 unless_wrong (Some key) answer = Err (BadKey key)
 unless_wrong None answer = answer
@@ -77,6 +82,7 @@ unless_wrong None answer = answer
 abbrev pub scenario_of_table : Table → Result Script Fault
 scenario_of_table table = unless_wrong (wrong_key table) (script_of table)
 
+-- the scenario of a text's table, where the text is TOML
 abbrev pub scenario_of_document : Option Table → Result Script Fault
 scenario_of_document None = Err NotToml
 scenario_of_document (Some table) = scenario_of_table table

@@ -28,12 +28,15 @@ needed_keys = Base ∷ Digits ∷ Width ∷ Members ∷ Steps ∷ []
 abbrev pub value_at : Key → Table → Option Data
 value_at key table = get_member (text_of_key key) table
 
+-- the first key that a scenario has to have and the table lacks
 abbrev pub missing_key : Table → Option Key
 missing_key table = find (λ key. is_none (value_at key table)) needed_keys
 
+-- whether a text is a key that a scenario may have
 abbrev pub is_known : List ℕ → Bool
 is_known text = list_any (λ key. bytes_eq text (text_of_key key)) known_keys
 
+-- whether each key of the table is one that a scenario may have
 abbrev pub has_known_keys : Table → Bool
 has_known_keys no_members = true
 has_known_keys (member text value others) = is_known text && has_known_keys others

@@ -171,7 +171,7 @@ fn read_members(
 
 // The step of the string of this number, counted from 1, where it is one that a run takes.
 fn numbered_step(settings: &Settings, number: usize, text: &[u8]) -> Result<Step, Fault>
-    requires { number ≤ 10001 }
+    requires { number ≤ MOST_STEPS + 1 }
     ensures { result ≡ numbered_step settings.now number text.now }
 {
     if number > MOST_STEPS {
@@ -185,10 +185,10 @@ fn numbered_step(settings: &Settings, number: usize, text: &[u8]) -> Result<Step
 
 // Adds the step of the next string to the steps of the strings before it.
 fn add_step(settings: &Settings, steps: &mut Vec<Step>, text: &[u8]) -> Result<(), ReadRefusal>
-    requires { length steps.now.items ≤ 10000 }
+    requires { length steps.now.items ≤ MOST_STEPS }
     ensures value { let read = numbered_step settings.now (length steps.old.items + 1) text.now
         in MatchResult result (λ _. with_step steps.old.items read ≡ Ok steps.new.items) (TellsFault read) }
-    ensures few { OnOk result (length steps.new.items ≤ 10000) }
+    ensures few { OnOk result (length steps.new.items ≤ MOST_STEPS) }
 {
     let step = numbered_step(settings, steps.len() + 1, text)?;
     steps.push(step)?;
