@@ -20,8 +20,9 @@ use Rattle.tap_scenario.specs.Key.{value_at}
 use Rattle.tap_scenario.specs.Scenario.{IsScript, AreDistinct, most_frames}
 use Rattle.tap_scenario.specs.Step.{IsStep, name_of_word, step_of_text, can_run}
 use Rattle.tap_scenario.specs.Fault.{◌>>=◌, cons_result}
-use Rattle.tap_scenario.specs.Value.{whole_number, array_of_strings, are_distinct, cons_option, names_of, distinct_names, members_of_texts}
+use Rattle.tap_scenario.specs.Value.{whole_number, array_of_strings, are_distinct, cons_both, names_of, distinct_names, members_of_texts}
 use Rattle.tap_scenario.proofs.Names.{name_of_word-back}
+use Rattle.tap_scenario.proofs.Shapes.{and_then-back}
 use Rattle.tap_scenario.proofs.Steps.{step_of_text-back}
 
 then-Ok : {A B : Type 0} (r : Result A Fault) (next : A → Result B Fault) (y : B) → (r >>= next) ≡ Ok y
@@ -32,11 +33,6 @@ then-Ok (Err fault) next y e = absurd (cc)
 ok_or-Ok : {A : Type 0} (o : Option A) (fault : Fault) (x : A) → ok_or o fault ≡ Ok x → o ≡ Some x
 ok_or-Ok None fault x e = absurd (cc)
 ok_or-Ok (Some y) fault x e = cc
-
-and_then-Some : {A B : Type 0} (f : A → Option B) (o : Option A) (y : B) → option_and_then f o ≡ Some y
-    → (x : A) × (o ≡ Some x) × (f x ≡ Some y)
-and_then-Some f None y e = absurd (cc)
-and_then-Some f (Some x) y e = (x, refl, e)
 
 whole_number-limits : (low high : ℕ) (value : Data) (n : ℕ) → whole_number low high value ≡ Some n → (low ≤ n) × (n ≤ high)
 whole_number-limits low high (integer (pos m)) n e =
@@ -58,7 +54,7 @@ whole_number-limits low high (table entries) n e = absurd (cc)
 
 number_at-limits : (key : Key) (low high : ℕ) (t : Table) (n : ℕ) → read_at key (whole_number low high) t ≡ Ok n → (low ≤ n) × (n ≤ high)
 number_at-limits key low high t n e =
-    let value = and_then-Some (whole_number low high) (value_at key t) n (ok_or-Ok _ (BadValue key) n e) in
+    let value = and_then-back (whole_number low high) (value_at key t) n (ok_or-Ok _ (BadValue key) n e) in
     whole_number-limits low high value.0 n value.2
 
 settings_of-limits : (t : Table) (p : Parameters) → settings_of t ≡ Ok p → AreWithinLimits p
@@ -86,17 +82,17 @@ frames_of-limits p t n e =
           rw (← is) (default_frames-limits p.digits)
     ]
 
-cons_option-Some : {A : Type 0} (first : Option A) (others : Option (List A)) (all : List A) → cons_option first others ≡ Some all
+cons_both-Some : {A : Type 0} (first : Option A) (others : Option (List A)) (all : List A) → cons_both first others ≡ Some all
     → (x : A) × (xs : List A) × (first ≡ Some x) × (others ≡ Some xs) × (x ∷ xs ≡ all)
-cons_option-Some None others all e = absurd (cc)
-cons_option-Some (Some x) None all e = absurd (cc)
-cons_option-Some (Some x) (Some xs) all e = (x, xs, refl, refl, cc)
+cons_both-Some None others all e = absurd (cc)
+cons_both-Some (Some x) None all e = absurd (cc)
+cons_both-Some (Some x) (Some xs) all e = (x, xs, refl, refl, cc)
 
 names_of-names : (p : Parameters) (texts : List (List ℕ)) (names : List (List ℕ)) → p.base ≤ 16 → names_of p texts ≡ Some names
     → (length names ≡ length texts) × All (IsName p) names
 names_of-names p [] names small e = let none : [] ≡ names = cc in rw (← none) (refl, All-nil (IsName p))
 names_of-names p (text ∷ others) names small e =
-    let parts = cons_option-Some (name_of_word p text) (names_of p others) names e in
+    let parts = cons_both-Some (name_of_word p text) (names_of p others) names e in
     let first = name_of_word-back p text parts.0 small parts.2 in
     let rest = names_of-names p others parts.1 small parts.3 in
     rw (← parts.4) (ap suc rest.0, All-cons (IsName p) parts.0 parts.1 first.1 rest.1)
@@ -130,7 +126,7 @@ members_of_texts-limits p texts names small e =
           let tests = and_parts (nat_le 1 (length texts)) (nat_le (length texts) 64) within in
           let from = leb-true 1 (length texts) tests.0 in
           let to = leb-true (length texts) 64 tests.1 in
-          let found = and_then-Some distinct_names (names_of p texts) names (rw within at e) in
+          let found = and_then-back distinct_names (names_of p texts) names (rw within at e) in
           let read = names_of-names p texts found.0 small found.1 in
           elim (cases_Bool (are_distinct found.0)) [
             | inr twice ↦ absurd (let none : None ≡ Some names = rw twice at found.2 in cc)
@@ -171,7 +167,7 @@ numbered_step-Ok p number text step small e =
       | inr out ↦ absurd (let none : Err (BadStep number) ≡ Ok step = rw out at e in cc)
       | inl within ↦
           let told = ok_or-Ok (option_and_then if_runs (step_of_text p false text)) (BadStep number) step (rw within at e) in
-          let read = and_then-Some if_runs (step_of_text p false text) step told in
+          let read = and_then-back if_runs (step_of_text p false text) step told in
           let runs = if_runs-Some read.0 step read.2 in
           (leb-true number 10000 within, record { is_step = (step_of_text-back p false text step small (read.1 ∙ ap Some runs.0)).1; runs = runs.1 })
     ]

@@ -33,14 +33,14 @@ are_distinct [] = true
 are_distinct (name ∷ others) = not (list_any (λ other. bytes_eq other name) others) && are_distinct others
 
 -- one more at the front, where both are there
-abbrev pub cons_option : {A : Type 0} → Option A → Option (List A) → Option (List A)
-cons_option (Some first) (Some others) = Some (first ∷ others)
-cons_option _ _ = None
+abbrev pub cons_both : {A : Type 0} → Option A → Option (List A) → Option (List A)
+cons_both (Some first) (Some others) = Some (first ∷ others)
+cons_both _ _ = None
 
 -- texts that are names
 abbrev pub names_of : Parameters → List (List ℕ) → Option (List (List ℕ))
 names_of p [] = Some []
-names_of p (text ∷ others) = cons_option (name_of_word p text) (names_of p others)
+names_of p (text ∷ others) = cons_both (name_of_word p text) (names_of p others)
 
 -- names of which no two are the same
 abbrev pub distinct_names : List (List ℕ) → Option (List (List ℕ))
