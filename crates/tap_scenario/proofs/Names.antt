@@ -1,40 +1,17 @@
--- a name and its text
-use Rattle.std.proofs.Common.{◌≡◌, ◌==◌, ℕ, ◌<◌, ◌≤◌, nat_lt, nat_le, false, arith, List, [], ◌∷◌, length, get_or, map, All, Some, Result, Ok, Err, refl, ap, sym, ◌∙◌, inl, inr}
-use Rattle.std.specs.List.{position_or_len}
+-- a word that names a node or an object
+use Rattle.std.proofs.Common.{◌≡◌, ◌==◌, ℕ, ◌≤◌, false, arith, List, [], ◌∷◌, map, Some, Result, Ok, Err, ap}
 use Rattle.std.specs.Result.{result_ok}
-use Rattle.std.proofs.lemmas.Bool.{cases_Bool, ltb-false, leb-false, eqb-true}
 use Rattle.std.proofs.lemmas.Bool.Decides.{nat_tests}
-use Rattle.std.proofs.lemmas.List.Sums.{fails_before_first}
-use Rattle.std.proofs.lemmas.List.Elements.{All-nil, All-cons, All-head, All-tail}
+use Rattle.std.proofs.lemmas.List.Elements.{All-nil, All-cons}
 use Rattle.tap_name.specs.Settings.{Parameters}
-use Rattle.tap_name.specs.Digits.{text_of_digit, digit_of_text}
-use Rattle.tap_name.specs.Name.{IsName, name_of_digits, text_of_name}
-use Rattle.tap_name.proofs.Read.{all_good}
+use Rattle.tap_name.specs.Digits.{text_of_digit}
+use Rattle.tap_name.specs.Name.{IsName, name_of_text, text_of_name}
+use Rattle.tap_name.proofs.Texts.{name_of_text-back, name_of_text-text}
 use Rattle.tap_scenario.specs.Step.{name_of_word}
 use Rattle.tap_scenario.proofs.Splits.{HasNoSpace}
 
--- a digit is read back from its text
-digit_of_text-text : (digit : ℕ) → digit < 16 → digit_of_text (text_of_digit digit) ≡ digit
-digit_of_text-text digit small = grind (arith, nat_tests)
-
--- a byte that is read as a digit is that digit's text
-text_of_digit-digit : (byte : ℕ) → digit_of_text byte < 16 → text_of_digit (digit_of_text byte) ≡ byte
-text_of_digit-digit byte small = grind (arith, nat_tests)
-
 no_space_digit : (digit : ℕ) → (text_of_digit digit == 32) ≡ false
 no_space_digit digit = grind (arith, nat_tests)
-
-digits-text : (digits : List ℕ) → All (λ d. d < 16) digits → map digit_of_text (map text_of_digit digits) ≡ digits
-digits-text [] small = refl
-digits-text (digit ∷ digits) small =
-    let first = digit_of_text-text digit (All-head (λ d. d < 16) digit digits small) in
-    let others = digits-text digits (All-tail (λ d. d < 16) digit digits small) in cc
-
-text-digits : (text : List ℕ) → All (λ d. d < 16) (map digit_of_text text) → map text_of_digit (map digit_of_text text) ≡ text
-text-digits [] small = refl
-text-digits (byte ∷ text) small =
-    let first = text_of_digit-digit byte (All-head (λ d. d < 16) (digit_of_text byte) (map digit_of_text text) small) in
-    let others = text-digits text (All-tail (λ d. d < 16) (digit_of_text byte) (map digit_of_text text) small) in cc
 
 -- the text of a name has no space
 pub no_space_name : (name : List ℕ) → HasNoSpace (text_of_name name)
@@ -44,31 +21,7 @@ no_space_name (digit ∷ digits) =
 
 -- the text of a name is read as that name
 pub name_of_word-text : (p : Parameters) (name : List ℕ) → p.base ≤ 16 → IsName p name → name_of_word p (text_of_name name) ≡ Some name
-name_of_word-text p name small is =
-    let digits = digits-text name (λ k d h. let below = is.below k d h in omega arith) in
-    let good = all_good p name is.len (λ k h. is.below k 0 h) in
-    rw (digits, good) refl
-
--- digits that were read are a name, and are what was read
-name_of_digits-back : (p : Parameters) (digits name : List ℕ) → name_of_digits p digits ≡ Ok name → (digits ≡ name) × IsName p name
-name_of_digits-back p digits name read =
-    elim (cases_Bool (length digits == p.digits)) [
-      | inr other ↦ absurd (let failed = rw other at read in cc)
-      | inl len ↦
-          elim (cases_Bool (nat_lt (position_or_len (λ d. nat_le p.base d) digits) (length digits))) [
-            | inl bad ↦ absurd (let failed = rw (len, bad) at read in cc)
-            | inr all ↦
-                let far : length digits ≤ position_or_len (λ d. nat_le p.base d) digits = ltb-false _ _ all in
-                let whole : Ok digits ≡ Ok name = rw (len, all) at read in
-                let same : digits ≡ name = cc in (
-                  same,
-                  rw (← same) (record {
-                    len = eqb-true _ _ len;
-                    below = λ k d h. leb-false p.base (get_or digits k d) (fails_before_first (λ d. nat_le p.base d) digits k d (omega arith));
-                  }),
-                )
-          ]
-    ]
+name_of_word-text p name small is = ap result_ok (name_of_text-text p name small is)
 
 result_ok-back : {A E : Type 0} (r : Result A E) (x : A) → result_ok r ≡ Some x → r ≡ Ok x
 result_ok-back (Ok y) x e = cc
@@ -77,7 +30,4 @@ result_ok-back (Err f) x e = absurd (cc)
 -- a word that is read as a name is the text of that name
 pub name_of_word-back : (p : Parameters) (word name : List ℕ) → p.base ≤ 16 → name_of_word p word ≡ Some name
     → (word ≡ text_of_name name) × IsName p name
-name_of_word-back p word name small read =
-    let back = name_of_digits-back p (map digit_of_text word) name (result_ok-back _ name read) in
-    let below : All (λ d. d < 16) (map digit_of_text word) = rw back.0 (λ k d h. let b = back.1.below k d h in omega arith) in
-    (sym (text-digits word below) ∙ ap (map text_of_digit) back.0, back.1)
+name_of_word-back p word name small read = name_of_text-back p word name small (result_ok-back (name_of_text p word) name read)

@@ -17,7 +17,8 @@ use Rattle.tap_scenario.specs.declared.fault.Fault.TheVariants.{BadValue, BadSte
 use Rattle.tap_scenario.specs.declared.step.Step.{Step}
 use Rattle.tap_scenario.specs.Document.{read_at, settings_of, default_frames, frames_of, members_of, if_runs, numbered_step, steps_from, steps_of}
 use Rattle.tap_scenario.specs.Key.{value_at}
-use Rattle.tap_scenario.specs.Scenario.{IsScript, AreDistinct, most_frames}
+use Rattle.tap_name.specs.Distinct.{AreDistinct}
+use Rattle.tap_scenario.specs.Scenario.{IsScript, most_frames}
 use Rattle.tap_scenario.specs.Step.{IsStep, name_of_word, step_of_text, can_run}
 use Rattle.tap_scenario.specs.Fault.{◌>>=◌, cons_result}
 use Rattle.tap_scenario.specs.Value.{whole_number, array_of_strings, are_distinct, cons_both, names_of, distinct_names, members_of_texts}

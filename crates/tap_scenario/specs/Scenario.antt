@@ -1,7 +1,8 @@
 -- what a scenario is
-use Rattle.std.specs.Prelude.{◌≡◌, ℕ, ◌<◌, ◌≤◌, nat_le, false, IsTrue, if◌then◌else◌, List, length, All, slice_index_or}
+use Rattle.std.specs.Prelude.{ℕ, ◌≤◌, nat_le, false, IsTrue, if◌then◌else◌, List, length, All}
 use Rattle.tap_name.specs.Settings.{Parameters, AreWithinLimits}
 use Rattle.tap_name.specs.Name.{IsName}
+use Rattle.tap_name.specs.Distinct.{AreDistinct}
 use Rattle.tap_scenario.specs.declared.step.Step.{Step}
 use Rattle.tap_scenario.specs.Step.{IsStep, can_run}
 
@@ -15,10 +16,6 @@ pub record Script : Type 0 where
 -- the most frames that a run may send, by the number of digits
 abbrev pub most_frames : ℕ → ℕ
 most_frames digits = if nat_le digits 8 then 500000 else 100000
-
--- no two places hold one name
-abbrev pub AreDistinct : List (List ℕ) → Type 0
-AreDistinct names = (i j : ℕ) (d : List ℕ) → i < j → j < length names → slice_index_or names i d ≡ slice_index_or names j d → ⊥
 
 -- each part is within its limits
 pub record IsScript (s : Script) : Type 0 where

@@ -20,7 +20,8 @@ use Rattle.tap_log.specs.declared.record.Record.TheVariants.{Begin, Step as Step
 use Rattle.tap_log.specs.declared.record.Refusal.TheVariants.{NoSuchNode}
 use Rattle.tap_log.specs.declared.record.NodeWord.TheVariants.{Core as CoreWord}
 use Rattle.tap_log.specs.Core.{core_of}
-use Rattle.tap_log.specs.Moments.{EachFrom, EachRecord, IsMoment, last_of, step_of, steps_of}
+use Rattle.tap_log.proofs.Instants.{moment-begun, moment-within}
+use Rattle.tap_log.specs.Moments.{EachFrom, EachRecord, is_moment, last_of, step_of, steps_of}
 use Rattle.tap_log.proofs.Growing.{EachRecord-push, core_of-begin, last_of-push}
 use Rattle.tap_top.proofs.Growing.{core_of-left, leaves_nodes, steps_of-push}
 use Rattle.tap_report.specs.Text.{ArePrintable, IsBegin, IsPrintable, IsPrintableLog, settings_of}
@@ -240,10 +241,10 @@ whole_from_ends (Some item) ends = refl
 
 -- at each moment the core nodes are the members, whose nodes have no hole
 free_at_moments : (s : Script) (nodes : Nodes) (log : List Record) → IsHoleFree s.settings s.members (core_links nodes) → EachRecord (KeepsCore s.members) log
-    → (m : ℕ) → IsMoment log m → IsHoleFree s.settings (core_of (take m log)) (core_links nodes)
+    → (m : ℕ) → is_moment log m ≡ true → IsHoleFree s.settings (core_of (take m log)) (core_links nodes)
 free_at_moments s nodes log free keeps m moment =
     let Kept : List Record → Type 0 = λ l. core_of l ≡ s.members in
-    let core = after_each Kept [] log m keeps moment.from moment.to in
+    let core = after_each Kept [] log m keeps (moment-begun log m moment) (moment-within log m moment) in
     let Free : List (List ℕ) → Type 0 = λ core. IsHoleFree s.settings core (core_links nodes) in subst Free (sym core) free
 
 -- what has run is the beginning of a run

@@ -1,11 +1,11 @@
 -- What a run over fixed members promises of its log.
-use Rattle.std.specs.Prelude.{◌≡◌, ℕ, List, ◌∷◌, length, take, Some}
+use Rattle.std.specs.Prelude.{◌≡◌, ℕ, List, ◌∷◌, length, take, true, Some}
 use Rattle.tap_name.specs.Settings.{Parameters}
 use Rattle.tap_name.specs.Root.{Among, root}
 use Rattle.tap_scenario.specs.Scenario.{Script}
 use Rattle.tap_log.specs.declared.record.Record.{Record}
 use Rattle.tap_log.specs.declared.record.Record.TheVariants.{Begin, Walked, RootOf, Finished}
-use Rattle.tap_log.specs.Moments.{EachRecord, IsMoment, core_of, last_of, steps_of}
+use Rattle.tap_log.specs.Moments.{EachRecord, core_of, is_moment, last_of, steps_of}
 use Rattle.tap_surrogate.specs.Nodes.{Nodes, core_links}
 use Rattle.tap_surrogate.specs.HoleFree.{IsHoleFree}
 use Rattle.tap_surrogate.specs.Members.{AreMembersAtRest}
@@ -30,7 +30,7 @@ pub record IsLogOf (s : Script) (log : List Record) : Type 0 where
   pub nodes : Nodes
   pub at_rest : AreMembersAtRest s.settings s.members nodes
   pub lawful : IsLawful s.settings nodes log
-  pub hole_free : (m : ℕ) → IsMoment log m → IsHoleFree s.settings (core_of (take m log)) (core_links nodes)
+  pub hole_free : (m : ℕ) → is_moment log m ≡ true → IsHoleFree s.settings (core_of (take m log)) (core_links nodes)
   pub finds_roots : EachRecord (FindsRoot s.settings) log
 
 -- every step of the script was run

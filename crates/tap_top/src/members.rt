@@ -3,7 +3,7 @@ ghost use Rattle.std.specs.Cmp.Lexicographic.{slice_cmp};
 ghost use Rattle.std.specs.Ordering.{nat_cmp};
 ghost use Rattle.std.specs.BTreeMap.{get};
 ghost use Rattle.tap_name.specs.Name.{IsName};
-ghost use Rattle.tap_scenario.specs.Scenario.{AreDistinct};
+ghost use Rattle.tap_name.specs.Distinct.{AreDistinct};
 ghost use Rattle.tap_top.specs.Members.{AreTiesOf, HaveOwnTables};
 
 use crate::memory::NoMemory;
