@@ -8,7 +8,7 @@ use Rattle.tap_scenario.specs.declared.kind.PlaceKind.TheVariants.{Deliver, Lose
 use Rattle.tap_scenario.specs.declared.kind.Kind.{Kind}
 use Rattle.tap_scenario.specs.declared.kind.Kind.TheVariants.{Name, Pair, Place, Settle, Garble, Cut, Tick, Cast}
 
--- all kinds of step
+-- all first words of steps
 abbrev pub kinds : List Kind
 kinds =
     Name Leave ∷ Name Root ∷ Name Table ∷ Name Pointers ∷ Name Abandon

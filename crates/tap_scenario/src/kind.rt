@@ -47,7 +47,7 @@ pub(crate) enum Kind {
     Cast,
 }
 
-// All kinds.
+// All first words.
 const KINDS: [Kind; 19] = [
     Kind::Name(NameKind::Leave),
     Kind::Name(NameKind::Root),

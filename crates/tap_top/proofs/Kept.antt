@@ -14,7 +14,6 @@ use Rattle.tap_table.specs.Members.{AreAtRest}
 use Rattle.tap_table.specs.Ties.{BothWays}
 use Rattle.tap_surrogate.specs.Nodes.{IsTableOf}
 use Rattle.tap_surrogate.specs.Members.{IsTableAtRest}
-use Rattle.tap_surrogate.proofs.RestTables.{ties_law_holds}
 use Rattle.tap_top.specs.Members.{AreTiesOf, HaveOwnTables, IsKept}
 
 among_front : (name : List ℕ) (names : List (List ℕ)) (last : List ℕ) → Among name names → Among name (names ++ last ∷ [])
@@ -77,7 +76,7 @@ core_kept p members name (Some ties) is = (λ e. is.0, λ among. refl)
 pub table_kept : (p : Parameters) (members : List (List ℕ)) (name : List ℕ) (kept : Option BothWays) → IsKept p members members name kept
     → Among name members → IsSomeAnd (option_map (λ ties. ties.table) kept) (IsTableAtRest p name members)
 table_kept p members name None is among = absurd (is among)
-table_kept p members name (Some ties) is among = ties_law_holds p name members ties is.1
+table_kept p members name (Some ties) is among = is.1.table
 
 own_table : (p : Parameters) (members : List (List ℕ)) (name : List ℕ) (kept : Option BothWays) (ties : BothWays) → IsKept p members members name kept
     → kept ≡ Some ties → IsTableOf p name ties.table
@@ -85,7 +84,7 @@ own_table p members name None ties is there = absurd (cc)
 own_table p members name (Some found) ties is there =
     let same : found ≡ ties = cc in
     let Own : BothWays → Type 0 = λ t. IsTableOf p name t.table in
-    subst Own same (rw is.1.table (record { owner_is = refl; settings_are = refl }))
+    subst Own same (rw is.1.table.is (record { owner_is = refl; settings_are = refl }))
 
 -- so each table is its own name's
 pub own_tables : (p : Parameters) (members : List (List ℕ)) (kept : List ℕ → Option BothWays) → AreTiesOf p members members kept → HaveOwnTables p kept
