@@ -1,5 +1,6 @@
 pub mod WritesLemmas
 pub mod AddsLemmas
 pub mod TextLemmas
+pub mod DepartedLemmas
 pub mod TallyLemmas
 pub mod ReportsLemmas

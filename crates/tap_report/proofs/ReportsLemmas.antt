@@ -6,7 +6,8 @@ use Rattle.std.proofs.lemmas.List.Elements.{All-get_or, All-push}
 use Rattle.tap_name.specs.Settings.{Parameters}
 use Rattle.tap_log.specs.declared.record.Record.{Record}
 use Rattle.tap_log.specs.declared.record.Record.TheVariants.{Begin}
-use Rattle.tap_report.specs.Summary.{ending, tally_after}
+use Rattle.tap_report.specs.Summary.{ending}
+use Rattle.tap_report.specs.Tally.{numbers_in, tally_after}
 use Rattle.tap_report.specs.Text.{IsBegin, IsPrintable, IsPrintableLog, BeginsOnce, text_of_record, text_of_log, settings_after, settings_of}
 use Rattle.tap_report.specs.Written.{WritesText}
 use Rattle.tap_report.specs.Reporter.{Kept, Puts, Finishes, PutsEach, PutsWriteTheText, Reports, kept_at_first}
@@ -43,9 +44,9 @@ pub Reports-finish : {mode : Mode} {records : List Record} {old mid new : Option
     → WritesText old new before now (text_of_log mode records) AllWritten written
 Reports-finish {mode = mode} {records = records} {mid = mid} {new = new} {between = between} {now = now} {kept = kept} {written = written} r f =
     let last =
-    subst (λ t. WritesText mid new between now (ending mode (settings_of records) t) kept.so_far written) r.tally
-    (subst (λ s. WritesText mid new between now (ending mode s kept.tally) kept.so_far written) r.settings
-    (subst (λ m. WritesText mid new between now (ending m kept.settings kept.tally) kept.so_far written) r.same_mode f.text)) in
+    subst (λ t. WritesText mid new between now (ending mode (settings_of records) (numbers_in t)) kept.so_far written) r.tally
+    (subst (λ s. WritesText mid new between now (ending mode s (numbers_in kept.tally)) kept.so_far written) r.settings
+    (subst (λ m. WritesText mid new between now (ending m kept.settings (numbers_in kept.tally)) kept.so_far written) r.same_mode f.text)) in
     WritesText-then r.text last
 
 -- the put of the next record of a log

@@ -1,18 +1,41 @@
 -- What the summary is made from, with one record more.
-use Rattle.std.proofs.Common.{◌≡◌, ◌≤◌, ℕ, ◌+◌, List, [], ◌∷◌, ◌++◌, true, false, Bool, arith}
-use Rattle.std.specs.Prelude.{cond, max}
+use Rattle.std.proofs.Common.{◌≡◌, ◌≤◌, ℕ, ◌+◌, List, [], ◌∷◌, ◌++◌, length, true, false, Bool, Option, None, Some, refl, ap, sym, ◌∙◌, arith, length-append}
+use Rattle.std.specs.Prelude.{cond, is_some, max}
+use Rattle.std.specs.List.{filter_map}
 use Rattle.std.proofs.lemmas.List.Sums.{fold-append}
 use Rattle.tap_log.specs.declared.record.Record.{Record}
-use Rattle.tap_report.specs.Summary.{IsWithin, accepted_after, departures_after, departures_at_first, hops_in, is_answered, is_core, is_gone, is_sent, members_after, tally_after, tally_of}
+use Rattle.tap_log.specs.Kinds.{core_name, sent_number}
+use Rattle.tap_log.specs.Laws.{at_most_one}
+use Rattle.tap_log.proofs.Growing.{told-push}
+use Rattle.tap_report.specs.Summary.{hops_in, is_answered, is_gone}
+use Rattle.tap_report.specs.Tally.{IsWithin, accepted_after, departures_after, departures_known, is_core, is_sent, opening_after, opens_carried, tally_after, tally_of}
+use Rattle.tap_report.specs.declared.opening.Opening.TheVariants.{Nothing}
 use Rattle.tap_report.specs.declared.tally.Tally.{Tally}
+use Rattle.tap_report.proofs.DepartedLemmas.{departures-push, members-push, opening_tells}
+
+counts_one : {Y : Type 0} (told : Option Y) → length (at_most_one told) ≡ cond (is_some told) 1 0
+counts_one None = refl
+counts_one (Some y) = refl
+
+-- how many records tell something, with one record more
+told_count-push : {Y : Type 0} (h : Record → Option Y) (log : List Record) (item : Record)
+    → length (filter_map h (log ++ item ∷ [])) ≡ length (filter_map h log) + cond (is_some (h item)) 1 0
+told_count-push h log item =
+    ap length (told-push h log item) ∙ length-append (filter_map h log) (at_most_one (h item))
+    ∙ ap (λ n. length (filter_map h log) + n) (counts_one (h item))
+
+known-push : (log : List Record) (item : Record)
+    → departures_known (log ++ item ∷ []) ≡ departures_after (opens_carried (tally_of log).opening) (departures_known log) item
+known-push log item = departures-push log item ∙ ap (λ b. departures_after b (departures_known log) item) (sym (opening_tells log))
 
 pub tally_of-push : (records : List Record) (item : Record) → tally_of (records ++ item ∷ []) ≡ tally_after (tally_of records) item
 tally_of-push records item =
     rw (
-      fold-append members_after 0 records (item ∷ []),
-      fold-append (λ n x. n + cond (is_core x) 1 0) 0 records (item ∷ []),
-      fold-append departures_after departures_at_first records (item ∷ []),
-      fold-append (λ n x. n + cond (is_sent x) 1 0) 0 records (item ∷ []),
+      fold-append opening_after Nothing records (item ∷ []),
+      members-push records item,
+      told_count-push core_name records item,
+      known-push records item,
+      told_count-push sent_number records item,
       fold-append (λ n x. max n (hops_in x)) 0 records (item ∷ []),
       fold-append (λ n x. n + cond (is_answered x) 1 0) 0 records (item ∷ []),
     )
@@ -24,12 +47,12 @@ one false = omega arith
 -- one record more counts once at most
 pub IsWithin-after : (most : ℕ) (t : Tally) (item : Record) → IsWithin most t → IsWithin (most + 1) (tally_after t item)
 IsWithin-after most t item w =
-    let joined = one (is_core item) in
-    let gone = one (is_gone (accepted_after t.departures item) item) in
+    let core = one (is_core item) in
+    let gone = one (is_gone (accepted_after (opens_carried t.opening) t.departures item) item) in
     let frames = one (is_sent item) in
     let answered = one (is_answered item) in
     record {
-      joined = omega (arith, w.joined, joined);
+      core = omega (arith, w.core, core);
       gone = omega (arith, w.gone, gone);
       frames = omega (arith, w.frames, frames);
       answered = omega (arith, w.answered, answered);

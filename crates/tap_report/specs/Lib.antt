@@ -8,5 +8,6 @@ pub mod Tables
 pub mod Frames
 pub mod Casts
 pub mod Summary
+pub mod Tally
 pub mod Text
 pub mod Reporter

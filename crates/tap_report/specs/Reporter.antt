@@ -3,7 +3,8 @@
 use Rattle.std.specs.Prelude.{◌≡◌, ℕ, ◌+◌, List, [], ◌∷◌, length, Option, None}
 use Rattle.tap_name.specs.Settings.{Parameters}
 use Rattle.tap_log.specs.declared.record.Record.{Record}
-use Rattle.tap_report.specs.Summary.{ending, tally_of, tally_after}
+use Rattle.tap_report.specs.Summary.{ending}
+use Rattle.tap_report.specs.Tally.{numbers_in, tally_after, tally_of}
 use Rattle.tap_report.specs.Text.{text_of_record, texts_after, text_of_log, settings_of}
 pub use Rattle.tap_report.specs.Text.{settings_after}
 use Rattle.tap_report.specs.Written.{WritesText}
@@ -42,7 +43,7 @@ pub record Puts (kept then_kept : Kept) (item : Record) (old new : Option (List 
 
 -- The finish, which writes what follows the last record: the summary, in the mode Summary.
 pub record Finishes (kept then_kept : Kept) (old new : Option (List ℕ)) (before now : ℕ) (written : Written) : Type 0 where
-  pub text : WritesText old new before now (ending kept.mode kept.settings kept.tally) kept.so_far written
+  pub text : WritesText old new before now (ending kept.mode kept.settings (numbers_in kept.tally)) kept.so_far written
   pub keeps : then_kept ≡ record kept { so_far = written }
 
 -- the puts of records, one after another

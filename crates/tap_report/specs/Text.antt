@@ -12,7 +12,7 @@ use Rattle.tap_report.specs.Tables.{table_line, link_lines, pointers_line, point
 use Rattle.tap_report.specs.Frames.{sent_line, garbled_line, packet_line}
 use Rattle.tap_report.specs.Casts.{cast_line, reached_line}
 use Rattle.tap_report.specs.Refusal.{refused_line}
-use Rattle.tap_report.specs.Summary.{ending, tally_of}
+use Rattle.tap_report.specs.Summary.{ending, numbers_of}
 use Rattle.tap_report.specs.declared.mode.Mode.{Mode}
 use Rattle.tap_report.specs.declared.mode.Mode.TheVariants.{Long, Brief, Summary}
 
@@ -97,7 +97,7 @@ texts_after mode settings (item ∷ items) = text_of_record mode settings item +
 
 -- the text of a log: those of its records, and in the mode Summary its summary
 abbrev pub text_of_log : Mode → List Record → List ℕ
-text_of_log mode records = texts_after mode None records ++ ending mode (settings_of records) (tally_of records)
+text_of_log mode records = texts_after mode None records ++ ending mode (settings_of records) (numbers_of records)
 
 -- What a record must meet to be printed, behind a `Begin` with these settings: the head of a frame is read, a walk went
 -- through some node, the digits of slots are below the base, and want of memory isn't a fault.

@@ -1,5 +1,6 @@
-ghost use Rattle.std.specs.Prelude.{◌≡◌, ◌<◌};
-ghost use Rattle.tap_report.specs.Summary.{accepted_after, asked_by, departures_after, departures_at_first, is_carrier, is_gone};
+ghost use Rattle.std.specs.Prelude.{◌≡◌, ◌<◌, []};
+ghost use Rattle.tap_report.specs.Summary.{is_gone};
+ghost use Rattle.tap_report.specs.Tally.{accepted_after, asked_by, departures_after, departures_known};
 
 use tap_log::{Record, accepts, depart_name};
 use tap_name::Name;
@@ -7,8 +8,6 @@ use tap_name::Name;
 // What is known of departures behind some records.
 #[derive(Clone, Copy, Debug)]
 pub(crate) struct Departures {
-    // Whether the log is carried.
-    pub(crate) carried: bool,
     // The departure that the last record asks for.
     pub(crate) asked: Option<Name>,
     // The departure that was accepted last.
@@ -20,48 +19,38 @@ pub(crate) struct Departures {
 impl Departures {
     // Before the first record.
     pub(crate) fn new() -> Departures
-        ensures { result ≡ departures_at_first }
+        ensures { result ≡ departures_known [] }
     {
         Departures {
-            carried: false,
             asked: None,
             accepted: None,
             gone: 0,
         }
     }
 
-    // With one record more.
-    pub(crate) fn with(&self, item: &Record) -> Departures
-        requires { self.now.gone < 18446744073709551615 }
-        ensures { result ≡ departures_after self.now item.now }
+    // With one record more, in a log that is carried or not.
+    pub(crate) fn with(&self, carried: bool, item: &Record) -> Departures
+        requires { self.now.gone < u64.MAX }
+        ensures { result ≡ departures_after carried self.now item.now }
     {
-        let accepted = self.accepted_with(item);
+        let accepted = self.accepted_with(carried, item);
+        let departed = is_gone(&accepted, item);
         Departures {
-            carried: is_carrier(item) || self.carried,
             asked: asked_by(item),
             accepted,
-            gone: self.gone + u64::from(is_gone(accepted, item)),
+            gone: self.gone + u64::from(departed),
         }
     }
 
     // The departure that was accepted last, with one record more.
-    fn accepted_with(&self, item: &Record) -> Option<Name>
-        ensures { result ≡ accepted_after self.now item.now }
+    fn accepted_with(&self, carried: bool, item: &Record) -> Option<Name>
+        ensures { result ≡ accepted_after carried self.now item.now }
     {
-        if accepts(self.carried, item) {
+        if accepts(carried, item) {
             self.asked.or(self.accepted)
         } else {
             self.accepted
         }
-    }
-}
-
-fn is_carrier(item: &Record) -> bool
-    ensures { result ≡ is_carrier item.now }
-{
-    match item {
-        Record::Carrier => true,
-        _ => false,
     }
 }
 
@@ -76,14 +65,14 @@ fn asked_by(item: &Record) -> Option<Name>
 }
 
 // Whether this departing node is gone.
-fn is_gone(leaver: Option<Name>, item: &Record) -> bool
-    ensures { result ≡ is_gone leaver item.now }
+fn is_gone(leaver: &Option<Name>, item: &Record) -> bool
+    ensures { result ≡ is_gone leaver.now item.now }
 {
     let Some(leaver) = leaver else {
         return false;
     };
     match item {
-        Record::Gone { name } => leaver == *name,
+        Record::Gone { name } => leaver == name,
         _ => false,
     }
 }

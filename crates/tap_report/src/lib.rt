@@ -10,6 +10,7 @@ mod frames;
 mod lines;
 mod lookups;
 mod mode;
+mod opening;
 mod outgoing;
 mod refusals;
 mod reporter;

@@ -4,6 +4,7 @@ ghost use Rattle.tap_report.specs.Outgoing.{AddsText};
 ghost use Rattle.tap_report.specs.declared.mode.Mode.TheVariants.{Summary};
 ghost use Rattle.tap_report.specs.Shapes.{line};
 ghost use Rattle.tap_report.specs.Summary.{ending, summary_text};
+ghost use Rattle.tap_report.specs.Tally.{numbers_in};
 ghost use Rattle.tap_report.specs.Text.{IsPrintable, further_lines, is_in_brief, is_printed, line_of, text_of_record};
 
 use crate::lookups::is_lookup;
@@ -156,7 +157,7 @@ impl Outgoing {
         tally: &Tally,
     )
         ensures { AddsText (K.held sink.old) (K.held sink.new)
-            (K.faults sink.old) (K.faults sink.new) self.old self.new (ending mode settings.now tally.now) }
+            (K.faults sink.old) (K.faults sink.new) self.old self.new (ending mode settings.now (numbers_in tally.now)) }
     {
         match mode {
             Mode::Summary => self.add_summary(sink, settings, tally),
@@ -166,7 +167,7 @@ impl Outgoing {
 
     fn add_summary<K: Sink>(&mut self, sink: &mut K, settings: &Option<Settings>, tally: &Tally)
         ensures { AddsText (K.held sink.old) (K.held sink.new)
-            (K.faults sink.old) (K.faults sink.new) self.old self.new (ending Summary settings.now tally.now) }
+            (K.faults sink.old) (K.faults sink.new) self.old self.new (ending Summary settings.now (numbers_in tally.now)) }
     {
         if settings.is_some() {
             self.add_numbers(sink, tally);
@@ -175,7 +176,7 @@ impl Outgoing {
 
     fn add_numbers<K: Sink>(&mut self, sink: &mut K, tally: &Tally)
         ensures { AddsText (K.held sink.old) (K.held sink.new)
-            (K.faults sink.old) (K.faults sink.new) self.old self.new (summary_text tally.now) }
+            (K.faults sink.old) (K.faults sink.new) self.old self.new (summary_text (numbers_in tally.now)) }
     {
         self.add_count(sink, b"nodes ", tally.nodes_left());
         self.add_count(sink, b"frames ", tally.frames);

@@ -30,7 +30,7 @@ pub struct Reporter {
 impl Model for Reporter {
     ghost use Rattle.std.specs.Prelude.{◌≤◌};
     ghost use Rattle.tap_report.specs.Reporter.{Kept};
-    ghost use Rattle.tap_report.specs.Summary.{IsWithin};
+    ghost use Rattle.tap_report.specs.Tally.{IsWithin};
 
     ghost Value = { Kept };
 

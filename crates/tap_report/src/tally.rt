@@ -1,21 +1,26 @@
-ghost use Rattle.std.specs.Prelude.{◌≡◌, ◌<◌, []};
-ghost use Rattle.tap_report.specs.Summary.{IsWithin, hops_in, is_answered, is_core, is_sent, members_after, nodes_left, tally_after, tally_of};
+ghost use Rattle.std.specs.Prelude.{◌≡◌, ◌-◌, length, []};
+ghost use Rattle.tap_log.specs.Kinds.{members_in};
+ghost use Rattle.tap_report.specs.Summary.{hops_in, is_answered};
+ghost use Rattle.tap_report.specs.Tally.{IsWithin, is_core, is_sent, members_after, numbers_in, tally_after, tally_of};
 
 use crate::departures::Departures;
+use crate::opening::Opening;
 use tap_log::Record;
 
 // What the summary of a log is made from.
 #[derive(Clone, Copy, Debug)]
 pub(crate) struct Tally {
+    // How the log opens.
+    pub(crate) opening: Opening,
     // The members.
     pub(crate) members: usize,
     // The nodes that became core.
-    pub(crate) joined: u64,
+    pub(crate) core: u64,
     // The departures.
     pub(crate) departures: Departures,
     // The frames that were sent.
     pub(crate) frames: u64,
-    // The greatest number of hops of a walk.
+    // The most hops of a walk.
     pub(crate) hops: usize,
     // The lookups that were answered with a server.
     pub(crate) answered: u64,
@@ -27,8 +32,9 @@ impl Tally {
         ensures { result ≡ tally_of [] }
     {
         Tally {
+            opening: Opening::Nothing,
             members: 0,
-            joined: 0,
+            core: 0,
             departures: Departures::new(),
             frames: 0,
             hops: 0,
@@ -38,13 +44,15 @@ impl Tally {
 
     // With one record more.
     pub(crate) fn with(&self, item: &Record) -> Tally
-        requires { IsWithin 18446744073709551614 self.now }
+        requires { IsWithin (u64.MAX - 1) self.now }
         ensures { result ≡ tally_after self.now item.now }
     {
+        let carried = self.opening.is_carried();
         Tally {
-            members: members_with(self.members, item),
-            joined: self.joined + u64::from(is_core(item)),
-            departures: self.departures.with(item),
+            opening: self.opening.with(item),
+            members: members_with(self.opening, self.members, item),
+            core: self.core + u64::from(is_core(item)),
+            departures: self.departures.with(carried, item),
             frames: self.frames + u64::from(is_sent(item)),
             hops: self.hops.max(hops_in(item)),
             answered: self.answered + u64::from(is_answered(item)),
@@ -53,23 +61,35 @@ impl Tally {
 
     // The nodes that are left.
     pub(crate) fn nodes_left(&self) -> u128
-        ensures { result ≡ nodes_left self.now }
+        ensures { result ≡ (numbers_in self.now).nodes }
     {
-        let came = self.members as u128 + self.joined as u128;
+        let came = self.members as u128 + self.core as u128;
         came.saturating_sub(self.departures.gone as u128)
     }
 }
 
 // The number of members, with one record more.
-fn members_with(members: usize, item: &Record) -> usize
-    ensures { result ≡ members_after members item.now }
+fn members_with(opening: Opening, members: usize, item: &Record) -> usize
+    ensures { result ≡ members_after opening members item.now }
 {
-    match item {
-        Record::Begin { members, .. } => members.len(),
+    match opening {
+        Opening::Nothing => members_in(item),
         _ => members,
     }
 }
 
+// How many members a record tells.
+#[tactic(auto, unfolding(tap_log::specs::Kinds::members_in))]
+fn members_in(item: &Record) -> usize
+    ensures { result ≡ length (members_in item.now) }
+{
+    match item {
+        Record::Begin { members, .. } => members.len(),
+        _ => 0,
+    }
+}
+
+#[tactic(auto, unfolding(tap_log::specs::Kinds::core_name))]
 fn is_core(item: &Record) -> bool
     ensures { result ≡ is_core item.now }
 {
@@ -79,6 +99,7 @@ fn is_core(item: &Record) -> bool
     }
 }
 
+#[tactic(auto, unfolding(tap_log::specs::Kinds::sent_number))]
 fn is_sent(item: &Record) -> bool
     ensures { result ≡ is_sent item.now }
 {

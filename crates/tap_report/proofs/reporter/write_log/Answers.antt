@@ -1,9 +1,10 @@
 use Rattle.std.proofs.Common.{◌≡◌, take, None, refl, ap, sym, ◌∙◌}
 use Rattle.std.proofs.lemmas.List.{take_all}
-use Rattle.tap_report.specs.Summary.{tally_after}
-use Rattle.tap_report.specs.Text.{ArePrintable, settings_after}
+use Rattle.tap_report.specs.Summary.{ending, numbers_of}
+use Rattle.tap_report.specs.Tally.{tally_after}
+use Rattle.tap_report.specs.Text.{ArePrintable, settings_after, settings_of, texts_after}
 use Rattle.tap_report.specs.declared.written.Written.TheVariants.{All}
-use Rattle.tap_report.proofs.AddsLemmas.{◌⨾◌, AddsText-whole}
+use Rattle.tap_report.proofs.AddsLemmas.{◌⨾◌, AddsText-then, AddsText-whole}
 use Rattle.tap_report.proofs.TallyLemmas.{tally_of-push, IsWithin-after}
 use Rattle.tap_report.proofs.TextLemmas.{ArePrintable-at, settings_of-push, take_next, texts_after-push}
 use Rattle.tap_report.proofs.reporter.write_log.Goals as goal
@@ -34,7 +35,9 @@ pub returns : goal.returns
 returns g c =
     let records = c.as_slice-records.result.now in
     let was = c.loop-item.invariant in
+    let first = take c.loop-item.item-index records in
+    let mode = c.args.mode in
     let all : take c.loop-item.item-index records ≡ records = take_all c.loop-item.item-index records c.loop-item-test.false in
     let ends = rw (was.settings, was.tally) at c.add_ending.ensures in
     rw (← c.as_slice-records.ensures)
-    (AddsText-whole All c.pass_on.result refl (rw all at (was.text ⨾ ends)) c.pass_on.ensures.adds c.pass_on.ensures.after)
+    (AddsText-whole All c.pass_on.result refl (rw all at (AddsText-then {text = texts_after mode None first} {more = ending mode (settings_of first) (numbers_of first)} was.text ends)) c.pass_on.ensures.adds c.pass_on.ensures.after)

@@ -1,6 +1,6 @@
 use Rattle.std.proofs.Common.{◌≡◌, [], take, None}
 use Rattle.tap_report.specs.Outgoing.{AddsText}
-use Rattle.tap_report.specs.Summary.{IsWithin, tally_of}
+use Rattle.tap_report.specs.Tally.{IsWithin, tally_of}
 use Rattle.tap_report.specs.Text.{settings_of, texts_after}
 use Rattle.tap_report.specs.declared.written.Written.TheVariants.{All}
 use Rattle.tap_report.proofs.reporter.write_log.Given as goal
