@@ -4,3 +4,4 @@ pub mod TextLemmas
 pub mod DepartedLemmas
 pub mod TallyLemmas
 pub mod ReportsLemmas
+pub mod PiecewiseLemmas

@@ -22,7 +22,7 @@ mod tally;
 mod written;
 
 pub use mode::Mode;
-pub use reporter::{Reporter, puts_write_the_text, write_log};
+pub use reporter::{MOST_RECORDS, Reporter, puts_write_the_text, write_log};
 pub use written::{Written, write_text};
 
 #[cfg(test)]

@@ -5,7 +5,8 @@
 pub enum Mode {
     /// All lines.
     Long,
-    /// All but those of members, steps, frames that are sent or taken, and packets.
+    /// All but those of members, steps, frames that are sent or taken, packets that are made, arrive or are lost, and
+    /// ticks.
     Brief,
     /// Four numbers alone.
     Summary,

@@ -24,12 +24,13 @@ pub(crate) struct Outgoing {
 impl Model for Outgoing {
     ghost use Rattle.std.specs.Prelude.{◌≤◌, take};
     ghost use Rattle.tap_report.specs.Outgoing.{Waiting};
+    ghost use Rattle.tap_report.specs.declared.outgoing.TheConstants.{ROOM};
 
     ghost Value = { Waiting };
 
     ghost view = { λ o. record { bytes = take o.len o.bytes; so_far = o.so_far } };
 
-    ghost invariant = { λ o. o.len ≤ 2048 };
+    ghost invariant = { λ o. o.len ≤ ROOM };
 }
 
 impl Outgoing {

@@ -12,6 +12,9 @@ use tap_io::Sink;
 use tap_log::{Log, Record};
 use tap_name::Settings;
 
+/// How many records may be put to one reporter, which counts them.
+pub const MOST_RECORDS: u32 = 4_000_000_000;
+
 /// Writes the text of a run, record by record.
 ///
 /// Contracts see what it keeps: the mode, the settings of the `Begin` that was put, how many records were put, what the
@@ -53,16 +56,16 @@ impl Reporter {
         }
     }
 
-    /// Writes the text of one record. The first record, and no other one, is a `Begin`, and fewer than 4,000,000,000
-    /// records were put. The path of a walk isn't empty, the digit of each slot is below the base, the head of a frame
-    /// is read with the settings of the `Begin`, and want of memory isn't the fault of a damaged copy.
+    /// Writes the text of one record. The first record, and no other one, is a `Begin`, and fewer than [`MOST_RECORDS`]
+    /// were put. The path of a walk isn't empty, the digit of each slot is below the base, the head of a frame is read
+    /// with the settings of the `Begin`, and want of memory isn't the fault of a damaged copy.
     ///
     /// The first `Failed` comes only where the sink counted a fault in this call, and some first bytes of the text are
     /// then written. After it each call answers `Failed` and writes nothing. A record that isn't written counts as put.
     pub fn put<K: Sink>(&mut self, item: &Record, sink: &mut K) -> Written
         requires begins { IsBegin item.now ↔ IsNone self.old.settings }
         requires printable { IsPrintable self.old.settings item.now }
-        requires few { self.old.records < 4000000000 }
+        requires few { self.old.records < MOST_RECORDS }
         ensures { Puts self.old self.new item.now (K.held sink.old) (K.held sink.new)
             (K.faults sink.old) (K.faults sink.new) result }
     {

@@ -3,6 +3,8 @@ ghost use Rattle.tap_report.specs.Written.{WritesText};
 use tap_io::{Sink, Took};
 
 /// Whether all was written.
+///
+/// Rule: docs/FORMATS.md, "The printed text".
 #[derive(Clone, Copy, Debug, PartialEq, Eq)]
 pub enum Written {
     /// All was written.
