@@ -2,7 +2,7 @@ ghost use Rattle.std.specs.Prelude.{◌≡◌, ◌<◌, All, IfOk, IsTrue, Some,
 ghost use Rattle.tap_report.specs.Text.{IsBegin, IsPrintable, IsPrintableLog, text_of_log};
 ghost use Rattle.tap_report.specs.Written.{WritesText};
 
-use crate::{Mode, Reporter, Written, puts_write_the_text, write_log, write_text};
+use crate::{MOST_RECORDS, Mode, Reporter, Written, puts_write_the_text, write_log, write_text};
 use std::alloc::Global;
 use std::process::Abort;
 use std::test::Fail;
@@ -92,7 +92,7 @@ fn log_of(
 // Puts each record of a log, as a run does that is printed while it goes on.
 fn put_each<K: Sink>(mode: Mode, log: &Log, sink: &mut K) -> Written
     requires printable { IsPrintableLog log.now.records }
-    requires few { length log.now.records < 4000000000 }
+    requires few { length log.now.records < MOST_RECORDS }
     ensures { WritesText (K.held sink.old) (K.held sink.new)
         (K.faults sink.old) (K.faults sink.new) (text_of_log mode log.now.records) Written.All result }
 {
@@ -220,10 +220,8 @@ fn starts_and_lookups_are_printed(rt: HostRuntime) -> Result<(), Fail> {
     )
 }
 
-#[test]
-fn tables_and_frames_are_printed(rt: HostRuntime) -> Result<(), Fail> {
-    let (alloc, settings) = (rt.alloc(), settings(&rt));
-    let name = name(&rt, &settings, "123");
+// A link of each kind to this node, in one slot.
+fn links_of_each_kind(alloc: Global, name: Name) -> Result<List<LinkLine>, Fail> {
     let slot = Slot { level: 1, digit: 3 };
     let mut links = List::new(alloc);
     links.push(LinkLine {
@@ -241,6 +239,14 @@ fn tables_and_frames_are_printed(rt: HostRuntime) -> Result<(), Fail> {
         name,
         kind: LinkWord::Leaving,
     })?;
+    Ok(links)
+}
+
+#[test]
+fn tables_and_frames_are_printed(rt: HostRuntime) -> Result<(), Fail> {
+    let (alloc, settings) = (rt.alloc(), settings(&rt));
+    let name = name(&rt, &settings, "123");
+    let links = links_of_each_kind(alloc, name)?;
     let mut pairs = List::new(alloc);
     pairs.push(Pair {
         object: name,
@@ -434,50 +440,172 @@ fn one_join_is_printed(rt: HostRuntime) -> Result<(), Fail> {
     check_text(&rt, alloc, Mode::Summary, &log, &[], Written::All, summary)
 }
 
+fn step(index: u32, step: Step) -> Record {
+    Record::Step { index, step }
+}
+
+fn taken(number: u32) -> Record {
+    Record::Taken { number }
+}
+
+fn arrived(packet: u32) -> Record {
+    Record::Arrived { packet }
+}
+
+// A packet with this frame.
+fn data(number: u32, frame: u32) -> Record {
+    Record::Packet {
+        number,
+        frame,
+        ack: false,
+    }
+}
+
+// A packet with the acknowledgement of this frame.
+fn ack(number: u32, frame: u32) -> Record {
+    Record::Packet {
+        number,
+        frame,
+        ack: true,
+    }
+}
+
+// Up to the loss: the seek is repeated, and both of its packets arrive.
+fn until_the_link_is_lost(
+    alloc: Global,
+    records: &mut Vec<Record>,
+    old: Name,
+    new: Name,
+) -> Result<(), Fail> {
+    records.push(Record::Carrier)?;
+    records.push(step(
+        1,
+        Step::Join {
+            name: new,
+            via: old,
+        },
+    ))?;
+    records.push(sent(alloc, 0)?)?;
+    records.push(data(0, 0))?;
+    records.push(step(2, Step::Repeat { place: 0 }))?;
+    records.push(data(1, 0))?;
+    records.push(step(3, Step::Deliver { place: 0 }))?;
+    records.push(arrived(0))?;
+    records.push(taken(0))?;
+    records.push(sent(alloc, 1)?)?;
+    records.push(sent(alloc, 2)?)?;
+    records.push(data(2, 1))?;
+    records.push(data(3, 2))?;
+    records.push(ack(4, 0))?;
+    records.push(step(4, Step::Deliver { place: 0 }))?;
+    records.push(arrived(1))?;
+    records.push(ack(5, 0))?;
+    records.push(step(5, Step::Lose { place: 0 }))?;
+    records.push(Record::Lost { packet: 2 })?;
+    Ok(())
+}
+
+// The newcomer takes the hello, and what it sends arrives.
+fn until_the_hello_is_heard(alloc: Global, records: &mut Vec<Record>) -> Result<(), Fail> {
+    records.push(step(6, Step::Settle))?;
+    records.push(arrived(3))?;
+    records.push(taken(2))?;
+    records.push(sent(alloc, 3)?)?;
+    records.push(sent(alloc, 4)?)?;
+    records.push(data(6, 3))?;
+    records.push(data(7, 4))?;
+    records.push(ack(8, 2))?;
+    records.push(arrived(4))?;
+    records.push(arrived(5))?;
+    records.push(arrived(6))?;
+    Ok(())
+}
+
+// The newcomer becomes core, though it hasn't taken the link yet.
+fn until_it_is_core(alloc: Global, records: &mut Vec<Record>, new: Name) -> Result<(), Fail> {
+    records.push(taken(3))?;
+    records.push(sent(alloc, 5)?)?;
+    records.push(data(9, 5))?;
+    records.push(ack(10, 3))?;
+    records.push(arrived(7))?;
+    records.push(taken(4))?;
+    records.push(sent(alloc, 6)?)?;
+    records.push(data(11, 6))?;
+    records.push(ack(12, 4))?;
+    records.push(arrived(8))?;
+    records.push(arrived(9))?;
+    records.push(taken(5))?;
+    records.push(ack(13, 5))?;
+    records.push(arrived(10))?;
+    records.push(arrived(11))?;
+    records.push(taken(6))?;
+    records.push(Record::Core { name: new })?;
+    records.push(ack(14, 6))?;
+    records.push(arrived(12))?;
+    records.push(arrived(13))?;
+    records.push(arrived(14))?;
+    Ok(())
+}
+
+// A tick sends the link again, and then nothing is under way.
+fn after_a_tick(
+    alloc: Global,
+    records: &mut Vec<Record>,
+    old: Name,
+    new: Name,
+) -> Result<(), Fail> {
+    records.push(Record::Ticked)?;
+    records.push(data(15, 1))?;
+    records.push(arrived(15))?;
+    records.push(taken(1))?;
+    records.push(sent(alloc, 7)?)?;
+    records.push(data(16, 7))?;
+    records.push(ack(17, 1))?;
+    records.push(arrived(16))?;
+    records.push(taken(7))?;
+    records.push(ack(18, 7))?;
+    records.push(arrived(17))?;
+    records.push(arrived(18))?;
+    records.push(step(7, Step::Table { name: old }))?;
+    records.push(table(alloc, old, 1, new)?)?;
+    records.push(Record::Finished { steps: 7 })?;
+    Ok(())
+}
+
 #[test]
-fn a_carried_join_is_printed_in_brief(rt: HostRuntime) -> Result<(), Fail> {
+fn a_carried_join_is_printed(rt: HostRuntime) -> Result<(), Fail> {
     let alloc = rt.alloc();
     let settings = Settings::new(2, 2, 1).ok_or("settings")?;
     let old = name(&rt, &settings, "00");
     let new = name(&rt, &settings, "01");
-    let step = Step::Join {
-        name: new,
-        via: old,
-    };
-    let rest = vec![in alloc;
-        Record::Carrier,
-        Record::Step { index: 1, step },
-        sent(alloc, 0)?,
-        Record::Packet {
-            number: 0,
-            frame: 0,
-            ack: false
-        },
-        Record::Step {
-            index: 2,
-            step: Step::Repeat { place: 0 }
-        },
-        Record::Packet {
-            number: 1,
-            frame: 0,
-            ack: false
-        },
-        Record::Step {
-            index: 5,
-            step: Step::Lose { place: 0 }
-        },
-        Record::Lost { packet: 2 },
-        Record::Ticked,
-        Record::Arrived { packet: 9 },
-        Record::Taken { number: 6 },
-        Record::Core { name: new },
-        table(alloc, old, 1, new)?,
-        Record::Finished { steps: 7 },
-    ]?;
+    let mut rest = Vec::new(alloc);
+    until_the_link_is_lost(alloc, &mut rest, old, new)?;
+    until_the_hello_is_heard(alloc, &mut rest)?;
+    until_it_is_core(alloc, &mut rest, new)?;
+    after_a_tick(alloc, &mut rest, old, new)?;
     let log = log_of(&rt, alloc, &settings, &["00"], rest)?;
-    let brief = "begin base 2 digits 2 width 1 frames 200000\ncarrier\ncore 01\n\
-        table 00 core links 1\nlink 1 1 01 settled\ndone 7\n";
-    check_text(&rt, alloc, Mode::Brief, &log, &[], Written::All, brief)
+    let long =
+        "begin base 2 digits 2 width 1 frames 200000\nmember 00\ncarrier\nstep 1 join 01 via 00\n\
+        sent 0 seek 01 00 01010002000100000001\npacket 0 data 0\nstep 2 repeat 0\npacket 1 data 0\n\
+        step 3 deliver 0\narrived 0\ntaken 0\nsent 1 link 00 01 01080005000000010000000101\n\
+        sent 2 hello 00 01 01030005000000010000000101\npacket 2 data 1\npacket 3 data 2\npacket 4 ack 0\n\
+        step 4 deliver 0\narrived 1\npacket 5 ack 0\nstep 5 lose 0\nlost 2\nstep 6 settle\narrived 3\n\
+        taken 2\nsent 3 link 01 00 01080005000100000000000101\nsent 4 heard 01 00 010400040001000000000001\n\
+        packet 6 data 3\npacket 7 data 4\npacket 8 ack 2\narrived 4\narrived 5\narrived 6\ntaken 3\n\
+        sent 5 release 00 01 0107000000000001\npacket 9 data 5\npacket 10 ack 3\narrived 7\ntaken 4\n\
+        sent 6 done 00 01 0106000000000001\npacket 11 data 6\npacket 12 ack 4\narrived 8\narrived 9\n\
+        taken 5\npacket 13 ack 5\narrived 10\narrived 11\ntaken 6\ncore 01\npacket 14 ack 6\narrived 12\n\
+        arrived 13\narrived 14\nticked\npacket 15 data 1\narrived 15\ntaken 1\n\
+        sent 7 release 01 00 0107000000010000\npacket 16 data 7\npacket 17 ack 1\narrived 16\ntaken 7\n\
+        packet 18 ack 7\narrived 17\narrived 18\nstep 7 table 00\ntable 00 core links 1\n\
+        link 1 1 01 settled\ndone 7\n";
+    check_text(&rt, alloc, Mode::Long, &log, &[], Written::All, long)?;
+    let brief =
+        "begin base 2 digits 2 width 1 frames 200000\ncarrier\ncore 01\ntable 00 core links 1\n\
+        link 1 1 01 settled\ndone 7\n";
+    check_text(&rt, alloc, Mode::Brief, &log, &[], Written::All, brief)?;
+    let summary = "nodes 2\nframes 8\nhops 0\nanswered 0\n";
+    check_text(&rt, alloc, Mode::Summary, &log, &[], Written::All, summary)
 }
 
 #[test]
@@ -522,10 +650,41 @@ fn departed_nodes_are_counted(rt: HostRuntime) -> Result<(), Fail> {
 }
 
 fn leaves_of(name: Name) -> Record {
-    Record::Step {
-        index: 1,
-        step: Step::Depart { name },
-    }
+    step(1, Step::Depart { name })
+}
+
+// Checks the summary of a beginning with two members and these records.
+fn check_summary(
+    rt: &impl Abort,
+    alloc: Global,
+    rest: Vec<Record>,
+    text: &str,
+) -> Result<(), Fail> {
+    let settings = settings(rt);
+    let log = log_of(rt, alloc, &settings, &["000", "230"], rest)?;
+    check_text(rt, alloc, Mode::Summary, &log, &[], Written::All, text)
+}
+
+// In a carried log a step's group goes on when a frame is taken, which begins a group of its own in any other log.
+#[test]
+fn a_log_is_carried_where_carrier_is_second(rt: HostRuntime) -> Result<(), Fail> {
+    let alloc = rt.alloc();
+    let leaver = name(&rt, &settings(&rt), "000");
+    let rest = vec![in alloc;
+        Record::Carrier,
+        leaves_of(leaver),
+        taken(0),
+        Record::Gone { name: leaver },
+    ]?;
+    check_summary(&rt, alloc, rest, "nodes 1\nframes 0\nhops 0\nanswered 0\n")?;
+    let rest = vec![in alloc;
+        Record::Ticked,
+        Record::Carrier,
+        leaves_of(leaver),
+        taken(0),
+        Record::Gone { name: leaver },
+    ]?;
+    check_summary(&rt, alloc, rest, "nodes 2\nframes 0\nhops 0\nanswered 0\n")
 }
 
 // Prints one record behind a beginning.
@@ -590,16 +749,21 @@ fn steps_are_printed_as_they_are_read(rt: HostRuntime) -> Result<(), Fail> {
 }
 
 #[test]
-fn refusals_and_faults_are_printed(rt: HostRuntime) -> Result<(), Fail> {
+fn refusals_are_printed(rt: HostRuntime) -> Result<(), Fail> {
     let (alloc, settings) = (rt.alloc(), settings(&rt));
-    let rows: [(Refusal, &str); 8] = [
+    let rows: [(Refusal, &str); 13] = [
         (Refusal::NoSuchNode, "1 no such node"),
         (Refusal::NotCore, "2 not core"),
         (Refusal::NotAtRest(7), "4 not at rest 7"),
         (Refusal::NameTaken, "5 name taken"),
+        (Refusal::TooManyNodes, "6 too many nodes"),
         (Refusal::LastNode, "7 last node"),
+        (Refusal::AlreadyPublished, "8 already published"),
+        (Refusal::NotPublished, "9 not published"),
         (Refusal::NoSuchFlight(0), "10 no such flight 0"),
         (Refusal::Readable, "12 readable"),
+        (Refusal::NotJoining, "13 not joining"),
+        (Refusal::AlreadyAbandoned, "14 already abandoned"),
         (
             Refusal::TooManyPackets(100_000),
             "15 too many packets 100000",
@@ -615,10 +779,20 @@ fn refusals_and_faults_are_printed(rt: HostRuntime) -> Result<(), Fail> {
             line.as_str(),
         )?;
     }
-    let rows: [(WireFault, &str); 4] = [
+    Ok(())
+}
+
+#[test]
+fn faults_of_damaged_copies_are_printed(rt: HostRuntime) -> Result<(), Fail> {
+    let (alloc, settings) = (rt.alloc(), settings(&rt));
+    let rows: [(WireFault, &str); 8] = [
         (WireFault::Short(3), "short 3"),
         (WireFault::BadVersion(9), "bad version 9"),
+        (WireFault::BadKind(18), "bad kind 18"),
+        (WireFault::BadLength(65_535), "bad length 65535"),
+        (WireFault::BadCount(41), "bad count 41"),
         (WireFault::Trailing(1), "trailing 1"),
+        (WireFault::BadDigit(4), "bad digit 4"),
         (WireFault::BadBody(9), "bad body 9"),
     ];
     for (fault, words) in rows {
@@ -632,6 +806,144 @@ fn refusals_and_faults_are_printed(rt: HostRuntime) -> Result<(), Fail> {
         )?;
     }
     Ok(())
+}
+
+// A frame of each kind from 123 to 301, by the kind's code.
+fn frame_of_kind(code: u8) -> &'static [u8] {
+    match code {
+        1 => &[1, 1, 0, 3, 1, 2, 3, 3, 0, 1, 1, 2, 3],
+        2 => &[
+            1, 2, 0, 11, 1, 2, 3, 3, 0, 1, 1, 2, 3, 0, 1, 0, 0, 0, 1, 0, 1,
+        ],
+        3 => &[1, 3, 0, 5, 1, 2, 3, 3, 0, 1, 0, 0, 0, 1, 1],
+        4 => &[1, 4, 0, 4, 1, 2, 3, 3, 0, 1, 0, 0, 0, 1],
+        5 => &[1, 5, 0, 4, 1, 2, 3, 3, 0, 1, 0, 0, 0, 1],
+        6 => &[1, 6, 0, 0, 1, 2, 3, 3, 0, 1],
+        7 => &[1, 7, 0, 0, 1, 2, 3, 3, 0, 1],
+        8 => &[1, 8, 0, 5, 1, 2, 3, 3, 0, 1, 0, 0, 0, 2, 1],
+        9 => &[
+            1, 9, 0, 12, 1, 2, 3, 3, 0, 1, 2, 2, 2, 3, 0, 1, 1, 0, 0, 0, 1, 1,
+        ],
+        10 => &[
+            1, 10, 0, 11, 1, 2, 3, 3, 0, 1, 0, 0, 0, 7, 2, 2, 2, 1, 2, 3, 1,
+        ],
+        11 => &[1, 11, 0, 8, 1, 2, 3, 3, 0, 1, 0, 0, 0, 7, 1, 3, 0, 1],
+        12 => &[1, 12, 0, 4, 1, 2, 3, 3, 0, 1, 1, 2, 2, 2],
+        13 => &[1, 13, 0, 0, 1, 2, 3, 3, 0, 1],
+        14 => &[1, 14, 0, 0, 1, 2, 3, 3, 0, 1],
+        15 => &[1, 15, 0, 0, 1, 2, 3, 3, 0, 1],
+        16 => &[
+            1, 16, 0, 13, 1, 2, 3, 3, 0, 1, 0, 0, 0, 1, 1, 0, 0, 0, 1, 0, 1, 104, 105,
+        ],
+        _ => &[1, 17, 0, 4, 1, 2, 3, 3, 0, 1, 0, 0, 0, 1],
+    }
+}
+
+#[test]
+fn frames_of_each_kind_are_printed(rt: HostRuntime) -> Result<(), Fail> {
+    let (alloc, settings) = (rt.alloc(), settings(&rt));
+    let rows: [(u8, &str); 17] = [
+        (1, "sent 8 seek 123 301 01010003010203030001010203"),
+        (
+            2,
+            "sent 8 tell 123 301 0102000b0102030300010102030001000000010001",
+        ),
+        (3, "sent 8 hello 123 301 010300050102030300010000000101"),
+        (4, "sent 8 heard 123 301 0104000401020303000100000001"),
+        (5, "sent 8 ack 123 301 0105000401020303000100000001"),
+        (6, "sent 8 done 123 301 01060000010203030001"),
+        (7, "sent 8 release 123 301 01070000010203030001"),
+        (8, "sent 8 link 123 301 010800050102030300010000000201"),
+        (
+            9,
+            "sent 8 lay 123 301 0109000c010203030001020202030001010000000101",
+        ),
+        (
+            10,
+            "sent 8 find 123 301 010a000b0102030300010000000702020201020301",
+        ),
+        (
+            11,
+            "sent 8 answer 123 301 010b00080102030300010000000701030001",
+        ),
+        (12, "sent 8 leave 123 301 010c000401020303000101020202"),
+        (13, "sent 8 left 123 301 010d0000010203030001"),
+        (14, "sent 8 gone 123 301 010e0000010203030001"),
+        (15, "sent 8 forget 123 301 010f0000010203030001"),
+        (
+            16,
+            "sent 8 cast 123 301 0110000d01020303000100000001010000000100016869",
+        ),
+        (17, "sent 8 castack 123 301 0111000401020303000100000001"),
+    ];
+    for (code, line) in rows {
+        let bytes = Bytes::copy_of(alloc, frame_of_kind(code))?;
+        check_line(
+            &rt,
+            alloc,
+            &settings,
+            Record::Sent { number: 8, bytes },
+            line,
+        )?;
+    }
+    Ok(())
+}
+
+#[test]
+fn nodes_of_each_word_are_printed(rt: HostRuntime) -> Result<(), Fail> {
+    let (alloc, settings) = (rt.alloc(), settings(&rt));
+    let name = name(&rt, &settings, "123");
+    let rows: [(NodeWord, &str); 3] = [
+        (NodeWord::Joining, "joining"),
+        (NodeWord::Core, "core"),
+        (NodeWord::Leaving, "leaving"),
+    ];
+    for (status, word) in rows {
+        let links = links_of_each_kind(alloc, name)?;
+        let lines = format!(in alloc;
+            "table 123 {word} links 3\nlink 1 3 123 pin\nlink 1 3 123 settled\nlink 1 3 123 leaving"
+        )?;
+        check_line(
+            &rt,
+            alloc,
+            &settings,
+            Record::TableOf {
+                name,
+                status,
+                links,
+            },
+            lines.as_str(),
+        )?;
+    }
+    Ok(())
+}
+
+#[test]
+fn a_step_of_a_root_set_is_printed(rt: HostRuntime) -> Result<(), Fail> {
+    let alloc = rt.alloc();
+    let settings = Settings::new(16, 40, 2).ok_or("settings")?;
+    let words =
+        "rootset da39a3ee5e6b4b0d3255bfef95601890afd80709 from 356a192b7913b04c54574d18c28d46e6395428ab";
+    let root_set = read_step(&settings, false, words.as_bytes()).ok_or("step")?;
+    let log = log_of(
+        &rt,
+        alloc,
+        &settings,
+        &[],
+        vec![in alloc; step(9, root_set)]?,
+    )?;
+    let text = format!(in alloc;
+        "begin base 16 digits 40 width 2 frames 200000\nstep 9 {words}\n"
+    )?;
+    check_text(
+        &rt,
+        alloc,
+        Mode::Long,
+        &log,
+        &[],
+        Written::All,
+        text.as_str(),
+    )
 }
 
 #[test]
