@@ -1,7 +1,8 @@
 use crate::outcome::{PRINTED, run_text, with_line};
 use std::test::Fail;
 use tap_io::{MemorySink, MemorySource};
-use tap_top::{Status, run};
+use tap_scenario::Fault;
+use tap_top::{Status, run, tell_fault};
 
 #[test]
 fn each_read_fails_once(rt: HostRuntime) -> Result<(), Fail> {
@@ -73,5 +74,60 @@ fn a_word_is_refused(rt: HostRuntime) -> Result<(), Fail> {
         sink.bytes(),
         b"tapestry: usage: tapestry [--brief] [--make N] [--seed S]\n".as_slice()
     );
+    Ok(())
+}
+
+#[test]
+fn each_status_has_its_line(rt: HostRuntime) -> Result<(), Fail> {
+    let alloc = rt.alloc();
+    let cases = [
+        (Status::Done, ""),
+        (Status::ReadFault, "tapestry: read fault\n"),
+        (
+            Status::Usage,
+            "tapestry: usage: tapestry [--brief] [--make N] [--seed S]\n",
+        ),
+        (Status::TooLong, "tapestry: text too long\n"),
+        (
+            Status::NotScenario(Fault::BadStep(7)),
+            "tapestry: not a scenario: bad step 7\n",
+        ),
+        (Status::WriteFault, ""),
+        (Status::NoMemory, "tapestry: no memory\n"),
+    ];
+    for (before, line) in cases.iter() {
+        let mut sink = MemorySink::new(alloc, 10, 100, &[]).map_err(|_| "no memory")?;
+        let status = tell_fault(*before, &mut sink);
+        assert_eq!(rt; status, *before, "{line}");
+        assert_eq!(rt; sink.bytes(), line.as_bytes(), "{line}");
+    }
+    Ok(())
+}
+
+#[test]
+fn each_write_of_a_line_fails_once(rt: HostRuntime) -> Result<(), Fail> {
+    let alloc = rt.alloc();
+    // The line goes out in two writes of ten bytes.
+    let cases = [
+        (1, Status::WriteFault, ""),
+        (2, Status::WriteFault, "tapestry: "),
+        (3, Status::NoMemory, "tapestry: no memory\n"),
+    ];
+    for (call, wanted, written) in cases.iter() {
+        let mut sink = MemorySink::new(alloc, 10, 100, &[*call]).map_err(|_| "no memory")?;
+        let status = tell_fault(Status::NoMemory, &mut sink);
+        assert_eq!(rt; status, *wanted, "write {call}");
+        assert_eq!(rt; sink.bytes(), written.as_bytes(), "write {call}");
+    }
+    Ok(())
+}
+
+#[test]
+fn a_text_is_refused_and_no_line_is_written(rt: HostRuntime) -> Result<(), Fail> {
+    let alloc = rt.alloc();
+    let outcome = run_text(alloc, b"base = ".as_slice(), &[], &[1])?;
+    assert_eq!(rt; outcome.ended.status, Status::WriteFault);
+    assert_eq!(rt; outcome.ended.before, Status::NotScenario(Fault::NotToml));
+    assert!(rt; outcome.written.is_empty());
     Ok(())
 }
