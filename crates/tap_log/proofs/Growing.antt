@@ -16,7 +16,7 @@ use Rattle.tap_log.specs.Moments.{EachFrom, EachRecord, last_of, outstanding, un
 use Rattle.tap_log.specs.Core.{abandoned_of, accepted_in, accepted_step, accepted_steps, ceased_of, core_of, departures_of, gone_of, has_name, joined_of, joins_of, members_of, names_less}
 use Rattle.tap_log.specs.Published.{has_pair, kept_pair, kept_pairs, pairs_less, published_of, same_pair, without_servers}
 use Rattle.tap_log.specs.Counts.{join_count, names_of, sent_count, with_name}
-use Rattle.tap_log.specs.Laws.{IsLater, IsNew, OneMoreRecord, accepted_behind, accepted_by, at_most_one}
+use Rattle.tap_log.specs.Laws.{IsNew, OneMoreRecord, accepted_behind, accepted_by, at_most_one}
 use Rattle.tap_log.proofs.Acknowledging.{awaiting-arrived, awaiting-push, told}
 use Rattle.tap_log.proofs.Less.{filter-swaps, filter-twice, less_by-more, less_by-none, not_or}
 
@@ -80,14 +80,24 @@ accepted_in-push carried (first ∷ next ∷ items) item =
     ap (λ l. cons_option (accepted_step carried (first, next)) l) (accepted_in-push carried (next ∷ items) item)
     ∙ one_before (accepted_step carried (first, next)) (accepted_in carried (next ∷ items)) (accepted_behind carried (last_of (next ∷ items)) item)
 
-pub accepted_steps-push : (log : List Record) (item : Record) → item ≢ Carrier → accepted_steps (log ++ item ∷ []) ≡ accepted_steps log ++ accepted_by log item
-accepted_steps-push log item other =
-    ap (λ b. accepted_in b (log ++ item ∷ [])) (is_carried-push log item other) ∙ accepted_in-push (is_carried log) log item
+-- a `Carrier` behind the first record accepts its step, be the log carried by it or not
+carrier_accepts : (one other : Bool) (first : Record) → accepted_step one (first, Carrier) ≡ accepted_step other (first, Carrier)
+unfolding accepted_step accepts begins_group
+carrier_accepts one other first = refl
 
-named-push : (h : Step → Option (List ℕ)) (log : List Record) (item : Record) → item ≢ Carrier
+pub accepted_steps-push : (log : List Record) (item : Record) → accepted_steps (log ++ item ∷ []) ≡ accepted_steps log ++ accepted_by log item
+accepted_steps-push [] Carrier = refl
+accepted_steps-push (first ∷ []) Carrier = ap at_most_one (carrier_accepts (is_carried (first ∷ Carrier ∷ [])) (is_carried (first ∷ [])) first)
+accepted_steps-push (first ∷ next ∷ items) Carrier =
+    ap (λ b. accepted_in b (first ∷ next ∷ (items ++ Carrier ∷ []))) (carried_third first next (items ++ Carrier ∷ []) items)
+    ∙ accepted_in-push (is_carried (first ∷ next ∷ items)) (first ∷ next ∷ items) Carrier
+accepted_steps-push log item =
+    ap (λ b. accepted_in b (log ++ item ∷ [])) (is_carried-push log item (λ h. cc)) ∙ accepted_in-push (is_carried log) log item
+
+named-push : (h : Step → Option (List ℕ)) (log : List Record) (item : Record)
     → filter_map h (accepted_steps (log ++ item ∷ [])) ≡ filter_map h (accepted_steps log) ++ filter_map h (accepted_by log item)
-named-push h log item other =
-    ap (filter_map h) (accepted_steps-push log item other) ∙ filter_map-append h (accepted_steps log) (accepted_by log item)
+named-push h log item =
+    ap (filter_map h) (accepted_steps-push log item) ∙ filter_map-append h (accepted_steps log) (accepted_by log item)
 
 -- ---- those who take part
 
@@ -125,12 +135,12 @@ core_of-same log item none no_core stays =
     ∙ ap (λ o. names_less (core_of log ++ []) (at_most_one o)) stays
     ∙ less_by-none (pointwise nat_eq) (core_of log ++ []) ∙ append-nil (core_of log)
 
-pub joined_of-push : (log : List Record) (item : Record) → IsLater item
+pub joined_of-push : (log : List Record) (item : Record) → members_in item ≡ []
     → joined_of (log ++ item ∷ []) ≡ names_less (joined_of log ++ names_less (filter_map join_name (accepted_by log item)) (gone_of log)) (at_most_one (gone_name item))
-joined_of-push log item later =
+joined_of-push log item none =
     came-push (members_of log) (joins_of log) (filter_map join_name (accepted_by log item)) (gone_of log) (at_most_one (gone_name item))
     (members_of (log ++ item ∷ []) ++ joins_of (log ++ item ∷ [])) (gone_of (log ++ item ∷ []))
-    (ap (λ l. l ++ joins_of (log ++ item ∷ [])) (members_of-push log item later.no_members) ∙ ap (λ l. members_of log ++ l) (named-push join_name log item later.no_carrier)
+    (ap (λ l. l ++ joins_of (log ++ item ∷ [])) (members_of-push log item none) ∙ ap (λ l. members_of log ++ l) (named-push join_name log item)
     ∙ sym (append_assoc (members_of log) (joins_of log) (filter_map join_name (accepted_by log item))))
     (told gone_name log item)
 
@@ -193,15 +203,15 @@ servers-more servers more pairs =
     filter-twice (λ pair. not (has_name servers pair.server)) (λ pair. not (has_name more pair.server)) (λ pair. not (has_name (servers ++ more) pair.server))
     (λ pair. ap not (list_any-append (λ other. pointwise nat_eq other pair.server) servers more) ∙ not_or (has_name servers pair.server) (has_name more pair.server)) pairs
 
-pub published_of-push : (log : List Record) (item : Record) → item ≢ Carrier
+pub published_of-push : (log : List Record) (item : Record)
     → published_of (log ++ item ∷ []) ≡ without_servers (filter_map depart_name (accepted_by log item))
     (pairs_less (published_of log) (at_most_one (withdrawn_pair item)) ++ without_servers (departures_of log) (at_most_one (published_pair item)))
-published_of-push log item other =
+published_of-push log item =
     let gone = departures_of log in
     let more = filter_map depart_name (accepted_by log item) in
     let ended = at_most_one (withdrawn_pair item) in
     let new = at_most_one (published_pair item) in
-    ap (λ l. without_servers l (kept_pairs (log ++ item ∷ []))) (named-push depart_name log item other)
+    ap (λ l. without_servers l (kept_pairs (log ++ item ∷ []))) (named-push depart_name log item)
     ∙ ap (without_servers (gone ++ more)) (kept_pairs-push log item)
     ∙ servers-more gone more (pairs_less (kept_pairs log) ended ++ new)
     ∙ ap (without_servers more) (filter-append (λ pair. not (has_name gone pair.server)) (pairs_less (kept_pairs log) ended) new)
@@ -213,14 +223,14 @@ published_of-push log item other =
 pub sent_count-push : (log : List Record) (item : Record) → sent_count (log ++ item ∷ []) ≡ sent_count log + length (at_most_one (sent_number item))
 sent_count-push log item = ap length (told sent_number log item) ∙ length-append (filter_map sent_number log) (at_most_one (sent_number item))
 
-pub join_count-push : (log : List Record) (item : Record) → item ≢ Carrier → join_count (log ++ item ∷ []) ≡ join_count log + length (filter_map join_name (accepted_by log item))
-join_count-push log item other = ap length (named-push join_name log item other) ∙ length-append (joins_of log) (filter_map join_name (accepted_by log item))
+pub join_count-push : (log : List Record) (item : Record) → join_count (log ++ item ∷ []) ≡ join_count log + length (filter_map join_name (accepted_by log item))
+join_count-push log item = ap length (named-push join_name log item) ∙ length-append (joins_of log) (filter_map join_name (accepted_by log item))
 
-pub names_of-push : (log : List Record) (item : Record) → IsLater item → names_of (log ++ item ∷ []) ≡ fold with_name (names_of log) (filter_map join_name (accepted_by log item))
-names_of-push log item later =
+pub names_of-push : (log : List Record) (item : Record) → members_in item ≡ [] → names_of (log ++ item ∷ []) ≡ fold with_name (names_of log) (filter_map join_name (accepted_by log item))
+names_of-push log item none =
     let new = filter_map join_name (accepted_by log item) in
-    ap (λ l. fold with_name [] (l ++ joins_of (log ++ item ∷ []))) (members_of-push log item later.no_members)
-    ∙ ap (λ l. fold with_name [] (members_of log ++ l)) (named-push join_name log item later.no_carrier)
+    ap (λ l. fold with_name [] (l ++ joins_of (log ++ item ∷ []))) (members_of-push log item none)
+    ∙ ap (λ l. fold with_name [] (members_of log ++ l)) (named-push join_name log item)
     ∙ ap (fold with_name []) (sym (append_assoc (members_of log) (joins_of log) new))
     ∙ fold-append with_name [] (members_of log ++ joins_of log) new
 
@@ -261,8 +271,8 @@ one_more_record_holds =
       begins = begins_new;
       begins_carried = begins_carried;
       steps = told step_of;
-      accepted = λ log item later. accepted_steps-push log item later.no_carrier;
-      core = λ log item later. core_of-push log item later.no_members;
+      accepted = accepted_steps-push;
+      core = core_of-push;
       joined = joined_of-push;
       abandoned = told abandoned_name;
       ceased = ceased_of-push;
@@ -270,8 +280,8 @@ one_more_record_holds =
       packets = under_way-push;
       awaits = awaiting-push;
       arrives = awaiting-arrived;
-      published = λ log item later. published_of-push log item later.no_carrier;
+      published = published_of-push;
       sent = sent_count-push;
-      joins = λ log item later. join_count-push log item later.no_carrier;
+      joins = join_count-push;
       names = names_of-push;
     }

@@ -1,5 +1,5 @@
 -- What one more record at the end of a log changes, and what one more group does.
-use Rattle.std.specs.Prelude.{◌≡◌, ℕ, ◌≢◌, ◌+◌, ◌<◌, ◌≤◌, All, Bool, false, true, if◌then◌else◌, List, [], ◌∷◌, ◌++◌, length, filter, fold, Option, None, Some}
+use Rattle.std.specs.Prelude.{◌≡◌, ℕ, ◌+◌, ◌<◌, ◌≤◌, All, Bool, false, true, if◌then◌else◌, List, [], ◌∷◌, ◌++◌, length, filter, fold, Option, None, Some}
 use Rattle.std.specs.List.{filter_map, cons_option, last_or}
 use Rattle.tap_name.specs.Settings.{Parameters}
 use Rattle.tap_scenario.specs.declared.step.Step.{Step}
@@ -25,11 +25,6 @@ accepted_behind carried (Some last) item = at_most_one (accepted_step carried (l
 abbrev pub accepted_by : List Record → Record → List Step
 accepted_by log item = accepted_behind (is_carried log) (last_of log) item
 
--- neither of the records that a log begins with
-pub record IsLater (item : Record) : Type 0 where
-  pub no_members : members_in item ≡ []
-  pub no_carrier : item ≢ Carrier
-
 -- what holds of a log that has its beginning alone: the members are core and joined, and nothing has happened
 pub record IsNew (members : List (List ℕ)) (log : List Record) : Type 0 where
   pub accepted : accepted_steps log ≡ []
@@ -39,35 +34,43 @@ pub record IsNew (members : List (List ℕ)) (log : List Record) : Type 0 where
   pub departing : departing_of log ≡ None
   pub names : names_of log ≡ fold with_name [] members
 
--- The beginning gives the members. Of one more record, what it tells is added, and what it ends is taken away.
+-- The beginning gives the members. Of one more record, which gives none, what it tells is added, and what it ends is taken away.
 pub record OneMoreRecord : Type 0 where
   pub begins : (settings : Parameters) (frames : ℕ) (members : List (List ℕ)) → IsNew members (Begin settings frames members ∷ [])
   pub begins_carried : (settings : Parameters) (frames : ℕ) (members : List (List ℕ)) → IsNew members (Begin settings frames members ∷ Carrier ∷ [])
   pub steps : (log : List Record) (item : Record) → steps_of (log ++ item ∷ []) ≡ steps_of log ++ at_most_one (step_of item)
-  pub accepted : (log : List Record) (item : Record) → IsLater item → accepted_steps (log ++ item ∷ []) ≡ accepted_steps log ++ accepted_by log item
-  pub core : (log : List Record) (item : Record) → IsLater item
-      → core_of (log ++ item ∷ []) ≡ names_less (core_of log ++ names_less (at_most_one (core_name item)) (gone_of log)) (at_most_one (gone_name item))
-  pub joined : (log : List Record) (item : Record) → IsLater item
-      → joined_of (log ++ item ∷ []) ≡ names_less (joined_of log ++ names_less (filter_map join_name (accepted_by log item)) (gone_of log)) (at_most_one (gone_name item))
-  pub abandoned : (log : List Record) (item : Record) → abandoned_of (log ++ item ∷ []) ≡ abandoned_of log ++ at_most_one (abandoned_name item)
+  pub accepted : (log : List Record) (item : Record)
+      → accepted_steps (log ++ item ∷ []) ≡ accepted_steps log ++ accepted_by log item
+  pub core : (log : List Record) (item : Record) → members_in item ≡ []
+      → core_of (log ++ item ∷ [])
+      ≡ names_less (core_of log ++ names_less (at_most_one (core_name item)) (gone_of log)) (at_most_one (gone_name item))
+  pub joined : (log : List Record) (item : Record) → members_in item ≡ []
+      → joined_of (log ++ item ∷ [])
+      ≡ names_less (joined_of log ++ names_less (filter_map join_name (accepted_by log item)) (gone_of log)) (at_most_one (gone_name item))
+  pub abandoned : (log : List Record) (item : Record)
+      → abandoned_of (log ++ item ∷ []) ≡ abandoned_of log ++ at_most_one (abandoned_name item)
   pub ceased : (log : List Record) (item : Record)
-      → ceased_of (log ++ item ∷ []) ≡ filter (has_name (gone_of log ++ at_most_one (gone_name item))) (abandoned_of log ++ at_most_one (abandoned_name item))
+      → ceased_of (log ++ item ∷ [])
+      ≡ filter (has_name (gone_of log ++ at_most_one (gone_name item))) (abandoned_of log ++ at_most_one (abandoned_name item))
   pub frames : (log : List Record) (item : Record)
-      → outstanding (log ++ item ∷ []) ≡ less (outstanding log ++ less (at_most_one (sent_number item)) (filter_map taken_number log)) (at_most_one (taken_number item))
+      → outstanding (log ++ item ∷ [])
+      ≡ less (outstanding log ++ less (at_most_one (sent_number item)) (filter_map taken_number log)) (at_most_one (taken_number item))
   pub packets : (log : List Record) (item : Record)
-      → under_way (log ++ item ∷ []) ≡ less (under_way log ++ less (at_most_one (packet_number item)) (filter_map ended_number log)) (at_most_one (ended_number item))
+      → under_way (log ++ item ∷ [])
+      ≡ less (under_way log ++ less (at_most_one (packet_number item)) (filter_map ended_number log)) (at_most_one (ended_number item))
   pub awaits : (log : List Record) (item : Record) → arrived_number item ≡ None
       → awaiting (log ++ item ∷ [])
       ≡ less (awaiting log ++ less (at_most_one (sent_number item)) (acknowledged log)) (at_most_one (acknowledged_by (filter_map arrived_number log) item))
   pub arrives : (log : List Record) (packet : ℕ)
       → awaiting (log ++ Arrived packet ∷ []) ≡ less (awaiting log) (acknowledged_by_all (packet ∷ []) log)
-  pub published : (log : List Record) (item : Record) → IsLater item
+  pub published : (log : List Record) (item : Record)
       → published_of (log ++ item ∷ []) ≡ without_servers (filter_map depart_name (accepted_by log item))
       (pairs_less (published_of log) (at_most_one (withdrawn_pair item)) ++ without_servers (departures_of log) (at_most_one (published_pair item)))
-  pub sent : (log : List Record) (item : Record) → sent_count (log ++ item ∷ []) ≡ sent_count log + length (at_most_one (sent_number item))
-  pub joins : (log : List Record) (item : Record) → IsLater item
+  pub sent : (log : List Record) (item : Record)
+      → sent_count (log ++ item ∷ []) ≡ sent_count log + length (at_most_one (sent_number item))
+  pub joins : (log : List Record) (item : Record)
       → join_count (log ++ item ∷ []) ≡ join_count log + length (filter_map join_name (accepted_by log item))
-  pub names : (log : List Record) (item : Record) → IsLater item
+  pub names : (log : List Record) (item : Record) → members_in item ≡ []
       → names_of (log ++ item ∷ []) ≡ fold with_name (names_of log) (filter_map join_name (accepted_by log item))
 
 -- the records of one group, behind a log that has begun: the first one begins the group, and none behind it begins another

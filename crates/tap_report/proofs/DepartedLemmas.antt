@@ -10,7 +10,7 @@ use Rattle.tap_log.specs.Kinds.{accepts, begins_group, depart_name, is_carried, 
 use Rattle.tap_log.specs.Core.{accepted_in, accepted_step, accepted_steps, departures_of, members_of}
 use Rattle.tap_log.specs.Laws.{accepted_behind, at_most_one}
 use Rattle.tap_log.specs.Moments.{last_of}
-use Rattle.tap_log.proofs.Growing.{accepted_steps-push, is_carried-push, last_of-push}
+use Rattle.tap_log.proofs.Growing.{accepted_steps-push, last_of-push}
 use Rattle.tap_report.specs.Summary.{departed_behind, is_departed, is_gone, last_departure}
 use Rattle.tap_report.specs.Tally.{accepted_after, asked_by, asked_last, departures_after, departures_known, members_after, opening_after, opening_of, opens_carried}
 use Rattle.tap_report.specs.declared.opening.Opening.{Opening}
@@ -53,38 +53,6 @@ members-push (first ∷ items) item = sym (later_members first items (length (me
 
 -- ---- the departure that was accepted last
 
-one_before : {X : Type 0} (one : Option X) (xs ys : List X) → cons_option one (xs ++ ys) ≡ cons_option one xs ++ ys
-one_before None xs ys = refl
-one_before (Some x) xs ys = refl
-
-accepted_in-push : (carried : Bool) (log : List Record) (item : Record) → accepted_in carried (log ++ item ∷ []) ≡ accepted_in carried log ++ accepted_behind carried (last_of log) item
-accepted_in-push carried [] item = refl
-accepted_in-push carried (first ∷ []) item = refl
-accepted_in-push carried (first ∷ next ∷ items) item =
-    ap (λ l. cons_option (accepted_step carried (first, next)) l) (accepted_in-push carried (next ∷ items) item)
-    ∙ one_before (accepted_step carried (first, next)) (accepted_in carried (next ∷ items)) (accepted_behind carried (last_of (next ∷ items)) item)
-
--- a second record `Carrier` accepts the first one's step, be the log carried by it or not
-carrier_accepts : (one other : Bool) (first : Record) → accepted_step one (first, rec.Carrier) ≡ accepted_step other (first, rec.Carrier)
-unfolding accepted_step accepts begins_group
-carrier_accepts one other first = refl
-
-carrier_later : (first next : Record) (items : List Record) → is_carried (first ∷ next ∷ (items ++ rec.Carrier ∷ [])) ≡ is_carried (first ∷ next ∷ items)
-unfolding is_carried
-carrier_later (rec.Begin settings frames members) rec.Carrier items = refl
-carrier_later (rec.Begin settings frames members) next items = refl
-carrier_later first next items = refl
-
--- the step that one more record accepts, whatever it is
-pub accepted-push : (log : List Record) (item : Record) → accepted_steps (log ++ item ∷ []) ≡ accepted_steps log ++ accepted_behind (is_carried log) (last_of log) item
-accepted-push [] rec.Carrier = refl
-accepted-push (first ∷ []) rec.Carrier =
-    ap at_most_one (carrier_accepts (is_carried (first ∷ rec.Carrier ∷ [])) (is_carried (first ∷ [])) first)
-accepted-push (first ∷ next ∷ items) rec.Carrier =
-    ap (λ b. accepted_in b (first ∷ next ∷ (items ++ rec.Carrier ∷ []))) (carrier_later first next items)
-    ∙ accepted_in-push (is_carried (first ∷ next ∷ items)) (first ∷ next ∷ items) rec.Carrier
-accepted-push log item = accepted_steps-push log item (λ h. cc)
-
 asks_one : (b : Bool) (last : Record) → filter_map depart_name (at_most_one (if b then step_of last else None)) ≡ at_most_one (if b then asked_by last else None)
 asks_one false last = refl
 asks_one true (rec.Step index step) = refl
@@ -115,7 +83,7 @@ pub last_departure-push : (log : List Record) (item : Record)
 last_departure-push log item =
     let carried = is_carried log in
     let asked = asked_last (last_of log) in
-    ap (λ l. last_or None (filter_map depart_name l)) (accepted-push log item)
+    ap (λ l. last_or None (filter_map depart_name l)) (accepted_steps-push log item)
     ∙ ap (last_or None) (filter_map-append depart_name (accepted_steps log) (accepted_behind carried (last_of log) item))
     ∙ ap (λ l. last_or None (departures_of log ++ l)) (departs_one carried (last_of log) item)
     ∙ last_more None (if accepts carried item then asked else None) (departures_of log)
