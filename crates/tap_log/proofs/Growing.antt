@@ -10,9 +10,9 @@ use Rattle.tap_name.specs.Settings.{Parameters}
 use Rattle.tap_scenario.specs.declared.step.Step.{Step}
 use Rattle.tap_log.specs.declared.record.Pair.{Pair}
 use Rattle.tap_log.specs.declared.record.Record.{Record}
-use Rattle.tap_log.specs.declared.record.Record.TheVariants.{Begin, Carrier}
+use Rattle.tap_log.specs.declared.record.Record.TheVariants.{Begin, Carrier, Core, Gone}
 use Rattle.tap_log.specs.Kinds.{accepts, begins_group, is_carried, members_in, step_of, sent_number, taken_number, packet_number, ended_number, core_name, gone_name, abandoned_name, published_pair, withdrawn_pair, join_name, depart_name}
-use Rattle.tap_log.specs.Moments.{EachFrom, EachRecord, last_of, outstanding, under_way, less}
+use Rattle.tap_log.specs.Moments.{EachFrom, EachRecord, last_of, outstanding, steps_of, under_way, less}
 use Rattle.tap_log.specs.Core.{abandoned_of, accepted_in, accepted_step, accepted_steps, ceased_of, core_of, departures_of, gone_of, has_name, joined_of, joins_of, members_of, names_less}
 use Rattle.tap_log.specs.Published.{has_pair, kept_pair, kept_pairs, pairs_less, published_of, same_pair, without_servers}
 use Rattle.tap_log.specs.Counts.{join_count, names_of, sent_count, with_name}
@@ -70,6 +70,11 @@ is_carried-push (first ∷ next ∷ items) item other = carried_third first next
 members_of-push : (log : List Record) (item : Record) → members_in item ≡ [] → members_of (log ++ item ∷ []) ≡ members_of log
 members_of-push [] item none = none
 members_of-push (first ∷ items) item none = refl
+
+-- ---- steps
+
+pub steps_of-push : (log : List Record) (item : Record) → steps_of (log ++ item ∷ []) ≡ steps_of log ++ at_most_one (step_of item)
+steps_of-push = told step_of
 
 -- ---- accepted steps
 
@@ -134,6 +139,31 @@ core_of-same log item none no_core stays =
     ∙ ap (λ o. names_less (core_of log ++ names_less (at_most_one o) (gone_of log)) (at_most_one (gone_name item))) no_core
     ∙ ap (λ o. names_less (core_of log ++ []) (at_most_one o)) stays
     ∙ less_by-none (pointwise nat_eq) (core_of log ++ []) ∙ append-nil (core_of log)
+
+-- a record that makes no node core and takes none away
+abbrev pub leaves_nodes : Record → Bool
+leaves_nodes (Begin settings frames members) = false
+leaves_nodes (Core name) = false
+leaves_nodes (Gone name) = false
+leaves_nodes item = true
+
+no_members : (item : Record) → leaves_nodes item ≡ true → members_in item ≡ []
+unfolding members_in
+no_members (Begin settings frames members) is = absurd (cc)
+no_members item is = refl
+
+no_core : (item : Record) → leaves_nodes item ≡ true → core_name item ≡ None
+unfolding core_name
+no_core (Core name) is = absurd (cc)
+no_core item is = refl
+
+no_gone : (item : Record) → leaves_nodes item ≡ true → gone_name item ≡ None
+unfolding gone_name
+no_gone (Gone name) is = absurd (cc)
+no_gone item is = refl
+
+pub core_of-left : (log : List Record) (item : Record) → leaves_nodes item ≡ true → core_of (log ++ item ∷ []) ≡ core_of log
+core_of-left log item leaves = core_of-same log item (no_members item leaves) (no_core item leaves) (no_gone item leaves)
 
 pub joined_of-push : (log : List Record) (item : Record) → members_in item ≡ []
     → joined_of (log ++ item ∷ []) ≡ names_less (joined_of log ++ names_less (filter_map join_name (accepted_by log item)) (gone_of log)) (at_most_one (gone_name item))
@@ -270,7 +300,7 @@ one_more_record_holds =
     record {
       begins = begins_new;
       begins_carried = begins_carried;
-      steps = told step_of;
+      steps = steps_of-push;
       accepted = accepted_steps-push;
       core = core_of-push;
       joined = joined_of-push;

@@ -1,5 +1,4 @@
 pub mod Cyclic
-pub mod Names
 pub mod Nearest
 pub mod Paths
 pub mod CoreLinks

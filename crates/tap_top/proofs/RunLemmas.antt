@@ -22,8 +22,7 @@ use Rattle.tap_log.specs.declared.record.NodeWord.TheVariants.{Core as CoreWord}
 use Rattle.tap_log.specs.Core.{core_of}
 use Rattle.tap_log.proofs.Instants.{moment-begun, moment-within}
 use Rattle.tap_log.specs.Moments.{EachFrom, EachRecord, is_moment, last_of, step_of, steps_of}
-use Rattle.tap_log.proofs.Growing.{EachRecord-push, core_of-begin, last_of-push}
-use Rattle.tap_top.proofs.Growing.{core_of-left, leaves_nodes, steps_of-push}
+use Rattle.tap_log.proofs.Growing.{EachRecord-push, core_of-begin, core_of-left, last_of-push, leaves_nodes, steps_of-push}
 use Rattle.tap_report.specs.Text.{ArePrintable, IsBegin, IsPrintable, IsPrintableLog, settings_of}
 use Rattle.tap_report.proofs.TextLemmas.{ArePrintable-at, settings_of-push}
 use Rattle.tap_report.proofs.ReportsLemmas.{IsPrintableLog-first, IsPrintableLog-push, Reports-new}
@@ -32,7 +31,7 @@ use Rattle.tap_surrogate.specs.Members.{AreMembersAtRest, IsTableAtRest}
 use Rattle.tap_surrogate.specs.HoleFree.{IsHoleFree}
 use Rattle.tap_surrogate.specs.Walk.{walk}
 use Rattle.tap_table.specs.Table.{Slots}
-use Rattle.tap_surrogate.proofs.Names.{among-All}
+use Rattle.tap_name.proofs.Names.{among-All}
 use Rattle.tap_surrogate.proofs.RestTables.{rest_law_holds}
 use Rattle.tap_surrogate.proofs.HoleFreePaths.{walk_law_holds}
 use Rattle.tap_top.specs.Lawful.{Answers, MayStand, ends_group, is_whole}

@@ -103,7 +103,14 @@ pub fn run<S: Source, K: Sink>(
 {
     let mut log = Log::new(alloc);
     let mut reporter = Reporter::new(Mode::Long);
-    let before = read_and_run(alloc, words.as_slice(), source, &mut log, &mut reporter, sink);
+    let before = read_and_run(
+        alloc,
+        words.as_slice(),
+        source,
+        &mut log,
+        &mut reporter,
+        sink,
+    );
     let finished = reporter.finish(sink);
     let written = write_fault_line(sink, finished, before);
     let status = match written {

@@ -1,5 +1,5 @@
 use Rattle.tap_name.specs.Name.{IsName}
-use Rattle.tap_surrogate.proofs.Names.{among-All}
+use Rattle.tap_name.proofs.Names.{among-All}
 use Rattle.tap_top.proofs.answers.root_over_members.Goals as goal
 
 pub root_of-requires-clause-names : goal.root_of-requires-clause-names
