@@ -126,6 +126,16 @@ fn check_text(
     Ok(())
 }
 
+// Prints a log in each mode: these are its long text, its brief one and its summary.
+fn check_modes(rt: &impl Abort, alloc: Global, log: &Log, texts: [&str; 3]) -> Result<(), Fail>
+    requires { IsPrintableLog log.now.records }
+{
+    let [long, brief, summary] = texts;
+    check_text(rt, alloc, Mode::Long, log, &[], Written::All, long)?;
+    check_text(rt, alloc, Mode::Brief, log, &[], Written::All, brief)?;
+    check_text(rt, alloc, Mode::Summary, log, &[], Written::All, summary)
+}
+
 // Prints these records behind a beginning with no member, in each mode. The texts are the lines that the brief text leaves
 // out, which stand first, those that it has, and the summary.
 fn check_records(
@@ -139,26 +149,8 @@ fn check_records(
     let [detail, lines, summary] = texts;
     let begin = "begin base 4 digits 3 width 2 frames 200000\n";
     let long = format!(in alloc; "{begin}{detail}{lines}")?;
-    check_text(
-        rt,
-        alloc,
-        Mode::Long,
-        &log,
-        &[],
-        Written::All,
-        long.as_str(),
-    )?;
     let brief = format!(in alloc; "{begin}{lines}")?;
-    check_text(
-        rt,
-        alloc,
-        Mode::Brief,
-        &log,
-        &[],
-        Written::All,
-        brief.as_str(),
-    )?;
-    check_text(rt, alloc, Mode::Summary, &log, &[], Written::All, summary)
+    check_modes(rt, alloc, &log, [long.as_str(), brief.as_str(), summary])
 }
 
 fn settings(rt: &impl Abort) -> Settings {
@@ -166,22 +158,38 @@ fn settings(rt: &impl Abort) -> Settings {
 }
 
 #[test]
-fn starts_and_lookups_are_printed(rt: HostRuntime) -> Result<(), Fail> {
+fn roots_and_walks_are_printed(rt: HostRuntime) -> Result<(), Fail> {
     let (alloc, settings) = (rt.alloc(), settings(&rt));
     let object = name(&rt, &settings, "123");
-    let server = name(&rt, &settings, "230");
+    let root = name(&rt, &settings, "230");
     let path = names(&rt, alloc, &settings, &["000", "230", "233"])?;
     let roots = names(&rt, alloc, &settings, &["000", "230", "233", "301"])?;
     let rest = vec![in alloc;
-        Record::Step {
-            index: 1,
-            step: Step::Root { object }
-        },
-        Record::RootOf {
-            object,
-            root: server
-        },
+        step(1, Step::Root { object }),
+        Record::RootOf { object, root },
         Record::Walked { object, path },
+        Record::RootsOf {
+            object,
+            asker: root,
+            roots
+        },
+        Record::Spent { limit: 12 },
+        Record::Finished { steps: 1 },
+    ]?;
+    let brief = "rooted 123 at 230\n\
+        walked 123 from 000 path 000 230 233 root 233 hops 2\n\
+        rootset 123 from 230 roots 000 230 233 301\nspent 12\ndone 1\n";
+    let summary = "nodes 0\nframes 0\nhops 2\nanswered 0\n";
+    let texts = ["step 1 root 123\n", brief, summary];
+    check_records(&rt, alloc, &settings, rest, texts)
+}
+
+#[test]
+fn lookups_are_printed(rt: HostRuntime) -> Result<(), Fail> {
+    let (alloc, settings) = (rt.alloc(), settings(&rt));
+    let object = name(&rt, &settings, "123");
+    let server = name(&rt, &settings, "230");
+    let rest = vec![in alloc;
         Record::Published { object, server },
         Record::Withdrawn { object, server },
         Record::Asked {
@@ -197,27 +205,11 @@ fn starts_and_lookups_are_printed(rt: HostRuntime) -> Result<(), Fail> {
             ticket: 8,
             server: None
         },
-        Record::RootsOf {
-            object,
-            asker: server,
-            roots
-        },
-        Record::Spent { limit: 12 },
-        Record::Finished { steps: 1 },
     ]?;
-    let brief = "rooted 123 at 230\n\
-        walked 123 from 000 path 000 230 233 root 233 hops 2\n\
-        published 123 at 230\nwithdrawn 123 at 230\nasked 7 123 from 230\n\
-        answered 7 server 230\nanswered 8 none\n\
-        rootset 123 from 230 roots 000 230 233 301\nspent 12\ndone 1\n";
-    let summary = "nodes 0\nframes 0\nhops 2\nanswered 1\n";
-    check_records(
-        &rt,
-        alloc,
-        &settings,
-        rest,
-        ["step 1 root 123\n", brief, summary],
-    )
+    let brief = "published 123 at 230\nwithdrawn 123 at 230\nasked 7 123 from 230\n\
+        answered 7 server 230\nanswered 8 none\n";
+    let summary = "nodes 0\nframes 0\nhops 0\nanswered 1\n";
+    check_records(&rt, alloc, &settings, rest, ["", brief, summary])
 }
 
 // A link of each kind to this node, in one slot.
@@ -280,25 +272,27 @@ fn tables_and_frames_are_printed(rt: HostRuntime) -> Result<(), Fail> {
 }
 
 #[test]
-fn packets_and_casts_are_printed(rt: HostRuntime) -> Result<(), Fail> {
+fn packets_are_printed(rt: HostRuntime) -> Result<(), Fail> {
+    let (alloc, settings) = (rt.alloc(), settings(&rt));
+    let rest = vec![in alloc;
+        data(0, 5),
+        ack(1, 5),
+        arrived(0),
+        Record::Ticked,
+        Record::Lost { packet: 1 },
+        Record::Carrier,
+    ]?;
+    let detail = "packet 0 data 5\npacket 1 ack 5\narrived 0\nticked\nlost 1\n";
+    let summary = "nodes 0\nframes 0\nhops 0\nanswered 0\n";
+    check_records(&rt, alloc, &settings, rest, [detail, "carrier\n", summary])
+}
+
+#[test]
+fn casts_are_printed(rt: HostRuntime) -> Result<(), Fail> {
     let (alloc, settings) = (rt.alloc(), settings(&rt));
     let name = name(&rt, &settings, "123");
     let word = Bytes::copy_of(alloc, b"hello")?;
     let rest = vec![in alloc;
-        Record::Packet {
-            number: 0,
-            frame: 5,
-            ack: false
-        },
-        Record::Packet {
-            number: 1,
-            frame: 5,
-            ack: true
-        },
-        Record::Arrived { packet: 0 },
-        Record::Ticked,
-        Record::Lost { packet: 1 },
-        Record::Carrier,
         Record::CastFrom {
             cast: 1,
             word,
@@ -307,24 +301,10 @@ fn packets_and_casts_are_printed(rt: HostRuntime) -> Result<(), Fail> {
         },
         Record::Reached { cast: 1, name },
         Record::Closed { cast: 1 },
-        Record::Refused {
-            index: 3,
-            refusal: Refusal::Departing(name)
-        },
-        Record::Refused {
-            index: 4,
-            refusal: Refusal::NoSuchByte(10)
-        },
-        Record::Refused {
-            index: 5,
-            refusal: Refusal::NotInPrefix
-        },
     ]?;
-    let detail = "packet 0 data 5\npacket 1 ack 5\narrived 0\nticked\nlost 1\n";
-    let brief = "carrier\ncast 1 hello level 0 from 123\nreached 1 123\nclosed 1\n\
-        refused 3 3 departing 123\nrefused 4 11 no such byte 10\nrefused 5 16 not in prefix\n";
+    let brief = "cast 1 hello level 0 from 123\nreached 1 123\nclosed 1\n";
     let summary = "nodes 0\nframes 0\nhops 0\nanswered 0\n";
-    check_records(&rt, alloc, &settings, rest, [detail, brief, summary])
+    check_records(&rt, alloc, &settings, rest, ["", brief, summary])
 }
 
 // A frame of one join, by its number.
@@ -363,31 +343,31 @@ fn table(alloc: Global, name: Name, digit: u8, target: Name) -> Result<Record, F
 
 // The records of one join behind the beginning, up to the last frame.
 fn join(alloc: Global, old: Name, new: Name) -> Result<Vec<Record>, Fail> {
-    let step = Step::Join {
-        name: new,
-        via: old,
-    };
-    let mut records = vec![in alloc; Record::Step { index: 1, step }, sent(alloc, 0)?]?;
-    records.push(Record::Step {
-        index: 2,
-        step: Step::Settle,
-    })?;
-    records.push(Record::Taken { number: 0 })?;
+    let begun = step(
+        1,
+        Step::Join {
+            name: new,
+            via: old,
+        },
+    );
+    let mut records = vec![in alloc; begun, sent(alloc, 0)?]?;
+    records.push(step(2, Step::Settle))?;
+    records.push(taken(0))?;
     records.push(sent(alloc, 1)?)?;
     records.push(sent(alloc, 2)?)?;
-    records.push(Record::Taken { number: 1 })?;
-    records.push(Record::Taken { number: 2 })?;
+    records.push(taken(1))?;
+    records.push(taken(2))?;
     records.push(sent(alloc, 3)?)?;
     records.push(sent(alloc, 4)?)?;
-    records.push(Record::Taken { number: 3 })?;
+    records.push(taken(3))?;
     records.push(sent(alloc, 5)?)?;
-    records.push(Record::Taken { number: 4 })?;
+    records.push(taken(4))?;
     records.push(sent(alloc, 6)?)?;
-    records.push(Record::Taken { number: 5 })?;
-    records.push(Record::Taken { number: 6 })?;
+    records.push(taken(5))?;
+    records.push(taken(6))?;
     records.push(Record::Core { name: new })?;
     records.push(sent(alloc, 7)?)?;
-    records.push(Record::Taken { number: 7 })?;
+    records.push(taken(7))?;
     Ok(records)
 }
 
@@ -398,15 +378,9 @@ fn one_join_is_printed(rt: HostRuntime) -> Result<(), Fail> {
     let old = name(&rt, &settings, "00");
     let new = name(&rt, &settings, "01");
     let mut rest = join(alloc, old, new)?;
-    rest.push(Record::Step {
-        index: 3,
-        step: Step::Table { name: old },
-    })?;
+    rest.push(step(3, Step::Table { name: old }))?;
     rest.push(table(alloc, old, 1, new)?)?;
-    rest.push(Record::Step {
-        index: 4,
-        step: Step::Table { name: new },
-    })?;
+    rest.push(step(4, Step::Table { name: new }))?;
     rest.push(table(alloc, new, 0, old)?)?;
     rest.push(Record::Finished { steps: 4 })?;
     let log = log_of(&rt, alloc, &settings, &["00"], rest)?;
@@ -422,11 +396,9 @@ fn one_join_is_printed(rt: HostRuntime) -> Result<(), Fail> {
         sent 7 release 01 00 0107000000010000\ntaken 7\n\
         step 3 table 00\ntable 00 core links 1\nlink 1 1 01 settled\n\
         step 4 table 01\ntable 01 core links 1\nlink 1 0 00 settled\ndone 4\n";
-    check_text(&rt, alloc, Mode::Long, &log, &[], Written::All, long)?;
     let brief = "begin base 2 digits 2 width 1 frames 200000\ncore 01\n\
         table 00 core links 1\nlink 1 1 01 settled\n\
         table 01 core links 1\nlink 1 0 00 settled\ndone 4\n";
-    check_text(&rt, alloc, Mode::Brief, &log, &[], Written::All, brief)?;
     check_text(
         &rt,
         alloc,
@@ -437,7 +409,7 @@ fn one_join_is_printed(rt: HostRuntime) -> Result<(), Fail> {
         "begin base",
     )?;
     let summary = "nodes 2\nframes 8\nhops 0\nanswered 0\n";
-    check_text(&rt, alloc, Mode::Summary, &log, &[], Written::All, summary)
+    check_modes(&rt, alloc, &log, [long, brief, summary])
 }
 
 fn step(index: u32, step: Step) -> Record {
@@ -599,13 +571,11 @@ fn a_carried_join_is_printed(rt: HostRuntime) -> Result<(), Fail> {
         sent 7 release 01 00 0107000000010000\npacket 16 data 7\npacket 17 ack 1\narrived 16\ntaken 7\n\
         packet 18 ack 7\narrived 17\narrived 18\nstep 7 table 00\ntable 00 core links 1\n\
         link 1 1 01 settled\ndone 7\n";
-    check_text(&rt, alloc, Mode::Long, &log, &[], Written::All, long)?;
     let brief =
         "begin base 2 digits 2 width 1 frames 200000\ncarrier\ncore 01\ntable 00 core links 1\n\
         link 1 1 01 settled\ndone 7\n";
-    check_text(&rt, alloc, Mode::Brief, &log, &[], Written::All, brief)?;
     let summary = "nodes 2\nframes 8\nhops 0\nanswered 0\n";
-    check_text(&rt, alloc, Mode::Summary, &log, &[], Written::All, summary)
+    check_modes(&rt, alloc, &log, [long, brief, summary])
 }
 
 #[test]
@@ -751,9 +721,11 @@ fn steps_are_printed_as_they_are_read(rt: HostRuntime) -> Result<(), Fail> {
 #[test]
 fn refusals_are_printed(rt: HostRuntime) -> Result<(), Fail> {
     let (alloc, settings) = (rt.alloc(), settings(&rt));
-    let rows: [(Refusal, &str); 13] = [
+    let leaver = name(&rt, &settings, "123");
+    let rows: [(Refusal, &str); 16] = [
         (Refusal::NoSuchNode, "1 no such node"),
         (Refusal::NotCore, "2 not core"),
+        (Refusal::Departing(leaver), "3 departing 123"),
         (Refusal::NotAtRest(7), "4 not at rest 7"),
         (Refusal::NameTaken, "5 name taken"),
         (Refusal::TooManyNodes, "6 too many nodes"),
@@ -761,6 +733,7 @@ fn refusals_are_printed(rt: HostRuntime) -> Result<(), Fail> {
         (Refusal::AlreadyPublished, "8 already published"),
         (Refusal::NotPublished, "9 not published"),
         (Refusal::NoSuchFlight(0), "10 no such flight 0"),
+        (Refusal::NoSuchByte(10), "11 no such byte 10"),
         (Refusal::Readable, "12 readable"),
         (Refusal::NotJoining, "13 not joining"),
         (Refusal::AlreadyAbandoned, "14 already abandoned"),
@@ -768,6 +741,7 @@ fn refusals_are_printed(rt: HostRuntime) -> Result<(), Fail> {
             Refusal::TooManyPackets(100_000),
             "15 too many packets 100000",
         ),
+        (Refusal::NotInPrefix, "16 not in prefix"),
     ];
     for (refusal, words) in rows {
         let line = format!(in alloc; "refused 2 {words}")?;
@@ -842,49 +816,30 @@ fn frame_of_kind(code: u8) -> &'static [u8] {
 #[test]
 fn frames_of_each_kind_are_printed(rt: HostRuntime) -> Result<(), Fail> {
     let (alloc, settings) = (rt.alloc(), settings(&rt));
-    let rows: [(u8, &str); 17] = [
-        (1, "sent 8 seek 123 301 01010003010203030001010203"),
-        (
-            2,
-            "sent 8 tell 123 301 0102000b0102030300010102030001000000010001",
-        ),
-        (3, "sent 8 hello 123 301 010300050102030300010000000101"),
-        (4, "sent 8 heard 123 301 0104000401020303000100000001"),
-        (5, "sent 8 ack 123 301 0105000401020303000100000001"),
-        (6, "sent 8 done 123 301 01060000010203030001"),
-        (7, "sent 8 release 123 301 01070000010203030001"),
-        (8, "sent 8 link 123 301 010800050102030300010000000201"),
-        (
-            9,
-            "sent 8 lay 123 301 0109000c010203030001020202030001010000000101",
-        ),
-        (
-            10,
-            "sent 8 find 123 301 010a000b0102030300010000000702020201020301",
-        ),
-        (
-            11,
-            "sent 8 answer 123 301 010b00080102030300010000000701030001",
-        ),
-        (12, "sent 8 leave 123 301 010c000401020303000101020202"),
-        (13, "sent 8 left 123 301 010d0000010203030001"),
-        (14, "sent 8 gone 123 301 010e0000010203030001"),
-        (15, "sent 8 forget 123 301 010f0000010203030001"),
-        (
-            16,
-            "sent 8 cast 123 301 0110000d01020303000100000001010000000100016869",
-        ),
-        (17, "sent 8 castack 123 301 0111000401020303000100000001"),
+    let rows: [(u8, &str, &str); 17] = [
+        (1, "seek", "01010003010203030001010203"),
+        (2, "tell", "0102000b0102030300010102030001000000010001"),
+        (3, "hello", "010300050102030300010000000101"),
+        (4, "heard", "0104000401020303000100000001"),
+        (5, "ack", "0105000401020303000100000001"),
+        (6, "done", "01060000010203030001"),
+        (7, "release", "01070000010203030001"),
+        (8, "link", "010800050102030300010000000201"),
+        (9, "lay", "0109000c010203030001020202030001010000000101"),
+        (10, "find", "010a000b0102030300010000000702020201020301"),
+        (11, "answer", "010b00080102030300010000000701030001"),
+        (12, "leave", "010c000401020303000101020202"),
+        (13, "left", "010d0000010203030001"),
+        (14, "gone", "010e0000010203030001"),
+        (15, "forget", "010f0000010203030001"),
+        (16, "cast", "0110000d01020303000100000001010000000100016869"),
+        (17, "castack", "0111000401020303000100000001"),
     ];
-    for (code, line) in rows {
+    for (code, word, hex) in rows {
         let bytes = Bytes::copy_of(alloc, frame_of_kind(code))?;
-        check_line(
-            &rt,
-            alloc,
-            &settings,
-            Record::Sent { number: 8, bytes },
-            line,
-        )?;
+        let line = format!(in alloc; "sent 8 {word} 123 301 {hex}")?;
+        let item = Record::Sent { number: 8, bytes };
+        check_line(&rt, alloc, &settings, item, line.as_str())?;
     }
     Ok(())
 }
