@@ -1,6 +1,6 @@
 -- A log that is printed piece by piece while it grows: the next record at a place, and what is reported so far.
 use Rattle.std.proofs.Common.{◌≡◌, ◌<◌, ◌≤◌, ℕ, ◌+◌, List, [], ◌∷◌, ◌++◌, length, take, get_or, Option, None, Some, ap, sym, subst, ◌∙◌, arith}
-use Rattle.std.specs.Prelude.{fold, slice_get}
+use Rattle.std.specs.Prelude.{slice_get}
 use Rattle.std.proofs.lemmas.List.{take_all, take-append-le}
 use Rattle.std.proofs.lemmas.Option.{get_or_from_slice_get}
 use Rattle.tap_name.specs.Settings.{Parameters}
