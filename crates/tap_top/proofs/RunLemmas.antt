@@ -293,27 +293,6 @@ whole_run s nodes log last script rest run is =
       IsPrintableLog-push log end (omega (arith, run.size)) (λ h. cc) tt run.printable,
     )
 
--- the item at a place
-pub item_at : (log : List Record) (place : ℕ) (item : Record) → slice_get log place ≡ Some item → item ≡ get_or log place item
-item_at log place item is = sym (get_or_from_slice_get log place item item is)
-
-pub printable_at : (log : List Record) (place : ℕ) (item : Record) (settings : Option Parameters) → place < length log → slice_get log place ≡ Some item
-    → settings ≡ fold settings_after None (take place log) → ArePrintable None log → IsPrintable settings item
-printable_at log place item settings within is kept all =
-    let P : Option Parameters → Type 0 = λ s. IsPrintable s item in subst P (sym kept) (ArePrintable-at None log place item all within (item_at log place item is))
-
--- the settings that are kept after one record more
-pub settings_next : (log : List Record) (place : ℕ) (item : Record) (settings : Option Parameters) → place < length log → slice_get log place ≡ Some item
-    → settings ≡ fold settings_after None (take place log) → settings_after settings item ≡ fold settings_after None (take (place + 1) log)
-settings_next log place item settings within is kept =
-    let same = take_more log place item within ∙ ap (λ x. take place log ++ x ∷ []) (get_or_from_slice_get log place item item is) in
-    ap (λ s. settings_after s item) kept ∙ sym (fold-append settings_after None (take place log) (item ∷ [])) ∙ sym (ap (fold settings_after None) same)
-
-pub reports_all : (mode : Mode) (log : List Record) (place : ℕ) (old new : Option (List ℕ)) (before now : ℕ) (kept : Kept) → length log ≤ place
-    → Reports mode (take place log) old new before now kept → Reports mode log old new before now kept
-reports_all mode log place old new before now kept past reports =
-    let P : List Record → Type 0 = λ l. Reports mode l old new before now kept in subst P (take_all place log past) reports
-
 -- the log after a group
 pub same_run : (s : Script) (nodes : Nodes) (log mid new old : List Record) (step answer : Record) (count : ℕ) → log ≡ old → mid ≡ log ++ step ∷ [] → new ≡ mid ++ answer ∷ []
     → HasRun s nodes ((old ++ step ∷ []) ++ answer ∷ []) count → HasRun s nodes new count
@@ -331,21 +310,6 @@ pub begun_run : (s : Script) (nodes : Nodes) (old log : List Record) (first : Re
 begun_run s nodes old log first empty is begin =
     let P : List Record → Type 0 = λ l. HasRun s nodes l 0 in
     subst P (sym (is ∙ ap (λ l. l ++ first ∷ []) empty)) (has_begun s nodes first begin)
-
-pub reports_fresh : (held : Option (List ℕ)) (faults : ℕ) (kept : Kept) → kept ≡ kept_at_first kept.mode → Reports kept.mode [] held held faults faults kept
-reports_fresh held faults kept fresh =
-    let P : Kept → Type 0 = λ k. Reports kept.mode [] held held faults faults k in subst P (sym fresh) (Reports-new kept.mode held faults)
-
--- the reports of the records so far, where more have come behind them
-pub reports_front : (mode : Mode) (log new : List Record) (from : ℕ) (old now_held : Option (List ℕ)) (before now : ℕ) (kept : Kept) → from ≡ length log
-    → take (length log) new ≡ log → Reports mode log old now_held before now kept → Reports mode (take from new) old now_held before now kept
-reports_front mode log new from old now_held before now kept is front reports =
-    let P : List Record → Type 0 = λ l. Reports mode l old now_held before now kept in
-    subst P (sym (ap (λ n. take n new) is ∙ front)) reports
-
-pub front_of_push : (log new : List Record) (item : Record) → new ≡ log ++ item ∷ [] → take (length log) new ≡ log
-front_of_push log new item is =
-    ap (take (length log)) is ∙ take-append-le (length log) log (item ∷ []) (omega arith) ∙ take_all (length log) log (omega arith)
 
 pub nodes_at_rest : (p q : Parameters) (names others : List (List ℕ)) (m : Members) → p ≡ q → names ≡ others → AreKeptAtRest p names m → AreMembersAtRest q others (nodes_of m)
 nodes_at_rest p q names others m same_settings same_names rest =

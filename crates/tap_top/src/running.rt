@@ -13,7 +13,7 @@ use std::alloc::Global;
 use tap_io::Sink;
 use tap_log::{Log, Record};
 use tap_name::List;
-use tap_report::Reporter;
+use tap_report::{MOST_RECORDS, Reporter};
 use tap_scenario::Scenario;
 
 // Adds the group of the step at a place: the step, and the record that answers it. A refused call adds nothing.
@@ -54,7 +54,7 @@ fn begin(alloc: Global, scenario: &Scenario) -> Result<Record, NoMemory>
 // Puts the records from a place on.
 fn put_from<K: Sink>(log: &Log, from: usize, reporter: &mut Reporter, sink: &mut K)
     requires printable { IsPrintableLog log.now.records }
-    requires few { length log.now.records < 4000000000 }
+    requires few { length log.now.records < MOST_RECORDS }
     requires from { from ≤ length log.now.records }
     requires put { reporter.old.records ≡ from }
     requires settings { reporter.old.settings ≡ fold settings_after None (take from log.now.records) }

@@ -4,7 +4,8 @@ use Rattle.tap_log.specs.declared.record.Record.{Record}
 use Rattle.tap_log.specs.declared.record.Record.TheVariants.{Finished}
 use Rattle.tap_top.specs.AtRest.{nodes_of}
 use Rattle.tap_top.specs.Headline.{IsLogOf}
-use Rattle.tap_top.proofs.RunLemmas.{begun_run, finished_run, front_of_push, log_kept, on_err, reports_fresh, reports_front, nodes_at_rest}
+use Rattle.tap_report.proofs.PiecewiseLemmas.{Reports-fresh, Reports-front, front-push}
+use Rattle.tap_top.proofs.RunLemmas.{begun_run, finished_run, log_kept, on_err, nodes_at_rest}
 use Rattle.tap_top.proofs.running.run_scenario.Goals as goal
 
 pub loop-place-init : goal.loop-place-init
@@ -12,7 +13,7 @@ loop-place-init g c = record {
   run = begun_run c.args.scenario.now (nodes_of c.in_ok-members.members) c.args.log.now.records c.push.new.self.records c.in_ok-first.first c.requires.empty
       c.in_ok-push.ensures.ok c.in_ok-first.ensures;
   reports = c.put_from.ensures c.args.reporter.now.mode (g.K.Sink.held c.args.sink.now) (g.K.Sink.faults c.args.sink.now)
-      (reports_fresh (g.K.Sink.held c.args.sink.now) (g.K.Sink.faults c.args.sink.now) c.args.reporter.now c.requires.fresh);
+      (Reports-fresh (g.K.Sink.held c.args.sink.now) (g.K.Sink.faults c.args.sink.now) c.args.reporter.now c.requires.fresh);
 }
 
 pub returns-in_err-add_group-clause-part : goal.returns-in_err-add_group-clause-part
@@ -29,7 +30,7 @@ pub loop-place-preserved : goal.loop-place-preserved
 loop-place-preserved g c = record {
   run = c.in_ok-add_group.ensures.ok;
   reports = c.put_from-in-loop-place.ensures c.args.reporter.now.mode (g.K.Sink.held c.args.sink.now) (g.K.Sink.faults c.args.sink.now)
-      (reports_front c.args.reporter.now.mode c.loop-place.log.records c.add_group.new.log.records c.len-from.result (g.K.Sink.held c.args.sink.now) (g.K.Sink.held c.loop-place.sink)
+      (Reports-front c.args.reporter.now.mode c.loop-place.log.records c.add_group.new.log.records c.len-from.result (g.K.Sink.held c.args.sink.now) (g.K.Sink.held c.loop-place.sink)
       (g.K.Sink.faults c.args.sink.now) (g.K.Sink.faults c.loop-place.sink) c.loop-place.reporter c.len-from.ensures c.in_ok-add_group.ensures.grows c.loop-place.invariant.reports);
 }
 
@@ -68,6 +69,6 @@ returns-clause-printable g c =
 pub returns-clause-reports : goal.returns-clause-reports
 returns-clause-reports g c =
     c.put_from-2.ensures c.args.reporter.now.mode (g.K.Sink.held c.args.sink.now) (g.K.Sink.faults c.args.sink.now)
-    (reports_front c.args.reporter.now.mode c.loop-place.log.records c.push-2.new.self.records c.len-from-2.result (g.K.Sink.held c.args.sink.now) (g.K.Sink.held c.loop-place.sink)
+    (Reports-front c.args.reporter.now.mode c.loop-place.log.records c.push-2.new.self.records c.len-from-2.result (g.K.Sink.held c.args.sink.now) (g.K.Sink.held c.loop-place.sink)
     (g.K.Sink.faults c.args.sink.now) (g.K.Sink.faults c.loop-place.sink) c.loop-place.reporter c.len-from-2.ensures
-    (front_of_push c.loop-place.log.records c.push-2.new.self.records (Finished c.step_count-count.result) c.in_ok-push-2.ensures.ok) c.loop-place.invariant.reports)
+    (front-push c.loop-place.log.records c.push-2.new.self.records (Finished c.step_count-count.result) c.in_ok-push-2.ensures.ok) c.loop-place.invariant.reports)
