@@ -19,7 +19,6 @@ use Rattle.tap_name.proofs.Slots.{shares_what_fits}
 use Rattle.tap_table.specs.Members.{AreLeastFitting, IsTableAtRest, first_fitting, fitting, is_slot, settled_links, table_at_rest}
 use Rattle.tap_table.specs.Table.{SlotLinks, Slots, slot_number, slot_numbered}
 use Rattle.tap_table.proofs.Least.{first_fitting_law_holds, is_slot-to}
-pub use Rattle.tap_table.proofs.Least.{ties_law_holds}
 use Rattle.tap_table.proofs.Slots.{number_back, number_inside}
 use Rattle.tap_surrogate.specs.Nodes.{Nodes, core_links, links_in}
 use Rattle.tap_surrogate.specs.Members.{AreMembersAtRest}

@@ -3,8 +3,7 @@ use Rattle.std.specs.Prelude.{◌≡◌, ◌↔◌, ℕ, List, IsSomeAnd}
 use Rattle.tap_name.specs.declared.slot.Slot.{Slot}
 use Rattle.tap_name.specs.Settings.{Parameters}
 use Rattle.tap_name.specs.Root.{Among}
-use Rattle.tap_table.specs.Members.{AreLeastFitting, settled_links}
-pub use Rattle.tap_table.specs.Members.{IsTableAtRest}
+use Rattle.tap_table.specs.Members.{AreLeastFitting, IsTableAtRest, settled_links}
 use Rattle.tap_surrogate.specs.Tables.{Tables}
 use Rattle.tap_surrogate.specs.Nodes.{Nodes, IsCore, core_links, links_in}
 

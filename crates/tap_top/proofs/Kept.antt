@@ -10,10 +10,9 @@ use Rattle.std.proofs.lemmas.Slice.Eq.{bytes_eq-Decides}
 use Rattle.std.proofs.lemmas.Map.Text.{is_eq-slice_cmp}
 use Rattle.tap_name.specs.Settings.{Parameters}
 use Rattle.tap_name.specs.Root.{Among}
-use Rattle.tap_table.specs.Members.{AreAtRest}
+use Rattle.tap_table.specs.Members.{AreAtRest, IsTableAtRest}
 use Rattle.tap_table.specs.Ties.{BothWays}
 use Rattle.tap_surrogate.specs.Nodes.{IsTableOf}
-use Rattle.tap_surrogate.specs.Members.{IsTableAtRest}
 use Rattle.tap_top.specs.Members.{AreTiesOf, HaveOwnTables, IsKept}
 
 among_front : (name : List ℕ) (names : List (List ℕ)) (last : List ℕ) → Among name names → Among name (names ++ last ∷ [])

@@ -27,7 +27,8 @@ use Rattle.tap_report.specs.Text.{ArePrintable, IsBegin, IsPrintable, IsPrintabl
 use Rattle.tap_report.proofs.TextLemmas.{ArePrintable-at, settings_of-push}
 use Rattle.tap_report.proofs.ReportsLemmas.{IsPrintableLog-first, IsPrintableLog-push, Reports-new}
 use Rattle.tap_surrogate.specs.Nodes.{Nodes, core_links}
-use Rattle.tap_surrogate.specs.Members.{AreMembersAtRest, IsTableAtRest}
+use Rattle.tap_table.specs.Members.{IsTableAtRest}
+use Rattle.tap_surrogate.specs.Members.{AreMembersAtRest}
 use Rattle.tap_surrogate.specs.HoleFree.{IsHoleFree}
 use Rattle.tap_surrogate.specs.Walk.{walk}
 use Rattle.tap_table.specs.Table.{Slots}

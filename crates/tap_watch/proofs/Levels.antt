@@ -6,7 +6,7 @@ use Rattle.std.proofs.lemmas.List.{get_or_append_left, get_or-append_right, get_
 use Rattle.std.proofs.lemmas.List.Elements.{Contains-append_left, Contains-append_right, Contains-append_cases}
 use Rattle.tap_name.specs.declared.slot.Slot.{Slot}
 use Rattle.tap_watch.specs.Watch.{Precedes, IsAscending}
-use Rattle.tap_watch.proofs.Order.{same_parts}
+use Rattle.tap_name.proofs.Slots.{same_slot}
 use Rattle.tap_watch.specs.Level.{level_slots, levels_slots}
 
 -- two ascending lists, the first before the second
@@ -75,7 +75,7 @@ to_level level own (suc bound) s h =
       | inr another ↦ rw another
           (elim (cases_lt s.digit bound) [
             | inl low ↦ Contains-append_left (level_slots level own bound) (x ∷ []) s (to_level level own bound s (record { level = h.level; digit = low; other = h.other }))
-            | inr top ↦ Contains-append_right (level_slots level own bound) (x ∷ []) s (single x s (sym (same_parts s x h.level (omega (arith, h.digit)))))
+            | inr top ↦ Contains-append_right (level_slots level own bound) (x ∷ []) s (single x s (sym (same_slot s x h.level (omega (arith, h.digit)))))
           ])
     ]
 

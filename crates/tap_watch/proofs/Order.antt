@@ -9,7 +9,7 @@ use Rattle.std.proofs.lemmas.Bool.{cases_lt, cases_Bool}
 use Rattle.std.proofs.lemmas.Option.{get_or_from_slice_get, slice_get_past}
 use Rattle.std.proofs.lemmas.Bool.Decides.{nat_tests}
 use Rattle.tap_name.specs.declared.slot.Slot.{Slot}
-pub use Rattle.tap_name.proofs.Slots.{same_slot as same_parts}
+use Rattle.tap_name.proofs.Slots.{same_slot}
 use Rattle.tap_watch.specs.Watch.{Precedes, IsAscending, is_other, without}
 
 -- how slots compare
@@ -60,7 +60,7 @@ without_absent (s ∷ xs) x none =
     let rest = without_absent xs x (λ (k, lt, e). none (suc k, omega arith, e)) in
     elim (cases_Bool (is_other x s)) [
       | inl other ↦ rw other (ap (λ (ys : List Slot). s ∷ ys) rest)
-      | inr same ↦ let parts = tests_agree s x same in absurd (none (0, omega arith, same_parts s x parts.0 parts.1))
+      | inr same ↦ let parts = tests_agree s x same in absurd (none (0, omega arith, same_slot s x parts.0 parts.1))
     ]
 
 tail_ascends : (s : Slot) (xs : List Slot) → IsAscending (s ∷ xs) → IsAscending xs
