@@ -1,20 +1,19 @@
 -- What is known of departures is what the log's own definitions say.
-use Rattle.std.proofs.Common.{◌≡◌, ◌≢◌, ℕ, ◌+◌, Bool, true, false, List, [], ◌∷◌, ◌++◌, length, Option, None, Some, refl, ap, sym, ◌∙◌, append_assoc, append-nil, arith}
+use Rattle.std.proofs.Common.{◌≡◌, ℕ, ◌+◌, Bool, true, false, List, [], ◌∷◌, ◌++◌, length, Option, None, Some, refl, ap, sym, ◌∙◌, append_assoc, append-nil, arith}
 use Rattle.std.specs.Prelude.{fold, cond, if◌then◌else◌}
 use Rattle.std.specs.Option.{option_or}
-use Rattle.std.specs.List.{filter_map, cons_option, last_or}
+use Rattle.std.specs.List.{filter_map, last_or}
 use Rattle.std.proofs.lemmas.List.Elements.{filter_map-append}
 use Rattle.tap_log.specs.declared.record.Record.{Record}
 use Rattle.tap_log.specs.declared.record.Record.TheVariants as rec
-use Rattle.tap_log.specs.Kinds.{accepts, begins_group, depart_name, is_carried, members_in, step_of}
-use Rattle.tap_log.specs.Core.{accepted_in, accepted_step, accepted_steps, departures_of, members_of}
+use Rattle.tap_log.specs.Kinds.{accepts, depart_name, is_carried, members_in, step_of}
+use Rattle.tap_log.specs.Core.{accepted_step, accepted_steps, departures_of, members_of}
 use Rattle.tap_log.specs.Laws.{accepted_behind, at_most_one}
 use Rattle.tap_log.specs.Moments.{last_of}
 use Rattle.tap_log.proofs.Growing.{accepted_steps-push, last_of-push}
-use Rattle.tap_report.specs.Summary.{departed_behind, is_departed, is_gone, last_departure}
+use Rattle.tap_report.specs.Summary.{departed_behind, is_departed, last_departure}
 use Rattle.tap_report.specs.Tally.{accepted_after, asked_by, asked_last, departures_after, departures_known, members_after, opening_after, opening_of, opens_carried}
-use Rattle.tap_report.specs.declared.opening.Opening.{Opening}
-use Rattle.tap_report.specs.declared.opening.Opening.TheVariants.{Nothing, Begun, Carried, Plain}
+use Rattle.tap_report.specs.declared.opening.Opening.TheVariants.{Carried, Plain}
 
 -- ---- the opening
 

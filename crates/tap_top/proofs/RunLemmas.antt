@@ -1,12 +1,10 @@
 -- a run goes on by one group
 use Rattle.std.proofs.Common.{◌≡◌, inl, inr, false, ℕ, ◌+◌, ◌<◌, ◌≤◌, zero, suc, List, [], ◌∷◌, ◌++◌, length, take, get_or, Option, None, Some, true, IsTrue, All, refl, ap, sym, subst, ◌∙◌, arith, append_assoc, append-nil, length-append}
-use Rattle.std.specs.Prelude.{IsSomeAnd, fold, slice_get, OnErr, Result, Ok, Err}
-use Rattle.std.proofs.lemmas.List.Sums.{fold-append}
-use Rattle.tap_report.specs.Reporter.{Kept, Reports, kept_at_first, settings_after}
-use Rattle.tap_report.specs.declared.mode.Mode.{Mode}
+use Rattle.std.specs.Prelude.{IsSomeAnd, slice_get, OnErr, Result, Ok, Err}
+use Rattle.tap_report.specs.Reporter.{settings_after}
 use Rattle.std.specs.List.{cons_option}
 use Rattle.std.proofs.lemmas.Option.{get_or_from_slice_get}
-use Rattle.std.proofs.lemmas.List.{take_more, length-take, take_all, take-append-le}
+use Rattle.std.proofs.lemmas.List.{take_more, length-take, take_all}
 use Rattle.std.proofs.lemmas.List.Elements.{All-get_or}
 use Rattle.tap_name.specs.Settings.{Parameters}
 use Rattle.tap_name.specs.Name.{IsName}
@@ -23,9 +21,9 @@ use Rattle.tap_log.specs.Core.{core_of}
 use Rattle.tap_log.proofs.Instants.{moment-begun, moment-within}
 use Rattle.tap_log.specs.Moments.{EachFrom, EachRecord, is_moment, last_of, step_of, steps_of}
 use Rattle.tap_log.proofs.Growing.{EachRecord-push, core_of-begin, core_of-left, last_of-push, leaves_nodes, steps_of-push}
-use Rattle.tap_report.specs.Text.{ArePrintable, IsBegin, IsPrintable, IsPrintableLog, settings_of}
-use Rattle.tap_report.proofs.TextLemmas.{ArePrintable-at, settings_of-push}
-use Rattle.tap_report.proofs.ReportsLemmas.{IsPrintableLog-first, IsPrintableLog-push, Reports-new}
+use Rattle.tap_report.specs.Text.{IsBegin, IsPrintable, IsPrintableLog, settings_of}
+use Rattle.tap_report.proofs.TextLemmas.{settings_of-push}
+use Rattle.tap_report.proofs.ReportsLemmas.{IsPrintableLog-first, IsPrintableLog-push}
 use Rattle.tap_surrogate.specs.Nodes.{Nodes, core_links}
 use Rattle.tap_table.specs.Members.{IsTableAtRest}
 use Rattle.tap_surrogate.specs.Members.{AreMembersAtRest}
