@@ -1,6 +1,6 @@
 use Rattle.std.proofs.Common.{◌≡◌, ◌<◌, length, Some}
 use Rattle.tap_report.specs.Text.{IsPrintableLog, settings_of}
-use Rattle.tap_report.proofs.tests.log_of.Given as goal
+use Rattle.tap_report.proofs.checks.log_of.Given as goal
 
 abbrev pub invariant-loop-item : goal.invariant-loop-item
 invariant-loop-item g l = record {

@@ -2,7 +2,7 @@ use Rattle.std.proofs.Common.{arith, length-append, ◌∷◌, [], ◌∙◌}
 use Rattle.tap_report.specs.Text.{settings_of}
 use Rattle.tap_report.proofs.ReportsLemmas.{IsPrintableLog-push}
 use Rattle.tap_report.proofs.TextLemmas.{same_settings, settings_of-push}
-use Rattle.tap_report.proofs.tests.log_of.Goals as goal
+use Rattle.tap_report.proofs.checks.log_of.Goals as goal
 
 pub loop-item-preserved : goal.loop-item-preserved
 loop-item-preserved g c =

@@ -1,6 +1,6 @@
 use Rattle.std.proofs.Common.{take}
 use Rattle.tap_report.specs.Reporter.{Reports}
-use Rattle.tap_report.proofs.tests.put_each.Given as goal
+use Rattle.tap_report.proofs.checks.put_each.Given as goal
 
 abbrev pub invariant-loop-item : goal.invariant-loop-item
 invariant-loop-item g l =

@@ -3,7 +3,7 @@ use Rattle.std.proofs.lemmas.List.{take_all}
 use Rattle.tap_report.specs.Text.{ArePrintable, BeginsOnce}
 use Rattle.tap_report.proofs.ReportsLemmas.{Reports-next, Reports-finish, begins_next}
 use Rattle.tap_report.proofs.TextLemmas.{ArePrintable-at}
-use Rattle.tap_report.proofs.tests.put_each.Goals as goal
+use Rattle.tap_report.proofs.checks.put_each.Goals as goal
 
 pub put-requires-clause-begins : goal.put-requires-clause-begins
 put-requires-clause-begins g c =
