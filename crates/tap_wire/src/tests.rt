@@ -1,5 +1,6 @@
 use crate::{Body, Bytes, Frame, HeadFault, WireFault, decode, decode_head, encode};
 use std::alloc::{AllocError, Global};
+use std::process::Abort;
 use std::test::Fail;
 use tap_name::{Settings, read_name};
 
@@ -325,30 +326,43 @@ fn frame_of(alloc: Global, settings: &Settings, kind: u8) -> Result<Vec<u8>, Fai
     Ok(frame)
 }
 
+// Reads a frame of a kind, and spells it again.
+fn check_frame(
+    rt: &impl Abort,
+    alloc: Global,
+    settings: &Settings,
+    kind: u8,
+    bytes: &[u8],
+) -> Result<(), Fail> {
+    let head = decode_head(settings, bytes).map_err(|_| "a head")?;
+    assert_eq!(rt; head.kind, kind);
+    let frame = decode(alloc, settings, bytes).map_err(|_| "a frame")?;
+    assert!(rt; frame.from == head.from && frame.to == head.to);
+    let again = encode(alloc, settings, &frame).map_err(|_| "memory")?;
+    assert_eq!(rt; again.as_slice(), bytes);
+    Ok(())
+}
+
+// Each beginning of a frame is too short, by the bytes that its head lacks or else the whole frame.
+fn check_beginnings(rt: &impl Abort, alloc: Global, settings: &Settings, bytes: &[u8]) {
+    let least = if settings.digits() > 8 { 5 } else { 4 };
+    for end in 0..bytes.len() {
+        let whole = if end < least { least } else { bytes.len() };
+        assert_eq!(rt;
+            fault_of(alloc, settings, &bytes[..end]),
+            Some(WireFault::Short(whole - end))
+        );
+    }
+}
+
 #[test]
 fn reads_and_spells_each_kind(rt: HostRuntime) -> Result<(), Fail> {
     for digits in [2, 9] {
         let settings = Settings::new(2, digits, 1).ok_or("settings")?;
         for kind in 1..18 {
             let bytes = frame_of(rt.alloc(), &settings, kind)?;
-            let head = decode_head(&settings, &bytes).map_err(|_| "a head")?;
-            assert_eq!(rt; head.kind, kind);
-            let frame = decode(rt.alloc(), &settings, &bytes).map_err(|_| "a frame")?;
-            assert!(rt; frame.from == head.from && frame.to == head.to);
-            let again = encode(rt.alloc(), &settings, &frame).map_err(|_| "memory")?;
-            assert_eq!(rt; again.as_slice(), bytes.as_slice());
-            let least = if digits > 8 { 5 } else { 4 };
-            for end in 0..bytes.len() {
-                let missing = if end < least {
-                    least - end
-                } else {
-                    bytes.len() - end
-                };
-                assert_eq!(rt;
-                    fault_of(rt.alloc(), &settings, &bytes[..end]),
-                    Some(WireFault::Short(missing))
-                );
-            }
+            check_frame(&rt, rt.alloc(), &settings, kind, bytes.as_slice())?;
+            check_beginnings(&rt, rt.alloc(), &settings, bytes.as_slice());
         }
     }
     Ok(())
@@ -368,11 +382,7 @@ fn reads_the_frames_of_a_join(rt: HostRuntime) -> Result<(), Fail> {
         (7, &[1, 7, 0, 0, 0, 1, 0, 0]),
     ];
     for (kind, bytes) in frames.iter() {
-        let head = decode_head(&settings, bytes).map_err(|_| "a head")?;
-        assert_eq!(rt; head.kind, *kind);
-        let frame = decode(rt.alloc(), &settings, bytes).map_err(|_| "a frame")?;
-        let again = encode(rt.alloc(), &settings, &frame).map_err(|_| "memory")?;
-        assert_eq!(rt; again.as_slice(), *bytes);
+        check_frame(&rt, rt.alloc(), &settings, *kind, bytes)?;
     }
     Ok(())
 }
