@@ -300,6 +300,7 @@ one_more_record_holds =
     record {
       begins = begins_new;
       begins_carried = begins_carried;
+      carried = is_carried-push;
       steps = steps_of-push;
       accepted = accepted_steps-push;
       core = core_of-push;

@@ -1,5 +1,5 @@
 -- What one more record at the end of a log changes, and what one more group does.
-use Rattle.std.specs.Prelude.{◌≡◌, ℕ, ◌+◌, ◌<◌, ◌≤◌, All, Bool, false, true, if◌then◌else◌, List, [], ◌∷◌, ◌++◌, length, filter, fold, Option, None, Some}
+use Rattle.std.specs.Prelude.{◌≡◌, ◌≢◌, ℕ, ◌+◌, ◌<◌, ◌≤◌, All, Bool, false, true, if◌then◌else◌, List, [], ◌∷◌, ◌++◌, length, filter, fold, Option, None, Some}
 use Rattle.std.specs.List.{filter_map, cons_option, last_or}
 use Rattle.tap_name.specs.Settings.{Parameters}
 use Rattle.tap_scenario.specs.declared.step.Step.{Step}
@@ -38,6 +38,7 @@ pub record IsNew (members : List (List ℕ)) (log : List Record) : Type 0 where
 pub record OneMoreRecord : Type 0 where
   pub begins : (settings : Parameters) (frames : ℕ) (members : List (List ℕ)) → IsNew members (Begin settings frames members ∷ [])
   pub begins_carried : (settings : Parameters) (frames : ℕ) (members : List (List ℕ)) → IsNew members (Begin settings frames members ∷ Carrier ∷ [])
+  pub carried : (log : List Record) (item : Record) → item ≢ Carrier → is_carried (log ++ item ∷ []) ≡ is_carried log
   pub steps : (log : List Record) (item : Record) → steps_of (log ++ item ∷ []) ≡ steps_of log ++ at_most_one (step_of item)
   pub accepted : (log : List Record) (item : Record)
       → accepted_steps (log ++ item ∷ []) ≡ accepted_steps log ++ accepted_by log item

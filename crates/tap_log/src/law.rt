@@ -1,8 +1,8 @@
 ghost use Rattle.tap_log.specs.Laws.{OneMoreGroup, OneMoreRecord};
 
-/// What a log tells with its beginning alone; and after one more record the steps, those that were accepted, the nodes that
-/// are core, joined, abandoned or ceased, the frames that are outstanding, those that await their acknowledgement, the
-/// packets under way, the published pairs and the counts.
+/// What a log tells with its beginning alone; and after one more record whether it is carried, its steps, those that were
+/// accepted, the nodes that are core, joined, abandoned or ceased, the frames that are outstanding, those that await their
+/// acknowledgement, the packets under way, the published pairs and the counts.
 ///
 /// It does nothing: its contract is the law.
 ///
