@@ -3,6 +3,7 @@ use crate::checks::{
 };
 use crate::{Mode, Written};
 use std::alloc::Global;
+use std::process::Abort;
 use std::test::Fail;
 use tap_log::{Bytes, LinkLine, LinkWord, NodeWord, Pair, Record, Refusal};
 use tap_name::{List, Name, Settings, Slot};
@@ -199,6 +200,20 @@ fn steps_are_printed_as_they_are_read(rt: HostRuntime) -> Result<(), Fail> {
     Ok(())
 }
 
+// Prints the refusal of a step in each mode.
+fn check_refusal(
+    rt: &impl Abort,
+    alloc: Global,
+    settings: &Settings,
+    refusal: Refusal,
+    words: &str,
+) -> Result<(), Fail> {
+    let line = format!(in alloc; "refused 2 {words}\n")?;
+    let rest = vec![in alloc; Record::Refused { index: 2, refusal }]?;
+    let summary = "nodes 0\nframes 0\nhops 0\nanswered 0\n";
+    check_records(rt, alloc, settings, rest, ["", line.as_str(), summary])
+}
+
 #[test]
 fn refusals_are_printed(rt: HostRuntime) -> Result<(), Fail> {
     let (alloc, settings) = (rt.alloc(), settings(&rt));
@@ -225,14 +240,7 @@ fn refusals_are_printed(rt: HostRuntime) -> Result<(), Fail> {
         (Refusal::NotInPrefix, "16 not in prefix"),
     ];
     for (refusal, words) in rows {
-        let line = format!(in alloc; "refused 2 {words}")?;
-        check_line(
-            &rt,
-            alloc,
-            &settings,
-            Record::Refused { index: 2, refusal },
-            line.as_str(),
-        )?;
+        check_refusal(&rt, alloc, &settings, refusal, words)?;
     }
     Ok(())
 }
