@@ -10,6 +10,25 @@ use std::test::Fail;
 use tap_name::{List, Name, Settings, Slot, read_name};
 use tap_scenario::{Step, read_step};
 
+// The moments of the log of `the_pointer_moves_to_the_newcomer`.
+const POINTER_MOMENTS: [usize; 57] = [
+    1, 4, 5, 7, 8, 10, 12, 13, 19, 20, 25, 28, 32, 35, 37, 39, 41, 42, 43, 46, 47, 49, 52, 53, 55,
+    56, 57, 58, 60, 62, 63, 64, 67, 69, 70, 71, 73, 75, 76, 77, 79, 81, 88, 89, 90, 91, 92, 95, 97,
+    98, 99, 101, 103, 106, 107, 109, 112,
+];
+
+// Those of the log of `a_departure`.
+const DEPARTURE_MOMENTS: [usize; 44] = [
+    1, 3, 5, 6, 9, 13, 14, 17, 18, 22, 25, 27, 29, 31, 32, 33, 34, 36, 37, 41, 42, 44, 45, 46, 48,
+    52, 54, 55, 56, 58, 61, 62, 65, 67, 69, 70, 76, 77, 78, 79, 80, 81, 83, 86,
+];
+
+// Those of the log of `a_carried_join`.
+const CARRIED_MOMENTS: [usize; 27] = [
+    2, 5, 7, 8, 15, 16, 18, 20, 21, 28, 29, 30, 35, 40, 41, 44, 45, 49, 50, 51, 52, 54, 59, 62, 63,
+    64, 67,
+];
+
 // A log that is typed in, with the settings of its names.
 #[derive(Drop)]
 struct Typed {
@@ -270,7 +289,7 @@ impl Typed {
     // Compares the moments of the log with what they are to be.
     fn check_moments(&self, rt: &impl Abort, moments: &[usize]) -> Result<(), Fail> {
         let records = self.log.as_slice();
-        for m in 0..20 {
+        for m in 0..120 {
             assert_eq!(rt; is_moment(records, m), moments.contains(&m));
         }
         Ok(())
@@ -383,6 +402,7 @@ fn one_join(rt: HostRuntime) -> Result<(), Fail> {
     run.add_table("01", Slot { level: 1, digit: 0 }, "00")?;
     run.add("done")?;
     run.check_frames(&rt, &[], &[], true)?;
+    run.check_moments(&rt, &[1, 3, 4, 7, 8, 11, 13, 15, 16, 19, 20, 22, 25])?;
     run.check_counts(&rt, 8, 1, "00 01")
 }
 
@@ -439,6 +459,7 @@ fn the_pointer_moves_to_the_newcomer(rt: HostRuntime) -> Result<(), Fail> {
     run.add("step settle; taken 45; sent 46; taken 46; answered 301; done")?;
     run.check_servers(&rt, "123", "301")?;
     run.check_frames(&rt, &[], &[], true)?;
+    run.check_moments(&rt, &POINTER_MOMENTS)?;
     run.check_counts(&rt, 47, 1, "000 012 230 233 301 120")
 }
 
@@ -502,6 +523,7 @@ fn a_departure(rt: HostRuntime) -> Result<(), Fail> {
     })?;
     run.add("done")?;
     run.check_nodes(&rt, "000 120", "000 120", "")?;
+    run.check_moments(&rt, &DEPARTURE_MOMENTS)?;
     run.check_counts(&rt, 35, 2, "000 100 120")
 }
 
@@ -558,6 +580,7 @@ fn a_carried_join(rt: HostRuntime) -> Result<(), Fail> {
     run.add_table("00", Slot { level: 1, digit: 1 }, "01")?;
     run.add("done")?;
     run.check_frames(&rt, &[], &[], true)?;
+    run.check_moments(&rt, &CARRIED_MOMENTS)?;
     run.check_counts(&rt, 8, 1, "00 01")
 }
 
