@@ -1,27 +1,27 @@
 -- What a sink in memory is, and what its next write does.
 use Rattle.std.specs.Prelude.{◌==◌, ◌||◌, ◌++◌, ℕ, ◌-◌, min, true, false, if◌then◌else◌, List, [], length, take}
-use Rattle.tap_io.specs.Calls.{CallState, no_calls, is_next_to_fail, after_call}
+use Rattle.tap_io.specs.Calls.{CallsValue, no_calls, is_next_to_fail, after_call}
 use Rattle.tap_io.specs.declared.sink.Took.{Took}
 use Rattle.tap_io.specs.declared.sink.Took.TheVariants.{Took as TookBytes, Failed}
 
 -- the bytes that are held, the most that one write takes, the most bytes that can be held, and the calls
-pub record SinkState : Type 0 where
+pub record MemorySinkValue : Type 0 where
   pub held : List ℕ
   pub piece : ℕ
   pub room : ℕ
-  pub calls : CallState
+  pub calls : CallsValue
 
 -- before the first write
-abbrev pub new_sink : ℕ → ℕ → List ℕ → SinkState
+abbrev pub new_sink : ℕ → ℕ → List ℕ → MemorySinkValue
 new_sink piece room fails = record { held = []; piece = piece; room = room; calls = no_calls fails }
 
 -- what the next write answers, of a text of this length
-abbrev pub write_answer : SinkState → ℕ → Took
+abbrev pub write_answer : MemorySinkValue → ℕ → Took
 write_answer s len =
     if is_next_to_fail s.calls || (length s.held == s.room) then Failed
     else TookBytes (min (min s.piece len) (s.room - length s.held))
 
 -- what that answer leaves
-abbrev pub after_write : SinkState → List ℕ → Took → SinkState
+abbrev pub after_write : MemorySinkValue → List ℕ → Took → MemorySinkValue
 after_write s bytes (TookBytes n) = record s { held = s.held ++ take n bytes; calls = after_call s.calls false }
 after_write s bytes Failed = record s { calls = after_call s.calls true }

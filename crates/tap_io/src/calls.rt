@@ -15,9 +15,9 @@ pub(crate) struct Calls {
 }
 
 impl Model for Calls {
-    ghost use Rattle.tap_io.specs.Calls.{CallState};
+    ghost use Rattle.tap_io.specs.Calls.{CallsValue};
 
-    ghost Value = { CallState };
+    ghost Value = { CallsValue };
 
     ghost view = { λ c. record { fails = c.fails.items; made = c.made; faults = c.faults } };
 }

@@ -20,9 +20,9 @@ pub struct MemorySink {
 
 impl Model for MemorySink {
     ghost use Rattle.std.specs.Prelude.{◌≤◌, vec_len, vec_capacity};
-    ghost use Rattle.tap_io.specs.MemorySink.{SinkState};
+    ghost use Rattle.tap_io.specs.MemorySink.{MemorySinkValue};
 
-    ghost Value = { SinkState };
+    ghost Value = { MemorySinkValue };
 
     ghost view = { λ s.
         record { held = s.bytes.items; piece = s.piece; room = s.room; calls = s.calls } };

@@ -19,9 +19,9 @@ pub struct MemorySource {
 
 impl Model for MemorySource {
     ghost use Rattle.std.specs.Prelude.{◌≤◌, drop, length};
-    ghost use Rattle.tap_io.specs.MemorySource.{SourceState};
+    ghost use Rattle.tap_io.specs.MemorySource.{MemorySourceValue};
 
-    ghost Value = { SourceState };
+    ghost Value = { MemorySourceValue };
 
     ghost view = { λ s.
         record { left = drop s.at s.bytes.items; piece = s.piece; calls = s.calls } };

@@ -11,7 +11,7 @@ use Rattle.std.proofs.lemmas.List.Quantifiers.{all_pairs_remove}
 use Rattle.tap_link.specs.declared.kind.Kind.{Kind}
 use Rattle.std.specs.declared.cmp.Ordering.TheVariants.{Less}
 use Rattle.tap_link.specs.Entry.{Entry}
-use Rattle.tap_link.specs.LinkSet.{Links, IsAscending, IsLinkSet, settled_count, is_settled}
+use Rattle.tap_link.specs.LinkSet.{LinkSetValue, IsAscending, IsLinkSet, settled_count, is_settled}
 use Rattle.tap_link.specs.Places.{IsGap}
 use Rattle.tap_link.proofs.Present.{get_or_from_got, within_from_got}
 
@@ -63,7 +63,7 @@ module _ {K : Type 0} (cmp : K → K → Ordering) where
   fits true count width within room = let lt : count < width = room refl in omega arith
   fits false count width within room = omega arith
 
-  pub kept-insert : IsTotalOrder cmp → (s : Links K) (e : Entry K) (at : ℕ) → IsLinkSet cmp s → IsGap cmp s.links e.target at
+  pub kept-insert : IsTotalOrder cmp → (s : LinkSetValue K) (e : Entry K) (at : ℕ) → IsLinkSet cmp s → IsGap cmp s.links e.target at
       → (is_settled (Some e.kind) ≡ true → settled_count s.links < s.width) → IsLinkSet cmp (record s { links = insert s.links at e })
   kept-insert o s e at kept gap room =
       let fit = fits (is_settled (Some e.kind)) (settled_count s.links) s.width kept.within_width room in
@@ -72,7 +72,7 @@ module _ {K : Type 0} (cmp : K → K → Ordering) where
         within_width = omega (arith, sum_by-insert (λ f. cond (is_settled (Some f.kind)) 1 0) s.links at e);
       }
 
-  pub kept-remove : (s : Links K) (at : ℕ) (x : Entry K) → IsLinkSet cmp s → slice_get s.links at ≡ Some x
+  pub kept-remove : (s : LinkSetValue K) (at : ℕ) (x : Entry K) → IsLinkSet cmp s → slice_get s.links at ≡ Some x
       → IsLinkSet cmp (record s { links = remove s.links at })
   kept-remove s at x kept got =
       let within = within_from_got s.links at x got in
@@ -81,7 +81,7 @@ module _ {K : Type 0} (cmp : K → K → Ordering) where
         within_width = omega (arith, kept.within_width, sum_by-remove (λ f. cond (is_settled (Some f.kind)) 1 0) s.links at x within);
       }
 
-  pub kept-set : (s : Links K) (at : ℕ) (x : Entry K) (kind : Kind) → IsLinkSet cmp s → slice_get s.links at ≡ Some x
+  pub kept-set : (s : LinkSetValue K) (at : ℕ) (x : Entry K) (kind : Kind) → IsLinkSet cmp s → slice_get s.links at ≡ Some x
       → (is_settled (Some kind) ≡ true → settled_count s.links < s.width)
       → IsLinkSet cmp (record s { links = set s.links at (record x { kind = kind }) })
   kept-set s at x kind kept got room =

@@ -9,7 +9,7 @@ use Rattle.std.proofs.lemmas.Bool.{cases_order}
 use Rattle.tap_link.specs.declared.kind.Kind.{Kind}
 use Rattle.tap_link.specs.declared.kind.Kind.TheVariants.{Pin, Settled, Leaving}
 use Rattle.tap_link.specs.Entry.{Entry}
-use Rattle.tap_link.specs.LinkSet.{Links, is_pinned, is_settled, is_settled_or_leaving, IsAscending, kind_of, with_link, with_kind, without}
+use Rattle.tap_link.specs.LinkSet.{LinkSetValue, is_pinned, is_settled, is_settled_or_leaving, IsAscending, kind_of, with_link, with_kind, without}
 use Rattle.tap_link.specs.Places.{IsGap, IsAt}
 use Rattle.tap_link.proofs.Present.{get_or_from_got, within_from_got}
 
@@ -28,7 +28,7 @@ settled_or_leaving kind (inr is) = rw is refl
 
 module _ {K : Type 0} where
   -- a set of this width
-  abbrev pub set_of : ℕ → List (Entry K) → Links K
+  abbrev pub set_of : ℕ → List (Entry K) → LinkSetValue K
   set_of width links = record { width = width; links = links }
 
   pub entry_is : (e x : Entry K) (kind : Kind) → e.target ≡ x.target → e.kind ≡ kind → e ≡ record x { kind = kind }

@@ -11,7 +11,7 @@ use Rattle.tap_link.specs.declared.kind.Released.TheVariants.{Settled as Release
 use Rattle.tap_link.specs.Entry.{Entry}
 
 -- what a link set is seen as: how many of its links may be settled and not leaving, and its links
-pub record Links (K : Type 0) : Type 0 where
+pub record LinkSetValue (K : Type 0) : Type 0 where
   pub width : ℕ
   pub links : List (Entry K)
 
@@ -46,7 +46,7 @@ module _ {K : Type 0} where
   settled_count links = count_by (λ e. is_settled (Some e.kind)) links
 
   -- one more link may be settled
-  abbrev pub has_room : Links K → Bool
+  abbrev pub has_room : LinkSetValue K → Bool
   has_room set = nat_lt (settled_count set.links) set.width
 
   -- the first target in the list that is settled and not leaving
@@ -59,7 +59,7 @@ module _ {K : Type 0} (cmp : K → K → Ordering) where
   IsAscending links = AllPairs (λ e f. cmp e.target f.target ≡ Less) links
 
   -- what each link set keeps
-  pub record IsLinkSet (set : Links K) : Type 0 where
+  pub record IsLinkSet (set : LinkSetValue K) : Type 0 where
     pub ascending : IsAscending set.links
     pub within_width : settled_count set.links ≤ set.width
 

@@ -1,7 +1,7 @@
 ghost use Rattle.std.specs.Prelude.{◌≡◌, ◌<◌, ◌≤◌, ◌↔◌, ◌&&◌, [], length, map, true, Some, None, IsOk, IsNone, IfOk, IfSome, IsTrue, slice_get};
 ghost use Rattle.std.specs.Bool.{OnTrue, OnFalse};
 ghost use Rattle.std.specs.Option.{is_none};
-ghost use Rattle.tap_link.specs.LinkSet.{Links, IsLinkSet, kind_of, with_link, with_kind, without, is_pinned, is_settled, is_settled_or_leaving, settled_count, has_room, least_settled, IsLeastSettled, released_as, after_release};
+ghost use Rattle.tap_link.specs.LinkSet.{LinkSetValue, IsLinkSet, kind_of, with_link, with_kind, without, is_pinned, is_settled, is_settled_or_leaving, settled_count, has_room, least_settled, IsLeastSettled, released_as, after_release};
 
 use crate::kind::{Kind, Released};
 use crate::link::Link;
@@ -25,9 +25,9 @@ pub struct LinkSet<K: Ord + Copy> {
 }
 
 impl<K: Ord + Copy> Model for LinkSet<K> {
-    ghost use Rattle.tap_link.specs.LinkSet.{Links, IsLinkSet};
+    ghost use Rattle.tap_link.specs.LinkSet.{LinkSetValue, IsLinkSet};
 
-    ghost Value = { Links K };
+    ghost Value = { LinkSetValue K };
 
     ghost view = { λ s. record { width = s.width; links = s.places } };
 

@@ -12,9 +12,9 @@ pub struct Settled<K: Ord + Copy> {
 }
 
 impl<K: Ord + Copy> Model for Settled<K> {
-    ghost use Rattle.tap_link.specs.SettledLink.{SettledLink};
+    ghost use Rattle.tap_link.specs.SettledLink.{SettledValue};
 
-    ghost Value = { SettledLink K };
+    ghost Value = { SettledValue K };
 
     ghost view = { λ s. record { target = s.target; leaving = s.leaving } };
 }

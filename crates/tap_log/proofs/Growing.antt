@@ -6,7 +6,7 @@ use Rattle.std.specs.Cmp.Lexicographic.{pointwise}
 use Rattle.std.proofs.lemmas.List.Elements.{filter_map-append, filter-append}
 use Rattle.std.proofs.lemmas.List.Folds.{list_any-append}
 use Rattle.std.proofs.lemmas.List.Sums.{fold-append}
-use Rattle.tap_name.specs.Settings.{Parameters}
+use Rattle.tap_name.specs.Settings.{SettingsValue}
 use Rattle.tap_scenario.specs.declared.step.Step.{Step}
 use Rattle.tap_log.specs.declared.record.Pair.{Pair}
 use Rattle.tap_log.specs.declared.record.Record.{Record}
@@ -128,7 +128,7 @@ core_of-push log item none =
     (told gone_name log item)
 
 -- the beginning gives its members
-pub core_of-begin : (settings : Parameters) (frames : ℕ) (members : List (List ℕ)) → core_of (Begin settings frames members ∷ []) ≡ members
+pub core_of-begin : (settings : SettingsValue) (frames : ℕ) (members : List (List ℕ)) → core_of (Begin settings frames members ∷ []) ≡ members
 unfolding members_in core_name gone_name
 core_of-begin settings frames members = core_of-first (Begin settings frames members) refl refl
 
@@ -269,7 +269,7 @@ names_of-push log item none =
 all_names : (names : List (List ℕ)) → names_less (names ++ []) [] ≡ names
 all_names names = less_by-none (pointwise nat_eq) (names ++ []) ∙ append-nil names
 
-begins_new : (settings : Parameters) (frames : ℕ) (members : List (List ℕ)) → IsNew members (Begin settings frames members ∷ [])
+begins_new : (settings : SettingsValue) (frames : ℕ) (members : List (List ℕ)) → IsNew members (Begin settings frames members ∷ [])
 unfolding is_carried members_in core_name gone_name published_pair withdrawn_pair sent_number taken_number
 begins_new settings frames members =
     record {
@@ -281,7 +281,7 @@ begins_new settings frames members =
       names = ap (fold with_name []) (append-nil members);
     }
 
-begins_carried : (settings : Parameters) (frames : ℕ) (members : List (List ℕ)) → IsNew members (Begin settings frames members ∷ Carrier ∷ [])
+begins_carried : (settings : SettingsValue) (frames : ℕ) (members : List (List ℕ)) → IsNew members (Begin settings frames members ∷ Carrier ∷ [])
 unfolding is_carried begins_group accepts accepted_step members_in core_name gone_name published_pair withdrawn_pair sent_number taken_number
 begins_carried settings frames members =
     record {

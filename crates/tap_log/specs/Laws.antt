@@ -1,7 +1,7 @@
 -- What one more record at the end of a log changes, and what one more group does.
 use Rattle.std.specs.Prelude.{◌≡◌, ◌≢◌, ℕ, ◌+◌, ◌<◌, ◌≤◌, All, Bool, false, true, if◌then◌else◌, List, [], ◌∷◌, ◌++◌, length, filter, fold, Option, None, Some}
 use Rattle.std.specs.List.{filter_map, cons_option, last_or}
-use Rattle.tap_name.specs.Settings.{Parameters}
+use Rattle.tap_name.specs.Settings.{SettingsValue}
 use Rattle.tap_scenario.specs.declared.step.Step.{Step}
 use Rattle.tap_log.specs.declared.record.Record.{Record}
 use Rattle.tap_log.specs.declared.record.Record.TheVariants.{Arrived, Begin, Carrier}
@@ -36,8 +36,8 @@ pub record IsNew (members : List (List ℕ)) (log : List Record) : Type 0 where
 
 -- The beginning gives the members. Of one more record, which gives none, what it tells is added, and what it ends is taken away.
 pub record OneMoreRecord : Type 0 where
-  pub begins : (settings : Parameters) (frames : ℕ) (members : List (List ℕ)) → IsNew members (Begin settings frames members ∷ [])
-  pub begins_carried : (settings : Parameters) (frames : ℕ) (members : List (List ℕ)) → IsNew members (Begin settings frames members ∷ Carrier ∷ [])
+  pub begins : (settings : SettingsValue) (frames : ℕ) (members : List (List ℕ)) → IsNew members (Begin settings frames members ∷ [])
+  pub begins_carried : (settings : SettingsValue) (frames : ℕ) (members : List (List ℕ)) → IsNew members (Begin settings frames members ∷ Carrier ∷ [])
   pub carried : (log : List Record) (item : Record) → item ≢ Carrier → is_carried (log ++ item ∷ []) ≡ is_carried log
   pub steps : (log : List Record) (item : Record) → steps_of (log ++ item ∷ []) ≡ steps_of log ++ at_most_one (step_of item)
   pub accepted : (log : List Record) (item : Record)

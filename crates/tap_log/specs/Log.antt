@@ -3,6 +3,6 @@ use Rattle.std.specs.Prelude.{ℕ, List}
 use Rattle.tap_log.specs.declared.record.Record.{Record}
 
 -- its records, and for how many more there is room
-pub record Contents : Type 0 where
+pub record LogValue : Type 0 where
   pub records : List Record
   pub spare : ℕ

@@ -1,5 +1,5 @@
 ghost use Rattle.std.specs.Prelude.{◌≡◌, ◌≤◌, ◌<◌, ◌+◌, ◌-◌, max, [], ◌∷◌, ◌++◌, length, OnOk, OnErr, slice_get, Some};
-ghost use Rattle.tap_log.specs.Log.{Contents};
+ghost use Rattle.tap_log.specs.Log.{LogValue};
 
 use crate::record::Record;
 use std::alloc::{AllocError, AllocFailed, Global};
@@ -44,9 +44,9 @@ pub struct Log {
 
 impl Model for Log {
     ghost use Rattle.std.specs.Prelude.{◌+◌, ◌≤◌, vec_len, vec_capacity};
-    ghost use Rattle.tap_log.specs.Log.{Contents};
+    ghost use Rattle.tap_log.specs.Log.{LogValue};
 
-    ghost Value = { Contents };
+    ghost Value = { LogValue };
 
     ghost view = { λ l. record { records = l.items.items; spare = l.spare } };
 

@@ -3,7 +3,7 @@ use Rattle.std.proofs.Common.{◌≡◌, inl, inr, ℕ, ◌+◌, ◌<◌, ◌≤
 use Rattle.std.proofs.lemmas.Bool.{cases_Bool, eqb-true, eq-eqb, true≢false}
 use Rattle.std.proofs.lemmas.List.{take_more_same, take-take, get_or-take}
 use Rattle.std.proofs.lemmas.List.Elements.{All-head, All-tail, All-nil, All-cons}
-use Rattle.tap_name.specs.Settings.{Parameters}
+use Rattle.tap_name.specs.Settings.{SettingsValue}
 use Rattle.tap_name.specs.Name.{IsName}
 use Rattle.tap_name.specs.Root.{Among, has_digit, first_of}
 
@@ -62,7 +62,7 @@ only_left [] node among same = absurd among
 only_left (y ∷ ys) node among same = ap Some (same y (inl refl))
 
 -- two names that share a level's digits and have one digit there share one more
-pub share_more : (p : Parameters) (level : ℕ) (a b : List ℕ) → IsName p a → IsName p b → level < p.digits
+pub share_more : (p : SettingsValue) (level : ℕ) (a b : List ℕ) → IsName p a → IsName p b → level < p.digits
     → take level a ≡ take level b
     → get_or a level 0 ≡ get_or b level 0 → take (level + 1) a ≡ take (level + 1) b
 share_more p level a b a_name b_name inside prefix same =
@@ -80,7 +80,7 @@ same_at level many a b inside e =
     sym (get_or-take many a level 0 inside) ∙ ap (λ n. get_or n level 0) e ∙ get_or-take many b level 0 inside
 
 -- two names that share all digits are one
-pub share_all : (p : Parameters) (level : ℕ) (a b : List ℕ) → IsName p a → IsName p b → p.digits ≤ level
+pub share_all : (p : SettingsValue) (level : ℕ) (a b : List ℕ) → IsName p a → IsName p b → p.digits ≤ level
     → take level a ≡ take level b → a ≡ b
 share_all p level a b a_name b_name end e =
     sym (take_all level a (omega (arith, a_name.len))) ∙ e ∙ take_all level b (omega (arith, b_name.len))

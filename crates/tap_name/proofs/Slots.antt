@@ -4,7 +4,7 @@ use Rattle.std.specs.List.{common_prefix_len}
 use Rattle.std.proofs.lemmas.Bool.{cases_Bool, eqb-true, eq-eqb, eqb-false, ne_eqb}
 use Rattle.std.proofs.lemmas.List.Sums.{common_prefix_len-le}
 use Rattle.tap_name.specs.declared.slot.Slot.{Slot}
-use Rattle.tap_name.specs.Settings.{Parameters}
+use Rattle.tap_name.specs.Settings.{SettingsValue}
 use Rattle.tap_name.specs.Name.{IsName}
 use Rattle.tap_name.specs.Slot.{Fits}
 
@@ -65,13 +65,13 @@ prefix_is (x ∷ xs) (y ∷ ys) (suc level) in_a in_b shared apart =
     rw test (omega (arith, rest))
 
 -- what a name that fits a slot of another has in common with it
-pub record Shares (p : Parameters) (a b : List ℕ) (slot : Slot) : Type 0 where
+pub record Shares (p : SettingsValue) (a b : List ℕ) (slot : Slot) : Type 0 where
   pub inside : slot.level < p.digits
   pub prefix : take slot.level a ≡ take slot.level b
   pub digit : get_or b slot.level 0 ≡ slot.digit
   pub other : get_or a slot.level 0 ≡ slot.digit → ⊥
 
-pub shares_what_fits : (p : Parameters) (a b : List ℕ) (slot : Slot) → IsName p a → IsName p b → Fits a b slot
+pub shares_what_fits : (p : SettingsValue) (a b : List ℕ) (slot : Slot) → IsName p a → IsName p b → Fits a b slot
     → Shares p a b slot
 shares_what_fits p a b slot a_name b_name fits =
     let level = common_prefix_len nat_eq a b in
@@ -92,7 +92,7 @@ shares_what_fits p a b slot a_name b_name fits =
           let P : Slot → Type 0 = λ s. Shares p a b s in subst P same shares
     ]
 
-pub fits_what_shares : (p : Parameters) (a b : List ℕ) (level : ℕ) → IsName p a → IsName p b → level < p.digits
+pub fits_what_shares : (p : SettingsValue) (a b : List ℕ) (level : ℕ) → IsName p a → IsName p b → level < p.digits
     → take level a ≡ take level b
     → (get_or a level 0 ≡ get_or b level 0 → ⊥) → Fits a b (record { level = level; digit = get_or b level 0 })
 fits_what_shares p a b level a_name b_name inside shared apart =

@@ -5,7 +5,7 @@ use Rattle.std.proofs.lemmas.Bool.{cases_Bool, ltb-false, leb-false, eqb-true}
 use Rattle.std.proofs.lemmas.Bool.Decides.{nat_tests}
 use Rattle.std.proofs.lemmas.List.Sums.{fails_before_first}
 use Rattle.std.proofs.lemmas.List.Elements.{All-head, All-tail}
-use Rattle.tap_name.specs.Settings.{Parameters}
+use Rattle.tap_name.specs.Settings.{SettingsValue}
 use Rattle.tap_name.specs.Digits.{text_of_digit, digit_of_text}
 use Rattle.tap_name.specs.Name.{IsName, name_of_digits, name_of_text, text_of_name}
 use Rattle.tap_name.proofs.Read.{all_good}
@@ -31,7 +31,7 @@ text-digits (byte ∷ text) small =
     let others = text-digits text (All-tail (λ d. d < 16) (digit_of_text byte) (map digit_of_text text) small) in cc
 
 -- digits that were read are a name, and are what was read
-pub name_of_digits-back : (p : Parameters) (digits name : List ℕ) → name_of_digits p digits ≡ Ok name → (digits ≡ name) × IsName p name
+pub name_of_digits-back : (p : SettingsValue) (digits name : List ℕ) → name_of_digits p digits ≡ Ok name → (digits ≡ name) × IsName p name
 name_of_digits-back p digits name read =
     elim (cases_Bool (length digits == p.digits)) [
       | inr other ↦ absurd (let failed = rw other at read in cc)
@@ -52,13 +52,13 @@ name_of_digits-back p digits name read =
     ]
 
 -- the text of a name is read as that name
-pub name_of_text-text : (p : Parameters) (name : List ℕ) → p.base ≤ 16 → IsName p name → name_of_text p (text_of_name name) ≡ Ok name
+pub name_of_text-text : (p : SettingsValue) (name : List ℕ) → p.base ≤ 16 → IsName p name → name_of_text p (text_of_name name) ≡ Ok name
 name_of_text-text p name small is =
     let digits = digits-text name (λ k d h. let below = is.below k d h in omega arith) in
     rw digits (all_good p name is.len (λ k h. is.below k 0 h))
 
 -- a text that is read as a name is the text of that name
-pub name_of_text-back : (p : Parameters) (text name : List ℕ) → p.base ≤ 16 → name_of_text p text ≡ Ok name
+pub name_of_text-back : (p : SettingsValue) (text name : List ℕ) → p.base ≤ 16 → name_of_text p text ≡ Ok name
     → (text ≡ text_of_name name) × IsName p name
 name_of_text-back p text name small read =
     let back = name_of_digits-back p (map digit_of_text text) name read in

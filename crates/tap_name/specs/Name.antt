@@ -2,11 +2,11 @@
 use Rattle.std.specs.Prelude.{◌≡◌, ◌==◌, ℕ, ◌<◌, nat_le, if◌then◌else◌, List, length, map, position, All, Option, None, Some, Result, Ok, Err}
 use Rattle.tap_name.specs.declared.name.NameFault.{NameFault}
 use Rattle.tap_name.specs.declared.name.NameFault.TheVariants.{BadLength, BadDigit}
-use Rattle.tap_name.specs.Settings.{Parameters}
+use Rattle.tap_name.specs.Settings.{SettingsValue}
 use Rattle.tap_name.specs.Digits.{text_of_digit, digit_of_text}
 
 -- a name of these settings: it has their number of digits, each below their base
-pub record IsName (p : Parameters) (name : List ℕ) : Type 0 where
+pub record IsName (p : SettingsValue) (name : List ℕ) : Type 0 where
   pub len : length name ≡ p.digits
   pub below : All (λ d. d < p.base) name
 
@@ -16,14 +16,14 @@ unless_bad digits None = Ok digits
 unless_bad digits (Some place) = Err (BadDigit place)
 
 -- the name of these digit values
-abbrev pub name_of_digits : Parameters → List ℕ → Result (List ℕ) NameFault
+abbrev pub name_of_digits : SettingsValue → List ℕ → Result (List ℕ) NameFault
 name_of_digits p digits =
     if length digits == p.digits
     then unless_bad digits (position (λ d. nat_le p.base d) digits)
     else Err (BadLength (length digits))
 
 -- the name of this text
-abbrev pub name_of_text : Parameters → List ℕ → Result (List ℕ) NameFault
+abbrev pub name_of_text : SettingsValue → List ℕ → Result (List ℕ) NameFault
 name_of_text p text = name_of_digits p (map digit_of_text text)
 
 -- a name as it is printed

@@ -2,7 +2,7 @@
 use Rattle.std.specs.Prelude.{◌≡◌, ◌==◌, ℕ, ◌+◌, Bool, List, [], ◌∷◌, slice_index, Option, None, Some, filter, ◌⊎◌}
 use Rattle.std.specs.List.{list_any}
 use Rattle.tap_name.specs.Cyclic.{first_cyclic}
-use Rattle.tap_name.specs.Settings.{Parameters}
+use Rattle.tap_name.specs.Settings.{SettingsValue}
 use Rattle.tap_name.specs.Name.{IsName}
 
 -- the name is among these
@@ -11,7 +11,7 @@ Among x [] = ⊥
 Among x (y ∷ ys) = (x ≡ y) ⊎ Among x ys
 
 -- each of these is a name of the settings
-abbrev pub AreNames : Parameters → List (List ℕ) → Type 0
+abbrev pub AreNames : SettingsValue → List (List ℕ) → Type 0
 AreNames p names = (x : List ℕ) → Among x names → IsName p x
 
 -- some name has this digit at this level

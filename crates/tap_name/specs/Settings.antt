@@ -3,13 +3,13 @@ use Rattle.std.specs.Prelude.{ℕ, ◌≤◌}
 
 -- the base of the digits, the digits of a name, and how many links that are settled and not leaving a slot of a table
 -- holds at most
-pub record Parameters : Type 0 where
+pub record SettingsValue : Type 0 where
   pub base : ℕ
   pub digits : ℕ
   pub width : ℕ
 
 -- each number is within its limit
-pub record AreWithinLimits (p : Parameters) : Type 0 where
+pub record AreWithinLimits (p : SettingsValue) : Type 0 where
   pub base_from : 2 ≤ p.base
   pub base_to : p.base ≤ 16
   pub digits_from : 1 ≤ p.digits

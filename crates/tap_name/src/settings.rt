@@ -1,6 +1,6 @@
 ghost use Rattle.std.specs.Prelude.{◌≡◌};
 ghost use Rattle.std.specs.Option.{SomeIff};
-ghost use Rattle.tap_name.specs.Settings.{Parameters, AreWithinLimits};
+ghost use Rattle.tap_name.specs.Settings.{SettingsValue, AreWithinLimits};
 
 use std::marker::Model;
 
@@ -19,9 +19,9 @@ pub struct Settings {
 }
 
 impl Model for Settings {
-    ghost use Rattle.tap_name.specs.Settings.{Parameters, AreWithinLimits};
+    ghost use Rattle.tap_name.specs.Settings.{SettingsValue, AreWithinLimits};
 
-    ghost Value = { Parameters };
+    ghost Value = { SettingsValue };
 
     ghost view = { λ s. record { base = s.base; digits = s.digits; width = s.width } };
 
@@ -33,7 +33,7 @@ impl Model for Settings {
 impl Settings {
     /// The settings of these numbers, `None` exactly where one is outside its limits.
     pub fn new(base: u8, digits: u8, width: u8) -> Option<Settings>
-        ensures { let given : Parameters = record { base = base; digits = digits; width = width } in SomeIff result (AreWithinLimits given) given }
+        ensures { let given : SettingsValue = record { base = base; digits = digits; width = width } in SomeIff result (AreWithinLimits given) given }
     {
         if base < 2 || base > 16 || digits < 1 || digits > 40 || width < 1 || width > 4 {
             return None;

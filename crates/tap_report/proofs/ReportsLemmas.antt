@@ -3,14 +3,14 @@ use Rattle.std.proofs.Common.{◌≡◌, ◌<◌, ℕ, zero, suc, ◌+◌, List,
 use Rattle.std.specs.Prelude.{◌↔◌, fold, is_some, IsSome}
 use Rattle.std.proofs.lemmas.List.{take_more}
 use Rattle.std.proofs.lemmas.List.Elements.{All-get_or, All-push}
-use Rattle.tap_name.specs.Settings.{Parameters}
+use Rattle.tap_name.specs.Settings.{SettingsValue}
 use Rattle.tap_log.specs.declared.record.Record.{Record}
 use Rattle.tap_log.specs.declared.record.Record.TheVariants.{Begin}
 use Rattle.tap_report.specs.Summary.{ending}
 use Rattle.tap_report.specs.Tally.{numbers_in, tally_after}
 use Rattle.tap_report.specs.Text.{IsBegin, IsPrintable, IsPrintableLog, BeginsOnce, text_of_record, text_of_log, settings_after, settings_of}
 use Rattle.tap_report.specs.Written.{WritesText}
-use Rattle.tap_report.specs.Reporter.{Kept, Puts, Finishes, PutsEach, PutsWriteTheText, Reports, kept_at_first}
+use Rattle.tap_report.specs.Reporter.{ReporterValue, Puts, Finishes, PutsEach, PutsWriteTheText, Reports, kept_at_first}
 use Rattle.tap_report.specs.declared.mode.Mode.{Mode}
 use Rattle.tap_report.specs.declared.written.Written.{Written}
 use Rattle.tap_report.specs.declared.written.Written.TheVariants.{All as AllWritten}
@@ -23,7 +23,7 @@ pub Reports-new : (mode : Mode) (held : Option (List ℕ)) (faults : ℕ) → Re
 Reports-new mode held faults = record { same_mode = refl; settings = refl; count = refl; tally = refl; text = WritesText-none held faults AllWritten }
 
 -- one put more
-pub Reports-put : {mode : Mode} {records : List Record} {old mid new : Option (List ℕ)} {before between now : ℕ} {kept then_kept : Kept}
+pub Reports-put : {mode : Mode} {records : List Record} {old mid new : Option (List ℕ)} {before between now : ℕ} {kept then_kept : ReporterValue}
     {item : Record} {written : Written} → Reports mode records old mid before between kept → Puts kept then_kept item mid new between now written
     → Reports mode (records ++ item ∷ []) old new before now then_kept
 Reports-put {mode = mode} {records = records} {mid = mid} {new = new} {between = between} {now = now} {kept = kept} {item = item} {written = written} r p =
@@ -39,7 +39,7 @@ Reports-put {mode = mode} {records = records} {mid = mid} {new = new} {between =
     })
 
 -- a finish
-pub Reports-finish : {mode : Mode} {records : List Record} {old mid new : Option (List ℕ)} {before between now : ℕ} {kept then_kept : Kept}
+pub Reports-finish : {mode : Mode} {records : List Record} {old mid new : Option (List ℕ)} {before between now : ℕ} {kept then_kept : ReporterValue}
     {written : Written} → Reports mode records old mid before between kept → Finishes kept then_kept mid new between now written
     → WritesText old new before now (text_of_log mode records) AllWritten written
 Reports-finish {mode = mode} {records = records} {mid = mid} {new = new} {between = between} {now = now} {kept = kept} {written = written} r f =
@@ -50,7 +50,7 @@ Reports-finish {mode = mode} {records = records} {mid = mid} {new = new} {betwee
     WritesText-then r.text last
 
 -- the put of the next record of a log
-pub Reports-next : {mode : Mode} {old mid new : Option (List ℕ)} {before between now : ℕ} {kept then_kept : Kept}
+pub Reports-next : {mode : Mode} {old mid new : Option (List ℕ)} {before between now : ℕ} {kept then_kept : ReporterValue}
     {written : Written} (records : List Record) (i : ℕ) (item : Record) → i < length records → item ≡ get_or records i item
     → Reports mode (take i records) old mid before between kept → Puts kept then_kept item mid new between now written
     → Reports mode (take (i + 1) records) old new before now then_kept
@@ -59,21 +59,21 @@ Reports-next {mode = mode} {old = old} {new = new} {before = before} {now = now}
     subst (λ l. Reports mode l old new before now then_kept) (sym same) (Reports-put r p)
 
 -- the settings of a `Begin` are kept
-begun : (first : Record) → IsBegin first → (s : Parameters) × (settings_after None first ≡ Some s)
+begun : (first : Record) → IsBegin first → (s : SettingsValue) × (settings_after None first ≡ Some s)
 begun (Begin settings frames members) h = (settings, refl)
 begun item h = cc
 
-still_begun : (settings : Parameters) (item : Record) → (s : Parameters) × (settings_after (Some settings) item ≡ Some s)
+still_begun : (settings : SettingsValue) (item : Record) → (s : SettingsValue) × (settings_after (Some settings) item ≡ Some s)
 still_begun settings (Begin begun frames members) = (begun, refl)
 still_begun settings item = (settings, refl)
 
-always_begun : (records : List Record) (settings : Parameters) → IsSome (fold settings_after (Some settings) records)
+always_begun : (records : List Record) (settings : SettingsValue) → IsSome (fold settings_after (Some settings) records)
 always_begun [] settings = refl
 always_begun (item ∷ items) settings =
     let h = still_begun settings item in rw h.1 (always_begun items h.0)
 
 -- The next record of a log is a `Begin` exactly where none was put before.
-pub begins_next : (records : List Record) (i : ℕ) (item : Record) (settings : Option Parameters) → BeginsOnce records → i < length records
+pub begins_next : (records : List Record) (i : ℕ) (item : Record) (settings : Option SettingsValue) → BeginsOnce records → i < length records
     → item ≡ get_or records i item → settings ≡ fold settings_after None (take i records) → IsBegin item ↔ IsNone settings
 begins_next [] i item settings begins inside is kept = absurd (omega arith)
 begins_next (first ∷ rest) zero item settings begins inside is kept = (λ _. ap is_some kept, λ _. subst IsBegin (sym is) begins.0)
@@ -109,7 +109,7 @@ IsPrintableLog-push records item some other printable log = record {
 
 -- ---- the law
 
-puts_each : (items done : List Record) (mode : Mode) (kept then_kept : Kept) (old mid new : Option (List ℕ)) (before between now : ℕ)
+puts_each : (items done : List Record) (mode : Mode) (kept then_kept : ReporterValue) (old mid new : Option (List ℕ)) (before between now : ℕ)
     → Reports mode done old mid before between kept → PutsEach items kept then_kept mid new between now
     → Reports mode (done ++ items) old new before now then_kept
 puts_each [] done mode kept then_kept old mid new before between now r p = rw (p.0, p.1, p.2, append-nil done) r

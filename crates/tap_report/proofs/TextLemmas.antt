@@ -3,7 +3,7 @@ use Rattle.std.proofs.Common.{◌≡◌, ◌<◌, ℕ, zero, suc, ◌+◌, List,
 use Rattle.std.specs.Prelude.{fold, Bool, true, false, if◌then◌else◌}
 use Rattle.std.proofs.lemmas.List.{take_more}
 use Rattle.std.proofs.lemmas.List.Sums.{fold-append}
-use Rattle.tap_name.specs.Settings.{Parameters}
+use Rattle.tap_name.specs.Settings.{SettingsValue}
 use Rattle.tap_log.specs.declared.record.Record.{Record}
 use Rattle.tap_log.specs.declared.record.Record.TheVariants.{Begin}
 use Rattle.tap_report.specs.Shapes.{line}
@@ -15,7 +15,7 @@ chosen true text other e = refl
 chosen false text other e = cc
 
 -- a record that is printed has its lines
-pub lines_of_record : (mode : Mode) (settings : Option Parameters) (item : Record) → is_printed mode item ≡ true
+pub lines_of_record : (mode : Mode) (settings : Option SettingsValue) (item : Record) → is_printed mode item ≡ true
     → text_of_record mode settings item ≡ line (line_of settings item) ++ further_lines mode item
 lines_of_record mode settings item e = chosen (is_printed mode item) (line (line_of settings item) ++ further_lines mode item) [] e
 
@@ -27,11 +27,11 @@ pub settings_of-push : (records : List Record) (item : Record) → settings_of (
 settings_of-push records item = fold-append settings_after None records (item ∷ [])
 
 -- only a beginning changes the settings
-pub same_settings : (settings : Option Parameters) (item : Record) → ¬ IsBegin item → settings_after settings item ≡ settings
+pub same_settings : (settings : Option SettingsValue) (item : Record) → ¬ IsBegin item → settings_after settings item ≡ settings
 same_settings settings (Begin begun frames members) other = absurd (other refl)
 same_settings settings item other = refl
 
-pub texts_after-push : (mode : Mode) (settings : Option Parameters) (records : List Record) (item : Record)
+pub texts_after-push : (mode : Mode) (settings : Option SettingsValue) (records : List Record) (item : Record)
     → texts_after mode settings (records ++ item ∷ []) ≡ texts_after mode settings records ++ text_of_record mode (fold settings_after settings records) item
 texts_after-push mode settings [] item = append-nil (text_of_record mode settings item)
 texts_after-push mode settings (first ∷ rest) item =
@@ -40,14 +40,14 @@ texts_after-push mode settings (first ∷ rest) item =
     (text_of_record mode (fold settings_after (settings_after settings first) rest) item))
 
 -- each record of a log is printable with the settings before it
-pub ArePrintable-at : (settings : Option Parameters) (records : List Record) (i : ℕ) (item : Record) → ArePrintable settings records
+pub ArePrintable-at : (settings : Option SettingsValue) (records : List Record) (i : ℕ) (item : Record) → ArePrintable settings records
     → i < length records → item ≡ get_or records i item → IsPrintable (fold settings_after settings (take i records)) item
 ArePrintable-at settings [] i item each inside is = absurd (omega arith)
 ArePrintable-at settings (first ∷ rest) zero item each inside is = subst (IsPrintable settings) (sym is) each.0
 ArePrintable-at settings (first ∷ rest) (suc i) item each inside is =
     ArePrintable-at (settings_after settings first) rest i item each.1 (omega arith) is
 
-pub ArePrintable-push : (settings : Option Parameters) (records : List Record) (item : Record) → ArePrintable settings records
+pub ArePrintable-push : (settings : Option SettingsValue) (records : List Record) (item : Record) → ArePrintable settings records
     → IsPrintable (fold settings_after settings records) item → ArePrintable settings (records ++ item ∷ [])
 ArePrintable-push settings [] item each printable = (printable, tt)
 ArePrintable-push settings (first ∷ rest) item each printable =

@@ -2,7 +2,7 @@
 use Rattle.std.specs.Prelude.{ℕ, ◌/◌, ◌%◌, List, [], ◌∷◌, ◌++◌, slice_index_or, codes, Bool, true, false, Option, None, Some, Result, Ok, Err}
 use Rattle.std.specs.List.{flat_map}
 use Rattle.tap_name.specs.Digits.{text_of_digit}
-use Rattle.tap_name.specs.Settings.{Parameters}
+use Rattle.tap_name.specs.Settings.{SettingsValue}
 use Rattle.tap_wire.specs.Reading.{head_of}
 use Rattle.tap_wire.specs.declared.fault.HeadFault.{HeadFault}
 use Rattle.tap_wire.specs.declared.fault.WireFault.{WireFault}
@@ -26,7 +26,7 @@ text_of_head (Ok head) = word_of_kind head.kind ++ named (codes " ") head.from +
 text_of_head (Err fault) = []
 
 -- the same, of bytes that are read with these settings
-abbrev pub heading : Option Parameters → List ℕ → List ℕ
+abbrev pub heading : Option SettingsValue → List ℕ → List ℕ
 heading None bytes = []
 heading (Some p) bytes = text_of_head (head_of p bytes)
 
@@ -38,7 +38,7 @@ abbrev pub hex : List ℕ → List ℕ
 hex bytes = flat_map hex_of_byte bytes
 
 -- the line of a frame that is sent
-abbrev pub sent_line : Option Parameters → ℕ → List ℕ → List ℕ
+abbrev pub sent_line : Option SettingsValue → ℕ → List ℕ → List ℕ
 sent_line settings number bytes =
     numbered (codes "sent ") number ++ codes " " ++ heading settings bytes ++ codes " " ++ hex bytes
 

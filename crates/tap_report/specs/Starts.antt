@@ -1,13 +1,13 @@
 -- the lines of the beginning of a run and of its steps
 use Rattle.std.specs.Prelude.{ℕ, List, ◌++◌, codes}
 use Rattle.std.specs.List.{flat_map}
-use Rattle.tap_name.specs.Settings.{Parameters}
+use Rattle.tap_name.specs.Settings.{SettingsValue}
 use Rattle.tap_scenario.specs.Step.{text_of_step}
 use Rattle.tap_scenario.specs.declared.step.Step.{Step}
 use Rattle.tap_report.specs.Shapes.{named, numbered, line}
 
 -- the first line of a beginning
-abbrev pub begin_line : Parameters → ℕ → List ℕ
+abbrev pub begin_line : SettingsValue → ℕ → List ℕ
 begin_line settings frames =
     numbered (codes "begin base ") settings.base ++ numbered (codes " digits ") settings.digits
     ++ numbered (codes " width ") settings.width ++ numbered (codes " frames ") frames

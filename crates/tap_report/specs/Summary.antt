@@ -2,7 +2,7 @@
 -- answered with a server. Who is a member, which departures are accepted and how many frames were sent is said by `tap_log`.
 use Rattle.std.specs.Prelude.{ℕ, ◌+◌, ◌-◌, max, List, [], ◌∷◌, ◌++◌, length, fold, count_by, cond, codes, bytes_eq, Bool, true, false, Option, None, Some}
 use Rattle.std.specs.List.{filter_map, last_or}
-use Rattle.tap_name.specs.Settings.{Parameters}
+use Rattle.tap_name.specs.Settings.{SettingsValue}
 use Rattle.tap_log.specs.declared.record.Record.{Record}
 use Rattle.tap_log.specs.declared.record.Record.TheVariants as rec
 use Rattle.tap_log.specs.Kinds.{core_name}
@@ -84,6 +84,6 @@ summary_text n =
     ++ line (numbered (codes "hops ") n.hops) ++ line (numbered (codes "answered ") n.answered)
 
 -- what stands behind the last record: in the mode Summary the summary, where there is a `Begin`
-abbrev pub ending : Mode → Option Parameters → Numbers → List ℕ
+abbrev pub ending : Mode → Option SettingsValue → Numbers → List ℕ
 ending Summary (Some settings) n = summary_text n
 ending mode settings n = []

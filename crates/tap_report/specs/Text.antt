@@ -1,6 +1,6 @@
 -- The text of a log: a line for each record, further lines behind a beginning, a table and pointers, and the summary.
 use Rattle.std.specs.Prelude.{◌≢◌, ℕ, ◌<◌, List, [], ◌∷◌, ◌++◌, length, codes, All, Bool, true, false, IsTrue, Option, None, Some, IsSomeAnd, IsOk, if◌then◌else◌, fold}
-use Rattle.tap_name.specs.Settings.{Parameters}
+use Rattle.tap_name.specs.Settings.{SettingsValue}
 use Rattle.tap_wire.specs.Reading.{head_of}
 use Rattle.tap_wire.specs.declared.fault.WireFault.TheVariants.{NoMemory}
 use Rattle.tap_log.specs.declared.record.Record.{Record}
@@ -17,7 +17,7 @@ use Rattle.tap_report.specs.declared.mode.Mode.{Mode}
 use Rattle.tap_report.specs.declared.mode.Mode.TheVariants.{Long, Brief, Summary}
 
 -- The line of a record, or its first one. The settings are those of the `Begin` before it.
-abbrev pub line_of : Option Parameters → Record → List ℕ
+abbrev pub line_of : Option SettingsValue → Record → List ℕ
 line_of settings (Begin begun frames members) = begin_line begun frames
 line_of settings (Step index step) = step_line index step
 line_of settings (Sent number bytes) = sent_line settings number bytes
@@ -77,21 +77,21 @@ is_printed Brief item = is_in_brief item
 is_printed Summary item = false
 
 -- the text of a record
-abbrev pub text_of_record : Mode → Option Parameters → Record → List ℕ
+abbrev pub text_of_record : Mode → Option SettingsValue → Record → List ℕ
 text_of_record mode settings item =
     if is_printed mode item then line (line_of settings item) ++ further_lines mode item else []
 
 -- the settings of the `Begin` that was put, with one record more
-abbrev pub settings_after : Option Parameters → Record → Option Parameters
+abbrev pub settings_after : Option SettingsValue → Record → Option SettingsValue
 settings_after settings (Begin begun frames members) = Some begun
 settings_after settings item = settings
 
 -- the settings of the `Begin` of a log
-abbrev pub settings_of : List Record → Option Parameters
+abbrev pub settings_of : List Record → Option SettingsValue
 settings_of records = fold settings_after None records
 
 -- the texts of records one after another, behind a `Begin` with these settings
-abbrev pub texts_after : Mode → Option Parameters → List Record → List ℕ
+abbrev pub texts_after : Mode → Option SettingsValue → List Record → List ℕ
 texts_after mode settings [] = []
 texts_after mode settings (item ∷ items) = text_of_record mode settings item ++ texts_after mode (settings_after settings item) items
 
@@ -101,7 +101,7 @@ text_of_log mode records = texts_after mode None records ++ ending mode (setting
 
 -- What a record must meet to be printed, behind a `Begin` with these settings: the head of a frame is read, a walk went
 -- through some node, the digits of slots are below the base, and want of memory isn't a fault.
-abbrev pub IsPrintable : Option Parameters → Record → Type 0
+abbrev pub IsPrintable : Option SettingsValue → Record → Type 0
 IsPrintable settings (Sent number bytes) = IsSomeAnd settings (λ p. IsOk (head_of p bytes))
 IsPrintable settings (Walked object path) = 0 < length path
 IsPrintable settings (TableOf name status links) = IsSomeAnd settings (λ p. All (λ link. link.slot.digit < p.base) links)
@@ -109,7 +109,7 @@ IsPrintable settings (Garbled number fault) = fault ≢ NoMemory
 IsPrintable settings item = Unit {0}
 
 -- each record is printable behind those before it
-abbrev pub ArePrintable : Option Parameters → List Record → Type 0
+abbrev pub ArePrintable : Option SettingsValue → List Record → Type 0
 ArePrintable settings [] = Unit {0}
 ArePrintable settings (item ∷ items) = IsPrintable settings item × ArePrintable (settings_after settings item) items
 

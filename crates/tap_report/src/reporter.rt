@@ -32,10 +32,10 @@ pub struct Reporter {
 
 impl Model for Reporter {
     ghost use Rattle.std.specs.Prelude.{◌≤◌};
-    ghost use Rattle.tap_report.specs.Reporter.{Kept};
+    ghost use Rattle.tap_report.specs.Reporter.{ReporterValue};
     ghost use Rattle.tap_report.specs.Tally.{IsWithin};
 
-    ghost Value = { Kept };
+    ghost Value = { ReporterValue };
 
     ghost view = { λ r. record { mode = r.mode; settings = r.settings; records = r.records; tally = r.tally; so_far = r.so_far } };
 

@@ -7,7 +7,7 @@ use Rattle.std.proofs.lemmas.List.{length-map}
 use Rattle.std.proofs.lemmas.List.Elements.{All-nil, All-cons}
 use Rattle.std.proofs.lemmas.List.Sums.{AllPass-from_list_all, list_all-from_AllPass}
 use Rattle.std.proofs.lemmas.Slice.Eq.{bytes_eq-Decides}
-use Rattle.tap_name.specs.Settings.{Parameters}
+use Rattle.tap_name.specs.Settings.{SettingsValue}
 use Rattle.tap_name.specs.Digits.{text_of_digit}
 use Rattle.tap_name.specs.Name.{name_of_digits, text_of_name}
 use Rattle.tap_name.proofs.Read.{all_good}
@@ -55,7 +55,7 @@ no_star : (digit : ℕ) → (text_of_digit digit == 42) ≡ false
 no_star digit = grind (arith, nat_tests)
 
 -- the text of a prefix is read as that prefix
-pub prefix_of_word-text : (p : Parameters) (prefix : List ℕ) → p.base ≤ 16 → IsPrefix p prefix
+pub prefix_of_word-text : (p : SettingsValue) (prefix : List ℕ) → p.base ≤ 16 → IsPrefix p prefix
     → prefix_of_word p (text_of_prefix prefix) ≡ Some prefix
 prefix_of_word-text p [] small is = refl
 prefix_of_word-text p (digit ∷ digits) small is =
@@ -78,7 +78,7 @@ text_of_prefix-some [] some = absurd (omega arith)
 text_of_prefix-some (digit ∷ digits) some = refl
 
 -- a word that is read as a prefix is the text of that prefix
-pub prefix_of_word-back : (p : Parameters) (word prefix : List ℕ) → p.base ≤ 16 → prefix_of_word p word ≡ Some prefix
+pub prefix_of_word-back : (p : SettingsValue) (word prefix : List ℕ) → p.base ≤ 16 → prefix_of_word p word ≡ Some prefix
     → (word ≡ text_of_prefix prefix) × IsPrefix p prefix
 prefix_of_word-back p word prefix small read =
     elim (cases_Bool (bytes_eq word (codes "*"))) [
@@ -101,12 +101,12 @@ prefix_of_word-back p word prefix small read =
     ]
 
 -- both at once
-pub prefix_of_word-exact : (p : Parameters) (word prefix : List ℕ) → p.base ≤ 16
+pub prefix_of_word-exact : (p : SettingsValue) (word prefix : List ℕ) → p.base ≤ 16
     → (prefix_of_word p word ≡ Some prefix) ↔ ((word ≡ text_of_prefix prefix) × IsPrefix p prefix)
 prefix_of_word-exact p word prefix small =
     (prefix_of_word-back p word prefix small, λ is. ap (prefix_of_word p) is.0 ∙ prefix_of_word-text p prefix small is.1)
 
 -- the digits of a prefix are a name of so many digits
-pub name_of_digits-prefix : (p : Parameters) (digits : List ℕ) → IsPrefix p digits
+pub name_of_digits-prefix : (p : SettingsValue) (digits : List ℕ) → IsPrefix p digits
     → name_of_digits (with_digits (length digits) p) digits ≡ Ok digits
 name_of_digits-prefix p digits is = all_good (with_digits (length digits) p) digits refl (λ k h. is.below k 0 h)

@@ -3,7 +3,7 @@ use Rattle.std.proofs.Common.{◌≡◌, ◌==◌, ℕ, ◌≤◌, false, arith,
 use Rattle.std.specs.Result.{result_ok}
 use Rattle.std.proofs.lemmas.Bool.Decides.{nat_tests}
 use Rattle.std.proofs.lemmas.List.Elements.{All-nil, All-cons}
-use Rattle.tap_name.specs.Settings.{Parameters}
+use Rattle.tap_name.specs.Settings.{SettingsValue}
 use Rattle.tap_name.specs.Digits.{text_of_digit}
 use Rattle.tap_name.specs.Name.{IsName, name_of_text, text_of_name}
 use Rattle.tap_name.proofs.Texts.{name_of_text-back, name_of_text-text}
@@ -20,7 +20,7 @@ no_space_name (digit ∷ digits) =
     All-cons (λ byte. (byte == 32) ≡ false) (text_of_digit digit) (map text_of_digit digits) (no_space_digit digit) (no_space_name digits)
 
 -- the text of a name is read as that name
-pub name_of_word-text : (p : Parameters) (name : List ℕ) → p.base ≤ 16 → IsName p name → name_of_word p (text_of_name name) ≡ Some name
+pub name_of_word-text : (p : SettingsValue) (name : List ℕ) → p.base ≤ 16 → IsName p name → name_of_word p (text_of_name name) ≡ Some name
 name_of_word-text p name small is = ap result_ok (name_of_text-text p name small is)
 
 result_ok-back : {A E : Type 0} (r : Result A E) (x : A) → result_ok r ≡ Some x → r ≡ Ok x
@@ -28,6 +28,6 @@ result_ok-back (Ok y) x e = cc
 result_ok-back (Err f) x e = absurd (cc)
 
 -- a word that is read as a name is the text of that name
-pub name_of_word-back : (p : Parameters) (word name : List ℕ) → p.base ≤ 16 → name_of_word p word ≡ Some name
+pub name_of_word-back : (p : SettingsValue) (word name : List ℕ) → p.base ≤ 16 → name_of_word p word ≡ Some name
     → (word ≡ text_of_name name) × IsName p name
 name_of_word-back p word name small read = name_of_text-back p word name small (result_ok-back (name_of_text p word) name read)

@@ -8,7 +8,7 @@ use Rattle.std.proofs.lemmas.List.Elements.{All-nil, All-cons}
 use Rattle.std.proofs.lemmas.List.Kept.{AllPairs-cons}
 use Rattle.std.proofs.lemmas.Slice.Eq.{bytes_eq-Decides}
 use Rattle.toml.specs.Data.{Data, string, integer, float, boolean, datetime, array, table, Members as Table}
-use Rattle.tap_name.specs.Settings.{Parameters, AreWithinLimits}
+use Rattle.tap_name.specs.Settings.{SettingsValue, AreWithinLimits}
 use Rattle.tap_name.specs.Name.{IsName}
 use Rattle.tap_scenario.specs.declared.fault.Key.{Key}
 use Rattle.tap_scenario.specs.declared.fault.Key.TheVariants.{Base, Digits, Width, Frames, Members, Steps}
@@ -58,12 +58,12 @@ number_at-limits key low high t n e =
     let value = and_then-back (whole_number low high) (value_at key t) n (ok_or-Ok _ (BadValue key) n e) in
     whole_number-limits low high value.0 n value.2
 
-settings_of-limits : (t : Table) (p : Parameters) → settings_of t ≡ Ok p → AreWithinLimits p
+settings_of-limits : (t : Table) (p : SettingsValue) → settings_of t ≡ Ok p → AreWithinLimits p
 settings_of-limits t p e =
     let base = then-Ok (read_at Base (whole_number 2 16) t) _ p e in
     let digits = then-Ok (read_at Digits (whole_number 1 40) t) _ p base.2 in
     let width = then-Ok (read_at Width (whole_number 1 4) t) _ p digits.2 in
-    let given : Parameters = record { base = base.0; digits = digits.0; width = width.0 } in
+    let given : SettingsValue = record { base = base.0; digits = digits.0; width = width.0 } in
     let same : given ≡ p = cc in
     let b = number_at-limits Base 2 16 t base.0 base.1 in
     let d = number_at-limits Digits 1 40 t digits.0 digits.1 in
@@ -73,7 +73,7 @@ settings_of-limits t p e =
 default_frames-limits : (digits : ℕ) → (1 ≤ default_frames digits) × (default_frames digits ≤ most_frames digits)
 default_frames-limits digits = (grind (arith, nat_tests), grind (arith, nat_tests))
 
-frames_of-limits : (p : Parameters) (t : Table) (n : ℕ) → frames_of p t ≡ Ok n → (1 ≤ n) × (n ≤ most_frames p.digits)
+frames_of-limits : (p : SettingsValue) (t : Table) (n : ℕ) → frames_of p t ≡ Ok n → (1 ≤ n) × (n ≤ most_frames p.digits)
 frames_of-limits p t n e =
     elim (cases_Bool (is_some (value_at Frames t))) [
       | inl there ↦ number_at-limits Frames 1 (most_frames p.digits) t n (rw there at e)
@@ -89,7 +89,7 @@ cons_both-Some None others all e = absurd (cc)
 cons_both-Some (Some x) None all e = absurd (cc)
 cons_both-Some (Some x) (Some xs) all e = (x, xs, refl, refl, cc)
 
-names_of-names : (p : Parameters) (texts : List (List ℕ)) (names : List (List ℕ)) → p.base ≤ 16 → names_of p texts ≡ Some names
+names_of-names : (p : SettingsValue) (texts : List (List ℕ)) (names : List (List ℕ)) → p.base ≤ 16 → names_of p texts ≡ Some names
     → (length names ≡ length texts) × All (IsName p) names
 names_of-names p [] names small e = let none : [] ≡ names = cc in rw (← none) (refl, All-nil (IsName p))
 names_of-names p (text ∷ others) names small e =
@@ -112,13 +112,13 @@ AreDistinct-test (name ∷ others) e =
     AllPairs-cons (λ x y. x ≡ y → ⊥) name others (differ name others (not-true _ parts.0)) (AreDistinct-test others parts.1)
 
 -- what a script has of its members
-record AreMembers (p : Parameters) (names : List (List ℕ)) : Type 0 where
+record AreMembers (p : SettingsValue) (names : List (List ℕ)) : Type 0 where
   from : 1 ≤ length names
   to : length names ≤ 64
   are_names : All (IsName p) names
   distinct : AreDistinct names
 
-members_of_texts-limits : (p : Parameters) (texts names : List (List ℕ)) → p.base ≤ 16 → members_of_texts p texts ≡ Some names
+members_of_texts-limits : (p : SettingsValue) (texts names : List (List ℕ)) → p.base ≤ 16 → members_of_texts p texts ≡ Some names
     → AreMembers p names
 members_of_texts-limits p texts names small e =
     elim (cases_Bool (nat_le 1 (length texts) && nat_le (length texts) 64)) [
@@ -138,7 +138,7 @@ members_of_texts-limits p texts names small e =
           ]
     ]
 
-members_of-limits : (p : Parameters) (t : Table) (names : List (List ℕ)) → p.base ≤ 16 → members_of p t ≡ Ok names → AreMembers p names
+members_of-limits : (p : SettingsValue) (t : Table) (names : List (List ℕ)) → p.base ≤ 16 → members_of p t ≡ Ok names → AreMembers p names
 members_of-limits p t names small e =
     let texts = then-Ok (read_at Members array_of_strings t) _ names e in
     members_of_texts-limits p texts.0 names small (ok_or-Ok _ (BadValue Members) names texts.2)
@@ -150,7 +150,7 @@ cons_result-Ok (Ok x) (Err fault) all e = absurd (cc)
 cons_result-Ok (Ok x) (Ok xs) all e = (x, xs, refl, refl, cc)
 
 -- a step of these settings that a run takes
-record IsRunning (p : Parameters) (step : Step) : Type 0 where
+record IsRunning (p : SettingsValue) (step : Step) : Type 0 where
   is_step : IsStep p false step
   runs : IsTrue (can_run step)
 
@@ -161,7 +161,7 @@ if_runs-Some read step e =
       | inl runs ↦ let whole : Some read ≡ Some step = rw runs at e in let same : read ≡ step = cc in (same, rw (← same) runs)
     ]
 
-numbered_step-Ok : (p : Parameters) (number : ℕ) (text : List ℕ) (step : Step) → p.base ≤ 16 → numbered_step p number text ≡ Ok step
+numbered_step-Ok : (p : SettingsValue) (number : ℕ) (text : List ℕ) (step : Step) → p.base ≤ 16 → numbered_step p number text ≡ Ok step
     → (number ≤ 10000) × IsRunning p step
 numbered_step-Ok p number text step small e =
     elim (cases_Bool (nat_le number 10000)) [
@@ -173,7 +173,7 @@ numbered_step-Ok p number text step small e =
           (leb-true number 10000 within, record { is_step = (step_of_text-back p false text step small (read.1 ∙ ap Some runs.0)).1; runs = runs.1 })
     ]
 
-steps_from-limits : (p : Parameters) (number : ℕ) (texts : List (List ℕ)) (steps : List Step) → p.base ≤ 16 → number ≤ 10001
+steps_from-limits : (p : SettingsValue) (number : ℕ) (texts : List (List ℕ)) (steps : List Step) → p.base ≤ 16 → number ≤ 10001
     → steps_from p number texts ≡ Ok steps → (number + length steps ≤ 10001) × All (IsRunning p) steps
 steps_from-limits p number [] steps small few e = let none : [] ≡ steps = cc in rw (← none) (omega arith, All-nil (IsRunning p))
 steps_from-limits p number (text ∷ others) steps small few e =
@@ -182,7 +182,7 @@ steps_from-limits p number (text ∷ others) steps small few e =
     let rest = steps_from-limits p (number + 1) others parts.1 small (omega arith) parts.3 in
     rw (← parts.4) (omega arith, All-cons (IsRunning p) parts.0 parts.1 first.1 rest.1)
 
-steps_of-limits : (p : Parameters) (t : Table) (steps : List Step) → p.base ≤ 16 → steps_of p t ≡ Ok steps
+steps_of-limits : (p : SettingsValue) (t : Table) (steps : List Step) → p.base ≤ 16 → steps_of p t ≡ Ok steps
     → (length steps ≤ 10000) × All (IsRunning p) steps
 steps_of-limits p t steps small e =
     let texts = then-Ok (read_at Steps array_of_strings t) _ steps e in
@@ -190,7 +190,7 @@ steps_of-limits p t steps small e =
     (omega arith, read.1)
 
 -- the parts that a table gives are a script's
-pub IsScript-parts : (t : Table) (p : Parameters) (frames : ℕ) (members : List (List ℕ)) (steps : List Step) → settings_of t ≡ Ok p
+pub IsScript-parts : (t : Table) (p : SettingsValue) (frames : ℕ) (members : List (List ℕ)) (steps : List Step) → settings_of t ≡ Ok p
     → frames_of p t ≡ Ok frames → members_of p t ≡ Ok members → steps_of p t ≡ Ok steps
     → IsScript (record { settings = p; frames = frames; members = members; steps = steps })
 IsScript-parts t p frames members steps is_p is_frames is_members is_steps =

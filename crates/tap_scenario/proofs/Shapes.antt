@@ -3,7 +3,7 @@ use Rattle.std.proofs.Common.{◌≡◌, ℕ, ◌^◌, ◌<◌, ◌≤◌, true,
 use Rattle.std.specs.Option.{option_zip, option_and_then}
 use Rattle.std.proofs.lemmas.Bool.{cases_Bool}
 use Rattle.std.proofs.lemmas.Slice.Eq.{bytes_eq-Decides}
-use Rattle.tap_name.specs.Settings.{Parameters}
+use Rattle.tap_name.specs.Settings.{SettingsValue}
 use Rattle.tap_name.specs.Name.{IsName, text_of_name}
 use Rattle.tap_scenario.specs.Step.{name_of_word, number_below, one_name, two_names, one_number, two_numbers, only}
 use Rattle.tap_scenario.proofs.Names.{name_of_word-text, name_of_word-back}
@@ -29,14 +29,14 @@ pub only-back : {A : Type 0} (step other : A) (others : List (List ℕ)) → onl
 only-back step other [] read = (refl, cc)
 only-back step other (word ∷ others) read = absurd (cc)
 
-pub one_name-back : (p : Parameters) (others : List (List ℕ)) (name : List ℕ) → p.base ≤ 16 → one_name p others ≡ Some name
+pub one_name-back : (p : SettingsValue) (others : List (List ℕ)) (name : List ℕ) → p.base ≤ 16 → one_name p others ≡ Some name
     → (others ≡ text_of_name name ∷ []) × IsName p name
 one_name-back p [] name small read = absurd (cc)
 one_name-back p (word ∷ []) name small read =
     let back = name_of_word-back p word name small read in (ap (λ w. w ∷ []) back.0, back.1)
 one_name-back p (word ∷ other ∷ others) name small read = absurd (cc)
 
-pub two_names-text : (p : Parameters) (link first second : List ℕ) → p.base ≤ 16 → IsName p first × IsName p second
+pub two_names-text : (p : SettingsValue) (link first second : List ℕ) → p.base ≤ 16 → IsName p first × IsName p second
     → two_names p link (text_of_name first ∷ link ∷ text_of_name second ∷ []) ≡ Some (first, second)
 two_names-text p link first second small are =
     let same : bytes_eq link link ≡ true = (bytes_eq-Decides link link).1 refl in
@@ -44,7 +44,7 @@ two_names-text p link first second small are =
     let b = name_of_word-text p second small are.1 in
     rw (same, a, b) refl
 
-pub two_names-back : (p : Parameters) (link : List ℕ) (others : List (List ℕ)) (names : List ℕ × List ℕ) → p.base ≤ 16
+pub two_names-back : (p : SettingsValue) (link : List ℕ) (others : List (List ℕ)) (names : List ℕ × List ℕ) → p.base ≤ 16
     → two_names p link others ≡ Some names
     → (others ≡ text_of_name names.0 ∷ link ∷ text_of_name names.1 ∷ []) × (IsName p names.0 × IsName p names.1)
 two_names-back p link [] names small read = absurd (cc)

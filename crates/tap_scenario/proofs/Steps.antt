@@ -6,7 +6,7 @@ use Rattle.std.proofs.lemmas.Bool.{cases_Bool, and_parts, eqb-true, eq-eqb, not-
 use Rattle.std.proofs.lemmas.List.Sums.{AllPass-from_list_all}
 use Rattle.std.proofs.lemmas.List.Splits.{join_with_byte-slice_split}
 use Rattle.std.proofs.lemmas.Slice.Eq.{bytes_eq-Decides}
-use Rattle.tap_name.specs.Settings.{Parameters}
+use Rattle.tap_name.specs.Settings.{SettingsValue}
 use Rattle.tap_name.specs.Name.{IsName, text_of_name}
 use Rattle.tap_scenario.specs.declared.kind.NameKind.{NameKind}
 use Rattle.tap_scenario.specs.declared.kind.NameKind.TheVariants as named
@@ -93,7 +93,7 @@ words-number : (first : List ℕ) (n : ℕ) → list_all (λ byte. not (byte == 
     → words (join_with_byte 32 (first ∷ decimal n ∷ [])) ≡ first ∷ decimal n ∷ []
 words-number first n passes small = words-join _ _ (no_space first passes) (no_space_decimal n small, tt)
 
-words-join_step : (p : Parameters) (carrier : Bool) (step : Step) → IsStep p carrier step
+words-join_step : (p : SettingsValue) (carrier : Bool) (step : Step) → IsStep p carrier step
     → words (join_with_byte 32 (words_of_step step)) ≡ words_of_step step
 words-join_step p carrier (Join name via) is = words-names (codes "join") name (codes "via") via refl refl
 words-join_step p carrier (Depart name) is = words-name (codes "leave") name refl
@@ -122,12 +122,12 @@ words-join_step p carrier (Cast word prefix asker) is =
     words-join _ _ (no_space (codes "cast") refl) (no_space_word word is.0, (no_space (codes "to") refl, (no_space_prefix prefix, (no_space (codes "from") refl, (no_space_name asker, tt)))))
 
 -- the words of a step's text
-words-text_of_step : (p : Parameters) (carrier : Bool) (step : Step) → IsStep p carrier step
+words-text_of_step : (p : SettingsValue) (carrier : Bool) (step : Step) → IsStep p carrier step
     → words (text_of_step step) ≡ words_of_step step
 words-text_of_step p carrier step is = ap words (text_of_step-join step) ∙ words-join_step p carrier step is
 
 -- the words of a step are read as that step
-step_of_words-words : (p : Parameters) (carrier : Bool) (step : Step) → p.base ≤ 16 → IsStep p carrier step
+step_of_words-words : (p : SettingsValue) (carrier : Bool) (step : Step) → p.base ≤ 16 → IsStep p carrier step
     → step_of_words p carrier (words_of_step step) ≡ Some step
 step_of_words-words p carrier (Join name via) small is =
     ap (option_map (λ names. Join names.0 names.1)) (two_names-text p (codes "via") name via small is)
@@ -178,16 +178,16 @@ step_of_words-words p carrier (Cast word prefix asker) small is =
     simp (first, second, third)
 
 -- a step's text is read as that step
-pub step_of_text-text : (p : Parameters) (carrier : Bool) (step : Step) → p.base ≤ 16 → IsStep p carrier step
+pub step_of_text-text : (p : SettingsValue) (carrier : Bool) (step : Step) → p.base ≤ 16 → IsStep p carrier step
     → step_of_text p carrier (text_of_step step) ≡ Some step
 step_of_text-text p carrier step small is =
     ap (step_of_words p carrier) (words-text_of_step p carrier step is) ∙ step_of_words-words p carrier step small is
 
-abbrev IsWordsOfStep : Parameters → Bool → List (List ℕ) → Step → Type 0
+abbrev IsWordsOfStep : SettingsValue → Bool → List (List ℕ) → Step → Type 0
 IsWordsOfStep p carrier read step = (read ≡ words_of_step step) × IsStep p carrier step
 
 -- what is read of other words for the same, and as another step that is the same
-same_words : (p : Parameters) (carrier : Bool) (first : List ℕ) (others more : List (List ℕ)) (made step : Step) → others ≡ more
+same_words : (p : SettingsValue) (carrier : Bool) (first : List ℕ) (others more : List (List ℕ)) (made step : Step) → others ≡ more
     → made ≡ step → IsWordsOfStep p carrier (first ∷ more) made → IsWordsOfStep p carrier (first ∷ others) step
 same_words p carrier first others more made step words same is =
     subst (IsWordsOfStep p carrier (first ∷ others)) same (ap (λ w. first ∷ w) words ∙ is.0, is.1)
@@ -195,7 +195,7 @@ same_words p carrier first others more made step words same is =
 same_first : (word is : List ℕ) (others more : List (List ℕ)) → word ≡ is → others ≡ more → word ∷ others ≡ is ∷ more
 same_first word is others more first rest = cc
 
-name_step : (p : Parameters) (carrier : Bool) (kind : NameKind) (name : List ℕ) → IsName p name
+name_step : (p : SettingsValue) (carrier : Bool) (kind : NameKind) (name : List ℕ) → IsName p name
     → IsWordsOfStep p carrier (text_of_kind (shape.Name kind) ∷ text_of_name name ∷ []) (step_of_name kind name)
 name_step p carrier named.Leave name is = (refl, is)
 name_step p carrier named.Root name is = (refl, is)
@@ -203,7 +203,7 @@ name_step p carrier named.Table name is = (refl, is)
 name_step p carrier named.Pointers name is = (refl, is)
 name_step p carrier named.Abandon name is = (refl, is)
 
-pair_step : (p : Parameters) (carrier : Bool) (kind : PairKind) (first second : List ℕ) → is_there p carrier (shape.Pair kind) ≡ true
+pair_step : (p : SettingsValue) (carrier : Bool) (kind : PairKind) (first second : List ℕ) → is_there p carrier (shape.Pair kind) ≡ true
     → IsName p first × IsName p second
     → IsWordsOfStep p carrier (text_of_kind (shape.Pair kind) ∷ text_of_name first ∷ link_of_pair kind ∷ text_of_name second ∷ []) (step_of_pair kind first second)
 pair_step p carrier paired.Join first second there are = (refl, are)
@@ -214,13 +214,13 @@ pair_step p carrier paired.Walk first second there are = (refl, are)
 pair_step p carrier paired.RootSet first second there are =
     let parts = and_parts (p.base == 16) (p.digits == 40) there in (refl, (eqb-true p.base 16 parts.0, eqb-true p.digits 40 parts.1, are.0, are.1))
 
-place_step : (p : Parameters) (carrier : Bool) (kind : PlaceKind) (place : ℕ) → is_there p carrier (shape.Place kind) ≡ true
+place_step : (p : SettingsValue) (carrier : Bool) (kind : PlaceKind) (place : ℕ) → is_there p carrier (shape.Place kind) ≡ true
     → place < 2 ^ 32 → IsWordsOfStep p carrier (text_of_kind (shape.Place kind) ∷ decimal place ∷ []) (step_of_place kind place)
 place_step p carrier placed.Deliver place there below = (refl, below)
 place_step p carrier placed.Lose place there below = (refl, (there, below))
 place_step p carrier placed.Repeat place there below = (refl, (there, below))
 
-settle_step : (p : Parameters) (carrier : Bool) (others : List (List ℕ)) (step : Step) → settle_of_words others ≡ Some step
+settle_step : (p : SettingsValue) (carrier : Bool) (others : List (List ℕ)) (step : Step) → settle_of_words others ≡ Some step
     → IsWordsOfStep p carrier (codes "settle" ∷ others) step
 settle_step p carrier [] step read = let same : Settle ≡ step = cc in subst (IsWordsOfStep p carrier (codes "settle" ∷ [])) same (refl, tt)
 settle_step p carrier (word ∷ others) step read =
@@ -240,7 +240,7 @@ settle_step p carrier (word ∷ others) step read =
           ]
     ]
 
-garble_step : (p : Parameters) (others : List (List ℕ)) (step : Step) → garble_of_words others ≡ Some step
+garble_step : (p : SettingsValue) (others : List (List ℕ)) (step : Step) → garble_of_words others ≡ Some step
     → IsWordsOfStep p false (codes "garble" ∷ others) step
 garble_step p [] step read = absurd (cc)
 garble_step p (word ∷ others) step read =
@@ -252,7 +252,7 @@ garble_step p (word ∷ others) step read =
     same_words p false (codes "garble") (word ∷ others) (decimal made.0.0 ∷ decimal made.0.1.0 ∷ decimal made.0.1.1 ∷ []) (Garble made.0.0 made.0.1.0 made.0.1.1) step
     (same_first word (decimal made.0.0) others (decimal made.0.1.0 ∷ decimal made.0.1.1 ∷ []) first.0 more.0) made.2 (refl, (refl, first.1, more.1, more.2))
 
-cut_step : (p : Parameters) (others : List (List ℕ)) (step : Step)
+cut_step : (p : SettingsValue) (others : List (List ℕ)) (step : Step)
     → option_map (λ numbers. Cut numbers.0 numbers.1) (two_numbers (2 ^ 32) (2 ^ 32) others) ≡ Some step
     → IsWordsOfStep p false (codes "cut" ∷ others) step
 cut_step p others step read =
@@ -260,12 +260,12 @@ cut_step p others step read =
     let back = two_numbers-back (2 ^ 32) (2 ^ 32) others made.0 made.1 in
     same_words p false (codes "cut") others (decimal made.0.0 ∷ decimal made.0.1 ∷ []) (Cut made.0.0 made.0.1) step back.0 made.2 (refl, (refl, back.1, back.2))
 
-tick_step : (p : Parameters) (others : List (List ℕ)) (step : Step) → only Tick others ≡ Some step
+tick_step : (p : SettingsValue) (others : List (List ℕ)) (step : Step) → only Tick others ≡ Some step
     → IsWordsOfStep p true (codes "tick" ∷ others) step
 tick_step p others step read =
     let back = only-back Tick step others read in same_words p true (codes "tick") others [] Tick step back.0 back.1 (refl, refl)
 
-cast_step : (p : Parameters) (carrier : Bool) (others : List (List ℕ)) (step : Step) → p.base ≤ 16 → cast_of_words p others ≡ Some step
+cast_step : (p : SettingsValue) (carrier : Bool) (others : List (List ℕ)) (step : Step) → p.base ≤ 16 → cast_of_words p others ≡ Some step
     → IsWordsOfStep p carrier (codes "cast" ∷ others) step
 cast_step p carrier [] step small read = absurd (cc)
 cast_step p carrier (a ∷ []) step small read = absurd (cc)
@@ -291,7 +291,7 @@ cast_step p carrier (a ∷ b ∷ c ∷ d ∷ e ∷ []) step small read =
     ]
 cast_step p carrier (a ∷ b ∷ c ∷ d ∷ e ∷ f ∷ others) step small read = absurd (cc)
 
-step_of_kind-back : (p : Parameters) (carrier : Bool) (kind : Kind) (others : List (List ℕ)) (step : Step) → p.base ≤ 16
+step_of_kind-back : (p : SettingsValue) (carrier : Bool) (kind : Kind) (others : List (List ℕ)) (step : Step) → p.base ≤ 16
     → is_there p carrier kind ≡ true → step_of_kind p kind others ≡ Some step
     → IsWordsOfStep p carrier (text_of_kind kind ∷ others) step
 step_of_kind-back p carrier (shape.Name kind) others step small there read =
@@ -324,7 +324,7 @@ find-passes test (y ∷ ys) x found =
       | inr fails ↦ find-passes test ys x (rw fails at found)
     ]
 
-step_of_words-back : (p : Parameters) (carrier : Bool) (read : List (List ℕ)) (step : Step) → p.base ≤ 16
+step_of_words-back : (p : SettingsValue) (carrier : Bool) (read : List (List ℕ)) (step : Step) → p.base ≤ 16
     → step_of_words p carrier read ≡ Some step → IsWordsOfStep p carrier read step
 step_of_words-back p carrier [] step small told = absurd (cc)
 step_of_words-back p carrier (word ∷ others) step small read =
@@ -339,14 +339,14 @@ step_of_words-back p carrier (word ∷ others) step small read =
     ]
 
 -- a text is read as a step only where it is that step's text, and the step is one of these settings
-pub step_of_text-back : (p : Parameters) (carrier : Bool) (text : List ℕ) (step : Step) → p.base ≤ 16
+pub step_of_text-back : (p : SettingsValue) (carrier : Bool) (text : List ℕ) (step : Step) → p.base ≤ 16
     → step_of_text p carrier text ≡ Some step → (text ≡ text_of_step step) × IsStep p carrier step
 step_of_text-back p carrier text step small read =
     let back = step_of_words-back p carrier (words text) step small read in
     (sym (join_with_byte-slice_split 32 text) ∙ ap (join_with_byte 32) back.0 ∙ sym (text_of_step-join step), back.1)
 
 -- both at once
-pub step_of_text-exact : (p : Parameters) (carrier : Bool) (text : List ℕ) (step : Step) → p.base ≤ 16
+pub step_of_text-exact : (p : SettingsValue) (carrier : Bool) (text : List ℕ) (step : Step) → p.base ≤ 16
     → (step_of_text p carrier text ≡ Some step) ↔ ((text ≡ text_of_step step) × IsStep p carrier step)
 step_of_text-exact p carrier text step small =
     (step_of_text-back p carrier text step small, λ is. ap (step_of_text p carrier) is.0 ∙ step_of_text-text p carrier step small is.1)

@@ -3,14 +3,14 @@ use Rattle.std.specs.Prelude.{ℕ, ◌+◌, nat_le, false, List, [], ◌∷◌, 
 use Rattle.std.specs.Str.{is_utf8}
 use Rattle.toml.specs.Data.{Data, Members as Table}
 use Rattle.toml.specs.Parse.{parse_document}
-use Rattle.tap_name.specs.Settings.{Parameters}
+use Rattle.tap_name.specs.Settings.{SettingsValue}
 use Rattle.tap_scenario.specs.declared.fault.Key.{Key}
 use Rattle.tap_scenario.specs.declared.fault.Key.TheVariants.{Base, Digits, Width, Frames, Members, Steps}
 use Rattle.tap_scenario.specs.declared.fault.Fault.{Fault}
 use Rattle.tap_scenario.specs.declared.fault.Fault.TheVariants.{NotUtf8, NotToml, BadKey, BadValue, BadStep}
 use Rattle.tap_scenario.specs.declared.step.Step.{Step}
 use Rattle.tap_scenario.specs.Key.{value_at, wrong_key}
-use Rattle.tap_scenario.specs.Scenario.{Script, most_frames}
+use Rattle.tap_scenario.specs.Scenario.{ScenarioValue, most_frames}
 use Rattle.tap_scenario.specs.Step.{step_of_text, can_run}
 use Rattle.tap_scenario.specs.Fault.{◌>>=◌, cons_result}
 use Rattle.tap_scenario.specs.Value.{whole_number, array_of_strings, members_of_texts}
@@ -20,24 +20,24 @@ abbrev pub read_at : {A : Type 0} → Key → (Data → Option A) → Table → 
 read_at key reading table = ok_or (option_and_then reading (value_at key table)) (BadValue key)
 
 -- the settings that a table gives, or the first fault
-abbrev pub settings_of : Table → Result Parameters Fault
+abbrev pub settings_of : Table → Result SettingsValue Fault
 settings_of table =
     read_at Base (whole_number 2 16) table >>= (λ base.
     read_at Digits (whole_number 1 40) table >>= (λ digits.
     read_at Width (whole_number 1 4) table >>= (λ width.
-    let settings : Parameters = record { base = base; digits = digits; width = width } in Ok settings)))
+    let settings : SettingsValue = record { base = base; digits = digits; width = width } in Ok settings)))
 
 -- the limit of frames where the text gives none, by the number of digits
 abbrev pub default_frames : ℕ → ℕ
 default_frames digits = if nat_le digits 8 then 200000 else 100000
 
 -- how many frames may be sent: as the table says, or else the default
-abbrev pub frames_of : Parameters → Table → Result ℕ Fault
+abbrev pub frames_of : SettingsValue → Table → Result ℕ Fault
 frames_of p table =
     if is_some (value_at Frames table) then read_at Frames (whole_number 1 (most_frames p.digits)) table else Ok (default_frames p.digits)
 
 -- the members that a table gives
-abbrev pub members_of : Parameters → Table → Result (List (List ℕ)) Fault
+abbrev pub members_of : SettingsValue → Table → Result (List (List ℕ)) Fault
 members_of p table = read_at Members array_of_strings table >>= (λ texts. ok_or (members_of_texts p texts) (BadValue Members))
 
 -- a step that a run takes
@@ -45,7 +45,7 @@ abbrev pub if_runs : Step → Option Step
 if_runs step = if can_run step then Some step else None
 
 -- the step of the string of this number, which is at most 10,000
-abbrev pub numbered_step : Parameters → ℕ → List ℕ → Result Step Fault
+abbrev pub numbered_step : SettingsValue → ℕ → List ℕ → Result Step Fault
 numbered_step p number text =
     if nat_le number 10000 then ok_or (option_and_then if_runs (step_of_text p false text)) (BadStep number)
     else Err (BadStep number)
@@ -56,37 +56,37 @@ with_step steps (Ok step) = Ok (steps ++ step ∷ [])
 with_step steps (Err fault) = Err fault
 
 -- the steps of these strings, of which the first has this number
-abbrev pub steps_from : Parameters → ℕ → List (List ℕ) → Result (List Step) Fault
+abbrev pub steps_from : SettingsValue → ℕ → List (List ℕ) → Result (List Step) Fault
 steps_from p number [] = Ok []
 steps_from p number (text ∷ others) = cons_result (numbered_step p number text) (steps_from p (number + 1) others)
 
 -- the steps that a table gives, counted from 1
-abbrev pub steps_of : Parameters → Table → Result (List Step) Fault
+abbrev pub steps_of : SettingsValue → Table → Result (List Step) Fault
 steps_of p table = read_at Steps array_of_strings table >>= steps_from p 1
 
 -- the scenario of a table whose keys are right
-abbrev pub script_of : Table → Result Script Fault
+abbrev pub script_of : Table → Result ScenarioValue Fault
 script_of table =
     settings_of table >>= (λ settings.
     frames_of settings table >>= (λ frames.
     members_of settings table >>= (λ members.
     steps_of settings table >>= (λ steps.
-    let script : Script = record { settings = settings; frames = frames; members = members; steps = steps } in Ok script))))
+    let script : ScenarioValue = record { settings = settings; frames = frames; members = members; steps = steps } in Ok script))))
 
 -- this answer, where no key is wrong
-abbrev pub unless_wrong : Option Key → Result Script Fault → Result Script Fault
+abbrev pub unless_wrong : Option Key → Result ScenarioValue Fault → Result ScenarioValue Fault
 unless_wrong (Some key) answer = Err (BadKey key)
 unless_wrong None answer = answer
 
 -- the scenario of a table
-abbrev pub scenario_of_table : Table → Result Script Fault
+abbrev pub scenario_of_table : Table → Result ScenarioValue Fault
 scenario_of_table table = unless_wrong (wrong_key table) (script_of table)
 
 -- the scenario of a text's table, where the text is TOML
-abbrev pub scenario_of_document : Option Table → Result Script Fault
+abbrev pub scenario_of_document : Option Table → Result ScenarioValue Fault
 scenario_of_document None = Err NotToml
 scenario_of_document (Some table) = scenario_of_table table
 
 -- the scenario that these bytes are, or the first fault
-unfoldable pub scenario_of : List ℕ → Result Script Fault
+unfoldable pub scenario_of : List ℕ → Result ScenarioValue Fault
 scenario_of bytes = if is_utf8 bytes then scenario_of_document (parse_document bytes) else Err NotUtf8

@@ -1,6 +1,6 @@
 -- the first words of steps, and which steps there are
 use Rattle.std.specs.Prelude.{ℕ, ◌==◌, Bool, true, ◌&&◌, not, List, [], ◌∷◌, codes, bytes_eq, find, Option}
-use Rattle.tap_name.specs.Settings.{Parameters}
+use Rattle.tap_name.specs.Settings.{SettingsValue}
 use Rattle.tap_scenario.specs.declared.kind.NameKind.TheVariants.{Leave, Root, Table, Pointers, Abandon}
 use Rattle.tap_scenario.specs.declared.kind.PairKind.{PairKind}
 use Rattle.tap_scenario.specs.declared.kind.PairKind.TheVariants.{Join, Publish, Withdraw, Find, Walk, RootSet}
@@ -52,7 +52,7 @@ abbrev pub kind_of_word : List ℕ → Option Kind
 kind_of_word word = find (λ kind. bytes_eq word (text_of_kind kind)) kinds
 
 -- whether there are steps of this kind with these settings, in a scenario that is carried or not
-abbrev pub is_there : Parameters → Bool → Kind → Bool
+abbrev pub is_there : SettingsValue → Bool → Kind → Bool
 is_there p carrier (Name kind) = true
 is_there p carrier (Pair Join) = true
 is_there p carrier (Pair Publish) = true

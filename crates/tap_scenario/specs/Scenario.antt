@@ -1,14 +1,14 @@
 -- what a scenario is
 use Rattle.std.specs.Prelude.{ℕ, ◌≤◌, nat_le, false, IsTrue, if◌then◌else◌, List, length, All}
-use Rattle.tap_name.specs.Settings.{Parameters, AreWithinLimits}
+use Rattle.tap_name.specs.Settings.{SettingsValue, AreWithinLimits}
 use Rattle.tap_name.specs.Name.{IsName}
 use Rattle.tap_name.specs.Distinct.{AreDistinct}
 use Rattle.tap_scenario.specs.declared.step.Step.{Step}
 use Rattle.tap_scenario.specs.Step.{IsStep, can_run}
 
 -- the settings, how many frames may be sent, the members at the start, and the steps
-pub record Script : Type 0 where
-  pub settings : Parameters
+pub record ScenarioValue : Type 0 where
+  pub settings : SettingsValue
   pub frames : ℕ
   pub members : List (List ℕ)
   pub steps : List Step
@@ -18,7 +18,7 @@ abbrev pub most_frames : ℕ → ℕ
 most_frames digits = if nat_le digits 8 then 500000 else 100000
 
 -- each part is within its limits
-pub record IsScript (s : Script) : Type 0 where
+pub record IsScript (s : ScenarioValue) : Type 0 where
   pub settings : AreWithinLimits s.settings
   pub frames_from : 1 ≤ s.frames
   pub frames_to : s.frames ≤ most_frames s.settings.digits

@@ -4,7 +4,7 @@ use Rattle.std.specs.List.{list_all}
 use Rattle.std.specs.Option.{option_zip}
 use Rattle.std.specs.Result.{result_ok}
 use Rattle.std.specs.Str.Parse.{digits_value}
-use Rattle.tap_name.specs.Settings.{Parameters}
+use Rattle.tap_name.specs.Settings.{SettingsValue}
 use Rattle.tap_name.specs.Name.{IsName, name_of_text, text_of_name}
 use Rattle.tap_scenario.specs.Kind.{kind_of_word, is_there, link_of_pair}
 use Rattle.tap_scenario.specs.Words.{words}
@@ -30,13 +30,13 @@ pub record IsWord (word : List ℕ) : Type 0 where
   pub bytes : All (λ byte. IsTrue (is_word_byte byte)) word
 
 -- a prefix of names of these settings
-pub record IsPrefix (p : Parameters) (prefix : List ℕ) : Type 0 where
+pub record IsPrefix (p : SettingsValue) (prefix : List ℕ) : Type 0 where
   pub few : length prefix ≤ p.digits
   pub below : All (λ digit. digit < p.base) prefix
 
 -- A step of these settings, in a scenario that is carried or not: its names are names of the settings, its numbers are within
 -- their limits, and its kind is there.
-abbrev pub IsStep : Parameters → Bool → Step → Type 0
+abbrev pub IsStep : SettingsValue → Bool → Step → Type 0
 IsStep p carrier (Join name via) = IsName p name × IsName p via
 IsStep p carrier (Depart name) = IsName p name
 IsStep p carrier (Publish object server) = IsName p object × IsName p server
@@ -101,27 +101,27 @@ abbrev pub word_of_bytes : List ℕ → Option (List ℕ)
 word_of_bytes bytes = if nat_le 1 (length bytes) && nat_le (length bytes) 32 && list_all is_word_byte bytes then Some bytes else None
 
 -- the name that a word spells
-abbrev pub name_of_word : Parameters → List ℕ → Option (List ℕ)
+abbrev pub name_of_word : SettingsValue → List ℕ → Option (List ℕ)
 name_of_word p word = result_ok (name_of_text p word)
 
 -- the settings of names with so many digits
-abbrev pub with_digits : ℕ → Parameters → Parameters
+abbrev pub with_digits : ℕ → SettingsValue → SettingsValue
 with_digits digits p = record { base = p.base; digits = digits; width = p.width }
 
 -- the prefix that a word spells
-abbrev pub prefix_of_word : Parameters → List ℕ → Option (List ℕ)
+abbrev pub prefix_of_word : SettingsValue → List ℕ → Option (List ℕ)
 prefix_of_word p word =
     if bytes_eq word (codes "*") then Some []
     else if nat_le 1 (length word) && nat_le (length word) p.digits then name_of_word (with_digits (length word) p) word
     else None
 
 -- words that are one name
-abbrev pub one_name : Parameters → List (List ℕ) → Option (List ℕ)
+abbrev pub one_name : SettingsValue → List (List ℕ) → Option (List ℕ)
 one_name p (word ∷ []) = name_of_word p word
 one_name p _ = None
 
 -- words that are two names with this word between them
-abbrev pub two_names : Parameters → List ℕ → List (List ℕ) → Option (List ℕ × List ℕ)
+abbrev pub two_names : SettingsValue → List ℕ → List (List ℕ) → Option (List ℕ × List ℕ)
 two_names p link (first ∷ word ∷ second ∷ []) =
     if bytes_eq word link then option_zip (name_of_word p first) (name_of_word p second) else None
 two_names p link _ = None
@@ -157,7 +157,7 @@ garble_of_words (word ∷ others) =
     (option_zip (number_below (2 ^ 32) word) (two_numbers (2 ^ 32) 256 others))
 
 -- what follows the word `cast`
-abbrev pub cast_of_words : Parameters → List (List ℕ) → Option Step
+abbrev pub cast_of_words : SettingsValue → List (List ℕ) → Option Step
 cast_of_words p (word ∷ to ∷ prefix ∷ from ∷ asker ∷ []) =
     if bytes_eq to (codes "to") && bytes_eq from (codes "from")
     then option_map (λ parts. Cast parts.0 parts.1.0 parts.1.1)
@@ -189,7 +189,7 @@ step_of_place placed.Lose = Lose
 step_of_place placed.Repeat = Repeat
 
 -- the step of a kind with these words behind its first one
-abbrev pub step_of_kind : Parameters → Kind → List (List ℕ) → Option Step
+abbrev pub step_of_kind : SettingsValue → Kind → List (List ℕ) → Option Step
 step_of_kind p (shape.Name kind) others = option_map (step_of_name kind) (one_name p others)
 step_of_kind p (shape.Pair kind) others = option_map (λ names. step_of_pair kind names.0 names.1) (two_names p (link_of_pair kind) others)
 step_of_kind p (shape.Place kind) others = option_map (step_of_place kind) (one_number (2 ^ 32) others)
@@ -200,13 +200,13 @@ step_of_kind p shape.Tick others = only Tick others
 step_of_kind p shape.Cast others = cast_of_words p others
 
 -- the step of these words: the first one tells its kind, which has to be there
-abbrev pub step_of_words : Parameters → Bool → List (List ℕ) → Option Step
+abbrev pub step_of_words : SettingsValue → Bool → List (List ℕ) → Option Step
 step_of_words p carrier [] = None
 step_of_words p carrier (word ∷ others) =
     option_and_then (λ kind. if is_there p carrier kind then step_of_kind p kind others else None) (kind_of_word word)
 
 -- the step that a text is, in a scenario that is carried or not
-abbrev pub step_of_text : Parameters → Bool → List ℕ → Option Step
+abbrev pub step_of_text : SettingsValue → Bool → List ℕ → Option Step
 step_of_text p carrier text = step_of_words p carrier (words text)
 
 -- the kinds of step that a run takes

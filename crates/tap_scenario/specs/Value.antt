@@ -2,7 +2,7 @@
 use Rattle.std.specs.Prelude.{ℕ, pos, nat_le, Bool, true, false, ◌&&◌, not, bytes_eq, List, [], ◌∷◌, length, Option, None, Some, option_and_then, if◌then◌else◌}
 use Rattle.std.specs.List.{list_any}
 use Rattle.toml.specs.Data.{Data, string, integer, array, Items, no_items, item}
-use Rattle.tap_name.specs.Settings.{Parameters}
+use Rattle.tap_name.specs.Settings.{SettingsValue}
 use Rattle.tap_scenario.specs.Step.{name_of_word}
 
 -- a whole number within these limits
@@ -38,7 +38,7 @@ cons_both (Some first) (Some others) = Some (first ∷ others)
 cons_both _ _ = None
 
 -- texts that are names
-abbrev pub names_of : Parameters → List (List ℕ) → Option (List (List ℕ))
+abbrev pub names_of : SettingsValue → List (List ℕ) → Option (List (List ℕ))
 names_of p [] = Some []
 names_of p (text ∷ others) = cons_both (name_of_word p text) (names_of p others)
 
@@ -47,6 +47,6 @@ abbrev pub distinct_names : List (List ℕ) → Option (List (List ℕ))
 distinct_names names = if are_distinct names then Some names else None
 
 -- 1 to 64 texts that are distinct names
-abbrev pub members_of_texts : Parameters → List (List ℕ) → Option (List (List ℕ))
+abbrev pub members_of_texts : SettingsValue → List (List ℕ) → Option (List (List ℕ))
 members_of_texts p texts =
     if nat_le 1 (length texts) && nat_le (length texts) 64 then option_and_then distinct_names (names_of p texts) else None

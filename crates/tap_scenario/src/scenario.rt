@@ -1,5 +1,5 @@
 ghost use Rattle.std.specs.Prelude.{◌≡◌, ◌<◌, length, slice_get, Some};
-ghost use Rattle.tap_scenario.specs.Scenario.{Script, IsScript};
+ghost use Rattle.tap_scenario.specs.Scenario.{ScenarioValue, IsScript};
 
 use crate::step::Step;
 use std::marker::Model;
@@ -20,9 +20,9 @@ pub struct Scenario {
 }
 
 impl Model for Scenario {
-    ghost use Rattle.tap_scenario.specs.Scenario.{Script, IsScript};
+    ghost use Rattle.tap_scenario.specs.Scenario.{ScenarioValue, IsScript};
 
-    ghost Value = { Script };
+    ghost Value = { ScenarioValue };
 
     ghost view = { λ s. record { settings = s.settings; frames = s.frames; members = s.members; steps = s.steps } };
 

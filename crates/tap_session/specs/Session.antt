@@ -10,6 +10,6 @@ pub record Session : Type 0 where
   pub waiting : ℕ
 
 -- the open sessions, ascending by number, and how many were ever opened
-pub record Numbered : Type 0 where
+pub record SessionsValue : Type 0 where
   pub sessions : List Session
   pub opened : ℕ

@@ -4,14 +4,14 @@ use Rattle.std.specs.List.{filter_map}
 use Rattle.tap_session.specs.declared.parent.Parent.{Parent}
 use Rattle.tap_session.specs.declared.sessions.Answered.{Answered}
 use Rattle.tap_session.specs.declared.sessions.Answered.TheVariants.{Open, Closed, Unknown}
-use Rattle.tap_session.specs.Session.{Session, Numbered}
+use Rattle.tap_session.specs.Session.{Session, SessionsValue}
 
 -- the open session of this number, if there is one
 abbrev pub session_of : List Session → ℕ → Option Session
 session_of sessions id = find (λ s. id == s.id) sessions
 
 -- the session that is opened next
-abbrev pub next_session : Numbered → Parent → ℕ → ℕ → Session
+abbrev pub next_session : SessionsValue → Parent → ℕ → ℕ → Session
 next_session s parent depth waiting = record { id = s.opened + 1; parent = parent; depth = depth; waiting = waiting }
 
 -- a session with one answer more: it waits for one less, and is gone where that was the last one
@@ -28,7 +28,7 @@ answer_to None = Unknown
 answer_to (Some s) = if s.waiting == 1 then Closed s.parent else Open
 
 -- the numbers of the open sessions ascend, each was given, and each session waits for an answer
-pub record AreSessions (s : Numbered) : Type 0 where
+pub record AreSessions (s : SessionsValue) : Type 0 where
   pub ascending : AllPairs (λ a b. a.id < b.id) s.sessions
   pub given : All (λ a. (1 ≤ a.id) × (a.id ≤ s.opened)) s.sessions
   pub waiting : All (λ a. 1 ≤ a.waiting) s.sessions

@@ -52,9 +52,9 @@ pub struct Sessions {
 }
 
 impl Model for Sessions {
-    ghost use Rattle.tap_session.specs.Session.{Numbered};
+    ghost use Rattle.tap_session.specs.Session.{SessionsValue};
 
-    ghost Value = { Numbered };
+    ghost Value = { SessionsValue };
 
     ghost use Rattle.tap_session.specs.Awaited.{AreCounted, sessions_of};
 

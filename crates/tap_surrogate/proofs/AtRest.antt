@@ -1,7 +1,7 @@
 -- the least members that fit each slot
 use Rattle.std.proofs.Common.{◌≡◌, inl, inr, ℕ, ◌≤◌, List, [], length, arith, subst, ap}
 use Rattle.tap_name.specs.declared.slot.Slot.{Slot}
-use Rattle.tap_name.specs.Settings.{Parameters, AreWithinLimits}
+use Rattle.tap_name.specs.Settings.{SettingsValue, AreWithinLimits}
 use Rattle.tap_name.specs.Root.{Among, AreNames}
 use Rattle.tap_name.specs.Slot.{Fits}
 use Rattle.tap_table.specs.Members.{AreLeastFitting}
@@ -20,7 +20,7 @@ least_fitting_filled width owner slot members links wide are member among fits n
     ]
 
 -- where each slot has the least members that fit, no table has a hole
-pub least_leave_no_hole : (p : Parameters) (members : List (List ℕ)) (tables : Tables) → AreWithinLimits p → AreNames p members
+pub least_leave_no_hole : (p : SettingsValue) (members : List (List ℕ)) (tables : Tables) → AreWithinLimits p → AreNames p members
     → AreMembersTables p members tables → IsHoleFree p members tables
 least_leave_no_hole p members tables limits names are =
     record {

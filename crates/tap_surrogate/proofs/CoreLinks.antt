@@ -5,7 +5,7 @@ use Rattle.std.proofs.lemmas.List.{drop_more}
 use Rattle.std.proofs.lemmas.Option.{get_or_from_slice_get, slice_get_within}
 use Rattle.tap_name.specs.declared.slot.Slot.{Slot}
 use Rattle.tap_name.specs.Root.{first_of}
-use Rattle.tap_table.specs.Table.{SlotLinks, Slots, links_at}
+use Rattle.tap_table.specs.Table.{SlotLinks, TableValue, links_at}
 use Rattle.tap_surrogate.specs.Nodes.{Nodes, core_links}
 use Rattle.tap_surrogate.specs.Tables.{least_link}
 
@@ -34,14 +34,14 @@ first_comes_later passes names k name answer none_before is answers failed =
     none_before ∙ later
 
 -- the core links of a slot are the core targets that the slot of the table has
-pub core_links_of : (nodes : Nodes) (table : Slots) (node : List ℕ) (slot : Slot) (links : SlotLinks) → nodes.table_of node ≡ Some table
+pub core_links_of : (nodes : Nodes) (table : TableValue) (node : List ℕ) (slot : Slot) (links : SlotLinks) → nodes.table_of node ≡ Some table
     → slot.digit < table.settings.base → links ≡ links_at table slot
     → filter nodes.core (map (λ e. e.target) links) ≡ core_links nodes node slot
 core_links_of nodes table node slot links is below same =
     let test = lt-ltb slot.digit table.settings.base below in rw (is, test, same) refl
 
 -- so the least link of a slot is the first core target there
-pub least_link_of : (nodes : Nodes) (table : Slots) (level digit : ℕ) (links : SlotLinks) → nodes.table_of table.owner ≡ Some table
+pub least_link_of : (nodes : Nodes) (table : TableValue) (level digit : ℕ) (links : SlotLinks) → nodes.table_of table.owner ≡ Some table
     → digit < table.settings.base → links ≡ links_at table (record { level = level; digit = digit })
     → least_link (core_links nodes) table.owner level digit ≡ first_of (filter nodes.core (map (λ e. e.target) links))
 least_link_of nodes table level digit links is below same =

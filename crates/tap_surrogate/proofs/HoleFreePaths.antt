@@ -5,7 +5,7 @@ use Rattle.std.specs.List.{last_or}
 use Rattle.std.proofs.lemmas.Bool.{cases_Bool, or_cases, eqb-true, eq-eqb, eqb-false, true≢false}
 use Rattle.std.proofs.lemmas.List.Elements.{All-head, All-tail}
 use Rattle.tap_name.specs.declared.slot.Slot.{Slot}
-use Rattle.tap_name.specs.Settings.{Parameters}
+use Rattle.tap_name.specs.Settings.{SettingsValue}
 use Rattle.tap_name.specs.Cyclic.{first_cyclic}
 use Rattle.tap_name.specs.Root.{Among, has_digit, narrowed, first_of}
 use Rattle.tap_surrogate.specs.Tables.{Tables, least_link}
@@ -38,7 +38,7 @@ record Reaches (core : List (List ℕ)) (node : List ℕ) (level digit : ℕ) (t
   prefix : take level node ≡ take level to
   digit_is : get_or to level 0 ≡ digit
 
-least_reaches : (p : Parameters) (core : List (List ℕ)) (tables : Tables) → IsHoleFree p core tables → (node : List ℕ)
+least_reaches : (p : SettingsValue) (core : List (List ℕ)) (tables : Tables) → IsHoleFree p core tables → (node : List ℕ)
     (level digit : ℕ) → Among node core
     → is_some (least_link tables node level digit) ≡ true
     → (to : List ℕ) × (least_link tables node level digit ≡ Some to) × Reaches core node level digit to
@@ -50,7 +50,7 @@ least_reaches p core tables free node level digit here full =
     (w.0, w.1, record { among = s.1; prefix = shares.prefix; digit_is = shares.digit })
 
 -- a digit leads on from the node exactly where some name that is left has it
-same_digit : (p : Parameters) (core : List (List ℕ)) (tables : Tables) → IsHoleFree p core tables → (node : List ℕ)
+same_digit : (p : SettingsValue) (core : List (List ℕ)) (tables : Tables) → IsHoleFree p core tables → (node : List ℕ)
     (level : ℕ) (names : List (List ℕ)) → level < p.digits
     → AreLeft core node level names → (digit : ℕ) → has_digit names level digit ≡ leads tables node level digit
 same_digit p core tables free node level names inside left digit =
@@ -75,7 +75,7 @@ same_digit p core tables free node level names inside left digit =
     ])
 
 -- after a level, those are left that share one more digit with the node where the walk stands next
-left_more : (p : Parameters) (core : List (List ℕ)) (tables : Tables) → IsHoleFree p core tables → (node next : List ℕ)
+left_more : (p : SettingsValue) (core : List (List ℕ)) (tables : Tables) → IsHoleFree p core tables → (node next : List ℕ)
     (level : ℕ) (names : List (List ℕ)) (digit : ℕ) → level < p.digits
     → AreLeft core node level names → Reaches core node level digit next
     → AreLeft core next (level + 1) (filter (λ x. get_or x level 0 == digit) names)
@@ -98,7 +98,7 @@ hop_other : (base : ℕ) (tables : Tables) (node : List ℕ) (level wanted : ℕ
 hop_other base tables node level wanted other = rw other refl
 
 -- at a level the walk stays, by its own digit, or hops to a core node
-taken_leads : (p : Parameters) (core : List (List ℕ)) (tables : Tables) → IsHoleFree p core tables → (node : List ℕ)
+taken_leads : (p : SettingsValue) (core : List (List ℕ)) (tables : Tables) → IsHoleFree p core tables → (node : List ℕ)
     (level wanted : ℕ) → level < p.digits → wanted < p.base → Among node core
     → let digit = taken_digit p.base tables node level wanted
     in (hop p.base tables node level wanted ≡ None) × Reaches core node level digit node
@@ -148,7 +148,7 @@ narrowed-taken : (base : ℕ) (tables : Tables) (node : List ℕ) (level wanted 
     → first_of (narrowed base level (wanted ∷ more) names) ≡ first_of (narrowed base (level + 1) more (filter (λ x. get_or x level 0 == taken_digit base tables node level wanted) names))
 narrowed-taken base tables node level wanted more names agree = rw agree refl
 
-leads_on : (p : Parameters) (core : List (List ℕ)) (tables : Tables) → IsHoleFree p core tables → (more : List ℕ)
+leads_on : (p : SettingsValue) (core : List (List ℕ)) (tables : Tables) → IsHoleFree p core tables → (more : List ℕ)
     (node : List ℕ) (level : ℕ) (names : List (List ℕ))
     → level + length more ≡ p.digits → All (λ d. d < p.base) more → AreLeft core node level names
     → Leads core node (length more) (first_of (narrowed p.base level more names)) (walk_on p.base tables node level more)

@@ -16,7 +16,7 @@ use Rattle.tap_link.specs.LinkSet.{IsAscending}
 use Rattle.tap_name.proofs.Names.{among-All}
 use Rattle.tap_table.specs.Members.{IsBelow}
 use Rattle.tap_table.proofs.Least.{below_later}
-use Rattle.tap_table.specs.Table.{IsTable, SlotLinks, Slots, links_at, name_cmp, place_of}
+use Rattle.tap_table.specs.Table.{IsTable, SlotLinks, TableValue, links_at, name_cmp, place_of}
 use Rattle.tap_surrogate.specs.Nodes.{IsLeastLink, Nodes, core_links}
 use Rattle.tap_surrogate.proofs.CoreLinks.{core_links_of}
 use Rattle.tap_surrogate.proofs.Standing.{core_link_fits}
@@ -68,7 +68,7 @@ place_where_it_fits a b slot fits = elim (cases_Bool (eqb (common_prefix_len nat
 ]
 
 -- a hop from a node leads to the least core node of one slot of its table
-pub hop_is_least : (nodes : Nodes) (table : Slots) (level digit : ℕ) (links : SlotLinks) (to : List ℕ) → IsTable table
+pub hop_is_least : (nodes : Nodes) (table : TableValue) (level digit : ℕ) (links : SlotLinks) (to : List ℕ) → IsTable table
     → nodes.table_of table.owner ≡ Some table → digit < table.settings.base
     → links ≡ links_at table (record { level = level; digit = digit })
     → Some to ≡ first_of (filter nodes.core (map (λ e. e.target) links))

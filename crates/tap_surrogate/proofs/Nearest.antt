@@ -3,7 +3,7 @@ use Rattle.std.proofs.Common.{◌≡◌, ◌==◌, inl, inr, ℕ, ◌+◌, ◌<�
 use Rattle.std.proofs.lemmas.Bool.{cases_lt, eqb-true, eq-eqb}
 use Rattle.std.proofs.lemmas.List.{drop_more, take_more}
 use Rattle.std.proofs.lemmas.List.Elements.{All-push, All-cons, All-nil}
-use Rattle.tap_name.specs.Settings.{Parameters}
+use Rattle.tap_name.specs.Settings.{SettingsValue}
 use Rattle.tap_name.specs.Name.{IsName}
 use Rattle.tap_name.specs.Cyclic.{first_cyclic}
 use Rattle.tap_name.specs.Root.{Among, AreNames, has_digit, narrowed, first_of, root}
@@ -32,7 +32,7 @@ as_near_same base object a b many all shared at inside at_shared =
     let same = ap (cyclic_distance base (get_or object at 0)) (same_at at many a b (omega arith) shared) in omega (arith, same)
 
 -- between two that share some digits stands none that doesn't share them
-shared_between : (p : Parameters) (object a b c : List ℕ) → IsName p object → IsName p a → IsName p b → IsName p c
+shared_between : (p : SettingsValue) (object a b c : List ℕ) → IsName p object → IsName p a → IsName p b → IsName p c
     → IsAsNear p.base object a b → IsAsNear p.base object b c
     → (level many : ℕ) → level ≤ many → many ≤ p.digits → take many a ≡ take many c → take level a ≡ take level b
 shared_between p object a b c object_name a_name b_name c_name near next zero many within most shared = refl
@@ -49,7 +49,7 @@ shared_between p object a b c object_name a_name b_name c_name near next (suc le
     rw add-one at (share_more p level a b a_name b_name inside before same)
 
 -- to be as near is transitive
-pub as_near-trans : (p : Parameters) (object a b c : List ℕ) → IsName p object → IsName p a → IsName p b → IsName p c
+pub as_near-trans : (p : SettingsValue) (object a b c : List ℕ) → IsName p object → IsName p a → IsName p b → IsName p c
     → IsAsNear p.base object a b → IsAsNear p.base object b c → IsAsNear p.base object a c
 as_near-trans p object a b c object_name a_name b_name c_name near next level inside shared =
     let before = shared_between p object a b c object_name a_name b_name c_name near next level level (omega arith) (omega (arith, object_name.len)) shared in
@@ -58,14 +58,14 @@ as_near-trans p object a b c object_name a_name b_name c_name near next level in
     omega (arith, low, high)
 
 -- what is left of some names at a level, as the nearest of them sees it
-record AreLeft (p : Parameters) (object nearest : List ℕ) (level : ℕ) (names : List (List ℕ)) : Type 0 where
+record AreLeft (p : SettingsValue) (object nearest : List ℕ) (level : ℕ) (names : List (List ℕ)) : Type 0 where
   here : Among nearest names
   valid : (x : List ℕ) → Among x names → IsName p x
   share : (x : List ℕ) → Among x names → take level nearest ≡ take level x
   near : (x : List ℕ) → Among x names → IsAsNear p.base object nearest x
 
 -- the digit that is kept at a level is the nearest name's
-kept_digit : (p : Parameters) (object nearest : List ℕ) (level : ℕ) (names : List (List ℕ)) → IsName p object
+kept_digit : (p : SettingsValue) (object nearest : List ℕ) (level : ℕ) (names : List (List ℕ)) → IsName p object
     → level < p.digits → AreLeft p object nearest level names
     → first_cyclic p.base (has_digit names level) (get_or object level 0) ≡ get_or nearest level 0
 kept_digit p object nearest level names object_name inside left =
@@ -79,7 +79,7 @@ kept_digit p object nearest level names object_name inside left =
     let same = ap (cyclic_distance p.base (get_or object level 0)) w.2 in
     omega (arith, near, same))
 
-left_more : (p : Parameters) (object nearest : List ℕ) (level : ℕ) (names : List (List ℕ)) → level < p.digits
+left_more : (p : SettingsValue) (object nearest : List ℕ) (level : ℕ) (names : List (List ℕ)) → level < p.digits
     → AreLeft p object nearest level names
     → AreLeft p object nearest (level + 1) (filter (λ x. get_or x level 0 == get_or nearest level 0) names)
 left_more p object nearest level names inside left =
@@ -93,7 +93,7 @@ left_more p object nearest level names inside left =
       near = λ x h. left.near x (among-filter test names x h).0;
     }
 
-narrowed_to_nearest : (p : Parameters) (object nearest more : List ℕ) (level : ℕ) (names : List (List ℕ))
+narrowed_to_nearest : (p : SettingsValue) (object nearest more : List ℕ) (level : ℕ) (names : List (List ℕ))
     → IsName p object → level + length more ≡ p.digits
     → more ≡ drop level object → AreLeft p object nearest level names
     → first_of (narrowed p.base level more names) ≡ Some nearest
@@ -117,18 +117,18 @@ pub root-nil : (base : ℕ) (object : List ℕ) → root base [] object ≡ None
 root-nil base object = rw (narrowed-nil base 0 object) refl
 
 -- a name that no other one comes before is the root
-pub nearest_is_root : (p : Parameters) (names : List (List ℕ)) (object nearest : List ℕ) → AreNames p names
+pub nearest_is_root : (p : SettingsValue) (names : List (List ℕ)) (object nearest : List ℕ) → AreNames p names
     → IsName p object → Among nearest names
     → ((x : List ℕ) → Among x names → IsAsNear p.base object nearest x) → root p.base names object ≡ Some nearest
 nearest_is_root p names object nearest valid object_name here near =
     narrowed_to_nearest p object nearest object 0 names object_name (omega (arith, object_name.len)) refl (record { here = here; valid = valid; share = λ x h. refl; near = near })
 
 -- The nearest of the names that were seen so far: the first one, and as many of the others as the index says.
-pub record IsNearestSeen (p : Parameters) (object : List ℕ) (names : List (List ℕ)) (first : List ℕ) (others : List (List ℕ)) (i : ℕ) (nearest : List ℕ) : Type 0 where
+pub record IsNearestSeen (p : SettingsValue) (object : List ℕ) (names : List (List ℕ)) (first : List ℕ) (others : List (List ℕ)) (i : ℕ) (nearest : List ℕ) : Type 0 where
   pub among : Among nearest names
   pub near : All (IsAsNear p.base object nearest) (first ∷ take i others)
 
-pub first_is_nearest : (p : Parameters) (object : List ℕ) (names : List (List ℕ)) (first : List ℕ)
+pub first_is_nearest : (p : SettingsValue) (object : List ℕ) (names : List (List ℕ)) (first : List ℕ)
     (others : List (List ℕ)) → names ≡ first ∷ others
     → IsNearestSeen p object names first others 0 first
 first_is_nearest p object names first others split =
@@ -150,7 +150,7 @@ one_more P first others i item inside is all here =
     rw (take_more others i item inside, ← is) pushed
 
 -- the next name is no nearer
-pub nearest_stays : (p : Parameters) (object : List ℕ) (names : List (List ℕ)) (first : List ℕ) (others : List (List ℕ))
+pub nearest_stays : (p : SettingsValue) (object : List ℕ) (names : List (List ℕ)) (first : List ℕ) (others : List (List ℕ))
     (i : ℕ) (item nearest : List ℕ) → i < length others
     → item ≡ get_or others i item → IsNearestSeen p object names first others i nearest
     → IsAsNear p.base object nearest item → IsNearestSeen p object names first others (i + 1) nearest
@@ -158,7 +158,7 @@ nearest_stays p object names first others i item nearest inside is seen near =
     record { among = seen.among; near = one_more (IsAsNear p.base object nearest) first others i item inside is seen.near near }
 
 -- the next name is as near
-pub nearest_changes : (p : Parameters) (object : List ℕ) (names : List (List ℕ)) (first : List ℕ)
+pub nearest_changes : (p : SettingsValue) (object : List ℕ) (names : List (List ℕ)) (first : List ℕ)
     (others : List (List ℕ)) (i : ℕ) (item nearest : List ℕ) → AreNames p names → IsName p object
     → names ≡ first ∷ others → i < length others → item ≡ get_or others i item
     → IsNearestSeen p object names first others i nearest → IsAsNear p.base object item nearest
@@ -176,7 +176,7 @@ nearest_changes p object names first others i item nearest valid object_name spl
     }
 
 -- all names were seen
-pub nearest_seen_is_root : (p : Parameters) (object : List ℕ) (names : List (List ℕ)) (first : List ℕ)
+pub nearest_seen_is_root : (p : SettingsValue) (object : List ℕ) (names : List (List ℕ)) (first : List ℕ)
     (others : List (List ℕ)) (i : ℕ) (nearest : List ℕ) → AreNames p names → IsName p object
     → names ≡ first ∷ others → length others ≤ i → IsNearestSeen p object names first others i nearest
     → root p.base names object ≡ Some nearest

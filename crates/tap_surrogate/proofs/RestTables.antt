@@ -11,13 +11,13 @@ use Rattle.std.proofs.lemmas.List.FromFn.{get_or-map-range_with_len, length-map-
 use Rattle.std.proofs.lemmas.List.Sorted.{All-permutation, IsPermutation-sym}
 use Rattle.tap_name.specs.declared.slot.Slot.{Slot}
 use Rattle.tap_name.specs.Name.{IsName}
-use Rattle.tap_name.specs.Settings.{Parameters}
+use Rattle.tap_name.specs.Settings.{SettingsValue}
 use Rattle.tap_name.specs.Slot.{slot_at}
 use Rattle.tap_name.specs.Root.{Among, AreNames}
 use Rattle.tap_name.proofs.Names.{among-All, All-among, among-filter, among-take}
 use Rattle.tap_name.proofs.Slots.{shares_what_fits}
 use Rattle.tap_table.specs.Members.{AreLeastFitting, IsTableAtRest, first_fitting, fitting, is_slot, settled_links, table_at_rest}
-use Rattle.tap_table.specs.Table.{SlotLinks, Slots, slot_number, slot_numbered}
+use Rattle.tap_table.specs.Table.{SlotLinks, TableValue, slot_number, slot_numbered}
 use Rattle.tap_table.proofs.Least.{first_fitting_law_holds, is_slot-to}
 use Rattle.tap_table.proofs.Slots.{number_back, number_inside}
 use Rattle.tap_surrogate.specs.Nodes.{Nodes, core_links, links_in}
@@ -38,7 +38,7 @@ all_pass passes (x ∷ xs) each =
     let here = each x (inl refl) in rw here (ap (λ l. x ∷ l) (all_pass passes xs (λ y among. each y (inr among))))
 
 -- no name fits a slot that the settings haven't
-none_fit : (p : Parameters) (owner : List ℕ) (slot : Slot) (names : List (List ℕ)) → IsName p owner → AreNames p names
+none_fit : (p : SettingsValue) (owner : List ℕ) (slot : Slot) (names : List (List ℕ)) → IsName p owner → AreNames p names
     → ((slot.level < p.digits) × (slot.digit < p.base) → ⊥)
     → fitting owner slot names ≡ []
 none_fit p owner slot [] is_owner are outside = refl
@@ -54,12 +54,12 @@ none_fit p owner slot (x ∷ xs) is_owner are outside =
       | inr other ↦ rw other more
     ]
 
-none_first : (p : Parameters) (owner : List ℕ) (slot : Slot) (names : List (List ℕ)) → fitting owner slot names ≡ []
+none_first : (p : SettingsValue) (owner : List ℕ) (slot : Slot) (names : List (List ℕ)) → fitting owner slot names ≡ []
     → settled_links (first_fitting p owner slot names) ≡ []
 none_first p owner slot names none = ap (λ l. settled_links (take p.width l)) none ∙ ap settled_links (take-nil {A = List ℕ} p.width)
 
 -- a slot of a table at rest has settled links to the first names that fit it
-links_at_rest : (p : Parameters) (owner : List ℕ) (slot : Slot) (names : List (List ℕ)) → IsName p owner → AreNames p names
+links_at_rest : (p : SettingsValue) (owner : List ℕ) (slot : Slot) (names : List (List ℕ)) → IsName p owner → AreNames p names
     → links_in (Some (table_at_rest p owner names)) slot ≡ settled_links (first_fitting p owner slot names)
 links_at_rest p owner slot names is_owner are =
     let of : ℕ → SlotLinks = λ number. settled_links (first_fitting p owner (slot_numbered p.base number) names) in
@@ -88,7 +88,7 @@ links_at_rest p owner slot names is_owner are =
 
 -- ---- all members
 
-some_table : (o : Option Slots) (P : Slots → Type 0) → IsSomeAnd o P → (table : Slots) × (o ≡ Some table) × P table
+some_table : (o : Option TableValue) (P : TableValue → Type 0) → IsSomeAnd o P → (table : TableValue) × (o ≡ Some table) × P table
 some_table None P h = absurd h
 some_table (Some table) P h = (table, refl, h)
 
@@ -99,14 +99,14 @@ moved xs ys same =
     among-All P ys (All-permutation P xs ys same (All-among P xs (λ x among. among)))
 
 -- what a slot of a member's table has
-record SlotAtRest (p : Parameters) (owner : List ℕ) (members : List (List ℕ)) (nodes : Nodes) (slot : Slot) : Type 0 where
+record SlotAtRest (p : SettingsValue) (owner : List ℕ) (members : List (List ℕ)) (nodes : Nodes) (slot : Slot) : Type 0 where
   names : List (List ℕ)
   same : IsPermutation members names
   links : links_in (nodes.table_of owner) slot ≡ settled_links (first_fitting p owner slot names)
   core : core_links nodes owner slot ≡ first_fitting p owner slot names
   least : AreLeastFitting p.width owner slot names (first_fitting p owner slot names)
 
-slot_at_rest : (p : Parameters) (members : List (List ℕ)) (nodes : Nodes) → AreNames p members → AreMembersAtRest p members nodes
+slot_at_rest : (p : SettingsValue) (members : List (List ℕ)) (nodes : Nodes) → AreNames p members → AreMembersAtRest p members nodes
     → (owner : List ℕ) (slot : Slot) → Among owner members → SlotAtRest p owner members nodes slot
 slot_at_rest p members nodes valid rest owner slot among =
     let w = some_table (nodes.table_of owner) (IsTableAtRest p owner members) (rest.tables owner among) in

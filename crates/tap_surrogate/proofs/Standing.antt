@@ -6,12 +6,12 @@ use Rattle.std.proofs.lemmas.List.{get_or_past}
 use Rattle.std.proofs.lemmas.List.Elements.{All-head, All-tail}
 use Rattle.tap_name.specs.declared.slot.Slot.{Slot}
 use Rattle.tap_name.specs.Name.{IsName}
-use Rattle.tap_name.specs.Settings.{Parameters}
+use Rattle.tap_name.specs.Settings.{SettingsValue}
 use Rattle.tap_name.specs.Slot.{Fits}
 use Rattle.tap_name.specs.Root.{Among}
 use Rattle.tap_name.proofs.Names.{among-filter}
 use Rattle.tap_name.proofs.Prefix.{prefix_of_itself}
-use Rattle.tap_table.specs.Table.{IsTable, SlotLinks, Slots, StandsIn, links_at, place_of, slot_number, slot_numbered}
+use Rattle.tap_table.specs.Table.{IsTable, SlotLinks, TableValue, StandsIn, links_at, place_of, slot_number, slot_numbered}
 use Rattle.tap_table.proofs.Fitting.{slot_of_other}
 use Rattle.tap_table.proofs.Slots.{number_back, place_inside}
 use Rattle.tap_surrogate.specs.HoleFree.{IsHoleFree}
@@ -24,7 +24,7 @@ among_targets P (e ∷ links) all b (inl is) = subst P (sym is) (All-head (λ e.
 among_targets P (e ∷ links) all b (inr later) = among_targets P links (All-tail (λ e. P e.target) e links all) b later
 
 -- no slot of the table has the number at which its owner would stand
-owner_outside : (p : Parameters) (owner : List ℕ) (number : ℕ) → IsName p owner → number < p.base * p.digits
+owner_outside : (p : SettingsValue) (owner : List ℕ) (number : ℕ) → IsName p owner → number < p.base * p.digits
     → slot_number p.base (place_of owner owner) ≡ number → ⊥
 owner_outside p owner number is_owner inside is =
     let level : common_prefix_len nat_eq owner owner ≡ p.digits = prefix_of_itself owner ∙ is_owner.len in
@@ -33,7 +33,7 @@ owner_outside p owner number is_owner inside is =
     omega (arith, outside, inside)
 
 -- a name that stands at a slot's number fits the slot
-fits_where_it_stands : (p : Parameters) (owner b : List ℕ) (slot : Slot) → IsName p owner → slot.digit < p.base
+fits_where_it_stands : (p : SettingsValue) (owner b : List ℕ) (slot : Slot) → IsName p owner → slot.digit < p.base
     → slot_number p.base slot < p.base * p.digits → StandsIn p owner (slot_number p.base slot) b → Fits owner b slot
 fits_where_it_stands p owner b slot is_owner below inside stands =
     let other : b ≢ owner = λ same.
@@ -46,7 +46,7 @@ fits_where_it_stands p owner b slot is_owner below inside stands =
     slot_of_other p owner b is_owner stands.is_name other ∙ ap Some same
 
 -- each target in a slot is a name that fits it
-pub target_fits : (table : Slots) (slot : Slot) (b : List ℕ) → IsTable table → Among b (map (λ e. e.target) (links_in (Some table) slot))
+pub target_fits : (table : TableValue) (slot : Slot) (b : List ℕ) → IsTable table → Among b (map (λ e. e.target) (links_in (Some table) slot))
     → Fits table.owner b slot × IsName table.settings b
 target_fits table slot b valid among =
     let p = table.settings in
@@ -68,7 +68,7 @@ target_fits table slot b valid among =
     ]
 
 -- each core link stands in its own slot and is to a core node
-pub core_link_fits : (nodes : Nodes) (table : Slots) (node : List ℕ) (slot : Slot) (b : List ℕ) → IsTable table → table.owner ≡ node
+pub core_link_fits : (nodes : Nodes) (table : TableValue) (node : List ℕ) (slot : Slot) (b : List ℕ) → IsTable table → table.owner ≡ node
     → nodes.table_of node ≡ Some table → Among b (core_links nodes node slot)
     → Fits node b slot × IsCore nodes b
 core_link_fits nodes table node slot b valid owner is among =
@@ -77,13 +77,13 @@ core_link_fits nodes table node slot b valid owner is among =
     (subst (λ o. Fits o b slot) owner fits.0, w.1)
 
 -- the core nodes are these, and each has a table of its own
-pub record HaveTables (p : Parameters) (core : List (List ℕ)) (nodes : Nodes) : Type 0 where
+pub record HaveTables (p : SettingsValue) (core : List (List ℕ)) (nodes : Nodes) : Type 0 where
   pub are : (name : List ℕ) → IsCore nodes name ↔ Among name core
   pub tables : (node : List ℕ) → Among node core
-      → (table : Slots) × (nodes.table_of node ≡ Some table) × IsTableOf p node table × IsTable table
+      → (table : TableValue) × (nodes.table_of node ≡ Some table) × IsTableOf p node table × IsTable table
 
 -- then no table has a hole as soon as each slot that a core node fits has a core link
-pub hole_free_where_filled : (p : Parameters) (core : List (List ℕ)) (nodes : Nodes) → HaveTables p core nodes
+pub hole_free_where_filled : (p : SettingsValue) (core : List (List ℕ)) (nodes : Nodes) → HaveTables p core nodes
     → ((a b : List ℕ) (slot : Slot) → Among a core → Among b core → Fits a b slot → core_links nodes a slot ≢ [])
     → IsHoleFree p core (core_links nodes)
 hole_free_where_filled p core nodes have filled =

@@ -1,6 +1,6 @@
 -- The laws of walks and of tables at rest.
 use Rattle.std.specs.Prelude.{◌≡◌, ℕ, ◌≤◌, List, Some}
-use Rattle.tap_name.specs.Settings.{Parameters, AreWithinLimits}
+use Rattle.tap_name.specs.Settings.{SettingsValue, AreWithinLimits}
 use Rattle.tap_name.specs.Name.{IsName}
 use Rattle.tap_name.specs.Root.{Among, AreNames, first_of, root}
 use Rattle.tap_surrogate.specs.Tables.{Tables}
@@ -11,7 +11,7 @@ use Rattle.tap_surrogate.specs.Walk.{walk, hops, walk_end}
 
 -- The path of a walk over a core set: it leads from the node to the root of the object, over core
 -- nodes alone, in as many hops as a name has digits or fewer.
-pub record LeadsToRoot (p : Parameters) (core : List (List ℕ)) (node object : List ℕ)
+pub record LeadsToRoot (p : SettingsValue) (core : List (List ℕ)) (node object : List ℕ)
     (path : List (List ℕ)) : Type 0 where
   pub begins : first_of path ≡ Some node
   pub ends : walk_end path ≡ root p.base core object
@@ -20,16 +20,16 @@ pub record LeadsToRoot (p : Parameters) (core : List (List ℕ)) (node object : 
 
 -- over tables without holes each walk from a core node leads to the root
 abbrev pub WalkLaw : Type 0
-WalkLaw = (p : Parameters) (core : List (List ℕ)) (tables : Tables) → IsHoleFree p core tables
+WalkLaw = (p : SettingsValue) (core : List (List ℕ)) (tables : Tables) → IsHoleFree p core tables
     → (node object : List ℕ) → Among node core → IsName p object
     → LeadsToRoot p core node object (walk p.base tables node object)
 
 -- tables at rest over members have no hole
 abbrev pub RestLaw : Type 0
-RestLaw = (p : Parameters) (members : List (List ℕ)) (nodes : Nodes) → AreWithinLimits p
+RestLaw = (p : SettingsValue) (members : List (List ℕ)) (nodes : Nodes) → AreWithinLimits p
     → AreNames p members → AreMembersAtRest p members nodes → IsHoleFree p members (core_links nodes)
 
 -- they have settled links to the least members that fit, and no other links
 abbrev pub LeastLaw : Type 0
-LeastLaw = (p : Parameters) (members : List (List ℕ)) (nodes : Nodes) → AreWithinLimits p
+LeastLaw = (p : SettingsValue) (members : List (List ℕ)) (nodes : Nodes) → AreWithinLimits p
     → AreNames p members → AreMembersAtRest p members nodes → HaveLeastFitting p members nodes

@@ -1,15 +1,15 @@
 -- The nodes of an overlay as a walk reads them, and which of their links it follows.
 use Rattle.std.specs.Prelude.{◌≡◌, ℕ, nat_lt, Bool, true, if◌then◌else◌, List, [], map, filter, Option, None, Some}
 use Rattle.tap_name.specs.declared.slot.Slot.{Slot}
-use Rattle.tap_name.specs.Settings.{Parameters}
+use Rattle.tap_name.specs.Settings.{SettingsValue}
 use Rattle.tap_name.specs.Root.{Among}
 use Rattle.tap_table.specs.Members.{IsBelow}
-use Rattle.tap_table.specs.Table.{SlotLinks, Slots, links_at, place_of}
+use Rattle.tap_table.specs.Table.{SlotLinks, TableValue, links_at, place_of}
 use Rattle.tap_surrogate.specs.Tables.{Tables}
 
 -- for each name the table of its node, if it has one, and whether the node is core
 pub record Nodes : Type 0 where
-  pub table_of : List ℕ → Option Slots
+  pub table_of : List ℕ → Option TableValue
   pub core : List ℕ → Bool
 
 -- there is a core node of this name
@@ -17,12 +17,12 @@ abbrev pub IsCore : Nodes → List ℕ → Type 0
 IsCore nodes name = nodes.core name ≡ true
 
 -- this is the table of an owner, with the settings
-pub record IsTableOf (p : Parameters) (owner : List ℕ) (table : Slots) : Type 0 where
+pub record IsTableOf (p : SettingsValue) (owner : List ℕ) (table : TableValue) : Type 0 where
   pub owner_is : table.owner ≡ owner
   pub settings_are : table.settings ≡ p
 
 -- the links in a slot of a table: none where there is no table, or where the base has no such digit
-abbrev pub links_in : Option Slots → Slot → SlotLinks
+abbrev pub links_in : Option TableValue → Slot → SlotLinks
 links_in None slot = []
 links_in (Some table) slot = if nat_lt slot.digit table.settings.base then links_at table slot else []
 

@@ -2,13 +2,13 @@
 use Rattle.std.specs.Prelude.{◌≡◌, ◌<◌, [], ◌∷◌}
 use Rattle.tap_surrogate.specs.declared.walk.Step1.{Step1}
 use Rattle.tap_surrogate.specs.declared.walk.Step1.TheVariants.{Hop, Root}
-use Rattle.tap_name.specs.Settings.{Parameters}
+use Rattle.tap_name.specs.Settings.{SettingsValue}
 use Rattle.tap_surrogate.specs.Nodes.{Nodes, IsLeastLink, core_links}
-use Rattle.tap_surrogate.specs.Standing.{Standing, IsStanding, nodes_left}
+use Rattle.tap_surrogate.specs.Standing.{WalkValue, IsStanding, nodes_left}
 
 -- A hop leads to the least core node of a slot. It leaves the node where the walk stood behind,
 -- and raises the level.
-pub record IsHop (p : Parameters) (nodes : Nodes) (before after : Standing) : Type 0 where
+pub record IsHop (p : SettingsValue) (nodes : Nodes) (before after : WalkValue) : Type 0 where
   pub passes : nodes_left p.base (core_links nodes) before ≡ before.node ∷ nodes_left p.base (core_links nodes) after
   pub link : IsLeastLink nodes before.node after.node
   pub rises : before.level < after.level
@@ -16,11 +16,11 @@ pub record IsHop (p : Parameters) (nodes : Nodes) (before after : Standing) : Ty
   pub standing : IsStanding p nodes after
 
 -- The walk stays where it stands for all levels that are left.
-pub record IsAtRoot (p : Parameters) (nodes : Nodes) (before after : Standing) : Type 0 where
+pub record IsAtRoot (p : SettingsValue) (nodes : Nodes) (before after : WalkValue) : Type 0 where
   pub alone : nodes_left p.base (core_links nodes) before ≡ before.node ∷ []
   pub stays : after ≡ record before { level = p.digits }
 
 -- The step that a walk makes: a hop to the node where it then stands, or none, at the root.
-abbrev pub IsStep : Parameters → Nodes → Standing → Standing → Step1 → Type 0
+abbrev pub IsStep : SettingsValue → Nodes → WalkValue → WalkValue → Step1 → Type 0
 IsStep p nodes before after (Hop to) = (to ≡ after.node) × IsHop p nodes before after
 IsStep p nodes before after (Root node) = (node ≡ before.node) × IsAtRoot p nodes before after

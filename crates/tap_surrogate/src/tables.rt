@@ -1,5 +1,5 @@
 ghost use Rattle.std.specs.Prelude.{◌≡◌, IsSomeAnd, option_copied};
-ghost use Rattle.tap_name.specs.Settings.{Parameters};
+ghost use Rattle.tap_name.specs.Settings.{SettingsValue};
 ghost use Rattle.tap_surrogate.specs.Nodes.{Nodes, IsCore, IsTableOf};
 
 use tap_name::{Name, Settings};
@@ -10,7 +10,7 @@ use tap_table::Table;
 /// Rule: docs/PROTOCOL.md, "Walks".
 pub trait Tables {
     /// What the names of the nodes have in common.
-    ghost parameters: { Self → Parameters };
+    ghost parameters: { Self → SettingsValue };
 
     /// For each name the table, if a node of this name has one, and whether the node is core.
     ghost nodes: { Self → Nodes };

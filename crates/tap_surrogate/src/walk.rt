@@ -36,9 +36,9 @@ pub struct Walk {
 }
 
 impl Model for Walk {
-    ghost use Rattle.tap_surrogate.specs.Standing.{Standing};
+    ghost use Rattle.tap_surrogate.specs.Standing.{WalkValue};
 
-    ghost Value = { Standing };
+    ghost Value = { WalkValue };
 
     ghost view = { λ w. record { node = w.node; level = w.level; object = w.object } };
 }

@@ -8,7 +8,7 @@ use Rattle.std.proofs.lemmas.List.{append-nil, take_all, take-append-le, length-
 use Rattle.std.proofs.lemmas.List.Elements.{filter_more}
 use Rattle.tap_name.specs.declared.slot.Slot.{Slot}
 use Rattle.tap_name.specs.Name.{IsName}
-use Rattle.tap_name.specs.Settings.{Parameters}
+use Rattle.tap_name.specs.Settings.{SettingsValue}
 use Rattle.tap_name.specs.Slot.{slot_at}
 use Rattle.tap_name.proofs.Prefix.{prefix_of_itself}
 use Rattle.tap_table.specs.Members.{fitting, is_slot}
@@ -55,14 +55,14 @@ pub no_slot_of_itself : (owner : List ℕ) → slot_at owner owner ≡ None
 no_slot_of_itself owner = rw (eq-eqb (common_prefix_len nat_eq owner owner) (length owner) (prefix_of_itself owner)) refl
 
 -- another name stands in the slot of its place
-pub slot_of_other : (p : Parameters) (owner name : List ℕ) → IsName p owner → IsName p name → name ≢ owner → slot_at owner name ≡ Some (place_of owner name)
+pub slot_of_other : (p : SettingsValue) (owner name : List ℕ) → IsName p owner → IsName p name → name ≢ owner → slot_at owner name ≡ Some (place_of owner name)
 slot_of_other p owner name is_owner is_name other =
     let inside = place_inside p owner name is_owner is_name other in
     let apart : common_prefix_len nat_eq owner name ≡ length owner → ⊥ = λ all. omega (arith, inside.0, all, is_owner.len) in
     rw (ne_eqb (common_prefix_len nat_eq owner name) (length owner) apart) refl
 
 -- it fits the slot of its number alone
-pub fits_own : (p : Parameters) (owner name : List ℕ) (number : ℕ) → IsName p owner → IsName p name → name ≢ owner
+pub fits_own : (p : SettingsValue) (owner name : List ℕ) (number : ℕ) → IsName p owner → IsName p name → name ≢ owner
     → number ≡ slot_number p.base (place_of owner name) → is_slot (slot_numbered p.base number) (slot_at owner name) ≡ true
 fits_own p owner name number is_owner is_name other is =
     let level = common_prefix_len nat_eq owner name in
@@ -73,7 +73,7 @@ fits_own p owner name number is_owner is_name other is =
     rw (slot_of_other p owner name is_owner is_name other)
     (and_from _ _ (eq-eqb level (number / p.base) same_level) (eq-eqb digit (number % p.base) same_digit))
 
-pub fits_no_other : (p : Parameters) (owner name : List ℕ) (number : ℕ) → IsName p owner → IsName p name → name ≢ owner
+pub fits_no_other : (p : SettingsValue) (owner name : List ℕ) (number : ℕ) → IsName p owner → IsName p name → name ≢ owner
     → number ≢ slot_number p.base (place_of owner name) → is_slot (slot_numbered p.base number) (slot_at owner name) ≡ false
 fits_no_other p owner name number is_owner is_name other ne =
     let level = common_prefix_len nat_eq owner name in

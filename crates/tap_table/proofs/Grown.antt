@@ -12,13 +12,13 @@ use Rattle.std.proofs.lemmas.List.Elements.{All-filter, All-from_get_or, All-hea
 use Rattle.std.proofs.lemmas.List.Sums.{sum_by-cons}
 use Rattle.std.proofs.lemmas.List.FromFn.{fill_by_all}
 use Rattle.tap_name.specs.Name.{IsName}
-use Rattle.tap_name.specs.Settings.{Parameters}
+use Rattle.tap_name.specs.Settings.{SettingsValue}
 use Rattle.tap_name.specs.Slot.{slot_at}
 use Rattle.tap_link.specs.declared.kind.Kind.TheVariants.{Settled}
 use Rattle.tap_link.specs.Entry.{Entry}
 use Rattle.tap_link.specs.LinkSet.{is_settled, kind_of, settled_count, with_link}
 use Rattle.tap_table.specs.Members.{IsBelow, first_fitting, fitting, is_slot, settled_links, table_at_rest}
-use Rattle.tap_table.specs.Table.{SlotLinks, Slots, empty_table, has_room_near, kind_in, links_near, name_cmp, place_of, slot_number, slot_numbered, with_links}
+use Rattle.tap_table.specs.Table.{SlotLinks, TableValue, empty_table, has_room_near, kind_in, links_near, name_cmp, place_of, slot_number, slot_numbered, with_links}
 use Rattle.tap_table.proofs.Fitting.{fits_no_other, fits_own, fitting-push, fitting-skip, no_slot_of_itself, take-push}
 use Rattle.tap_table.proofs.Slots.{target_inside}
 
@@ -62,13 +62,13 @@ all_settled (x ∷ xs) =
     more ∙ omega (arith, all_settled xs)
 
 -- a table that has settled on these names
-pub record HasSettled (p : Parameters) (owner : List ℕ) (names : List (List ℕ)) (t : Slots) : Type 0 where
+pub record HasSettled (p : SettingsValue) (owner : List ℕ) (names : List (List ℕ)) (t : TableValue) : Type 0 where
   pub owner_is : t.owner ≡ owner
   pub settings_are : t.settings ≡ p
   pub count : length t.slots ≡ p.base * p.digits
   pub each : (k : ℕ) → k < p.base * p.digits → get_or t.slots k [] ≡ settled_links (first_fitting p owner (slot_numbered p.base k) names)
 
-pub settled_on_none : (p : Parameters) (owner : List ℕ) (t : Slots) → t ≡ empty_table p owner → HasSettled p owner [] t
+pub settled_on_none : (p : SettingsValue) (owner : List ℕ) (t : TableValue) → t ≡ empty_table p owner → HasSettled p owner [] t
 settled_on_none p owner t is =
     record {
       owner_is = ap (λ u. u.owner) is;
@@ -77,13 +77,13 @@ settled_on_none p owner t is =
       each = λ k inside. ap (λ u. get_or u.slots k []) is ∙ get_or-replicate (p.base * p.digits) k [] [] inside ∙ ap settled_links (sym (take-nil {A = List ℕ} p.width));
     }
 
-pub settled_on_all : (p : Parameters) (owner : List ℕ) (names : List (List ℕ)) (t : Slots) → HasSettled p owner names t → t ≡ table_at_rest p owner names
+pub settled_on_all : (p : SettingsValue) (owner : List ℕ) (names : List (List ℕ)) (t : TableValue) → HasSettled p owner names t → t ≡ table_at_rest p owner names
 settled_on_all p owner names t has =
     let of : ℕ → SlotLinks = λ number. settled_links (first_fitting p owner (slot_numbered p.base number) names) in
     let slots : t.slots ≡ map of (range_with_len 0 (p.base * p.digits)) = fill_by_all of t.slots (p.base * p.digits) [] has.count has.each in
-    let with_owner : List ℕ → Slots = λ o. record { owner = o; settings = t.settings; slots = t.slots } in
-    let with_settings : Parameters → Slots = λ q. record { owner = owner; settings = q; slots = t.slots } in
-    let with_slots : List SlotLinks → Slots = λ l. record { owner = owner; settings = p; slots = l } in
+    let with_owner : List ℕ → TableValue = λ o. record { owner = o; settings = t.settings; slots = t.slots } in
+    let with_settings : SettingsValue → TableValue = λ q. record { owner = owner; settings = q; slots = t.slots } in
+    let with_slots : List SlotLinks → TableValue = λ l. record { owner = owner; settings = p; slots = l } in
     ap with_owner has.owner_is ∙ ap with_settings has.settings_are ∙ ap with_slots slots
 
 -- the first names of an ascending list are below the next
@@ -96,13 +96,13 @@ above_the_first names i d ascending within =
     let lt : k < i = omega arith in
     rw (get_or-take i names k d lt) (ascending k i d lt within))
 
-above_fitting : (p : Parameters) (owner name : List ℕ) (k : ℕ) (names : List (List ℕ)) → IsAbove name names
+above_fitting : (p : SettingsValue) (owner name : List ℕ) (k : ℕ) (names : List (List ℕ)) → IsAbove name names
     → IsAbove name (first_fitting p owner (slot_numbered p.base k) names)
 above_fitting p owner name k names all =
     All-take (λ t. IsBelow t name) p.width (fitting owner (slot_numbered p.base k) names)
     (All-filter (λ member. is_slot (slot_numbered p.base k) (slot_at owner member)) (λ t. IsBelow t name) names all)
 
-module _ (p : Parameters) (owner : List ℕ) (names : List (List ℕ)) (i : ℕ) (name : List ℕ) (old new : Slots) where
+module _ (p : SettingsValue) (owner : List ℕ) (names : List (List ℕ)) (i : ℕ) (name : List ℕ) (old new : TableValue) where
   pub settled_on_owner : HasSettled p owner (take i names) old → i < length names → name ≡ get_or names i name → name ≡ owner → new ≡ old
       → HasSettled p owner (take (i + 1) names) new
   settled_on_owner has within is own same =
@@ -144,7 +144,7 @@ module _ (p : Parameters) (owner : List ℕ) (names : List (List ℕ)) (i : ℕ)
 
   number_is : HasSettled p owner (take i names) old → slot_number old.settings.base (place_of old.owner name) ≡ mine
   number_is has =
-      ap (λ (q : Parameters). slot_number q.base (place_of old.owner name)) has.settings_are ∙ ap (λ o. slot_number p.base (place_of o name)) has.owner_is
+      ap (λ (q : SettingsValue). slot_number q.base (place_of old.owner name)) has.settings_are ∙ ap (λ o. slot_number p.base (place_of o name)) has.owner_is
 
   near_is : HasSettled p owner (take i names) old → IsName p owner → IsName p name → name ≢ owner → links_near old name ≡ settled_links targets
   near_is has is_owner is_name other =
@@ -155,7 +155,7 @@ module _ (p : Parameters) (owner : List ℕ) (names : List (List ℕ)) (i : ℕ)
   has_room_is has is_owner is_name other =
       ap (λ l. nat_lt (settled_count l) old.settings.width) (near_is has is_owner is_name other)
       ∙ ap (λ n. nat_lt n old.settings.width) (all_settled targets)
-      ∙ ap (λ (q : Parameters). nat_lt (length targets) q.width) has.settings_are
+      ∙ ap (λ (q : SettingsValue). nat_lt (length targets) q.width) has.settings_are
 
   same_after : HasSettled p owner (take i names) old → IsName p owner → IsName p name → i < length names → name ≡ get_or names i name → name ≢ owner
       → nat_lt (length targets) p.width ≡ false → new ≡ old → HasSettled p owner (take (i + 1) names) new
@@ -208,7 +208,7 @@ module _ (p : Parameters) (owner : List ℕ) (names : List (List ℕ)) (i : ℕ)
       let room = has_room_is has is_owner is_name other in
       let behind : with_link name_cmp (links_near old name) name Settled ≡ settled_links (targets ++ name ∷ []) =
       ap (λ l. with_link name_cmp l name Settled) near ∙ with_link_behind name targets over in
-      let result : Bool → Slots = λ b. cond b (with_links old name (with_link name_cmp (links_near old name) name Settled)) old in
+      let result : Bool → TableValue = λ b. cond b (with_links old name (with_link name_cmp (links_near old name) name Settled)) old in
       let test : (is_none (kind_in old name) && has_room_near old name) ≡ nat_lt (length targets) p.width =
       ap (λ k. is_none k && has_room_near old name) absent ∙ room in
       elim (cases_Bool (nat_lt (length targets) p.width)) [

@@ -9,7 +9,7 @@ use Rattle.std.proofs.lemmas.Bool.{cases_Bool}
 use Rattle.std.proofs.lemmas.List.{append-nil, drop_all, drop_more, map-append}
 use Rattle.std.proofs.lemmas.List.Elements.{All-filter, All-head, All-tail, filter_more}
 use Rattle.tap_name.specs.declared.slot.Slot.{Slot}
-use Rattle.tap_name.specs.Settings.{Parameters}
+use Rattle.tap_name.specs.Settings.{SettingsValue}
 use Rattle.tap_name.specs.Slot.{slot_at}
 use Rattle.tap_name.proofs.Prefix.{prefix_of_itself}
 use Rattle.tap_register.specs.declared.registers.Entry.{Entry}
@@ -45,7 +45,7 @@ module _ (name : List ℕ) where
   written_last names all = rw (below_all names all, above_none names all) (sym (map-append word_of names (name ∷ [])))
 
 -- one name more
-module _ (p : Parameters) (owner : List ℕ) (names : List (List ℕ)) (i : ℕ) (name : List ℕ) where
+module _ (p : SettingsValue) (owner : List ℕ) (names : List (List ℕ)) (i : ℕ) (name : List ℕ) where
   pub above_holders : AllPairs IsBelow names → i < length names → name ≡ get_or names i name → IsAbove name (filter (holds p owner names) (take i names))
   above_holders ascending within is =
       let all : IsAbove name (take i names) = rw (← is) at (above_the_first names i name ascending within) in
@@ -79,7 +79,7 @@ filter_none test [] none = refl
 filter_none test (x ∷ xs) none = rw (none x) (filter_none test xs none)
 
 -- the owner's own table has no link to it
-pub not_held_by_itself : (p : Parameters) (owner : List ℕ) (names : List (List ℕ)) → holds p owner names owner ≡ false
+pub not_held_by_itself : (p : SettingsValue) (owner : List ℕ) (names : List (List ℕ)) → holds p owner names owner ≡ false
 not_held_by_itself p owner names =
     let none_stands : (name : List ℕ) → is_slot (place_of owner owner) (slot_at owner name) ≡ false = λ name.
     elim (cases_Bool (eqb (common_prefix_len nat_eq owner name) (length owner))) [

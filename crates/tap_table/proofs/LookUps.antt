@@ -12,14 +12,14 @@ use Rattle.tap_link.specs.declared.kind.Kind.{Kind}
 use Rattle.tap_link.specs.declared.kind.Released.{Released}
 use Rattle.tap_link.specs.LinkSet.{after_release, kind_of, with_kind, with_link, without}
 use Rattle.tap_link.proofs.LookUps.{kind_after, kind_of-after_release, kind_of-with_kind, kind_of-with_link, kind_of-without}
-use Rattle.tap_table.specs.Table.{IsTable, SlotLinks, Slots, kind_in, links_near, name_cmp, place_of, slot_number, with_links}
+use Rattle.tap_table.specs.Table.{IsTable, SlotLinks, TableValue, kind_in, links_near, name_cmp, place_of, slot_number, with_links}
 use Rattle.tap_table.proofs.Slots.{target_inside}
 
 -- names that compare as equal are one
 pub tied_names : (a b : List ℕ) → is_eq (name_cmp a b) ≡ true → a ≡ b
 tied_names a b tied = (bytes_eq-Decides a b).0 (sym (is_eq-slice_cmp a b) ∙ tied)
 
-module _ (t : Slots) (name other : List ℕ) (valid : IsTable t) (is_name : IsName t.settings name) (apart : name ≢ t.owner) where
+module _ (t : TableValue) (name other : List ℕ) (valid : IsTable t) (is_name : IsName t.settings name) (apart : name ≢ t.owner) where
   -- where the slot's links give a name's kind by a rule, so does the table, and others have the kind that they had
   pub kind_in-with_links : (links : SlotLinks) (rule : Option Kind → Option Kind)
       → kind_of name_cmp links other

@@ -9,15 +9,15 @@ use Rattle.std.proofs.lemmas.List.Elements.{All-nil, All-replicate, All-set}
 use Rattle.std.proofs.lemmas.List.Sums.{common_prefix_len-le}
 use Rattle.tap_name.specs.declared.slot.Slot.{Slot}
 use Rattle.tap_name.specs.Name.{IsName}
-use Rattle.tap_name.specs.Settings.{AreWithinLimits, Parameters}
+use Rattle.tap_name.specs.Settings.{AreWithinLimits, SettingsValue}
 use Rattle.tap_name.proofs.Prefix.{whole_prefix}
 use Rattle.tap_name.proofs.Slots.{same_slot}
-use Rattle.tap_link.specs.LinkSet.{Links}
+use Rattle.tap_link.specs.LinkSet.{LinkSetValue}
 use Rattle.tap_table.specs.declared.table.TheConstants.{MOST_LINKS}
-use Rattle.tap_table.specs.Table.{AreSets, SlotLinks, Slots, StandsIn, empty_table, place_of, slot_number, slot_numbered, table_of}
+use Rattle.tap_table.specs.Table.{AreSets, SlotLinks, TableValue, StandsIn, empty_table, place_of, slot_number, slot_numbered, table_of}
 
 -- a slot of the table has its number below the number of slots
-pub number_inside : (p : Parameters) (slot : Slot) → slot.level < p.digits → slot.digit < p.base → slot_number p.base slot < p.base * p.digits
+pub number_inside : (p : SettingsValue) (slot : Slot) → slot.level < p.digits → slot.digit < p.base → slot_number p.base slot < p.base * p.digits
 number_inside p slot level digit = omega (arith, mul-le-mul_left p.base level)
 
 -- the slot of a number, from the number of the slot
@@ -29,7 +29,7 @@ number_back base slot below =
     same_slot (slot_numbered base number) slot level digit
 
 -- the slot of another name is one of the table
-pub place_inside : (p : Parameters) (owner name : List ℕ) → IsName p owner → IsName p name → name ≢ owner
+pub place_inside : (p : SettingsValue) (owner name : List ℕ) → IsName p owner → IsName p name → name ≢ owner
     → (common_prefix_len nat_eq owner name < p.digits) × (get_or name (common_prefix_len nat_eq owner name) 0 < p.base)
 place_inside p owner name is_owner is_name other =
     let level = common_prefix_len nat_eq owner name in
@@ -38,28 +38,28 @@ place_inside p owner name is_owner is_name other =
     let inside : level < p.digits = omega (arith, within.0, apart, is_owner.len) in
     (inside, is_name.below level 0 (omega (arith, is_name.len)))
 
-pub target_inside : (p : Parameters) (owner name : List ℕ) → IsName p owner → IsName p name → name ≢ owner
+pub target_inside : (p : SettingsValue) (owner name : List ℕ) → IsName p owner → IsName p name → name ≢ owner
     → slot_number p.base (place_of owner name) < p.base * p.digits
 target_inside p owner name is_owner is_name other =
     let inside = place_inside p owner name is_owner is_name other in number_inside p (place_of owner name) inside.0 inside.1
 
 -- the links of a slot are those of its set
-pub links_of_set : (sets : List (Links (List ℕ))) (number : ℕ) (d : Links (List ℕ)) → number < length sets
+pub links_of_set : (sets : List (LinkSetValue (List ℕ))) (number : ℕ) (d : LinkSetValue (List ℕ)) → number < length sets
     → get_or (map (λ s. s.links) sets) number [] ≡ (get_or sets number d).links
 links_of_set sets number d within = get_or-map (λ s. s.links) sets number d [] within
 
 -- another set in one slot
-pub table-set : (owner : List ℕ) (p : Parameters) (sets : List (Links (List ℕ))) (number : ℕ) (new : Links (List ℕ)) (links : SlotLinks) → new.links ≡ links
+pub table-set : (owner : List ℕ) (p : SettingsValue) (sets : List (LinkSetValue (List ℕ))) (number : ℕ) (new : LinkSetValue (List ℕ)) (links : SlotLinks) → new.links ≡ links
     → table_of owner p (set sets number new) ≡ record (table_of owner p sets) { slots = set (map (λ s. s.links) sets) number links }
 table-set owner p sets number new links is =
-    let with : List SlotLinks → Slots = λ slots. record { owner = owner; settings = p; slots = slots } in
+    let with : List SlotLinks → TableValue = λ slots. record { owner = owner; settings = p; slots = slots } in
     ap with (map-set (λ s. s.links) sets number new ∙ ap (set (map (λ s. s.links) sets) number) is)
 
-pub sets-set : (owner : List ℕ) (p : Parameters) (sets : List (Links (List ℕ))) (number : ℕ) (new : Links (List ℕ)) → AreSets owner p sets
+pub sets-set : (owner : List ℕ) (p : SettingsValue) (sets : List (LinkSetValue (List ℕ))) (number : ℕ) (new : LinkSetValue (List ℕ)) → AreSets owner p sets
     → new.width ≡ p.width → All (λ e. StandsIn p owner number e.target) new.links → length new.links ≤ MOST_LINKS
     → AreSets owner p (set sets number new)
 sets-set owner p sets number new are width standing few =
-    let links = λ (s : Links (List ℕ)). s.links in
+    let links = λ (s : LinkSetValue (List ℕ)). s.links in
     let slots = map links sets in
     let changed = map-set links sets number new in
     let Stand : ℕ → SlotLinks → Type 0 = λ k. All (λ e. StandsIn p owner k e.target) in
@@ -88,22 +88,22 @@ sets-set owner p sets number new are width standing few =
     }
 
 -- the sets without links, as a table begins
-abbrev pub empty_sets : Parameters → ℕ → List (Links (List ℕ))
+abbrev pub empty_sets : SettingsValue → ℕ → List (LinkSetValue (List ℕ))
 empty_sets p n = replicate n (record { width = p.width; links = [] })
 
-pub empty_sets-more : (p : Parameters) (n : ℕ) (sets more : List (Links (List ℕ))) (new : Links (List ℕ)) → sets ≡ empty_sets p n
+pub empty_sets-more : (p : SettingsValue) (n : ℕ) (sets more : List (LinkSetValue (List ℕ))) (new : LinkSetValue (List ℕ)) → sets ≡ empty_sets p n
     → new ≡ record { width = p.width; links = [] } → more ≡ sets ++ new ∷ [] → more ≡ empty_sets p (n + 1)
 empty_sets-more p n sets more new so_far is grown =
-    let none : Links (List ℕ) = record { width = p.width; links = [] } in
+    let none : LinkSetValue (List ℕ) = record { width = p.width; links = [] } in
     grown ∙ ap (λ s. s ++ new ∷ []) so_far ∙ ap (λ s. empty_sets p n ++ s ∷ []) is ∙ replicate-append-replicate n 1 none
 
-empty_slots : (p : Parameters) (n : ℕ) → map (λ s. s.links) (empty_sets p n) ≡ replicate n []
+empty_slots : (p : SettingsValue) (n : ℕ) → map (λ s. s.links) (empty_sets p n) ≡ replicate n []
 empty_slots p zero = refl
 empty_slots p (suc n) = ap (λ l. [] ∷ l) (empty_slots p n)
 
-pub empty_is : (p : Parameters) (owner : List ℕ) → table_of owner p (empty_sets p (p.base * p.digits)) ≡ empty_table p owner
+pub empty_is : (p : SettingsValue) (owner : List ℕ) → table_of owner p (empty_sets p (p.base * p.digits)) ≡ empty_table p owner
 empty_is p owner =
-    let with : List SlotLinks → Slots = λ slots. record { owner = owner; settings = p; slots = slots } in
+    let with : List SlotLinks → TableValue = λ slots. record { owner = owner; settings = p; slots = slots } in
     ap with (empty_slots p (p.base * p.digits))
 
 no_links : (n k : ℕ) → get_or {A = SlotLinks} (replicate n []) k [] ≡ []
@@ -113,7 +113,7 @@ no_links n k =
       | inr past ↦ get_or_past (replicate n []) k [] (omega (arith, length-replicate {A = SlotLinks} n []))
     ]
 
-pub empty_sets-are : (p : Parameters) (owner : List ℕ) → AreWithinLimits p → IsName p owner → AreSets owner p (empty_sets p (p.base * p.digits))
+pub empty_sets-are : (p : SettingsValue) (owner : List ℕ) → AreWithinLimits p → IsName p owner → AreSets owner p (empty_sets p (p.base * p.digits))
 empty_sets-are p owner limits is_name =
     let count = p.base * p.digits in
     let slots = empty_slots p count in

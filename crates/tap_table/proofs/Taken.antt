@@ -8,7 +8,7 @@ use Rattle.tap_name.specs.Name.{IsName}
 use Rattle.tap_name.proofs.Digits.{next_is}
 use Rattle.tap_table.specs.declared.next.Next.TheVariants.{Root}
 use Rattle.tap_table.specs.Next.{TakesOwnFrom, can_take, hop_to, next_from, primary_at, taken_digit}
-use Rattle.tap_table.specs.Table.{IsTable, Slots}
+use Rattle.tap_table.specs.Table.{IsTable, TableValue}
 
 pub taken_later : (base : ℕ) (p : ℕ → Bool) (left less digit : ℕ) → left ≡ suc less → p digit ≡ false
     → first_from base p left digit ≡ first_from base p less (next_digit base digit)
@@ -49,7 +49,7 @@ leads_on : (found : Option (List ℕ)) (level : ℕ) → is_some found ≡ true 
 leads_on None level some stays = true≢false (sym some)
 leads_on (Some to) level some stays = cc
 
-other_leads_on : (t : Slots) (level wanted : ℕ) → IsTable t → level < t.settings.digits → wanted < t.settings.base
+other_leads_on : (t : TableValue) (level wanted : ℕ) → IsTable t → level < t.settings.digits → wanted < t.settings.base
     → eqb (get_or t.owner level 0) (taken_digit t level wanted) ≡ false
     → is_some (primary_at t level (taken_digit t level wanted)) ≡ true
 other_leads_on t level wanted valid inside below other =
@@ -64,10 +64,10 @@ other_leads_on t level wanted valid inside below other =
     ]
 
 -- the message stays exactly where the owner's own digit is taken at each level that is left
-abbrev OwnAt : Slots → ℕ → List ℕ → Type 0
+abbrev OwnAt : TableValue → ℕ → List ℕ → Type 0
 OwnAt t level digits = (k : ℕ) → k < length digits → taken_digit t (level + k) (get_or digits k 0) ≡ get_or t.owner (level + k) 0
 
-own_cons : (t : Slots) (level wanted : ℕ) (more : List ℕ) → taken_digit t level wanted ≡ get_or t.owner level 0 → OwnAt t (level + 1) more
+own_cons : (t : TableValue) (level wanted : ℕ) (more : List ℕ) → taken_digit t level wanted ≡ get_or t.owner level 0 → OwnAt t (level + 1) more
     → OwnAt t level (wanted ∷ more)
 own_cons t level wanted more first rest zero inside =
     let At : ℕ → Type 0 = λ n. taken_digit t n wanted ≡ get_or t.owner n 0 in
@@ -78,19 +78,19 @@ own_cons t level wanted more first rest (suc k) inside =
     let at : (level + 1) + k ≡ level + suc k = omega arith in
     subst At at (rest k (omega arith))
 
-own_first : (t : Slots) (level wanted : ℕ) (more : List ℕ) → OwnAt t level (wanted ∷ more) → taken_digit t level wanted ≡ get_or t.owner level 0
+own_first : (t : TableValue) (level wanted : ℕ) (more : List ℕ) → OwnAt t level (wanted ∷ more) → taken_digit t level wanted ≡ get_or t.owner level 0
 own_first t level wanted more all =
     let At : ℕ → Type 0 = λ n. taken_digit t n wanted ≡ get_or t.owner n 0 in
     let at : level + 0 ≡ level = omega arith in
     subst At at (all 0 (omega arith))
 
-own_behind : (t : Slots) (level wanted : ℕ) (more : List ℕ) → OwnAt t level (wanted ∷ more) → OwnAt t (level + 1) more
+own_behind : (t : TableValue) (level wanted : ℕ) (more : List ℕ) → OwnAt t level (wanted ∷ more) → OwnAt t (level + 1) more
 own_behind t level wanted more all k inside =
     let At : ℕ → Type 0 = λ n. taken_digit t n (get_or more k 0) ≡ get_or t.owner n 0 in
     let at : level + suc k ≡ (level + 1) + k = omega arith in
     subst At at (all (suc k) (omega arith))
 
-stays : (t : Slots) → IsTable t → (digits : List ℕ) (level : ℕ) → level + length digits ≡ t.settings.digits → All (λ d. d < t.settings.base) digits
+stays : (t : TableValue) → IsTable t → (digits : List ℕ) (level : ℕ) → level + length digits ≡ t.settings.digits → All (λ d. d < t.settings.base) digits
     → (next_from t level digits ≡ Root → OwnAt t level digits) × (OwnAt t level digits → next_from t level digits ≡ Root)
 stays t valid [] level len below = (λ _ k inside. absurd (omega arith), λ _. refl)
 stays t valid (wanted ∷ more) level len below =
@@ -113,7 +113,7 @@ stays t valid (wanted ∷ more) level len below =
           )
     ]
 
-pub root_exactly : (t : Slots) (level : ℕ) (object : List ℕ) → IsTable t → IsName t.settings object → level ≤ t.settings.digits
+pub root_exactly : (t : TableValue) (level : ℕ) (object : List ℕ) → IsTable t → IsName t.settings object → level ≤ t.settings.digits
     → (next_from t level (drop level object) ≡ Root) ↔ TakesOwnFrom t level object
 root_exactly t level object valid is_name inside =
     let len = length-drop level object in

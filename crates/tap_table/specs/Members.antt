@@ -5,13 +5,13 @@ use Rattle.std.specs.List.Sorted.{IsPermutation}
 use Rattle.std.specs.Cmp.Lexicographic.{pointwise}
 use Rattle.std.specs.declared.cmp.Ordering.TheVariants.{Less}
 use Rattle.tap_name.specs.declared.slot.Slot.{Slot}
-use Rattle.tap_name.specs.Settings.{Parameters}
+use Rattle.tap_name.specs.Settings.{SettingsValue}
 use Rattle.tap_name.specs.Slot.{slot_at, Fits}
 use Rattle.tap_name.specs.Root.{Among}
 use Rattle.tap_link.specs.declared.kind.Kind.TheVariants.{Settled}
 use Rattle.tap_register.specs.declared.registers.Entry.{Entry}
-use Rattle.tap_table.specs.Table.{SlotLinks, Slots, name_cmp, place_of, slot_numbered}
-use Rattle.tap_table.specs.Ties.{BothWays}
+use Rattle.tap_table.specs.Table.{SlotLinks, TableValue, name_cmp, place_of, slot_numbered}
+use Rattle.tap_table.specs.Ties.{TiesValue}
 
 -- one name stands before another, digit by digit
 abbrev pub IsBelow : List ℕ → List ℕ → Type 0
@@ -27,7 +27,7 @@ abbrev pub fitting : List ℕ → Slot → List (List ℕ) → List (List ℕ)
 fitting owner slot names = filter (λ name. is_slot slot (slot_at owner name)) names
 
 -- the first ones that fit, as many as the width allows
-abbrev pub first_fitting : Parameters → List ℕ → Slot → List (List ℕ) → List (List ℕ)
+abbrev pub first_fitting : SettingsValue → List ℕ → Slot → List (List ℕ) → List (List ℕ)
 first_fitting p owner slot names = take p.width (fitting owner slot names)
 
 -- settled links to these targets
@@ -35,7 +35,7 @@ abbrev pub settled_links : List (List ℕ) → SlotLinks
 settled_links targets = map (λ target. record { target = target; kind = Settled }) targets
 
 -- the table of an owner: in each slot settled links to the first of these names that fit it
-abbrev pub table_at_rest : Parameters → List ℕ → List (List ℕ) → Slots
+abbrev pub table_at_rest : SettingsValue → List ℕ → List (List ℕ) → TableValue
 table_at_rest p owner names =
     record {
       owner = owner;
@@ -46,12 +46,12 @@ table_at_rest p owner names =
     }
 
 -- the table of a member, so made, has a link to the owner
-abbrev pub holds : Parameters → List ℕ → List (List ℕ) → List ℕ → Bool
+abbrev pub holds : SettingsValue → List ℕ → List (List ℕ) → List ℕ → Bool
 holds p owner names member =
     list_any (λ link. pointwise nat_eq link owner) (first_fitting p member (place_of member owner) names)
 
 -- what the owner has heard of its holders: each member that holds it has said so, with version 0
-abbrev pub holders_at_rest : Parameters → List ℕ → List (List ℕ) → List (List ℕ) → List (Entry (List ℕ) Bool)
+abbrev pub holders_at_rest : SettingsValue → List ℕ → List (List ℕ) → List (List ℕ) → List (Entry (List ℕ) Bool)
 holders_at_rest p owner names members =
     map (λ member. record { key = member; version = 0; value = true }) (filter (holds p owner names) members)
 
@@ -68,13 +68,13 @@ pub record AreLeastFitting (width : ℕ) (owner : List ℕ) (slot : Slot)
 
 -- The table of an owner at rest over the members: the one over their names in ascending order. There the first ones that
 -- fit a slot are the least ones.
-pub record IsTableAtRest (p : Parameters) (owner : List ℕ) (members : List (List ℕ)) (table : Slots) : Type 0 where
+pub record IsTableAtRest (p : SettingsValue) (owner : List ℕ) (members : List (List ℕ)) (table : TableValue) : Type 0 where
   pub names : List (List ℕ)
   pub same : IsPermutation members names
   pub ascending : AllPairs IsBelow names
   pub is : table ≡ table_at_rest p owner names
 
 -- The ties of an owner at rest over the members: its table, and what it has heard of its holders, over the same names.
-pub record AreAtRest (p : Parameters) (owner : List ℕ) (members : List (List ℕ)) (ties : BothWays) : Type 0 where
+pub record AreAtRest (p : SettingsValue) (owner : List ℕ) (members : List (List ℕ)) (ties : TiesValue) : Type 0 where
   pub table : IsTableAtRest p owner members ties.table
   pub holders : ties.holders ≡ holders_at_rest p owner table.names table.names

@@ -5,18 +5,18 @@ use Rattle.tap_name.specs.Cyclic.{first_cyclic}
 use Rattle.tap_link.specs.LinkSet.{least_settled}
 use Rattle.tap_table.specs.declared.next.Next.{Next}
 use Rattle.tap_table.specs.declared.next.Next.TheVariants.{Root, Hop}
-use Rattle.tap_table.specs.Table.{Slots, links_at}
+use Rattle.tap_table.specs.Table.{TableValue, links_at}
 
 -- the primary of the slot of a level and a digit: the least target that is settled and not leaving
-abbrev pub primary_at : Slots → ℕ → ℕ → Option (List ℕ)
+abbrev pub primary_at : TableValue → ℕ → ℕ → Option (List ℕ)
 primary_at t level digit = let slot : Slot = record { level = level; digit = digit } in least_settled (links_at t slot)
 
 -- a digit that a message may take at a level: the owner's own, or one whose slot has a primary
-abbrev pub can_take : Slots → ℕ → ℕ → Bool
+abbrev pub can_take : TableValue → ℕ → ℕ → Bool
 can_take t level digit = slice_index t.owner level == digit || is_some (primary_at t level digit)
 
 -- the first such digit, cyclically from the one that the object has there
-abbrev pub taken_digit : Slots → ℕ → ℕ → ℕ
+abbrev pub taken_digit : TableValue → ℕ → ℕ → ℕ
 taken_digit t level wanted = first_cyclic t.settings.base (can_take t level) wanted
 
 abbrev pub hop_to : Option (List ℕ) → ℕ → Next
@@ -25,7 +25,7 @@ hop_to (Some name) level = Hop name level
 
 -- the next hop, from a level on at which these digits of the object are left: at the owner's own digit the next
 -- level follows, and at another one the message hops to its primary, which goes on at the next level
-abbrev pub next_from : Slots → ℕ → List ℕ → Next
+abbrev pub next_from : TableValue → ℕ → List ℕ → Next
 next_from t level [] = Root
 next_from t level (wanted ∷ more) =
     let digit = taken_digit t level wanted in
@@ -34,6 +34,6 @@ next_from t level (wanted ∷ more) =
     else hop_to (primary_at t level digit) (level + 1))
 
 -- at each level from this one on, the owner's own digit is taken
-abbrev pub TakesOwnFrom : Slots → ℕ → List ℕ → Type 0
+abbrev pub TakesOwnFrom : TableValue → ℕ → List ℕ → Type 0
 TakesOwnFrom t level object =
     (at : ℕ) → level ≤ at → at < length object → taken_digit t at (slice_index object at) ≡ slice_index t.owner at

@@ -6,10 +6,10 @@ use Rattle.std.specs.Cmp.Lexicographic.{slice_cmp}
 use Rattle.std.specs.declared.cmp.Ordering.{Ordering}
 use Rattle.tap_name.specs.declared.slot.Slot.{Slot}
 use Rattle.tap_name.specs.Name.{IsName}
-use Rattle.tap_name.specs.Settings.{Parameters, AreWithinLimits}
+use Rattle.tap_name.specs.Settings.{SettingsValue, AreWithinLimits}
 use Rattle.tap_link.specs.declared.kind.Kind.{Kind}
 use Rattle.tap_link.specs.Entry.{Entry}
-use Rattle.tap_link.specs.LinkSet.{Links, has_room, kind_of}
+use Rattle.tap_link.specs.LinkSet.{LinkSetValue, has_room, kind_of}
 use Rattle.tap_table.specs.declared.table.TheConstants.{MOST_LINKS}
 
 -- the links of one slot
@@ -17,9 +17,9 @@ abbrev pub SlotLinks : Type 0
 SlotLinks = List (Entry (List ℕ))
 
 -- what a table is seen as: its owner, the settings, and the links of each slot by the slot's number
-pub record Slots : Type 0 where
+pub record TableValue : Type 0 where
   pub owner : List ℕ
-  pub settings : Parameters
+  pub settings : SettingsValue
   pub slots : List SlotLinks
 
 -- names are ordered digit by digit
@@ -39,39 +39,39 @@ place_of owner name =
     let level = common_prefix_len nat_eq owner name in record { level = level; digit = slice_index name level }
 
 -- the table without links
-abbrev pub empty_table : Parameters → List ℕ → Slots
+abbrev pub empty_table : SettingsValue → List ℕ → TableValue
 empty_table settings owner =
     record { owner = owner; settings = settings; slots = replicate (settings.base * settings.digits) [] }
 
 -- the links of a slot
-abbrev pub links_at : Slots → Slot → SlotLinks
+abbrev pub links_at : TableValue → Slot → SlotLinks
 links_at t slot = slice_index_or t.slots (slot_number t.settings.base slot) []
 
 -- the links of the slot in which a name stands
-abbrev pub links_near : Slots → List ℕ → SlotLinks
+abbrev pub links_near : TableValue → List ℕ → SlotLinks
 links_near t name = links_at t (place_of t.owner name)
 
 -- the kind of the link to a name, if there is one
-abbrev pub kind_in : Slots → List ℕ → Option Kind
+abbrev pub kind_in : TableValue → List ℕ → Option Kind
 kind_in t name = kind_of name_cmp (links_near t name) name
 
 -- one more link may be settled in the slot in which a name stands
-abbrev pub has_room_near : Slots → List ℕ → Bool
+abbrev pub has_room_near : TableValue → List ℕ → Bool
 has_room_near t name =
-    let set : Links (List ℕ) = record { width = t.settings.width; links = links_near t name } in has_room set
+    let set : LinkSetValue (List ℕ) = record { width = t.settings.width; links = links_near t name } in has_room set
 
 -- the table with these links in the slot in which a name stands, and the other slots as they were
-abbrev pub with_links : Slots → List ℕ → SlotLinks → Slots
+abbrev pub with_links : TableValue → List ℕ → SlotLinks → TableValue
 with_links t name links =
     record t { slots = slice_set t.slots (slot_number t.settings.base (place_of t.owner name)) links }
 
 -- a target stands in the slot of this number in the table of an owner
-pub record StandsIn (p : Parameters) (owner : List ℕ) (number : ℕ) (target : List ℕ) : Type 0 where
+pub record StandsIn (p : SettingsValue) (owner : List ℕ) (number : ℕ) (target : List ℕ) : Type 0 where
   pub is_name : IsName p target
   pub place : slot_number p.base (place_of owner target) ≡ number
 
 -- what each table keeps
-pub record IsTable (t : Slots) : Type 0 where
+pub record IsTable (t : TableValue) : Type 0 where
   pub limits : AreWithinLimits t.settings
   pub owner : IsName t.settings t.owner
   pub count : length t.slots ≡ t.settings.base * t.settings.digits
@@ -80,11 +80,11 @@ pub record IsTable (t : Slots) : Type 0 where
   pub few : (number : ℕ) → length (slice_index_or t.slots number []) ≤ MOST_LINKS
 
 -- the table of an owner with these link sets in its slots
-abbrev pub table_of : List ℕ → Parameters → List (Links (List ℕ)) → Slots
+abbrev pub table_of : List ℕ → SettingsValue → List (LinkSetValue (List ℕ)) → TableValue
 table_of owner settings sets = record { owner = owner; settings = settings; slots = map (λ s. s.links) sets }
 
 -- these are the link sets of a table
-pub record AreSets (owner : List ℕ) (settings : Parameters) (sets : List (Links (List ℕ))) : Type 0 where
+pub record AreSets (owner : List ℕ) (settings : SettingsValue) (sets : List (LinkSetValue (List ℕ))) : Type 0 where
   pub valid : IsTable (table_of owner settings sets)
   pub widths : All (λ s. s.width ≡ settings.width) sets
 
@@ -98,5 +98,5 @@ abbrev pub rows_of : ℕ → ℕ × SlotLinks → List Row
 rows_of base (number, links) = map (λ e. record { slot = slot_numbered base number; entry = e }) links
 
 -- all links of a table, in ascending order of slot, then target
-abbrev pub rows : Slots → List Row
+abbrev pub rows : TableValue → List Row
 rows t = flat_map (rows_of t.settings.base) (enumerate_from 0 t.slots)

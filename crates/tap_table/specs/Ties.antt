@@ -4,15 +4,15 @@ use Rattle.tap_register.specs.declared.registers.Entry.{Entry}
 use Rattle.tap_link.specs.declared.kind.Released.{Released}
 use Rattle.tap_link.specs.declared.kind.Released.TheVariants.{Settled, Dropped, Nothing}
 use Rattle.tap_table.specs.declared.tie.Tie.{Tie}
-use Rattle.tap_table.specs.Table.{Slots}
+use Rattle.tap_table.specs.Table.{TableValue}
 
 -- the table, and the newest word of each holder, ascending
-pub record BothWays : Type 0 where
-  pub table : Slots
+pub record TiesValue : Type 0 where
+  pub table : TableValue
   pub holders : List (Entry (List ℕ) Bool)
 
 -- the holders that have a link to the owner
-abbrev pub holders_on : BothWays → List (List ℕ)
+abbrev pub holders_on : TiesValue → List (List ℕ)
 holders_on ties = map (λ e. e.key) (filter (λ e. e.value) ties.holders)
 
 -- the word for a node, where there is one

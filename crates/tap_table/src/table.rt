@@ -33,9 +33,9 @@ pub struct Table {
 }
 
 impl Model for Table {
-    ghost use Rattle.tap_table.specs.Table.{Slots, AreSets, table_of};
+    ghost use Rattle.tap_table.specs.Table.{TableValue, AreSets, table_of};
 
-    ghost Value = { Slots };
+    ghost Value = { TableValue };
 
     ghost view = { λ t. table_of t.owner t.settings t.sets.items };
 

@@ -32,9 +32,9 @@ pub struct Ties {
 }
 
 impl Model for Ties {
-    ghost use Rattle.tap_table.specs.Ties.{BothWays};
+    ghost use Rattle.tap_table.specs.Ties.{TiesValue};
 
-    ghost Value = { BothWays };
+    ghost Value = { TiesValue };
 
     ghost view = { λ t. record { table = t.table; holders = t.holders } };
 }

@@ -11,7 +11,7 @@ use Rattle.tap_name.specs.declared.slot.Slot.{Slot}
 use Rattle.tap_link.specs.Entry.{Entry}
 use Rattle.tap_link.specs.declared.kind.Kind.{Kind}
 use Rattle.tap_log.specs.declared.record.LinkLine.{LinkLine}
-use Rattle.tap_table.specs.Table.{Row, SlotLinks, Slots, rows, rows_of}
+use Rattle.tap_table.specs.Table.{Row, SlotLinks, TableValue, rows, rows_of}
 use Rattle.tap_top.specs.Lines.{line_of, lines_of, word_of}
 
 -- what is read at a place of a list of rows is that row's
@@ -46,6 +46,6 @@ rows_below base (links ∷ numbered) some =
     (rows_below base numbered some))
 
 -- each line's digit is below the base
-pub lines_below : (table : Slots) → zero < table.settings.base → All (λ line. line.slot.digit < table.settings.base) (lines_of table)
+pub lines_below : (table : TableValue) → zero < table.settings.base → All (λ line. line.slot.digit < table.settings.base) (lines_of table)
 lines_below table some =
     All-map (λ line. line.slot.digit < table.settings.base) line_of (rows table) (rows_below table.settings.base (enumerate_from 0 table.slots) some)

@@ -6,13 +6,13 @@ use Rattle.std.specs.List.{cons_option}
 use Rattle.std.proofs.lemmas.Option.{get_or_from_slice_get}
 use Rattle.std.proofs.lemmas.List.{take_more, length-take, take_all}
 use Rattle.std.proofs.lemmas.List.Elements.{All-get_or}
-use Rattle.tap_name.specs.Settings.{Parameters}
+use Rattle.tap_name.specs.Settings.{SettingsValue}
 use Rattle.tap_name.specs.Name.{IsName}
 use Rattle.tap_name.specs.Root.{Among, first_of, root}
 use Rattle.tap_scenario.specs.declared.step.Step.{Step}
 use Rattle.tap_scenario.specs.declared.step.Step.TheVariants.{Walk, Root, Table}
 use Rattle.tap_scenario.specs.Step.{IsStep}
-use Rattle.tap_scenario.specs.Scenario.{Script, IsScript}
+use Rattle.tap_scenario.specs.Scenario.{ScenarioValue, IsScript}
 use Rattle.tap_log.specs.declared.record.Record.{Record}
 use Rattle.tap_log.specs.declared.record.Record.TheVariants.{Begin, Step as StepRecord, Walked, RootOf, TableOf, Refused, Finished}
 use Rattle.tap_log.specs.declared.record.Refusal.TheVariants.{NoSuchNode}
@@ -29,7 +29,7 @@ use Rattle.tap_table.specs.Members.{IsTableAtRest}
 use Rattle.tap_surrogate.specs.Members.{AreMembersAtRest}
 use Rattle.tap_surrogate.specs.HoleFree.{IsHoleFree}
 use Rattle.tap_surrogate.specs.Walk.{walk}
-use Rattle.tap_table.specs.Table.{Slots}
+use Rattle.tap_table.specs.Table.{TableValue}
 use Rattle.tap_name.proofs.Names.{among-All}
 use Rattle.tap_surrogate.proofs.RestTables.{rest_law_holds}
 use Rattle.tap_surrogate.proofs.HoleFreePaths.{walk_law_holds}
@@ -42,7 +42,7 @@ use Rattle.tap_top.proofs.Lines.{lines_below}
 use Rattle.tap_top.specs.Running.{HasRun, KeepsCore}
 
 -- nodes at rest over the members of a script have no hole
-pub hole_free_at_rest : (s : Script) (nodes : Nodes) → IsScript s → AreMembersAtRest s.settings s.members nodes → IsHoleFree s.settings s.members (core_links nodes)
+pub hole_free_at_rest : (s : ScenarioValue) (nodes : Nodes) → IsScript s → AreMembersAtRest s.settings s.members nodes → IsHoleFree s.settings s.members (core_links nodes)
 hole_free_at_rest s nodes script rest =
     rest_law_holds s.settings s.members nodes script.settings (among-All (IsName s.settings) s.members script.members) rest
 
@@ -52,17 +52,17 @@ begun_path [] node begins = cc
 begun_path (x ∷ xs) node begins = omega arith
 
 -- what a record that answers a step says, where it stands right behind the step
-record AnswerSays (p : Parameters) (nodes : Nodes) (before : List Record) (answer : Record) : Type 0 where
+record AnswerSays (p : SettingsValue) (nodes : Nodes) (before : List Record) (answer : Record) : Type 0 where
   ends : IsTrue (ends_group (Some answer))
   no_step : step_of answer ≡ None
   leaves : leaves_nodes answer ≡ true
   stands : MayStand p nodes before answer
   finds : FindsRoot p before answer
   printable : IsPrintable (Some p) answer
-  settings : (settings : Option Parameters) → settings_after settings answer ≡ settings
+  settings : (settings : Option SettingsValue) → settings_after settings answer ≡ settings
   no_begin : IsBegin answer → ⊥
 
-walked_says : (p : Parameters) (nodes : Nodes) (before : List Record) (index : ℕ) (object asker : List ℕ) → IsName p object
+walked_says : (p : SettingsValue) (nodes : Nodes) (before : List Record) (index : ℕ) (object asker : List ℕ) → IsName p object
     → IsHoleFree p (core_of before) (core_links nodes) → last_of before ≡ Some (StepRecord index (Walk object asker)) → Among asker (core_of before)
     → AnswerSays p nodes before (Walked object (walk p.base (core_links nodes) asker object))
 walked_says p nodes before index object asker is_name free last core =
@@ -78,7 +78,7 @@ walked_says p nodes before index object asker is_name free last core =
       no_begin = λ h. cc;
     }
 
-refused_says : (p : Parameters) (nodes : Nodes) (before : List Record) (index : ℕ) (step : Step) → last_of before ≡ Some (StepRecord index step)
+refused_says : (p : SettingsValue) (nodes : Nodes) (before : List Record) (index : ℕ) (step : Step) → last_of before ≡ Some (StepRecord index step)
     → Answers p nodes (core_of before) index step (Refused index NoSuchNode) → AnswerSays p nodes before (Refused index NoSuchNode)
 refused_says p nodes before index step last answers =
     record {
@@ -92,7 +92,7 @@ refused_says p nodes before index step last answers =
       no_begin = λ h. cc;
     }
 
-rooted_says : (p : Parameters) (nodes : Nodes) (before : List Record) (index : ℕ) (object found : List ℕ)
+rooted_says : (p : SettingsValue) (nodes : Nodes) (before : List Record) (index : ℕ) (object found : List ℕ)
     → last_of before ≡ Some (StepRecord index (Root object)) → root p.base (core_of before) object ≡ Some found → AnswerSays p nodes before (RootOf object found)
 rooted_says p nodes before index object found last is =
     record {
@@ -106,12 +106,12 @@ rooted_says p nodes before index object found last is =
       no_begin = λ h. cc;
     }
 
-table_says : (p : Parameters) (nodes : Nodes) (before : List Record) (index : ℕ) (name : List ℕ) (table : Slots)
+table_says : (p : SettingsValue) (nodes : Nodes) (before : List Record) (index : ℕ) (name : List ℕ) (table : TableValue)
     → last_of before ≡ Some (StepRecord index (Table name)) → Among name (core_of before) → nodes.table_of name ≡ Some table → 0 < p.base
     → table.settings ≡ p → AnswerSays p nodes before (TableOf name CoreWord (lines_of table))
 table_says p nodes before index name table last core is some settings =
-    let Below : Parameters → Type 0 = λ q. All (λ line. line.slot.digit < q.base) (lines_of table) in
-    let base : Parameters → ℕ = λ q. q.base in
+    let Below : SettingsValue → Type 0 = λ q. All (λ line. line.slot.digit < q.base) (lines_of table) in
+    let base : SettingsValue → ℕ = λ q. q.base in
     record {
       ends = refl;
       no_step = refl;
@@ -124,20 +124,20 @@ table_says p nodes before index name table last core is some settings =
     }
 
 -- the tables of these nodes have the settings
-abbrev HaveSettings : Parameters → Nodes → List (List ℕ) → Type 0
-HaveSettings p nodes core = (name : List ℕ) (table : Slots) → Among name core → nodes.table_of name ≡ Some table → table.settings ≡ p
+abbrev HaveSettings : SettingsValue → Nodes → List (List ℕ) → Type 0
+HaveSettings p nodes core = (name : List ℕ) (table : TableValue) → Among name core → nodes.table_of name ≡ Some table → table.settings ≡ p
 
-at_rest_of : (p : Parameters) (members : List (List ℕ)) (name : List ℕ) (kept : Option Slots) (table : Slots)
+at_rest_of : (p : SettingsValue) (members : List (List ℕ)) (name : List ℕ) (kept : Option TableValue) (table : TableValue)
     → IsSomeAnd kept (IsTableAtRest p name members) → kept ≡ Some table → table.settings ≡ p
 at_rest_of p members name None table is there = absurd is
 at_rest_of p members name (Some found) table is there =
     let same : found ≡ table = cc in
-    let settings : Slots → Parameters = λ t. t.settings in sym (ap settings same) ∙ ap settings is.is
+    let settings : TableValue → SettingsValue = λ t. t.settings in sym (ap settings same) ∙ ap settings is.is
 
-have_settings : (p : Parameters) (members : List (List ℕ)) (nodes : Nodes) → AreMembersAtRest p members nodes → HaveSettings p nodes members
+have_settings : (p : SettingsValue) (members : List (List ℕ)) (nodes : Nodes) → AreMembersAtRest p members nodes → HaveSettings p nodes members
 have_settings p members nodes rest = λ name table among is. at_rest_of p members name (nodes.table_of name) table (rest.tables name among) is
 
-answer_says : (p : Parameters) (nodes : Nodes) (before : List Record) (index : ℕ) (step : Step) (answer : Record) → IsStep p false step
+answer_says : (p : SettingsValue) (nodes : Nodes) (before : List Record) (index : ℕ) (step : Step) (answer : Record) → IsStep p false step
     → 0 < p.base → HaveSettings p nodes (core_of before) → IsHoleFree p (core_of before) (core_links nodes) → last_of before ≡ Some (StepRecord index step) → Answers p nodes (core_of before) index step answer
     → AnswerSays p nodes before answer
 answer_says p nodes before index (Walk object asker) answer is_step some have free last answers =
@@ -166,7 +166,7 @@ after_each Q before (item ∷ items) (suc (suc k)) each from to =
     subst Q (append_assoc before (item ∷ []) (take (suc k) items)) (after_each Q (before ++ item ∷ []) items (suc k) each.1 (omega arith) (omega arith))
 
 -- the first record of a run
-pub has_begun : (s : Script) (nodes : Nodes) (first : Record) → first ≡ Begin s.settings s.frames s.members → HasRun s nodes (first ∷ []) 0
+pub has_begun : (s : ScenarioValue) (nodes : Nodes) (first : Record) → first ≡ Begin s.settings s.frames s.members → HasRun s nodes (first ∷ []) 0
 has_begun s nodes first is =
     let core = core_of-begin s.settings s.frames s.members in
     let P : Record → Type 0 = λ item. HasRun s nodes (item ∷ []) 0 in
@@ -184,12 +184,12 @@ has_begun s nodes first is =
     })
 
 -- how many steps were begun
-steps_begun : (s : Script) (nodes : Nodes) (log : List Record) (count : ℕ) → HasRun s nodes log count → count ≤ length s.steps → length (steps_of log) ≡ count
+steps_begun : (s : ScenarioValue) (nodes : Nodes) (log : List Record) (count : ℕ) → HasRun s nodes log count → count ≤ length s.steps → length (steps_of log) ≡ count
 steps_begun s nodes log count run within =
     let len = length-take count s.steps in ap length run.steps ∙ omega arith
 
 -- the log with the next step and its answer
-pub has_run_more : (s : Script) (nodes : Nodes) (log : List Record) (count index : ℕ) (step : Step) (answer : Record) → IsScript s
+pub has_run_more : (s : ScenarioValue) (nodes : Nodes) (log : List Record) (count index : ℕ) (step : Step) (answer : Record) → IsScript s
     → AreMembersAtRest s.settings s.members nodes → HasRun s nodes log count → slice_get s.steps count ≡ Some step → count < length s.steps → index ≡ count + 1
     → Answers s.settings nodes s.members index step answer
     → HasRun s nodes ((log ++ StepRecord index step ∷ []) ++ answer ∷ []) (count + 1)
@@ -215,7 +215,7 @@ has_run_more s nodes log count index step answer script rest run this within ind
     let no_more : steps_of new ≡ steps_of mid = steps_of-push mid answer ∙ ap (λ o. steps_of mid ++ cons_option o []) says.no_step ∙ append-nil (steps_of mid) in
     let Ends : Option Record → Type 0 = λ last. IsTrue (ends_group last) in
     let settings_mid : settings_of mid ≡ Some s.settings = settings_of-push log (StepRecord index step) ∙ run.settings in
-    let Prints : Option Parameters → Type 0 = λ settings. IsPrintable settings answer in
+    let Prints : Option SettingsValue → Type 0 = λ settings. IsPrintable settings answer in
     record {
       begins = (run.begins.0 ++ StepRecord index step ∷ [] ++ answer ∷ [], ap (λ l. (l ++ StepRecord index step ∷ []) ++ answer ∷ []) run.begins.1);
       between = subst Ends (sym (last_of-push mid answer)) says.ends;
@@ -238,15 +238,15 @@ whole_from_ends (Some (StepRecord index step)) ends = ends
 whole_from_ends (Some item) ends = refl
 
 -- at each moment the core nodes are the members, whose nodes have no hole
-free_at_moments : (s : Script) (nodes : Nodes) (log : List Record) → IsHoleFree s.settings s.members (core_links nodes) → EachRecord (KeepsCore s.members) log
+free_at_moments : (s : ScenarioValue) (nodes : Nodes) (log : List Record) → IsHoleFree s.settings s.members (core_links nodes) → EachRecord (KeepsCore s.members) log
     → (m : ℕ) → is_moment log m ≡ true → IsHoleFree s.settings (core_of (take m log)) (core_links nodes)
 free_at_moments s nodes log free keeps m moment =
-    let Kept : List Record → Type 0 = λ l. core_of l ≡ s.members in
-    let core = after_each Kept [] log m keeps (moment-begun log m moment) (moment-within log m moment) in
+    let ReporterValue : List Record → Type 0 = λ l. core_of l ≡ s.members in
+    let core = after_each ReporterValue [] log m keeps (moment-begun log m moment) (moment-within log m moment) in
     let Free : List (List ℕ) → Type 0 = λ core. IsHoleFree s.settings core (core_links nodes) in subst Free (sym core) free
 
 -- what has run is the beginning of a run
-pub log_of_run : (s : Script) (nodes : Nodes) (log : List Record) (count : ℕ) → IsScript s → AreMembersAtRest s.settings s.members nodes → HasRun s nodes log count
+pub log_of_run : (s : ScenarioValue) (nodes : Nodes) (log : List Record) (count : ℕ) → IsScript s → AreMembersAtRest s.settings s.members nodes → HasRun s nodes log count
     → count ≤ length s.steps → IsLogOf s log
 log_of_run s nodes log count script rest run within =
     let begun = steps_begun s nodes log count run within in
@@ -261,7 +261,7 @@ log_of_run s nodes log count script rest run within =
     }
 
 -- the last record of a run
-pub whole_run : (s : Script) (nodes : Nodes) (log : List Record) (last : Record) → IsScript s → AreMembersAtRest s.settings s.members nodes
+pub whole_run : (s : ScenarioValue) (nodes : Nodes) (log : List Record) (last : Record) → IsScript s → AreMembersAtRest s.settings s.members nodes
     → HasRun s nodes log (length s.steps) → last ≡ Finished (length s.steps) → IsWholeLogOf s (log ++ last ∷ []) × IsPrintableLog (log ++ last ∷ [])
 whole_run s nodes log last script rest run is =
     let Whole : Record → Type 0 = λ item. IsWholeLogOf s (log ++ item ∷ []) × IsPrintableLog (log ++ item ∷ []) in
@@ -293,7 +293,7 @@ whole_run s nodes log last script rest run is =
     )
 
 -- the log after a group
-pub same_run : (s : Script) (nodes : Nodes) (log mid new old : List Record) (step answer : Record) (count : ℕ) → log ≡ old → mid ≡ log ++ step ∷ [] → new ≡ mid ++ answer ∷ []
+pub same_run : (s : ScenarioValue) (nodes : Nodes) (log mid new old : List Record) (step answer : Record) (count : ℕ) → log ≡ old → mid ≡ log ++ step ∷ [] → new ≡ mid ++ answer ∷ []
     → HasRun s nodes ((old ++ step ∷ []) ++ answer ∷ []) count → HasRun s nodes new count
 same_run s nodes log mid new old step answer count kept first second run =
     let P : List Record → Type 0 = λ l. HasRun s nodes l count in
@@ -305,25 +305,25 @@ pub on_err : {T E : Type 0} (r : Result T E) (P : Type 0) → P → OnErr r P
 on_err (Ok x) P p = tt
 on_err (Err e) P p = p
 
-pub begun_run : (s : Script) (nodes : Nodes) (old log : List Record) (first : Record) → old ≡ [] → log ≡ old ++ first ∷ [] → first ≡ Begin s.settings s.frames s.members → HasRun s nodes log 0
+pub begun_run : (s : ScenarioValue) (nodes : Nodes) (old log : List Record) (first : Record) → old ≡ [] → log ≡ old ++ first ∷ [] → first ≡ Begin s.settings s.frames s.members → HasRun s nodes log 0
 begun_run s nodes old log first empty is begin =
     let P : List Record → Type 0 = λ l. HasRun s nodes l 0 in
     subst P (sym (is ∙ ap (λ l. l ++ first ∷ []) empty)) (has_begun s nodes first begin)
 
-pub nodes_at_rest : (p q : Parameters) (names others : List (List ℕ)) (m : Members) → p ≡ q → names ≡ others → AreKeptAtRest p names m → AreMembersAtRest q others (nodes_of m)
+pub nodes_at_rest : (p q : SettingsValue) (names others : List (List ℕ)) (m : Members) → p ≡ q → names ≡ others → AreKeptAtRest p names m → AreMembersAtRest q others (nodes_of m)
 nodes_at_rest p q names others m same_settings same_names rest =
-    let P : Parameters → Type 0 = λ r. AreMembersAtRest r names (nodes_of m) in
+    let P : SettingsValue → Type 0 = λ r. AreMembersAtRest r names (nodes_of m) in
     let Q : List (List ℕ) → Type 0 = λ l. AreMembersAtRest q l (nodes_of m) in
     subst Q same_names (subst P same_settings rest.at_rest)
 
 -- a run that ends early
-pub log_kept : (s : Script) (nodes : Nodes) (log new : List Record) (count : ℕ) → IsScript s → AreMembersAtRest s.settings s.members nodes → HasRun s nodes log count
+pub log_kept : (s : ScenarioValue) (nodes : Nodes) (log new : List Record) (count : ℕ) → IsScript s → AreMembersAtRest s.settings s.members nodes → HasRun s nodes log count
     → count ≤ length s.steps → new ≡ log → IsLogOf s new
 log_kept s nodes log new count script rest run within same =
     let P : List Record → Type 0 = IsLogOf s in subst P (sym same) (log_of_run s nodes log count script rest run within)
 
 -- a run that has come to its end
-pub finished_run : (s : Script) (nodes : Nodes) (log new : List Record) (place count : ℕ) → IsScript s → AreMembersAtRest s.settings s.members nodes
+pub finished_run : (s : ScenarioValue) (nodes : Nodes) (log new : List Record) (place count : ℕ) → IsScript s → AreMembersAtRest s.settings s.members nodes
     → HasRun s nodes log place → count ≡ length s.steps → count ≤ place → place ≤ count → new ≡ log ++ Finished count ∷ [] → IsWholeLogOf s new × IsPrintableLog new
 finished_run s nodes log new place count script rest run is past within grown =
     let P : List Record → Type 0 = λ l. IsWholeLogOf s l × IsPrintableLog l in

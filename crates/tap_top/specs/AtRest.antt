@@ -4,7 +4,7 @@ use Rattle.std.specs.Option.{option_map}
 use Rattle.std.specs.Cmp.Lexicographic.{slice_cmp}
 use Rattle.std.specs.Ordering.{nat_cmp}
 use Rattle.std.specs.BTreeMap.{get}
-use Rattle.tap_name.specs.Settings.{Parameters}
+use Rattle.tap_name.specs.Settings.{SettingsValue}
 use Rattle.tap_surrogate.specs.Nodes.{Nodes}
 use Rattle.tap_surrogate.specs.Members.{AreMembersAtRest}
 use Rattle.tap_top.specs.declared.members.Members.{Members}
@@ -17,6 +17,6 @@ nodes_of m = record {
 }
 
 -- what is kept of these members is what they are at rest
-pub record AreKeptAtRest (p : Parameters) (members : List (List ℕ)) (m : Members) : Type 0 where
+pub record AreKeptAtRest (p : SettingsValue) (members : List (List ℕ)) (m : Members) : Type 0 where
   pub settings : m.settings ≡ p
   pub at_rest : AreMembersAtRest p members (nodes_of m)

@@ -3,7 +3,7 @@
 use Rattle.std.specs.Prelude.{◌≡◌, ◌⊎◌, ℕ, ◌<◌, ◌≤◌, ◌++◌, List, [], length, Option, IfSome, Ok, Err}
 use Rattle.std.specs.Io.KnownBytes.{Appends, IsAtEnd}
 use Rattle.tap_io.specs.Faults.{HasRisen}
-use Rattle.tap_scenario.specs.Scenario.{Script}
+use Rattle.tap_scenario.specs.Scenario.{ScenarioValue}
 use Rattle.tap_scenario.specs.Document.{scenario_of}
 use Rattle.tap_scenario.specs.declared.fault.Fault.{Fault}
 use Rattle.tap_log.specs.declared.record.Record.{Record}
@@ -17,7 +17,7 @@ use Rattle.tap_top.specs.Headline.{IsLogOf, IsWholeLogOf}
 use Rattle.tap_top.specs.FaultLine.{fault_line}
 
 -- the bytes, where they are told, are no more than a text may have, and the text of this script
-abbrev pub IsTextOf : Option (List ℕ) → Script → Type 0
+abbrev pub IsTextOf : Option (List ℕ) → ScenarioValue → Type 0
 IsTextOf left s = IfSome left (λ all. (length all ≤ MOST_BYTES) × (scenario_of all ≡ Ok s))
 
 -- the bytes, where they are told, are no more than a text may have, and refused with this fault
@@ -36,14 +36,14 @@ IsUnread left rest before now WriteFault = ⊥
 
 -- A script was read to the end of its text, and the log is that of its run up to the end of a group.
 pub record HasRunSome (left rest : Option (List ℕ)) (log : List Record) : Type 0 where
-  pub script : Script
+  pub script : ScenarioValue
   pub text : IsTextOf left script
   pub whole : IsAtEnd rest
   pub run : IsLogOf script log
 
 -- A script was read to the end of its text, and every step of it was run.
 pub record HasRunAll (left rest : Option (List ℕ)) (log : List Record) : Type 0 where
-  pub script : Script
+  pub script : ScenarioValue
   pub text : IsTextOf left script
   pub whole : IsAtEnd rest
   pub run : IsWholeLogOf script log

@@ -1,8 +1,8 @@
 -- What a run over fixed members promises of its log.
 use Rattle.std.specs.Prelude.{◌≡◌, ℕ, List, ◌∷◌, length, take, true, Some}
-use Rattle.tap_name.specs.Settings.{Parameters}
+use Rattle.tap_name.specs.Settings.{SettingsValue}
 use Rattle.tap_name.specs.Root.{Among, root}
-use Rattle.tap_scenario.specs.Scenario.{Script}
+use Rattle.tap_scenario.specs.Scenario.{ScenarioValue}
 use Rattle.tap_log.specs.declared.record.Record.{Record}
 use Rattle.tap_log.specs.declared.record.Record.TheVariants.{Begin, Walked, RootOf, Finished}
 use Rattle.tap_log.specs.Moments.{EachRecord, core_of, is_moment, last_of, steps_of}
@@ -14,14 +14,14 @@ use Rattle.tap_top.specs.Lawful.{IsLawful}
 
 -- each walk leads from a core node to the one root of its object, in as many hops as a name has digits or fewer, and each
 -- root that is told is that one
-abbrev pub FindsRoot : Parameters → List Record → Record → Type 0
+abbrev pub FindsRoot : SettingsValue → List Record → Record → Type 0
 FindsRoot p before (Walked object path) =
     (asker : List ℕ) × Among asker (core_of before) × LeadsToRoot p (core_of before) asker object path
 FindsRoot p before (RootOf object found) = root p.base (core_of before) object ≡ Some found
 FindsRoot p before other = Unit {0}
 
 -- the log is the beginning of a run of a script, up to the end of a group
-pub record IsLogOf (s : Script) (log : List Record) : Type 0 where
+pub record IsLogOf (s : ScenarioValue) (log : List Record) : Type 0 where
   pub begins : (rest : List Record) × (log ≡ Begin s.settings s.frames s.members ∷ rest)
   -- the steps that were begun are the script's first ones
   pub steps : steps_of log ≡ take (length (steps_of log)) s.steps
@@ -34,7 +34,7 @@ pub record IsLogOf (s : Script) (log : List Record) : Type 0 where
   pub finds_roots : EachRecord (FindsRoot s.settings) log
 
 -- every step of the script was run
-pub record IsWholeLogOf (s : Script) (log : List Record) : Type 0 where
+pub record IsWholeLogOf (s : ScenarioValue) (log : List Record) : Type 0 where
   pub run : IsLogOf s log
   pub steps : steps_of log ≡ s.steps
   pub finished : last_of log ≡ Some (Finished (length s.steps))

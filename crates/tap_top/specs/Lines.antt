@@ -5,7 +5,7 @@ use Rattle.tap_link.specs.declared.kind.Kind.TheVariants.{Pin, Settled, Leaving}
 use Rattle.tap_log.specs.declared.record.LinkLine.{LinkLine}
 use Rattle.tap_log.specs.declared.record.LinkWord.{LinkWord}
 use Rattle.tap_log.specs.declared.record.LinkWord.TheVariants.{Pin as PinWord, Settled as SettledWord, Leaving as LeavingWord}
-use Rattle.tap_table.specs.Table.{Row, Slots, rows}
+use Rattle.tap_table.specs.Table.{Row, TableValue, rows}
 
 -- the word of a link's kind
 abbrev pub word_of : Kind → LinkWord
@@ -18,5 +18,5 @@ abbrev pub line_of : Row → LinkLine
 line_of row = record { slot = row.slot; name = row.entry.target; kind = word_of row.entry.kind }
 
 -- all links of a table, in ascending order of slot, then target
-abbrev pub lines_of : Slots → List LinkLine
+abbrev pub lines_of : TableValue → List LinkLine
 lines_of table = map line_of (rows table)

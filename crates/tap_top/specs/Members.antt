@@ -1,20 +1,20 @@
 -- the ties of members, by their names
 use Rattle.std.specs.Prelude.{◌≡◌, ℕ, List, Option, Some, MatchOption}
-use Rattle.tap_name.specs.Settings.{Parameters}
+use Rattle.tap_name.specs.Settings.{SettingsValue}
 use Rattle.tap_name.specs.Root.{Among}
 use Rattle.tap_table.specs.Members.{AreAtRest}
-use Rattle.tap_table.specs.Ties.{BothWays}
+use Rattle.tap_table.specs.Ties.{TiesValue}
 use Rattle.tap_surrogate.specs.Nodes.{IsTableOf}
 
 -- the table under each name is that name's
-abbrev pub HaveOwnTables : Parameters → (List ℕ → Option BothWays) → Type 0
-HaveOwnTables p kept = (name : List ℕ) (ties : BothWays) → kept name ≡ Some ties → IsTableOf p name ties.table
+abbrev pub HaveOwnTables : SettingsValue → (List ℕ → Option TiesValue) → Type 0
+HaveOwnTables p kept = (name : List ℕ) (ties : TiesValue) → kept name ≡ Some ties → IsTableOf p name ties.table
 
 -- what is kept under a name: the ties at rest over the members, where it is one of these owners, and else nothing
-abbrev pub IsKept : Parameters → List (List ℕ) → List (List ℕ) → List ℕ → Option BothWays → Type 0
+abbrev pub IsKept : SettingsValue → List (List ℕ) → List (List ℕ) → List ℕ → Option TiesValue → Type 0
 IsKept p members owners name kept =
     MatchOption kept (Among name owners → ⊥) (λ ties. Among name owners × AreAtRest p name members ties)
 
 -- each of these owners, and no other name, has its ties at rest over the members
-abbrev pub AreTiesOf : Parameters → List (List ℕ) → List (List ℕ) → (List ℕ → Option BothWays) → Type 0
+abbrev pub AreTiesOf : SettingsValue → List (List ℕ) → List (List ℕ) → (List ℕ → Option TiesValue) → Type 0
 AreTiesOf p members owners kept = (name : List ℕ) → IsKept p members owners name (kept name)

@@ -1,6 +1,6 @@
 -- how far a run has come
 use Rattle.std.specs.Prelude.{◌≡◌, ℕ, ◌+◌, ◌*◌, List, [], ◌∷◌, ◌++◌, length, take, Some, IsTrue}
-use Rattle.tap_scenario.specs.Scenario.{Script}
+use Rattle.tap_scenario.specs.Scenario.{ScenarioValue}
 use Rattle.tap_log.specs.declared.record.Record.{Record}
 use Rattle.tap_log.specs.declared.record.Record.TheVariants.{Begin}
 use Rattle.tap_log.specs.Moments.{EachRecord, core_of, last_of, steps_of}
@@ -14,7 +14,7 @@ abbrev pub KeepsCore : List (List ℕ) → List Record → Record → Type 0
 KeepsCore members before item = core_of (before ++ item ∷ []) ≡ members
 
 -- the log of a run in which the first `count` steps of a script were run
-pub record HasRun (s : Script) (nodes : Nodes) (log : List Record) (count : ℕ) : Type 0 where
+pub record HasRun (s : ScenarioValue) (nodes : Nodes) (log : List Record) (count : ℕ) : Type 0 where
   pub begins : (rest : List Record) × (log ≡ Begin s.settings s.frames s.members ∷ rest)
   pub between : IsTrue (ends_group (last_of log))
   pub steps : steps_of log ≡ take count s.steps

@@ -1,7 +1,7 @@
 -- a watch is an ascending list of distinct slots
 use Rattle.std.specs.Prelude.{◌≡◌, ◌≢◌, ◌==◌, ℕ, ◌<◌, ◌≤◌, Bool, ◌&&◌, not, List, filter, slice_index, AllPairs}
 use Rattle.tap_name.specs.declared.slot.Slot.{Slot}
-use Rattle.tap_name.specs.Settings.{Parameters}
+use Rattle.tap_name.specs.Settings.{SettingsValue}
 
 -- a stands before b: by level, then digit
 pub record Precedes (a b : Slot) : Type 0 where
@@ -21,7 +21,7 @@ abbrev pub without : Slot → List Slot → List Slot
 without slot slots = filter (is_other slot) slots
 
 -- a slot of a level up to the prefix, with a digit below the base that isn't the joiner's at that level
-pub record IsWatched (p : Parameters) (joiner : List ℕ) (prefix : ℕ) (s : Slot) : Type 0 where
+pub record IsWatched (p : SettingsValue) (joiner : List ℕ) (prefix : ℕ) (s : Slot) : Type 0 where
   pub level : s.level ≤ prefix
   pub digit : s.digit < p.base
   pub other : s.digit ≢ slice_index joiner s.level

@@ -3,7 +3,7 @@ use Rattle.std.proofs.Common.{◌≡◌, ◌<◌, ◌≤◌, ◌++◌, ◌+◌, 
 use Rattle.std.proofs.lemmas.Bool.{eqb-true, leb-true, and_parts, or_cases}
 use Rattle.byteorder.specs.Endian.{big_bytes}
 use Rattle.byteorder.specs.Numbers.{length-bytes_high_first}
-use Rattle.tap_name.specs.Settings.{Parameters, AreWithinLimits}
+use Rattle.tap_name.specs.Settings.{SettingsValue, AreWithinLimits}
 use Rattle.tap_wire.specs.declared.frame.Body.{Body}
 use Rattle.tap_wire.specs.declared.frame.Body.TheVariants.{Seek, Tell, Hello, Heard, Ack, Done, Release, Link, Lay, Find, Answer, Leave, Left, Gone, Forget, Cast, CastAck}
 use Rattle.tap_wire.specs.declared.kind.Kind.{Kind}
@@ -25,7 +25,7 @@ session_again : (made : ℕ → Body) (start : ℕ) (bytes : List ℕ) (session 
 session_again made start bytes session least fits here =
     bind_is (session_at start bytes) (λ s. Ok (made s)) session (Ok (made session)) (alone_again start bytes session least fits here) refl
 
-pub body_again : (p : Parameters) (start : ℕ) (bytes : List ℕ) (body : Body) → AreWithinLimits p → start ≤ length bytes → IsBody p body → IsTyped body → drop start bytes ≡ body_bytes body
+pub body_again : (p : SettingsValue) (start : ℕ) (bytes : List ℕ) (body : Body) → AreWithinLimits p → start ≤ length bytes → IsBody p body → IsTyped body → drop start bytes ≡ body_bytes body
     → body_at p (kind_of body) start bytes ≡ Ok body
 body_again p start bytes (Seek joiner) limits within is typed here = seek_again p start bytes joiner is here
 body_again p start bytes (Tell joiner prefix level session depth watch) limits within is typed here =
@@ -58,7 +58,7 @@ none_taken : (start : ℕ) (bytes : List ℕ) → start ≤ length bytes → eqb
 none_taken start bytes within e = nothing bytes start (omega (arith, eqb-true (length bytes - start) 0 e))
 
 -- a body of one session
-session_taken : (p : Parameters) (made : ℕ → Body) (kind : Kind) (start : ℕ) (bytes : List ℕ) (body : Body) → All (λ b. b < 256) bytes → start ≤ length bytes → eqb (length bytes - start) 4 ≡ true
+session_taken : (p : SettingsValue) (made : ℕ → Body) (kind : Kind) (start : ℕ) (bytes : List ℕ) (body : Body) → All (λ b. b < 256) bytes → start ≤ length bytes → eqb (length bytes - start) 4 ≡ true
     → ((session : ℕ) → TakesSession start bytes session → Takes p kind start bytes (made session)) → (session_at start bytes >>= λ s. Ok (made s)) ≡ Ok body → Takes p kind start bytes body
 session_taken p made kind start bytes body all within long made_of e =
     let a = bind_ok (session_at start bytes) (λ s. Ok (made s)) body e in
@@ -91,7 +91,7 @@ parts_of fixed size most start bytes within e =
       few = subst (λ x. x / size ≤ most) same (leb-true ((l - fixed) / size) most b.1);
     }
 
-pub body_taken : (p : Parameters) (kind : Kind) (start : ℕ) (bytes : List ℕ) (body : Body) → All (λ b. b < 256) bytes → start ≤ length bytes → is_length p kind (length bytes - start) ≡ true
+pub body_taken : (p : SettingsValue) (kind : Kind) (start : ℕ) (bytes : List ℕ) (body : Body) → All (λ b. b < 256) bytes → start ≤ length bytes → is_length p kind (length bytes - start) ≡ true
     → body_at p kind start bytes ≡ Ok body → Takes p kind start bytes body
 body_taken p kinds.Seek start bytes body all within long e = seek_taken p start bytes body (omega (arith, eqb-true (length bytes - start) p.digits long)) e
 body_taken p kinds.Tell start bytes body all within long e =

@@ -2,7 +2,7 @@
 use Rattle.std.proofs.Common.{◌≡◌, ◌<◌, ◌≤◌, ◌++◌, ◌+◌, ◌-◌, ℕ, Bool, true, false, cond, List, [], ◌∷◌, length, drop, All, Result, Ok, Err, IfOk, arith, refl, ap, sym, subst, ◌∙◌, append_assoc, length-append}
 use Rattle.byteorder.specs.Endian.{big_bytes}
 use Rattle.byteorder.specs.Numbers.{length-bytes_high_first}
-use Rattle.tap_name.specs.Settings.{Parameters, AreWithinLimits}
+use Rattle.tap_name.specs.Settings.{SettingsValue, AreWithinLimits}
 use Rattle.tap_wire.specs.declared.fault.BodyFault.TheVariants as faults
 use Rattle.tap_wire.specs.declared.fault.HeadFault.TheVariants as head
 use Rattle.tap_wire.specs.declared.fault.WireFault.{WireFault}
@@ -29,7 +29,7 @@ grouped : (h d e f : List ℕ) → h ++ d ++ e ++ f ≡ h ++ (d ++ e ++ f)
 grouped h d e f = append_assoc (h ++ d) e f ∙ append_assoc h d (e ++ f) ∙ ap (λ (x : List ℕ). h ++ x) (sym (append_assoc d e f))
 
 -- a spelling piece by piece
-pub pieces : (p : Parameters) (frame : Frame) → spelling p frame ≡
+pub pieces : (p : SettingsValue) (frame : Frame) → spelling p frame ≡
     version_of p ∷ code_of (kind_of frame.body) ∷ (big_bytes 2 (length (body_bytes frame.body)) ++ (count_bytes (is_long p) p.digits ++ (frame.from ++ (frame.to ++ body_bytes frame.body))))
 pieces p frame =
     let first = version_of p ∷ code_of (kind_of frame.body) ∷ [] in
@@ -40,12 +40,12 @@ pieces p frame =
 -- ---- what is written is read
 
 -- where the pieces of a spelling stand
-record Stands (p : Parameters) (frame : Frame) (bytes : List ℕ) : Type 0 where
+record Stands (p : SettingsValue) (frame : Frame) (bytes : List ℕ) : Type 0 where
   pub head : HasHead p bytes (record { kind = kind_of frame.body; sender = frame.from; receiver = frame.to }) (length (body_bytes frame.body))
   pub body : drop (body_start p) bytes ≡ body_bytes frame.body
   pub within : body_start p ≤ length bytes
 
-stands : (p : Parameters) (frame : Frame) (bytes : List ℕ) → AreWithinLimits p → IsFrame p frame
+stands : (p : SettingsValue) (frame : Frame) (bytes : List ℕ) → AreWithinLimits p → IsFrame p frame
     → bytes ≡ version_of p ∷ code_of (kind_of frame.body) ∷ (big_bytes 2 (length (body_bytes frame.body)) ++ (count_bytes (is_long p) p.digits ++ (frame.from ++ (frame.to ++ body_bytes frame.body))))
     → Stands p frame bytes
 stands p frame bytes limits is spelled =
@@ -105,10 +105,10 @@ in_frame_ok fault (Err f) x e = absurd cc
 abbrev framed : Opening → Body → Result Frame WireFault
 framed o body = Ok (record { from = o.sender; to = o.receiver; body = body })
 
-abbrev next_body : Parameters → List ℕ → Opening → Result Frame WireFault
+abbrev next_body : SettingsValue → List ℕ → Opening → Result Frame WireFault
 next_body p bytes o = in_frame (λ b. fault_of_body (faults.Field b)) (body_at p o.kind (body_start p) bytes) >>= λ body. framed o body
 
-frame_is : (p : Parameters) (frame : Frame) (bytes : List ℕ) → AreWithinLimits p → IsFrame p frame → IsTyped frame.body → Stands p frame bytes → frame_of p bytes ≡ Ok frame
+frame_is : (p : SettingsValue) (frame : Frame) (bytes : List ℕ) → AreWithinLimits p → IsFrame p frame → IsTyped frame.body → Stands p frame bytes → frame_of p bytes ≡ Ok frame
 frame_is p frame bytes limits is typed h =
     let o : Opening = record { kind = kind_of frame.body; sender = frame.from; receiver = frame.to } in
     let opened = in_frame_is fault_of_head (opening_of p bytes) o (opening_is p bytes o (length (body_bytes frame.body)) h.head) in
@@ -116,7 +116,7 @@ frame_is p frame bytes limits is typed h =
     bind_is (in_frame fault_of_head (opening_of p bytes)) (next_body p bytes) o (Ok frame) opened
     (bind_is (in_frame (λ b. fault_of_body (faults.Field b)) (body_at p (kind_of frame.body) (body_start p) bytes)) (framed o) frame.body (Ok frame) read refl)
 
-pub reads_back : (p : Parameters) (frame : Frame) → AreWithinLimits p → IsFrame p frame → IsTyped frame.body → frame_of p (spelling p frame) ≡ Ok frame
+pub reads_back : (p : SettingsValue) (frame : Frame) → AreWithinLimits p → IsFrame p frame → IsTyped frame.body → frame_of p (spelling p frame) ≡ Ok frame
 reads_back p frame limits is typed = frame_is p frame (spelling p frame) limits is typed (stands p frame (spelling p frame) limits is (pieces p frame))
 
 -- ---- what is read was written
@@ -125,12 +125,12 @@ frame_same : (x y : Frame) → ◌≡◌ {A = Result Frame WireFault} (Ok x) (Ok
 frame_same x y e = cc
 
 -- what reading a frame has taken
-record Taken (p : Parameters) (bytes : List ℕ) (frame : Frame) : Type 0 where
+record Taken (p : SettingsValue) (bytes : List ℕ) (frame : Frame) : Type 0 where
   pub parts : bytes ≡ spelling p frame
   pub rules : IsFrame p frame
   pub typed : IsTyped frame.body
 
-frame_taken : (p : Parameters) (bytes : List ℕ) (o : Opening) (body : Body) → AreWithinLimits p → All (λ b. b < 256) bytes → HasHead p bytes o (number_at 2 2 bytes)
+frame_taken : (p : SettingsValue) (bytes : List ℕ) (o : Opening) (body : Body) → AreWithinLimits p → All (λ b. b < 256) bytes → HasHead p bytes o (number_at 2 2 bytes)
     → body_at p o.kind (body_start p) bytes ≡ Ok body → Taken p bytes (record { from = o.sender; to = o.receiver; body = body })
 frame_taken p bytes o body limits all h e =
     let len = number_at 2 2 bytes in
@@ -162,10 +162,10 @@ frame_taken p bytes o body limits all h e =
     four_of true = omega arith
     four_of false = omega arith
 
-    four_most : (p : Parameters) → 4 ≤ head_len p
+    four_most : (p : SettingsValue) → 4 ≤ head_len p
     four_most p = four_of (is_long p)
 
-pub spelled_so : (p : Parameters) (frame : Frame) (bytes : List ℕ) → AreWithinLimits p → All (λ b. b < 256) bytes → frame_of p bytes ≡ Ok frame
+pub spelled_so : (p : SettingsValue) (frame : Frame) (bytes : List ℕ) → AreWithinLimits p → All (λ b. b < 256) bytes → frame_of p bytes ≡ Ok frame
     → (bytes ≡ spelling p frame) × IsFrame p frame × IsTyped frame.body
 spelled_so p frame bytes limits all e =
     let a = bind_ok (in_frame fault_of_head (opening_of p bytes)) (next_body p bytes) frame e in
@@ -177,7 +177,7 @@ spelled_so p frame bytes limits all e =
     (all_of.parts, all_of.rules, all_of.typed)
 
 -- what an answer says of its frame
-pub is_found : (p : Parameters) (bytes : List ℕ) (r : Result Frame WireFault) → AreWithinLimits p → All (λ b. b < 256) bytes → ((r ≡ Err NoMemory → ⊥) → r ≡ frame_of p bytes)
+pub is_found : (p : SettingsValue) (bytes : List ℕ) (r : Result Frame WireFault) → AreWithinLimits p → All (λ b. b < 256) bytes → ((r ≡ Err NoMemory → ⊥) → r ≡ frame_of p bytes)
     → IfOk r (λ frame. IsFrame p frame × (bytes ≡ spelling p frame))
 is_found p bytes (Ok frame) limits all given = let is = spelled_so p frame bytes limits all (sym (given (λ e. cc))) in (is.1, is.0)
 is_found p bytes (Err fault) limits all given = tt

@@ -5,7 +5,7 @@ use Rattle.std.proofs.lemmas.Bool.{eq-eqb, le-leb, and_from}
 use Rattle.std.proofs.Math.Nat.{div-add-mod}
 use Rattle.byteorder.specs.Endian.{big_bytes}
 use Rattle.byteorder.specs.Numbers.{length-bytes_high_first}
-use Rattle.tap_name.specs.Settings.{Parameters, AreWithinLimits}
+use Rattle.tap_name.specs.Settings.{SettingsValue, AreWithinLimits}
 use Rattle.tap_name.specs.Name.{IsName}
 use Rattle.tap_wire.specs.declared.frame.Body.{Body}
 use Rattle.tap_wire.specs.declared.frame.Body.TheVariants.{Seek, Tell, Hello, Heard, Ack, Done, Release, Link, Lay, Find, Answer, Leave, Left, Gone, Forget, Cast, CastAck}
@@ -13,12 +13,12 @@ use Rattle.tap_wire.specs.Kind.{kind_of, is_length, is_parts}
 use Rattle.tap_wire.specs.Spelling.{flag, slot_bytes, link_bytes, optional_bytes, body_bytes, IsBody}
 use Rattle.tap_wire.proofs.ListBodies.{length-slots, length-links, quotient}
 
-abbrev pub optional_length : Parameters → Option (List ℕ) → ℕ
+abbrev pub optional_length : SettingsValue → Option (List ℕ) → ℕ
 optional_length p None = 1
 optional_length p (Some name) = p.digits + 1
 
 -- the number of bytes of a body
-abbrev pub body_length : Parameters → Body → ℕ
+abbrev pub body_length : SettingsValue → Body → ℕ
 body_length p (Seek joiner) = p.digits
 body_length p (Tell joiner prefix level session depth watch) = p.digits + 8 + 2 * length watch
 body_length p (Hello session core links) = 5 + (p.digits + 1) * length links
@@ -48,11 +48,11 @@ four_parts a b c d = omega (arith, length-append (a ++ b ++ c) d, three_parts a 
 five_parts : (a b c d e : List ℕ) → length (a ++ b ++ c ++ d ++ e) ≡ length a + length b + length c + length d + length e
 five_parts a b c d e = omega (arith, length-append (a ++ b ++ c ++ d) e, four_parts a b c d)
 
-pub length-optional : (p : Parameters) (name : Option (List ℕ)) → IfSome name (IsName p) → length (optional_bytes name) ≡ optional_length p name
+pub length-optional : (p : SettingsValue) (name : Option (List ℕ)) → IfSome name (IsName p) → length (optional_bytes name) ≡ optional_length p name
 length-optional p None is = refl
 length-optional p (Some name) is = omega (arith, is.len)
 
-pub length-body : (p : Parameters) (body : Body) → IsBody p body → length (body_bytes body) ≡ body_length p body
+pub length-body : (p : SettingsValue) (body : Body) → IsBody p body → length (body_bytes body) ≡ body_length p body
 length-body p (Seek joiner) is = is.len
 length-body p (Tell joiner prefix level session depth watch) is =
     omega (
@@ -99,7 +99,7 @@ or_second : (a b : Bool) → b ≡ true → (a || b) ≡ true
 or_second true b e = refl
 or_second false b e = e
 
-pub long_body : (p : Parameters) (body : Body) → AreWithinLimits p → IsBody p body → is_length p (kind_of body) (body_length p body) ≡ true
+pub long_body : (p : SettingsValue) (body : Body) → AreWithinLimits p → IsBody p body → is_length p (kind_of body) (body_length p body) ≡ true
 long_body p (Seek joiner) limits is = eq-eqb p.digits p.digits refl
 long_body p (Tell joiner prefix level session depth watch) limits is =
     parts_hold (p.digits + 8) 2 (p.digits * (p.base - 1)) (length watch) (p.digits + 8 + 2 * length watch) (omega arith) is.slots.few refl
@@ -130,7 +130,7 @@ product_most : (a b c d : ℕ) → a ≤ c → b ≤ d → a * b ≤ c * d
 product_most a b c d h k = grind arith
 
 -- a length that a kind may have fits two bytes
-pub short_enough : (p : Parameters) (body : Body) → AreWithinLimits p → IsBody p body → body_length p body < 65536
+pub short_enough : (p : SettingsValue) (body : Body) → AreWithinLimits p → IsBody p body → body_length p body < 65536
 short_enough p (Seek joiner) limits is = omega (arith, limits.digits_to)
 short_enough p (Tell joiner prefix level session depth watch) limits is =
     omega (arith, is.slots.few, limits.digits_to, product_most p.digits (p.base - 1) 40 15 limits.digits_to (omega (arith, limits.base_to)))

@@ -9,7 +9,7 @@ use Rattle.std.proofs.lemmas.Bool.{eqb-true, eqb-false, leb-true}
 use Rattle.std.proofs.lemmas.List.Concat.{flat_map-cons}
 use Rattle.std.proofs.lemmas.List.Elements.{All-cons, All-nil}
 use Rattle.std.proofs.lemmas.List.Kept.{AllPairs-cons}
-use Rattle.tap_name.specs.Settings.{Parameters}
+use Rattle.tap_name.specs.Settings.{SettingsValue}
 use Rattle.tap_name.specs.Name.{IsName}
 use Rattle.tap_name.specs.declared.slot.Offered.{Offered}
 use Rattle.tap_wire.specs.declared.fault.Broken.{Broken}
@@ -45,13 +45,13 @@ less_from Equal h = absurd cc
 less_from Greater h = absurd cc
 
 -- each link has a name, which may stand behind the name before
-abbrev pub Follow : Parameters → Option (List ℕ) → List Offered → Type 0
+abbrev pub Follow : SettingsValue → Option (List ℕ) → List Offered → Type 0
 Follow p before [] = Unit {0}
 Follow p before (l ∷ ls) = IsName p l.name × (is_next_name before l.name ≡ true) × Follow p (Some l.name) ls
 
 -- ---- what is written is read
 
-link_is : (p : Parameters) (before : Option (List ℕ)) (place : ℕ) (bytes rest : List ℕ) (l : Offered) → IsName p l.name → is_next_name before l.name ≡ true
+link_is : (p : SettingsValue) (before : Option (List ℕ)) (place : ℕ) (bytes rest : List ℕ) (l : Offered) → IsName p l.name → is_next_name before l.name ≡ true
     → drop place bytes ≡ l.name ++ (flag l.settled ∷ rest) → link_at p before place bytes ≡ Ok l
 link_is p before place bytes rest l is rises here =
     let after = past_name p bytes place l.name (flag l.settled ∷ rest) is here in
@@ -63,7 +63,7 @@ link_is p before place bytes rest l is rises here =
     (field_is (is_next_name before l.name) place l.name rises)
     (bind_is (flag_at (place + p.digits) bytes) (λ settled. last l.name settled) l.settled (Ok l) settled refl))
 
-pub links_again : (p : Parameters) (ls : List Offered) (before : Option (List ℕ)) (place : ℕ) (bytes rest : List ℕ) → Follow p before ls
+pub links_again : (p : SettingsValue) (ls : List Offered) (before : Option (List ℕ)) (place : ℕ) (bytes rest : List ℕ) → Follow p before ls
     → drop place bytes ≡ flat_map link_bytes ls ++ rest → links_at p (length ls) before place bytes ≡ Ok ls
 unfolding links_at
 links_again p [] before place bytes rest follow here = refl
@@ -81,18 +81,18 @@ links_again p (l ∷ ls) before place bytes rest follow here =
 -- ---- what is read was written
 
 -- what reading links has taken
-pub record Takes (p : Parameters) (count : ℕ) (before : Option (List ℕ)) (place : ℕ) (bytes : List ℕ) (ls : List Offered) : Type 0 where
+pub record Takes (p : SettingsValue) (count : ℕ) (before : Option (List ℕ)) (place : ℕ) (bytes : List ℕ) (ls : List Offered) : Type 0 where
   pub parts : drop place bytes ≡ flat_map link_bytes ls ++ drop (place + (p.digits + 1) * count) bytes
   pub many : length ls ≡ count
   pub follow : Follow p before ls
 
 -- what reading one link has taken
-record TakesOne (p : Parameters) (before : Option (List ℕ)) (place : ℕ) (bytes : List ℕ) (l : Offered) : Type 0 where
+record TakesOne (p : SettingsValue) (before : Option (List ℕ)) (place : ℕ) (bytes : List ℕ) (l : Offered) : Type 0 where
   pub parts : drop place bytes ≡ l.name ++ (flag l.settled ∷ drop (place + p.digits + 1) bytes)
   pub name : IsName p l.name
   pub rises : is_next_name before l.name ≡ true
 
-link_taken : (p : Parameters) (before : Option (List ℕ)) (place : ℕ) (bytes : List ℕ) (l : Offered) → place + p.digits + 1 ≤ length bytes → link_at p before place bytes ≡ Ok l → TakesOne p before place bytes l
+link_taken : (p : SettingsValue) (before : Option (List ℕ)) (place : ℕ) (bytes : List ℕ) (l : Offered) → place + p.digits + 1 ≤ length bytes → link_at p before place bytes ≡ Ok l → TakesOne p before place bytes l
 link_taken p before place bytes l room e =
     let last : List ℕ → Bool → Result Offered Broken = λ name settled. Ok (record { name = name; settled = settled }) in
     let a = bind_ok (name_at p place bytes) (λ name. field (is_next_name before name) place name >>= λ name. flag_at (place + p.digits) bytes >>= λ settled. last name settled) l e in
@@ -109,7 +109,7 @@ link_taken p before place bytes l room e =
     subst (TakesOne p before place bytes) (ok_is made l c.2)
     (record { parts = whole; name = subst (IsName p) rises.1 named.1; rises = subst (λ name. is_next_name before name ≡ true) rises.1 rises.0 })
 
-pub links_taken : (p : Parameters) (count : ℕ) (before : Option (List ℕ)) (place : ℕ) (bytes : List ℕ) (ls : List Offered) → place + (p.digits + 1) * count ≤ length bytes
+pub links_taken : (p : SettingsValue) (count : ℕ) (before : Option (List ℕ)) (place : ℕ) (bytes : List ℕ) (ls : List Offered) → place + (p.digits + 1) * count ≤ length bytes
     → links_at p count before place bytes ≡ Ok ls → Takes p count before place bytes ls
 unfolding links_at
 links_taken p zero before place bytes ls room e =
@@ -134,18 +134,18 @@ links_taken p (suc count) before place bytes ls room e =
 
 -- ---- the rules of links one by one, and of all
 
-pub follow_names : (p : Parameters) (before : Option (List ℕ)) (ls : List Offered) → Follow p before ls → All (λ l. IsName p l.name) ls
+pub follow_names : (p : SettingsValue) (before : Option (List ℕ)) (ls : List Offered) → Follow p before ls → All (λ l. IsName p l.name) ls
 follow_names p before [] follow = All-nil (λ l. IsName p l.name)
 follow_names p before (l ∷ ls) follow = All-cons (λ l. IsName p l.name) l ls follow.0 (follow_names p (Some l.name) ls follow.2)
 
-follow_behind : (p : Parameters) (b : List ℕ) (ls : List Offered) → Follow p (Some b) ls → All (λ l. name_cmp b l.name ≡ Less) ls
+follow_behind : (p : SettingsValue) (b : List ℕ) (ls : List Offered) → Follow p (Some b) ls → All (λ l. name_cmp b l.name ≡ Less) ls
 follow_behind p b [] follow = All-nil (λ l. name_cmp b l.name ≡ Less)
 follow_behind p b (l ∷ ls) follow =
     let here = less_from (name_cmp b l.name) follow.1 in
     let behind = follow_behind p l.name ls follow.2 in
     All-cons (λ l. name_cmp b l.name ≡ Less) l ls here (λ k d h. nat_list_cmp_total.trans b l.name (get_or ls k d).name here (behind k d h))
 
-pub follow_ascends : (p : Parameters) (before : Option (List ℕ)) (ls : List Offered) → Follow p before ls → AllPairs (λ a b. name_cmp a.name b.name ≡ Less) ls
+pub follow_ascends : (p : SettingsValue) (before : Option (List ℕ)) (ls : List Offered) → Follow p before ls → AllPairs (λ a b. name_cmp a.name b.name ≡ Less) ls
 follow_ascends p before [] follow = λ i j d lt within. absurd (omega arith)
 follow_ascends p before (l ∷ ls) follow =
     AllPairs-cons (λ a b. name_cmp a.name b.name ≡ Less) l ls (follow_behind p l.name ls follow.2) (follow_ascends p (Some l.name) ls follow.2)
@@ -159,7 +159,7 @@ first_name : (before : Option (List ℕ)) (l : Offered) (ls : List Offered) → 
 first_name None l ls behind = refl
 first_name (Some b) l ls behind = ap is_lt (behind 0 l (omega arith))
 
-pub follow_from : (p : Parameters) (before : Option (List ℕ)) (ls : List Offered) → FirstBehind before ls → All (λ l. IsName p l.name) ls → AllPairs (λ a b. name_cmp a.name b.name ≡ Less) ls
+pub follow_from : (p : SettingsValue) (before : Option (List ℕ)) (ls : List Offered) → FirstBehind before ls → All (λ l. IsName p l.name) ls → AllPairs (λ a b. name_cmp a.name b.name ≡ Less) ls
     → Follow p before ls
 follow_from p before [] behind names ascending = tt
 follow_from p before (l ∷ ls) behind names ascending = (

@@ -7,7 +7,7 @@ use Rattle.std.proofs.lemmas.List.Concat.{flat_map-cons}
 use Rattle.std.proofs.lemmas.Nat.{div-mul-add}
 use Rattle.std.proofs.Math.Nat.{div-add-mod}
 use Rattle.byteorder.specs.Endian.{big_bytes}
-use Rattle.tap_name.specs.Settings.{Parameters}
+use Rattle.tap_name.specs.Settings.{SettingsValue}
 use Rattle.tap_name.specs.Name.{IsName}
 use Rattle.tap_name.specs.declared.slot.Slot.{Slot}
 use Rattle.tap_name.specs.declared.slot.Offered.{Offered}
@@ -36,28 +36,28 @@ length-slots (s ∷ ss) =
     omega (arith, ap (λ (xs : List ℕ). length xs) (flat_map-cons slot_bytes s ss), length-append (slot_bytes s) (flat_map slot_bytes ss), length-slots ss)
 
 -- the prefix and the level of a Tell
-prefix_is : (p : Parameters) (place : ℕ) (bytes : List ℕ) (prefix : ℕ) → slice_index bytes place ≡ prefix → prefix < p.digits → prefix_at p place bytes ≡ Ok prefix
+prefix_is : (p : SettingsValue) (place : ℕ) (bytes : List ℕ) (prefix : ℕ) → slice_index bytes place ≡ prefix → prefix < p.digits → prefix_at p place bytes ≡ Ok prefix
 prefix_is p place bytes prefix e below = ap (λ x. field (nat_lt x p.digits) place x) e ∙ field_is (nat_lt prefix p.digits) place prefix (lt-ltb prefix p.digits below)
 
-prefix_taken : (p : Parameters) (place : ℕ) (bytes : List ℕ) (prefix : ℕ) → prefix_at p place bytes ≡ Ok prefix → (slice_index bytes place ≡ prefix) × (prefix < p.digits)
+prefix_taken : (p : SettingsValue) (place : ℕ) (bytes : List ℕ) (prefix : ℕ) → prefix_at p place bytes ≡ Ok prefix → (slice_index bytes place ≡ prefix) × (prefix < p.digits)
 prefix_taken p place bytes prefix e =
     let x = slice_index bytes place in
     let is = field_ok (nat_lt x p.digits) place x prefix e in
     (is.1, subst (λ y. y < p.digits) is.1 (ltb-true x p.digits is.0))
 
-level_above_is : (p : Parameters) (prefix place : ℕ) (bytes : List ℕ) (level : ℕ) → slice_index bytes place ≡ level → prefix < level → level ≤ p.digits → level_above_at p prefix place bytes ≡ Ok level
+level_above_is : (p : SettingsValue) (prefix place : ℕ) (bytes : List ℕ) (level : ℕ) → slice_index bytes place ≡ level → prefix < level → level ≤ p.digits → level_above_at p prefix place bytes ≡ Ok level
 level_above_is p prefix place bytes level e above most =
     ap (λ x. field (nat_lt prefix x && nat_le x p.digits) place x) e
     ∙ field_is (nat_lt prefix level && nat_le level p.digits) place level (and_from (nat_lt prefix level) (nat_le level p.digits) (lt-ltb prefix level above) (le-leb level p.digits most))
 
-level_above_taken : (p : Parameters) (prefix place : ℕ) (bytes : List ℕ) (level : ℕ) → level_above_at p prefix place bytes ≡ Ok level → (slice_index bytes place ≡ level) × (prefix < level) × (level ≤ p.digits)
+level_above_taken : (p : SettingsValue) (prefix place : ℕ) (bytes : List ℕ) (level : ℕ) → level_above_at p prefix place bytes ≡ Ok level → (slice_index bytes place ≡ level) × (prefix < level) × (level ≤ p.digits)
 level_above_taken p prefix place bytes level e =
     let x = slice_index bytes place in
     let is = field_ok (nat_lt prefix x && nat_le x p.digits) place x level e in
     let parts = and_parts (nat_lt prefix x) (nat_le x p.digits) is.0 in
     (is.1, subst (λ y. prefix < y) is.1 (ltb-true prefix x parts.0), subst (λ y. y ≤ p.digits) is.1 (leb-true x p.digits parts.1))
 
-pub tell_again : (p : Parameters) (start : ℕ) (bytes joiner : List ℕ) (prefix level session depth : ℕ) (watch : List Slot) → IsTell p joiner prefix level session watch → IsAscending watch
+pub tell_again : (p : SettingsValue) (start : ℕ) (bytes joiner : List ℕ) (prefix level session depth : ℕ) (watch : List Slot) → IsTell p joiner prefix level session watch → IsAscending watch
     → session < 2 ^ 32 → depth < 2 ^ 16 → drop start bytes ≡ body_bytes (Tell joiner prefix level session depth watch) → tell_at p start bytes ≡ Ok (Tell joiner prefix level session depth watch)
 unfolding tell_at
 tell_again p start bytes joiner prefix level session depth watch is ascending fits0 fits1 here =
@@ -90,7 +90,7 @@ tell_again p start bytes joiner prefix level session depth watch is ascending fi
     (bind_is (session_at (at + 2) bytes) (λ session. slots_next prefix >>= λ watch. made joiner prefix level session watch) session whole e3
     (bind_is (slots_next prefix) (λ watch. made joiner prefix level session watch) watch whole e5 (ap (λ d. Ok (Tell joiner prefix level session d watch)) e4)))))
 
-pub tell_taken : (p : Parameters) (start : ℕ) (bytes : List ℕ) (body : Body) → All (λ b. b < 256) bytes → start + p.digits + 8 ≤ length bytes
+pub tell_taken : (p : SettingsValue) (start : ℕ) (bytes : List ℕ) (body : Body) → All (λ b. b < 256) bytes → start + p.digits + 8 ≤ length bytes
     → (length bytes - (start + p.digits + 8)) % 2 ≡ 0 → (length bytes - (start + p.digits + 8)) / 2 ≤ p.digits * (p.base - 1) → tell_at p start bytes ≡ Ok body → Takes p kinds.Tell start bytes body
 unfolding tell_at
 tell_taken p start bytes body all room even few e =
@@ -139,7 +139,7 @@ tell_taken p start bytes body all room even few e =
 
 -- ---- Hello
 
-pub length-links : (p : Parameters) (ls : List Offered) → All (λ l. IsName p l.name) ls → length (flat_map link_bytes ls) ≡ (p.digits + 1) * length ls
+pub length-links : (p : SettingsValue) (ls : List Offered) → All (λ l. IsName p l.name) ls → length (flat_map link_bytes ls) ≡ (p.digits + 1) * length ls
 length-links p [] names = grind arith
 length-links p (l ∷ ls) names =
     let more = length-links p ls (λ k d h. names (suc k) d (omega arith)) in
@@ -152,7 +152,7 @@ pub quotient : (size count x : ℕ) → 0 < size → x ≡ size * count → x / 
 quotient size count x positive e =
     let same : x ≡ count * size + 0 = grind (arith, e) in ap (λ y. y / size) same ∙ div-mul-add count size 0 positive
 
-pub hello_again : (p : Parameters) (start : ℕ) (bytes : List ℕ) (session : ℕ) (core : Bool) (ls : List Offered) → 1 ≤ session → AreLinks p ls → session < 2 ^ 32
+pub hello_again : (p : SettingsValue) (start : ℕ) (bytes : List ℕ) (session : ℕ) (core : Bool) (ls : List Offered) → 1 ≤ session → AreLinks p ls → session < 2 ^ 32
     → drop start bytes ≡ body_bytes (Hello session core ls) → hello_at p start bytes ≡ Ok (Hello session core ls)
 unfolding hello_at
 hello_again p start bytes session core ls least are fits here =
@@ -175,7 +175,7 @@ hello_again p start bytes session core ls least are fits here =
     (bind_is (flag_at (start + 4) bytes) (λ core. next >>= λ ls. made session core ls) core whole e1
     (bind_is next (λ ls. made session core ls) ls whole e2 refl))
 
-pub hello_taken : (p : Parameters) (start : ℕ) (bytes : List ℕ) (body : Body) → All (λ b. b < 256) bytes → start + 5 ≤ length bytes
+pub hello_taken : (p : SettingsValue) (start : ℕ) (bytes : List ℕ) (body : Body) → All (λ b. b < 256) bytes → start + 5 ≤ length bytes
     → (length bytes - (start + 5)) % (p.digits + 1) ≡ 0 → (length bytes - (start + 5)) / (p.digits + 1) ≤ 255 → hello_at p start bytes ≡ Ok body → Takes p kinds.Hello start bytes body
 unfolding hello_at
 hello_taken p start bytes body all room even few e =

@@ -3,7 +3,7 @@ use Rattle.std.proofs.Common.{◌≡◌, ◌<◌, ◌≤◌, ◌++◌, ◌+◌, 
 use Rattle.std.specs.List.{list_all}
 use Rattle.std.proofs.lemmas.List.{length-drop}
 use Rattle.byteorder.specs.Endian.{big_bytes}
-use Rattle.tap_name.specs.Settings.{Parameters}
+use Rattle.tap_name.specs.Settings.{SettingsValue}
 use Rattle.tap_name.specs.Name.{IsName}
 use Rattle.tap_wire.specs.declared.frame.Body.{Body}
 use Rattle.tap_wire.specs.declared.frame.Body.TheVariants.{Lay, Find, Cast}
@@ -23,7 +23,7 @@ same_place bytes here there e = ap (λ k. drop k bytes) e
 
 -- ---- Lay
 
-pub lay_again : (p : Parameters) (start : ℕ) (bytes object server : List ℕ) (level version : ℕ) (on : Bool) → IsName p object → IsName p server → IsLevel p level → version < 2 ^ 32
+pub lay_again : (p : SettingsValue) (start : ℕ) (bytes object server : List ℕ) (level version : ℕ) (on : Bool) → IsName p object → IsName p server → IsLevel p level → version < 2 ^ 32
     → drop start bytes ≡ body_bytes (Lay object server level version on) → lay_at p start bytes ≡ Ok (Lay object server level version on)
 unfolding lay_at
 lay_again p start bytes object server level version on is_object is_server is_level fits here =
@@ -46,7 +46,7 @@ lay_again p start bytes object server level version on is_object is_server is_le
     (bind_is (level_at p at bytes) (λ level. flag_at (at + 5) bytes >>= λ on. Ok (Lay object server level (number_at 4 (at + 1) bytes) on)) level whole e2
     (bind_is (flag_at (at + 5) bytes) (λ on. Ok (Lay object server level (number_at 4 (at + 1) bytes) on)) on whole e4 (ap (λ v. Ok (Lay object server level v on)) e3))))
 
-pub lay_taken : (p : Parameters) (start : ℕ) (bytes : List ℕ) (body : Body) → All (λ b. b < 256) bytes → length bytes ≡ start + 2 * p.digits + 6 → lay_at p start bytes ≡ Ok body
+pub lay_taken : (p : SettingsValue) (start : ℕ) (bytes : List ℕ) (body : Body) → All (λ b. b < 256) bytes → length bytes ≡ start + 2 * p.digits + 6 → lay_at p start bytes ≡ Ok body
     → Takes p kinds.Lay start bytes body
 unfolding lay_at
 lay_taken p start bytes body all len e =
@@ -74,7 +74,7 @@ lay_taken p start bytes body all len e =
 
 -- ---- Find
 
-pub find_again : (p : Parameters) (start : ℕ) (bytes : List ℕ) (ticket : ℕ) (object asker : List ℕ) (level : ℕ) → IsName p object → IsName p asker → IsLevel p level → ticket < 2 ^ 32
+pub find_again : (p : SettingsValue) (start : ℕ) (bytes : List ℕ) (ticket : ℕ) (object asker : List ℕ) (level : ℕ) → IsName p object → IsName p asker → IsLevel p level → ticket < 2 ^ 32
     → drop start bytes ≡ body_bytes (Find ticket object asker level) → find_at p start bytes ≡ Ok (Find ticket object asker level)
 unfolding find_at
 find_again p start bytes ticket object asker level is_object is_asker is_level fits here =
@@ -93,7 +93,7 @@ find_again p start bytes ticket object asker level is_object is_asker is_level f
     (bind_is (name_at p (first + p.digits) bytes) (λ asker. level_at p at bytes >>= λ level. Ok (Find (number_at 4 start bytes) object asker level)) asker whole e2
     (bind_is (level_at p at bytes) (λ level. Ok (Find (number_at 4 start bytes) object asker level)) level whole e3 (ap (λ t. Ok (Find t object asker level)) e0)))
 
-pub find_taken : (p : Parameters) (start : ℕ) (bytes : List ℕ) (body : Body) → All (λ b. b < 256) bytes → length bytes ≡ start + 2 * p.digits + 5 → find_at p start bytes ≡ Ok body
+pub find_taken : (p : SettingsValue) (start : ℕ) (bytes : List ℕ) (body : Body) → All (λ b. b < 256) bytes → length bytes ≡ start + 2 * p.digits + 5 → find_at p start bytes ≡ Ok body
     → Takes p kinds.Find start bytes body
 unfolding find_at
 find_taken p start bytes body all len e =
@@ -125,7 +125,7 @@ word_taken place bytes word e =
     let is = field_ok (list_all is_word_byte (drop place bytes)) place (drop place bytes) word e in
     (is.1, subst (λ (xs : List ℕ). IsTrue (list_all is_word_byte xs)) is.1 is.0)
 
-pub cast_again : (p : Parameters) (start : ℕ) (bytes : List ℕ) (cast level session depth : ℕ) (word : List ℕ) → IsLevel p level → 1 ≤ session → IsWord word → cast < 2 ^ 32 → session < 2 ^ 32 → depth < 2 ^ 16
+pub cast_again : (p : SettingsValue) (start : ℕ) (bytes : List ℕ) (cast level session depth : ℕ) (word : List ℕ) → IsLevel p level → 1 ≤ session → IsWord word → cast < 2 ^ 32 → session < 2 ^ 32 → depth < 2 ^ 16
     → drop start bytes ≡ body_bytes (Cast cast level session depth word) → cast_at p start bytes ≡ Ok (Cast cast level session depth word)
 unfolding cast_at
 cast_again p start bytes cast level session depth word is_level least is_word fits0 fits1 fits2 here =
@@ -149,7 +149,7 @@ cast_again p start bytes cast level session depth word is_level least is_word fi
     (bind_is (word_at (start + 11) bytes) (λ word. made level session word) word whole e4
     (ap (λ c. Ok (Cast c level session (number_at 2 (start + 9) bytes) word)) e0 ∙ ap (λ d. Ok (Cast cast level session d word)) e3)))
 
-pub cast_taken : (p : Parameters) (start : ℕ) (bytes : List ℕ) (body : Body) → All (λ b. b < 256) bytes → start + 12 ≤ length bytes → length bytes ≤ start + 43 → cast_at p start bytes ≡ Ok body
+pub cast_taken : (p : SettingsValue) (start : ℕ) (bytes : List ℕ) (body : Body) → All (λ b. b < 256) bytes → start + 12 ≤ length bytes → length bytes ≤ start + 43 → cast_at p start bytes ≡ Ok body
     → Takes p kinds.Cast start bytes body
 unfolding cast_at
 cast_taken p start bytes body all least most e =

@@ -2,7 +2,7 @@
 use Rattle.std.proofs.Common.{◌≡◌, ℕ, suc, ◌-◌, ◌+◌, ◌*◌, ◌/◌, ◌≤◌, ◌<◌, List, [], ◌∷◌, ◌++◌, length, Option, None, Some, Result, Ok, Err, refl, sym, ap, ◌∙◌, append_assoc, arith}
 use Rattle.std.proofs.lemmas.List.{append-nil}
 use Rattle.std.proofs.Math.Nat.{div-add-mod}
-use Rattle.tap_name.specs.Settings.{Parameters}
+use Rattle.tap_name.specs.Settings.{SettingsValue}
 use Rattle.tap_name.specs.declared.slot.Slot.{Slot}
 use Rattle.tap_name.specs.declared.slot.Offered.{Offered}
 use Rattle.tap_watch.specs.Watch.{IsAscending}
@@ -20,7 +20,7 @@ regroup front x (Err b) = refl
 
 -- ---- slots
 
-pub slots_go_on : (p : Parameters) (prefix count i : ℕ) (before : Option Slot) (place : ℕ) (bytes : List ℕ) (front : List Slot) (s : Slot) (total : Result (List Slot) Broken) → i < count
+pub slots_go_on : (p : SettingsValue) (prefix count i : ℕ) (before : Option Slot) (place : ℕ) (bytes : List ℕ) (front : List Slot) (s : Slot) (total : Result (List Slot) Broken) → i < count
     → slot_at p prefix before place bytes ≡ Ok s → with_front front (slots_at p prefix (count - i) before place bytes) ≡ total
     → with_front (front ++ s ∷ []) (slots_at p prefix (count - (i + 1)) (Some s) (place + 2) bytes) ≡ total
 unfolding slots_at
@@ -32,7 +32,7 @@ slots_go_on p prefix count i before place bytes front s total lt h so_far =
     ∙ regroup front s (slots_at p prefix (count - (i + 1)) (Some s) (place + 2) bytes) in
     sym one ∙ so_far
 
-pub slots_end : (p : Parameters) (prefix count i : ℕ) (before : Option Slot) (place : ℕ) (bytes : List ℕ) (front : List Slot) (b : Broken) (total : Result (List Slot) Broken) → i < count
+pub slots_end : (p : SettingsValue) (prefix count i : ℕ) (before : Option Slot) (place : ℕ) (bytes : List ℕ) (front : List Slot) (b : Broken) (total : Result (List Slot) Broken) → i < count
     → slot_at p prefix before place bytes ≡ Err b → with_front front (slots_at p prefix (count - i) before place bytes) ≡ total → total ≡ Err b
 unfolding slots_at
 slots_end p prefix count i before place bytes front b total lt h so_far =
@@ -42,7 +42,7 @@ slots_end p prefix count i before place bytes front b total lt h so_far =
     ∙ ap (λ r. with_front front (r >>= λ slot. slots_at p prefix (count - (i + 1)) (Some slot) (place + 2) bytes >>= λ slots. Ok (slot ∷ slots))) h in
     sym so_far ∙ one
 
-pub slots_done : (p : Parameters) (prefix count i : ℕ) (before : Option Slot) (place : ℕ) (bytes : List ℕ) (front : List Slot) (total : Result (List Slot) Broken) → count ≤ i
+pub slots_done : (p : SettingsValue) (prefix count i : ℕ) (before : Option Slot) (place : ℕ) (bytes : List ℕ) (front : List Slot) (total : Result (List Slot) Broken) → count ≤ i
     → with_front front (slots_at p prefix (count - i) before place bytes) ≡ total → total ≡ Ok front
 unfolding slots_at
 slots_done p prefix count i before place bytes front total le so_far =
@@ -52,7 +52,7 @@ slots_done p prefix count i before place bytes front total le so_far =
     sym so_far ∙ one
 
 -- slots that were read ascend
-pub slots_ascend : (p : Parameters) (prefix start : ℕ) (bytes : List ℕ) (ss : List Slot) → start ≤ length bytes → slots_at p prefix ((length bytes - start) / 2) None start bytes ≡ Ok ss → IsAscending ss
+pub slots_ascend : (p : SettingsValue) (prefix start : ℕ) (bytes : List ℕ) (ss : List Slot) → start ≤ length bytes → slots_at p prefix ((length bytes - start) / 2) None start bytes ≡ Ok ss → IsAscending ss
 slots_ascend p prefix start bytes ss within e =
     let count = (length bytes - start) / 2 in
     let taken = slots_taken p prefix count None start bytes ss (omega arith) e in
@@ -60,7 +60,7 @@ slots_ascend p prefix start bytes ss within e =
 
 -- ---- links
 
-pub links_go_on : (p : Parameters) (count i : ℕ) (before : Option (List ℕ)) (place next : ℕ) (bytes : List ℕ) (front : List Offered) (l : Offered) (total : Result (List Offered) Broken) → i < count
+pub links_go_on : (p : SettingsValue) (count i : ℕ) (before : Option (List ℕ)) (place next : ℕ) (bytes : List ℕ) (front : List Offered) (l : Offered) (total : Result (List Offered) Broken) → i < count
     → next ≡ place + p.digits + 1 → link_at p before place bytes ≡ Ok l → with_front front (links_at p (count - i) before place bytes) ≡ total
     → with_front (front ++ l ∷ []) (links_at p (count - (i + 1)) (Some l.name) next bytes) ≡ total
 unfolding links_at
@@ -72,7 +72,7 @@ links_go_on p count i before place next bytes front l total lt behind h so_far =
     ∙ regroup front l (links_at p (count - (i + 1)) (Some l.name) (place + p.digits + 1) bytes) in
     ap (λ k. with_front (front ++ l ∷ []) (links_at p (count - (i + 1)) (Some l.name) k bytes)) behind ∙ sym one ∙ so_far
 
-pub links_end : (p : Parameters) (count i : ℕ) (before : Option (List ℕ)) (place : ℕ) (bytes : List ℕ) (front : List Offered) (b : Broken) (total : Result (List Offered) Broken) → i < count
+pub links_end : (p : SettingsValue) (count i : ℕ) (before : Option (List ℕ)) (place : ℕ) (bytes : List ℕ) (front : List Offered) (b : Broken) (total : Result (List Offered) Broken) → i < count
     → link_at p before place bytes ≡ Err b → with_front front (links_at p (count - i) before place bytes) ≡ total → total ≡ Err b
 unfolding links_at
 links_end p count i before place bytes front b total lt h so_far =
@@ -82,7 +82,7 @@ links_end p count i before place bytes front b total lt h so_far =
     ∙ ap (λ r. with_front front (r >>= λ link. links_at p (count - (i + 1)) (Some link.name) (place + p.digits + 1) bytes >>= λ links. Ok (link ∷ links))) h in
     sym so_far ∙ one
 
-pub links_done : (p : Parameters) (count i : ℕ) (before : Option (List ℕ)) (place : ℕ) (bytes : List ℕ) (front : List Offered) (total : Result (List Offered) Broken) → count ≤ i
+pub links_done : (p : SettingsValue) (count i : ℕ) (before : Option (List ℕ)) (place : ℕ) (bytes : List ℕ) (front : List Offered) (total : Result (List Offered) Broken) → count ≤ i
     → with_front front (links_at p (count - i) before place bytes) ≡ total → total ≡ Ok front
 unfolding links_at
 links_done p count i before place bytes front total le so_far =

@@ -1,7 +1,7 @@
 -- the heads of frames: read where they were written, and written as they are read
 use Rattle.std.proofs.Common.{◌≡◌, ◌≤◌, ◌++◌, ◌+◌, ◌-◌, ℕ, zero, suc, Bool, true, false, cond, eqb, nat_lt, not, ◌&&◌, List, [], ◌∷◌, length, drop, slice_index, slice_get, Option, None, Some, Result, Ok, Err, arith, refl, ap, sym, subst, ◌∙◌}
 use Rattle.std.proofs.lemmas.Bool.{eqb-true, eq-eqb, ltb-false, le-ltb, not-false}
-use Rattle.tap_name.specs.Settings.{Parameters}
+use Rattle.tap_name.specs.Settings.{SettingsValue}
 use Rattle.tap_wire.specs.declared.fault.HeadFault.{HeadFault}
 use Rattle.tap_wire.specs.declared.fault.HeadFault.TheVariants.{Short, BadVersion, BadLength, BadCount, Trailing, BadDigit}
 use Rattle.tap_wire.specs.declared.kind.Kind.{Kind}
@@ -103,7 +103,7 @@ count_taken false digits bytes within h = refl
 -- ---- what a head says
 
 -- the bytes have this head, and their names
-pub record HasHead (p : Parameters) (bytes : List ℕ) (o : Opening) (len : ℕ) : Type 0 where
+pub record HasHead (p : SettingsValue) (bytes : List ℕ) (o : Opening) (len : ℕ) : Type 0 where
   pub version : slice_index bytes 0 ≡ version_of p
   pub kind : slice_index bytes 1 ≡ code_of o.kind
   pub stated : number_at 2 2 bytes ≡ len
@@ -113,16 +113,16 @@ pub record HasHead (p : Parameters) (bytes : List ℕ) (o : Opening) (len : ℕ)
   pub sender : digits_at BadDigit p (head_len p) bytes ≡ Ok o.sender
   pub receiver : digits_at BadDigit p (head_len p + p.digits) bytes ≡ Ok o.receiver
 
-head_most : (p : Parameters) → head_len p ≤ body_start p
+head_most : (p : SettingsValue) → head_len p ≤ body_start p
 head_most p = omega arith
 
-names_is : (p : Parameters) (bytes : List ℕ) (o : Opening) (len : ℕ) → HasHead p bytes o len → names_at p o.kind bytes ≡ Ok o
+names_is : (p : SettingsValue) (bytes : List ℕ) (o : Opening) (len : ℕ) → HasHead p bytes o len → names_at p o.kind bytes ≡ Ok o
 names_is p bytes o len h =
     let made : List ℕ → List ℕ → Result Opening HeadFault = λ sender receiver. Ok (record { kind = o.kind; sender = sender; receiver = receiver }) in
     bind_is (digits_at BadDigit p (head_len p) bytes) (λ sender. digits_at BadDigit p (head_len p + p.digits) bytes >>= λ receiver. made sender receiver) o.sender (Ok o) h.sender
     (bind_is (digits_at BadDigit p (head_len p + p.digits) bytes) (λ receiver. made o.sender receiver) o.receiver (Ok o) h.receiver refl)
 
-sized_is : (p : Parameters) (bytes : List ℕ) (o : Opening) (len : ℕ) → HasHead p bytes o len → sized p o.kind len bytes ≡ Ok o
+sized_is : (p : SettingsValue) (bytes : List ℕ) (o : Opening) (len : ℕ) → HasHead p bytes o len → sized p o.kind len bytes ≡ Ok o
 sized_is p bytes o len h =
     let whole = body_start p + len in
     let other = is_long p && not (eqb (slice_index bytes 4) p.digits) in
@@ -137,7 +137,7 @@ sized_is p bytes o len h =
     (passes short (Short (whole - length bytes)) fourth o (le-ltb (length bytes) whole (omega (arith, h.whole)))
     (passes more (Trailing (length bytes - whole)) names o (le-ltb whole (length bytes) (omega (arith, h.whole))) (names_is p bytes o len h))))
 
-pub opening_is : (p : Parameters) (bytes : List ℕ) (o : Opening) (len : ℕ) → HasHead p bytes o len → opening_of p bytes ≡ Ok o
+pub opening_is : (p : SettingsValue) (bytes : List ℕ) (o : Opening) (len : ℕ) → HasHead p bytes o len → opening_of p bytes ≡ Ok o
 opening_is p bytes o len h =
     let b0 = slice_index bytes 0 in
     let b1 = slice_index bytes 1 in
@@ -148,7 +148,7 @@ opening_is p bytes o len h =
     passes (nat_lt (length bytes) (head_len p)) (Short (head_len p - length bytes)) second o (le-ltb (length bytes) (head_len p) (omega (arith, h.whole, head_most p)))
     (passes (not (eqb b0 (version_of p))) (BadVersion b0) rest o (not_from (eqb b0 (version_of p)) (eq-eqb b0 (version_of p) h.version)) last)
 
-names_parts : (p : Parameters) (kind : Kind) (bytes : List ℕ) (o : Opening) → names_at p kind bytes ≡ Ok o
+names_parts : (p : SettingsValue) (kind : Kind) (bytes : List ℕ) (o : Opening) → names_at p kind bytes ≡ Ok o
     → (kind ≡ o.kind) × (digits_at BadDigit p (head_len p) bytes ≡ Ok o.sender) × (digits_at BadDigit p (head_len p + p.digits) bytes ≡ Ok o.receiver)
 names_parts p kind bytes o e =
     let made : List ℕ → List ℕ → Opening = λ sender receiver. record { kind = kind; sender = sender; receiver = receiver } in
@@ -164,7 +164,7 @@ names_parts p kind bytes o e =
     opening_same : (x y : Opening) → ◌≡◌ {A = Result Opening HeadFault} (Ok x) (Ok y) → x ≡ y
     opening_same x y e = cc
 
-sized_parts : (p : Parameters) (kind : Kind) (bytes : List ℕ) (o : Opening) → slice_index bytes 0 ≡ version_of p → slice_index bytes 1 ≡ code_of kind → sized p kind (number_at 2 2 bytes) bytes ≡ Ok o
+sized_parts : (p : SettingsValue) (kind : Kind) (bytes : List ℕ) (o : Opening) → slice_index bytes 0 ≡ version_of p → slice_index bytes 1 ≡ code_of kind → sized p kind (number_at 2 2 bytes) bytes ≡ Ok o
     → HasHead p bytes o (number_at 2 2 bytes)
 sized_parts p kind bytes o version code e =
     let len = number_at 2 2 bytes in
@@ -192,12 +192,12 @@ sized_parts p kind bytes o version code e =
       receiver = parts.2;
     }
 
-of_kind_parts : (p : Parameters) (found : Option Kind) (bytes : List ℕ) (o : Opening) → slice_index bytes 0 ≡ version_of p → kind_of_code (slice_index bytes 1) ≡ found → of_kind p found bytes ≡ Ok o
+of_kind_parts : (p : SettingsValue) (found : Option Kind) (bytes : List ℕ) (o : Opening) → slice_index bytes 0 ≡ version_of p → kind_of_code (slice_index bytes 1) ≡ found → of_kind p found bytes ≡ Ok o
     → HasHead p bytes o (number_at 2 2 bytes)
 of_kind_parts p None bytes o version code e = absurd cc
 of_kind_parts p (Some kind) bytes o version code e = sized_parts p kind bytes o version (sym (code_back (slice_index bytes 1) kind code)) e
 
-pub opening_parts : (p : Parameters) (bytes : List ℕ) (o : Opening) → opening_of p bytes ≡ Ok o → HasHead p bytes o (number_at 2 2 bytes)
+pub opening_parts : (p : SettingsValue) (bytes : List ℕ) (o : Opening) → opening_of p bytes ≡ Ok o → HasHead p bytes o (number_at 2 2 bytes)
 opening_parts p bytes o e =
     let b0 = slice_index bytes 0 in
     let rest = of_kind p (kind_of_code (slice_index bytes 1)) bytes in

@@ -8,7 +8,7 @@ use Rattle.std.proofs.lemmas.List.Sums.{position_or_len_is, fails_before_first}
 use Rattle.std.proofs.Math.Seq.{drop-cons}
 use Rattle.byteorder.specs.Endian.{big_bytes, big_number}
 use Rattle.byteorder.specs.Numbers.{big_number-reads_back, big_from-take, big_from-lt, length-bytes_high_first}
-use Rattle.tap_name.specs.Settings.{Parameters}
+use Rattle.tap_name.specs.Settings.{SettingsValue}
 use Rattle.tap_name.specs.Name.{IsName}
 use Rattle.tap_wire.specs.Fields.{number_at, digits_at, digits_unless}
 use Rattle.tap_wire.proofs.Numbers.{are_small, writes_back}
@@ -77,17 +77,17 @@ all_below base name none =
       | inr past ↦ All-from_get_or (λ d. d < base) name 0 (λ i h. leb-false base (get_or name i 0) (fails_before_first (λ d. nat_le base d) name i 0 (omega arith)))
     ]
 
-pub name_is : {E : Type 0} (bad : ℕ → E) (p : Parameters) (bytes : List ℕ) (place : ℕ) (name rest : List ℕ) → IsName p name → drop place bytes ≡ name ++ rest
+pub name_is : {E : Type 0} (bad : ℕ → E) (p : SettingsValue) (bytes : List ℕ) (place : ℕ) (name rest : List ℕ) → IsName p name → drop place bytes ≡ name ++ rest
     → digits_at bad p place bytes ≡ Ok name
 name_is {E} bad p bytes place name rest is here =
     let fault : ℕ → E = λ at. bad (place + at) in
     let digits : take p.digits (drop place bytes) ≡ name = ap (take p.digits) here ∙ take_at name rest p.digits is.len in
     ap (λ (xs : List ℕ). digits_unless fault xs (position (λ d. nat_le p.base d) xs)) digits ∙ ap (digits_unless fault name) (no_bad p.base name is.below)
 
-pub past_name : (p : Parameters) (bytes : List ℕ) (place : ℕ) (name rest : List ℕ) → IsName p name → drop place bytes ≡ name ++ rest → drop (place + p.digits) bytes ≡ rest
+pub past_name : (p : SettingsValue) (bytes : List ℕ) (place : ℕ) (name rest : List ℕ) → IsName p name → drop place bytes ≡ name ++ rest → drop (place + p.digits) bytes ≡ rest
 past_name p bytes place name rest is here = past bytes place p.digits name rest is.len here
 
-pub name_taken : {E : Type 0} (bad : ℕ → E) (p : Parameters) (bytes : List ℕ) (place : ℕ) (name : List ℕ) → place + p.digits ≤ length bytes → digits_at bad p place bytes ≡ Ok name
+pub name_taken : {E : Type 0} (bad : ℕ → E) (p : SettingsValue) (bytes : List ℕ) (place : ℕ) (name : List ℕ) → place + p.digits ≤ length bytes → digits_at bad p place bytes ≡ Ok name
     → (drop place bytes ≡ name ++ drop (place + p.digits) bytes) × IsName p name
 name_taken bad p bytes place name room e =
     let rest = drop place bytes in

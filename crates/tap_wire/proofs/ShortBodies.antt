@@ -3,7 +3,7 @@ use Rattle.std.proofs.Common.{◌≡◌, ◌<◌, ◌≤◌, ◌++◌, ◌+◌, 
 use Rattle.std.proofs.lemmas.Bool.{eqb-true, eqb-false, eq-eqb, ne_eqb, cases_Bool}
 use Rattle.std.proofs.lemmas.List.{drop_all, length-drop, append-nil}
 use Rattle.byteorder.specs.Endian.{big_bytes}
-use Rattle.tap_name.specs.Settings.{Parameters}
+use Rattle.tap_name.specs.Settings.{SettingsValue}
 use Rattle.tap_name.specs.Name.{IsName}
 use Rattle.tap_wire.specs.declared.frame.Body.{Body}
 use Rattle.tap_wire.specs.declared.frame.Body.TheVariants.{Seek, Link, Answer, Leave}
@@ -27,11 +27,11 @@ left bytes piece place within here = omega (arith, length-drop place bytes, ap (
 
 -- ---- Seek
 
-pub seek_again : (p : Parameters) (start : ℕ) (bytes joiner : List ℕ) → IsName p joiner → drop start bytes ≡ joiner → seek_at p start bytes ≡ Ok (Seek joiner)
+pub seek_again : (p : SettingsValue) (start : ℕ) (bytes joiner : List ℕ) → IsName p joiner → drop start bytes ≡ joiner → seek_at p start bytes ≡ Ok (Seek joiner)
 seek_again p start bytes joiner is here =
     bind_is (name_at p start bytes) (λ name. Ok (Seek name)) joiner (Ok (Seek joiner)) (name_is (λ at. record { at = at }) p bytes start joiner [] is (ends bytes joiner start here)) refl
 
-pub seek_taken : (p : Parameters) (start : ℕ) (bytes : List ℕ) (body : Body) → length bytes ≡ start + p.digits → seek_at p start bytes ≡ Ok body → Takes p kinds.Seek start bytes body
+pub seek_taken : (p : SettingsValue) (start : ℕ) (bytes : List ℕ) (body : Body) → length bytes ≡ start + p.digits → seek_at p start bytes ≡ Ok body → Takes p kinds.Seek start bytes body
 seek_taken p start bytes body len e =
     let a = bind_ok (name_at p start bytes) (λ name. Ok (Seek name)) body e in
     let named = name_taken (λ at. record { at = at }) p bytes start a.0 (omega arith) a.1 in
@@ -67,7 +67,7 @@ link_again start bytes version on fits here =
     let set = flag_is (start + 4) bytes on (byte_is bytes (start + 4) (flag on) [] after) in
     bind_is (flag_at (start + 4) bytes) (λ on. Ok (Link (number_at 4 start bytes) on)) on (Ok (Link version on)) set (ap (λ v. Ok (Link v on)) number)
 
-pub link_taken : (p : Parameters) (start : ℕ) (bytes : List ℕ) (body : Body) → All (λ b. b < 256) bytes → length bytes ≡ start + 5 → link_body_at start bytes ≡ Ok body → Takes p kinds.Link start bytes body
+pub link_taken : (p : SettingsValue) (start : ℕ) (bytes : List ℕ) (body : Body) → All (λ b. b < 256) bytes → length bytes ≡ start + 5 → link_body_at start bytes ≡ Ok body → Takes p kinds.Link start bytes body
 link_taken p start bytes body all len e =
     let version = number_at 4 start bytes in
     let a = bind_ok (flag_at (start + 4) bytes) (λ on. Ok (Link version on)) body e in
@@ -82,7 +82,7 @@ link_taken p start bytes body all len e =
 abbrev with_name : Option (List ℕ) → Result (Option (List ℕ)) Broken
 with_name o = Ok o
 
-pub optional_again : (p : Parameters) (place : ℕ) (bytes : List ℕ) (name : Option (List ℕ)) → place ≤ length bytes → 1 ≤ p.digits → IfSome name (IsName p) → drop place bytes ≡ optional_bytes name
+pub optional_again : (p : SettingsValue) (place : ℕ) (bytes : List ℕ) (name : Option (List ℕ)) → place ≤ length bytes → 1 ≤ p.digits → IfSome name (IsName p) → drop place bytes ≡ optional_bytes name
     → optional_at p place bytes ≡ Ok name
 optional_again p place bytes None within digits is here =
     let flagged = byte_is bytes place 0 [] here in
@@ -96,11 +96,11 @@ optional_again p place bytes (Some name) within digits is here =
     let read : name_at p (place + 1) bytes ≡ Ok name = name_is (λ at. record { at = at }) p bytes (place + 1) name [] is (ends bytes name (place + 1) after) in
     rw (more, flagged, read) refl
 
-pub record TakesOptional (p : Parameters) (place : ℕ) (bytes : List ℕ) (name : Option (List ℕ)) : Type 0 where
+pub record TakesOptional (p : SettingsValue) (place : ℕ) (bytes : List ℕ) (name : Option (List ℕ)) : Type 0 where
   pub parts : drop place bytes ≡ optional_bytes name
   pub is : IfSome name (IsName p)
 
-pub optional_taken : (p : Parameters) (place : ℕ) (bytes : List ℕ) (name : Option (List ℕ)) → place + 1 ≤ length bytes → (place + 1 < length bytes → length bytes ≡ place + 1 + p.digits)
+pub optional_taken : (p : SettingsValue) (place : ℕ) (bytes : List ℕ) (name : Option (List ℕ)) → place + 1 ≤ length bytes → (place + 1 < length bytes → length bytes ≡ place + 1 + p.digits)
     → optional_at p place bytes ≡ Ok name → TakesOptional p place bytes name
 optional_taken p place bytes name within exact e =
     elim (cases_Bool (eqb (length bytes) (place + 1))) [
@@ -128,7 +128,7 @@ optional_taken p place bytes name within exact e =
 
 -- ---- Answer and Leave
 
-pub answer_again : (p : Parameters) (start : ℕ) (bytes : List ℕ) (ticket : ℕ) (server : Option (List ℕ)) → 1 ≤ p.digits → start + 4 ≤ length bytes → ticket < 2 ^ 32 → IfSome server (IsName p)
+pub answer_again : (p : SettingsValue) (start : ℕ) (bytes : List ℕ) (ticket : ℕ) (server : Option (List ℕ)) → 1 ≤ p.digits → start + 4 ≤ length bytes → ticket < 2 ^ 32 → IfSome server (IsName p)
     → drop start bytes ≡ body_bytes (Answer ticket server) → answer_at p start bytes ≡ Ok (Answer ticket server)
 answer_again p start bytes ticket server digits within fits is here =
     let number = number_is bytes start 4 ticket (optional_bytes server) fits here in
@@ -136,7 +136,7 @@ answer_again p start bytes ticket server digits within fits is here =
     bind_is (optional_at p (start + 4) bytes) (λ server. Ok (Answer (number_at 4 start bytes) server)) server (Ok (Answer ticket server))
     (optional_again p (start + 4) bytes server within digits is after) (ap (λ t. Ok (Answer t server)) number)
 
-pub answer_taken : (p : Parameters) (start : ℕ) (bytes : List ℕ) (body : Body) → All (λ b. b < 256) bytes → start + 5 ≤ length bytes → (start + 5 < length bytes → length bytes ≡ start + 5 + p.digits)
+pub answer_taken : (p : SettingsValue) (start : ℕ) (bytes : List ℕ) (body : Body) → All (λ b. b < 256) bytes → start + 5 ≤ length bytes → (start + 5 < length bytes → length bytes ≡ start + 5 + p.digits)
     → answer_at p start bytes ≡ Ok body → Takes p kinds.Answer start bytes body
 answer_taken p start bytes body all within exact e =
     let ticket = number_at 4 start bytes in
@@ -145,12 +145,12 @@ answer_taken p start bytes body all within exact e =
     let whole = number_taken bytes start 4 all (omega arith) ∙ ap (λ (xs : List ℕ). big_bytes 4 ticket ++ xs) server.parts in
     subst (Takes p kinds.Answer start bytes) (ok_is (Answer ticket a.0) body a.2) (record { parts = whole; same = refl; rules = server.is; typed = number_below bytes start 4 all })
 
-pub leave_again : (p : Parameters) (start : ℕ) (bytes : List ℕ) (replacement : Option (List ℕ)) → 1 ≤ p.digits → start ≤ length bytes → IfSome replacement (IsName p)
+pub leave_again : (p : SettingsValue) (start : ℕ) (bytes : List ℕ) (replacement : Option (List ℕ)) → 1 ≤ p.digits → start ≤ length bytes → IfSome replacement (IsName p)
     → drop start bytes ≡ optional_bytes replacement → leave_at p start bytes ≡ Ok (Leave replacement)
 leave_again p start bytes replacement digits within is here =
     bind_is (optional_at p start bytes) (λ name. Ok (Leave name)) replacement (Ok (Leave replacement)) (optional_again p start bytes replacement within digits is here) refl
 
-pub leave_taken : (p : Parameters) (start : ℕ) (bytes : List ℕ) (body : Body) → start + 1 ≤ length bytes → (start + 1 < length bytes → length bytes ≡ start + 1 + p.digits)
+pub leave_taken : (p : SettingsValue) (start : ℕ) (bytes : List ℕ) (body : Body) → start + 1 ≤ length bytes → (start + 1 < length bytes → length bytes ≡ start + 1 + p.digits)
     → leave_at p start bytes ≡ Ok body → Takes p kinds.Leave start bytes body
 leave_taken p start bytes body within exact e =
     let a = bind_ok (optional_at p start bytes) (λ name. Ok (Leave name)) body e in

@@ -5,7 +5,7 @@ use Rattle.std.proofs.lemmas.Bool.Decides.{nat_tests}
 use Rattle.std.proofs.lemmas.List.Concat.{flat_map-cons}
 use Rattle.std.proofs.lemmas.List.Elements.{All-cons, All-nil}
 use Rattle.std.proofs.lemmas.List.Kept.{AllPairs-cons}
-use Rattle.tap_name.specs.Settings.{Parameters}
+use Rattle.tap_name.specs.Settings.{SettingsValue}
 use Rattle.tap_name.specs.declared.slot.Slot.{Slot}
 use Rattle.tap_watch.specs.Watch.{Precedes, IsAscending}
 use Rattle.tap_wire.specs.Fields.{◌>>=◌, field, is_next_level, is_next_digit, slot_at, slots_at}
@@ -21,11 +21,11 @@ Follow base prefix before (s ∷ ss) =
 
 -- ---- what is written is read
 
-slot_is : (p : Parameters) (prefix : ℕ) (before : Option Slot) (place : ℕ) (bytes : List ℕ) (s : Slot) → slice_index bytes place ≡ s.level → slice_index bytes (place + 1) ≡ s.digit
+slot_is : (p : SettingsValue) (prefix : ℕ) (before : Option Slot) (place : ℕ) (bytes : List ℕ) (s : Slot) → slice_index bytes place ≡ s.level → slice_index bytes (place + 1) ≡ s.digit
     → is_next_level prefix before s.level ≡ true → is_next_digit p.base before s.level s.digit ≡ true → slot_at p prefix before place bytes ≡ Ok s
 slot_is p prefix before place bytes s level digit rises rises_on = rw (level, digit, rises, rises_on) refl
 
-pub slots_again : (p : Parameters) (prefix : ℕ) (ss : List Slot) (before : Option Slot) (place : ℕ) (bytes rest : List ℕ) → Follow p.base prefix before ss
+pub slots_again : (p : SettingsValue) (prefix : ℕ) (ss : List Slot) (before : Option Slot) (place : ℕ) (bytes rest : List ℕ) → Follow p.base prefix before ss
     → drop place bytes ≡ flat_map slot_bytes ss ++ rest → slots_at p prefix (length ss) before place bytes ≡ Ok ss
 unfolding slots_at
 slots_again p prefix [] before place bytes rest follow here = refl
@@ -56,7 +56,7 @@ record TakesOne (base prefix : ℕ) (before : Option Slot) (place : ℕ) (bytes 
   pub rises : is_next_level prefix before s.level ≡ true
   pub rises_on : is_next_digit base before s.level s.digit ≡ true
 
-slot_taken : (p : Parameters) (prefix : ℕ) (before : Option Slot) (place : ℕ) (bytes : List ℕ) (s : Slot) → slot_at p prefix before place bytes ≡ Ok s → TakesOne p.base prefix before place bytes s
+slot_taken : (p : SettingsValue) (prefix : ℕ) (before : Option Slot) (place : ℕ) (bytes : List ℕ) (s : Slot) → slot_at p prefix before place bytes ≡ Ok s → TakesOne p.base prefix before place bytes s
 slot_taken p prefix before place bytes s e =
     let level = slice_index bytes place in
     let digit = slice_index bytes (place + 1) in
@@ -73,7 +73,7 @@ slot_taken p prefix before place bytes s e =
       rises_on = subst (λ d. is_next_digit p.base before s.level d ≡ true) digit_is (subst (λ l. is_next_digit p.base before l digit ≡ true) (ap (λ (x : Slot). x.level) c.1) c.0);
     }
 
-pub slots_taken : (p : Parameters) (prefix count : ℕ) (before : Option Slot) (place : ℕ) (bytes : List ℕ) (ss : List Slot) → place + 2 * count ≤ length bytes
+pub slots_taken : (p : SettingsValue) (prefix count : ℕ) (before : Option Slot) (place : ℕ) (bytes : List ℕ) (ss : List Slot) → place + 2 * count ≤ length bytes
     → slots_at p prefix count before place bytes ≡ Ok ss → Takes p.base prefix count before place bytes ss
 unfolding slots_at
 slots_taken p prefix zero before place bytes ss room e =

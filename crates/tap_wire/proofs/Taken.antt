@@ -2,7 +2,7 @@
 use Rattle.std.proofs.Common.{◌≡◌, ◌≤◌, ◌++◌, ℕ, Bool, true, List, [], drop, slice_index, nat_le, Ok, ap, sym, subst, ◌∙◌, append_assoc}
 use Rattle.std.proofs.lemmas.Bool.{le-leb, leb-true, and_from, and_parts}
 use Rattle.std.proofs.lemmas.List.{append-nil}
-use Rattle.tap_name.specs.Settings.{Parameters}
+use Rattle.tap_name.specs.Settings.{SettingsValue}
 use Rattle.tap_wire.specs.declared.frame.Body.{Body}
 use Rattle.tap_wire.specs.declared.kind.Kind.{Kind}
 use Rattle.tap_wire.specs.Kind.{kind_of}
@@ -11,7 +11,7 @@ use Rattle.tap_wire.specs.Spelling.{body_bytes, IsBody, IsTyped, IsLevel}
 use Rattle.tap_wire.proofs.Steps.{field_ok, field_is}
 
 -- what reading a body of a kind has taken: all bytes from the start on
-pub record Takes (p : Parameters) (kind : Kind) (start : ℕ) (bytes : List ℕ) (body : Body) : Type 0 where
+pub record Takes (p : SettingsValue) (kind : Kind) (start : ℕ) (bytes : List ℕ) (body : Body) : Type 0 where
   pub parts : drop start bytes ≡ body_bytes body
   pub same : kind_of body ≡ kind
   pub rules : IsBody p body
@@ -31,13 +31,13 @@ pub session_taken : (place : ℕ) (bytes : List ℕ) (session : ℕ) → session
 session_taken place bytes session e =
     let is = read_taken (λ x. nat_le 1 x) place (number_at 4 place bytes) session e in (is.0, leb-true 1 session is.1)
 
-level_holds : (p : Parameters) (level : ℕ) → IsLevel p level → is_level p level ≡ true
+level_holds : (p : SettingsValue) (level : ℕ) → IsLevel p level → is_level p level ≡ true
 level_holds p level h = and_from (nat_le 1 level) (nat_le level p.digits) (le-leb 1 level h.0) (le-leb level p.digits h.1)
 
-pub level_is : (p : Parameters) (place : ℕ) (bytes : List ℕ) (level : ℕ) → slice_index bytes place ≡ level → IsLevel p level → level_at p place bytes ≡ Ok level
+pub level_is : (p : SettingsValue) (place : ℕ) (bytes : List ℕ) (level : ℕ) → slice_index bytes place ≡ level → IsLevel p level → level_at p place bytes ≡ Ok level
 level_is p place bytes level e h = read_is (is_level p) place (slice_index bytes place) level e (level_holds p level h)
 
-pub level_taken : (p : Parameters) (place : ℕ) (bytes : List ℕ) (level : ℕ) → level_at p place bytes ≡ Ok level → (slice_index bytes place ≡ level) × IsLevel p level
+pub level_taken : (p : SettingsValue) (place : ℕ) (bytes : List ℕ) (level : ℕ) → level_at p place bytes ≡ Ok level → (slice_index bytes place ≡ level) × IsLevel p level
 level_taken p place bytes level e =
     let is = read_taken (is_level p) place (slice_index bytes place) level e in
     let parts = and_parts (nat_le 1 level) (nat_le level p.digits) is.1 in

@@ -4,7 +4,7 @@ use Rattle.std.specs.List.{list_all}
 use Rattle.std.specs.Ordering.{nat_cmp, is_lt}
 use Rattle.std.specs.Cmp.Lexicographic.{slice_cmp}
 use Rattle.byteorder.specs.Endian.{big_number}
-use Rattle.tap_name.specs.Settings.{Parameters}
+use Rattle.tap_name.specs.Settings.{SettingsValue}
 use Rattle.tap_name.specs.declared.slot.Slot.{Slot}
 use Rattle.tap_name.specs.declared.slot.Offered.{Offered}
 use Rattle.tap_wire.specs.declared.fault.Broken.{Broken}
@@ -32,11 +32,11 @@ abbrev pub session_at : ℕ → List ℕ → Result ℕ Broken
 session_at place bytes = field (nat_le 1 (number_at 4 place bytes)) place (number_at 4 place bytes)
 
 -- a level is from 1 to the number of digits
-abbrev pub is_level : Parameters → ℕ → Bool
+abbrev pub is_level : SettingsValue → ℕ → Bool
 is_level p level = nat_le 1 level && nat_le level p.digits
 
 -- the level at a place
-abbrev pub level_at : Parameters → ℕ → List ℕ → Result ℕ Broken
+abbrev pub level_at : SettingsValue → ℕ → List ℕ → Result ℕ Broken
 level_at p place bytes = field (is_level p (slice_index bytes place)) place (slice_index bytes place)
 
 -- a flag is 0 or 1
@@ -49,17 +49,17 @@ digits_unless bad digits None = Ok digits
 digits_unless bad digits (Some at) = Err (bad at)
 
 -- a name is so many digits below the base; where one isn't, the fault carries its place
-abbrev pub digits_at : {E : Type 0} → (ℕ → E) → Parameters → ℕ → List ℕ → Result (List ℕ) E
+abbrev pub digits_at : {E : Type 0} → (ℕ → E) → SettingsValue → ℕ → List ℕ → Result (List ℕ) E
 digits_at bad p place bytes =
     let digits = take p.digits (drop place bytes)
     in digits_unless (λ at. bad (place + at)) digits (position (λ d. nat_le p.base d) digits)
 
 -- the name at a place
-abbrev pub name_at : Parameters → ℕ → List ℕ → Result (List ℕ) Broken
+abbrev pub name_at : SettingsValue → ℕ → List ℕ → Result (List ℕ) Broken
 name_at p place bytes = digits_at (λ at. record { at = at }) p place bytes
 
 -- a flag that is 1 exactly where bytes follow it, and then a name
-abbrev pub optional_at : Parameters → ℕ → List ℕ → Result (Option (List ℕ)) Broken
+abbrev pub optional_at : SettingsValue → ℕ → List ℕ → Result (Option (List ℕ)) Broken
 optional_at p place bytes =
     if length bytes == place + 1
     then field (slice_index bytes place == 0) place None
@@ -76,7 +76,7 @@ is_next_digit base None level digit = nat_lt digit base
 is_next_digit base (Some before) level digit = nat_lt digit base && (not (level == before.level) || nat_lt before.digit digit)
 
 -- a slot has two fields, its level and its digit
-abbrev pub slot_at : Parameters → ℕ → Option Slot → ℕ → List ℕ → Result Slot Broken
+abbrev pub slot_at : SettingsValue → ℕ → Option Slot → ℕ → List ℕ → Result Slot Broken
 slot_at p prefix before place bytes =
     let level = slice_index bytes place in
     let digit = slice_index bytes (place + 1) in
@@ -84,7 +84,7 @@ slot_at p prefix before place bytes =
     field (is_next_digit p.base before level digit) (place + 1) (record { level = level; digit = digit })
 
 -- so many slots behind the one before
-unfoldable pub slots_at : Parameters → ℕ → ℕ → Option Slot → ℕ → List ℕ → Result (List Slot) Broken
+unfoldable pub slots_at : SettingsValue → ℕ → ℕ → Option Slot → ℕ → List ℕ → Result (List Slot) Broken
 slots_at p prefix zero before place bytes = Ok []
 slots_at p prefix (suc count) before place bytes =
     slot_at p prefix before place bytes >>= λ slot.
@@ -97,7 +97,7 @@ is_next_name None name = true
 is_next_name (Some before) name = is_lt (slice_cmp nat_cmp before name)
 
 -- a link has two fields, its name and whether it is settled
-abbrev pub link_at : Parameters → Option (List ℕ) → ℕ → List ℕ → Result Offered Broken
+abbrev pub link_at : SettingsValue → Option (List ℕ) → ℕ → List ℕ → Result Offered Broken
 link_at p before place bytes =
     name_at p place bytes >>= λ name.
     field (is_next_name before name) place name >>= λ name.
@@ -105,7 +105,7 @@ link_at p before place bytes =
     Ok (record { name = name; settled = settled })
 
 -- so many links behind the name before
-unfoldable pub links_at : Parameters → ℕ → Option (List ℕ) → ℕ → List ℕ → Result (List Offered) Broken
+unfoldable pub links_at : SettingsValue → ℕ → Option (List ℕ) → ℕ → List ℕ → Result (List Offered) Broken
 links_at p zero before place bytes = Ok []
 links_at p (suc count) before place bytes =
     link_at p before place bytes >>= λ link.

@@ -1,6 +1,6 @@
 -- the kinds of frames, their codes, and the lengths that their bodies may have
 use Rattle.std.specs.Prelude.{◌==◌, ℕ, zero, suc, ◌+◌, ◌*◌, ◌-◌, ◌/◌, ◌%◌, nat_le, Bool, ◌&&◌, ◌||◌, List, [], ◌∷◌, slice_get, Option, None}
-use Rattle.tap_name.specs.Settings.{Parameters}
+use Rattle.tap_name.specs.Settings.{SettingsValue}
 use Rattle.tap_wire.specs.declared.kind.Kind.{Kind}
 use Rattle.tap_wire.specs.declared.kind.Kind.TheVariants.{Seek, Tell, Hello, Heard, Ack, Done, Release, Link, Lay, Find, Answer, Leave, Left, Gone, Forget, Cast, CastAck}
 use Rattle.tap_wire.specs.declared.frame.Body.{Body}
@@ -60,7 +60,7 @@ abbrev pub is_parts : ℕ → ℕ → ℕ → ℕ → Bool
 is_parts len fixed size most = nat_le fixed len && ((len - fixed) % size == 0 && nat_le ((len - fixed) / size) most)
 
 -- a body of this kind may have so many bytes
-abbrev pub is_length : Parameters → Kind → ℕ → Bool
+abbrev pub is_length : SettingsValue → Kind → ℕ → Bool
 is_length p Seek len = len == p.digits
 is_length p Tell len = is_parts len (p.digits + 8) 2 (p.digits * (p.base - 1))
 is_length p Hello len = is_parts len 5 (p.digits + 1) 255

@@ -1,16 +1,16 @@
 -- the laws of reading and writing
 use Rattle.std.specs.Prelude.{◌≡◌, ℕ, ◌<◌, List, All, Ok}
-use Rattle.tap_name.specs.Settings.{Parameters, AreWithinLimits}
+use Rattle.tap_name.specs.Settings.{SettingsValue, AreWithinLimits}
 use Rattle.tap_wire.specs.declared.frame.Frame.{Frame}
 use Rattle.tap_wire.specs.Reading.{frame_of}
 use Rattle.tap_wire.specs.Spelling.{IsFrame, IsTyped, spelling}
 
 -- what a frame's spelling is read as: that frame
 abbrev pub ReadsBack : Type 0
-ReadsBack = (p : Parameters) (frame : Frame) → AreWithinLimits p → IsFrame p frame → IsTyped frame.body → frame_of p (spelling p frame) ≡ Ok frame
+ReadsBack = (p : SettingsValue) (frame : Frame) → AreWithinLimits p → IsFrame p frame → IsTyped frame.body → frame_of p (spelling p frame) ≡ Ok frame
 
 -- what is read as a frame: its spelling, and the frame keeps the rules
 abbrev pub SpelledSo : Type 0
 SpelledSo =
-    (p : Parameters) (frame : Frame) (bytes : List ℕ) → AreWithinLimits p → All (λ b. b < 256) bytes → frame_of p bytes ≡ Ok frame
+    (p : SettingsValue) (frame : Frame) (bytes : List ℕ) → AreWithinLimits p → All (λ b. b < 256) bytes → frame_of p bytes ≡ Ok frame
     → (bytes ≡ spelling p frame) × IsFrame p frame × IsTyped frame.body

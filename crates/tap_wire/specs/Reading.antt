@@ -1,6 +1,6 @@
 -- the frame that bytes spell, or the first refusal
 use Rattle.std.specs.Prelude.{◌≡◌, ◌==◌, ℕ, ◌+◌, ◌*◌, ◌-◌, ◌/◌, nat_le, nat_lt, Bool, not, ◌&&◌, if◌then◌else◌, List, length, slice_index, Option, None, Some, Result, Ok, Err}
-use Rattle.tap_name.specs.Settings.{Parameters}
+use Rattle.tap_name.specs.Settings.{SettingsValue}
 use Rattle.tap_wire.specs.declared.fault.Broken.{Broken}
 use Rattle.tap_wire.specs.declared.fault.BodyFault.{BodyFault}
 use Rattle.tap_wire.specs.declared.fault.BodyFault.TheVariants as faults
@@ -19,30 +19,30 @@ use Rattle.tap_wire.specs.Kind.{code_of, kind_of_code, is_length}
 use Rattle.tap_wire.specs.Fields.{◌>>=◌, field, number_at, session_at, level_at, flag_at, digits_at, name_at, optional_at, slots_at, links_at, word_at}
 
 -- names of more than eight digits have the second version
-abbrev pub is_long : Parameters → Bool
+abbrev pub is_long : SettingsValue → Bool
 is_long p = nat_lt 8 p.digits
 
 -- the version of frames
-abbrev pub version_of : Parameters → ℕ
+abbrev pub version_of : SettingsValue → ℕ
 version_of p = if is_long p then 2 else 1
 
 -- the bytes of a head: the version, the kind, two of the body's length, and in the second version the number of digits
-abbrev pub head_len : Parameters → ℕ
+abbrev pub head_len : SettingsValue → ℕ
 head_len p = if is_long p then 5 else 4
 
 -- a head, a sender and a receiver
-abbrev pub body_start : Parameters → ℕ
+abbrev pub body_start : SettingsValue → ℕ
 body_start p = head_len p + 2 * p.digits
 
 -- the two names, where the bytes are as many as they should be
-abbrev pub names_at : Parameters → Kind → List ℕ → Result Opening HeadFault
+abbrev pub names_at : SettingsValue → Kind → List ℕ → Result Opening HeadFault
 names_at p kind bytes =
     digits_at BadDigit p (head_len p) bytes >>= λ sender.
     digits_at BadDigit p (head_len p + p.digits) bytes >>= λ receiver.
     Ok (record { kind = kind; sender = sender; receiver = receiver })
 
 -- what the head says of the number of bytes
-abbrev pub sized : Parameters → Kind → ℕ → List ℕ → Result Opening HeadFault
+abbrev pub sized : SettingsValue → Kind → ℕ → List ℕ → Result Opening HeadFault
 sized p kind len bytes =
     if not (is_length p kind len) then Err (BadLength len)
     else if is_long p && not (slice_index bytes 4 == p.digits) then Err (BadCount (slice_index bytes 4))
@@ -51,38 +51,38 @@ sized p kind len bytes =
     else names_at p kind bytes
 
 -- the rest of the head of a frame of this kind, where its code is one
-abbrev pub of_kind : Parameters → Option Kind → List ℕ → Result Opening HeadFault
+abbrev pub of_kind : SettingsValue → Option Kind → List ℕ → Result Opening HeadFault
 of_kind p None bytes = Err (BadKind (slice_index bytes 1))
 of_kind p (Some kind) bytes = sized p kind (number_at 2 2 bytes) bytes
 
 -- the kind, the sender and the receiver, or the first refusal of a head
-abbrev pub opening_of : Parameters → List ℕ → Result Opening HeadFault
+abbrev pub opening_of : SettingsValue → List ℕ → Result Opening HeadFault
 opening_of p bytes =
     if nat_lt (length bytes) (head_len p) then Err (Short (head_len p - length bytes))
     else if not (slice_index bytes 0 == version_of p) then Err (BadVersion (slice_index bytes 0))
     else of_kind p (kind_of_code (slice_index bytes 1)) bytes
 
 -- a head by itself
-abbrev pub head_of : Parameters → List ℕ → Result Head HeadFault
+abbrev pub head_of : SettingsValue → List ℕ → Result Head HeadFault
 head_of p bytes = opening_of p bytes >>= λ opening. Ok (record { kind = code_of opening.kind; from = opening.sender; to = opening.receiver })
 
 -- the bodies, field by field from the place where they start
 
 -- a Seek: the joiner
-abbrev pub seek_at : Parameters → ℕ → List ℕ → Result Body Broken
+abbrev pub seek_at : SettingsValue → ℕ → List ℕ → Result Body Broken
 seek_at p start bytes = name_at p start bytes >>= λ joiner. Ok (Seek joiner)
 
 -- the prefix is below the number of digits
-abbrev pub prefix_at : Parameters → ℕ → List ℕ → Result ℕ Broken
+abbrev pub prefix_at : SettingsValue → ℕ → List ℕ → Result ℕ Broken
 prefix_at p place bytes = field (nat_lt (slice_index bytes place) p.digits) place (slice_index bytes place)
 
 -- the level is above the prefix and at most the number of digits
-abbrev pub level_above_at : Parameters → ℕ → ℕ → List ℕ → Result ℕ Broken
+abbrev pub level_above_at : SettingsValue → ℕ → ℕ → List ℕ → Result ℕ Broken
 level_above_at p prefix place bytes =
     field (nat_lt prefix (slice_index bytes place) && nat_le (slice_index bytes place) p.digits) place (slice_index bytes place)
 
 -- a Tell: the joiner, the prefix, the level, the session, the depth and the watch list
-unfoldable pub tell_at : Parameters → ℕ → List ℕ → Result Body Broken
+unfoldable pub tell_at : SettingsValue → ℕ → List ℕ → Result Body Broken
 tell_at p start bytes =
     let at = start + p.digits in
     name_at p start bytes >>= λ joiner.
@@ -93,7 +93,7 @@ tell_at p start bytes =
     Ok (Tell joiner prefix level session (number_at 2 (at + 6) bytes) watch)
 
 -- a Hello: the session, whether its sender is core, and the links
-unfoldable pub hello_at : Parameters → ℕ → List ℕ → Result Body Broken
+unfoldable pub hello_at : SettingsValue → ℕ → List ℕ → Result Body Broken
 hello_at p start bytes =
     session_at start bytes >>= λ session.
     flag_at (start + 4) bytes >>= λ core.
@@ -105,7 +105,7 @@ abbrev pub link_body_at : ℕ → List ℕ → Result Body Broken
 link_body_at start bytes = flag_at (start + 4) bytes >>= λ on. Ok (Link (number_at 4 start bytes) on)
 
 -- a Lay: the object, the server, the level, the version, and whether there is a pointer
-unfoldable pub lay_at : Parameters → ℕ → List ℕ → Result Body Broken
+unfoldable pub lay_at : SettingsValue → ℕ → List ℕ → Result Body Broken
 lay_at p start bytes =
     let at = start + 2 * p.digits in
     name_at p start bytes >>= λ object.
@@ -115,7 +115,7 @@ lay_at p start bytes =
     Ok (Lay object server level (number_at 4 (at + 1) bytes) on)
 
 -- a Find: the ticket, the object, the asker and the level
-unfoldable pub find_at : Parameters → ℕ → List ℕ → Result Body Broken
+unfoldable pub find_at : SettingsValue → ℕ → List ℕ → Result Body Broken
 find_at p start bytes =
     name_at p (start + 4) bytes >>= λ object.
     name_at p (start + 4 + p.digits) bytes >>= λ asker.
@@ -123,15 +123,15 @@ find_at p start bytes =
     Ok (Find (number_at 4 start bytes) object asker level)
 
 -- an Answer: the ticket, and a server where one is found
-abbrev pub answer_at : Parameters → ℕ → List ℕ → Result Body Broken
+abbrev pub answer_at : SettingsValue → ℕ → List ℕ → Result Body Broken
 answer_at p start bytes = optional_at p (start + 4) bytes >>= λ server. Ok (Answer (number_at 4 start bytes) server)
 
 -- a Leave: a replacement where one is given
-abbrev pub leave_at : Parameters → ℕ → List ℕ → Result Body Broken
+abbrev pub leave_at : SettingsValue → ℕ → List ℕ → Result Body Broken
 leave_at p start bytes = optional_at p start bytes >>= λ replacement. Ok (Leave replacement)
 
 -- a Cast: the cast, the level, the session, the depth and the word
-unfoldable pub cast_at : Parameters → ℕ → List ℕ → Result Body Broken
+unfoldable pub cast_at : SettingsValue → ℕ → List ℕ → Result Body Broken
 cast_at p start bytes =
     level_at p (start + 4) bytes >>= λ level.
     session_at (start + 5) bytes >>= λ session.
@@ -139,7 +139,7 @@ cast_at p start bytes =
     Ok (Cast (number_at 4 start bytes) level session (number_at 2 (start + 9) bytes) word)
 
 -- the body of a frame of this kind, or the first field that breaks its rule
-abbrev pub body_at : Parameters → Kind → ℕ → List ℕ → Result Body Broken
+abbrev pub body_at : SettingsValue → Kind → ℕ → List ℕ → Result Body Broken
 body_at p kinds.Seek start bytes = seek_at p start bytes
 body_at p kinds.Tell start bytes = tell_at p start bytes
 body_at p kinds.Hello start bytes = hello_at p start bytes
@@ -164,7 +164,7 @@ in_frame fault (Ok x) = Ok x
 in_frame fault (Err e) = Err (fault e)
 
 -- the frame that the bytes spell, or the first refusal
-abbrev pub frame_of : Parameters → List ℕ → Result Frame WireFault
+abbrev pub frame_of : SettingsValue → List ℕ → Result Frame WireFault
 frame_of p bytes =
     in_frame fault_of_head (opening_of p bytes) >>= λ opening.
     in_frame (λ b. fault_of_body (faults.Field b)) (body_at p opening.kind (body_start p) bytes) >>= λ body.

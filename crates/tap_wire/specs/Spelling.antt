@@ -5,7 +5,7 @@ use Rattle.std.specs.Ordering.{nat_cmp}
 use Rattle.std.specs.declared.cmp.Ordering.TheVariants.{Less}
 use Rattle.std.specs.Cmp.Lexicographic.{slice_cmp}
 use Rattle.byteorder.specs.Endian.{big_bytes}
-use Rattle.tap_name.specs.Settings.{Parameters}
+use Rattle.tap_name.specs.Settings.{SettingsValue}
 use Rattle.tap_name.specs.Name.{IsName}
 use Rattle.tap_name.specs.declared.slot.Slot.{Slot}
 use Rattle.tap_name.specs.declared.slot.Offered.{Offered}
@@ -58,27 +58,27 @@ body_bytes (Cast cast level session depth word) = big_bytes 4 cast ++ level ∷ 
 body_bytes (CastAck session) = big_bytes 4 session
 
 -- the version, the kind, the length of the body, and in the second version the number of digits
-abbrev pub head_bytes : Parameters → ℕ → ℕ → List ℕ
+abbrev pub head_bytes : SettingsValue → ℕ → ℕ → List ℕ
 head_bytes p code len = version_of p ∷ code ∷ [] ++ big_bytes 2 len ++ (if is_long p then p.digits ∷ [] else [])
 
 -- a head, the sender, the receiver and the body
-abbrev pub spelling : Parameters → Frame → List ℕ
+abbrev pub spelling : SettingsValue → Frame → List ℕ
 spelling p frame = head_bytes p (code_of (kind_of frame.body)) (length (body_bytes frame.body)) ++ frame.from ++ frame.to ++ body_bytes frame.body
 
 -- ---- the rules of the fields
 
 -- from 1 to the number of digits
-abbrev pub IsLevel : Parameters → ℕ → Type 0
+abbrev pub IsLevel : SettingsValue → ℕ → Type 0
 IsLevel p level = (1 ≤ level) × (level ≤ p.digits)
 
 -- the slots of a Tell have levels up to its prefix, and are no more than there are other digits
-pub record AreSlots (p : Parameters) (prefix : ℕ) (watch : List Slot) : Type 0 where
+pub record AreSlots (p : SettingsValue) (prefix : ℕ) (watch : List Slot) : Type 0 where
   pub levels : All (λ slot. slot.level ≤ prefix) watch
   pub digits : All (λ slot. slot.digit < p.base) watch
   pub few : length watch ≤ p.digits * (p.base - 1)
 
 -- the fields of a Tell keep their rules
-pub record IsTell (p : Parameters) (joiner : List ℕ) (prefix level session : ℕ) (watch : List Slot) : Type 0 where
+pub record IsTell (p : SettingsValue) (joiner : List ℕ) (prefix level session : ℕ) (watch : List Slot) : Type 0 where
   pub joiner_is : IsName p joiner
   pub prefix_below : prefix < p.digits
   pub level_above : prefix < level
@@ -87,7 +87,7 @@ pub record IsTell (p : Parameters) (joiner : List ℕ) (prefix level session : �
   pub slots : AreSlots p prefix watch
 
 -- the links of a Hello ascend by name, and are at most 255
-pub record AreLinks (p : Parameters) (links : List Offered) : Type 0 where
+pub record AreLinks (p : SettingsValue) (links : List Offered) : Type 0 where
   pub names : All (λ link. IsName p link.name) links
   pub ascending : AllPairs (λ a b. slice_cmp nat_cmp a.name b.name ≡ Less) links
   pub few : length links ≤ 255
@@ -99,7 +99,7 @@ pub record IsWord (word : List ℕ) : Type 0 where
   pub letters : IsTrue (list_all is_word_byte word)
 
 -- each field keeps its rule
-abbrev pub IsBody : Parameters → Body → Type 0
+abbrev pub IsBody : SettingsValue → Body → Type 0
 IsBody p (Seek joiner) = IsName p joiner
 IsBody p (Tell joiner prefix level session depth watch) = IsTell p joiner prefix level session watch
 IsBody p (Hello session core links) = (1 ≤ session) × AreLinks p links
@@ -119,7 +119,7 @@ IsBody p (Cast cast level session depth word) = IsLevel p level × (1 ≤ sessio
 IsBody p (CastAck session) = 1 ≤ session
 
 -- a frame that has a spelling
-pub record IsFrame (p : Parameters) (frame : Frame) : Type 0 where
+pub record IsFrame (p : SettingsValue) (frame : Frame) : Type 0 where
   pub sender : IsName p frame.from
   pub receiver : IsName p frame.to
   pub body : IsBody p frame.body

@@ -1,6 +1,6 @@
 use Rattle.std.proofs.Common.{arith, ap, ◌∙◌, ◌+◌, ℕ, Option}
-use Rattle.tap_name.specs.Settings.{Parameters}
-use Rattle.tap_report.specs.Reporter.{Kept}
+use Rattle.tap_name.specs.Settings.{SettingsValue}
+use Rattle.tap_report.specs.Reporter.{ReporterValue}
 use Rattle.tap_report.proofs.ReportsLemmas.{Reports-next, begins_next}
 use Rattle.tap_report.proofs.PiecewiseLemmas.{IsPrintable-at, Reports-all, item_at, settings_of-next}
 use Rattle.tap_top.proofs.running.put_from.Goals as goal
@@ -17,8 +17,8 @@ put-requires-clause-printable g c =
 
 pub loop-place-preserved : goal.loop-place-preserved
 loop-place-preserved g c =
-    let records_of : Kept → ℕ = λ kept. kept.records in
-    let settings_of : Kept → Option Parameters = λ kept. kept.settings in
+    let records_of : ReporterValue → ℕ = λ kept. kept.records in
+    let settings_of : ReporterValue → Option SettingsValue = λ kept. kept.settings in
     record {
       put = ap records_of c.put.ensures.keeps ∙ ap (λ n. n + 1) c.loop-place.invariant.put;
       settings = ap settings_of c.put.ensures.keeps

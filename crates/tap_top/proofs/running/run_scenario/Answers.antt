@@ -1,5 +1,5 @@
 use Rattle.std.proofs.Common.{◌⊎◌, inr, [], ◌≡◌, arith, ap, List}
-use Rattle.tap_log.specs.Log.{Contents}
+use Rattle.tap_log.specs.Log.{LogValue}
 use Rattle.tap_log.specs.declared.record.Record.{Record}
 use Rattle.tap_log.specs.declared.record.Record.TheVariants.{Finished}
 use Rattle.tap_top.specs.AtRest.{nodes_of}
@@ -38,7 +38,7 @@ pub returns-in_err-push-2-clause-part : goal.returns-in_err-push-2-clause-part
 returns-in_err-push-2-clause-part g c =
     let script = c.args.scenario.now in
     let new = c.push-2.new.self.records in
-    let records_of : Contents → List Record = λ log. log.records in
+    let records_of : LogValue → List Record = λ log. log.records in
     let rest = nodes_at_rest c.settings.result c.args.scenario.now.settings c.members.result.now c.args.scenario.now.members c.in_ok-members.members c.settings.ensures.value
     c.members.ensures.value c.in_ok-members.ensures in
     on_err c.from_residual-in_err-push-2.result ((new ≡ []) ⊎ IsLogOf script new)

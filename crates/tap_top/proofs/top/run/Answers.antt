@@ -1,5 +1,5 @@
 use Rattle.std.proofs.Common.{◌++◌, ◌∙◌, ℕ, List, ap, sym}
-use Rattle.tap_report.specs.Reporter.{Kept}
+use Rattle.tap_report.specs.Reporter.{ReporterValue}
 use Rattle.tap_report.specs.Text.{text_of_log}
 use Rattle.tap_report.specs.declared.mode.Mode.{Mode}
 use Rattle.tap_report.specs.declared.mode.Mode.TheVariants.{Long}
@@ -15,7 +15,7 @@ pub returns-clause-written : goal.returns-clause-written
 returns-clause-written g c =
     let log = c.read_and_run-before.new.log.records in
     let before = c.read_and_run-before.result in
-    let mode_of : Kept → Mode = λ kept. kept.mode in
+    let mode_of : ReporterValue → Mode = λ kept. kept.mode in
     let text : Mode → List ℕ = λ mode. text_of_log mode log ++ fault_line before in
     let all = WritesText-same (text c.new-reporter.result.mode) (text_of_run Long log before) (ap (λ kept. text (mode_of kept)) c.new-reporter.ensures)
     (WritesText-then (Reports-finish c.read_and_run-before.ensures.reports c.finish-finished.ensures) c.write_fault_line-written.ensures) in
