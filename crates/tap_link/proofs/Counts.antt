@@ -77,7 +77,8 @@ module _ {K : Type 0} (cmp : K → K → Ordering) where
         | inl tied ↦
             let same : Some e.kind ≡ Some kind = rw tied at found in
             let same' : e.kind ≡ kind = cc in
-            rw (tied, above-without cmp es target (above_all o e es target ascending tied), ← same', kind_sum-cons weight e es) (omega arith)
+            rw (tied, above-without cmp es target (above_all o e es target ascending tied), ← same', kind_sum-cons weight e es)
+                (omega arith)
         | inr apart ↦
             let rest : kind_of cmp es target ≡ Some kind = rw apart at found in
             let ih = kind_sum-without o weight es target kind (ascending_tail cmp e es ascending) rest in

@@ -77,7 +77,8 @@ module _ {K : Type 0} (cmp : K → K → Ordering) where
   above-without (e ∷ es) target above =
       rw (above 0 e (omega arith) (omega arith)) (ap (λ l. e ∷ l) (above-without es target (all_above e es target above)))
 
-  pub above-with_kind : (links : List (Entry K)) (target : K) (kind : Kind) → AreAbove links target 0 → with_kind cmp links target kind ≡ links
+  pub above-with_kind : (links : List (Entry K)) (target : K) (kind : Kind) → AreAbove links target 0
+      → with_kind cmp links target kind ≡ links
   above-with_kind [] target kind above = refl
   above-with_kind (e ∷ es) target kind above =
       rw (above 0 e (omega arith) (omega arith)) (ap (λ l. e ∷ l) (above-with_kind es target kind (all_above e es target above)))
@@ -115,7 +116,8 @@ module _ {K : Type 0} (cmp : K → K → Ordering) where
       rw here (sym (above-without es target (above_tail e es target 0 above)))
   at-remove (e ∷ es) target (suc at) d within below here above =
       rw (below 0 e (omega arith))
-      (ap (λ l. e ∷ l) (at-remove es target at d (omega arith) (below_tail e es target at below) here (above_tail e es target (suc at) above)))
+      (ap (λ l. e ∷ l) (at-remove es target at d (omega arith) (below_tail e es target at below) here
+          (above_tail e es target (suc at) above)))
 
   at-set : (links : List (Entry K)) (target : K) (kind : Kind) (at : ℕ) (d : Entry K) → at < length links → AreBelow links target at
       → cmp target (get_or links at d).target ≡ Equal → AreAbove links target (suc at)
@@ -125,7 +127,8 @@ module _ {K : Type 0} (cmp : K → K → Ordering) where
       rw here (ap (λ l. record e { kind = kind } ∷ l) (sym (above-with_kind es target kind (above_tail e es target 0 above))))
   at-set (e ∷ es) target kind (suc at) d within below here above =
       rw (below 0 e (omega arith))
-      (ap (λ l. e ∷ l) (at-set es target kind at d (omega arith) (below_tail e es target at below) here (above_tail e es target (suc at) above)))
+      (ap (λ l. e ∷ l) (at-set es target kind at d (omega arith) (below_tail e es target at below) here
+          (above_tail e es target (suc at) above)))
 
   -- the steps of a search from the front: so far the target is above all, and now it meets x
   pub below_more : (links : List (Entry K)) (target : K) (at : ℕ) (x : Entry K) → slice_get links at ≡ Some x

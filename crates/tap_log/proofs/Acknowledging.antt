@@ -12,30 +12,35 @@ use Rattle.tap_log.specs.Moments.{acknowledged, acknowledged_by, acknowledged_by
 use Rattle.tap_log.proofs.Less.{filter-twice, less_by-more, not_or}
 
 -- what the records tell, with one more
-pub told : {Y : Type 0} (h : Record → Option Y) (log : List Record) (item : Record) → filter_map h (log ++ item ∷ []) ≡ filter_map h log ++ at_most_one (h item)
+pub told : {Y : Type 0} (h : Record → Option Y) (log : List Record) (item : Record)
+    → filter_map h (log ++ item ∷ []) ≡ filter_map h log ++ at_most_one (h item)
 told h log item = filter_map-append h log (item ∷ [])
 
-told-none : {Y : Type 0} (h : Record → Option Y) (log : List Record) (item : Record) → h item ≡ None → filter_map h (log ++ item ∷ []) ≡ filter_map h log
+told-none : {Y : Type 0} (h : Record → Option Y) (log : List Record) (item : Record) → h item ≡ None
+    → filter_map h (log ++ item ∷ []) ≡ filter_map h log
 told-none h log item none = told h log item ∙ ap (λ o. filter_map h log ++ at_most_one o) none ∙ append-nil (filter_map h log)
 
 -- no packet arrives
 pub awaiting-push : (log : List Record) (item : Record) → arrived_number item ≡ None
     → awaiting (log ++ item ∷ [])
-    ≡ less (awaiting log ++ less (at_most_one (sent_number item)) (acknowledged log)) (at_most_one (acknowledged_by (filter_map arrived_number log) item))
+    ≡ less (awaiting log ++ less (at_most_one (sent_number item)) (acknowledged log))
+    (at_most_one (acknowledged_by (filter_map arrived_number log) item))
 awaiting-push log item none =
     let packets = filter_map arrived_number log in
     let all = log ++ item ∷ [] in
     ap (λ p. less (filter_map sent_number all) (acknowledged_by_all p all)) (told-none arrived_number log item none)
     ∙ ap (λ sent. less sent (acknowledged_by_all packets all)) (told sent_number log item)
     ∙ ap (less (filter_map sent_number log ++ at_most_one (sent_number item))) (told (acknowledged_by packets) log item)
-    ∙ less_by-more nat_eq (filter_map sent_number log) (at_most_one (sent_number item)) (acknowledged log) (at_most_one (acknowledged_by packets item))
+    ∙ less_by-more nat_eq (filter_map sent_number log) (at_most_one (sent_number item)) (acknowledged log)
+    (at_most_one (acknowledged_by packets item))
 
 -- a test of a list that begins with this element, where it is there
 picked : Bool → Bool → Bool → Bool
 picked there test others = if there then test || others else others
 
 any-picked : (there : Bool) (frame number : ℕ) (others : List ℕ)
-    → has_number (cons_option (if there then Some frame else None) others) number ≡ picked there (nat_eq frame number) (has_number others number)
+    → has_number (cons_option (if there then Some frame else None) others) number
+    ≡ picked there (nat_eq frame number) (has_number others number)
 unfolding picked
 any-picked true frame number others = refl
 any-picked false frame number others = refl
@@ -67,13 +72,16 @@ acknowledged-or packets packet number (Packet made frame ack ∷ log) =
     let now = ack && has_number one made in
     let test = nat_eq frame number in
     let both : (ack && has_number (packets ++ one) made) ≡ (before || now) =
-    ap (λ b. ack && b) (list_any-append (λ other. nat_eq other made) packets one) ∙ and-or ack (has_number packets made) (has_number one made) in
+    ap (λ b. ack && b) (list_any-append (λ other. nat_eq other made) packets one)
+        ∙ and-or ack (has_number packets made) (has_number one made) in
     any-picked (ack && has_number (packets ++ one) made) frame number (acknowledged_by_all (packets ++ one) log)
     ∙ ap (λ b. picked b test (has_number (acknowledged_by_all (packets ++ one) log) number)) both
     ∙ ap (picked (before || now) test) (acknowledged-or packets packet number log)
     ∙ picked-or before now test (has_number (acknowledged_by_all packets log) number) (has_number (acknowledged_by_all one log) number)
-    ∙ ap (λ b. b || picked now test (has_number (acknowledged_by_all one log) number)) (sym (any-picked before frame number (acknowledged_by_all packets log)))
-    ∙ ap (λ b. has_number (acknowledged_by_all packets (Packet made frame ack ∷ log)) number || b) (sym (any-picked now frame number (acknowledged_by_all one log)))
+    ∙ ap (λ b. b || picked now test (has_number (acknowledged_by_all one log) number))
+    (sym (any-picked before frame number (acknowledged_by_all packets log)))
+    ∙ ap (λ b. has_number (acknowledged_by_all packets (Packet made frame ack ∷ log)) number || b)
+    (sym (any-picked now frame number (acknowledged_by_all one log)))
 acknowledged-or packets packet number (item ∷ log) = acknowledged-or packets packet number log
 
 sent-arrived : (packet : ℕ) → sent_number (Arrived packet) ≡ None
@@ -89,16 +97,20 @@ unfolding arrived_number
 arrived-arrived packet = refl
 
 -- a packet arrives
-pub awaiting-arrived : (log : List Record) (packet : ℕ) → awaiting (log ++ Arrived packet ∷ []) ≡ less (awaiting log) (acknowledged_by_all (packet ∷ []) log)
+pub awaiting-arrived : (log : List Record) (packet : ℕ)
+    → awaiting (log ++ Arrived packet ∷ []) ≡ less (awaiting log) (acknowledged_by_all (packet ∷ []) log)
 awaiting-arrived log packet =
     let item = Arrived packet in
     let packets = filter_map arrived_number log in
     let one = packet ∷ [] in
     let all = log ++ item ∷ [] in
-    ap (λ p. less (filter_map sent_number all) (acknowledged_by_all p all)) (told arrived_number log item ∙ ap (λ o. packets ++ at_most_one o) (arrived-arrived packet))
+    ap (λ p. less (filter_map sent_number all) (acknowledged_by_all p all))
+        (told arrived_number log item ∙ ap (λ o. packets ++ at_most_one o) (arrived-arrived packet))
     ∙ ap (λ sent. less sent (acknowledged_by_all (packets ++ one) all)) (told-none sent_number log item (sent-arrived packet))
-    ∙ ap (less (filter_map sent_number log)) (told-none (acknowledged_by (packets ++ one)) log item (acknowledged-arrived (packets ++ one) packet))
+    ∙ ap (less (filter_map sent_number log)) (told-none (acknowledged_by (packets ++ one)) log item
+    (acknowledged-arrived (packets ++ one) packet))
     ∙ filter-twice (λ n. not (has_number (acknowledged_by_all packets log) n)) (λ n. not (has_number (acknowledged_by_all one log) n))
     (λ n. not (has_number (acknowledged_by_all (packets ++ one) log) n))
-    (λ n. ap not (acknowledged-or packets packet n log) ∙ not_or (has_number (acknowledged_by_all packets log) n) (has_number (acknowledged_by_all one log) n))
+    (λ n. ap not (acknowledged-or packets packet n log)
+        ∙ not_or (has_number (acknowledged_by_all packets log) n) (has_number (acknowledged_by_all one log) n))
     (filter_map sent_number log)

@@ -37,12 +37,14 @@ last_or-append o (x ∷ xs) ys = last_or-append (Some x) xs ys
 
 -- ---- the log is carried as before
 
-carried_first : (carried : Bool) (first : Record) (behind : List Record) → begins_group carried first ≡ true → is_carried (first ∷ behind) ≡ false
+carried_first : (carried : Bool) (first : Record) (behind : List Record) → begins_group carried first ≡ true
+    → is_carried (first ∷ behind) ≡ false
 unfolding is_carried begins_group
 carried_first carried (Begin settings frames members) behind begins = absurd (cc)
 carried_first carried first behind begins = refl
 
-carried_next : (carried : Bool) (item first : Record) (behind : List Record) → begins_group carried first ≡ true → is_carried (item ∷ first ∷ behind) ≡ false
+carried_next : (carried : Bool) (item first : Record) (behind : List Record) → begins_group carried first ≡ true
+    → is_carried (item ∷ first ∷ behind) ≡ false
 unfolding is_carried begins_group
 carried_next carried (Begin settings frames members) Carrier behind begins = absurd (cc)
 carried_next carried (Begin settings frames members) first behind begins = refl
@@ -88,7 +90,8 @@ filter-same p q (suc n) same =
     ∙ ap (λ l. l ++ (if q (n + 1) then (n + 1) ∷ [] else [])) (filter-same p q n (λ m le. same m (omega (arith, le))))
     ∙ sym (passing_more q n (q (n + 1)) refl))
 
-ends_before-alone : (carried : Bool) (behind : List Record) (i : ℕ) → All (λ item. begins_group carried item ≡ false) behind → i < length behind
+ends_before-alone : (carried : Bool) (behind : List Record) (i : ℕ) → All (λ item. begins_group carried item ≡ false) behind
+    → i < length behind
     → ends_before carried (slice_get behind i) ≡ false
 ends_before-alone carried [] i alone within = absurd (omega arith)
 ends_before-alone carried (item ∷ items) zero alone within = All-head (λ other. begins_group carried other ≡ false) item items alone
@@ -134,7 +137,8 @@ module _ (log : List Record) (first : Record) (behind : List Record) (group : Is
   ends : (m : ℕ) → m ≤ length log → ends_before (is_carried log) (slice_get whole m) ≡ ends_before (is_carried log) (slice_get log m)
   ends m le = by_cases (slice_get_cases log m).1
     where
-      by_cases : ((x : Record) × (m < length log) × (slice_get log m ≡ Some x) × (get_or log m x ≡ x)) ⊎ ((length log ≤ m) × (slice_get log m ≡ None))
+      by_cases : ((x : Record) × (m < length log) × (slice_get log m ≡ Some x) × (get_or log m x ≡ x))
+          ⊎ ((length log ≤ m) × (slice_get log m ≡ None))
           → ends_before (is_carried log) (slice_get whole m) ≡ ends_before (is_carried log) (slice_get log m)
       by_cases (inl here) = ap (ends_before (is_carried log)) (slice_get-front log (first ∷ behind) m here.1)
       by_cases (inr past) =
@@ -147,7 +151,8 @@ module _ (log : List Record) (first : Record) (behind : List Record) (group : Is
       let within = le-leb m (length whole) longer ∙ sym (le-leb m (length log) le) in
       ap (λ b. told m b (is_carried whole) (take m whole) (ends_before (is_carried whole) (slice_get whole m))) within
       ∙ ap (λ c. told m (nat_le m (length log)) c (take m whole) (ends_before c (slice_get whole m))) carried
-      ∙ ap (λ l. told m (nat_le m (length log)) (is_carried log) l (ends_before (is_carried log) (slice_get whole m))) (take-append-le m log (first ∷ behind) le)
+      ∙ ap (λ l. told m (nat_le m (length log)) (is_carried log) l (ends_before (is_carried log) (slice_get whole m)))
+      (take-append-le m log (first ∷ behind) le)
       ∙ ap (told m (nat_le m (length log)) (is_carried log) (take m log)) (ends m le)
 
   is_moment-inside : (i : ℕ) → i < length behind → is_moment whole (length log + i + 1) ≡ false
@@ -170,14 +175,16 @@ module _ (log : List Record) (first : Record) (behind : List Record) (group : Is
   begun =
       let c = is_carried log in
       list_any-append (begins_group c) log (first ∷ behind)
-      ∙ ap (λ b. list_any (begins_group c) log || (b || list_any (begins_group c) behind)) group.begins ∙ or-true (list_any (begins_group c) log)
+      ∙ ap (λ b. list_any (begins_group c) log || (b || list_any (begins_group c) behind)) group.begins
+      ∙ or-true (list_any (begins_group c) log)
 
   pub is_moment-end : is_moment whole (length whole) ≡ true
   is_moment-end =
       let m = length whole in
       ap (λ c. told m (nat_le m m) c (take m whole) (ends_before c (slice_get whole m))) carried
       ∙ ap (λ l. told m (nat_le m m) (is_carried log) l (ends_before (is_carried log) (slice_get whole m))) (take-length whole)
-      ∙ end_here (nat_le m m) (nat_eq m (beginning log)) (list_any (begins_group (is_carried log)) whole) (ends_before (is_carried log) (slice_get whole m))
+      ∙ end_here (nat_le m m) (nat_eq m (beginning log)) (list_any (begins_group (is_carried log)) whole)
+      (ends_before (is_carried log) (slice_get whole m))
       (le-leb m m (omega arith)) begun (ap (ends_before (is_carried log)) (slice_get_past whole m (omega arith)))
 
   -- ---- the last moment at which no frame is outstanding
@@ -193,7 +200,8 @@ module _ (log : List Record) (first : Record) (behind : List Record) (group : Is
   is_still_moment-end : is_still_moment whole (length whole) ≡ is_still whole
   is_still_moment-end = ap (λ b. b && is_still (take (length whole) whole)) is_moment-end ∙ ap is_still (take-length whole)
 
-  still_moments-within : (k : ℕ) → k ≤ length behind → filter (is_still_moment whole) (range_with_len 1 (length log + k)) ≡ still_moments log
+  still_moments-within : (k : ℕ) → k ≤ length behind → filter (is_still_moment whole) (range_with_len 1 (length log + k))
+      ≡ still_moments log
   still_moments-within zero le =
       ap (λ n. filter (is_still_moment whole) (range_with_len 1 n)) (let e : length log + 0 ≡ length log = omega arith in e)
       ∙ filter-same (is_still_moment whole) (is_still_moment log) (length log) is_still_moment-earlier
@@ -229,7 +237,8 @@ last_within p (suc n) = subst Within (let e : n + 1 ≡ suc n = omega arith in e
 
     one_more : unwrap_or (last_or None (filter p (range_with_len 1 n))) 0 ≤ n → (b : Bool) → p (n + 1) ≡ b → Within (n + 1)
     one_more so_far true is = let e = last_passes p n (n + 1) is refl in omega (arith, e)
-    one_more so_far false is = let e = last_stays p n (unwrap_or (last_or None (filter p (range_with_len 1 n))) 0) is refl in omega (arith, e, so_far)
+    one_more so_far false is = let e = last_stays p n (unwrap_or (last_or None (filter p (range_with_len 1 n))) 0) is refl in
+    omega (arith, e, so_far)
 
 -- ---- the law
 
@@ -241,7 +250,8 @@ departing_of-still log is = ap (λ k. departs (is_carried log) (drop k log)) (sy
 
 departing_of-stays : (log : List Record) (first : Record) (behind : List Record) → IsGroup log first behind
     → last_still log ≡ last_still (log ++ first ∷ behind)
-    → departing_of (log ++ first ∷ behind) ≡ last_or (departing_of log) (filter_map depart_name (accepted_in (is_carried log) (first ∷ behind)))
+    → departing_of (log ++ first ∷ behind) ≡ last_or (departing_of log)
+    (filter_map depart_name (accepted_in (is_carried log) (first ∷ behind)))
 departing_of-stays log first behind group stays =
     let whole = log ++ first ∷ behind in
     let carried = is_carried log in
@@ -251,7 +261,8 @@ departing_of-stays log first behind group stays =
     ∙ ap (departs carried) (drop-append-le (last_still log) log (first ∷ behind) (last_within (is_still_moment log) (length log)))
     ∙ ap (λ l. last_or None (filter_map depart_name l)) (accepted_in-group carried since first behind group.begins)
     ∙ ap (last_or None) (filter_map-append depart_name (accepted_in carried since) (accepted_in carried (first ∷ behind)))
-    ∙ last_or-append None (filter_map depart_name (accepted_in carried since)) (filter_map depart_name (accepted_in carried (first ∷ behind)))
+    ∙ last_or-append None (filter_map depart_name (accepted_in carried since))
+    (filter_map depart_name (accepted_in carried (first ∷ behind)))
 
 departing_of-group : (log : List Record) (first : Record) (behind : List Record) → IsGroup log first behind
     → departing_of (log ++ first ∷ behind) ≡ departing_after log (first ∷ behind)

@@ -25,14 +25,16 @@ last_of-push [] item = refl
 last_of-push (first ∷ []) item = refl
 last_of-push (first ∷ next ∷ items) item = last_of-push (next ∷ items) item
 
-EachFrom-push : (P : List Record → Record → Type 0) (before log : List Record) (item : Record) → EachFrom P before log → P (before ++ log) item → EachFrom P before (log ++ item ∷ [])
+EachFrom-push : (P : List Record → Record → Type 0) (before log : List Record) (item : Record) → EachFrom P before log
+    → P (before ++ log) item → EachFrom P before (log ++ item ∷ [])
 EachFrom-push P before [] item each p = let Q : List Record → Type 0 = λ b. P b item in (subst Q (append-nil before) p, tt)
 EachFrom-push P before (first ∷ items) item each p =
     let Q : List Record → Type 0 = λ b. P b item in
     (each.0, EachFrom-push P (before ++ first ∷ []) items item each.1 (subst Q (sym (append_assoc before (first ∷ []) items)) p))
 
 -- what holds of each record of a log, and of one more after them, holds of each of the longer log
-pub EachRecord-push : (P : List Record → Record → Type 0) (log : List Record) (item : Record) → EachRecord P log → P log item → EachRecord P (log ++ item ∷ [])
+pub EachRecord-push : (P : List Record → Record → Type 0) (log : List Record) (item : Record) → EachRecord P log → P log item
+    → EachRecord P (log ++ item ∷ [])
 EachRecord-push P log item each p = EachFrom-push P [] log item each p
 
 pub one_before : {X : Type 0} (one : Option X) (xs ys : List X) → cons_option one (xs ++ ys) ≡ cons_option one xs ++ ys
@@ -78,21 +80,25 @@ steps_of-push = told step_of
 
 -- ---- accepted steps
 
-accepted_in-push : (carried : Bool) (log : List Record) (item : Record) → accepted_in carried (log ++ item ∷ []) ≡ accepted_in carried log ++ accepted_behind carried (last_of log) item
+accepted_in-push : (carried : Bool) (log : List Record) (item : Record)
+    → accepted_in carried (log ++ item ∷ []) ≡ accepted_in carried log ++ accepted_behind carried (last_of log) item
 accepted_in-push carried [] item = refl
 accepted_in-push carried (first ∷ []) item = refl
 accepted_in-push carried (first ∷ next ∷ items) item =
     ap (λ l. cons_option (accepted_step carried (first, next)) l) (accepted_in-push carried (next ∷ items) item)
-    ∙ one_before (accepted_step carried (first, next)) (accepted_in carried (next ∷ items)) (accepted_behind carried (last_of (next ∷ items)) item)
+    ∙ one_before (accepted_step carried (first, next)) (accepted_in carried (next ∷ items))
+    (accepted_behind carried (last_of (next ∷ items)) item)
 
 -- a `Carrier` behind the first record accepts its step, be the log carried by it or not
 carrier_accepts : (one other : Bool) (first : Record) → accepted_step one (first, Carrier) ≡ accepted_step other (first, Carrier)
 unfolding accepted_step accepts begins_group
 carrier_accepts one other first = refl
 
-pub accepted_steps-push : (log : List Record) (item : Record) → accepted_steps (log ++ item ∷ []) ≡ accepted_steps log ++ accepted_by log item
+pub accepted_steps-push : (log : List Record) (item : Record)
+    → accepted_steps (log ++ item ∷ []) ≡ accepted_steps log ++ accepted_by log item
 accepted_steps-push [] Carrier = refl
-accepted_steps-push (first ∷ []) Carrier = ap at_most_one (carrier_accepts (is_carried (first ∷ Carrier ∷ [])) (is_carried (first ∷ [])) first)
+accepted_steps-push (first ∷ []) Carrier = ap at_most_one
+    (carrier_accepts (is_carried (first ∷ Carrier ∷ [])) (is_carried (first ∷ [])) first)
 accepted_steps-push (first ∷ next ∷ items) Carrier =
     ap (λ b. accepted_in b (first ∷ next ∷ (items ++ Carrier ∷ []))) (carried_third first next (items ++ Carrier ∷ []) items)
     ∙ accepted_in-push (is_carried (first ∷ next ∷ items)) (first ∷ next ∷ items) Carrier
@@ -112,28 +118,33 @@ core_of-first item stays none =
     ∙ ap (λ o. names_less (members_in item ++ at_most_one o) []) none
     ∙ less_by-none (pointwise nat_eq) (members_in item ++ []) ∙ append-nil (members_in item)
 
-came-push : (came told new gone ended : List (List ℕ)) (all all_gone : List (List ℕ)) → all ≡ (came ++ told) ++ new → all_gone ≡ gone ++ ended
+came-push : (came told new gone ended : List (List ℕ)) (all all_gone : List (List ℕ)) → all ≡ (came ++ told) ++ new
+    → all_gone ≡ gone ++ ended
     → names_less all all_gone ≡ names_less (names_less (came ++ told) gone ++ names_less new gone) ended
 came-push came told new gone ended all all_gone is is_gone =
     ap (λ l. names_less l all_gone) is ∙ ap (λ l. names_less ((came ++ told) ++ new) l) is_gone
     ∙ less_by-more (pointwise nat_eq) (came ++ told) new gone ended
 
 pub core_of-push : (log : List Record) (item : Record) → members_in item ≡ []
-    → core_of (log ++ item ∷ []) ≡ names_less (core_of log ++ names_less (at_most_one (core_name item)) (gone_of log)) (at_most_one (gone_name item))
+    → core_of (log ++ item ∷ []) ≡ names_less (core_of log ++ names_less (at_most_one (core_name item)) (gone_of log))
+    (at_most_one (gone_name item))
 core_of-push log item none =
     came-push (members_of log) (filter_map core_name log) (at_most_one (core_name item)) (gone_of log) (at_most_one (gone_name item))
     (members_of (log ++ item ∷ []) ++ filter_map core_name (log ++ item ∷ [])) (gone_of (log ++ item ∷ []))
-    (ap (λ l. l ++ filter_map core_name (log ++ item ∷ [])) (members_of-push log item none) ∙ ap (λ l. members_of log ++ l) (told core_name log item)
+    (ap (λ l. l ++ filter_map core_name (log ++ item ∷ [])) (members_of-push log item none)
+        ∙ ap (λ l. members_of log ++ l) (told core_name log item)
     ∙ sym (append_assoc (members_of log) (filter_map core_name log) (at_most_one (core_name item))))
     (told gone_name log item)
 
 -- the beginning gives its members
-pub core_of-begin : (settings : SettingsValue) (frames : ℕ) (members : List (List ℕ)) → core_of (Begin settings frames members ∷ []) ≡ members
+pub core_of-begin : (settings : SettingsValue) (frames : ℕ) (members : List (List ℕ))
+    → core_of (Begin settings frames members ∷ []) ≡ members
 unfolding members_in core_name gone_name
 core_of-begin settings frames members = core_of-first (Begin settings frames members) refl refl
 
 -- a record that tells of no core node changes nothing
-pub core_of-same : (log : List Record) (item : Record) → members_in item ≡ [] → core_name item ≡ None → gone_name item ≡ None → core_of (log ++ item ∷ []) ≡ core_of log
+pub core_of-same : (log : List Record) (item : Record) → members_in item ≡ [] → core_name item ≡ None → gone_name item ≡ None
+    → core_of (log ++ item ∷ []) ≡ core_of log
 core_of-same log item none no_core stays =
     core_of-push log item none
     ∙ ap (λ o. names_less (core_of log ++ names_less (at_most_one o) (gone_of log)) (at_most_one (gone_name item))) no_core
@@ -166,16 +177,19 @@ pub core_of-left : (log : List Record) (item : Record) → leaves_nodes item ≡
 core_of-left log item leaves = core_of-same log item (no_members item leaves) (no_core item leaves) (no_gone item leaves)
 
 pub joined_of-push : (log : List Record) (item : Record) → members_in item ≡ []
-    → joined_of (log ++ item ∷ []) ≡ names_less (joined_of log ++ names_less (filter_map join_name (accepted_by log item)) (gone_of log)) (at_most_one (gone_name item))
+    → joined_of (log ++ item ∷ []) ≡ names_less (joined_of log ++ names_less (filter_map join_name (accepted_by log item)) (gone_of log))
+    (at_most_one (gone_name item))
 joined_of-push log item none =
     came-push (members_of log) (joins_of log) (filter_map join_name (accepted_by log item)) (gone_of log) (at_most_one (gone_name item))
     (members_of (log ++ item ∷ []) ++ joins_of (log ++ item ∷ [])) (gone_of (log ++ item ∷ []))
-    (ap (λ l. l ++ joins_of (log ++ item ∷ [])) (members_of-push log item none) ∙ ap (λ l. members_of log ++ l) (named-push join_name log item)
+    (ap (λ l. l ++ joins_of (log ++ item ∷ [])) (members_of-push log item none)
+        ∙ ap (λ l. members_of log ++ l) (named-push join_name log item)
     ∙ sym (append_assoc (members_of log) (joins_of log) (filter_map join_name (accepted_by log item))))
     (told gone_name log item)
 
 ceased_of-push : (log : List Record) (item : Record)
-    → ceased_of (log ++ item ∷ []) ≡ filter (has_name (gone_of log ++ at_most_one (gone_name item))) (abandoned_of log ++ at_most_one (abandoned_name item))
+    → ceased_of (log ++ item ∷ []) ≡ filter (has_name (gone_of log ++ at_most_one (gone_name item)))
+    (abandoned_of log ++ at_most_one (abandoned_name item))
 ceased_of-push log item =
     ap (λ l. filter (has_name l) (abandoned_of (log ++ item ∷ []))) (told gone_name log item)
     ∙ ap (filter (has_name (gone_of log ++ at_most_one (gone_name item)))) (told abandoned_name log item)
@@ -186,24 +200,30 @@ numbers-push : (h k : Record → Option ℕ) (log : List Record) (item : Record)
     → less (filter_map h (log ++ item ∷ [])) (filter_map k (log ++ item ∷ []))
     ≡ less (less (filter_map h log) (filter_map k log) ++ less (at_most_one (h item)) (filter_map k log)) (at_most_one (k item))
 numbers-push h k log item =
-    ap (λ l. less l (filter_map k (log ++ item ∷ []))) (told h log item) ∙ ap (λ l. less (filter_map h log ++ at_most_one (h item)) l) (told k log item)
+    ap (λ l. less l (filter_map k (log ++ item ∷ []))) (told h log item)
+        ∙ ap (λ l. less (filter_map h log ++ at_most_one (h item)) l) (told k log item)
     ∙ less_by-more nat_eq (filter_map h log) (at_most_one (h item)) (filter_map k log) (at_most_one (k item))
 
 pub outstanding-push : (log : List Record) (item : Record)
-    → outstanding (log ++ item ∷ []) ≡ less (outstanding log ++ less (at_most_one (sent_number item)) (filter_map taken_number log)) (at_most_one (taken_number item))
+    → outstanding (log ++ item ∷ []) ≡ less (outstanding log ++ less (at_most_one (sent_number item)) (filter_map taken_number log))
+    (at_most_one (taken_number item))
 outstanding-push log item = numbers-push sent_number taken_number log item
 
 pub under_way-push : (log : List Record) (item : Record)
-    → under_way (log ++ item ∷ []) ≡ less (under_way log ++ less (at_most_one (packet_number item)) (filter_map ended_number log)) (at_most_one (ended_number item))
+    → under_way (log ++ item ∷ []) ≡ less (under_way log ++ less (at_most_one (packet_number item)) (filter_map ended_number log))
+    (at_most_one (ended_number item))
 under_way-push log item = numbers-push packet_number ended_number log item
 
 -- ---- published pairs
 
 kept_cases : (a b : Bool) (pair : Pair) (pairs ended : List Pair) → has_pair ended pair ≡ b
-    → cons_option (if a || b then None else Some pair) (pairs_less pairs ended) ≡ pairs_less (cons_option (if a then None else Some pair) pairs) ended
+    → cons_option (if a || b then None else Some pair) (pairs_less pairs ended)
+    ≡ pairs_less (cons_option (if a then None else Some pair) pairs) ended
 kept_cases true b pair pairs ended is = refl
-kept_cases false true pair pairs ended is = sym (ap (λ c. cond {A = List Pair} (not c) (pair ∷ pairs_less pairs ended) (pairs_less pairs ended)) is)
-kept_cases false false pair pairs ended is = sym (ap (λ c. cond {A = List Pair} (not c) (pair ∷ pairs_less pairs ended) (pairs_less pairs ended)) is)
+kept_cases false true pair pairs ended is = sym (ap
+    (λ c. cond {A = List Pair} (not c) (pair ∷ pairs_less pairs ended) (pairs_less pairs ended)) is)
+kept_cases false false pair pairs ended is = sym (ap
+    (λ c. cond {A = List Pair} (not c) (pair ∷ pairs_less pairs ended) (pairs_less pairs ended)) is)
 
 kept_here : (later : List Record) (item : Record) (published : Option Pair) (pairs : List Pair)
     → cons_option (kept_pair published (later ++ item ∷ [])) (pairs_less pairs (at_most_one (withdrawn_pair item)))
@@ -211,7 +231,8 @@ kept_here : (later : List Record) (item : Record) (published : Option Pair) (pai
 kept_here later item None pairs = refl
 kept_here later item (Some pair) pairs =
     let ended = at_most_one (withdrawn_pair item) in
-    let told = ap (λ l. has_pair l pair) (told withdrawn_pair later item) ∙ list_any-append (λ other. same_pair other pair) (filter_map withdrawn_pair later) ended in
+    let told = ap (λ l. has_pair l pair) (told withdrawn_pair later item)
+        ∙ list_any-append (λ other. same_pair other pair) (filter_map withdrawn_pair later) ended in
     ap (λ b. cons_option (if b then None else Some pair) (pairs_less pairs ended)) told
     ∙ kept_cases (has_pair (filter_map withdrawn_pair later) pair) (has_pair ended pair) pair pairs ended refl
 
@@ -225,17 +246,22 @@ kept_pairs-push [] item = alone (published_pair item)
 kept_pairs-push (first ∷ items) item =
     let ended = at_most_one (withdrawn_pair item) in
     ap (cons_option (kept_pair (published_pair first) (items ++ item ∷ []))) (kept_pairs-push items item)
-    ∙ one_before (kept_pair (published_pair first) (items ++ item ∷ [])) (pairs_less (kept_pairs items) ended) (at_most_one (published_pair item))
+    ∙ one_before (kept_pair (published_pair first) (items ++ item ∷ [])) (pairs_less (kept_pairs items) ended)
+    (at_most_one (published_pair item))
     ∙ ap (λ l. l ++ at_most_one (published_pair item)) (kept_here items item (published_pair first) (kept_pairs items))
 
-servers-more : (servers more : List (List ℕ)) (pairs : List Pair) → without_servers (servers ++ more) pairs ≡ without_servers more (without_servers servers pairs)
+servers-more : (servers more : List (List ℕ)) (pairs : List Pair)
+    → without_servers (servers ++ more) pairs ≡ without_servers more (without_servers servers pairs)
 servers-more servers more pairs =
-    filter-twice (λ pair. not (has_name servers pair.server)) (λ pair. not (has_name more pair.server)) (λ pair. not (has_name (servers ++ more) pair.server))
-    (λ pair. ap not (list_any-append (λ other. pointwise nat_eq other pair.server) servers more) ∙ not_or (has_name servers pair.server) (has_name more pair.server)) pairs
+    filter-twice (λ pair. not (has_name servers pair.server)) (λ pair. not (has_name more pair.server))
+        (λ pair. not (has_name (servers ++ more) pair.server))
+    (λ pair. ap not (list_any-append (λ other. pointwise nat_eq other pair.server) servers more)
+        ∙ not_or (has_name servers pair.server) (has_name more pair.server)) pairs
 
 pub published_of-push : (log : List Record) (item : Record)
     → published_of (log ++ item ∷ []) ≡ without_servers (filter_map depart_name (accepted_by log item))
-    (pairs_less (published_of log) (at_most_one (withdrawn_pair item)) ++ without_servers (departures_of log) (at_most_one (published_pair item)))
+    (pairs_less (published_of log) (at_most_one (withdrawn_pair item))
+        ++ without_servers (departures_of log) (at_most_one (published_pair item)))
 published_of-push log item =
     let gone = departures_of log in
     let more = filter_map depart_name (accepted_by log item) in
@@ -250,13 +276,18 @@ published_of-push log item =
 
 -- ---- counts
 
-pub sent_count-push : (log : List Record) (item : Record) → sent_count (log ++ item ∷ []) ≡ sent_count log + length (at_most_one (sent_number item))
-sent_count-push log item = ap length (told sent_number log item) ∙ length-append (filter_map sent_number log) (at_most_one (sent_number item))
+pub sent_count-push : (log : List Record) (item : Record)
+    → sent_count (log ++ item ∷ []) ≡ sent_count log + length (at_most_one (sent_number item))
+sent_count-push log item = ap length (told sent_number log item)
+    ∙ length-append (filter_map sent_number log) (at_most_one (sent_number item))
 
-pub join_count-push : (log : List Record) (item : Record) → join_count (log ++ item ∷ []) ≡ join_count log + length (filter_map join_name (accepted_by log item))
-join_count-push log item = ap length (named-push join_name log item) ∙ length-append (joins_of log) (filter_map join_name (accepted_by log item))
+pub join_count-push : (log : List Record) (item : Record)
+    → join_count (log ++ item ∷ []) ≡ join_count log + length (filter_map join_name (accepted_by log item))
+join_count-push log item = ap length (named-push join_name log item)
+    ∙ length-append (joins_of log) (filter_map join_name (accepted_by log item))
 
-pub names_of-push : (log : List Record) (item : Record) → members_in item ≡ [] → names_of (log ++ item ∷ []) ≡ fold with_name (names_of log) (filter_map join_name (accepted_by log item))
+pub names_of-push : (log : List Record) (item : Record) → members_in item ≡ []
+    → names_of (log ++ item ∷ []) ≡ fold with_name (names_of log) (filter_map join_name (accepted_by log item))
 names_of-push log item none =
     let new = filter_map join_name (accepted_by log item) in
     ap (λ l. fold with_name [] (l ++ joins_of (log ++ item ∷ []))) (members_of-push log item none)
@@ -281,8 +312,10 @@ begins_new settings frames members =
       names = ap (fold with_name []) (append-nil members);
     }
 
-begins_carried : (settings : SettingsValue) (frames : ℕ) (members : List (List ℕ)) → IsNew members (Begin settings frames members ∷ Carrier ∷ [])
-unfolding is_carried begins_group accepts accepted_step members_in core_name gone_name published_pair withdrawn_pair sent_number taken_number
+begins_carried : (settings : SettingsValue) (frames : ℕ) (members : List (List ℕ))
+    → IsNew members (Begin settings frames members ∷ Carrier ∷ [])
+unfolding is_carried begins_group accepts accepted_step members_in core_name gone_name published_pair withdrawn_pair sent_number
+    taken_number
 begins_carried settings frames members =
     record {
       accepted = refl;

@@ -36,17 +36,20 @@ pub not_or : (a b : Bool) → not (a || b) ≡ (not a && not b)
 not_or true b = refl
 not_or false b = refl
 
-pub less_by-ended : {X : Type 0} (same : X → X → Bool) (xs ended more : List X) → less_by same xs (ended ++ more) ≡ less_by same (less_by same xs ended) more
+pub less_by-ended : {X : Type 0} (same : X → X → Bool) (xs ended more : List X)
+    → less_by same xs (ended ++ more) ≡ less_by same (less_by same xs ended) more
 less_by-ended same xs ended more =
     filter-twice (λ x. not (list_any (λ other. same other x) ended)) (λ x. not (list_any (λ other. same other x) more))
     (λ x. not (list_any (λ other. same other x) (ended ++ more)))
-    (λ x. ap not (list_any-append (λ other. same other x) ended more) ∙ not_or (list_any (λ other. same other x) ended) (list_any (λ other. same other x) more)) xs
+    (λ x. ap not (list_any-append (λ other. same other x) ended more)
+        ∙ not_or (list_any (λ other. same other x) ended) (list_any (λ other. same other x) more)) xs
 
 -- both have grown
 pub less_by-more : {X : Type 0} (same : X → X → Bool) (xs ys ended more : List X)
     → less_by same (xs ++ ys) (ended ++ more) ≡ less_by same (less_by same xs ended ++ less_by same ys ended) more
 less_by-more same xs ys ended more =
-    less_by-ended same (xs ++ ys) ended more ∙ ap (λ l. less_by same l more) (filter-append (λ x. not (list_any (λ other. same other x) ended)) xs ys)
+    less_by-ended same (xs ++ ys) ended more ∙ ap (λ l. less_by same l more)
+        (filter-append (λ x. not (list_any (λ other. same other x) ended)) xs ys)
 
 pub less_by-none : {X : Type 0} (same : X → X → Bool) (xs : List X) → less_by same xs [] ≡ xs
 less_by-none same [] = refl

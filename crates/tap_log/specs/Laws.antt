@@ -37,7 +37,8 @@ pub record IsNew (members : List (List ℕ)) (log : List Record) : Type 0 where
 -- The beginning gives the members. Of one more record, which gives none, what it tells is added, and what it ends is taken away.
 pub record OneMoreRecord : Type 0 where
   pub begins : (settings : SettingsValue) (frames : ℕ) (members : List (List ℕ)) → IsNew members (Begin settings frames members ∷ [])
-  pub begins_carried : (settings : SettingsValue) (frames : ℕ) (members : List (List ℕ)) → IsNew members (Begin settings frames members ∷ Carrier ∷ [])
+  pub begins_carried : (settings : SettingsValue) (frames : ℕ) (members : List (List ℕ))
+      → IsNew members (Begin settings frames members ∷ Carrier ∷ [])
   pub carried : (log : List Record) (item : Record) → item ≢ Carrier → is_carried (log ++ item ∷ []) ≡ is_carried log
   pub steps : (log : List Record) (item : Record) → steps_of (log ++ item ∷ []) ≡ steps_of log ++ at_most_one (step_of item)
   pub accepted : (log : List Record) (item : Record)
@@ -61,12 +62,14 @@ pub record OneMoreRecord : Type 0 where
       ≡ less (under_way log ++ less (at_most_one (packet_number item)) (filter_map ended_number log)) (at_most_one (ended_number item))
   pub awaits : (log : List Record) (item : Record) → arrived_number item ≡ None
       → awaiting (log ++ item ∷ [])
-      ≡ less (awaiting log ++ less (at_most_one (sent_number item)) (acknowledged log)) (at_most_one (acknowledged_by (filter_map arrived_number log) item))
+      ≡ less (awaiting log ++ less (at_most_one (sent_number item)) (acknowledged log))
+      (at_most_one (acknowledged_by (filter_map arrived_number log) item))
   pub arrives : (log : List Record) (packet : ℕ)
       → awaiting (log ++ Arrived packet ∷ []) ≡ less (awaiting log) (acknowledged_by_all (packet ∷ []) log)
   pub published : (log : List Record) (item : Record)
       → published_of (log ++ item ∷ []) ≡ without_servers (filter_map depart_name (accepted_by log item))
-      (pairs_less (published_of log) (at_most_one (withdrawn_pair item)) ++ without_servers (departures_of log) (at_most_one (published_pair item)))
+      (pairs_less (published_of log) (at_most_one (withdrawn_pair item))
+          ++ without_servers (departures_of log) (at_most_one (published_pair item)))
   pub sent : (log : List Record) (item : Record)
       → sent_count (log ++ item ∷ []) ≡ sent_count log + length (at_most_one (sent_number item))
   pub joins : (log : List Record) (item : Record)

@@ -17,7 +17,8 @@ pub has_digit-from : (names : List (List ℕ)) (x : List ℕ) (level digit : ℕ
     → has_digit names level digit ≡ true
 has_digit-from [] x level digit among is = absurd among
 has_digit-from (y ∷ ys) x level digit (inl e) is =
-    let test : eqb (get_or y level 0) digit ≡ true = eq-eqb (get_or y level 0) digit (sym (ap (λ n. get_or n level 0) e) ∙ is) in rw test refl
+    let test : eqb (get_or y level 0) digit ≡ true = eq-eqb (get_or y level 0) digit (sym (ap (λ n. get_or n level 0) e) ∙ is) in
+    rw test refl
 has_digit-from (y ∷ ys) x level digit (inr h) is =
     elim (cases_Bool (eqb (get_or y level 0) digit)) [ inl e ↦ rw e refl | inr e ↦ rw e (has_digit-from ys x level digit h is) ]
 

@@ -12,28 +12,35 @@ use Rattle.tap_name.specs.Name.{IsName, name_of_digits}
 abbrev pub AreBelow : ℕ → List ℕ → ℕ → Type 0
 AreBelow base digits n = (k : ℕ) → k < n → get_or digits k 0 < base
 
-first_bad : (base : ℕ) (digits : List ℕ) (i : ℕ) → i ≤ length digits → AreBelow base digits i → (i < length digits → base ≤ get_or digits i 0)
+first_bad : (base : ℕ) (digits : List ℕ) (i : ℕ) → i ≤ length digits → AreBelow base digits i
+    → (i < length digits → base ≤ get_or digits i 0)
     → position_or_len (λ d. nat_le base d) digits ≡ i
 first_bad base digits i within below bad =
-    position_or_len_is (λ d. nat_le base d) digits i 0 within (λ k h. let b = below k h in grind (arith, nat_tests)) (λ h. let b = bad h in grind (arith, nat_tests))
+    position_or_len_is (λ d. nat_le base d) digits i 0 within (λ k h. let b = below k h in grind (arith, nat_tests))
+        (λ h. let b = bad h in grind (arith, nat_tests))
 
-pub bad_at : (s : SettingsValue) (digits : List ℕ) (i : ℕ) → length digits ≡ s.digits → i < length digits → AreBelow s.base digits i → s.base ≤ get_or digits i 0
+pub bad_at : (s : SettingsValue) (digits : List ℕ) (i : ℕ) → length digits ≡ s.digits → i < length digits → AreBelow s.base digits i
+    → s.base ≤ get_or digits i 0
     → name_of_digits s digits ≡ Err (BadDigit i)
 bad_at s digits i len within below bad =
     let e = first_bad s.base digits i (omega arith) below (λ _. bad) in rw (e, len) (grind (arith, nat_tests))
 
-pub all_good : (s : SettingsValue) (digits : List ℕ) → length digits ≡ s.digits → AreBelow s.base digits (length digits) → name_of_digits s digits ≡ Ok digits
+pub all_good : (s : SettingsValue) (digits : List ℕ) → length digits ≡ s.digits → AreBelow s.base digits (length digits)
+    → name_of_digits s digits ≡ Ok digits
 all_good s digits len below =
-    let e = first_bad s.base digits (length digits) (omega arith) below (λ h. absurd (omega arith)) in rw (e, len) (grind (arith, nat_tests))
+    let e = first_bad s.base digits (length digits) (omega arith) below (λ h. absurd (omega arith)) in
+    rw (e, len) (grind (arith, nat_tests))
 
-pub at_end : (s : SettingsValue) (digits : List ℕ) (i : ℕ) (name : List ℕ) → length digits ≡ s.digits → length digits ≤ i → AreBelow s.base digits i → name ≡ take i digits
+pub at_end : (s : SettingsValue) (digits : List ℕ) (i : ℕ) (name : List ℕ) → length digits ≡ s.digits → length digits ≤ i
+    → AreBelow s.base digits i → name ≡ take i digits
     → Ok name ≡ name_of_digits s digits
 at_end s digits i name len end below is =
     let all = take_all i digits end in
     ap Ok (is ∙ all) ∙ sym (all_good s digits len (λ k h. below k (omega arith)))
 
 -- the digits that were read are a name
-pub is_name : (s : SettingsValue) (digits : List ℕ) (i : ℕ) (name : List ℕ) → length digits ≡ s.digits → length digits ≤ i → AreBelow s.base digits i → name ≡ take i digits → IsName s name
+pub is_name : (s : SettingsValue) (digits : List ℕ) (i : ℕ) (name : List ℕ) → length digits ≡ s.digits → length digits ≤ i
+    → AreBelow s.base digits i → name ≡ take i digits → IsName s name
 is_name s digits i name len end below is =
     let all = is ∙ take_all i digits end in
     record {

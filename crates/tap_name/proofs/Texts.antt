@@ -45,7 +45,8 @@ name_of_digits-back p digits name read =
                   same,
                   rw (← same) (record {
                     len = eqb-true _ _ len;
-                    below = λ k d h. leb-false p.base (get_or digits k d) (fails_before_first (λ d. nat_le p.base d) digits k d (omega arith));
+                    below = λ k d h. leb-false p.base (get_or digits k d)
+                        (fails_before_first (λ d. nat_le p.base d) digits k d (omega arith));
                   }),
                 )
           ]

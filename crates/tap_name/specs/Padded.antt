@@ -26,6 +26,7 @@ pushed places len digit h room is_digit =
     record {
       fits = omega arith;
       all = length-set places len digit ∙ h.all;
-      rest = rw (drop-set-lt (len + 1) places len digit (omega arith), ← drop-drop 1 len places, h.rest, drop-replicate {X = ℕ} 1 (40 - len) 0) (ap (λ n. replicate n 0) (omega arith));
+      rest = rw (drop-set-lt (len + 1) places len digit (omega arith), ← drop-drop 1 len places, h.rest,
+          drop-replicate {X = ℕ} 1 (40 - len) 0) (ap (λ n. replicate n 0) (omega arith));
       digits = rw (take_more_set places len digit free) (All-push (λ d. d < 16) (take len places) digit h.digits is_digit);
     }

@@ -12,10 +12,12 @@ filter_first p [] zero within pass fail = refl
 filter_first p [] (suc at) within pass fail = absurd (omega arith)
 filter_first p (x ∷ xs) zero within pass fail =
     rw (fail 0 x (omega arith) (omega arith))
-    (filter_first p xs zero (omega arith) (λ k d low high. absurd (omega arith)) (λ k d low high. fail (suc k) d (omega arith) (omega arith)))
+    (filter_first p xs zero (omega arith) (λ k d low high. absurd (omega arith))
+        (λ k d low high. fail (suc k) d (omega arith) (omega arith)))
 filter_first p (x ∷ xs) (suc at) within pass fail =
     rw (pass 0 x (omega arith) (omega arith))
-    (ap (λ l. x ∷ l) (filter_first p xs at (omega arith) (λ k d low high. pass (suc k) d (omega arith) (omega arith)) (λ k d low high. fail (suc k) d (omega arith) (omega arith))))
+    (ap (λ l. x ∷ l) (filter_first p xs at (omega arith) (λ k d low high. pass (suc k) d (omega arith) (omega arith))
+        (λ k d low high. fail (suc k) d (omega arith) (omega arith))))
 
 -- and where they are the last ones
 pub filter_last : {X : Type 0} (p : X → Bool) (xs : List X) (at : ℕ) → AllWithin (λ x. p x ≡ false) xs 0 at
@@ -24,10 +26,12 @@ filter_last p [] zero fail pass = refl
 filter_last p [] (suc at) fail pass = refl
 filter_last p (x ∷ xs) zero fail pass =
     rw (pass 0 x (omega arith) (omega arith))
-    (ap (λ l. x ∷ l) (filter_last p xs zero (λ k d low high. absurd (omega arith)) (λ k d low high. pass (suc k) d (omega arith) (omega arith))))
+    (ap (λ l. x ∷ l) (filter_last p xs zero (λ k d low high. absurd (omega arith))
+        (λ k d low high. pass (suc k) d (omega arith) (omega arith))))
 filter_last p (x ∷ xs) (suc at) fail pass =
     rw (fail 0 x (omega arith) (omega arith))
-    (filter_last p xs at (λ k d low high. fail (suc k) d (omega arith) (omega arith)) (λ k d low high. pass (suc k) d (omega arith) (omega arith)))
+    (filter_last p xs at (λ k d low high. fail (suc k) d (omega arith) (omega arith))
+        (λ k d low high. pass (suc k) d (omega arith) (omega arith)))
 
 -- what is found first, and that nothing is found where all fail
 pub find_first : {X : Type 0} (p : X → Bool) (xs : List X) (at : ℕ) → at < length xs → AllWithin (λ x. p x ≡ false) xs 0 at
@@ -35,7 +39,8 @@ pub find_first : {X : Type 0} (p : X → Bool) (xs : List X) (at : ℕ) → at <
 find_first p [] at within fail pass = absurd (omega arith)
 find_first p (x ∷ xs) zero within fail pass = rw (pass x) refl
 find_first p (x ∷ xs) (suc at) within fail pass =
-    rw (fail 0 x (omega arith) (omega arith)) (find_first p xs at (omega arith) (λ k d low high. fail (suc k) d (omega arith) (omega arith)) pass)
+    rw (fail 0 x (omega arith) (omega arith)) (find_first p xs at (omega arith)
+        (λ k d low high. fail (suc k) d (omega arith) (omega arith)) pass)
 
 pub find_nothing : {X : Type 0} (p : X → Bool) (xs : List X) → AllWithin (λ x. p x ≡ false) xs 0 (length xs) → find p xs ≡ None
 find_nothing p [] fail = refl
@@ -43,12 +48,14 @@ find_nothing p (x ∷ xs) fail =
     rw (fail 0 x (omega arith) (omega arith)) (find_nothing p xs (λ k d low high. fail (suc k) d (omega arith) (omega arith)))
 
 -- each element of one list is in the relation with each of another
-pub AllPairs-append : {X : Type 0} (R : X → X → Type 0) (xs ys : List X) → AllPairs R xs → AllPairs R ys → All (λ x. All (R x) ys) xs → AllPairs R (xs ++ ys)
+pub AllPairs-append : {X : Type 0} (R : X → X → Type 0) (xs ys : List X) → AllPairs R xs → AllPairs R ys → All (λ x. All (R x) ys) xs
+    → AllPairs R (xs ++ ys)
 AllPairs-append R [] ys front back across = back
 AllPairs-append R (x ∷ xs) ys front back across =
     AllPairs-cons R x (xs ++ ys)
     (All-append (R x) xs ys (λ k d h. front 0 (suc k) d (omega arith) (omega arith)) (across 0 x (omega arith)))
-    (AllPairs-append R xs ys (λ i j d lt h. front (suc i) (suc j) d (omega arith) (omega arith)) back (λ k d h. across (suc k) d (omega arith)))
+    (AllPairs-append R xs ys (λ i j d lt h. front (suc i) (suc j) d (omega arith) (omega arith)) back
+        (λ k d h. across (suc k) d (omega arith)))
 
 -- a filter that lets pass whatever is looked for, and one that lets none of it pass
 pub find-filter_all : {X : Type 0} (p q : X → Bool) → ((x : X) → p x ≡ true → q x ≡ true) → (xs : List X) → find p (filter q xs) ≡ find p xs

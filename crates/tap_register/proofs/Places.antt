@@ -34,13 +34,15 @@ module _ {K V : Type 0} (cmp : K → K → Ordering) (total : IsTotalOrder cmp) 
       let under : cmp key there.key ≡ Less = sym (total.congr here.key key there.key (same d)) ∙ ascending at k d (omega arith) high in
       total.antisymm there.key key ∙ ap ordering_reverse under
 
-  place : (at : ℕ) → IsAscending cmp entries → at < length entries → HoldsAt (λ e. cmp e.key key ≡ Equal) entries at → IsAt cmp entries key at
+  place : (at : ℕ) → IsAscending cmp entries → at < length entries → HoldsAt (λ e. cmp e.key key ≡ Equal) entries at
+      → IsAt cmp entries key at
   place at ascending within same =
       let before = below_before at ascending within same in
       let behind = above_behind at ascending within same in
       record {
         within = within;
-        found = find_first (λ e. is_eq (cmp e.key key)) entries at within (λ k d low high. ap is_eq (before k d low high)) (λ d. ap is_eq (same d));
+        found = find_first (λ e. is_eq (cmp e.key key)) entries at within (λ k d low high. ap is_eq (before k d low high))
+            (λ d. ap is_eq (same d));
         before = filter_first (λ e. is_lt (cmp e.key key)) entries at (omega arith) (λ k d low high. ap is_lt (before k d low high))
             (λ k d low high. elim (cases_order k at) [
               | inl e ↦ rw e (ap is_lt (same d))
@@ -65,8 +67,10 @@ module _ {K V : Type 0} (cmp : K → K → Ordering) (total : IsTotalOrder cmp) 
       | inr (inl lt) ↦ ap is_eq (before k d low lt)
       | inr (inr gt) ↦ ap is_eq (behind k d (omega arith) high)
     ]);
-    before = filter_first (λ e. is_lt (cmp e.key key)) entries at within (λ k d low high. ap is_lt (before k d low high)) (λ k d low high. ap is_lt (behind k d low high));
-    behind = filter_last (λ e. is_gt (cmp e.key key)) entries at (λ k d low high. ap is_gt (before k d low high)) (λ k d low high. ap is_gt (behind k d low high));
+    before = filter_first (λ e. is_lt (cmp e.key key)) entries at within (λ k d low high. ap is_lt (before k d low high))
+        (λ k d low high. ap is_lt (behind k d low high));
+    behind = filter_last (λ e. is_gt (cmp e.key key)) entries at (λ k d low high. ap is_gt (before k d low high))
+        (λ k d low high. ap is_gt (behind k d low high));
   }
 
   -- the comparisons with the key rise along the list
@@ -82,7 +86,8 @@ module _ {K V : Type 0} (cmp : K → K → Ordering) (total : IsTotalOrder cmp) 
       → ((ord : Entry K V → Ordering) → ComputesKey g ord f → IsBinarySearchResult ord entries answer)
       → ((a : Bor (Entry K V) × Unit {0}) (r : Ordering) (f' : F) → Called g f a r f' → (r ≡ cmp a.0.now.key key) × (f' ≡ f))
       → IsBinarySearchResult (λ e. cmp e.key key) entries answer
-  search_by_key {g = g} {f = f} answer clause compares = clause (λ e. cmp e.key key) (always_returns_same g (λ a r. r ≡ cmp a.0.now.key key) f compares)
+  search_by_key {g = g} {f = f} answer clause compares =
+      clause (λ e. cmp e.key key) (always_returns_same g (λ a r. r ≡ cmp a.0.now.key key) f compares)
 
   -- that is the place, or the gap
   pub place_of_search : (answer : Result ℕ ℕ) → IsAscending cmp entries → IsSearchInRange answer (length entries)

@@ -31,12 +31,15 @@ is_greater Equal pass = cc
 is_greater Greater pass = refl
 
 -- an entry in the place of the one that stood there, and in a gap
-pub set-written : {K V : Type 0} (cmp : K → K → Ordering) (entries : List (Entry K V)) (entry : Entry K V) (at : ℕ) → IsAt cmp entries entry.key at
+pub set-written : {K V : Type 0} (cmp : K → K → Ordering) (entries : List (Entry K V)) (entry : Entry K V) (at : ℕ)
+    → IsAt cmp entries entry.key at
     → set entries at entry ≡ written cmp entries entry
 set-written cmp entries entry at place =
-    sym (take-append-drop at (set entries at entry)) ∙ rw (take-set entries at entry, drop-set entries at entry place.within, place.before, place.behind) refl
+    sym (take-append-drop at (set entries at entry)) ∙ rw
+        (take-set entries at entry, drop-set entries at entry place.within, place.before, place.behind) refl
 
-pub insert-written : {K V : Type 0} (cmp : K → K → Ordering) (entries : List (Entry K V)) (entry : Entry K V) (at : ℕ) → IsGap cmp entries entry.key at
+pub insert-written : {K V : Type 0} (cmp : K → K → Ordering) (entries : List (Entry K V)) (entry : Entry K V) (at : ℕ)
+    → IsGap cmp entries entry.key at
     → insert entries at entry ≡ written cmp entries entry
 insert-written cmp entries entry at gap = rw (gap.before, gap.behind) refl
 
@@ -45,13 +48,16 @@ module _ {K V : Type 0} (cmp : K → K → Ordering) (total : IsTotalOrder cmp) 
   IsAscending-written ascending =
       let before = below cmp entries entry.key in
       let behind = above cmp entries entry.key in
-      let lower : All (λ e. cmp e.key entry.key ≡ Less) before = λ k d h. is_less _ (filter_passes (λ e. is_lt (cmp e.key entry.key)) entries k d h) in
+      let lower : All (λ e. cmp e.key entry.key ≡ Less) before =
+          λ k d h. is_less _ (filter_passes (λ e. is_lt (cmp e.key entry.key)) entries k d h) in
       let upper : All (λ e. cmp entry.key e.key ≡ Less) behind = λ k d h.
-      total.antisymm entry.key (slice_index_or behind k d).key ∙ ap ordering_reverse (is_greater _ (filter_passes (λ e. is_gt (cmp e.key entry.key)) entries k d h)) in
+      total.antisymm entry.key (slice_index_or behind k d).key
+          ∙ ap ordering_reverse (is_greater _ (filter_passes (λ e. is_gt (cmp e.key entry.key)) entries k d h)) in
       let R : Entry K V → Entry K V → Type 0 = λ a b. cmp a.key b.key ≡ Less in
       let across : All (λ e. All (R e) (entry ∷ behind)) before = λ k d h.
       let e = slice_index_or before k d in
-      All-cons (R e) entry behind (lower k d h) (λ j f l. total.trans e.key entry.key (slice_index_or behind j f).key (lower k d h) (upper j f l)) in
+      All-cons (R e) entry behind (lower k d h) (λ j f l. total.trans e.key entry.key (slice_index_or behind j f).key (lower k d h)
+          (upper j f l)) in
       AllPairs-append R before (entry ∷ behind)
       (AllPairs-filter R (λ e. is_lt (cmp e.key entry.key)) entries ascending)
       (AllPairs-cons R entry behind upper (AllPairs-filter R (λ e. is_gt (cmp e.key entry.key)) entries ascending))
@@ -61,23 +67,28 @@ module _ {K V : Type 0} (cmp : K → K → Ordering) (total : IsTotalOrder cmp) 
   has_key key e = is_eq (cmp e.key key)
 
   -- the look-up law: the entry is found at its own key, and at another key what was found before
-  pub entry_of-written : (key : K) → entry_of cmp (written cmp entries entry) key ≡ (if is_eq (cmp entry.key key) then Some entry else entry_of cmp entries key)
+  pub entry_of-written : (key : K) → entry_of cmp (written cmp entries entry) key
+      ≡ (if is_eq (cmp entry.key key) then Some entry else entry_of cmp entries key)
   entry_of-written key = searched ∙ by_order (cmp entry.key key) refl
     where
-      searched : find (has_key key) (written cmp entries entry) ≡ option_or (find (has_key key) (below cmp entries entry.key)) (find (has_key key) (entry ∷ above cmp entries entry.key))
+      searched : find (has_key key) (written cmp entries entry)
+          ≡ option_or (find (has_key key) (below cmp entries entry.key)) (find (has_key key) (entry ∷ above cmp entries entry.key))
       searched = find-append (has_key key) (below cmp entries entry.key) (entry ∷ above cmp entries entry.key)
 
       -- an entry with this key stands on the side of the written one on which the key is
-      side : (r : Ordering) → cmp entry.key key ≡ r → (e : Entry K V) → is_eq (cmp e.key key) ≡ true → cmp e.key entry.key ≡ ordering_reverse r
+      side : (r : Ordering) → cmp entry.key key ≡ r → (e : Entry K V) → is_eq (cmp e.key key) ≡ true
+          → cmp e.key entry.key ≡ ordering_reverse r
       side r is e same = total.congr e.key key entry.key (is_equal _ same) ∙ total.antisymm key entry.key ∙ ap ordering_reverse is
 
       by_order : (r : Ordering) → cmp entry.key key ≡ r
-          → option_or (find (has_key key) (below cmp entries entry.key)) (find (has_key key) (entry ∷ above cmp entries entry.key)) ≡ (if is_eq (cmp entry.key key) then Some entry else entry_of cmp entries key)
+          → option_or (find (has_key key) (below cmp entries entry.key)) (find (has_key key) (entry ∷ above cmp entries entry.key))
+          ≡ (if is_eq (cmp entry.key key) then Some entry else entry_of cmp entries key)
       by_order Less is =
           rw (find-filter_none (has_key key) (λ e. is_lt (cmp e.key entry.key)) (λ e same. ap is_lt (side Less is e same)) entries, is)
           (find-filter_all (has_key key) (λ e. is_gt (cmp e.key entry.key)) (λ e same. ap is_gt (side Less is e same)) entries)
       by_order Equal is =
-          rw (find-filter_none (has_key key) (λ e. is_lt (cmp e.key entry.key)) (λ e same. ap is_lt (side Equal is e same)) entries, is) refl
+          rw (find-filter_none (has_key key) (λ e. is_lt (cmp e.key entry.key)) (λ e same. ap is_lt (side Equal is e same)) entries, is)
+              refl
       by_order Greater is =
           rw (
             find-filter_all (has_key key) (λ e. is_lt (cmp e.key entry.key)) (λ e same. ap is_lt (side Greater is e same)) entries,

@@ -42,10 +42,12 @@ answers_then old mid new before between now was text rest more is Failed Failed 
 pub AddsText-then : {old mid new : Option (List ℕ)} {before between now : ℕ} {was waiting is : Waiting} {text more : List ℕ}
     → AddsText old mid before between was waiting text → AddsText mid new between now waiting is more
     → AddsText old new before now was is (text ++ more)
-AddsText-then {old = old} {mid = mid} {new = new} {before = before} {between = between} {now = now} {was = was} {waiting = waiting} {is = is} {text = text} {more = more} p q =
+AddsText-then {old = old} {mid = mid} {new = new} {before = before} {between = between} {now = now} {was = was} {waiting = waiting}
+    {is = is} {text = text} {more = more} p q =
     record {
       later = omega (arith, p.later, q.later);
-      answer = answers_then old mid new before between now was.bytes text waiting.bytes more is.bytes was.so_far waiting.so_far is.so_far p.later p.answer q.answer;
+      answer = answers_then old mid new before between now was.bytes text waiting.bytes more is.bytes was.so_far waiting.so_far is.so_far
+          p.later p.answer q.answer;
     }
 
 -- the same, written between the two
@@ -55,14 +57,17 @@ pub ◌⨾◌ : {old mid new : Option (List ℕ)} {before between now : ℕ} {wa
 p ⨾ q = AddsText-then p q
 
 infixl 10 ◌⨾◌
-none_as : (held : Option (List ℕ)) (faults : ℕ) (text : List ℕ) (so_far : Written) → AddsTextAs held held faults faults text text so_far so_far
+none_as : (held : Option (List ℕ)) (faults : ℕ) (text : List ℕ) (so_far : Written)
+    → AddsTextAs held held faults faults text text so_far so_far
 none_as held faults text All = record { front = []; appends = Appends-nil held; whole = refl }
 none_as held faults text Failed = record { held = refl; faults = refl }
 
 -- a text that waits, behind those that wait
-pub AddsText-stored : (held : Option (List ℕ)) (faults : ℕ) (was is : Waiting) (text : List ℕ) → is ≡ record was { bytes = was.bytes ++ text }
+pub AddsText-stored : (held : Option (List ℕ)) (faults : ℕ) (was is : Waiting) (text : List ℕ)
+    → is ≡ record was { bytes = was.bytes ++ text }
     → AddsText held held faults faults was is text
-AddsText-stored held faults was is text e = rw e (record { later = omega arith; answer = none_as held faults (was.bytes ++ text) was.so_far })
+AddsText-stored held faults was is text e = rw e (record
+    { later = omega arith; answer = none_as held faults (was.bytes ++ text) was.so_far })
 
 -- nothing is added
 pub AddsText-none : (held : Option (List ℕ)) (faults : ℕ) (was : Waiting) → AddsText held held faults faults was was []
@@ -71,7 +76,8 @@ AddsText-none held faults was = record {
   answer = rw (append-nil was.bytes) (none_as held faults was.bytes was.so_far);
 }
 
-passed_as : (old new : Option (List ℕ)) (before now : ℕ) (text : List ℕ) (first second : Written) → WritesTextAs old new before now text first second
+passed_as : (old new : Option (List ℕ)) (before now : ℕ) (text : List ℕ) (first second : Written)
+    → WritesTextAs old new before now text first second
     → AddsTextAs old new before now text [] first second
 passed_as old new before now text All All p = record { front = text; appends = p; whole = append-nil text }
 passed_as old new before now text All Failed p = p
@@ -80,7 +86,8 @@ passed_as old new before now text Failed Failed p = p
 
 -- the bytes that wait are written
 pub AddsText-passed : (old new : Option (List ℕ)) (before now : ℕ) (was : Waiting) (written : Written)
-    → WritesText old new before now was.bytes was.so_far written → AddsText old new before now was (record { bytes = []; so_far = written }) []
+    → WritesText old new before now was.bytes was.so_far written
+    → AddsText old new before now was (record { bytes = []; so_far = written }) []
 AddsText-passed old new before now was written p = record {
   later = p.later;
   answer = rw (append-nil was.bytes) (passed_as old new before now was.bytes was.so_far written p.answer);
@@ -91,12 +98,14 @@ pub AddsText-written : {old mid new : Option (List ℕ)} {before between now : �
     (so_far written : Written) → AddsText old mid before between was waiting [] → waiting ≡ record { bytes = []; so_far = so_far }
     → WritesText mid new between now text so_far written → is ≡ record { bytes = []; so_far = written }
     → AddsText old new before now was is text
-AddsText-written {mid = mid} {new = new} {between = between} {now = now} {waiting = waiting} {is = is} {text = text} so_far written passes none writes after =
+AddsText-written {mid = mid} {new = new} {between = between} {now = now} {waiting = waiting} {is = is} {text = text} so_far written passes
+    none writes after =
     let written_now : AddsText mid new between now (record { bytes = []; so_far = so_far }) (record { bytes = []; so_far = written }) text =
     record { later = writes.later; answer = passed_as mid new between now text so_far written writes.answer } in
     AddsText-then passes (rw (none, after) written_now)
 
-whole_as : (old new : Option (List ℕ)) (before now : ℕ) (text : List ℕ) (first second : Written) → AddsTextAs old new before now text [] first second
+whole_as : (old new : Option (List ℕ)) (before now : ℕ) (text : List ℕ) (first second : Written)
+    → AddsTextAs old new before now text [] first second
     → WritesTextAs old new before now text first second
 whole_as old new before now text All All p = subst (Appends old new) (sym (append-nil p.front) ∙ p.whole) p.appends
 whole_as old new before now text All Failed p = p
@@ -108,7 +117,8 @@ pub AddsText-whole : {old mid new : Option (List ℕ)} {before between now : ℕ
     (so_far written : Written) → first ≡ record { bytes = []; so_far = so_far } → AddsText old mid before between first waiting text
     → AddsText mid new between now waiting last [] → last ≡ record { bytes = []; so_far = written }
     → WritesText old new before now text so_far written
-AddsText-whole {old = old} {new = new} {before = before} {now = now} {first = first} {last = last} {text = text} so_far written none adds passes after =
+AddsText-whole {old = old} {new = new} {before = before} {now = now} {first = first} {last = last} {text = text} so_far written none adds
+    passes after =
     let both : AddsText old new before now first last text =
     subst (AddsText old new before now first last) (append-nil text) (adds ⨾ passes) in
     let whole : AddsText old new before now (record { bytes = []; so_far = so_far }) (record { bytes = []; so_far = written }) text =

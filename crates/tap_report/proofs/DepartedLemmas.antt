@@ -41,7 +41,8 @@ later_members : (first : Record) (items : List Record) (members : ℕ) (item : R
     → members_after (opening_of (first ∷ items)) members item ≡ members
 later_members (rec.Begin settings frames names) [] members item = refl
 later_members first [] members item = refl
-later_members (rec.Begin settings frames names) (rec.Carrier ∷ items) members item = ap (λ o. members_after o members item) (carried_stays items)
+later_members (rec.Begin settings frames names) (rec.Carrier ∷ items) members item =
+    ap (λ o. members_after o members item) (carried_stays items)
 later_members (rec.Begin settings frames names) (next ∷ items) members item = ap (λ o. members_after o members item) (plain_stays items)
 later_members first (next ∷ items) members item = ap (λ o. members_after o members item) (plain_stays items)
 
@@ -52,7 +53,8 @@ members-push (first ∷ items) item = sym (later_members first items (length (me
 
 -- ---- the departure that was accepted last
 
-asks_one : (b : Bool) (last : Record) → filter_map depart_name (at_most_one (if b then step_of last else None)) ≡ at_most_one (if b then asked_by last else None)
+asks_one : (b : Bool) (last : Record) → filter_map depart_name (at_most_one (if b then step_of last else None))
+    ≡ at_most_one (if b then asked_by last else None)
 asks_one false last = refl
 asks_one true (rec.Step index step) = refl
 asks_one true last = refl
@@ -72,7 +74,8 @@ last_more before None [] = refl
 last_more before (Some x) [] = refl
 last_more before new (x ∷ xs) = last_more (Some x) new xs
 
-where_accepted : {X : Type 0} (b : Bool) (asked before : Option X) → option_or (if b then asked else None) before ≡ (if b then option_or asked before else before)
+where_accepted : {X : Type 0} (b : Bool) (asked before : Option X)
+    → option_or (if b then asked else None) before ≡ (if b then option_or asked before else before)
 where_accepted true asked before = refl
 where_accepted false asked before = refl
 

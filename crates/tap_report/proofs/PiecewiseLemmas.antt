@@ -24,13 +24,15 @@ IsPrintable-at log place item settings within is kept all =
 
 -- the settings with one record more
 pub settings_of-next : (log : List Record) (place : ℕ) (item : Record) (settings : Option SettingsValue) → place < length log
-    → slice_get log place ≡ Some item → settings ≡ settings_of (take place log) → settings_after settings item ≡ settings_of (take (place + 1) log)
+    → slice_get log place ≡ Some item → settings ≡ settings_of (take place log)
+    → settings_after settings item ≡ settings_of (take (place + 1) log)
 settings_of-next log place item settings within is kept =
     ap (λ s. settings_after s item) kept ∙ sym (settings_of-push (take place log) item)
     ∙ sym (ap settings_of (take_next log place item within (item_at log place item is)))
 
 -- the reports of all records
-pub Reports-all : (mode : Mode) (log : List Record) (place : ℕ) (old new : Option (List ℕ)) (before now : ℕ) (kept : ReporterValue) → length log ≤ place
+pub Reports-all : (mode : Mode) (log : List Record) (place : ℕ) (old new : Option (List ℕ)) (before now : ℕ) (kept : ReporterValue)
+    → length log ≤ place
     → Reports mode (take place log) old new before now kept → Reports mode log old new before now kept
 Reports-all mode log place old new before now kept past reports =
     let P : List Record → Type 0 = λ l. Reports mode l old new before now kept in subst P (take_all place log past) reports
@@ -39,10 +41,12 @@ Reports-all mode log place old new before now kept past reports =
 pub Reports-fresh : (held : Option (List ℕ)) (faults : ℕ) (kept : ReporterValue) → kept ≡ kept_at_first kept.mode
     → Reports kept.mode [] held held faults faults kept
 Reports-fresh held faults kept fresh =
-    let P : ReporterValue → Type 0 = λ k. Reports kept.mode [] held held faults faults k in subst P (sym fresh) (Reports-new kept.mode held faults)
+    let P : ReporterValue → Type 0 = λ k. Reports kept.mode [] held held faults faults k in
+    subst P (sym fresh) (Reports-new kept.mode held faults)
 
 -- those of the records so far, where more have come behind them
-pub Reports-front : (mode : Mode) (log new : List Record) (from : ℕ) (old now_held : Option (List ℕ)) (before now : ℕ) (kept : ReporterValue)
+pub Reports-front : (mode : Mode) (log new : List Record) (from : ℕ) (old now_held : Option (List ℕ)) (before now : ℕ)
+    (kept : ReporterValue)
     → from ≡ length log → take (length log) new ≡ log → Reports mode log old now_held before now kept
     → Reports mode (take from new) old now_held before now kept
 Reports-front mode log new from old now_held before now kept is front reports =

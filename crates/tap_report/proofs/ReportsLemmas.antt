@@ -20,13 +20,17 @@ use Rattle.tap_report.proofs.WritesLemmas.{WritesText-then, WritesText-none}
 
 -- before the first put
 pub Reports-new : (mode : Mode) (held : Option (List ℕ)) (faults : ℕ) → Reports mode [] held held faults faults (kept_at_first mode)
-Reports-new mode held faults = record { same_mode = refl; settings = refl; count = refl; tally = refl; text = WritesText-none held faults AllWritten }
+Reports-new mode held faults = record { same_mode = refl; settings = refl; count = refl; tally = refl; text =
+    WritesText-none held faults AllWritten }
 
 -- one put more
-pub Reports-put : {mode : Mode} {records : List Record} {old mid new : Option (List ℕ)} {before between now : ℕ} {kept then_kept : ReporterValue}
-    {item : Record} {written : Written} → Reports mode records old mid before between kept → Puts kept then_kept item mid new between now written
+pub Reports-put : {mode : Mode} {records : List Record} {old mid new : Option (List ℕ)} {before between now : ℕ}
+    {kept then_kept : ReporterValue}
+    {item : Record} {written : Written} → Reports mode records old mid before between kept
+        → Puts kept then_kept item mid new between now written
     → Reports mode (records ++ item ∷ []) old new before now then_kept
-Reports-put {mode = mode} {records = records} {mid = mid} {new = new} {between = between} {now = now} {kept = kept} {item = item} {written = written} r p =
+Reports-put {mode = mode} {records = records} {mid = mid} {new = new} {between = between} {now = now} {kept = kept} {item = item}
+    {written = written} r p =
     let text =
     subst (λ s. WritesText mid new between now (text_of_record mode s item) kept.so_far written) r.settings
     (subst (λ m. WritesText mid new between now (text_of_record m kept.settings item) kept.so_far written) r.same_mode p.text) in
@@ -39,14 +43,17 @@ Reports-put {mode = mode} {records = records} {mid = mid} {new = new} {between =
     })
 
 -- a finish
-pub Reports-finish : {mode : Mode} {records : List Record} {old mid new : Option (List ℕ)} {before between now : ℕ} {kept then_kept : ReporterValue}
+pub Reports-finish : {mode : Mode} {records : List Record} {old mid new : Option (List ℕ)} {before between now : ℕ}
+    {kept then_kept : ReporterValue}
     {written : Written} → Reports mode records old mid before between kept → Finishes kept then_kept mid new between now written
     → WritesText old new before now (text_of_log mode records) AllWritten written
-Reports-finish {mode = mode} {records = records} {mid = mid} {new = new} {between = between} {now = now} {kept = kept} {written = written} r f =
+Reports-finish {mode = mode} {records = records} {mid = mid} {new = new} {between = between} {now = now} {kept = kept} {written = written} r
+    f =
     let last =
     subst (λ t. WritesText mid new between now (ending mode (settings_of records) (numbers_in t)) kept.so_far written) r.tally
     (subst (λ s. WritesText mid new between now (ending mode s (numbers_in kept.tally)) kept.so_far written) r.settings
-    (subst (λ m. WritesText mid new between now (ending m kept.settings (numbers_in kept.tally)) kept.so_far written) r.same_mode f.text)) in
+    (subst (λ m. WritesText mid new between now (ending m kept.settings (numbers_in kept.tally)) kept.so_far written) r.same_mode f.text))
+        in
     WritesText-then r.text last
 
 -- the put of the next record of a log
@@ -73,7 +80,8 @@ always_begun (item ∷ items) settings =
     let h = still_begun settings item in rw h.1 (always_begun items h.0)
 
 -- The next record of a log is a `Begin` exactly where none was put before.
-pub begins_next : (records : List Record) (i : ℕ) (item : Record) (settings : Option SettingsValue) → BeginsOnce records → i < length records
+pub begins_next : (records : List Record) (i : ℕ) (item : Record) (settings : Option SettingsValue) → BeginsOnce records
+    → i < length records
     → item ≡ get_or records i item → settings ≡ fold settings_after None (take i records) → IsBegin item ↔ IsNone settings
 begins_next [] i item settings begins inside is kept = absurd (omega arith)
 begins_next (first ∷ rest) zero item settings begins inside is kept = (λ _. ap is_some kept, λ _. subst IsBegin (sym is) begins.0)
@@ -100,7 +108,8 @@ BeginsOnce-push [] item some other begins = absurd (omega arith)
 BeginsOnce-push (first ∷ rest) item some other begins = (begins.0, All-push (λ x. ¬ IsBegin x) rest item begins.1 other)
 
 -- a log with one record more
-pub IsPrintableLog-push : (records : List Record) (item : Record) → 0 < length records → ¬ IsBegin item → IsPrintable (settings_of records) item
+pub IsPrintableLog-push : (records : List Record) (item : Record) → 0 < length records → ¬ IsBegin item
+    → IsPrintable (settings_of records) item
     → IsPrintableLog records → IsPrintableLog (records ++ item ∷ [])
 IsPrintableLog-push records item some other printable log = record {
   begins = BeginsOnce-push records item some other log.begins;
@@ -109,7 +118,8 @@ IsPrintableLog-push records item some other printable log = record {
 
 -- ---- the law
 
-puts_each : (items done : List Record) (mode : Mode) (kept then_kept : ReporterValue) (old mid new : Option (List ℕ)) (before between now : ℕ)
+puts_each : (items done : List Record) (mode : Mode) (kept then_kept : ReporterValue) (old mid new : Option (List ℕ))
+    (before between now : ℕ)
     → Reports mode done old mid before between kept → PutsEach items kept then_kept mid new between now
     → Reports mode (done ++ items) old new before now then_kept
 puts_each [] done mode kept then_kept old mid new before between now r p = rw (p.0, p.1, p.2, append-nil done) r
@@ -119,4 +129,5 @@ puts_each (item ∷ items) done mode kept then_kept old mid new before between n
 
 pub puts_write_the_text_of_logs : PutsWriteTheText
 puts_write_the_text_of_logs mode records kept then_kept old mid new before between now written puts finishes =
-    Reports-finish (puts_each records [] mode (kept_at_first mode) kept old old mid before before between (Reports-new mode old before) puts) finishes
+    Reports-finish (puts_each records [] mode (kept_at_first mode) kept old old mid before before between
+        (Reports-new mode old before) puts) finishes

@@ -23,7 +23,8 @@ lines_of_record mode settings item e = chosen (is_printed mode item) (line (line
 pub take_next : {X : Type 0} (xs : List X) (i : ℕ) (x : X) → i < length xs → x ≡ get_or xs i x → take (i + 1) xs ≡ take i xs ++ x ∷ []
 take_next xs i x inside is = take_more xs i x inside ∙ ap (λ y. take i xs ++ y ∷ []) (sym is)
 
-pub settings_of-push : (records : List Record) (item : Record) → settings_of (records ++ item ∷ []) ≡ settings_after (settings_of records) item
+pub settings_of-push : (records : List Record) (item : Record)
+    → settings_of (records ++ item ∷ []) ≡ settings_after (settings_of records) item
 settings_of-push records item = fold-append settings_after None records (item ∷ [])
 
 -- only a beginning changes the settings
@@ -32,7 +33,8 @@ same_settings settings (Begin begun frames members) other = absurd (other refl)
 same_settings settings item other = refl
 
 pub texts_after-push : (mode : Mode) (settings : Option SettingsValue) (records : List Record) (item : Record)
-    → texts_after mode settings (records ++ item ∷ []) ≡ texts_after mode settings records ++ text_of_record mode (fold settings_after settings records) item
+    → texts_after mode settings (records ++ item ∷ []) ≡ texts_after mode settings records
+    ++ text_of_record mode (fold settings_after settings records) item
 texts_after-push mode settings [] item = append-nil (text_of_record mode settings item)
 texts_after-push mode settings (first ∷ rest) item =
     ap (λ l. text_of_record mode settings first ++ l) (texts_after-push mode (settings_after settings first) rest item)

@@ -27,11 +27,13 @@ pub IsUntouched-trans : (old mid new : Option (List ℕ)) (before between now : 
     → IsUntouched mid new between now → IsUntouched old new before now
 IsUntouched-trans old mid new before between now p q = record { held = q.held ∙ p.held; faults = q.faults ∙ p.faults }
 
-answers_then : (old mid new : Option (List ℕ)) (before between now : ℕ) (text more : List ℕ) (first second third : Written) → before ≤ between
+answers_then : (old mid new : Option (List ℕ)) (before between now : ℕ) (text more : List ℕ) (first second third : Written)
+    → before ≤ between
     → WritesTextAs old mid before between text first second → WritesTextAs mid new between now more second third
     → WritesTextAs old new before now (text ++ more) first third
 answers_then old mid new before between now text more All All All later p q = Appends-trans old mid new text more p q
-answers_then old mid new before between now text more All All Failed later p q = FirstFails-after old mid new before between now text more later p q
+answers_then old mid new before between now text more All All Failed later p q =
+    FirstFails-after old mid new before between now text more later p q
 answers_then old mid new before between now text more All Failed All later p q = absurd q
 answers_then old mid new before between now text more All Failed Failed later p q =
     FirstFails-append old new before now text more (FirstFails-untouched old mid new before between now text p q)
@@ -43,8 +45,10 @@ answers_then old mid new before between now text more Failed Failed Failed later
 pub WritesText-then : {old mid new : Option (List ℕ)} {before between now : ℕ} {text more : List ℕ} {first second third : Written}
     → WritesText old mid before between text first second → WritesText mid new between now more second third
     → WritesText old new before now (text ++ more) first third
-WritesText-then {old = old} {mid = mid} {new = new} {before = before} {between = between} {now = now} {text = text} {more = more} {first = first} {second = second} {third = third} p q =
-    record { later = omega (arith, p.later, q.later); answer = answers_then old mid new before between now text more first second third p.later p.answer q.answer }
+WritesText-then {old = old} {mid = mid} {new = new} {before = before} {between = between} {now = now} {text = text} {more = more}
+    {first = first} {second = second} {third = third} p q =
+    record { later = omega (arith, p.later, q.later); answer =
+        answers_then old mid new before between now text more first second third p.later p.answer q.answer }
 
 none_as : (held : Option (List ℕ)) (faults : ℕ) (so_far : Written) → WritesTextAs held held faults faults [] so_far so_far
 none_as held faults All = Appends-nil held

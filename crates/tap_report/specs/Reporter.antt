@@ -37,7 +37,8 @@ kept_after kept item written =
     }
 
 -- the put of a record
-pub record Puts (kept then_kept : ReporterValue) (item : Record) (old new : Option (List ℕ)) (before now : ℕ) (written : Written) : Type 0 where
+pub record Puts (kept then_kept : ReporterValue) (item : Record) (old new : Option (List ℕ)) (before now : ℕ)
+    (written : Written) : Type 0 where
   pub text : WritesText old new before now (text_of_record kept.mode kept.settings item) kept.so_far written
   pub keeps : then_kept ≡ kept_after kept item written
 
@@ -56,7 +57,8 @@ PutsEach (item ∷ items) kept then_kept old new before now =
 -- the puts of a log's records and a finish write the text of the log
 abbrev pub PutsWriteTheText : Type 0
 PutsWriteTheText =
-    (mode : Mode) (records : List Record) (kept then_kept : ReporterValue) (old mid new : Option (List ℕ)) (before between now : ℕ) (written : Written)
+    (mode : Mode) (records : List Record) (kept then_kept : ReporterValue) (old mid new : Option (List ℕ)) (before between now : ℕ)
+        (written : Written)
     → PutsEach records (kept_at_first mode) kept old mid before between → Finishes kept then_kept mid new between now written
     → WritesText old new before now (text_of_log mode records) All written
 

@@ -64,7 +64,8 @@ prefix_of_word-text p (digit ∷ digits) small is =
     le-leb (length (text_of_name (digit ∷ digits))) p.digits (omega (arith, is.few)) in
     let some : nat_le 1 (length (text_of_name (digit ∷ digits))) ≡ true = le-leb 1 (length (text_of_name (digit ∷ digits))) (omega arith) in
     let whole =
-    name_of_word-text (with_digits (length (text_of_name (digit ∷ digits))) p) (digit ∷ digits) small (record { len = omega arith; below = is.below }) in
+    name_of_word-text (with_digits (length (text_of_name (digit ∷ digits))) p) (digit ∷ digits) small
+        (record { len = omega arith; below = is.below }) in
     elim (cases_Bool (bytes_eq (text_of_name (digit ∷ digits)) (codes "*"))) [
       | inl star ↦
           let same : text_of_name (digit ∷ digits) ≡ codes "*" = (bytes_eq-Decides (text_of_name (digit ∷ digits)) (codes "*")).0 star in

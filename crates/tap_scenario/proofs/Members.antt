@@ -21,10 +21,13 @@ members_of-count p table values is strings count =
 -- there are as many, and each is a name
 pub members_of-names : (p : SettingsValue) (table : Table) (values : List Value) (names : List (List ℕ))
     → read_at Members array_of_strings table ≡ Ok (texts_of (items_view values)) → are_strings (items_view values) ≡ true
-    → (nat_le 1 (length values) && nat_le (length values) 64) ≡ true → ok_or (names_of p (texts_of (items_view values))) (BadValue Members) ≡ Ok names → are_distinct names ≡ true → members_of p table ≡ Ok names
+    → (nat_le 1 (length values) && nat_le (length values) 64) ≡ true
+    → ok_or (names_of p (texts_of (items_view values))) (BadValue Members) ≡ Ok names → are_distinct names ≡ true
+    → members_of p table ≡ Ok names
 members_of-names p table values names is strings count read distinct =
     let len = length-texts_of values strings in rw (is, len, count) (go (names_of p (texts_of (items_view values))) read)
   where
-    go : (o : Option (List (List ℕ))) → ok_or o (BadValue Members) ≡ Ok names → ok_or (option_and_then distinct_names o) (BadValue Members) ≡ Ok names
+    go : (o : Option (List (List ℕ))) → ok_or o (BadValue Members) ≡ Ok names
+        → ok_or (option_and_then distinct_names o) (BadValue Members) ≡ Ok names
     go None e = absurd (cc)
     go (Some found) e = let same : found ≡ names = cc in rw (same, distinct) refl

@@ -103,7 +103,8 @@ differ : (name : List ℕ) (others : List (List ℕ)) → list_any (λ other. by
 differ name [] e = All-nil (λ other. name ≡ other → ⊥)
 differ name (other ∷ others) e =
     let parts = or_parts (bytes_eq other name) (list_any (λ o. bytes_eq o name) others) e in
-    All-cons (λ o. name ≡ o → ⊥) other others (λ same. let yes = (bytes_eq-Decides other name).1 (sym same) in absurd (cc)) (differ name others parts.1)
+    All-cons (λ o. name ≡ o → ⊥) other others (λ same. let yes = (bytes_eq-Decides other name).1 (sym same) in absurd (cc))
+        (differ name others parts.1)
 
 AreDistinct-test : (names : List (List ℕ)) → are_distinct names ≡ true → AreDistinct names
 AreDistinct-test [] e = λ i j d l m. absurd (omega arith)
@@ -134,7 +135,8 @@ members_of_texts-limits p texts names small e =
             | inl distinct ↦
                 let whole : Some found.0 ≡ Some names = rw distinct at found.2 in
                 let same : found.0 ≡ names = cc in
-                rw (← same) (record { from = omega arith; to = omega arith; are_names = read.1; distinct = AreDistinct-test found.0 distinct })
+                rw (← same) (record { from = omega arith; to = omega arith; are_names = read.1; distinct =
+                    AreDistinct-test found.0 distinct })
           ]
     ]
 
@@ -170,7 +172,8 @@ numbered_step-Ok p number text step small e =
           let told = ok_or-Ok (option_and_then if_runs (step_of_text p false text)) (BadStep number) step (rw within at e) in
           let read = and_then-back if_runs (step_of_text p false text) step told in
           let runs = if_runs-Some read.0 step read.2 in
-          (leb-true number 10000 within, record { is_step = (step_of_text-back p false text step small (read.1 ∙ ap Some runs.0)).1; runs = runs.1 })
+          (leb-true number 10000 within, record { is_step = (step_of_text-back p false text step small (read.1 ∙ ap Some runs.0)).1; runs =
+              runs.1 })
     ]
 
 steps_from-limits : (p : SettingsValue) (number : ℕ) (texts : List (List ℕ)) (steps : List Step) → p.base ≤ 16 → number ≤ 10001

@@ -85,7 +85,8 @@ words-name first name passes = words-join _ _ (no_space first passes) (no_space_
 
 words-names : (first name link other : List ℕ) → list_all (λ byte. not (byte == 32)) first ≡ true
     → list_all (λ byte. not (byte == 32)) link ≡ true
-    → words (join_with_byte 32 (first ∷ text_of_name name ∷ link ∷ text_of_name other ∷ [])) ≡ first ∷ text_of_name name ∷ link ∷ text_of_name other ∷ []
+    → words (join_with_byte 32 (first ∷ text_of_name name ∷ link ∷ text_of_name other ∷ [])) ≡ first ∷ text_of_name name ∷ link
+    ∷ text_of_name other ∷ []
 words-names first name link other passes unspaced =
     words-join _ _ (no_space first passes) (no_space_name name, (no_space link unspaced, (no_space_name other, tt)))
 
@@ -110,7 +111,8 @@ words-join_step p carrier (SettleMixed seed) is =
 words-join_step p carrier (Table name) is = words-name (codes "table") name refl
 words-join_step p carrier (Pointers name) is = words-name (codes "pointers") name refl
 words-join_step p carrier (Garble place at byte) is =
-    words-join _ _ (no_space (codes "garble") refl) (no_space_decimal place (omega arith), (no_space_decimal at (omega arith), (no_space_decimal byte (omega arith), tt)))
+    words-join _ _ (no_space (codes "garble") refl) (no_space_decimal place (omega arith),
+        (no_space_decimal at (omega arith), (no_space_decimal byte (omega arith), tt)))
 words-join_step p carrier (Cut place bytes) is =
     words-join _ _ (no_space (codes "cut") refl) (no_space_decimal place (omega arith), (no_space_decimal bytes (omega arith), tt))
 words-join_step p carrier (Abandon name) is = words-name (codes "abandon") name refl
@@ -119,7 +121,8 @@ words-join_step p carrier (Lose place) is = words-number (codes "lose") place re
 words-join_step p carrier (Repeat place) is = words-number (codes "repeat") place refl (omega arith)
 words-join_step p carrier (RootSet object asker) is = words-names (codes "rootset") object (codes "from") asker refl refl
 words-join_step p carrier (Cast word prefix asker) is =
-    words-join _ _ (no_space (codes "cast") refl) (no_space_word word is.0, (no_space (codes "to") refl, (no_space_prefix prefix, (no_space (codes "from") refl, (no_space_name asker, tt)))))
+    words-join _ _ (no_space (codes "cast") refl) (no_space_word word is.0,
+        (no_space (codes "to") refl, (no_space_prefix prefix, (no_space (codes "from") refl, (no_space_name asker, tt)))))
 
 -- the words of a step's text
 words-text_of_step : (p : SettingsValue) (carrier : Bool) (step : Step) → IsStep p carrier step
@@ -153,11 +156,13 @@ step_of_words-words p true (Garble place at byte) small is = absurd (let other :
 step_of_words-words p false (Garble place at byte) small is =
     let first = number_below-decimal (2 ^ 32) place (decimal place) (omega arith) (omega arith) refl in
     let others = two_numbers-text (2 ^ 32) 256 at byte (omega arith) (omega arith) (omega arith) (omega arith) in
-    ap (λ numbers. option_map (λ n. Garble n.0 n.1.0 n.1.1) (option_zip numbers (two_numbers (2 ^ 32) 256 (decimal at ∷ decimal byte ∷ [])))) first
+    ap (λ numbers. option_map (λ n. Garble n.0 n.1.0 n.1.1)
+        (option_zip numbers (two_numbers (2 ^ 32) 256 (decimal at ∷ decimal byte ∷ [])))) first
     ∙ ap (λ numbers. option_map (λ n. Garble n.0 n.1.0 n.1.1) (option_zip (Some place) numbers)) others
 step_of_words-words p true (Cut place bytes) small is = absurd (let other : true ≡ false = is.0 in cc)
 step_of_words-words p false (Cut place bytes) small is =
-    ap (option_map (λ numbers. Cut numbers.0 numbers.1)) (two_numbers-text (2 ^ 32) (2 ^ 32) place bytes (omega arith) (omega arith) (omega arith) (omega arith))
+    ap (option_map (λ numbers. Cut numbers.0 numbers.1))
+        (two_numbers-text (2 ^ 32) (2 ^ 32) place bytes (omega arith) (omega arith) (omega arith) (omega arith))
 step_of_words-words p carrier (Abandon name) small is = ap (option_map Abandon) (name_of_word-text p name small is)
 step_of_words-words p true Tick small is = refl
 step_of_words-words p false Tick small is = absurd (let other : false ≡ true = is in cc)
@@ -205,14 +210,16 @@ name_step p carrier named.Abandon name is = (refl, is)
 
 pair_step : (p : SettingsValue) (carrier : Bool) (kind : PairKind) (first second : List ℕ) → is_there p carrier (shape.Pair kind) ≡ true
     → IsName p first × IsName p second
-    → IsWordsOfStep p carrier (text_of_kind (shape.Pair kind) ∷ text_of_name first ∷ link_of_pair kind ∷ text_of_name second ∷ []) (step_of_pair kind first second)
+    → IsWordsOfStep p carrier (text_of_kind (shape.Pair kind) ∷ text_of_name first ∷ link_of_pair kind ∷ text_of_name second ∷ [])
+    (step_of_pair kind first second)
 pair_step p carrier paired.Join first second there are = (refl, are)
 pair_step p carrier paired.Publish first second there are = (refl, are)
 pair_step p carrier paired.Withdraw first second there are = (refl, are)
 pair_step p carrier paired.Find first second there are = (refl, are)
 pair_step p carrier paired.Walk first second there are = (refl, are)
 pair_step p carrier paired.RootSet first second there are =
-    let parts = and_parts (p.base == 16) (p.digits == 40) there in (refl, (eqb-true p.base 16 parts.0, eqb-true p.digits 40 parts.1, are.0, are.1))
+    let parts = and_parts (p.base == 16) (p.digits == 40) there in
+    (refl, (eqb-true p.base 16 parts.0, eqb-true p.digits 40 parts.1, are.0, are.1))
 
 place_step : (p : SettingsValue) (carrier : Bool) (kind : PlaceKind) (place : ℕ) → is_there p carrier (shape.Place kind) ≡ true
     → place < 2 ^ 32 → IsWordsOfStep p carrier (text_of_kind (shape.Place kind) ∷ decimal place ∷ []) (step_of_place kind place)
@@ -229,14 +236,16 @@ settle_step p carrier (word ∷ others) step read =
           let made = option_map-back SettleMixed (one_number (2 ^ 64) others) step (rw mixed at read) in
           let back = one_number-back (2 ^ 64) others made.0 made.1 in
           let is : word ≡ codes "mixed" = (bytes_eq-Decides word (codes "mixed")).0 mixed in
-          same_words p carrier (codes "settle") (word ∷ others) (codes "mixed" ∷ decimal made.0 ∷ []) (SettleMixed made.0) step (same_first word (codes "mixed") others (decimal made.0 ∷ []) is back.0) made.2 (refl, back.1)
+          same_words p carrier (codes "settle") (word ∷ others) (codes "mixed" ∷ decimal made.0 ∷ []) (SettleMixed made.0) step
+              (same_first word (codes "mixed") others (decimal made.0 ∷ []) is back.0) made.2 (refl, back.1)
       | inr other ↦
           elim (cases_Bool (bytes_eq word (codes "newest"))) [
             | inr neither ↦ absurd (let failed = rw (other, neither) at read in cc)
             | inl newest ↦
                 let back = only-back SettleNewest step others (rw (other, newest) at read) in
                 let is : word ≡ codes "newest" = (bytes_eq-Decides word (codes "newest")).0 newest in
-                same_words p carrier (codes "settle") (word ∷ others) (codes "newest" ∷ []) SettleNewest step (same_first word (codes "newest") others [] is back.0) back.1 (refl, tt)
+                same_words p carrier (codes "settle") (word ∷ others) (codes "newest" ∷ []) SettleNewest step
+                    (same_first word (codes "newest") others [] is back.0) back.1 (refl, tt)
           ]
     ]
 
@@ -249,8 +258,10 @@ garble_step p (word ∷ others) step read =
     let zipped = option_zip-back (number_below (2 ^ 32) word) (two_numbers (2 ^ 32) 256 others) made.0 made.1 in
     let first = number_below-back (2 ^ 32) made.0.0 word zipped.0 in
     let more = two_numbers-back (2 ^ 32) 256 others made.0.1 zipped.1 in
-    same_words p false (codes "garble") (word ∷ others) (decimal made.0.0 ∷ decimal made.0.1.0 ∷ decimal made.0.1.1 ∷ []) (Garble made.0.0 made.0.1.0 made.0.1.1) step
-    (same_first word (decimal made.0.0) others (decimal made.0.1.0 ∷ decimal made.0.1.1 ∷ []) first.0 more.0) made.2 (refl, (refl, first.1, more.1, more.2))
+    same_words p false (codes "garble") (word ∷ others) (decimal made.0.0 ∷ decimal made.0.1.0 ∷ decimal made.0.1.1 ∷ [])
+        (Garble made.0.0 made.0.1.0 made.0.1.1) step
+    (same_first word (decimal made.0.0) others (decimal made.0.1.0 ∷ decimal made.0.1.1 ∷ []) first.0 more.0) made.2
+        (refl, (refl, first.1, more.1, more.2))
 
 cut_step : (p : SettingsValue) (others : List (List ℕ)) (step : Step)
     → option_map (λ numbers. Cut numbers.0 numbers.1) (two_numbers (2 ^ 32) (2 ^ 32) others) ≡ Some step
@@ -258,7 +269,8 @@ cut_step : (p : SettingsValue) (others : List (List ℕ)) (step : Step)
 cut_step p others step read =
     let made = option_map-back (λ numbers. Cut numbers.0 numbers.1) (two_numbers (2 ^ 32) (2 ^ 32) others) step read in
     let back = two_numbers-back (2 ^ 32) (2 ^ 32) others made.0 made.1 in
-    same_words p false (codes "cut") others (decimal made.0.0 ∷ decimal made.0.1 ∷ []) (Cut made.0.0 made.0.1) step back.0 made.2 (refl, (refl, back.1, back.2))
+    same_words p false (codes "cut") others (decimal made.0.0 ∷ decimal made.0.1 ∷ []) (Cut made.0.0 made.0.1) step back.0 made.2
+        (refl, (refl, back.1, back.2))
 
 tick_step : (p : SettingsValue) (others : List (List ℕ)) (step : Step) → only Tick others ≡ Some step
     → IsWordsOfStep p true (codes "tick" ∷ others) step
@@ -280,13 +292,16 @@ cast_step p carrier (a ∷ b ∷ c ∷ d ∷ e ∷ []) step small read =
           let to : b ≡ codes "to" = (bytes_eq-Decides b (codes "to")).0 tests.0 in
           let from : d ≡ codes "from" = (bytes_eq-Decides d (codes "from")).0 tests.1 in
           let made =
-          option_map-back (λ parts. Cast parts.0 parts.1.0 parts.1.1) (option_zip (word_of_bytes a) (option_zip (prefix_of_word p c) (name_of_word p e))) step (rw both at read) in
+          option_map-back (λ parts. Cast parts.0 parts.1.0 parts.1.1)
+              (option_zip (word_of_bytes a) (option_zip (prefix_of_word p c) (name_of_word p e))) step (rw both at read) in
           let zipped = option_zip-back (word_of_bytes a) (option_zip (prefix_of_word p c) (name_of_word p e)) made.0 made.1 in
           let more = option_zip-back (prefix_of_word p c) (name_of_word p e) made.0.1 zipped.1 in
           let word = word_of_bytes-back a made.0.0 zipped.0 in
           let prefix = prefix_of_word-back p c made.0.1.0 small more.0 in
           let asker = name_of_word-back p e made.0.1.1 small more.1 in
-          same_words p carrier (codes "cast") (a ∷ b ∷ c ∷ d ∷ e ∷ []) (made.0.0 ∷ codes "to" ∷ text_of_prefix made.0.1.0 ∷ codes "from" ∷ text_of_name made.0.1.1 ∷ []) (Cast made.0.0 made.0.1.0 made.0.1.1) step
+          same_words p carrier (codes "cast") (a ∷ b ∷ c ∷ d ∷ e ∷ [])
+              (made.0.0 ∷ codes "to" ∷ text_of_prefix made.0.1.0 ∷ codes "from" ∷ text_of_name made.0.1.1 ∷ [])
+                  (Cast made.0.0 made.0.1.0 made.0.1.1) step
           (cc (word.0, to, prefix.0, from, asker.0)) made.2 (refl, (word.1, prefix.1, asker.1))
     ]
 cast_step p carrier (a ∷ b ∷ c ∷ d ∷ e ∷ f ∷ others) step small read = absurd (cc)
@@ -297,16 +312,19 @@ step_of_kind-back : (p : SettingsValue) (carrier : Bool) (kind : Kind) (others :
 step_of_kind-back p carrier (shape.Name kind) others step small there read =
     let made = option_map-back (step_of_name kind) (one_name p others) step read in
     let back = one_name-back p others made.0 small made.1 in
-    same_words p carrier (text_of_kind (shape.Name kind)) others (text_of_name made.0 ∷ []) (step_of_name kind made.0) step back.0 made.2 (name_step p carrier kind made.0 back.1)
+    same_words p carrier (text_of_kind (shape.Name kind)) others (text_of_name made.0 ∷ []) (step_of_name kind made.0) step back.0 made.2
+        (name_step p carrier kind made.0 back.1)
 step_of_kind-back p carrier (shape.Pair kind) others step small there read =
     let made = option_map-back (λ names. step_of_pair kind names.0 names.1) (two_names p (link_of_pair kind) others) step read in
     let back = two_names-back p (link_of_pair kind) others made.0 small made.1 in
-    same_words p carrier (text_of_kind (shape.Pair kind)) others (text_of_name made.0.0 ∷ link_of_pair kind ∷ text_of_name made.0.1 ∷ []) (step_of_pair kind made.0.0 made.0.1) step back.0 made.2
+    same_words p carrier (text_of_kind (shape.Pair kind)) others (text_of_name made.0.0 ∷ link_of_pair kind ∷ text_of_name made.0.1 ∷ [])
+        (step_of_pair kind made.0.0 made.0.1) step back.0 made.2
     (pair_step p carrier kind made.0.0 made.0.1 there back.1)
 step_of_kind-back p carrier (shape.Place kind) others step small there read =
     let made = option_map-back (step_of_place kind) (one_number (2 ^ 32) others) step read in
     let back = one_number-back (2 ^ 32) others made.0 made.1 in
-    same_words p carrier (text_of_kind (shape.Place kind)) others (decimal made.0 ∷ []) (step_of_place kind made.0) step back.0 made.2 (place_step p carrier kind made.0 there back.1)
+    same_words p carrier (text_of_kind (shape.Place kind)) others (decimal made.0 ∷ []) (step_of_place kind made.0) step back.0 made.2
+        (place_step p carrier kind made.0 there back.1)
 step_of_kind-back p carrier shape.Settle others step small there read = settle_step p carrier others step read
 step_of_kind-back p true shape.Garble others step small there read = absurd (let other : false ≡ true = there in cc)
 step_of_kind-back p false shape.Garble others step small there read = garble_step p others step read

@@ -23,5 +23,6 @@ pushed places len place h room =
     record {
       fits = omega arith;
       all = length-set places len place ∙ h.all;
-      rest = rw (drop-set-lt (len + 1) places len place (omega arith), ← drop-drop 1 len places, h.rest, drop-replicate {X = ℕ} 1 (32 - len) 0) (ap (λ n. replicate n 0) (omega arith));
+      rest = rw (drop-set-lt (len + 1) places len place (omega arith), ← drop-drop 1 len places, h.rest,
+          drop-replicate {X = ℕ} 1 (32 - len) 0) (ap (λ n. replicate n 0) (omega arith));
     }

@@ -22,7 +22,8 @@ abbrev pub awaited_at : ℕ → List (ℕ × Awaited) → Option Awaited
 awaited_at id entries = lookup (is_at (nat_cmp id)) entries
 
 -- the session of a number is what the map holds there
-pub session_of-sessions_of : (entries : List (ℕ × Awaited)) (id : ℕ) → session_of (sessions_of entries) id ≡ option_map (session id) (awaited_at id entries)
+pub session_of-sessions_of : (entries : List (ℕ × Awaited)) (id : ℕ)
+    → session_of (sessions_of entries) id ≡ option_map (session id) (awaited_at id entries)
 session_of-sessions_of [] id = refl
 session_of-sessions_of (e ∷ es) id = step (id == e.0) refl (session_of-sessions_of es id)
   where
@@ -32,7 +33,8 @@ session_of-sessions_of (e ∷ es) id = step (id == e.0) refl (session_of-session
     step false is rest = rw (unsigned_tied id e.0, is) rest
 
 -- an answer to a session that is not there changes nothing
-pub after_answer-unknown : (id : ℕ) (entries : List (ℕ × Awaited)) → awaited_at id entries ≡ None → after_answer id (sessions_of entries) ≡ sessions_of entries
+pub after_answer-unknown : (id : ℕ) (entries : List (ℕ × Awaited)) → awaited_at id entries ≡ None
+    → after_answer id (sessions_of entries) ≡ sessions_of entries
 after_answer-unknown id [] absent = refl
 after_answer-unknown id (e ∷ es) absent = step (id == e.0) refl (after_answer-unknown id es)
   where
@@ -45,40 +47,47 @@ after_answer-unknown id (e ∷ es) absent = step (id == e.0) refl (after_answer-
 
 -- and each session is found as before
 pub session_of-unknown : (entries : List (ℕ × Awaited)) (id other : ℕ) → awaited_at id entries ≡ None
-    → session_of (sessions_of entries) other ≡ (if id == other then option_and_then with_answer (session_of (sessions_of entries) id) else session_of (sessions_of entries) other)
+    → session_of (sessions_of entries) other ≡ (if id ==
+    other then option_and_then with_answer (session_of (sessions_of entries) id) else session_of (sessions_of entries) other)
 session_of-unknown entries id other absent = step (id == other) refl
   where
     nothing : session_of (sessions_of entries) id ≡ None
     nothing = rw (session_of-sessions_of entries id, absent) refl
 
     step : (b : Bool) → (id == other) ≡ b
-        → session_of (sessions_of entries) other ≡ cond b (option_and_then with_answer (session_of (sessions_of entries) id)) (session_of (sessions_of entries) other)
+        → session_of (sessions_of entries) other ≡ cond b (option_and_then with_answer (session_of (sessions_of entries) id))
+        (session_of (sessions_of entries) other)
     step true is = rw (← eqb-true id other is, nothing) refl
     step false is = refl
 
 -- nothing is held at a number that is below all others
-absent_below : (id : ℕ) (entries : List (ℕ × Awaited)) → AllByRecursion (λ k. nat_cmp id k ≡ Less) (keys_of entries) → awaited_at id entries ≡ None
+absent_below : (id : ℕ) (entries : List (ℕ × Awaited)) → AllByRecursion (λ k. nat_cmp id k ≡ Less) (keys_of entries)
+    → awaited_at id entries ≡ None
 absent_below id [] below = refl
 absent_below id (e ∷ es) below = rw (ap is_eq below.0) (absent_below id es below.1)
 
 -- nothing else is held at the number of the first entry
-absent_behind : (id : ℕ) (e : ℕ × Awaited) (es : List (ℕ × Awaited)) → id ≡ e.0 → IsStrictlySortedBy nat_cmp (keys_of (e ∷ es)) → awaited_at id es ≡ None
+absent_behind : (id : ℕ) (e : ℕ × Awaited) (es : List (ℕ × Awaited)) → id ≡ e.0 → IsStrictlySortedBy nat_cmp (keys_of (e ∷ es))
+    → awaited_at id es ≡ None
 unfolding IsStrictlySortedBy
 absent_behind id e es same sorted = rw same (absent_below e.0 es sorted.0)
 
-sorted_behind : (e : ℕ × Awaited) (es : List (ℕ × Awaited)) → IsStrictlySortedBy nat_cmp (keys_of (e ∷ es)) → IsStrictlySortedBy nat_cmp (keys_of es)
+sorted_behind : (e : ℕ × Awaited) (es : List (ℕ × Awaited)) → IsStrictlySortedBy nat_cmp (keys_of (e ∷ es))
+    → IsStrictlySortedBy nat_cmp (keys_of es)
 unfolding IsStrictlySortedBy
 sorted_behind e es sorted = sorted.1
 
 -- an answer to a session that waits for one takes it out
-pub after_answer-closed : (id : ℕ) (a : Awaited) (entries : List (ℕ × Awaited)) → IsStrictlySortedBy nat_cmp (keys_of entries) → awaited_at id entries ≡ Some a
+pub after_answer-closed : (id : ℕ) (a : Awaited) (entries : List (ℕ × Awaited)) → IsStrictlySortedBy nat_cmp (keys_of entries)
+    → awaited_at id entries ≡ Some a
     → (a.waiting == 1) ≡ true → sessions_of (remove_entry (is_at (nat_cmp id)) entries) ≡ after_answer id (sessions_of entries)
 after_answer-closed id a [] sorted found last = refl
 after_answer-closed id a (e ∷ es) sorted found last =
     step (id == e.0) refl (after_answer-closed id a es (sorted_behind e es sorted))
   where
     step : (b : Bool) → (id == e.0) ≡ b
-        → (awaited_at id es ≡ Some a → (a.waiting == 1) ≡ true → sessions_of (remove_entry (is_at (nat_cmp id)) es) ≡ after_answer id (sessions_of es))
+        → (awaited_at id es ≡ Some a → (a.waiting == 1) ≡ true
+        → sessions_of (remove_entry (is_at (nat_cmp id)) es) ≡ after_answer id (sessions_of es))
         → sessions_of (remove_entry (is_at (nat_cmp id)) (e ∷ es)) ≡ after_answer id (sessions_of (e ∷ es))
     step true is rest =
         let here : Some e.1 ≡ Some a = rw (unsigned_tied id e.0, is) at found in
@@ -90,19 +99,24 @@ after_answer-closed id a (e ∷ es) sorted found last =
         rw (unsigned_tied id e.0, is) (ap (λ l. session e.0 e.1 ∷ l) (rest behind last))
 
 -- an answer to a session that waits for more leaves it with one less
-pub after_answer-open : (id : ℕ) (a : Awaited) (entries : List (ℕ × Awaited)) → IsStrictlySortedBy nat_cmp (keys_of entries) → awaited_at id entries ≡ Some a
-    → (a.waiting == 1) ≡ false → sessions_of (set_value (is_at (nat_cmp id)) entries (record a { waiting = a.waiting - 1 })) ≡ after_answer id (sessions_of entries)
+pub after_answer-open : (id : ℕ) (a : Awaited) (entries : List (ℕ × Awaited)) → IsStrictlySortedBy nat_cmp (keys_of entries)
+    → awaited_at id entries ≡ Some a
+    → (a.waiting == 1) ≡ false → sessions_of (set_value (is_at (nat_cmp id)) entries (record a { waiting = a.waiting - 1 }))
+    ≡ after_answer id (sessions_of entries)
 after_answer-open id a [] sorted found more = refl
 after_answer-open id a (e ∷ es) sorted found more = step (id == e.0) refl (after_answer-open id a es (sorted_behind e es sorted))
   where
     step : (b : Bool) → (id == e.0) ≡ b
-        → (awaited_at id es ≡ Some a → (a.waiting == 1) ≡ false → sessions_of (set_value (is_at (nat_cmp id)) es (record a { waiting = a.waiting - 1 })) ≡ after_answer id (sessions_of es))
-        → sessions_of (set_value (is_at (nat_cmp id)) (e ∷ es) (record a { waiting = a.waiting - 1 })) ≡ after_answer id (sessions_of (e ∷ es))
+        → (awaited_at id es ≡ Some a → (a.waiting == 1) ≡ false
+        → sessions_of (set_value (is_at (nat_cmp id)) es (record a { waiting = a.waiting - 1 })) ≡ after_answer id (sessions_of es))
+        → sessions_of (set_value (is_at (nat_cmp id)) (e ∷ es) (record a { waiting = a.waiting - 1 }))
+        ≡ after_answer id (sessions_of (e ∷ es))
     step true is rest =
         let here : Some e.1 ≡ Some a = rw (unsigned_tied id e.0, is) at found in
         let same : e.1 ≡ a = cc in
         let stays : (e.1.waiting == 1) ≡ false = rw same more in
-        let others : after_answer id (sessions_of es) ≡ sessions_of es = after_answer-unknown id es (absent_behind id e es (eqb-true id e.0 is) sorted) in
+        let others : after_answer id (sessions_of es) ≡ sessions_of es =
+            after_answer-unknown id es (absent_behind id e es (eqb-true id e.0 is) sorted) in
         rw (unsigned_tied id e.0, is, stays, others, same) refl
     step false is rest =
         let behind : awaited_at id es ≡ Some a = rw (unsigned_tied id e.0, is) at found in
@@ -112,7 +126,8 @@ after_answer-open id a (e ∷ es) sorted found more = step (id == e.0) refl (aft
 pub session_of-updated : (old new : List (ℕ × Awaited)) (id other : ℕ) (now : Option Awaited) (is : Option Session)
     → awaited_at other new ≡ cond (is_at (nat_cmp id) other) now (awaited_at other old) → option_map (session id) now ≡ is
     → session_of (sessions_of new) other ≡ (if id == other then is else session_of (sessions_of old) other)
-session_of-updated old new id other now is updated same = session_of-sessions_of new other ∙ rw (updated, unsigned_tied id other) (step (id == other) refl)
+session_of-updated old new id other now is updated same = session_of-sessions_of new other
+    ∙ rw (updated, unsigned_tied id other) (step (id == other) refl)
   where
     step : (b : Bool) → (id == other) ≡ b
         → option_map (session other) (cond b now (awaited_at other old)) ≡ cond b is (session_of (sessions_of old) other)
@@ -129,12 +144,14 @@ insert_entry-last (e ∷ es) opened a given =
     rw above (ap (λ l. e ∷ l) (insert_entry-last es opened a (All-tail (λ id. (1 ≤ id) × (id ≤ opened)) e.0 (keys_of es) given)))
 
 -- the numbers ascend
-below_behind : (id : ℕ) (entries : List (ℕ × Awaited)) → AllByRecursion (λ k. nat_cmp id k ≡ Less) (keys_of entries) → All (λ s. id < s.id) (sessions_of entries)
+below_behind : (id : ℕ) (entries : List (ℕ × Awaited)) → AllByRecursion (λ k. nat_cmp id k ≡ Less) (keys_of entries)
+    → All (λ s. id < s.id) (sessions_of entries)
 below_behind id [] below = λ k d h. absurd (omega arith)
 below_behind id (e ∷ es) below =
     All-cons (λ s. id < s.id) (session e.0 e.1) (sessions_of es) (ranked id e.0 Less (sym below.0)) (below_behind id es below.1)
 
-pub ascending : (entries : List (ℕ × Awaited)) → IsStrictlySortedBy nat_cmp (keys_of entries) → AllPairs (λ a b. a.id < b.id) (sessions_of entries)
+pub ascending : (entries : List (ℕ × Awaited)) → IsStrictlySortedBy nat_cmp (keys_of entries)
+    → AllPairs (λ a b. a.id < b.id) (sessions_of entries)
 unfolding IsStrictlySortedBy
 ascending [] sorted = λ i j d lt h. absurd (omega arith)
 ascending (e ∷ es) sorted =
@@ -143,16 +160,19 @@ ascending (e ∷ es) sorted =
 -- what holds of the numbers, or of what is kept, holds of the sessions
 pub All-ids : (P : ℕ → Type 0) (entries : List (ℕ × Awaited)) → All P (keys_of entries) → All (λ s. P s.id) (sessions_of entries)
 All-ids P [] all = λ k d h. absurd (omega arith)
-All-ids P (e ∷ es) all = All-cons (λ s. P s.id) (session e.0 e.1) (sessions_of es) (all 0 e.0 (omega arith)) (All-ids P es (All-tail P e.0 (keys_of es) all))
+All-ids P (e ∷ es) all = All-cons (λ s. P s.id) (session e.0 e.1) (sessions_of es) (all 0 e.0 (omega arith))
+    (All-ids P es (All-tail P e.0 (keys_of es) all))
 
-pub All-waiting : (P : ℕ → Type 0) (entries : List (ℕ × Awaited)) → All (λ a. P a.waiting) (values_of entries) → All (λ s. P s.waiting) (sessions_of entries)
+pub All-waiting : (P : ℕ → Type 0) (entries : List (ℕ × Awaited)) → All (λ a. P a.waiting) (values_of entries)
+    → All (λ s. P s.waiting) (sessions_of entries)
 All-waiting P [] all = λ k d h. absurd (omega arith)
 All-waiting P (e ∷ es) all =
     All-cons (λ s. P s.waiting) (session e.0 e.1) (sessions_of es) (all 0 e.1 (omega arith))
     (All-waiting P es (All-tail (λ a. P a.waiting) e.1 (values_of es) all))
 
 -- each session that is held waits for an answer
-pub waits : (id : ℕ) (a : Awaited) (entries : List (ℕ × Awaited)) → All (λ a. 1 ≤ a.waiting) (values_of entries) → awaited_at id entries ≡ Some a → 1 ≤ a.waiting
+pub waits : (id : ℕ) (a : Awaited) (entries : List (ℕ × Awaited)) → All (λ a. 1 ≤ a.waiting) (values_of entries)
+    → awaited_at id entries ≡ Some a → 1 ≤ a.waiting
 waits id a entries waiting found = rw found at (IfSome-lookup_from_All (λ a. 1 ≤ a.waiting) (is_at (nat_cmp id)) entries waiting)
 
 pub not_last : (a : Awaited) → 1 < a.waiting → (a.waiting == 1) ≡ false

@@ -25,6 +25,7 @@ pub least_leave_no_hole : (p : SettingsValue) (members : List (List ℕ)) (table
 least_leave_no_hole p members tables limits names are =
     record {
       names = names;
-      filled = λ a b slot a_member b_member fits. least_fitting_filled p.width a slot members (tables a slot) limits.width_from (are a slot a_member) b b_member fits;
+      filled = λ a b slot a_member b_member fits. least_fitting_filled p.width a slot members (tables a slot) limits.width_from
+          (are a slot a_member) b b_member fits;
       sound = λ a b slot a_member link. let w = (are a slot a_member).fitting b link in (w.1, w.0);
     }

@@ -34,7 +34,8 @@ first_comes_later passes names k name answer none_before is answers failed =
     none_before ∙ later
 
 -- the core links of a slot are the core targets that the slot of the table has
-pub core_links_of : (nodes : Nodes) (table : TableValue) (node : List ℕ) (slot : Slot) (links : SlotLinks) → nodes.table_of node ≡ Some table
+pub core_links_of : (nodes : Nodes) (table : TableValue) (node : List ℕ) (slot : Slot) (links : SlotLinks)
+    → nodes.table_of node ≡ Some table
     → slot.digit < table.settings.base → links ≡ links_at table slot
     → filter nodes.core (map (λ e. e.target) links) ≡ core_links nodes node slot
 core_links_of nodes table node slot links is below same =

@@ -40,13 +40,17 @@ distance-next base digit to below to_below apart =
     elim (next_is base digit below) [
       | inl w ↦
           elim (distance_is base digit to below to_below) [
-            | inl up ↦ elim (distance_is base (next_digit base digit) to next to_below) [ inl up' ↦ omega (arith, apart) | inr past' ↦ omega (arith, apart) ]
-            | inr past ↦ elim (distance_is base (next_digit base digit) to next to_below) [ inl up' ↦ omega (arith, apart) | inr past' ↦ omega (arith, apart) ]
+            | inl up ↦ elim (distance_is base (next_digit base digit) to next to_below)
+                [ inl up' ↦ omega (arith, apart) | inr past' ↦ omega (arith, apart) ]
+            | inr past ↦ elim (distance_is base (next_digit base digit) to next to_below)
+                [ inl up' ↦ omega (arith, apart) | inr past' ↦ omega (arith, apart) ]
           ]
       | inr w ↦
           elim (distance_is base digit to below to_below) [
-            | inl up ↦ elim (distance_is base (next_digit base digit) to next to_below) [ inl up' ↦ omega (arith, apart) | inr past' ↦ omega (arith, apart) ]
-            | inr past ↦ elim (distance_is base (next_digit base digit) to next to_below) [ inl up' ↦ omega (arith, apart) | inr past' ↦ omega (arith, apart) ]
+            | inl up ↦ elim (distance_is base (next_digit base digit) to next to_below)
+                [ inl up' ↦ omega (arith, apart) | inr past' ↦ omega (arith, apart) ]
+            | inr past ↦ elim (distance_is base (next_digit base digit) to next to_below)
+                [ inl up' ↦ omega (arith, apart) | inr past' ↦ omega (arith, apart) ]
           ]
     ]
 
@@ -58,13 +62,17 @@ distance_to_next base from digit from_below below room =
     elim (next_is base digit below) [
       | inl w ↦
           elim (distance_is base from digit from_below below) [
-            | inl up ↦ elim (distance_is base from (next_digit base digit) from_below next) [ inl up' ↦ omega arith | inr past' ↦ omega arith ]
-            | inr past ↦ elim (distance_is base from (next_digit base digit) from_below next) [ inl up' ↦ omega arith | inr past' ↦ omega arith ]
+            | inl up ↦ elim (distance_is base from (next_digit base digit) from_below next)
+                [ inl up' ↦ omega arith | inr past' ↦ omega arith ]
+            | inr past ↦ elim (distance_is base from (next_digit base digit) from_below next)
+                [ inl up' ↦ omega arith | inr past' ↦ omega arith ]
           ]
       | inr w ↦
           elim (distance_is base from digit from_below below) [
-            | inl up ↦ elim (distance_is base from (next_digit base digit) from_below next) [ inl up' ↦ omega arith | inr past' ↦ omega arith ]
-            | inr past ↦ elim (distance_is base from (next_digit base digit) from_below next) [ inl up' ↦ omega arith | inr past' ↦ omega arith ]
+            | inl up ↦ elim (distance_is base from (next_digit base digit) from_below next)
+                [ inl up' ↦ omega arith | inr past' ↦ omega arith ]
+            | inr past ↦ elim (distance_is base from (next_digit base digit) from_below next)
+                [ inl up' ↦ omega arith | inr past' ↦ omega arith ]
           ]
     ]
 
@@ -87,7 +95,8 @@ first_from_is base passes found found_below found_passes (suc left) digit below 
       | inr e ↦
           let apart : digit ≡ found → ⊥ = λ same. true≢false (sym found_passes ∙ ap passes (sym same) ∙ e) in
           let next = distance-next base digit found below found_below apart in
-          rw e (first_from_is base passes found found_below found_passes left (next_digit base digit) (next_below base digit below) (omega (arith, next))
+          rw e (first_from_is base passes found found_below found_passes left (next_digit base digit) (next_below base digit below)
+              (omega (arith, next))
           (λ other other_below other_passes.
           let other_apart : digit ≡ other → ⊥ = λ same. true≢false (sym other_passes ∙ ap passes (sym same) ∙ e) in
           let other_next = distance-next base digit other below other_below other_apart in
@@ -99,7 +108,8 @@ first_from_is base passes found found_below found_passes (suc left) digit below 
 pub first_cyclic_is : (base : ℕ) (passes : ℕ → Bool) (from found : ℕ) → from < base → found < base → passes found ≡ true
     → NonePassesBefore base passes from found → first_cyclic base passes from ≡ found
 first_cyclic_is base passes from found from_below found_below found_passes first =
-    first_from_is base passes found found_below found_passes base from from_below (distance_below base from found from_below found_below) first
+    first_from_is base passes found found_below found_passes base from from_below
+        (distance_below base from found from_below found_below) first
 
 -- a digit that does not pass is left behind
 pub none_before_next : (base : ℕ) (passes : ℕ → Bool) (from digit : ℕ) → from < base → digit < base
@@ -109,7 +119,8 @@ none_before_next base passes from digit from_below below fails first =
     λ other other_below other_passes.
     let least = first other other_below other_passes in
     let apart : cyclic_distance base from digit ≡ cyclic_distance base from other → ⊥ =
-    λ same. true≢false (sym other_passes ∙ ap passes (sym (same_distance base from digit other from_below below other_below same)) ∙ fails) in
+    λ same. true≢false (sym other_passes ∙ ap passes (sym (same_distance base from digit other from_below below other_below same)) ∙ fails)
+        in
     let other_near = distance_below base from other from_below other_below in
     let next = distance_to_next base from digit from_below below (omega (arith, least, apart, other_near)) in
     omega (arith, next, least, apart)
@@ -132,7 +143,8 @@ first_from_passes base passes target target_below h (suc left) digit below near 
       | inr e ↦
           let apart : digit ≡ target → ⊥ = λ same. true≢false (sym h ∙ ap passes (sym same) ∙ e) in
           let next = distance-next base digit target below target_below apart in
-          rw e (first_from_passes base passes target target_below h left (next_digit base digit) (next_below base digit below) (omega (arith, next)))
+          rw e (first_from_passes base passes target target_below h left (next_digit base digit) (next_below base digit below)
+              (omega (arith, next)))
     ]
 
 pub first_cyclic_passes : (base : ℕ) (passes : ℕ → Bool) (target from : ℕ) → target < base → passes target ≡ true

@@ -14,7 +14,8 @@ use Rattle.tap_name.proofs.Names.{has_digit-from, has_digit-to, among-All, All-a
 -- the first digit at which two names differ decides
 pub as_near_at : (base : ℕ) (object a b : List ℕ) (level : ℕ) → take level a ≡ take level b
     → (get_or a level 0 ≡ get_or b level 0 → ⊥)
-    → cyclic_distance base (get_or object level 0) (get_or a level 0) ≤ cyclic_distance base (get_or object level 0) (get_or b level 0) → IsAsNear base object a b
+    → cyclic_distance base (get_or object level 0) (get_or a level 0) ≤ cyclic_distance base (get_or object level 0) (get_or b level 0)
+    → IsAsNear base object a b
 as_near_at base object a b level shared apart near at inside at_shared =
     elim (cases_lt level at) [
       | inl more ↦ absurd (apart (same_at level at a b more at_shared))
@@ -45,14 +46,16 @@ shared_between p object a b c object_name a_name b_name c_name near next (suc le
     let high = next level in_object after in
     let ends = ap (cyclic_distance p.base (get_or object level 0)) (same_at level many a c (omega arith) shared) in
     let same = same_distance p.base (get_or object level 0) (get_or a level 0) (get_or b level 0) (object_name.below level 0 in_object)
-    (a_name.below level 0 (omega (arith, a_name.len))) (b_name.below level 0 (omega (arith, b_name.len))) (omega (arith, low, high, ends)) in
+    (a_name.below level 0 (omega (arith, a_name.len))) (b_name.below level 0 (omega (arith, b_name.len)))
+        (omega (arith, low, high, ends)) in
     rw add-one at (share_more p level a b a_name b_name inside before same)
 
 -- to be as near is transitive
 pub as_near-trans : (p : SettingsValue) (object a b c : List ℕ) → IsName p object → IsName p a → IsName p b → IsName p c
     → IsAsNear p.base object a b → IsAsNear p.base object b c → IsAsNear p.base object a c
 as_near-trans p object a b c object_name a_name b_name c_name near next level inside shared =
-    let before = shared_between p object a b c object_name a_name b_name c_name near next level level (omega arith) (omega (arith, object_name.len)) shared in
+    let before = shared_between p object a b c object_name a_name b_name c_name near next level level (omega arith)
+        (omega (arith, object_name.len)) shared in
     let low = near level inside before in
     let high = next level inside (sym before ∙ shared) in
     omega (arith, low, high)
@@ -89,7 +92,8 @@ left_more p object nearest level names inside left =
       valid = λ x h. left.valid x (among-filter test names x h).0;
       share = λ x h.
           let w = among-filter test names x h in
-          share_more p level nearest x (left.valid nearest left.here) (left.valid x w.0) inside (left.share x w.0) (sym (eqb-true (get_or x level 0) (get_or nearest level 0) w.1));
+          share_more p level nearest x (left.valid nearest left.here) (left.valid x w.0) inside (left.share x w.0)
+              (sym (eqb-true (get_or x level 0) (get_or nearest level 0) w.1));
       near = λ x h. left.near x (among-filter test names x h).0;
     }
 
@@ -106,7 +110,9 @@ narrowed_to_nearest p object nearest (wanted ∷ more) level names object_name l
     let head : wanted ≡ get_or object level 0 = cc in
     let tail : more ≡ drop (level + 1) object = cc in
     let digit = ap (first_cyclic p.base (has_digit names level)) head ∙ kept_digit p object nearest level names object_name inside left in
-    rw digit (narrowed_to_nearest p object nearest more (level + 1) (filter (λ x. get_or x level 0 == get_or nearest level 0) names) object_name (omega arith) tail (left_more p object nearest level names inside left))
+    rw digit (narrowed_to_nearest p object nearest more (level + 1)
+        (filter (λ x. get_or x level 0 == get_or nearest level 0) names) object_name (omega arith) tail
+            (left_more p object nearest level names inside left))
 
 narrowed-nil : (base level : ℕ) (more : List ℕ) → narrowed base level more [] ≡ []
 narrowed-nil base level [] = refl
@@ -121,10 +127,12 @@ pub nearest_is_root : (p : SettingsValue) (names : List (List ℕ)) (object near
     → IsName p object → Among nearest names
     → ((x : List ℕ) → Among x names → IsAsNear p.base object nearest x) → root p.base names object ≡ Some nearest
 nearest_is_root p names object nearest valid object_name here near =
-    narrowed_to_nearest p object nearest object 0 names object_name (omega (arith, object_name.len)) refl (record { here = here; valid = valid; share = λ x h. refl; near = near })
+    narrowed_to_nearest p object nearest object 0 names object_name (omega (arith, object_name.len)) refl
+        (record { here = here; valid = valid; share = λ x h. refl; near = near })
 
 -- The nearest of the names that were seen so far: the first one, and as many of the others as the index says.
-pub record IsNearestSeen (p : SettingsValue) (object : List ℕ) (names : List (List ℕ)) (first : List ℕ) (others : List (List ℕ)) (i : ℕ) (nearest : List ℕ) : Type 0 where
+pub record IsNearestSeen (p : SettingsValue) (object : List ℕ) (names : List (List ℕ)) (first : List ℕ) (others : List (List ℕ)) (i : ℕ)
+    (nearest : List ℕ) : Type 0 where
   pub among : Among nearest names
   pub near : All (IsAsNear p.base object nearest) (first ∷ take i others)
 
@@ -134,7 +142,8 @@ pub first_is_nearest : (p : SettingsValue) (object : List ℕ) (names : List (Li
 first_is_nearest p object names first others split =
     record {
       among = rw split (inl refl);
-      near = All-cons (IsAsNear p.base object first) first [] (as_near_same p.base object first first (length object) (omega arith) refl) (All-nil (IsAsNear p.base object first));
+      near = All-cons (IsAsNear p.base object first) first [] (as_near_same p.base object first first (length object) (omega arith) refl)
+          (All-nil (IsAsNear p.base object first));
     }
 
 pub item_among : (names : List (List ℕ)) (first : List ℕ) (others : List (List ℕ)) (i : ℕ) (item : List ℕ)
@@ -172,7 +181,8 @@ nearest_changes p object names first others i item nearest valid object_name spl
     (among-All (IsAsNear p.base object nearest) (first ∷ take i others) seen.near x h)) in
     record {
       among = among;
-      near = one_more (IsAsNear p.base object item) first others i item inside is before (as_near_same p.base object item item (length object) (omega arith) refl);
+      near = one_more (IsAsNear p.base object item) first others i item inside is before
+          (as_near_same p.base object item item (length object) (omega arith) refl);
     }
 
 -- all names were seen
@@ -183,4 +193,5 @@ pub nearest_seen_is_root : (p : SettingsValue) (object : List ℕ) (names : List
 nearest_seen_is_root p object names first others i nearest valid object_name split end seen =
     let all = take_all i others end in
     let near : All (IsAsNear p.base object nearest) (first ∷ others) = rw all at seen.near in
-    nearest_is_root p names object nearest valid object_name seen.among (λ x h. among-All (IsAsNear p.base object nearest) (first ∷ others) near x (rw split at h))
+    nearest_is_root p names object nearest valid object_name seen.among
+        (λ x h. among-All (IsAsNear p.base object nearest) (first ∷ others) near x (rw split at h))

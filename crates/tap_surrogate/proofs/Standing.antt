@@ -46,7 +46,8 @@ fits_where_it_stands p owner b slot is_owner below inside stands =
     slot_of_other p owner b is_owner stands.is_name other ∙ ap Some same
 
 -- each target in a slot is a name that fits it
-pub target_fits : (table : TableValue) (slot : Slot) (b : List ℕ) → IsTable table → Among b (map (λ e. e.target) (links_in (Some table) slot))
+pub target_fits : (table : TableValue) (slot : Slot) (b : List ℕ) → IsTable table
+    → Among b (map (λ e. e.target) (links_in (Some table) slot))
     → Fits table.owner b slot × IsName table.settings b
 target_fits table slot b valid among =
     let p = table.settings in

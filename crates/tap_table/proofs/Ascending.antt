@@ -49,7 +49,8 @@ ascending_from_sorted members names moved sorted distinct =
     (apart_from_distinct bytes_eq names i j d names_apart before within)
 
 -- a copy of the members, sorted and then lent
-pub sorted_copy : (members copy sorted lent : List (List ℕ)) → copy ≡ members → IsPermutation copy sorted → lent ≡ sorted → IsPermutation members lent
+pub sorted_copy : (members copy sorted lent : List (List ℕ)) → copy ≡ members → IsPermutation copy sorted → lent ≡ sorted
+    → IsPermutation members lent
 sorted_copy members copy sorted lent copied moved same =
     let From : List (List ℕ) → Type 0 = λ l. IsPermutation l lent in
     let To : List (List ℕ) → Type 0 = λ l. IsPermutation copy l in subst From copied (subst To (sym same) moved)

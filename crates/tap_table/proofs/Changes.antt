@@ -27,7 +27,8 @@ on_true true P Q implies holds = implies holds
 on_true false P Q implies holds = tt
 
 -- the set of the slot in which a target stands, among the sets of a table
-pub record IsSetOf (owner : List ℕ) (p : SettingsValue) (sets : List (LinkSetValue (List ℕ))) (target : List ℕ) (number : ℕ) (old : LinkSetValue (List ℕ)) : Type 0 where
+pub record IsSetOf (owner : List ℕ) (p : SettingsValue) (sets : List (LinkSetValue (List ℕ))) (target : List ℕ) (number : ℕ)
+    (old : LinkSetValue (List ℕ)) : Type 0 where
   pub are : AreSets owner p sets
   pub is_name : IsName p target
   pub other : target ≢ owner
@@ -35,7 +36,8 @@ pub record IsSetOf (owner : List ℕ) (p : SettingsValue) (sets : List (LinkSetV
   pub here : old ≡ get_or sets number old
 
 -- its number is one of the sets
-pub number_within : (owner : List ℕ) (p : SettingsValue) (sets : List (LinkSetValue (List ℕ))) (target : List ℕ) (number : ℕ) → AreSets owner p sets
+pub number_within : (owner : List ℕ) (p : SettingsValue) (sets : List (LinkSetValue (List ℕ))) (target : List ℕ) (number : ℕ)
+    → AreSets owner p sets
     → IsName p target → target ≢ owner → number ≡ slot_number p.base (place_of owner target) → number < length sets
 number_within owner p sets target number are is_name other place =
     let inside = target_inside p owner target are.valid.owner is_name other in
@@ -43,7 +45,8 @@ number_within owner p sets target number are is_name other place =
     let len = length-map sets (λ (s : LinkSetValue (List ℕ)). s.links) in
     omega (arith, inside, count, len, place)
 
-module _ (owner : List ℕ) (p : SettingsValue) (sets : List (LinkSetValue (List ℕ))) (target : List ℕ) (number : ℕ) (old : LinkSetValue (List ℕ)) where
+module _ (owner : List ℕ) (p : SettingsValue) (sets : List (LinkSetValue (List ℕ))) (target : List ℕ) (number : ℕ)
+    (old : LinkSetValue (List ℕ)) where
   pub within : IsSetOf owner p sets target number old → number < length sets
   within is = number_within owner p sets target number is.are is.is_name is.other is.place
 
@@ -74,13 +77,15 @@ module _ (owner : List ℕ) (p : SettingsValue) (sets : List (LinkSetValue (List
   standing : IsSetOf owner p sets target number old → All (λ e. StandsIn p owner number e.target) old.links
   standing is =
       let P : ℕ → SlotLinks → Type 0 = λ n. All (λ e. StandsIn p owner n e.target) in
-      let at : P number (links_near (table_of owner p sets) target) = rw is.place (is.are.valid.standing (slot_number p.base (place_of owner target))) in
+      let at : P number (links_near (table_of owner p sets) target) =
+          rw is.place (is.are.valid.standing (slot_number p.base (place_of owner target))) in
       subst (P number) (sym (near is)) at
 
   -- the target's slot has other links, and the others have theirs
   pub changed : (is : IsSetOf owner p sets target number old) (new : LinkSetValue (List ℕ)) (change : SlotLinks → SlotLinks)
       → new ≡ record old { links = change old.links }
-      → table_of owner p (set sets number new) ≡ with_links (table_of owner p sets) target (change (links_near (table_of owner p sets) target))
+      → table_of owner p (set sets number new) ≡ with_links (table_of owner p sets) target
+      (change (links_near (table_of owner p sets) target))
   changed is new change new_is =
       let t = table_of owner p sets in
       let links : new.links ≡ change (links_near t target) = ap (λ s. s.links) new_is ∙ ap change (near is) in
@@ -94,13 +99,15 @@ module _ (owner : List ℕ) (p : SettingsValue) (sets : List (LinkSetValue (List
       let P : SlotLinks → Type 0 = All (λ e. StandsIn p owner number e.target) in
       sets-set owner p sets number new is.are (ap (λ s. s.width) new_is ∙ width is) (subst P (sym (ap (λ s. s.links) new_is)) stand) small
 
-  pub kept_same : (is : IsSetOf owner p sets target number old) (new : LinkSetValue (List ℕ)) → new ≡ old → AreSets owner p (set sets number new)
+  pub kept_same : (is : IsSetOf owner p sets target number old) (new : LinkSetValue (List ℕ)) → new ≡ old
+      → AreSets owner p (set sets number new)
   kept_same is new same =
       let small : length new.links ≤ MOST_LINKS = rw same (few is) in
       kept_as is new (λ links. links) same (standing is) small
 
   -- a link more, or none
-  pub kept-with_link : (is : IsSetOf owner p sets target number old) (new : LinkSetValue (List ℕ)) (kind : Kind) (answer : Result Bool NoMemory)
+  pub kept-with_link : (is : IsSetOf owner p sets target number old) (new : LinkSetValue (List ℕ)) (kind : Kind)
+      (answer : Result Bool NoMemory)
       → (answer ≡ Ok true → new ≡ record old { links = with_link name_cmp old.links target kind })
       → ((answer ≡ Ok true → ⊥) → new ≡ old) → length new.links ≤ MOST_LINKS → AreSets owner p (set sets number new)
   kept-with_link is new kind (Ok true) added same small =
@@ -120,7 +127,8 @@ module _ (owner : List ℕ) (p : SettingsValue) (sets : List (LinkSetValue (List
       → OnTrue answer (new ≡ record old { links = without name_cmp old.links target })
       → OnFalse answer (new ≡ old) → AreSets owner p (set sets number new)
   kept-without is new true removed same =
-      let links : length new.links ≡ length (without name_cmp old.links target) = ap (λ (s : LinkSetValue (List ℕ)). length s.links) removed in
+      let links : length new.links ≡ length (without name_cmp old.links target) =
+          ap (λ (s : LinkSetValue (List ℕ)). length s.links) removed in
       kept_as is new (λ links. without name_cmp links target) removed
       (all_targets-without name_cmp (StandsIn p owner number) old.links target (standing is))
       (omega (arith, few is, links, length-without_le old.links))
@@ -131,7 +139,8 @@ module _ (owner : List ℕ) (p : SettingsValue) (sets : List (LinkSetValue (List
       → OnTrue answer (new ≡ record old { links = with_kind name_cmp old.links target kind })
       → OnFalse answer (new ≡ old) → AreSets owner p (set sets number new)
   kept-with_kind is new kind true marked same =
-      let links : length new.links ≡ length (with_kind name_cmp old.links target kind) = ap (λ (s : LinkSetValue (List ℕ)). length s.links) marked in
+      let links : length new.links ≡ length (with_kind name_cmp old.links target kind) =
+          ap (λ (s : LinkSetValue (List ℕ)). length s.links) marked in
       let len : length (with_kind name_cmp old.links target kind) ≡ length old.links = length-map old.links _ in
       kept_as is new (λ links. with_kind name_cmp links target kind) marked
       (all_targets-with_kind name_cmp (StandsIn p owner number) old.links target kind (standing is))
@@ -150,11 +159,13 @@ pub few-with_link : (old new : LinkSetValue (List ℕ)) (target : List ℕ) (kin
     → ((answer ≡ true → ⊥) → new ≡ old) → (answer ≡ true → kind_of name_cmp old.links target ≡ None)
     → length new.links ≤ MOST_LINKS
 few-with_link old new target kind true small added same absent =
-    let links : length new.links ≡ length (with_link name_cmp old.links target kind) = ap (λ (s : LinkSetValue (List ℕ)). length s.links) (added refl) in
+    let links : length new.links ≡ length (with_link name_cmp old.links target kind) =
+        ap (λ (s : LinkSetValue (List ℕ)). length s.links) (added refl) in
     let len = length-with_link name_cmp old.links target kind (absent refl) in
     omega (arith, links, len)
 few-with_link old new target kind false small added same absent =
-    let links : length new.links ≡ length old.links = ap (λ (s : LinkSetValue (List ℕ)). length s.links) (same (λ wrong. cc)) in omega (arith, links)
+    let links : length new.links ≡ length old.links = ap (λ (s : LinkSetValue (List ℕ)). length s.links) (same (λ wrong. cc)) in
+    omega (arith, links)
 
 pub absent_from_pin : (found : Option Kind) → is_none found ≡ true → found ≡ None
 absent_from_pin None is = refl

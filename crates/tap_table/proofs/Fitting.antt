@@ -55,7 +55,8 @@ pub no_slot_of_itself : (owner : List ℕ) → slot_at owner owner ≡ None
 no_slot_of_itself owner = rw (eq-eqb (common_prefix_len nat_eq owner owner) (length owner) (prefix_of_itself owner)) refl
 
 -- another name stands in the slot of its place
-pub slot_of_other : (p : SettingsValue) (owner name : List ℕ) → IsName p owner → IsName p name → name ≢ owner → slot_at owner name ≡ Some (place_of owner name)
+pub slot_of_other : (p : SettingsValue) (owner name : List ℕ) → IsName p owner → IsName p name → name ≢ owner
+    → slot_at owner name ≡ Some (place_of owner name)
 slot_of_other p owner name is_owner is_name other =
     let inside = place_inside p owner name is_owner is_name other in
     let apart : common_prefix_len nat_eq owner name ≡ length owner → ⊥ = λ all. omega (arith, inside.0, all, is_owner.len) in

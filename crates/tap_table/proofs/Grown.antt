@@ -58,7 +58,8 @@ module _ (name : List ℕ) where
 pub all_settled : (targets : List (List ℕ)) → settled_count (settled_links targets) ≡ length targets
 all_settled [] = refl
 all_settled (x ∷ xs) =
-    let more = sum_by-cons (λ (e : Entry (List ℕ)). cond {A = ℕ} (is_settled (Some e.kind)) 1 0) (record { target = x; kind = Settled }) (settled_links xs) in
+    let more = sum_by-cons (λ (e : Entry (List ℕ)). cond {A = ℕ} (is_settled (Some e.kind)) 1 0) (record { target = x; kind = Settled })
+        (settled_links xs) in
     more ∙ omega (arith, all_settled xs)
 
 -- a table that has settled on these names
@@ -74,20 +75,24 @@ settled_on_none p owner t is =
       owner_is = ap (λ u. u.owner) is;
       settings_are = ap (λ u. u.settings) is;
       count = ap (λ u. length u.slots) is ∙ length-replicate (p.base * p.digits) [];
-      each = λ k inside. ap (λ u. get_or u.slots k []) is ∙ get_or-replicate (p.base * p.digits) k [] [] inside ∙ ap settled_links (sym (take-nil {A = List ℕ} p.width));
+      each = λ k inside. ap (λ u. get_or u.slots k []) is ∙ get_or-replicate (p.base * p.digits) k [] [] inside
+          ∙ ap settled_links (sym (take-nil {A = List ℕ} p.width));
     }
 
-pub settled_on_all : (p : SettingsValue) (owner : List ℕ) (names : List (List ℕ)) (t : TableValue) → HasSettled p owner names t → t ≡ table_at_rest p owner names
+pub settled_on_all : (p : SettingsValue) (owner : List ℕ) (names : List (List ℕ)) (t : TableValue) → HasSettled p owner names t
+    → t ≡ table_at_rest p owner names
 settled_on_all p owner names t has =
     let of : ℕ → SlotLinks = λ number. settled_links (first_fitting p owner (slot_numbered p.base number) names) in
-    let slots : t.slots ≡ map of (range_with_len 0 (p.base * p.digits)) = fill_by_all of t.slots (p.base * p.digits) [] has.count has.each in
+    let slots : t.slots ≡ map of (range_with_len 0 (p.base * p.digits)) =
+        fill_by_all of t.slots (p.base * p.digits) [] has.count has.each in
     let with_owner : List ℕ → TableValue = λ o. record { owner = o; settings = t.settings; slots = t.slots } in
     let with_settings : SettingsValue → TableValue = λ q. record { owner = owner; settings = q; slots = t.slots } in
     let with_slots : List SlotLinks → TableValue = λ l. record { owner = owner; settings = p; slots = l } in
     ap with_owner has.owner_is ∙ ap with_settings has.settings_are ∙ ap with_slots slots
 
 -- the first names of an ascending list are below the next
-pub above_the_first : (names : List (List ℕ)) (i : ℕ) (d : List ℕ) → AllPairs IsBelow names → i < length names → IsAbove (get_or names i d) (take i names)
+pub above_the_first : (names : List (List ℕ)) (i : ℕ) (d : List ℕ) → AllPairs IsBelow names → i < length names
+    → IsAbove (get_or names i d) (take i names)
 above_the_first names i d ascending within =
     let name = get_or names i d in
     All-from_get_or (λ target. IsBelow target name) (take i names) d
@@ -129,7 +134,8 @@ module _ (p : SettingsValue) (owner : List ℕ) (names : List (List ℕ)) (i : �
       ≡ cond (nat_lt (length targets) p.width) (targets ++ name ∷ []) targets
   fitting_here is_owner is_name within is other k here =
       let slot = slot_numbered p.base mine in
-      let fits : is_slot slot (slot_at owner (get_or names i name)) ≡ true = rw (← is) (fits_own p owner name mine is_owner is_name other refl) in
+      let fits : is_slot slot (slot_at owner (get_or names i name))
+          ≡ true = rw (← is) (fits_own p owner name mine is_owner is_name other refl) in
       let more = fitting-push owner slot names i name within fits in
       let at : ℕ → List (List ℕ) = λ n. first_fitting p owner (slot_numbered p.base n) (take (i + 1) names) in
       ap at here ∙ ap (take p.width) more ∙ ap (λ x. take p.width (fitting owner slot (take i names) ++ x ∷ [])) (sym is)
@@ -139,14 +145,17 @@ module _ (p : SettingsValue) (owner : List ℕ) (names : List (List ℕ)) (i : �
       → first_fitting p owner (slot_numbered p.base k) (take (i + 1) names) ≡ first_fitting p owner (slot_numbered p.base k) (take i names)
   fitting_elsewhere is_owner is_name within is other k ne =
       let slot = slot_numbered p.base k in
-      let fails : is_slot slot (slot_at owner (get_or names i name)) ≡ false = rw (← is) (fits_no_other p owner name k is_owner is_name other ne) in
+      let fails : is_slot slot (slot_at owner (get_or names i name))
+          ≡ false = rw (← is) (fits_no_other p owner name k is_owner is_name other ne) in
       ap (take p.width) (fitting-skip owner slot names i name within fails)
 
   number_is : HasSettled p owner (take i names) old → slot_number old.settings.base (place_of old.owner name) ≡ mine
   number_is has =
-      ap (λ (q : SettingsValue). slot_number q.base (place_of old.owner name)) has.settings_are ∙ ap (λ o. slot_number p.base (place_of o name)) has.owner_is
+      ap (λ (q : SettingsValue). slot_number q.base (place_of old.owner name)) has.settings_are
+          ∙ ap (λ o. slot_number p.base (place_of o name)) has.owner_is
 
-  near_is : HasSettled p owner (take i names) old → IsName p owner → IsName p name → name ≢ owner → links_near old name ≡ settled_links targets
+  near_is : HasSettled p owner (take i names) old → IsName p owner → IsName p name → name ≢ owner
+      → links_near old name ≡ settled_links targets
   near_is has is_owner is_name other =
       ap (λ n. get_or old.slots n []) (number_is has) ∙ has.each mine (target_inside p owner name is_owner is_name other)
 
@@ -157,7 +166,8 @@ module _ (p : SettingsValue) (owner : List ℕ) (names : List (List ℕ)) (i : �
       ∙ ap (λ n. nat_lt n old.settings.width) (all_settled targets)
       ∙ ap (λ (q : SettingsValue). nat_lt (length targets) q.width) has.settings_are
 
-  same_after : HasSettled p owner (take i names) old → IsName p owner → IsName p name → i < length names → name ≡ get_or names i name → name ≢ owner
+  same_after : HasSettled p owner (take i names) old → IsName p owner → IsName p name → i < length names → name ≡ get_or names i name
+      → name ≢ owner
       → nat_lt (length targets) p.width ≡ false → new ≡ old → HasSettled p owner (take (i + 1) names) new
   same_after has is_owner is_name within is other full same =
       record {
@@ -170,12 +180,15 @@ module _ (p : SettingsValue) (owner : List ℕ) (names : List (List ℕ)) (i : �
               ap (λ u. get_or u.slots k []) same ∙ has.each k inside
               ∙ ap (λ n. settled_links (first_fitting p owner (slot_numbered p.base n) (take i names))) here ∙ ap settled_links (sym now)
           | inr ne ↦
-              ap (λ u. get_or u.slots k []) same ∙ has.each k inside ∙ ap settled_links (sym (fitting_elsewhere is_owner is_name within is other k ne))
+              ap (λ u. get_or u.slots k []) same ∙ has.each k inside
+                  ∙ ap settled_links (sym (fitting_elsewhere is_owner is_name within is other k ne))
         ];
       }
 
-  more_after : HasSettled p owner (take i names) old → IsName p owner → IsName p name → i < length names → name ≡ get_or names i name → name ≢ owner
-      → nat_lt (length targets) p.width ≡ true → new ≡ with_links old name (settled_links (targets ++ name ∷ [])) → HasSettled p owner (take (i + 1) names) new
+  more_after : HasSettled p owner (take i names) old → IsName p owner → IsName p name → i < length names → name ≡ get_or names i name
+      → name ≢ owner
+      → nat_lt (length targets) p.width ≡ true → new ≡ with_links old name (settled_links (targets ++ name ∷ []))
+      → HasSettled p owner (take (i + 1) names) new
   more_after has is_owner is_name within is other room grown =
       let links = settled_links (targets ++ name ∷ []) in
       let number = number_is has in
@@ -188,7 +201,8 @@ module _ (p : SettingsValue) (owner : List ℕ) (names : List (List ℕ)) (i : �
           | inl here ↦
               let now = fitting_here is_owner is_name within is other k here ∙ ap (λ b. cond b (targets ++ name ∷ []) targets) room in
               let there : mine < length old.slots = let c = has.count in omega arith in
-              ap (λ l. get_or l k []) slots ∙ ap (λ n. get_or (set old.slots mine links) n []) here ∙ get_or-set_same old.slots mine links [] there
+              ap (λ l. get_or l k []) slots ∙ ap (λ n. get_or (set old.slots mine links) n []) here
+                  ∙ get_or-set_same old.slots mine links [] there
               ∙ ap settled_links (sym now)
           | inr ne ↦
               ap (λ l. get_or l k []) slots ∙ get_or-set_other old.slots mine k links [] ne ∙ has.each k inside
@@ -198,7 +212,8 @@ module _ (p : SettingsValue) (owner : List ℕ) (names : List (List ℕ)) (i : �
 
   pub settled_on_other : HasSettled p owner (take i names) old → IsName p owner → IsName p name → AllPairs IsBelow names → i < length names
       → name ≡ get_or names i name → name ≢ owner
-      → new ≡ cond (is_none (kind_in old name) && has_room_near old name) (with_links old name (with_link name_cmp (links_near old name) name Settled)) old
+      → new ≡ cond (is_none (kind_in old name) && has_room_near old name)
+      (with_links old name (with_link name_cmp (links_near old name) name Settled)) old
       → HasSettled p owner (take (i + 1) names) new
   settled_on_other has is_owner is_name ascending within is other new_is =
       let near = near_is has is_owner is_name other in

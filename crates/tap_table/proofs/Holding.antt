@@ -23,7 +23,8 @@ abbrev pub word_of : List ℕ → Entry (List ℕ) Bool
 word_of name = record { key = name; version = 0; value = true }
 
 module _ (name : List ℕ) where
-  below_all : (names : List (List ℕ)) → IsAbove name names → filter (λ e. is_lt (name_cmp e.key name)) (map word_of names) ≡ map word_of names
+  below_all : (names : List (List ℕ)) → IsAbove name names
+      → filter (λ e. is_lt (name_cmp e.key name)) (map word_of names) ≡ map word_of names
   below_all [] all = refl
   below_all (x ∷ xs) all =
       let here : name_cmp x name ≡ Less = All-head (λ t. IsBelow t name) x xs all in
@@ -41,18 +42,21 @@ module _ (name : List ℕ) where
       let here : name_cmp x name ≡ Less = All-head (λ t. IsBelow t name) x xs all in
       rw here (no_word xs (All-tail (λ t. IsBelow t name) x xs all))
 
-  pub written_last : (names : List (List ℕ)) → IsAbove name names → written name_cmp (map word_of names) (word_of name) ≡ map word_of (names ++ name ∷ [])
+  pub written_last : (names : List (List ℕ)) → IsAbove name names
+      → written name_cmp (map word_of names) (word_of name) ≡ map word_of (names ++ name ∷ [])
   written_last names all = rw (below_all names all, above_none names all) (sym (map-append word_of names (name ∷ [])))
 
 -- one name more
 module _ (p : SettingsValue) (owner : List ℕ) (names : List (List ℕ)) (i : ℕ) (name : List ℕ) where
-  pub above_holders : AllPairs IsBelow names → i < length names → name ≡ get_or names i name → IsAbove name (filter (holds p owner names) (take i names))
+  pub above_holders : AllPairs IsBelow names → i < length names → name ≡ get_or names i name
+      → IsAbove name (filter (holds p owner names) (take i names))
   above_holders ascending within is =
       let all : IsAbove name (take i names) = rw (← is) at (above_the_first names i name ascending within) in
       All-filter (holds p owner names) (λ t. IsBelow t name) (take i names) all
 
   more_holders : i < length names → name ≡ get_or names i name
-      → filter (holds p owner names) (take (i + 1) names) ≡ filter (holds p owner names) (take i names) ++ cond (holds p owner names name) (name ∷ []) []
+      → filter (holds p owner names) (take (i + 1) names) ≡ filter (holds p owner names) (take i names)
+      ++ cond (holds p owner names name) (name ∷ []) []
   more_holders within is =
       let front = filter (holds p owner names) (take i names) in
       let end : List ℕ → List (List ℕ) = λ x. front ++ cond (holds p owner names x) (x ∷ []) [] in
@@ -92,7 +96,8 @@ not_held_by_itself p owner names =
 abbrev pub among_rest : List ℕ → List ℕ → Slot → List (List ℕ) → ℕ → ℕ → Bool
 among_rest owner member slot names n left = list_any (λ link. pointwise nat_eq link owner) (take left (fitting member slot (drop n names)))
 
-module _ (owner member : List ℕ) (slot : Slot) (names : List (List ℕ)) (n : ℕ) (name : List ℕ) (within : n < length names) (is : name ≡ get_or names n name) where
+module _ (owner member : List ℕ) (slot : Slot) (names : List (List ℕ)) (n : ℕ) (name : List ℕ) (within : n < length names)
+    (is : name ≡ get_or names n name) where
   parts : drop n names ≡ name ∷ drop (n + 1) names
   parts = drop_more names n name within ∙ ap (λ x. x ∷ drop (n + 1) names) (sym is)
 
@@ -111,5 +116,6 @@ module _ (owner member : List ℕ) (slot : Slot) (names : List (List ℕ)) (n : 
       → among_rest owner member slot names n left ≡ among_rest owner member slot names (n + 1) less
   rest-other left less some fits differ = rw (parts, fits, some, differ) refl
 
-pub rest-end : (owner member : List ℕ) (slot : Slot) (names : List (List ℕ)) (n left : ℕ) → length names ≤ n → among_rest owner member slot names n left ≡ false
+pub rest-end : (owner member : List ℕ) (slot : Slot) (names : List (List ℕ)) (n left : ℕ) → length names ≤ n
+    → among_rest owner member slot names n left ≡ false
 rest-end owner member slot names n left past = rw (drop_all n names past, take-nil {A = List ℕ} left) refl

@@ -63,7 +63,8 @@ first_fitting_law_holds width owner slot members ascending =
           let w = among-filter test members link (among-take width (fitting owner slot members) link h) in
           (w.0, is_slot-to slot (slot_at owner link) w.1);
       least = λ member among fits.
-          in_front_or_above width (fitting owner slot members) pairs member (among-filter_from test members member among (is_slot-from slot (slot_at owner member) fits));
+          in_front_or_above width (fitting owner slot members) pairs member
+              (among-filter_from test members member among (is_slot-from slot (slot_at owner member) fits));
     }
 
 pub ties_law_holds : TiesLaw

@@ -23,14 +23,16 @@ module _ (t : TableValue) (name other : List ℕ) (valid : IsTable t) (is_name :
   -- where the slot's links give a name's kind by a rule, so does the table, and others have the kind that they had
   pub kind_in-with_links : (links : SlotLinks) (rule : Option Kind → Option Kind)
       → kind_of name_cmp links other
-      ≡ (if is_eq (name_cmp other name) then rule (kind_of name_cmp (links_near t name) other) else kind_of name_cmp (links_near t name) other)
+      ≡ (if is_eq (name_cmp other name) then rule (kind_of name_cmp (links_near t name) other) else kind_of name_cmp
+      (links_near t name) other)
       → kind_in (with_links t name links) other
       ≡ (if is_eq (name_cmp other name) then rule (kind_in t other) else kind_in t other)
   kind_in-with_links links rule is =
       let mine = slot_number t.settings.base (place_of t.owner name) in
       let its = slot_number t.settings.base (place_of t.owner other) in
       let count = valid.count in
-      let inside : mine < length t.slots = let below = target_inside t.settings t.owner name valid.owner is_name apart in omega (arith, below, count) in
+      let inside : mine < length t.slots = let below = target_inside t.settings t.owner name valid.owner is_name apart in
+      omega (arith, below, count) in
       elim (cases_eq its mine) [
         | inl same ↦
             let new : get_or (set t.slots mine links) its [] ≡ links = rw (same, get_or-set_same t.slots mine links [] inside) refl in
@@ -63,7 +65,8 @@ module _ (t : TableValue) (name other : List ℕ) (valid : IsTable t) (is_name :
       kind_in-with_links (with_kind name_cmp (links_near t name) name kind) (option_map (λ _. kind))
       (kind_of-with_kind name_cmp nat_list_cmp_total (links_near t name) name other kind)
 
-  pub kind_in-after_release : (answer : Released) → kind_in (with_links t name (after_release name_cmp (links_near t name) name answer)) other
+  pub kind_in-after_release : (answer : Released) → kind_in
+      (with_links t name (after_release name_cmp (links_near t name) name answer)) other
       ≡ (if is_eq (name_cmp other name) then kind_after name_cmp answer (kind_in t other) else kind_in t other)
   kind_in-after_release answer =
       kind_in-with_links (after_release name_cmp (links_near t name) name answer) (kind_after name_cmp answer)

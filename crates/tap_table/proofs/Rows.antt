@@ -44,7 +44,8 @@ length-rows base n (s ∷ sets) =
     let sum = sum_by-cons (λ (s : LinkSetValue (List ℕ)). length s.links) s sets in
     omega (arith, both, here, rest, sum)
 
-sum_le : (sets : List (LinkSetValue (List ℕ))) → All (λ s. length s.links ≤ MOST_LINKS) sets → sum_by (λ s. length s.links) sets ≤ length sets * MOST_LINKS
+sum_le : (sets : List (LinkSetValue (List ℕ))) → All (λ s. length s.links ≤ MOST_LINKS) sets
+    → sum_by (λ s. length s.links) sets ≤ length sets * MOST_LINKS
 sum_le [] few = omega arith
 sum_le (s ∷ sets) few =
     let rest = sum_le sets (All-tail (λ s. length s.links ≤ MOST_LINKS) s sets few) in
@@ -56,7 +57,8 @@ sum_le (s ∷ sets) few =
 pub links_fit : (owner : List ℕ) (p : SettingsValue) (sets : List (LinkSetValue (List ℕ))) → AreSets owner p sets
     → sum_by (λ s. length s.links) sets ≤ 640 * MOST_LINKS
 links_fit owner p sets are =
-    let few : All (λ s. length s.links ≤ MOST_LINKS) sets = All-from_get_or (λ s. length s.links ≤ MOST_LINKS) sets (record { width = 0; links = [] })
+    let few : All (λ s. length s.links ≤ MOST_LINKS) sets =
+        All-from_get_or (λ s. length s.links ≤ MOST_LINKS) sets (record { width = 0; links = [] })
     (λ i within.
     let is = links_of_set sets i (record { width = 0; links = [] }) within in
     let small = are.valid.few i in
@@ -85,15 +87,18 @@ pub place_found : (t : TableValue) (i n link : ℕ) → n < length t.slots → l
     → IsPlace t i (record { number = n; link = link })
 place_found t i n link within inside rest =
     let links = get_or t.slots n [] in
-    let front = slice_get_front (rows_of t.settings.base (n, links)) (flat_map (rows_of t.settings.base) (enumerate_from (n + 1) (drop (n + 1) t.slots))) link
+    let front = slice_get_front (rows_of t.settings.base (n, links))
+        (flat_map (rows_of t.settings.base) (enumerate_from (n + 1) (drop (n + 1) t.slots))) link
     (omega (arith, inside, length-rows_of t.settings.base n links)) in
-    record { slot = within; link = inside; same = sym rest ∙ ap (λ l. slice_get l link) (rows_more t.settings.base n t.slots within) ∙ front }
+    record { slot = within; link = inside; same = sym rest ∙ ap (λ l. slice_get l link) (rows_more t.settings.base n t.slots within)
+        ∙ front }
 
 pub place_later : (t : TableValue) (i n link less : ℕ) → n < length t.slots → less + length (get_or t.slots n []) ≡ link → IsRest t i n link
     → IsRest t i (n + 1) less
 place_later t i n link less within is rest =
     let links = get_or t.slots n [] in
-    let behind = slice_get_behind (rows_of t.settings.base (n, links)) (flat_map (rows_of t.settings.base) (enumerate_from (n + 1) (drop (n + 1) t.slots))) link less
+    let behind = slice_get_behind (rows_of t.settings.base (n, links))
+        (flat_map (rows_of t.settings.base) (enumerate_from (n + 1) (drop (n + 1) t.slots))) link less
     (omega (arith, is, length-rows_of t.settings.base n links)) in
     sym behind ∙ sym (ap (λ l. slice_get l link) (rows_more t.settings.base n t.slots within)) ∙ rest
 
@@ -101,7 +106,8 @@ pub place_within : (t : TableValue) (i n link : ℕ) → i < length (rows t) →
 place_within t i n link within rest past =
     let row = got (rows t) i within in
     let none : drop n t.slots ≡ [] = drop_all n t.slots past in
-    let nothing : slice_get (flat_map (rows_of t.settings.base) (enumerate_from n (drop n t.slots))) link ≡ None = rw none (slice_get_past [] link (omega arith)) in
+    let nothing : slice_get (flat_map (rows_of t.settings.base) (enumerate_from n (drop n t.slots))) link
+        ≡ None = rw none (slice_get_past [] link (omega arith)) in
     let wrong : None ≡ Some row.0 = sym nothing ∙ rest ∙ row.1 in
     cc
 
@@ -114,19 +120,22 @@ field_at field t i place e is found =
     slice_get-map field (rows t) i ∙ ap (option_map field) (is.same ∙ slice_get-map _ links place.link ∙ ap (option_map _) found)
 
 -- the slots of a table, from the sets that a loop goes over
-pub slots_are : (t : TableValue) (owner : List ℕ) (p : SettingsValue) (items sets : List (LinkSetValue (List ℕ))) → table_of owner p items ≡ t → sets ≡ items
+pub slots_are : (t : TableValue) (owner : List ℕ) (p : SettingsValue) (items sets : List (LinkSetValue (List ℕ)))
+    → table_of owner p items ≡ t → sets ≡ items
     → t.slots ≡ map (λ s. s.links) sets
 slots_are t owner p items sets view same = sym (ap (λ u. u.slots) view) ∙ ap (map (λ s. s.links)) (sym same)
 
 pub slots_len : (t : TableValue) (sets : List (LinkSetValue (List ℕ))) → t.slots ≡ map (λ s. s.links) sets → length t.slots ≡ length sets
 slots_len t sets are = ap length are ∙ length-map sets (λ (s : LinkSetValue (List ℕ)). s.links)
 
-pub slot_is : (t : TableValue) (sets : List (LinkSetValue (List ℕ))) (n : ℕ) (e : LinkSetValue (List ℕ)) → t.slots ≡ map (λ s. s.links) sets → n < length sets
+pub slot_is : (t : TableValue) (sets : List (LinkSetValue (List ℕ))) (n : ℕ) (e : LinkSetValue (List ℕ)) → t.slots ≡ map (λ s. s.links) sets
+    → n < length sets
     → e ≡ get_or sets n e → get_or t.slots n [] ≡ e.links
 slot_is t sets n e are within is = ap (λ l. get_or l n []) are ∙ links_of_set sets n e within ∙ sym (ap (λ s. s.links) is)
 
 -- what a set says of its link at the place
-pub at_place : {A : Type 0} (f : Entry (List ℕ) → A) (t : TableValue) (i : ℕ) (place : Place) (links : SlotLinks) (r : A) → IsPlace t i place
+pub at_place : {A : Type 0} (f : Entry (List ℕ) → A) (t : TableValue) (i : ℕ) (place : Place) (links : SlotLinks) (r : A)
+    → IsPlace t i place
     → get_or t.slots place.number [] ≡ links → slice_get (map f links) place.link ≡ Some r
     → slice_get (map (λ row. f row.entry) (rows t)) i ≡ Some r
 at_place f t i place links r is same said =

@@ -17,7 +17,8 @@ use Rattle.tap_table.specs.declared.table.TheConstants.{MOST_LINKS}
 use Rattle.tap_table.specs.Table.{AreSets, SlotLinks, TableValue, StandsIn, empty_table, place_of, slot_number, slot_numbered, table_of}
 
 -- a slot of the table has its number below the number of slots
-pub number_inside : (p : SettingsValue) (slot : Slot) → slot.level < p.digits → slot.digit < p.base → slot_number p.base slot < p.base * p.digits
+pub number_inside : (p : SettingsValue) (slot : Slot) → slot.level < p.digits → slot.digit < p.base
+    → slot_number p.base slot < p.base * p.digits
 number_inside p slot level digit = omega (arith, mul-le-mul_left p.base level)
 
 -- the slot of a number, from the number of the slot
@@ -49,13 +50,15 @@ pub links_of_set : (sets : List (LinkSetValue (List ℕ))) (number : ℕ) (d : L
 links_of_set sets number d within = get_or-map (λ s. s.links) sets number d [] within
 
 -- another set in one slot
-pub table-set : (owner : List ℕ) (p : SettingsValue) (sets : List (LinkSetValue (List ℕ))) (number : ℕ) (new : LinkSetValue (List ℕ)) (links : SlotLinks) → new.links ≡ links
+pub table-set : (owner : List ℕ) (p : SettingsValue) (sets : List (LinkSetValue (List ℕ))) (number : ℕ) (new : LinkSetValue (List ℕ))
+    (links : SlotLinks) → new.links ≡ links
     → table_of owner p (set sets number new) ≡ record (table_of owner p sets) { slots = set (map (λ s. s.links) sets) number links }
 table-set owner p sets number new links is =
     let with : List SlotLinks → TableValue = λ slots. record { owner = owner; settings = p; slots = slots } in
     ap with (map-set (λ s. s.links) sets number new ∙ ap (set (map (λ s. s.links) sets) number) is)
 
-pub sets-set : (owner : List ℕ) (p : SettingsValue) (sets : List (LinkSetValue (List ℕ))) (number : ℕ) (new : LinkSetValue (List ℕ)) → AreSets owner p sets
+pub sets-set : (owner : List ℕ) (p : SettingsValue) (sets : List (LinkSetValue (List ℕ))) (number : ℕ) (new : LinkSetValue (List ℕ))
+    → AreSets owner p sets
     → new.width ≡ p.width → All (λ e. StandsIn p owner number e.target) new.links → length new.links ≤ MOST_LINKS
     → AreSets owner p (set sets number new)
 sets-set owner p sets number new are width standing few =
@@ -64,14 +67,16 @@ sets-set owner p sets number new are width standing few =
     let changed = map-set links sets number new in
     let Stand : ℕ → SlotLinks → Type 0 = λ k. All (λ e. StandsIn p owner k e.target) in
     let Few : SlotLinks → Type 0 = λ l. length l ≤ MOST_LINKS in
-    let at : (P : ℕ → SlotLinks → Type 0) → P number new.links → ((k : ℕ) → P k (get_or slots k [])) → (k : ℕ) → P k (get_or (map links (set sets number new)) k []) = λ P here old k.
+    let at : (P : ℕ → SlotLinks → Type 0) → P number new.links → ((k : ℕ) → P k (get_or slots k [])) → (k : ℕ)
+        → P k (get_or (map links (set sets number new)) k []) = λ P here old k.
     rw changed (elim (cases_eq k number) [
       | inl is ↦
           elim (cases_lt number (length slots)) [
             | inl within ↦ rw (is, get_or-set_same slots number new.links [] within) here
             | inr past ↦
                 let none : get_or slots k [] ≡ [] = get_or_past slots k [] (omega arith) in
-                let none' : get_or (set slots number new.links) k [] ≡ [] = get_or_past (set slots number new.links) k [] (omega (arith, length-set slots number new.links)) in
+                let none' : get_or (set slots number new.links) k []
+                    ≡ [] = get_or_past (set slots number new.links) k [] (omega (arith, length-set slots number new.links)) in
                 rw none' (rw none at (old k))
           ]
       | inr ne ↦ rw (get_or-set_other slots number k new.links [] ne) (old k)
@@ -91,7 +96,8 @@ sets-set owner p sets number new are width standing few =
 abbrev pub empty_sets : SettingsValue → ℕ → List (LinkSetValue (List ℕ))
 empty_sets p n = replicate n (record { width = p.width; links = [] })
 
-pub empty_sets-more : (p : SettingsValue) (n : ℕ) (sets more : List (LinkSetValue (List ℕ))) (new : LinkSetValue (List ℕ)) → sets ≡ empty_sets p n
+pub empty_sets-more : (p : SettingsValue) (n : ℕ) (sets more : List (LinkSetValue (List ℕ))) (new : LinkSetValue (List ℕ))
+    → sets ≡ empty_sets p n
     → new ≡ record { width = p.width; links = [] } → more ≡ sets ++ new ∷ [] → more ≡ empty_sets p (n + 1)
 empty_sets-more p n sets more new so_far is grown =
     let none : LinkSetValue (List ℕ) = record { width = p.width; links = [] } in
@@ -113,7 +119,8 @@ no_links n k =
       | inr past ↦ get_or_past (replicate n []) k [] (omega (arith, length-replicate {A = SlotLinks} n []))
     ]
 
-pub empty_sets-are : (p : SettingsValue) (owner : List ℕ) → AreWithinLimits p → IsName p owner → AreSets owner p (empty_sets p (p.base * p.digits))
+pub empty_sets-are : (p : SettingsValue) (owner : List ℕ) → AreWithinLimits p → IsName p owner
+    → AreSets owner p (empty_sets p (p.base * p.digits))
 empty_sets-are p owner limits is_name =
     let count = p.base * p.digits in
     let slots = empty_slots p count in

@@ -67,7 +67,8 @@ other_leads_on t level wanted valid inside below other =
 abbrev OwnAt : TableValue → ℕ → List ℕ → Type 0
 OwnAt t level digits = (k : ℕ) → k < length digits → taken_digit t (level + k) (get_or digits k 0) ≡ get_or t.owner (level + k) 0
 
-own_cons : (t : TableValue) (level wanted : ℕ) (more : List ℕ) → taken_digit t level wanted ≡ get_or t.owner level 0 → OwnAt t (level + 1) more
+own_cons : (t : TableValue) (level wanted : ℕ) (more : List ℕ) → taken_digit t level wanted ≡ get_or t.owner level 0
+    → OwnAt t (level + 1) more
     → OwnAt t level (wanted ∷ more)
 own_cons t level wanted more first rest zero inside =
     let At : ℕ → Type 0 = λ n. taken_digit t n wanted ≡ get_or t.owner n 0 in
@@ -78,7 +79,8 @@ own_cons t level wanted more first rest (suc k) inside =
     let at : (level + 1) + k ≡ level + suc k = omega arith in
     subst At at (rest k (omega arith))
 
-own_first : (t : TableValue) (level wanted : ℕ) (more : List ℕ) → OwnAt t level (wanted ∷ more) → taken_digit t level wanted ≡ get_or t.owner level 0
+own_first : (t : TableValue) (level wanted : ℕ) (more : List ℕ) → OwnAt t level (wanted ∷ more)
+    → taken_digit t level wanted ≡ get_or t.owner level 0
 own_first t level wanted more all =
     let At : ℕ → Type 0 = λ n. taken_digit t n wanted ≡ get_or t.owner n 0 in
     let at : level + 0 ≡ level = omega arith in
@@ -90,7 +92,8 @@ own_behind t level wanted more all k inside =
     let at : level + suc k ≡ (level + 1) + k = omega arith in
     subst At at (all (suc k) (omega arith))
 
-stays : (t : TableValue) → IsTable t → (digits : List ℕ) (level : ℕ) → level + length digits ≡ t.settings.digits → All (λ d. d < t.settings.base) digits
+stays : (t : TableValue) → IsTable t → (digits : List ℕ) (level : ℕ) → level + length digits ≡ t.settings.digits
+    → All (λ d. d < t.settings.base) digits
     → (next_from t level digits ≡ Root → OwnAt t level digits) × (OwnAt t level digits → next_from t level digits ≡ Root)
 stays t valid [] level len below = (λ _ k inside. absurd (omega arith), λ _. refl)
 stays t valid (wanted ∷ more) level len below =
@@ -117,13 +120,16 @@ pub root_exactly : (t : TableValue) (level : ℕ) (object : List ℕ) → IsTabl
     → (next_from t level (drop level object) ≡ Root) ↔ TakesOwnFrom t level object
 root_exactly t level object valid is_name inside =
     let len = length-drop level object in
-    let both = stays t valid (drop level object) level (omega (arith, len, is_name.len)) (All-drop (λ d. d < t.settings.base) level object is_name.below) in
+    let both = stays t valid (drop level object) level (omega (arith, len, is_name.len))
+        (All-drop (λ d. d < t.settings.base) level object is_name.below) in
     let At : ℕ → ℕ → Type 0 = λ n d. taken_digit t n d ≡ get_or t.owner n 0 in (
       λ root at from to.
           let k_is : level + (at - level) ≡ at = omega arith in
           let own = both.0 root (at - level) (omega (arith, len)) in
-          let here : At (level + (at - level)) (get_or object (level + (at - level)) 0) = subst (At (level + (at - level))) (get_or-drop level object (at - level) 0) own in
+          let here : At (level + (at - level)) (get_or object (level + (at - level)) 0) =
+              subst (At (level + (at - level))) (get_or-drop level object (at - level) 0) own in
           let AtLevel : ℕ → Type 0 = λ n. At n (get_or object n 0) in
           subst AtLevel k_is here,
-      λ all. both.1 (λ k within. subst (At (level + k)) (sym (get_or-drop level object k 0)) (all (level + k) (omega arith) (omega (arith, len)))),
+      λ all. both.1 (λ k within. subst (At (level + k)) (sym (get_or-drop level object k 0))
+          (all (level + k) (omega arith) (omega (arith, len)))),
     )

@@ -46,7 +46,8 @@ kept_new p members owners owner name ties same rest =
     (among_last name owners owner same, subst AtRest (sym same) rest)
 
 -- one owner more
-pub kept_more : (p : SettingsValue) (members owners : List (List ℕ)) (i : ℕ) (owner name : List ℕ) (ties : TiesValue) (old new : Option TiesValue)
+pub kept_more : (p : SettingsValue) (members owners : List (List ℕ)) (i : ℕ) (owner name : List ℕ) (ties : TiesValue)
+    (old new : Option TiesValue)
     → i < length owners → owner ≡ get_or owners i owner → AreAtRest p owner members ties
     → new ≡ cond (is_eq (slice_cmp nat_cmp owner name)) (Some ties) old → IsKept p members (take i owners) name old
     → IsKept p members (take (i + 1) owners) name new
@@ -59,7 +60,8 @@ kept_more p members owners i owner name ties old new within is rest grown so_far
     let test = is_eq-slice_cmp owner name in
     subst Over (sym more) (elim (cases_Bool (bytes_eq owner name)) [
       | inl e ↦
-          subst Is (sym (grown ∙ ap given (test ∙ e))) (kept_new p members front owner name ties (sym ((bytes_eq-Decides owner name).0 e)) rest)
+          subst Is (sym (grown ∙ ap given (test ∙ e))) (kept_new p members front owner name ties
+              (sym ((bytes_eq-Decides owner name).0 e)) rest)
       | inr e ↦
           let other : name ≡ owner → ⊥ = λ same. let yes = (bytes_eq-Decides owner name).1 (sym same) in absurd (cc) in
           subst Is (sym (grown ∙ ap given (test ∙ e))) (kept_as_before p members front owner name old other so_far)
@@ -72,12 +74,14 @@ core_kept p members name None is = (λ e. absurd (cc), λ among. absurd (is amon
 core_kept p members name (Some ties) is = (λ e. is.0, λ among. refl)
 
 -- the table of a member that is kept is at rest
-pub table_kept : (p : SettingsValue) (members : List (List ℕ)) (name : List ℕ) (kept : Option TiesValue) → IsKept p members members name kept
+pub table_kept : (p : SettingsValue) (members : List (List ℕ)) (name : List ℕ) (kept : Option TiesValue)
+    → IsKept p members members name kept
     → Among name members → IsSomeAnd (option_map (λ ties. ties.table) kept) (IsTableAtRest p name members)
 table_kept p members name None is among = absurd (is among)
 table_kept p members name (Some ties) is among = is.1.table
 
-own_table : (p : SettingsValue) (members : List (List ℕ)) (name : List ℕ) (kept : Option TiesValue) (ties : TiesValue) → IsKept p members members name kept
+own_table : (p : SettingsValue) (members : List (List ℕ)) (name : List ℕ) (kept : Option TiesValue) (ties : TiesValue)
+    → IsKept p members members name kept
     → kept ≡ Some ties → IsTableOf p name ties.table
 own_table p members name None ties is there = absurd (cc)
 own_table p members name (Some found) ties is there =
@@ -86,5 +90,6 @@ own_table p members name (Some found) ties is there =
     subst Own same (rw is.1.table.is (record { owner_is = refl; settings_are = refl }))
 
 -- so each table is its own name's
-pub own_tables : (p : SettingsValue) (members : List (List ℕ)) (kept : List ℕ → Option TiesValue) → AreTiesOf p members members kept → HaveOwnTables p kept
+pub own_tables : (p : SettingsValue) (members : List (List ℕ)) (kept : List ℕ → Option TiesValue) → AreTiesOf p members members kept
+    → HaveOwnTables p kept
 own_tables p members kept are = λ name ties there. own_table p members name (kept name) ties (are name) there

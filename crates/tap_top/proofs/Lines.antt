@@ -15,7 +15,8 @@ use Rattle.tap_table.specs.Table.{Row, SlotLinks, TableValue, rows, rows_of}
 use Rattle.tap_top.specs.Lines.{line_of, lines_of, word_of}
 
 -- what is read at a place of a list of rows is that row's
-part_at : {A : Type 0} (part : Row → A) (all : List Row) (i : ℕ) (row : Row) (is : A) → i < length all → slice_get (map part all) i ≡ Some is
+part_at : {A : Type 0} (part : Row → A) (all : List Row) (i : ℕ) (row : Row) (is : A) → i < length all
+    → slice_get (map part all) i ≡ Some is
     → part (get_or all i row) ≡ is
 part_at part all i row is within read =
     sym (get_or-map part all i row (part row) within) ∙ get_or_from_slice_get (map part all) i is (part row) read
@@ -34,18 +35,22 @@ lines_more all i slot target kind old new within slot_is target_is kind_is so_fa
     let same_kind = part_at (λ r. r.entry.kind) all i row kind within kind_is in
     let line : line_of found ≡ record { slot = slot; name = target; kind = word_of kind } = rw (same_slot, same_target, same_kind) refl in
     grown ∙ ap (λ l. l ++ record { slot = slot; name = target; kind = word_of kind } ∷ []) so_far
-    ∙ ap (λ l. map line_of (take i all) ++ l ∷ []) (sym line) ∙ sym (map-append line_of (take i all) (found ∷ [])) ∙ sym (ap (map line_of) (take_more all i row within))
+    ∙ ap (λ l. map line_of (take i all) ++ l ∷ []) (sym line) ∙ sym (map-append line_of (take i all) (found ∷ []))
+    ∙ sym (ap (map line_of) (take_more all i row within))
 
-rows_below : (base : ℕ) (numbered : List (ℕ × SlotLinks)) → zero < base → All (λ row. row.slot.digit < base) (flat_map (rows_of base) numbered)
+rows_below : (base : ℕ) (numbered : List (ℕ × SlotLinks)) → zero < base
+    → All (λ row. row.slot.digit < base) (flat_map (rows_of base) numbered)
 rows_below base [] some = All-nil (λ row. row.slot.digit < base)
 rows_below base (links ∷ numbered) some =
     let Below : Row → Type 0 = λ row. row.slot.digit < base in
     rw (flat_map-cons (rows_of base) links numbered) (
     All-append Below (rows_of base links) (flat_map (rows_of base) numbered)
-    (All-map Below (λ e. record { slot = record { level = links.0 / base; digit = links.0 % base }; entry = e }) links.1 (λ i e within. mod-lt links.0 some))
+    (All-map Below (λ e. record { slot = record { level = links.0 / base; digit = links.0 % base }; entry = e }) links.1
+        (λ i e within. mod-lt links.0 some))
     (rows_below base numbered some))
 
 -- each line's digit is below the base
 pub lines_below : (table : TableValue) → zero < table.settings.base → All (λ line. line.slot.digit < table.settings.base) (lines_of table)
 lines_below table some =
-    All-map (λ line. line.slot.digit < table.settings.base) line_of (rows table) (rows_below table.settings.base (enumerate_from 0 table.slots) some)
+    All-map (λ line. line.slot.digit < table.settings.base) line_of (rows table)
+        (rows_below table.settings.base (enumerate_from 0 table.slots) some)

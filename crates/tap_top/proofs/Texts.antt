@@ -15,19 +15,22 @@ WritesText-same {old = old} {new = new} {before = before} {now = now} {first = f
     let P : List ℕ → Type 0 = λ l. WritesText old new before now l first second in subst P same writes
 
 -- all was written
-pub written_all : (old new : Option (List ℕ)) (before now : ℕ) (text : List ℕ) (without status : Status) (written : Written) → WritesText old new before now text All written
+pub written_all : (old new : Option (List ℕ)) (before now : ℕ) (text : List ℕ) (without status : Status) (written : Written)
+    → WritesText old new before now text All written
     → written ≡ All → status ≡ without → HasWritten old new before now text without status
 written_all old new before now text without status written writes is same =
     let P : Written → Type 0 = λ w. WritesText old new before now text All w in inl (same, (subst P is writes).answer)
 
 -- a write failed
-pub written_part : (old new : Option (List ℕ)) (before now : ℕ) (text : List ℕ) (without status : Status) (written : Written) → WritesText old new before now text All written
+pub written_part : (old new : Option (List ℕ)) (before now : ℕ) (text : List ℕ) (without status : Status) (written : Written)
+    → WritesText old new before now text All written
     → written ≡ Failed → status ≡ WriteFault → HasWritten old new before now text without status
 written_part old new before now text without status written writes is fault =
     let P : Written → Type 0 = λ w. WritesText old new before now text All w in inr (fault, (subst P is writes).answer)
 
 -- the sink has counted a fault
-pub written_risen : (old new : Option (List ℕ)) (before now : ℕ) (text : List ℕ) (written : Written) → WritesText old new before now text All written
+pub written_risen : (old new : Option (List ℕ)) (before now : ℕ) (text : List ℕ) (written : Written)
+    → WritesText old new before now text All written
     → written ≡ Failed → HasRisen before now
 written_risen old new before now text written writes is =
     let P : Written → Type 0 = λ w. WritesText old new before now text All w in (subst P is writes).answer.risen

@@ -10,7 +10,8 @@ use Rattle.tap_name.proofs.Slots.{same_slot}
 use Rattle.tap_watch.specs.Level.{level_slots, levels_slots}
 
 -- two ascending lists, the first before the second
-ascends-append : (xs ys : List Slot) → IsAscending xs → IsAscending ys → ((s t : Slot) → Contains xs s → Contains ys t → Precedes s t) → IsAscending (xs ++ ys)
+ascends-append : (xs ys : List Slot) → IsAscending xs → IsAscending ys → ((s t : Slot) → Contains xs s → Contains ys t → Precedes s t)
+    → IsAscending (xs ++ ys)
 ascends-append xs ys ax ay across i j d lt within =
     let n = length xs in
     let total = length-append xs ys in
@@ -19,7 +20,8 @@ ascends-append xs ys ax ay across i j d lt within =
       | inr high ↦ elim (cases_lt i n) [
         | inl low ↦
             rw (get_or_append_left xs ys d i low, get_or-append_right xs ys n j d refl high)
-            (across (get_or xs i d) (get_or ys (j - n) d) (i, low, at_default xs i d low) (j - n, omega arith, at_default ys (j - n) d (omega arith)))
+            (across (get_or xs i d) (get_or ys (j - n) d) (i, low, at_default xs i d low)
+                (j - n, omega arith, at_default ys (j - n) d (omega arith)))
         | inr over ↦
             rw (get_or-append_right xs ys n i d refl over, get_or-append_right xs ys n j d refl high)
             (ay (i - n) (j - n) d (omega arith) (omega arith))
@@ -60,7 +62,8 @@ from_level level own (suc bound) s here =
                 record { level = before.level; digit = omega (arith, before.digit); other = before.other }
             | inr right ↦
                 let is = single_is x s right in
-                subst (IsIn level own (suc bound)) is (record { level = refl; digit = omega arith; other = λ e. absurd (grind (arith, nat_tests)) })
+                subst (IsIn level own (suc bound)) is (record { level = refl; digit = omega arith; other =
+                    λ e. absurd (grind (arith, nat_tests)) })
           ]
     ]
 
@@ -74,8 +77,10 @@ to_level level own (suc bound) s h =
           rw own_digit (to_level level own bound s (record { level = h.level; digit = omega (arith, h.digit, h.other); other = h.other }))
       | inr another ↦ rw another
           (elim (cases_lt s.digit bound) [
-            | inl low ↦ Contains-append_left (level_slots level own bound) (x ∷ []) s (to_level level own bound s (record { level = h.level; digit = low; other = h.other }))
-            | inr top ↦ Contains-append_right (level_slots level own bound) (x ∷ []) s (single x s (sym (same_slot s x h.level (omega (arith, h.digit)))))
+            | inl low ↦ Contains-append_left (level_slots level own bound) (x ∷ []) s
+                (to_level level own bound s (record { level = h.level; digit = low; other = h.other }))
+            | inr top ↦ Contains-append_right (level_slots level own bound) (x ∷ []) s
+                (single x s (sym (same_slot s x h.level (omega (arith, h.digit)))))
           ])
     ]
 
@@ -84,7 +89,8 @@ level_len_below level own zero le = refl
 level_len_below level own (suc bound) le =
     elim (cases_Bool (eqb bound own)) [
       | inl own_digit ↦ let e = eqb-true bound own own_digit in absurd (omega arith)
-      | inr another ↦ rw another (omega (arith, length-append (level_slots level own bound) (at level bound ∷ []), level_len_below level own bound (omega arith)))
+      | inr another ↦ rw another (omega (arith, length-append (level_slots level own bound) (at level bound ∷ []),
+          level_len_below level own bound (omega arith)))
     ]
 
 level_len : (level own bound : ℕ) → own < bound → length (level_slots level own bound) + 1 ≡ bound
@@ -94,7 +100,8 @@ level_len level own (suc bound) lt =
       | inl own_digit ↦ let e = eqb-true bound own own_digit in rw own_digit (omega (arith, level_len_below level own bound (omega arith)))
       | inr another ↦
           let e = eqb-false bound own another in
-          rw another (omega (arith, length-append (level_slots level own bound) (at level bound ∷ []), level_len level own bound (omega arith)))
+          rw another (omega (arith, length-append (level_slots level own bound) (at level bound ∷ []),
+              level_len level own bound (omega arith)))
     ]
 
 one_ascends : (x : Slot) → IsAscending (x ∷ [])
@@ -105,7 +112,8 @@ level_ascends level own zero = λ i j d lt within. absurd (omega arith)
 level_ascends level own (suc bound) =
     elim (cases_Bool (eqb bound own)) [
       | inl own_digit ↦ rw own_digit (level_ascends level own bound)
-      | inr another ↦ rw another (ascends-append (level_slots level own bound) (at level bound ∷ []) (level_ascends level own bound) (one_ascends (at level bound)) (λ s t left right.
+      | inr another ↦ rw another (ascends-append (level_slots level own bound) (at level bound ∷ []) (level_ascends level own bound)
+          (one_ascends (at level bound)) (λ s t left right.
           let is = single_is (at level bound) t right in
           let before = from_level level own bound s left in
           subst (Precedes s) is (record { level = omega (arith, before.level); digit = λ _. before.digit })))
@@ -117,7 +125,8 @@ pub record IsBelow (base : ℕ) (joiner : List ℕ) (levels : ℕ) (s : Slot) : 
   pub digit : s.digit < base
   pub other : s.digit ≢ slice_index joiner s.level
 
-pub from_levels : (base : ℕ) (joiner : List ℕ) (levels : ℕ) (s : Slot) → Contains (levels_slots base joiner levels) s → IsBelow base joiner levels s
+pub from_levels : (base : ℕ) (joiner : List ℕ) (levels : ℕ) (s : Slot) → Contains (levels_slots base joiner levels) s
+    → IsBelow base joiner levels s
 from_levels base joiner zero s (k, lt, e) = absurd (omega arith)
 from_levels base joiner (suc level) s here =
     let own = slice_index joiner level in
@@ -130,7 +139,8 @@ from_levels base joiner (suc level) s here =
           record { level = omega (arith, is.level); digit = is.digit; other = λ e. is.other (e ∙ ap (slice_index joiner) is.level) }
     ]
 
-pub to_levels : (base : ℕ) (joiner : List ℕ) (levels : ℕ) (s : Slot) → IsBelow base joiner levels s → Contains (levels_slots base joiner levels) s
+pub to_levels : (base : ℕ) (joiner : List ℕ) (levels : ℕ) (s : Slot) → IsBelow base joiner levels s
+    → Contains (levels_slots base joiner levels) s
 to_levels base joiner zero s h = absurd (omega (arith, h.level))
 to_levels base joiner (suc level) s h =
     let own = slice_index joiner level in
@@ -140,19 +150,22 @@ to_levels base joiner (suc level) s h =
       | inr top ↦
           let e : s.level ≡ level = omega (arith, h.level) in
           Contains-append_right (levels_slots base joiner level) (level_slots level own base) s
-          (to_level level own base s (record { level = e; digit = h.digit; other = λ same. h.other (same ∙ sym (ap (slice_index joiner) e)) }))
+          (to_level level own base s (record { level = e; digit = h.digit; other =
+              λ same. h.other (same ∙ sym (ap (slice_index joiner) e)) }))
     ]
 
 pub levels_ascend : (base : ℕ) (joiner : List ℕ) (levels : ℕ) → IsAscending (levels_slots base joiner levels)
 levels_ascend base joiner zero = λ i j d lt within. absurd (omega arith)
 levels_ascend base joiner (suc level) =
     let own = slice_index joiner level in
-    ascends-append (levels_slots base joiner level) (level_slots level own base) (levels_ascend base joiner level) (level_ascends level own base) (λ s t left right.
+    ascends-append (levels_slots base joiner level) (level_slots level own base) (levels_ascend base joiner level)
+        (level_ascends level own base) (λ s t left right.
     let before = from_levels base joiner level s left in
     let is = from_level level own base t right in
     record { level = omega (arith, before.level, is.level); digit = λ e. absurd (omega (arith, before.level, is.level)) })
 
-pub levels_len : (base : ℕ) (joiner : List ℕ) (levels : ℕ) → ((level : ℕ) → level < levels → slice_index joiner level < base) → length (levels_slots base joiner levels) ≡ levels * (base - 1)
+pub levels_len : (base : ℕ) (joiner : List ℕ) (levels : ℕ) → ((level : ℕ) → level < levels → slice_index joiner level < base)
+    → length (levels_slots base joiner levels) ≡ levels * (base - 1)
 levels_len base joiner zero digits = omega arith
 levels_len base joiner (suc level) digits =
     let own = slice_index joiner level in

@@ -31,7 +31,8 @@ same_cmp : (x : Slot) → slot_cmp x x ≡ Equal
 same_cmp x = grind (arith, nat_tests)
 
 -- a search that finds no place finds none that there is
-pub absent : (xs : List Slot) (x : Slot) (r : Result ℕ ℕ) → IsAscending xs → IsBinarySearchResult (λ y. slot_cmp y x) xs r → IsNone (result_ok r) → Contains xs x → ⊥
+pub absent : (xs : List Slot) (x : Slot) (r : Result ℕ ℕ) → IsAscending xs → IsBinarySearchResult (λ y. slot_cmp y x) xs r
+    → IsNone (result_ok r) → Contains xs x → ⊥
 absent xs x (Ok i) ascending found none here = absurd cc
 absent xs x (Err i) ascending found none (k, lt, e) =
     let parted = found (rises xs x ascending) in
@@ -78,7 +79,9 @@ without_at [] x i ascending here = absurd cc
 without_at (s ∷ xs) x zero ascending here =
     let same : s ≡ x = cc in
     let e = itself x in
-    subst (λ (y : Slot). without x (y ∷ xs) ≡ xs) (sym same) (rw e (behind_stay x xs (λ k d lt. subst (λ (y : Slot). Precedes y (get_or xs k d)) same (ascending 0 (suc k) d (omega arith) (omega arith)))))
+    subst (λ (y : Slot). without x (y ∷ xs) ≡ xs) (sym same)
+        (rw e (behind_stay x xs (λ k d lt. subst (λ (y : Slot). Precedes y (get_or xs k d)) same
+            (ascending 0 (suc k) d (omega arith) (omega arith)))))
 without_at (s ∷ xs) x (suc i) ascending here =
     elim (cases_lt i (length xs)) [
       | inl within ↦

@@ -23,30 +23,36 @@ use Rattle.tap_wire.proofs.Lengths.{body_length, length-body, long_body, short_e
 use Rattle.tap_wire.proofs.Openings.{HasHead, count_bytes, count_is, past_count, count_taken, opening_is, opening_parts}
 
 five : (a b c d e f : List ℕ) → a ++ b ++ c ++ (d ++ e ++ f) ≡ a ++ (b ++ (c ++ (d ++ (e ++ f))))
-five a b c d e f = append_assoc (a ++ b) c (d ++ e ++ f) ∙ append_assoc a b (c ++ (d ++ e ++ f)) ∙ ap (λ (x : List ℕ). a ++ (b ++ (c ++ x))) (append_assoc d e f)
+five a b c d e f = append_assoc (a ++ b) c (d ++ e ++ f) ∙ append_assoc a b (c ++ (d ++ e ++ f))
+    ∙ ap (λ (x : List ℕ). a ++ (b ++ (c ++ x))) (append_assoc d e f)
 
 grouped : (h d e f : List ℕ) → h ++ d ++ e ++ f ≡ h ++ (d ++ e ++ f)
 grouped h d e f = append_assoc (h ++ d) e f ∙ append_assoc h d (e ++ f) ∙ ap (λ (x : List ℕ). h ++ x) (sym (append_assoc d e f))
 
 -- a spelling piece by piece
 pub pieces : (p : SettingsValue) (frame : Frame) → spelling p frame ≡
-    version_of p ∷ code_of (kind_of frame.body) ∷ (big_bytes 2 (length (body_bytes frame.body)) ++ (count_bytes (is_long p) p.digits ++ (frame.from ++ (frame.to ++ body_bytes frame.body))))
+    version_of p ∷ code_of (kind_of frame.body) ∷ (big_bytes 2 (length (body_bytes frame.body))
+        ++ (count_bytes (is_long p) p.digits ++ (frame.from ++ (frame.to ++ body_bytes frame.body))))
 pieces p frame =
     let first = version_of p ∷ code_of (kind_of frame.body) ∷ [] in
     let len = big_bytes 2 (length (body_bytes frame.body)) in
     let count = count_bytes (is_long p) p.digits in
-    grouped (first ++ len ++ count) frame.from frame.to (body_bytes frame.body) ∙ five first len count frame.from frame.to (body_bytes frame.body)
+    grouped (first ++ len ++ count) frame.from frame.to (body_bytes frame.body)
+        ∙ five first len count frame.from frame.to (body_bytes frame.body)
 
 -- ---- what is written is read
 
 -- where the pieces of a spelling stand
 record Stands (p : SettingsValue) (frame : Frame) (bytes : List ℕ) : Type 0 where
-  pub head : HasHead p bytes (record { kind = kind_of frame.body; sender = frame.from; receiver = frame.to }) (length (body_bytes frame.body))
+  pub head : HasHead p bytes (record { kind = kind_of frame.body; sender = frame.from; receiver = frame.to })
+      (length (body_bytes frame.body))
   pub body : drop (body_start p) bytes ≡ body_bytes frame.body
   pub within : body_start p ≤ length bytes
 
 stands : (p : SettingsValue) (frame : Frame) (bytes : List ℕ) → AreWithinLimits p → IsFrame p frame
-    → bytes ≡ version_of p ∷ code_of (kind_of frame.body) ∷ (big_bytes 2 (length (body_bytes frame.body)) ++ (count_bytes (is_long p) p.digits ++ (frame.from ++ (frame.to ++ body_bytes frame.body))))
+    → bytes ≡ version_of p ∷ code_of (kind_of frame.body)
+    ∷ (big_bytes 2 (length (body_bytes frame.body)) ++ (count_bytes (is_long p) p.digits
+    ++ (frame.from ++ (frame.to ++ body_bytes frame.body))))
     → Stands p frame bytes
 stands p frame bytes limits is spelled =
     let B = body_bytes frame.body in
@@ -73,7 +79,8 @@ stands p frame bytes limits is spelled =
     let ended = length-append frame.to B in
     let number = length-bytes_high_first 2 len in
     let headed : 4 + length C ≡ head_len p = count_len (is_long p) p.digits in
-    let whole : length bytes ≡ body_start p + len = omega (arith, size, joined, counted, named, ended, number, headed, is.sender.len, is.receiver.len) in
+    let whole : length bytes ≡ body_start p + len = omega
+        (arith, size, joined, counted, named, ended, number, headed, is.sender.len, is.receiver.len) in
     record {
       head = record {
         version = byte_is bytes 0 (version_of p) (code ∷ (N ++ (C ++ names))) h0;
@@ -108,16 +115,21 @@ framed o body = Ok (record { from = o.sender; to = o.receiver; body = body })
 abbrev next_body : SettingsValue → List ℕ → Opening → Result Frame WireFault
 next_body p bytes o = in_frame (λ b. fault_of_body (faults.Field b)) (body_at p o.kind (body_start p) bytes) >>= λ body. framed o body
 
-frame_is : (p : SettingsValue) (frame : Frame) (bytes : List ℕ) → AreWithinLimits p → IsFrame p frame → IsTyped frame.body → Stands p frame bytes → frame_of p bytes ≡ Ok frame
+frame_is : (p : SettingsValue) (frame : Frame) (bytes : List ℕ) → AreWithinLimits p → IsFrame p frame → IsTyped frame.body
+    → Stands p frame bytes → frame_of p bytes ≡ Ok frame
 frame_is p frame bytes limits is typed h =
     let o : Opening = record { kind = kind_of frame.body; sender = frame.from; receiver = frame.to } in
     let opened = in_frame_is fault_of_head (opening_of p bytes) o (opening_is p bytes o (length (body_bytes frame.body)) h.head) in
-    let read = in_frame_is (λ b. fault_of_body (faults.Field b)) (body_at p (kind_of frame.body) (body_start p) bytes) frame.body (body_again p (body_start p) bytes frame.body limits h.within is.body typed h.body) in
+    let read = in_frame_is (λ b. fault_of_body (faults.Field b)) (body_at p (kind_of frame.body) (body_start p) bytes) frame.body
+        (body_again p (body_start p) bytes frame.body limits h.within is.body typed h.body) in
     bind_is (in_frame fault_of_head (opening_of p bytes)) (next_body p bytes) o (Ok frame) opened
-    (bind_is (in_frame (λ b. fault_of_body (faults.Field b)) (body_at p (kind_of frame.body) (body_start p) bytes)) (framed o) frame.body (Ok frame) read refl)
+    (bind_is (in_frame (λ b. fault_of_body (faults.Field b)) (body_at p (kind_of frame.body) (body_start p) bytes)) (framed o) frame.body
+        (Ok frame) read refl)
 
-pub reads_back : (p : SettingsValue) (frame : Frame) → AreWithinLimits p → IsFrame p frame → IsTyped frame.body → frame_of p (spelling p frame) ≡ Ok frame
-reads_back p frame limits is typed = frame_is p frame (spelling p frame) limits is typed (stands p frame (spelling p frame) limits is (pieces p frame))
+pub reads_back : (p : SettingsValue) (frame : Frame) → AreWithinLimits p → IsFrame p frame → IsTyped frame.body
+    → frame_of p (spelling p frame) ≡ Ok frame
+reads_back p frame limits is typed = frame_is p frame (spelling p frame) limits is typed
+    (stands p frame (spelling p frame) limits is (pieces p frame))
 
 -- ---- what is read was written
 
@@ -130,7 +142,8 @@ record Taken (p : SettingsValue) (bytes : List ℕ) (frame : Frame) : Type 0 whe
   pub rules : IsFrame p frame
   pub typed : IsTyped frame.body
 
-frame_taken : (p : SettingsValue) (bytes : List ℕ) (o : Opening) (body : Body) → AreWithinLimits p → All (λ b. b < 256) bytes → HasHead p bytes o (number_at 2 2 bytes)
+frame_taken : (p : SettingsValue) (bytes : List ℕ) (o : Opening) (body : Body) → AreWithinLimits p → All (λ b. b < 256) bytes
+    → HasHead p bytes o (number_at 2 2 bytes)
     → body_at p o.kind (body_start p) bytes ≡ Ok body → Taken p bytes (record { from = o.sender; to = o.receiver; body = body })
 frame_taken p bytes o body limits all h e =
     let len = number_at 2 2 bytes in
@@ -146,17 +159,24 @@ frame_taken p bytes o body limits all h e =
     let sender = name_taken head.BadDigit p bytes (head_len p) o.sender (omega (arith, h.whole)) h.sender in
     let receiver = name_taken head.BadDigit p bytes (head_len p + p.digits) o.receiver (omega (arith, h.whole)) h.receiver in
     let same : head_len p + p.digits + p.digits ≡ start = omega arith in
-    let t5 : drop (head_len p + p.digits) bytes ≡ o.receiver ++ B = receiver.0 ∙ ap (λ (xs : List ℕ). o.receiver ++ xs) (ap (λ k. drop k bytes) same ∙ read.parts) in
+    let t5 : drop (head_len p + p.digits) bytes ≡ o.receiver ++ B = receiver.0
+        ∙ ap (λ (xs : List ℕ). o.receiver ++ xs) (ap (λ k. drop k bytes) same ∙ read.parts) in
     let t4 : drop (head_len p) bytes ≡ names = sender.0 ∙ ap (λ (xs : List ℕ). o.sender ++ xs) t5 in
-    let t3 : drop 4 bytes ≡ C ++ names = count_taken (is_long p) p.digits bytes (omega (arith, h.whole)) h.count ∙ ap (λ (xs : List ℕ). C ++ xs) t4 in
-    let t2 : drop 2 bytes ≡ N ++ (C ++ names) = number_taken bytes 2 2 all (omega (arith, h.whole, four_most p)) ∙ ap (λ (xs : List ℕ). N ++ xs) t3 in
-    let t1 : drop 1 bytes ≡ code_of o.kind ∷ (N ++ (C ++ names)) = byte_taken bytes 1 (omega (arith, h.whole, four_most p)) ∙ ap (λ x. x ∷ drop 2 bytes) h.kind ∙ ap (λ (xs : List ℕ). code_of o.kind ∷ xs) t2 in
+    let t3 : drop 4 bytes ≡ C ++ names = count_taken (is_long p) p.digits bytes (omega (arith, h.whole)) h.count
+        ∙ ap (λ (xs : List ℕ). C ++ xs) t4 in
+    let t2 : drop 2 bytes ≡ N ++ (C ++ names) = number_taken bytes 2 2 all (omega (arith, h.whole, four_most p))
+        ∙ ap (λ (xs : List ℕ). N ++ xs) t3 in
+    let t1 : drop 1 bytes ≡ code_of o.kind ∷ (N ++ (C ++ names)) = byte_taken bytes 1 (omega (arith, h.whole, four_most p))
+        ∙ ap (λ x. x ∷ drop 2 bytes) h.kind ∙ ap (λ (xs : List ℕ). code_of o.kind ∷ xs) t2 in
     let t0 : bytes ≡ version_of p ∷ code_of o.kind ∷ (N ++ (C ++ names)) =
-    byte_taken bytes 0 (omega (arith, h.whole, four_most p)) ∙ ap (λ x. x ∷ drop 1 bytes) h.version ∙ ap (λ (xs : List ℕ). version_of p ∷ xs) t1 in
+    byte_taken bytes 0 (omega (arith, h.whole, four_most p)) ∙ ap (λ x. x ∷ drop 1 bytes) h.version
+        ∙ ap (λ (xs : List ℕ). version_of p ∷ xs) t1 in
     let kinds : code_of o.kind ≡ code_of (kind_of body) = ap code_of (sym read.same) in
     let spelled : bytes ≡ version_of p ∷ code_of (kind_of body) ∷ (big_bytes 2 (length B) ++ (C ++ names)) =
-    t0 ∙ ap (λ k. version_of p ∷ k ∷ (N ++ (C ++ names))) kinds ∙ ap (λ l. version_of p ∷ code_of (kind_of body) ∷ (big_bytes 2 l ++ (C ++ names))) size in
-    record { parts = spelled ∙ sym (pieces p frame); rules = record { sender = sender.1; receiver = receiver.1; body = read.rules }; typed = read.typed }
+    t0 ∙ ap (λ k. version_of p ∷ k ∷ (N ++ (C ++ names))) kinds
+        ∙ ap (λ l. version_of p ∷ code_of (kind_of body) ∷ (big_bytes 2 l ++ (C ++ names))) size in
+    record { parts = spelled ∙ sym (pieces p frame); rules = record { sender = sender.1; receiver = receiver.1; body = read.rules }; typed =
+        read.typed }
   where
     four_of : (long : Bool) → 4 ≤ cond {A = ℕ} long 5 4
     four_of true = omega arith
@@ -165,7 +185,8 @@ frame_taken p bytes o body limits all h e =
     four_most : (p : SettingsValue) → 4 ≤ head_len p
     four_most p = four_of (is_long p)
 
-pub spelled_so : (p : SettingsValue) (frame : Frame) (bytes : List ℕ) → AreWithinLimits p → All (λ b. b < 256) bytes → frame_of p bytes ≡ Ok frame
+pub spelled_so : (p : SettingsValue) (frame : Frame) (bytes : List ℕ) → AreWithinLimits p → All (λ b. b < 256) bytes
+    → frame_of p bytes ≡ Ok frame
     → (bytes ≡ spelling p frame) × IsFrame p frame × IsTyped frame.body
 spelled_so p frame bytes limits all e =
     let a = bind_ok (in_frame fault_of_head (opening_of p bytes)) (next_body p bytes) frame e in
@@ -173,11 +194,13 @@ spelled_so p frame bytes limits all e =
     let h = opening_parts p bytes a.0 (in_frame_ok fault_of_head (opening_of p bytes) a.0 a.1) in
     let read = in_frame_ok (λ b. fault_of_body (faults.Field b)) (body_at p a.0.kind (body_start p) bytes) b.0 b.1 in
     let taken = frame_taken p bytes a.0 b.0 limits all h read in
-    let all_of : Taken p bytes frame = subst (Taken p bytes) (frame_same (record { from = a.0.sender; to = a.0.receiver; body = b.0 }) frame b.2) taken in
+    let all_of : Taken p bytes frame = subst (Taken p bytes)
+        (frame_same (record { from = a.0.sender; to = a.0.receiver; body = b.0 }) frame b.2) taken in
     (all_of.parts, all_of.rules, all_of.typed)
 
 -- what an answer says of its frame
-pub is_found : (p : SettingsValue) (bytes : List ℕ) (r : Result Frame WireFault) → AreWithinLimits p → All (λ b. b < 256) bytes → ((r ≡ Err NoMemory → ⊥) → r ≡ frame_of p bytes)
+pub is_found : (p : SettingsValue) (bytes : List ℕ) (r : Result Frame WireFault) → AreWithinLimits p → All (λ b. b < 256) bytes
+    → ((r ≡ Err NoMemory → ⊥) → r ≡ frame_of p bytes)
     → IfOk r (λ frame. IsFrame p frame × (bytes ≡ spelling p frame))
 is_found p bytes (Ok frame) limits all given = let is = spelled_so p frame bytes limits all (sym (given (λ e. cc))) in (is.1, is.0)
 is_found p bytes (Err fault) limits all given = tt

@@ -48,7 +48,8 @@ four_parts a b c d = omega (arith, length-append (a ++ b ++ c) d, three_parts a 
 five_parts : (a b c d e : List ℕ) → length (a ++ b ++ c ++ d ++ e) ≡ length a + length b + length c + length d + length e
 five_parts a b c d e = omega (arith, length-append (a ++ b ++ c ++ d) e, four_parts a b c d)
 
-pub length-optional : (p : SettingsValue) (name : Option (List ℕ)) → IfSome name (IsName p) → length (optional_bytes name) ≡ optional_length p name
+pub length-optional : (p : SettingsValue) (name : Option (List ℕ)) → IfSome name (IsName p)
+    → length (optional_bytes name) ≡ optional_length p name
 length-optional p None is = refl
 length-optional p (Some name) is = omega (arith, is.len)
 
@@ -64,14 +65,16 @@ length-body p (Tell joiner prefix level session depth watch) is =
       length-slots watch,
     )
 length-body p (Hello session core links) is =
-    omega (arith, three_parts (big_bytes 4 session) (flag core ∷ []) (flat_map link_bytes links), length-bytes_high_first 4 session, length-links p links is.1.names)
+    omega (arith, three_parts (big_bytes 4 session) (flag core ∷ []) (flat_map link_bytes links), length-bytes_high_first 4 session,
+        length-links p links is.1.names)
 length-body p (Heard session) is = length-bytes_high_first 4 session
 length-body p (Ack session) is = length-bytes_high_first 4 session
 length-body p Done is = refl
 length-body p Release is = refl
 length-body p (Link version on) is = omega (arith, length-append (big_bytes 4 version) (flag on ∷ []), length-bytes_high_first 4 version)
 length-body p (Lay object server level version on) is =
-    omega (arith, five_parts object server (level ∷ []) (big_bytes 4 version) (flag on ∷ []), is.0.len, is.1.len, length-bytes_high_first 4 version)
+    omega (arith, five_parts object server (level ∷ []) (big_bytes 4 version) (flag on ∷ []), is.0.len, is.1.len,
+        length-bytes_high_first 4 version)
 length-body p (Find ticket object asker level) is =
     omega (arith, four_parts (big_bytes 4 ticket) object asker (level ∷ []), is.0.len, is.1.len, length-bytes_high_first 4 ticket)
 length-body p (Answer ticket server) is =
@@ -81,7 +84,8 @@ length-body p Left is = refl
 length-body p Gone is = refl
 length-body p Forget is = refl
 length-body p (Cast cast level session depth word) is =
-    omega (arith, five_parts (big_bytes 4 cast) (level ∷ []) (big_bytes 4 session) (big_bytes 2 depth) word, length-bytes_high_first 4 cast, length-bytes_high_first 4 session, length-bytes_high_first 2 depth)
+    omega (arith, five_parts (big_bytes 4 cast) (level ∷ []) (big_bytes 4 session) (big_bytes 2 depth) word, length-bytes_high_first 4 cast,
+        length-bytes_high_first 4 session, length-bytes_high_first 2 depth)
 length-body p (CastAck session) is = length-bytes_high_first 4 session
 
 -- ---- and its kind may have so many
@@ -93,13 +97,15 @@ parts_hold fixed size most count len positive few e =
     let product : size * ((len - fixed) / size) ≡ size * count = ap (λ k. size * k) many in
     let whole : (len - fixed) % size ≡ 0 = omega (arith, div-add-mod (len - fixed) size, product, rest) in
     and_from (nat_le fixed len) (eqb ((len - fixed) % size) 0 && nat_le ((len - fixed) / size) most) (le-leb fixed len (omega (arith, e)))
-    (and_from (eqb ((len - fixed) % size) 0) (nat_le ((len - fixed) / size) most) (eq-eqb ((len - fixed) % size) 0 whole) (le-leb ((len - fixed) / size) most (omega (arith, many, few))))
+    (and_from (eqb ((len - fixed) % size) 0) (nat_le ((len - fixed) / size) most) (eq-eqb ((len - fixed) % size) 0 whole)
+        (le-leb ((len - fixed) / size) most (omega (arith, many, few))))
 
 or_second : (a b : Bool) → b ≡ true → (a || b) ≡ true
 or_second true b e = refl
 or_second false b e = e
 
-pub long_body : (p : SettingsValue) (body : Body) → AreWithinLimits p → IsBody p body → is_length p (kind_of body) (body_length p body) ≡ true
+pub long_body : (p : SettingsValue) (body : Body) → AreWithinLimits p → IsBody p body
+    → is_length p (kind_of body) (body_length p body) ≡ true
 long_body p (Seek joiner) limits is = eq-eqb p.digits p.digits refl
 long_body p (Tell joiner prefix level session depth watch) limits is =
     parts_hold (p.digits + 8) 2 (p.digits * (p.base - 1)) (length watch) (p.digits + 8 + 2 * length watch) (omega arith) is.slots.few refl

@@ -51,15 +51,18 @@ Follow p before (l ∷ ls) = IsName p l.name × (is_next_name before l.name ≡ 
 
 -- ---- what is written is read
 
-link_is : (p : SettingsValue) (before : Option (List ℕ)) (place : ℕ) (bytes rest : List ℕ) (l : Offered) → IsName p l.name → is_next_name before l.name ≡ true
+link_is : (p : SettingsValue) (before : Option (List ℕ)) (place : ℕ) (bytes rest : List ℕ) (l : Offered) → IsName p l.name
+    → is_next_name before l.name ≡ true
     → drop place bytes ≡ l.name ++ (flag l.settled ∷ rest) → link_at p before place bytes ≡ Ok l
 link_is p before place bytes rest l is rises here =
     let after = past_name p bytes place l.name (flag l.settled ∷ rest) is here in
     let settled = flag_is (place + p.digits) bytes l.settled (byte_is bytes (place + p.digits) (flag l.settled) rest after) in
     let last : List ℕ → Bool → Result Offered Broken = λ name settled. Ok (record { name = name; settled = settled }) in
-    bind_is (name_at p place bytes) (λ name. field (is_next_name before name) place name >>= λ name. flag_at (place + p.digits) bytes >>= λ settled. last name settled) l.name (Ok l)
+    bind_is (name_at p place bytes) (λ name. field (is_next_name before name) place name >>= λ name. flag_at (place + p.digits) bytes >>=
+        λ settled. last name settled) l.name (Ok l)
     (name_is (λ at. record { at = at }) p bytes place l.name (flag l.settled ∷ rest) is here)
-    (bind_is (field (is_next_name before l.name) place l.name) (λ name. flag_at (place + p.digits) bytes >>= λ settled. last name settled) l.name (Ok l)
+    (bind_is (field (is_next_name before l.name) place l.name)
+        (λ name. flag_at (place + p.digits) bytes >>= λ settled. last name settled) l.name (Ok l)
     (field_is (is_next_name before l.name) place l.name rises)
     (bind_is (flag_at (place + p.digits) bytes) (λ settled. last l.name settled) l.settled (Ok l) settled refl))
 
@@ -70,10 +73,12 @@ links_again p [] before place bytes rest follow here = refl
 links_again p (l ∷ ls) before place bytes rest follow here =
     let after = flat_map link_bytes ls ++ rest in
     let split : drop place bytes ≡ l.name ++ (flag l.settled ∷ after) =
-    here ∙ ap (λ (xs : List ℕ). xs ++ rest) (flat_map-cons link_bytes l ls) ∙ append_assoc (link_bytes l) (flat_map link_bytes ls) rest ∙ append_assoc l.name (flag l.settled ∷ []) after in
+    here ∙ ap (λ (xs : List ℕ). xs ++ rest) (flat_map-cons link_bytes l ls) ∙ append_assoc (link_bytes l) (flat_map link_bytes ls) rest
+        ∙ append_assoc l.name (flag l.settled ∷ []) after in
     let second = past_name p bytes place l.name (flag l.settled ∷ after) follow.0 split in
     let third = past_byte bytes (place + p.digits) (flag l.settled) after second in
-    bind_is (link_at p before place bytes) (λ link. links_at p (length ls) (Some link.name) (place + p.digits + 1) bytes >>= λ links. Ok (link ∷ links)) l (Ok (l ∷ ls))
+    bind_is (link_at p before place bytes) (λ link. links_at p (length ls) (Some link.name) (place + p.digits + 1) bytes >>=
+        λ links. Ok (link ∷ links)) l (Ok (l ∷ ls))
     (link_is p before place bytes after l follow.0 follow.1 split)
     (bind_is (links_at p (length ls) (Some l.name) (place + p.digits + 1) bytes) (λ links. Ok (l ∷ links)) ls (Ok (l ∷ ls))
     (links_again p ls (Some l.name) (place + p.digits + 1) bytes rest follow.2 third) refl)
@@ -92,11 +97,14 @@ record TakesOne (p : SettingsValue) (before : Option (List ℕ)) (place : ℕ) (
   pub name : IsName p l.name
   pub rises : is_next_name before l.name ≡ true
 
-link_taken : (p : SettingsValue) (before : Option (List ℕ)) (place : ℕ) (bytes : List ℕ) (l : Offered) → place + p.digits + 1 ≤ length bytes → link_at p before place bytes ≡ Ok l → TakesOne p before place bytes l
+link_taken : (p : SettingsValue) (before : Option (List ℕ)) (place : ℕ) (bytes : List ℕ) (l : Offered) → place + p.digits + 1 ≤ length bytes
+    → link_at p before place bytes ≡ Ok l → TakesOne p before place bytes l
 link_taken p before place bytes l room e =
     let last : List ℕ → Bool → Result Offered Broken = λ name settled. Ok (record { name = name; settled = settled }) in
-    let a = bind_ok (name_at p place bytes) (λ name. field (is_next_name before name) place name >>= λ name. flag_at (place + p.digits) bytes >>= λ settled. last name settled) l e in
-    let b = bind_ok (field (is_next_name before a.0) place a.0) (λ name. flag_at (place + p.digits) bytes >>= λ settled. last name settled) l a.2 in
+    let a = bind_ok (name_at p place bytes) (λ name. field (is_next_name before name) place name >>=
+        λ name. flag_at (place + p.digits) bytes >>= λ settled. last name settled) l e in
+    let b = bind_ok (field (is_next_name before a.0) place a.0)
+        (λ name. flag_at (place + p.digits) bytes >>= λ settled. last name settled) l a.2 in
     let c = bind_ok (flag_at (place + p.digits) bytes) (λ settled. last b.0 settled) l b.2 in
     let rises = field_ok (is_next_name before a.0) place a.0 b.0 b.1 in
     let named = name_taken (λ at. record { at = at }) p bytes place a.0 (omega arith) a.1 in
@@ -107,9 +115,11 @@ link_taken p before place bytes l room e =
     let whole : drop place bytes ≡ b.0 ++ (flag c.0 ∷ drop (place + p.digits + 1) bytes) =
     named.0 ∙ ap (λ (xs : List ℕ). a.0 ++ xs) second ∙ ap (λ (xs : List ℕ). xs ++ (flag c.0 ∷ drop (place + p.digits + 1) bytes)) rises.1 in
     subst (TakesOne p before place bytes) (ok_is made l c.2)
-    (record { parts = whole; name = subst (IsName p) rises.1 named.1; rises = subst (λ name. is_next_name before name ≡ true) rises.1 rises.0 })
+    (record { parts = whole; name = subst (IsName p) rises.1 named.1; rises =
+        subst (λ name. is_next_name before name ≡ true) rises.1 rises.0 })
 
-pub links_taken : (p : SettingsValue) (count : ℕ) (before : Option (List ℕ)) (place : ℕ) (bytes : List ℕ) (ls : List Offered) → place + (p.digits + 1) * count ≤ length bytes
+pub links_taken : (p : SettingsValue) (count : ℕ) (before : Option (List ℕ)) (place : ℕ) (bytes : List ℕ) (ls : List Offered)
+    → place + (p.digits + 1) * count ≤ length bytes
     → links_at p count before place bytes ≡ Ok ls → Takes p count before place bytes ls
 unfolding links_at
 links_taken p zero before place bytes ls room e =
@@ -119,18 +129,23 @@ links_taken p zero before place bytes ls room e =
 links_taken p (suc count) before place bytes ls room e =
     let size = (p.digits + 1) * count in
     let product : (p.digits + 1) * suc count ≡ size + (p.digits + 1) = grind arith in
-    let a = bind_ok (link_at p before place bytes) (λ link. links_at p count (Some link.name) (place + p.digits + 1) bytes >>= λ links. Ok (link ∷ links)) ls e in
+    let a = bind_ok (link_at p before place bytes) (λ link. links_at p count (Some link.name) (place + p.digits + 1) bytes >>=
+        λ links. Ok (link ∷ links)) ls e in
     let l = a.0 in
     let b = bind_ok (links_at p count (Some l.name) (place + p.digits + 1) bytes) (λ links. Ok (l ∷ links)) ls a.2 in
     let one = link_taken p before place bytes l (omega (arith, product)) a.1 in
     let more = links_taken p count (Some l.name) (place + p.digits + 1) bytes b.0 (omega (arith, product)) b.1 in
     let after = drop (place + (p.digits + 1) * suc count) bytes in
     let last : drop (place + p.digits + 1 + size) bytes ≡ after = ap (λ k. drop k bytes) (omega (arith, product)) in
-    let rest : drop (place + p.digits + 1) bytes ≡ flat_map link_bytes b.0 ++ after = more.parts ∙ ap (λ (xs : List ℕ). flat_map link_bytes b.0 ++ xs) last in
+    let rest : drop (place + p.digits + 1) bytes ≡ flat_map link_bytes b.0 ++ after = more.parts
+        ∙ ap (λ (xs : List ℕ). flat_map link_bytes b.0 ++ xs) last in
     let whole : drop place bytes ≡ flat_map link_bytes (l ∷ b.0) ++ after =
-    one.parts ∙ ap (λ (xs : List ℕ). l.name ++ (flag l.settled ∷ xs)) rest ∙ sym (append_assoc l.name (flag l.settled ∷ []) (flat_map link_bytes b.0 ++ after))
-    ∙ sym (append_assoc (link_bytes l) (flat_map link_bytes b.0) after) ∙ ap (λ (xs : List ℕ). xs ++ after) (sym (flat_map-cons link_bytes l b.0)) in
-    subst (Takes p (suc count) before place bytes) (ok_is (l ∷ b.0) ls b.2) (record { parts = whole; many = ap suc more.many; follow = (one.name, one.rises, more.follow) })
+    one.parts ∙ ap (λ (xs : List ℕ). l.name ++ (flag l.settled ∷ xs)) rest
+        ∙ sym (append_assoc l.name (flag l.settled ∷ []) (flat_map link_bytes b.0 ++ after))
+    ∙ sym (append_assoc (link_bytes l) (flat_map link_bytes b.0) after)
+    ∙ ap (λ (xs : List ℕ). xs ++ after) (sym (flat_map-cons link_bytes l b.0)) in
+    subst (Takes p (suc count) before place bytes) (ok_is (l ∷ b.0) ls b.2)
+        (record { parts = whole; many = ap suc more.many; follow = (one.name, one.rises, more.follow) })
 
 -- ---- the rules of links one by one, and of all
 
@@ -145,10 +160,12 @@ follow_behind p b (l ∷ ls) follow =
     let behind = follow_behind p l.name ls follow.2 in
     All-cons (λ l. name_cmp b l.name ≡ Less) l ls here (λ k d h. nat_list_cmp_total.trans b l.name (get_or ls k d).name here (behind k d h))
 
-pub follow_ascends : (p : SettingsValue) (before : Option (List ℕ)) (ls : List Offered) → Follow p before ls → AllPairs (λ a b. name_cmp a.name b.name ≡ Less) ls
+pub follow_ascends : (p : SettingsValue) (before : Option (List ℕ)) (ls : List Offered) → Follow p before ls
+    → AllPairs (λ a b. name_cmp a.name b.name ≡ Less) ls
 follow_ascends p before [] follow = λ i j d lt within. absurd (omega arith)
 follow_ascends p before (l ∷ ls) follow =
-    AllPairs-cons (λ a b. name_cmp a.name b.name ≡ Less) l ls (follow_behind p l.name ls follow.2) (follow_ascends p (Some l.name) ls follow.2)
+    AllPairs-cons (λ a b. name_cmp a.name b.name ≡ Less) l ls (follow_behind p l.name ls follow.2)
+        (follow_ascends p (Some l.name) ls follow.2)
 
 -- the first of these links stands behind the one before
 abbrev FirstBehind : Option (List ℕ) → List Offered → Type 0
@@ -159,7 +176,8 @@ first_name : (before : Option (List ℕ)) (l : Offered) (ls : List Offered) → 
 first_name None l ls behind = refl
 first_name (Some b) l ls behind = ap is_lt (behind 0 l (omega arith))
 
-pub follow_from : (p : SettingsValue) (before : Option (List ℕ)) (ls : List Offered) → FirstBehind before ls → All (λ l. IsName p l.name) ls → AllPairs (λ a b. name_cmp a.name b.name ≡ Less) ls
+pub follow_from : (p : SettingsValue) (before : Option (List ℕ)) (ls : List Offered) → FirstBehind before ls → All (λ l. IsName p l.name) ls
+    → AllPairs (λ a b. name_cmp a.name b.name ≡ Less) ls
     → Follow p before ls
 follow_from p before [] behind names ascending = tt
 follow_from p before (l ∷ ls) behind names ascending = (

@@ -14,35 +14,43 @@ use Rattle.tap_wire.proofs.Slots.{slots_taken, follow_ascends}
 abbrev pub with_front : {X : Type 0} → List X → Result (List X) Broken → Result (List X) Broken
 with_front front read = read >>= λ xs. Ok (front ++ xs)
 
-regroup : {X : Type 0} (front : List X) (x : X) (read : Result (List X) Broken) → with_front front (read >>= λ xs. Ok (x ∷ xs)) ≡ with_front (front ++ x ∷ []) read
+regroup : {X : Type 0} (front : List X) (x : X) (read : Result (List X) Broken)
+    → with_front front (read >>= λ xs. Ok (x ∷ xs)) ≡ with_front (front ++ x ∷ []) read
 regroup {X} front x (Ok xs) = ap (λ (ys : List X). Ok ys) (sym (append_assoc front (x ∷ []) xs))
 regroup front x (Err b) = refl
 
 -- ---- slots
 
-pub slots_go_on : (p : SettingsValue) (prefix count i : ℕ) (before : Option Slot) (place : ℕ) (bytes : List ℕ) (front : List Slot) (s : Slot) (total : Result (List Slot) Broken) → i < count
+pub slots_go_on : (p : SettingsValue) (prefix count i : ℕ) (before : Option Slot) (place : ℕ) (bytes : List ℕ) (front : List Slot)
+    (s : Slot) (total : Result (List Slot) Broken) → i < count
     → slot_at p prefix before place bytes ≡ Ok s → with_front front (slots_at p prefix (count - i) before place bytes) ≡ total
     → with_front (front ++ s ∷ []) (slots_at p prefix (count - (i + 1)) (Some s) (place + 2) bytes) ≡ total
 unfolding slots_at
 slots_go_on p prefix count i before place bytes front s total lt h so_far =
     let k : count - i ≡ suc (count - (i + 1)) = omega arith in
-    let one : with_front front (slots_at p prefix (count - i) before place bytes) ≡ with_front (front ++ s ∷ []) (slots_at p prefix (count - (i + 1)) (Some s) (place + 2) bytes) =
+    let one : with_front front (slots_at p prefix (count - i) before place bytes)
+        ≡ with_front (front ++ s ∷ []) (slots_at p prefix (count - (i + 1)) (Some s) (place + 2) bytes) =
     ap (λ n. with_front front (slots_at p prefix n before place bytes)) k
-    ∙ ap (λ r. with_front front (r >>= λ slot. slots_at p prefix (count - (i + 1)) (Some slot) (place + 2) bytes >>= λ slots. Ok (slot ∷ slots))) h
+    ∙ ap (λ r. with_front front (r >>= λ slot. slots_at p prefix (count - (i + 1)) (Some slot) (place + 2) bytes >>=
+    λ slots. Ok (slot ∷ slots))) h
     ∙ regroup front s (slots_at p prefix (count - (i + 1)) (Some s) (place + 2) bytes) in
     sym one ∙ so_far
 
-pub slots_end : (p : SettingsValue) (prefix count i : ℕ) (before : Option Slot) (place : ℕ) (bytes : List ℕ) (front : List Slot) (b : Broken) (total : Result (List Slot) Broken) → i < count
-    → slot_at p prefix before place bytes ≡ Err b → with_front front (slots_at p prefix (count - i) before place bytes) ≡ total → total ≡ Err b
+pub slots_end : (p : SettingsValue) (prefix count i : ℕ) (before : Option Slot) (place : ℕ) (bytes : List ℕ) (front : List Slot)
+    (b : Broken) (total : Result (List Slot) Broken) → i < count
+    → slot_at p prefix before place bytes ≡ Err b → with_front front (slots_at p prefix (count - i) before place bytes) ≡ total
+    → total ≡ Err b
 unfolding slots_at
 slots_end p prefix count i before place bytes front b total lt h so_far =
     let k : count - i ≡ suc (count - (i + 1)) = omega arith in
     let one : with_front front (slots_at p prefix (count - i) before place bytes) ≡ Err b =
     ap (λ n. with_front front (slots_at p prefix n before place bytes)) k
-    ∙ ap (λ r. with_front front (r >>= λ slot. slots_at p prefix (count - (i + 1)) (Some slot) (place + 2) bytes >>= λ slots. Ok (slot ∷ slots))) h in
+    ∙ ap (λ r. with_front front (r >>= λ slot. slots_at p prefix (count - (i + 1)) (Some slot) (place + 2) bytes >>=
+    λ slots. Ok (slot ∷ slots))) h in
     sym so_far ∙ one
 
-pub slots_done : (p : SettingsValue) (prefix count i : ℕ) (before : Option Slot) (place : ℕ) (bytes : List ℕ) (front : List Slot) (total : Result (List Slot) Broken) → count ≤ i
+pub slots_done : (p : SettingsValue) (prefix count i : ℕ) (before : Option Slot) (place : ℕ) (bytes : List ℕ) (front : List Slot)
+    (total : Result (List Slot) Broken) → count ≤ i
     → with_front front (slots_at p prefix (count - i) before place bytes) ≡ total → total ≡ Ok front
 unfolding slots_at
 slots_done p prefix count i before place bytes front total le so_far =
@@ -52,7 +60,8 @@ slots_done p prefix count i before place bytes front total le so_far =
     sym so_far ∙ one
 
 -- slots that were read ascend
-pub slots_ascend : (p : SettingsValue) (prefix start : ℕ) (bytes : List ℕ) (ss : List Slot) → start ≤ length bytes → slots_at p prefix ((length bytes - start) / 2) None start bytes ≡ Ok ss → IsAscending ss
+pub slots_ascend : (p : SettingsValue) (prefix start : ℕ) (bytes : List ℕ) (ss : List Slot) → start ≤ length bytes
+    → slots_at p prefix ((length bytes - start) / 2) None start bytes ≡ Ok ss → IsAscending ss
 slots_ascend p prefix start bytes ss within e =
     let count = (length bytes - start) / 2 in
     let taken = slots_taken p prefix count None start bytes ss (omega arith) e in
@@ -60,29 +69,36 @@ slots_ascend p prefix start bytes ss within e =
 
 -- ---- links
 
-pub links_go_on : (p : SettingsValue) (count i : ℕ) (before : Option (List ℕ)) (place next : ℕ) (bytes : List ℕ) (front : List Offered) (l : Offered) (total : Result (List Offered) Broken) → i < count
-    → next ≡ place + p.digits + 1 → link_at p before place bytes ≡ Ok l → with_front front (links_at p (count - i) before place bytes) ≡ total
+pub links_go_on : (p : SettingsValue) (count i : ℕ) (before : Option (List ℕ)) (place next : ℕ) (bytes : List ℕ) (front : List Offered)
+    (l : Offered) (total : Result (List Offered) Broken) → i < count
+    → next ≡ place + p.digits + 1 → link_at p before place bytes ≡ Ok l
+    → with_front front (links_at p (count - i) before place bytes) ≡ total
     → with_front (front ++ l ∷ []) (links_at p (count - (i + 1)) (Some l.name) next bytes) ≡ total
 unfolding links_at
 links_go_on p count i before place next bytes front l total lt behind h so_far =
     let k : count - i ≡ suc (count - (i + 1)) = omega arith in
-    let one : with_front front (links_at p (count - i) before place bytes) ≡ with_front (front ++ l ∷ []) (links_at p (count - (i + 1)) (Some l.name) (place + p.digits + 1) bytes) =
+    let one : with_front front (links_at p (count - i) before place bytes)
+        ≡ with_front (front ++ l ∷ []) (links_at p (count - (i + 1)) (Some l.name) (place + p.digits + 1) bytes) =
     ap (λ n. with_front front (links_at p n before place bytes)) k
-    ∙ ap (λ r. with_front front (r >>= λ link. links_at p (count - (i + 1)) (Some link.name) (place + p.digits + 1) bytes >>= λ links. Ok (link ∷ links))) h
+    ∙ ap (λ r. with_front front (r >>= λ link. links_at p (count - (i + 1)) (Some link.name) (place + p.digits + 1) bytes >>=
+    λ links. Ok (link ∷ links))) h
     ∙ regroup front l (links_at p (count - (i + 1)) (Some l.name) (place + p.digits + 1) bytes) in
     ap (λ k. with_front (front ++ l ∷ []) (links_at p (count - (i + 1)) (Some l.name) k bytes)) behind ∙ sym one ∙ so_far
 
-pub links_end : (p : SettingsValue) (count i : ℕ) (before : Option (List ℕ)) (place : ℕ) (bytes : List ℕ) (front : List Offered) (b : Broken) (total : Result (List Offered) Broken) → i < count
+pub links_end : (p : SettingsValue) (count i : ℕ) (before : Option (List ℕ)) (place : ℕ) (bytes : List ℕ) (front : List Offered)
+    (b : Broken) (total : Result (List Offered) Broken) → i < count
     → link_at p before place bytes ≡ Err b → with_front front (links_at p (count - i) before place bytes) ≡ total → total ≡ Err b
 unfolding links_at
 links_end p count i before place bytes front b total lt h so_far =
     let k : count - i ≡ suc (count - (i + 1)) = omega arith in
     let one : with_front front (links_at p (count - i) before place bytes) ≡ Err b =
     ap (λ n. with_front front (links_at p n before place bytes)) k
-    ∙ ap (λ r. with_front front (r >>= λ link. links_at p (count - (i + 1)) (Some link.name) (place + p.digits + 1) bytes >>= λ links. Ok (link ∷ links))) h in
+    ∙ ap (λ r. with_front front (r >>= λ link. links_at p (count - (i + 1)) (Some link.name) (place + p.digits + 1) bytes >>=
+    λ links. Ok (link ∷ links))) h in
     sym so_far ∙ one
 
-pub links_done : (p : SettingsValue) (count i : ℕ) (before : Option (List ℕ)) (place : ℕ) (bytes : List ℕ) (front : List Offered) (total : Result (List Offered) Broken) → count ≤ i
+pub links_done : (p : SettingsValue) (count i : ℕ) (before : Option (List ℕ)) (place : ℕ) (bytes : List ℕ) (front : List Offered)
+    (total : Result (List Offered) Broken) → count ≤ i
     → with_front front (links_at p (count - i) before place bytes) ≡ total → total ≡ Ok front
 unfolding links_at
 links_done p count i before place bytes front total le so_far =

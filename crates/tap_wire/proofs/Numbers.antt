@@ -26,7 +26,8 @@ positive (suc n) = omega (arith, positive n)
 one_byte : (n a y : ℕ) → byte_at n ((a * 256) * 256 ^ n + y) ≡ byte_at n y
 one_byte zero a y = omega arith
 one_byte (suc n) a y =
-    rw (above (256 ^ suc n) a y (y / 256 ^ suc n) (y % 256 ^ suc n) (mod-lt y (positive (suc n))) (mod-add-div' y (256 ^ suc n))) (omega arith)
+    rw (above (256 ^ suc n) a y (y / 256 ^ suc n) (y % 256 ^ suc n) (mod-lt y (positive (suc n))) (mod-add-div' y (256 ^ suc n)))
+        (omega arith)
 
 shifted : (a p q y : ℕ) → q ≡ 256 * p → a * q + y ≡ (a * 256) * p + y
 shifted a p q y e = rw e (grind arith)
@@ -54,5 +55,6 @@ are_small bytes all i =
     ]
 
 -- bytes are those of the number that they are
-pub writes_back : (width : ℕ) (bytes : List ℕ) → length bytes ≡ width → All (λ b. b < 256) bytes → big_bytes width (big_number width bytes) ≡ bytes
+pub writes_back : (width : ℕ) (bytes : List ℕ) → length bytes ≡ width → All (λ b. b < 256) bytes
+    → big_bytes width (big_number width bytes) ≡ bytes
 writes_back width bytes len all = subst (λ w. big_bytes w (big_number w bytes) ≡ bytes) len (back bytes (are_small bytes all))

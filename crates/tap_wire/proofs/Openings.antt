@@ -45,13 +45,15 @@ abbrev Coded : List Kind → ℕ → Type 0
 Coded [] first = Unit {0}
 Coded (k ∷ ks) first = (code_of k ≡ first) × Coded ks (suc first)
 
-coded_at : (ks : List Kind) (first place : ℕ) (chosen : Kind) → Coded ks first → slice_get ks place ≡ Some chosen → code_of chosen ≡ first + place
+coded_at : (ks : List Kind) (first place : ℕ) (chosen : Kind) → Coded ks first → slice_get ks place ≡ Some chosen
+    → code_of chosen ≡ first + place
 coded_at [] first place chosen coded e = absurd cc
 coded_at (k ∷ ks) first zero chosen coded e = same_code k chosen e ∙ coded.0 ∙ omega arith
 coded_at (k ∷ ks) first (suc place) chosen coded e = coded_at ks (suc first) place chosen coded.1 e ∙ omega arith
 
 kinds_coded : Coded kinds 1
-kinds_coded = (refl, (refl, (refl, (refl, (refl, (refl, (refl, (refl, (refl, (refl, (refl, (refl, (refl, (refl, (refl, (refl, (refl, tt)))))))))))))))))
+kinds_coded = (refl, (refl, (refl, (refl, (refl, (refl,
+    (refl, (refl, (refl, (refl, (refl, (refl, (refl, (refl, (refl, (refl, (refl, tt)))))))))))))))))
 
 pub code_back : (code : ℕ) (chosen : Kind) → kind_of_code code ≡ Some chosen → code_of chosen ≡ code
 code_back zero chosen e = absurd cc
@@ -59,11 +61,13 @@ code_back (suc place) chosen e = coded_at kinds 1 place chosen kinds_coded e ∙
 
 -- ---- tests one after the other
 
-passes : {X E : Type 0} (test : Bool) (fault : E) (next : Result X E) (x : X) → test ≡ false → next ≡ Ok x → cond test (Err fault) next ≡ Ok x
+passes : {X E : Type 0} (test : Bool) (fault : E) (next : Result X E) (x : X) → test ≡ false → next ≡ Ok x
+    → cond test (Err fault) next ≡ Ok x
 passes true fault next x h e = absurd cc
 passes false fault next x h e = e
 
-passed : {X E : Type 0} (test : Bool) (fault : E) (next : Result X E) (x : X) → cond test (Err fault) next ≡ Ok x → (test ≡ false) × (next ≡ Ok x)
+passed : {X E : Type 0} (test : Bool) (fault : E) (next : Result X E) (x : X) → cond test (Err fault) next ≡ Ok x → (test ≡ false)
+    × (next ≡ Ok x)
 passed true fault next x e = absurd cc
 passed false fault next x e = (refl, e)
 
@@ -87,15 +91,18 @@ count_bytes long digits = cond {A = List ℕ} long (digits ∷ []) []
 abbrev pub head_bytes_of : Bool → ℕ
 head_bytes_of long = cond {A = ℕ} long 5 4
 
-pub count_is : (long : Bool) (digits : ℕ) (bytes rest : List ℕ) → drop 4 bytes ≡ count_bytes long digits ++ rest → long ≡ true → slice_index bytes 4 ≡ digits
+pub count_is : (long : Bool) (digits : ℕ) (bytes rest : List ℕ) → drop 4 bytes ≡ count_bytes long digits ++ rest → long ≡ true
+    → slice_index bytes 4 ≡ digits
 count_is true digits bytes rest here h = byte_is bytes 4 digits rest here
 count_is false digits bytes rest here h = absurd cc
 
-pub past_count : (long : Bool) (digits : ℕ) (bytes rest : List ℕ) → drop 4 bytes ≡ count_bytes long digits ++ rest → drop (head_bytes_of long) bytes ≡ rest
+pub past_count : (long : Bool) (digits : ℕ) (bytes rest : List ℕ) → drop 4 bytes ≡ count_bytes long digits ++ rest
+    → drop (head_bytes_of long) bytes ≡ rest
 past_count true digits bytes rest here = past_byte bytes 4 digits rest here
 past_count false digits bytes rest here = here
 
-pub count_taken : (long : Bool) (digits : ℕ) (bytes : List ℕ) → head_bytes_of long ≤ length bytes → (long ≡ true → slice_index bytes 4 ≡ digits)
+pub count_taken : (long : Bool) (digits : ℕ) (bytes : List ℕ) → head_bytes_of long ≤ length bytes
+    → (long ≡ true → slice_index bytes 4 ≡ digits)
     → drop 4 bytes ≡ count_bytes long digits ++ drop (head_bytes_of long) bytes
 count_taken true digits bytes within h = byte_taken bytes 4 (omega arith) ∙ ap (λ x. x ∷ drop 5 bytes) (h refl)
 count_taken false digits bytes within h = refl
@@ -118,8 +125,10 @@ head_most p = omega arith
 
 names_is : (p : SettingsValue) (bytes : List ℕ) (o : Opening) (len : ℕ) → HasHead p bytes o len → names_at p o.kind bytes ≡ Ok o
 names_is p bytes o len h =
-    let made : List ℕ → List ℕ → Result Opening HeadFault = λ sender receiver. Ok (record { kind = o.kind; sender = sender; receiver = receiver }) in
-    bind_is (digits_at BadDigit p (head_len p) bytes) (λ sender. digits_at BadDigit p (head_len p + p.digits) bytes >>= λ receiver. made sender receiver) o.sender (Ok o) h.sender
+    let made : List ℕ → List ℕ → Result Opening HeadFault =
+        λ sender receiver. Ok (record { kind = o.kind; sender = sender; receiver = receiver }) in
+    bind_is (digits_at BadDigit p (head_len p) bytes) (λ sender. digits_at BadDigit p (head_len p + p.digits) bytes >>=
+        λ receiver. made sender receiver) o.sender (Ok o) h.sender
     (bind_is (digits_at BadDigit p (head_len p + p.digits) bytes) (λ receiver. made o.sender receiver) o.receiver (Ok o) h.receiver refl)
 
 sized_is : (p : SettingsValue) (bytes : List ℕ) (o : Opening) (len : ℕ) → HasHead p bytes o len → sized p o.kind len bytes ≡ Ok o
@@ -133,9 +142,12 @@ sized_is p bytes o len h =
     let third : Result Opening HeadFault = cond short (Err (Short (whole - length bytes))) fourth in
     let second : Result Opening HeadFault = cond other (Err (BadCount (slice_index bytes 4))) third in
     passes (not (is_length p o.kind len)) (BadLength len) second o (not_from (is_length p o.kind len) h.possible)
-    (passes other (BadCount (slice_index bytes 4)) third o (both_false (is_long p) (not (eqb (slice_index bytes 4) p.digits)) (λ long. not_from (eqb (slice_index bytes 4) p.digits) (eq-eqb (slice_index bytes 4) p.digits (h.count long))))
+    (passes other (BadCount (slice_index bytes 4)) third o
+        (both_false (is_long p) (not (eqb (slice_index bytes 4) p.digits))
+            (λ long. not_from (eqb (slice_index bytes 4) p.digits) (eq-eqb (slice_index bytes 4) p.digits (h.count long))))
     (passes short (Short (whole - length bytes)) fourth o (le-ltb (length bytes) whole (omega (arith, h.whole)))
-    (passes more (Trailing (length bytes - whole)) names o (le-ltb whole (length bytes) (omega (arith, h.whole))) (names_is p bytes o len h))))
+    (passes more (Trailing (length bytes - whole)) names o (le-ltb whole (length bytes) (omega (arith, h.whole)))
+        (names_is p bytes o len h))))
 
 pub opening_is : (p : SettingsValue) (bytes : List ℕ) (o : Opening) (len : ℕ) → HasHead p bytes o len → opening_of p bytes ≡ Ok o
 opening_is p bytes o len h =
@@ -145,15 +157,19 @@ opening_is p bytes o len h =
     let second : Result Opening HeadFault = cond (not (eqb b0 (version_of p))) (Err (BadVersion b0)) rest in
     let kind : kind_of_code b1 ≡ Some o.kind = ap kind_of_code h.kind ∙ code_kind o.kind in
     let last : rest ≡ Ok o = ap (λ k. of_kind p k bytes) kind ∙ ap (λ l. sized p o.kind l bytes) h.stated ∙ sized_is p bytes o len h in
-    passes (nat_lt (length bytes) (head_len p)) (Short (head_len p - length bytes)) second o (le-ltb (length bytes) (head_len p) (omega (arith, h.whole, head_most p)))
-    (passes (not (eqb b0 (version_of p))) (BadVersion b0) rest o (not_from (eqb b0 (version_of p)) (eq-eqb b0 (version_of p) h.version)) last)
+    passes (nat_lt (length bytes) (head_len p)) (Short (head_len p - length bytes)) second o
+        (le-ltb (length bytes) (head_len p) (omega (arith, h.whole, head_most p)))
+    (passes (not (eqb b0 (version_of p))) (BadVersion b0) rest o
+        (not_from (eqb b0 (version_of p)) (eq-eqb b0 (version_of p) h.version)) last)
 
 names_parts : (p : SettingsValue) (kind : Kind) (bytes : List ℕ) (o : Opening) → names_at p kind bytes ≡ Ok o
-    → (kind ≡ o.kind) × (digits_at BadDigit p (head_len p) bytes ≡ Ok o.sender) × (digits_at BadDigit p (head_len p + p.digits) bytes ≡ Ok o.receiver)
+    → (kind ≡ o.kind) × (digits_at BadDigit p (head_len p) bytes ≡ Ok o.sender)
+    × (digits_at BadDigit p (head_len p + p.digits) bytes ≡ Ok o.receiver)
 names_parts p kind bytes o e =
     let made : List ℕ → List ℕ → Opening = λ sender receiver. record { kind = kind; sender = sender; receiver = receiver } in
     let ok : Opening → Result Opening HeadFault = λ x. Ok x in
-    let a = bind_ok (digits_at BadDigit p (head_len p) bytes) (λ sender. digits_at BadDigit p (head_len p + p.digits) bytes >>= λ receiver. ok (made sender receiver)) o e in
+    let a = bind_ok (digits_at BadDigit p (head_len p) bytes)
+        (λ sender. digits_at BadDigit p (head_len p + p.digits) bytes >>= λ receiver. ok (made sender receiver)) o e in
     let b = bind_ok (digits_at BadDigit p (head_len p + p.digits) bytes) (λ receiver. ok (made a.0 receiver)) o a.2 in
     let is : made a.0 b.0 ≡ o = opening_same (made a.0 b.0) o b.2 in
     (ap (λ (x : Opening). x.kind) is, a.1 ∙ ap (λ (x : Opening). Ok x.sender) is, b.1 ∙ ap (λ (x : Opening). Ok x.receiver) is)
@@ -164,7 +180,8 @@ names_parts p kind bytes o e =
     opening_same : (x y : Opening) → ◌≡◌ {A = Result Opening HeadFault} (Ok x) (Ok y) → x ≡ y
     opening_same x y e = cc
 
-sized_parts : (p : SettingsValue) (kind : Kind) (bytes : List ℕ) (o : Opening) → slice_index bytes 0 ≡ version_of p → slice_index bytes 1 ≡ code_of kind → sized p kind (number_at 2 2 bytes) bytes ≡ Ok o
+sized_parts : (p : SettingsValue) (kind : Kind) (bytes : List ℕ) (o : Opening) → slice_index bytes 0 ≡ version_of p
+    → slice_index bytes 1 ≡ code_of kind → sized p kind (number_at 2 2 bytes) bytes ≡ Ok o
     → HasHead p bytes o (number_at 2 2 bytes)
 sized_parts p kind bytes o version code e =
     let len = number_at 2 2 bytes in
@@ -186,13 +203,15 @@ sized_parts p kind bytes o version code e =
       kind = code ∙ ap code_of parts.0;
       stated = refl;
       possible = subst (λ k. is_length p k len ≡ true) parts.0 (not-false (is_length p kind len) a.0);
-      count = λ long. eqb-true (slice_index bytes 4) p.digits (not-false (eqb (slice_index bytes 4) p.digits) (second_false (is_long p) (not (eqb (slice_index bytes 4) p.digits)) b.0 long));
+      count = λ long. eqb-true (slice_index bytes 4) p.digits
+          (not-false (eqb (slice_index bytes 4) p.digits) (second_false (is_long p) (not (eqb (slice_index bytes 4) p.digits)) b.0 long));
       whole = omega (arith, ltb-false (length bytes) whole c.0, ltb-false whole (length bytes) d.0);
       sender = parts.1;
       receiver = parts.2;
     }
 
-of_kind_parts : (p : SettingsValue) (found : Option Kind) (bytes : List ℕ) (o : Opening) → slice_index bytes 0 ≡ version_of p → kind_of_code (slice_index bytes 1) ≡ found → of_kind p found bytes ≡ Ok o
+of_kind_parts : (p : SettingsValue) (found : Option Kind) (bytes : List ℕ) (o : Opening) → slice_index bytes 0 ≡ version_of p
+    → kind_of_code (slice_index bytes 1) ≡ found → of_kind p found bytes ≡ Ok o
     → HasHead p bytes o (number_at 2 2 bytes)
 of_kind_parts p None bytes o version code e = absurd cc
 of_kind_parts p (Some kind) bytes o version code e = sized_parts p kind bytes o version (sym (code_back (slice_index bytes 1) kind code)) e
@@ -204,4 +223,5 @@ opening_parts p bytes o e =
     let second : Result Opening HeadFault = cond (not (eqb b0 (version_of p))) (Err (BadVersion b0)) rest in
     let a = passed (nat_lt (length bytes) (head_len p)) (Short (head_len p - length bytes)) second o e in
     let b = passed (not (eqb b0 (version_of p))) (BadVersion b0) rest o a.1 in
-    of_kind_parts p (kind_of_code (slice_index bytes 1)) bytes o (eqb-true b0 (version_of p) (not-false (eqb b0 (version_of p)) b.0)) refl b.1
+    of_kind_parts p (kind_of_code (slice_index bytes 1)) bytes o
+        (eqb-true b0 (version_of p) (not-false (eqb b0 (version_of p)) b.0)) refl b.1

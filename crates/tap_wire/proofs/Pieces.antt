@@ -16,7 +16,8 @@ use Rattle.tap_wire.proofs.Steps.{digits_ok}
 
 -- ---- behind a piece
 
-pub past : (bytes : List ℕ) (place width : ℕ) (piece rest : List ℕ) → length piece ≡ width → drop place bytes ≡ piece ++ rest → drop (place + width) bytes ≡ rest
+pub past : (bytes : List ℕ) (place width : ℕ) (piece rest : List ℕ) → length piece ≡ width → drop place bytes ≡ piece ++ rest
+    → drop (place + width) bytes ≡ rest
 past bytes place width piece rest len here = sym (drop-drop width place bytes) ∙ ap (drop width) here ∙ drop_at piece rest width len
 
 pub moved : (bytes rest : List ℕ) (here there : ℕ) → here ≡ there → drop here bytes ≡ rest → drop there bytes ≡ rest
@@ -39,10 +40,12 @@ byte_taken bytes place within =
 
 -- ---- numbers
 
-pub number_is : (bytes : List ℕ) (place width x : ℕ) (rest : List ℕ) → x < 256 ^ width → drop place bytes ≡ big_bytes width x ++ rest → number_at width place bytes ≡ x
+pub number_is : (bytes : List ℕ) (place width x : ℕ) (rest : List ℕ) → x < 256 ^ width → drop place bytes ≡ big_bytes width x ++ rest
+    → number_at width place bytes ≡ x
 number_is bytes place width x rest fits here = ap (big_number width) here ∙ big_number-reads_back width x rest fits
 
-pub past_number : (bytes : List ℕ) (place width x : ℕ) (rest : List ℕ) → drop place bytes ≡ big_bytes width x ++ rest → drop (place + width) bytes ≡ rest
+pub past_number : (bytes : List ℕ) (place width x : ℕ) (rest : List ℕ) → drop place bytes ≡ big_bytes width x ++ rest
+    → drop (place + width) bytes ≡ rest
 past_number bytes place width x rest here = past bytes place width (big_bytes width x) rest (length-bytes_high_first width x) here
 
 pub number_taken : (bytes : List ℕ) (place width : ℕ) → All (λ b. b < 256) bytes → place + width ≤ length bytes
@@ -53,19 +56,22 @@ number_taken bytes place width all room =
     let len : length front ≡ width = length-take-le width rest (omega (arith, length-drop place bytes)) in
     let front_small = All-take (λ b. b < 256) width rest (All-drop (λ b. b < 256) place bytes all) in
     let same : big_number width front ≡ big_number width rest = big_from-take 0 width width rest (omega arith) in
-    let written : big_bytes width (big_number width rest) ≡ front = ap (big_bytes width) (sym same) ∙ writes_back width front len front_small in
+    let written : big_bytes width (big_number width rest) ≡ front = ap (big_bytes width) (sym same)
+        ∙ writes_back width front len front_small in
     sym (take-append-drop width rest) ∙ ap (λ (xs : List ℕ). xs ++ drop width rest) (sym written)
     ∙ ap (λ (xs : List ℕ). big_bytes width (number_at width place bytes) ++ xs) (drop-drop width place bytes)
 
 pub number_below : (bytes : List ℕ) (place width : ℕ) → All (λ b. b < 256) bytes → number_at width place bytes < 256 ^ width
-number_below bytes place width all = big_from-lt 0 width (drop place bytes) (are_small (drop place bytes) (All-drop (λ b. b < 256) place bytes all))
+number_below bytes place width all = big_from-lt 0 width (drop place bytes)
+    (are_small (drop place bytes) (All-drop (λ b. b < 256) place bytes all))
 
 -- ---- names
 
 no_bad : (base : ℕ) (name : List ℕ) → All (λ d. d < base) name → position (λ d. nat_le base d) name ≡ None
 no_bad base name below =
     let all : position_or_len (λ d. nat_le base d) name ≡ length name =
-    position_or_len_is (λ d. nat_le base d) name (length name) 0 (omega arith) (λ k h. lt-leb base (get_or name k 0) (below k 0 h)) (λ h. absurd (omega arith)) in
+    position_or_len_is (λ d. nat_le base d) name (length name) 0 (omega arith) (λ k h. lt-leb base (get_or name k 0) (below k 0 h))
+        (λ h. absurd (omega arith)) in
     ap (λ (n : ℕ). cond {A = Option ℕ} (nat_lt n (length name)) (Some n) None) all
     ∙ ap (λ (b : Bool). cond {A = Option ℕ} b (Some (length name)) None) (le-ltb (length name) (length name) (omega arith))
 
@@ -74,20 +80,25 @@ all_below base name none =
     let first = position_or_len (λ d. nat_le base d) name in
     elim (cases_lt first (length name)) [
       | inl within ↦ let test = lt-ltb first (length name) within in let bad = rw test at none in absurd cc
-      | inr past ↦ All-from_get_or (λ d. d < base) name 0 (λ i h. leb-false base (get_or name i 0) (fails_before_first (λ d. nat_le base d) name i 0 (omega arith)))
+      | inr past ↦ All-from_get_or (λ d. d < base) name 0
+          (λ i h. leb-false base (get_or name i 0) (fails_before_first (λ d. nat_le base d) name i 0 (omega arith)))
     ]
 
-pub name_is : {E : Type 0} (bad : ℕ → E) (p : SettingsValue) (bytes : List ℕ) (place : ℕ) (name rest : List ℕ) → IsName p name → drop place bytes ≡ name ++ rest
+pub name_is : {E : Type 0} (bad : ℕ → E) (p : SettingsValue) (bytes : List ℕ) (place : ℕ) (name rest : List ℕ) → IsName p name
+    → drop place bytes ≡ name ++ rest
     → digits_at bad p place bytes ≡ Ok name
 name_is {E} bad p bytes place name rest is here =
     let fault : ℕ → E = λ at. bad (place + at) in
     let digits : take p.digits (drop place bytes) ≡ name = ap (take p.digits) here ∙ take_at name rest p.digits is.len in
-    ap (λ (xs : List ℕ). digits_unless fault xs (position (λ d. nat_le p.base d) xs)) digits ∙ ap (digits_unless fault name) (no_bad p.base name is.below)
+    ap (λ (xs : List ℕ). digits_unless fault xs (position (λ d. nat_le p.base d) xs)) digits
+        ∙ ap (digits_unless fault name) (no_bad p.base name is.below)
 
-pub past_name : (p : SettingsValue) (bytes : List ℕ) (place : ℕ) (name rest : List ℕ) → IsName p name → drop place bytes ≡ name ++ rest → drop (place + p.digits) bytes ≡ rest
+pub past_name : (p : SettingsValue) (bytes : List ℕ) (place : ℕ) (name rest : List ℕ) → IsName p name → drop place bytes ≡ name ++ rest
+    → drop (place + p.digits) bytes ≡ rest
 past_name p bytes place name rest is here = past bytes place p.digits name rest is.len here
 
-pub name_taken : {E : Type 0} (bad : ℕ → E) (p : SettingsValue) (bytes : List ℕ) (place : ℕ) (name : List ℕ) → place + p.digits ≤ length bytes → digits_at bad p place bytes ≡ Ok name
+pub name_taken : {E : Type 0} (bad : ℕ → E) (p : SettingsValue) (bytes : List ℕ) (place : ℕ) (name : List ℕ)
+    → place + p.digits ≤ length bytes → digits_at bad p place bytes ≡ Ok name
     → (drop place bytes ≡ name ++ drop (place + p.digits) bytes) × IsName p name
 name_taken bad p bytes place name room e =
     let rest = drop place bytes in
@@ -95,6 +106,7 @@ name_taken bad p bytes place name room e =
     let is = digits_ok (λ at. bad (place + at)) digits name (position (λ d. nat_le p.base d) digits) e in
     let len : length digits ≡ p.digits = length-take-le p.digits rest (omega (arith, length-drop place bytes)) in
     let written : rest ≡ name ++ drop (place + p.digits) bytes =
-    sym (take-append-drop p.digits rest) ∙ ap (λ (xs : List ℕ). xs ++ drop p.digits rest) is.0 ∙ ap (λ (xs : List ℕ). name ++ xs) (drop-drop p.digits place bytes) in
+    sym (take-append-drop p.digits rest) ∙ ap (λ (xs : List ℕ). xs ++ drop p.digits rest) is.0
+        ∙ ap (λ (xs : List ℕ). name ++ xs) (drop-drop p.digits place bytes) in
     let name_is : IsName p digits = record { len = len; below = all_below p.base digits is.1 } in
     (written, subst (IsName p) is.0 name_is)

@@ -4,7 +4,8 @@ use Rattle.tap_wire.specs.declared.fault.Broken.{Broken}
 use Rattle.tap_wire.specs.Fields.{◌>>=◌, field, digits_unless}
 
 -- the value of a step that did not fail
-pub bind_ok : {X Y E : Type 0} (r : Result X E) (next : X → Result Y E) (y : Y) → (r >>= next) ≡ Ok y → (x : X) × (r ≡ Ok x) × (next x ≡ Ok y)
+pub bind_ok : {X Y E : Type 0} (r : Result X E) (next : X → Result Y E) (y : Y) → (r >>= next) ≡ Ok y → (x : X) × (r ≡ Ok x)
+    × (next x ≡ Ok y)
 bind_ok (Ok x) next y e = (x, refl, e)
 bind_ok (Err fault) next y e = absurd cc
 
@@ -24,7 +25,8 @@ field_is true place x e = refl
 field_is false place x e = absurd cc
 
 -- digits of which none was bad
-pub digits_ok : {E : Type 0} (bad : ℕ → E) (digits name : List ℕ) (first : Option ℕ) → digits_unless bad digits first ≡ Ok name → (digits ≡ name) × (first ≡ None)
+pub digits_ok : {E : Type 0} (bad : ℕ → E) (digits name : List ℕ) (first : Option ℕ) → digits_unless bad digits first ≡ Ok name
+    → (digits ≡ name) × (first ≡ None)
 digits_ok bad digits name None e = (cc, refl)
 digits_ok bad digits name (Some at) e = absurd cc
 

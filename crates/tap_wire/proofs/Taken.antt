@@ -24,20 +24,24 @@ read_is rule place x y e holds = ap (λ z. field (rule z) place z) e ∙ field_i
 read_taken : (rule : ℕ → Bool) (place x y : ℕ) → field (rule x) place x ≡ Ok y → (x ≡ y) × (rule y ≡ true)
 read_taken rule place x y e = let is = field_ok (rule x) place x y e in (is.1, subst (λ z. rule z ≡ true) is.1 is.0)
 
-pub session_is : (place : ℕ) (bytes : List ℕ) (session : ℕ) → number_at 4 place bytes ≡ session → 1 ≤ session → session_at place bytes ≡ Ok session
+pub session_is : (place : ℕ) (bytes : List ℕ) (session : ℕ) → number_at 4 place bytes ≡ session → 1 ≤ session
+    → session_at place bytes ≡ Ok session
 session_is place bytes session e least = read_is (λ x. nat_le 1 x) place (number_at 4 place bytes) session e (le-leb 1 session least)
 
-pub session_taken : (place : ℕ) (bytes : List ℕ) (session : ℕ) → session_at place bytes ≡ Ok session → (number_at 4 place bytes ≡ session) × (1 ≤ session)
+pub session_taken : (place : ℕ) (bytes : List ℕ) (session : ℕ) → session_at place bytes ≡ Ok session → (number_at 4 place bytes ≡ session)
+    × (1 ≤ session)
 session_taken place bytes session e =
     let is = read_taken (λ x. nat_le 1 x) place (number_at 4 place bytes) session e in (is.0, leb-true 1 session is.1)
 
 level_holds : (p : SettingsValue) (level : ℕ) → IsLevel p level → is_level p level ≡ true
 level_holds p level h = and_from (nat_le 1 level) (nat_le level p.digits) (le-leb 1 level h.0) (le-leb level p.digits h.1)
 
-pub level_is : (p : SettingsValue) (place : ℕ) (bytes : List ℕ) (level : ℕ) → slice_index bytes place ≡ level → IsLevel p level → level_at p place bytes ≡ Ok level
+pub level_is : (p : SettingsValue) (place : ℕ) (bytes : List ℕ) (level : ℕ) → slice_index bytes place ≡ level → IsLevel p level
+    → level_at p place bytes ≡ Ok level
 level_is p place bytes level e h = read_is (is_level p) place (slice_index bytes place) level e (level_holds p level h)
 
-pub level_taken : (p : SettingsValue) (place : ℕ) (bytes : List ℕ) (level : ℕ) → level_at p place bytes ≡ Ok level → (slice_index bytes place ≡ level) × IsLevel p level
+pub level_taken : (p : SettingsValue) (place : ℕ) (bytes : List ℕ) (level : ℕ) → level_at p place bytes ≡ Ok level
+    → (slice_index bytes place ≡ level) × IsLevel p level
 level_taken p place bytes level e =
     let is = read_taken (is_level p) place (slice_index bytes place) level e in
     let parts = and_parts (nat_le 1 level) (nat_le level p.digits) is.1 in

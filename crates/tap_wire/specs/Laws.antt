@@ -7,7 +7,8 @@ use Rattle.tap_wire.specs.Spelling.{IsFrame, IsTyped, spelling}
 
 -- what a frame's spelling is read as: that frame
 abbrev pub ReadsBack : Type 0
-ReadsBack = (p : SettingsValue) (frame : Frame) → AreWithinLimits p → IsFrame p frame → IsTyped frame.body → frame_of p (spelling p frame) ≡ Ok frame
+ReadsBack = (p : SettingsValue) (frame : Frame) → AreWithinLimits p → IsFrame p frame → IsTyped frame.body
+    → frame_of p (spelling p frame) ≡ Ok frame
 
 -- what is read as a frame: its spelling, and the frame keeps the rules
 abbrev pub SpelledSo : Type 0

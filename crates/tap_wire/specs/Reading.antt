@@ -64,7 +64,8 @@ opening_of p bytes =
 
 -- a head by itself
 abbrev pub head_of : SettingsValue → List ℕ → Result Head HeadFault
-head_of p bytes = opening_of p bytes >>= λ opening. Ok (record { kind = code_of opening.kind; from = opening.sender; to = opening.receiver })
+head_of p bytes = opening_of p bytes >>= λ opening. Ok
+    (record { kind = code_of opening.kind; from = opening.sender; to = opening.receiver })
 
 -- the bodies, field by field from the place where they start
 

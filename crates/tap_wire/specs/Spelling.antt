@@ -63,7 +63,8 @@ head_bytes p code len = version_of p ∷ code ∷ [] ++ big_bytes 2 len ++ (if i
 
 -- a head, the sender, the receiver and the body
 abbrev pub spelling : SettingsValue → Frame → List ℕ
-spelling p frame = head_bytes p (code_of (kind_of frame.body)) (length (body_bytes frame.body)) ++ frame.from ++ frame.to ++ body_bytes frame.body
+spelling p frame = head_bytes p (code_of (kind_of frame.body)) (length (body_bytes frame.body)) ++ frame.from ++ frame.to
+    ++ body_bytes frame.body
 
 -- ---- the rules of the fields
 

@@ -15,5 +15,6 @@ loop-name-preserved c =
           once_more here.once.items _ names here.name-index name (omega arith) c.name-item.is here.invariant
           (sym has ∙ w.if-not-contains.true) (rw w.once-is w.in_ok-push.ensures.items)
       | else-not-contains w ↦
-          rw w.once-is (once_same here.once.items names here.name-index name (omega arith) c.name-item.is here.invariant (sym has ∙ w.if-not-contains.false))
+          rw w.once-is (once_same here.once.items names here.name-index name (omega arith) c.name-item.is here.invariant
+              (sym has ∙ w.if-not-contains.false))
     ]

@@ -10,7 +10,8 @@ returns-then-digit-base-clause-value c =
     let text = c.args.text.now in
     let len = length-map text digit_of_text in
     let it = get_or-map digit_of_text text c.loop-at.at 0 0 c.loop-at-test.true in
-    sym (bad_at c.args.settings.now (map digit_of_text text) c.loop-at.at (omega arith) (omega arith) c.loop-at.invariant.below (rw it (omega arith)))
+    sym (bad_at c.args.settings.now (map digit_of_text text) c.loop-at.at (omega arith) (omega arith) c.loop-at.invariant.below
+        (rw it (omega arith)))
 
 pub loop-at-preserved : goal.loop-at-preserved
 loop-at-preserved c =
@@ -29,10 +30,12 @@ pub returns-clause-value : goal.returns-clause-value
 returns-clause-value c =
     let text = c.args.text.now in
     let len = length-map text digit_of_text in
-    at_end c.args.settings.now (map digit_of_text text) c.loop-at.at c.loop-at.name (omega arith) (omega arith) c.loop-at.invariant.below c.loop-at.invariant.name
+    at_end c.args.settings.now (map digit_of_text text) c.loop-at.at c.loop-at.name (omega arith)
+        (omega arith) c.loop-at.invariant.below c.loop-at.invariant.name
 
 pub returns-clause-valid : goal.returns-clause-valid
 returns-clause-valid c =
     let text = c.args.text.now in
     let len = length-map text digit_of_text in
-    is_name c.args.settings.now (map digit_of_text text) c.loop-at.at c.loop-at.name (omega arith) (omega arith) c.loop-at.invariant.below c.loop-at.invariant.name
+    is_name c.args.settings.now (map digit_of_text text) c.loop-at.at c.loop-at.name (omega arith)
+        (omega arith) c.loop-at.invariant.below c.loop-at.invariant.name

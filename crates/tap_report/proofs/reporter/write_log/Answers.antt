@@ -40,4 +40,6 @@ returns g c =
     let all : take c.loop-item.item-index records ≡ records = take_all c.loop-item.item-index records c.loop-item-test.false in
     let ends = rw (was.settings, was.tally) at c.add_ending.ensures in
     rw (← c.as_slice-records.ensures)
-    (AddsText-whole All c.pass_on.result refl (rw all at (AddsText-then {text = texts_after mode None first} {more = ending mode (settings_of first) (numbers_of first)} was.text ends)) c.pass_on.ensures.adds c.pass_on.ensures.after)
+    (AddsText-whole All c.pass_on.result refl (rw all at
+        (AddsText-then {text = texts_after mode None first} {more = ending mode (settings_of first) (numbers_of first)} was.text ends))
+            c.pass_on.ensures.adds c.pass_on.ensures.after)

@@ -8,5 +8,6 @@ loop-done-preserved g c =
     record {
       within = omega (arith, took.within);
       later = omega (arith, c.in-Took.ensures.later, c.loop-done.invariant.later);
-      appends = next_write _ _ _ c.args.text.now c.loop-done.done c.in-Took.n c.loop-done.invariant.appends took.appends (omega (arith, took.within));
+      appends = next_write _ _ _ c.args.text.now c.loop-done.done c.in-Took.n c.loop-done.invariant.appends took.appends
+          (omega (arith, took.within));
     }

@@ -11,22 +11,28 @@ use Rattle.tap_scenario.proofs.document.read_members.Goals.{then-is_empty-via-th
 pub returns-then-is_empty : goal.returns-then-is_empty
 returns-then-is_empty c =
     let values = c.in_ok-strings.strings.now in
-    let is : read_at Members array_of_strings (table_view c.args.table.now) ≡ Ok (texts_of (items_view values)) = c.in_ok-strings.ensures.value in
+    let is : read_at Members array_of_strings (table_view c.args.table.now)
+        ≡ Ok (texts_of (items_view values)) = c.in_ok-strings.ensures.value in
     let strings : are_strings (items_view values) ≡ true = c.in_ok-strings.ensures.strings in
     let empty = c.is_empty.ensures in
     elim c.then-is_empty.branch [
       | then-is_empty-via-then-is_empty w ↦
-          let none : (nat_le 1 (length values) && nat_le (length values) 64) ≡ false = let e = w.if-is_empty.true in grind (arith, nat_tests) in
+          let none : (nat_le 1 (length values) && nat_le (length values) 64) ≡ false = let e = w.if-is_empty.true in
+          grind (arith, nat_tests) in
           members_of-count c.args.settings.now (table_view c.args.table.now) values is strings none
       | then-is_empty-via-else-is_empty+then-strings-gt-MOST_MEMBERS w ↦
-          let many : (nat_le 1 (length values) && nat_le (length values) 64) ≡ false = let e = w.if-strings-gt-MOST_MEMBERS.true in grind (arith, nat_tests) in
+          let many : (nat_le 1 (length values) && nat_le (length values) 64) ≡ false = let e = w.if-strings-gt-MOST_MEMBERS.true in
+          grind (arith, nat_tests) in
           members_of-count c.args.settings.now (table_view c.args.table.now) values is strings many
     ]
 
 pub returns : goal.returns
 returns c =
     let values = c.in_ok-strings.strings.now in
-    let is : read_at Members array_of_strings (table_view c.args.table.now) ≡ Ok (texts_of (items_view values)) = c.in_ok-strings.ensures.value in
+    let is : read_at Members array_of_strings (table_view c.args.table.now)
+        ≡ Ok (texts_of (items_view values)) = c.in_ok-strings.ensures.value in
     let strings : are_strings (items_view values) ≡ true = c.in_ok-strings.ensures.strings in
-    let count : (nat_le 1 (length values) && nat_le (length values) 64) ≡ true = let e = c.if-is_empty.false in let f = c.is_empty.ensures in grind (arith, nat_tests) in
-    members_of-names c.args.settings.now (table_view c.args.table.now) values c.in_ok-names.names is strings count c.in_ok-names.ensures (search rules)
+    let count : (nat_le 1 (length values) && nat_le (length values) 64) ≡ true = let e = c.if-is_empty.false in
+    let f = c.is_empty.ensures in grind (arith, nat_tests) in
+    members_of-names c.args.settings.now (table_view c.args.table.now) values c.in_ok-names.names is strings count c.in_ok-names.ensures
+        (search rules)

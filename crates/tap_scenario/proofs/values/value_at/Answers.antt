@@ -5,4 +5,5 @@ use Rattle.toml.proofs.Views.{table_get}
 use Rattle.tap_scenario.proofs.values.value_at.Goals as goal
 
 pub returns : goal.returns
-returns c = table_get c.get.result c.text.result.now c.args.table.now.entries c.get.ensures.value ∙ ap (λ text. get_member text (table_view c.args.table.now)) c.text.ensures
+returns c = table_get c.get.result c.text.result.now c.args.table.now.entries c.get.ensures.value
+    ∙ ap (λ text. get_member text (table_view c.args.table.now)) c.text.ensures

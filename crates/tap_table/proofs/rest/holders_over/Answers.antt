@@ -24,7 +24,8 @@ loop-member-preserved c =
           let newer = w.in_ok-apply.ensures.answer ∙ ap (supersedes 0) absent in
           let grown = w.in_ok-apply.ensures.kept (ap Ok newer) in
           subst Done (sym w.holders-is)
-          (holder-more p owner names i name c.loop-member.holders w.apply.new.self c.loop-member-test.true c.member-item.is c.requires.ascending has
+          (holder-more p owner names i name c.loop-member.holders w.apply.new.self c.loop-member-test.true c.member-item.is
+              c.requires.ascending has
           c.loop-member.invariant grown)
       | else-holds w ↦
           let skip = holder-skip p owner names i name c.loop-member-test.true c.member-item.is (sym c.holds.ensures ∙ w.if-holds.false) in

@@ -14,7 +14,8 @@ pub settle_on-requires : goal.settle_on-requires
 settle_on-requires c =
     let P : List ℕ → Type 0 = IsName c.args.settings.now in
     let item = c.name-item.result in
-    rw c.loop-name.invariant.settings_are (subst P (sym c.name-item.is) (c.requires.names c.loop-name.name-index item c.loop-name-test.true))
+    rw c.loop-name.invariant.settings_are (subst P (sym c.name-item.is)
+        (c.requires.names c.loop-name.name-index item c.loop-name-test.true))
 
 pub loop-name-preserved : goal.loop-name-preserved
 loop-name-preserved c =

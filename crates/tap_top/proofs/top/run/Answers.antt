@@ -17,17 +17,22 @@ returns-clause-written g c =
     let before = c.read_and_run-before.result in
     let mode_of : ReporterValue → Mode = λ kept. kept.mode in
     let text : Mode → List ℕ = λ mode. text_of_log mode log ++ fault_line before in
-    let all = WritesText-same (text c.new-reporter.result.mode) (text_of_run Long log before) (ap (λ kept. text (mode_of kept)) c.new-reporter.ensures)
+    let all = WritesText-same (text c.new-reporter.result.mode) (text_of_run Long log before)
+        (ap (λ kept. text (mode_of kept)) c.new-reporter.ensures)
     (WritesText-then (Reports-finish c.read_and_run-before.ensures.reports c.finish-finished.ensures) c.write_fault_line-written.ensures) in
     elim c.match-written.branch [
-      | in-All w ↦ written_all _ _ _ _ (text_of_run Long log before) before c.match-written.status c.write_fault_line-written.result all w.in-All.is w.status-is
-      | in-Failed w ↦ written_part _ _ _ _ (text_of_run Long log before) before c.match-written.status c.write_fault_line-written.result all w.in-Failed.is w.status-is
+      | in-All w ↦ written_all _ _ _ _ (text_of_run Long log before) before c.match-written.status c.write_fault_line-written.result all
+          w.in-All.is w.status-is
+      | in-Failed w ↦ written_part _ _ _ _ (text_of_run Long log before) before c.match-written.status c.write_fault_line-written.result all
+          w.in-Failed.is w.status-is
     ]
 
 pub returns-clause-write_fault : goal.returns-clause-write_fault
 returns-clause-write_fault g c = λ is.
-    let whole = WritesText-then (Reports-finish c.read_and_run-before.ensures.reports c.finish-finished.ensures) c.write_fault_line-written.ensures in
+    let whole = WritesText-then (Reports-finish c.read_and_run-before.ensures.reports c.finish-finished.ensures)
+        c.write_fault_line-written.ensures in
     elim c.match-written.branch [
-      | in-All w ↦ absurd (never_write_fault _ _ _ _ _ _ c.read_and_run-before.result c.read_and_run-before.ensures.cause (sym w.status-is ∙ is))
+      | in-All w ↦ absurd (never_write_fault _ _ _ _ _ _ c.read_and_run-before.result c.read_and_run-before.ensures.cause
+          (sym w.status-is ∙ is))
       | in-Failed w ↦ written_risen _ _ _ _ _ c.write_fault_line-written.result whole w.in-Failed.is
     ]

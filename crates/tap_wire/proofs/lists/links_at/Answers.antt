@@ -12,7 +12,8 @@ returns-in_err-link c =
     let made = err_from_is_err_and c.from_residual-in_err-link.result c.from_residual-in_err-link.ensures.1 in
     rw (made.1, made.2)
     (ap (λ d. links_at p ((length bytes - c.args.start) / (d + 1)) None c.args.start bytes) (sym c.digits.ensures.value)
-    ∙ links_end p count c.loop.counter c.loop.before c.loop.place bytes c.loop.links.items c.in_err-link.field-0.0 (links_at p count None c.args.start bytes) c.loop-test.true (sym c.in_err-link.ensures) c.loop.invariant.reads)
+    ∙ links_end p count c.loop.counter c.loop.before c.loop.place bytes c.loop.links.items c.in_err-link.field-0.0
+    (links_at p count None c.args.start bytes) c.loop-test.true (sym c.in_err-link.ensures) c.loop.invariant.reads)
 
 pub loop-preserved : goal.loop-preserved
 loop-preserved c =
@@ -22,7 +23,9 @@ loop-preserved c =
     let next : c.loop.place + (c.digits.result + 1) ≡ c.loop.place + p.digits + 1 = omega (arith, c.digits.ensures.value) in
     record {
       reads = rw c.in_ok-push.ensures.items
-          (links_go_on p count c.loop.counter c.loop.before c.loop.place (c.loop.place + (c.digits.result + 1)) bytes c.loop.links.items c.in_ok-link.link (links_at p count None c.args.start bytes) c.loop-test.true next (sym c.in_ok-link.ensures) c.loop.invariant.reads);
+          (links_go_on p count c.loop.counter c.loop.before c.loop.place
+              (c.loop.place + (c.digits.result + 1)) bytes c.loop.links.items c.in_ok-link.link
+                  (links_at p count None c.args.start bytes) c.loop-test.true next (sym c.in_ok-link.ensures) c.loop.invariant.reads);
       at = omega (arith, c.loop.invariant.at);
     }
 
@@ -32,5 +35,6 @@ returns c =
     let bytes = c.args.bytes.now in
     let count = (length bytes - c.args.start) / (c.digits.result + 1) in
     ap (λ d. links_at p ((length bytes - c.args.start) / (d + 1)) None c.args.start bytes) (sym c.digits.ensures.value)
-    ∙ links_done p count c.loop.counter c.loop.before c.loop.place bytes c.loop.links.items (links_at p count None c.args.start bytes) c.loop-test.false c.loop.invariant.reads
+    ∙ links_done p count c.loop.counter c.loop.before c.loop.place bytes c.loop.links.items
+    (links_at p count None c.args.start bytes) c.loop-test.false c.loop.invariant.reads
     ∙ ap Ok (sym c.from_vec.ensures)

@@ -5,6 +5,7 @@ use Rattle.tap_wire.proofs.lists.links_at.Given as goal
 
 abbrev pub invariant-loop : goal.invariant-loop
 invariant-loop l = record {
-  reads : with_front l.links.items (links_at l.settings (l.count - l.counter) l.before l.place l.bytes) ≡ links_at l.settings l.count None l.start l.bytes;
+  reads : with_front l.links.items (links_at l.settings (l.count - l.counter) l.before l.place l.bytes)
+      ≡ links_at l.settings l.count None l.start l.bytes;
   at : l.place ≡ l.start + l.counter * l.size;
 }

@@ -9,10 +9,12 @@ use Rattle.tap_link.proofs.set.LinkSet.offer.Goals as goal
 
 pub invariant_of-self-in-Err : goal.invariant_of-self-in-Err
 invariant_of-self-in-Err g c =
-    let gap : IsGap g.K.Ord.cmp c.self.inside.places c.settled.result.target c.in-Err.at = rw c.settled.ensures.target c.in-Err.ensures.absent in
+    let gap : IsGap g.K.Ord.cmp c.self.inside.places c.settled.result.target c.in-Err.at =
+        rw c.settled.ensures.target c.in-Err.ensures.absent in
     let room : has_room (set_of c.self.inside.width c.self.inside.places) ≡ true = cc in
     rw c.in_ok-insert-in-Err.ensures.ok
-    (kept-insert g.K.Ord.cmp g.met.K.Ord.total (set_of c.self.inside.width c.self.inside.places) c.settled.result c.in-Err.at c.self.invariant gap
+    (kept-insert g.K.Ord.cmp g.met.K.Ord.total (set_of c.self.inside.width c.self.inside.places) c.settled.result c.in-Err.at
+        c.self.invariant gap
     (λ _. ltb-true _ _ room))
 
 pub returns-in-Ok-clause-answer : goal.returns-in-Ok-clause-answer
@@ -27,4 +29,5 @@ returns-in_ok-insert-in-Err-clause-answer g c =
 pub returns-in_ok-insert-in-Err-clause-settled : goal.returns-in_ok-insert-in-Err-clause-settled
 returns-in_ok-insert-in-Err-clause-settled g c _ =
     rw (← c.self.view_is) (ap (set_of c.self.inside.width) (c.in_ok-insert-in-Err.ensures.ok
-    ∙ insert-with_link g.K.Ord.cmp c.self.inside.places c.args.target c.in-Err.at c.settled.result Settled c.in-Err.ensures.absent c.settled.ensures.target c.settled.ensures.kind))
+    ∙ insert-with_link g.K.Ord.cmp c.self.inside.places c.args.target c.in-Err.at c.settled.result Settled c.in-Err.ensures.absent
+    c.settled.ensures.target c.settled.ensures.kind))

@@ -10,7 +10,8 @@ pub invariant_of-self-in-Err : goal.invariant_of-self-in-Err
 invariant_of-self-in-Err g c =
     let gap : IsGap g.K.Ord.cmp c.self.inside.places c.pin.result.target c.in-Err.at = rw c.pin.ensures.target c.in-Err.ensures.absent in
     rw c.in_ok-insert-in-Err.ensures.ok
-    (kept-insert g.K.Ord.cmp g.met.K.Ord.total (set_of c.self.inside.width c.self.inside.places) c.pin.result c.in-Err.at c.self.invariant gap
+    (kept-insert g.K.Ord.cmp g.met.K.Ord.total (set_of c.self.inside.width c.self.inside.places) c.pin.result c.in-Err.at c.self.invariant
+        gap
     (λ settled. let wrong : is_settled (Some Pin) ≡ true = rw c.pin.ensures.kind at settled in cc))
 
 pub returns-in-Ok-clause-answer : goal.returns-in-Ok-clause-answer
@@ -24,4 +25,5 @@ returns-in_ok-insert-in-Err-clause-answer g c =
 pub returns-in_ok-insert-in-Err-clause-pinned : goal.returns-in_ok-insert-in-Err-clause-pinned
 returns-in_ok-insert-in-Err-clause-pinned g c _ =
     rw (← c.self.view_is) (ap (set_of c.self.inside.width) (c.in_ok-insert-in-Err.ensures.ok
-    ∙ insert-with_link g.K.Ord.cmp c.self.inside.places c.args.target c.in-Err.at c.pin.result Pin c.in-Err.ensures.absent c.pin.ensures.target c.pin.ensures.kind))
+    ∙ insert-with_link g.K.Ord.cmp c.self.inside.places c.args.target c.in-Err.at c.pin.result Pin c.in-Err.ensures.absent
+    c.pin.ensures.target c.pin.ensures.kind))

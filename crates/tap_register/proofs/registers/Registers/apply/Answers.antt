@@ -29,7 +29,8 @@ returns-else-index-version-clause-answer g c =
     let cmp = g.K.Ord.cmp in
     let entries = c.self.inside.entries.items in
     let place : IsAt cmp entries c.args.key c.in-Ok.at = rw c.deref.ensures.value at c.in-Ok.ensures.found in
-    let found : entry_of cmp entries c.args.key ≡ Some c.index.result.now = place.found ∙ slice_get-get_or entries c.in-Ok.at c.index.result.now place.within ∙ ap Some (sym c.index.ensures) in
+    let found : entry_of cmp entries c.args.key ≡ Some c.index.result.now = place.found
+        ∙ slice_get-get_or entries c.in-Ok.at c.index.result.now place.within ∙ ap Some (sym c.index.ensures) in
     rw (← c.self.view_is, found) (sym (lt-ltb _ _ c.if-index-version.false))
 
 pub returns-else-index-version-clause-kept : goal.returns-else-index-version-clause-kept
@@ -46,7 +47,8 @@ returns-else-index-version-clause-look_up g c =
     let entries = c.self.inside.entries.items in
     let entry : Entry g.row.K.Denot g.row.V.Denot = record { key = c.args.key; version = c.args.version; value = c.args.value } in
     let place : IsAt cmp entries c.args.key c.in-Ok.at = rw c.deref.ensures.value at c.in-Ok.ensures.found in
-    λ ok other. rw (← c.self.view_is, set-written cmp entries entry c.in-Ok.at place) (entry_of-written cmp g.met.K.Ord.total entries entry other)
+    λ ok other. rw (← c.self.view_is, set-written cmp entries entry c.in-Ok.at place)
+        (entry_of-written cmp g.met.K.Ord.total entries entry other)
 
 pub returns-in_ok-insert-in-Err-clause-look_up : goal.returns-in_ok-insert-in-Err-clause-look_up
 returns-in_ok-insert-in-Err-clause-look_up g c =

@@ -45,12 +45,14 @@ returns-then-awaited-gt1 c =
     let more : (a.waiting == 1) ≡ false = not_last a c.if-awaited-gt1.true in
     let written = c.get_mut.follows.holds less in
     let updated = written.3 (rw found refl) in
-    let answered : Some (session c.args.id less) ≡ option_and_then with_answer (session_of (sessions_of entries) c.args.id) = rw (session_of-sessions_of entries c.args.id, found, more) refl in
+    let answered : Some (session c.args.id less) ≡ option_and_then with_answer (session_of (sessions_of entries) c.args.id) =
+        rw (session_of-sessions_of entries c.args.id, found, more) refl in
     rw (← c.self.view_is) (record {
       answer = rw (session_of-sessions_of entries c.args.id, found, more) refl;
       sessions = rw written.0 (after_answer-open c.args.id a entries c.get_mut.ensures.ordered found more);
       opened = refl;
-      look_up = λ other. session_of-updated entries (c.get_mut.follows.lender less).entries c.args.id other (Some less) _ (updated.0 other) answered;
+      look_up = λ other. session_of-updated entries (c.get_mut.follows.lender less).entries c.args.id other (Some less) _
+          (updated.0 other) answered;
       unknown = λ is. cc;
     })
 
@@ -60,9 +62,11 @@ invariant_of-self-2 c =
     let entries = c.self.inside.awaited.entries in
     let a = c.in-Some.awaited.now in
     let found : awaited_at c.args.id entries ≡ Some a = sym c.in-Some.ensures.value in
-    let unwritten : (c.get_mut.follows.lender a).entries ≡ entries = (c.get_mut.follows.holds a).0 ∙ set_value_same (is_at (nat_cmp c.args.id)) entries a found in
+    let unwritten : (c.get_mut.follows.lender a).entries ≡ entries = (c.get_mut.follows.holds a).0
+        ∙ set_value_same (is_at (nat_cmp c.args.id)) entries a found in
     rw (c.remove.ensures.entries, unwritten) (record {
-      given = All-map-remove_entry (is_at (nat_cmp c.args.id)) (λ e. e.0) (λ id. (1 ≤ id) × (id ≤ c.self.inside.opened)) entries c.self.invariant.given;
+      given = All-map-remove_entry (is_at (nat_cmp c.args.id)) (λ e. e.0)
+          (λ id. (1 ≤ id) × (id ≤ c.self.inside.opened)) entries c.self.invariant.given;
       waiting = All-map-remove_entry (is_at (nat_cmp c.args.id)) (λ e. e.1) (λ a. 1 ≤ a.waiting) entries c.self.invariant.waiting;
       few = c.self.invariant.few;
     })
@@ -72,14 +76,17 @@ returns c =
     let entries = c.self.inside.awaited.entries in
     let a = c.in-Some.awaited.now in
     let found : awaited_at c.args.id entries ≡ Some a = sym c.in-Some.ensures.value in
-    let unwritten : (c.get_mut.follows.lender a).entries ≡ entries = (c.get_mut.follows.holds a).0 ∙ set_value_same (is_at (nat_cmp c.args.id)) entries a found in
+    let unwritten : (c.get_mut.follows.lender a).entries ≡ entries = (c.get_mut.follows.holds a).0
+        ∙ set_value_same (is_at (nat_cmp c.args.id)) entries a found in
     let least : 1 ≤ a.waiting = waits c.args.id a entries c.self.invariant.waiting found in
     let last : (a.waiting == 1) ≡ true = eq-eqb a.waiting 1 (omega arith) in
-    let answered : None ≡ option_and_then with_answer (session_of (sessions_of entries) c.args.id) = rw (session_of-sessions_of entries c.args.id, found, last) refl in
+    let answered : None ≡ option_and_then with_answer (session_of (sessions_of entries) c.args.id) =
+        rw (session_of-sessions_of entries c.args.id, found, last) refl in
     rw (← c.self.view_is) (record {
       answer = rw (session_of-sessions_of entries c.args.id, found, last) refl;
       sessions = rw (c.remove.ensures.entries, unwritten) (after_answer-closed c.args.id a entries c.get_mut.ensures.ordered found last);
       opened = refl;
-      look_up = λ other. session_of-updated entries c.remove.new.self.entries c.args.id other None _ (rw unwritten at (c.remove.ensures.updates.0 other)) answered;
+      look_up = λ other. session_of-updated entries c.remove.new.self.entries c.args.id other None _
+          (rw unwritten at (c.remove.ensures.updates.0 other)) answered;
       unknown = λ is. cc;
     })

@@ -14,7 +14,8 @@ invariant_of-self-2 c =
     let a : Awaited = record { parent = c.args.parent; depth = c.args.depth; waiting = c.args.waiting } in
     let room : opened < 500001 = rw (← c.self.view_is) at c.requires.room in
     rw c.in_ok-insert.ensures.entries (record {
-      given = All-keys-insert_entry nat_cmp (opened + 1) a (λ id. (1 ≤ id) × (id ≤ opened + 1)) entries (λ k d h. let was = c.self.invariant.given k d h in (was.0, omega arith)) (omega arith, omega arith);
+      given = All-keys-insert_entry nat_cmp (opened + 1) a (λ id. (1 ≤ id) × (id ≤ opened + 1)) entries
+          (λ k d h. let was = c.self.invariant.given k d h in (was.0, omega arith)) (omega arith, omega arith);
       waiting = All-values-insert_entry nat_cmp (opened + 1) a (λ a. 1 ≤ a.waiting) entries c.self.invariant.waiting c.requires.waits;
       few = omega arith;
     })
@@ -33,4 +34,5 @@ returns-clause-look_up c =
     let opened = c.self.inside.opened in
     let a : Awaited = record { parent = c.args.parent; depth = c.args.depth; waiting = c.args.waiting } in
     λ other. rw (← c.self.view_is)
-    (session_of-updated entries c.insert.new.self.entries (opened + 1) other (Some a) (Some (session (opened + 1) a)) (c.in_ok-insert.ensures.updates.0 other) refl)
+    (session_of-updated entries c.insert.new.self.entries (opened + 1) other (Some a) (Some (session (opened + 1) a))
+        (c.in_ok-insert.ensures.updates.0 other) refl)

@@ -10,7 +10,8 @@ pub overflow_add-links : goal.overflow_add-links
 overflow_add-links c =
     let sets = c.as_slice-sets.result.now in
     let f = λ (s : LinkSetValue (List ℕ)). length s.links in
-    let most : sum_by f sets ≤ 640 * MOST_LINKS = rw c.as_slice-sets.ensures.value (links_fit c.self.inside.owner c.self.inside.settings c.self.inside.sets.items c.self.invariant) in
+    let most : sum_by f sets ≤ 640 * MOST_LINKS = rw c.as_slice-sets.ensures.value
+        (links_fit c.self.inside.owner c.self.inside.settings c.self.inside.sets.items c.self.invariant) in
     let part = sum_by_more_le f sets c.loop-set.set-index c.set-item.result c.loop-set-test.true in
     let here = ap f c.set-item.is in
     omega (arith, most, part, here, c.len-links.ensures.count, c.loop-set.invariant)
@@ -22,7 +23,8 @@ loop-set-preserved c =
     let more = sum_by_more f sets c.loop-set.set-index c.set-item.result c.loop-set-test.true in
     let here = ap f c.set-item.is in
     let links : c.loop-set.links ≡ sum_by f (take c.loop-set.set-index sets) = c.loop-set.invariant in
-    let sum : c.loop-set.links + c.len-links.result ≡ sum_by f (take (c.loop-set.set-index + 1) sets) = omega (arith, more, here, c.len-links.ensures.count, links) in
+    let sum : c.loop-set.links + c.len-links.result ≡ sum_by f (take (c.loop-set.set-index + 1) sets) =
+        omega (arith, more, here, c.len-links.ensures.count, links) in
     sum
 
 pub returns : goal.returns

@@ -9,7 +9,8 @@ pub index_mut-requires : goal.index_mut-requires
 index_mut-requires c =
     let within =
     number_within c.self.inside.owner c.self.inside.settings c.self.inside.sets.items c.args.target c.number_of-number.result
-    c.self.invariant (rw (← c.self.view_is) at c.requires.name) (rw (← c.self.view_is) at c.requires.other) (rw (← c.self.view_is) at c.number_of-number.ensures) in omega (arith, within, c.self.inside.sets.ok)
+    c.self.invariant (rw (← c.self.view_is) at c.requires.name) (rw (← c.self.view_is) at c.requires.other)
+        (rw (← c.self.view_is) at c.number_of-number.ensures) in omega (arith, within, c.self.inside.sets.ok)
 
 pub invariant_of-self : goal.invariant_of-self
 invariant_of-self c =
@@ -22,7 +23,8 @@ invariant_of-self c =
       place = rw (← c.self.view_is) at c.number_of-number.ensures;
       here = c.index_mut.ensures.value;
     } in
-    kept-with_kind c.self.inside.owner c.self.inside.settings sets c.args.target number c.index_mut.result.now is c.mark_leaving.new.self Leaving c.mark_leaving.result c.mark_leaving.ensures.marked c.mark_leaving.ensures.same
+    kept-with_kind c.self.inside.owner c.self.inside.settings sets c.args.target number c.index_mut.result.now is c.mark_leaving.new.self
+        Leaving c.mark_leaving.result c.mark_leaving.ensures.marked c.mark_leaving.ensures.same
 
 pub returns-clause-answer : goal.returns-clause-answer
 returns-clause-answer c =
@@ -35,7 +37,8 @@ returns-clause-answer c =
       place = rw (← c.self.view_is) at c.number_of-number.ensures;
       here = c.index_mut.ensures.value;
     } in
-    rw (← c.self.view_is, ← kind c.self.inside.owner c.self.inside.settings sets c.args.target number c.index_mut.result.now is) c.mark_leaving.ensures.answer
+    rw (← c.self.view_is, ← kind c.self.inside.owner c.self.inside.settings sets c.args.target number c.index_mut.result.now is)
+        c.mark_leaving.ensures.answer
 
 pub returns-clause-marked : goal.returns-clause-marked
 returns-clause-marked c =
@@ -48,4 +51,6 @@ returns-clause-marked c =
       place = rw (← c.self.view_is) at c.number_of-number.ensures;
       here = c.index_mut.ensures.value;
     } in
-    rw (← c.self.view_is) (on_true c.mark_leaving.result _ _ (changed c.self.inside.owner c.self.inside.settings sets c.args.target number c.index_mut.result.now is c.mark_leaving.new.self (λ l. with_kind name_cmp l c.args.target Leaving)) c.mark_leaving.ensures.marked)
+    rw (← c.self.view_is) (on_true c.mark_leaving.result _ _
+        (changed c.self.inside.owner c.self.inside.settings sets c.args.target number c.index_mut.result.now is c.mark_leaving.new.self
+            (λ l. with_kind name_cmp l c.args.target Leaving)) c.mark_leaving.ensures.marked)

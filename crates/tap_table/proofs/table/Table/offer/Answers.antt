@@ -9,7 +9,8 @@ pub index_mut-requires : goal.index_mut-requires
 index_mut-requires c =
     let within =
     number_within c.self.inside.owner c.self.inside.settings c.self.inside.sets.items c.args.target c.number_of-number.result
-    c.self.invariant (rw (← c.self.view_is) at c.requires.name) (rw (← c.self.view_is) at c.requires.other) (rw (← c.self.view_is) at c.number_of-number.ensures) in omega (arith, within, c.self.inside.sets.ok)
+    c.self.invariant (rw (← c.self.view_is) at c.requires.name) (rw (← c.self.view_is) at c.requires.other)
+        (rw (← c.self.view_is) at c.number_of-number.ensures) in omega (arith, within, c.self.inside.sets.ok)
 
 pub offer_in-requires : goal.offer_in-requires
 offer_in-requires c =
@@ -35,7 +36,8 @@ invariant_of-self c =
       place = rw (← c.self.view_is) at c.number_of-number.ensures;
       here = c.index_mut.ensures.value;
     } in
-    kept-with_link c.self.inside.owner c.self.inside.settings sets c.args.target number c.index_mut.result.now is c.offer_in.new.set Settled c.offer_in.result c.offer_in.ensures.settled c.offer_in.ensures.same c.offer_in.ensures.few
+    kept-with_link c.self.inside.owner c.self.inside.settings sets c.args.target number c.index_mut.result.now is c.offer_in.new.set Settled
+        c.offer_in.result c.offer_in.ensures.settled c.offer_in.ensures.same c.offer_in.ensures.few
 
 pub returns-clause-answer : goal.returns-clause-answer
 returns-clause-answer c =
@@ -48,7 +50,8 @@ returns-clause-answer c =
       place = rw (← c.self.view_is) at c.number_of-number.ensures;
       here = c.index_mut.ensures.value;
     } in
-    rw (← c.self.view_is, ← kind c.self.inside.owner c.self.inside.settings sets c.args.target number c.index_mut.result.now is, ← room c.self.inside.owner c.self.inside.settings sets c.args.target number c.index_mut.result.now is) c.offer_in.ensures.answer
+    rw (← c.self.view_is, ← kind c.self.inside.owner c.self.inside.settings sets c.args.target number c.index_mut.result.now is,
+        ← room c.self.inside.owner c.self.inside.settings sets c.args.target number c.index_mut.result.now is) c.offer_in.ensures.answer
 
 pub returns-clause-settled : goal.returns-clause-settled
 returns-clause-settled c added =
@@ -61,7 +64,8 @@ returns-clause-settled c added =
       place = rw (← c.self.view_is) at c.number_of-number.ensures;
       here = c.index_mut.ensures.value;
     } in
-    rw (← c.self.view_is) (changed c.self.inside.owner c.self.inside.settings sets c.args.target number c.index_mut.result.now is c.offer_in.new.set (λ l. with_link name_cmp l c.args.target Settled) (c.offer_in.ensures.settled added))
+    rw (← c.self.view_is) (changed c.self.inside.owner c.self.inside.settings sets c.args.target number c.index_mut.result.now is
+        c.offer_in.new.set (λ l. with_link name_cmp l c.args.target Settled) (c.offer_in.ensures.settled added))
 
 pub returns-clause-inline : goal.returns-clause-inline
 returns-clause-inline c =
@@ -74,4 +78,5 @@ returns-clause-inline c =
       place = rw (← c.self.view_is) at c.number_of-number.ensures;
       here = c.index_mut.ensures.value;
     } in
-    rw (← c.self.view_is, ← near c.self.inside.owner c.self.inside.settings sets c.args.target number c.index_mut.result.now is) c.offer_in.ensures.inline
+    rw (← c.self.view_is, ← near c.self.inside.owner c.self.inside.settings sets c.args.target number c.index_mut.result.now is)
+        c.offer_in.ensures.inline

@@ -8,5 +8,7 @@ returns c =
     let sets = c.self.inside.sets.items in
     let place = c.place_of_link-place.result in
     let are = slots_are t c.self.inside.owner c.self.inside.settings sets sets c.self.view_is refl in
-    let here = slot_is t sets place.number c.index.result.now are (omega (arith, c.place_of_link-place.ensures.slot, slots_len t sets are)) c.index.ensures in
-    at_place (λ e. e.target) t c.args.i place c.index.result.now.links c.target_at.result c.place_of_link-place.ensures here c.target_at.ensures
+    let here = slot_is t sets place.number c.index.result.now are
+        (omega (arith, c.place_of_link-place.ensures.slot, slots_len t sets are)) c.index.ensures in
+    at_place (λ e. e.target) t c.args.i place c.index.result.now.links c.target_at.result c.place_of_link-place.ensures here
+        c.target_at.ensures

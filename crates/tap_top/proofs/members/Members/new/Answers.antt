@@ -9,8 +9,10 @@ pub returns : goal.returns
 returns c = record {
   settings = refl;
   at_rest = record {
-    core = λ name. core_kept c.args.settings c.args.members.now name (get (slice_cmp nat_cmp) c.in_ok-ties.ties name) (c.in_ok-ties.ensures name);
+    core = λ name. core_kept c.args.settings c.args.members.now name (get (slice_cmp nat_cmp) c.in_ok-ties.ties name)
+        (c.in_ok-ties.ensures name);
     tables = λ member among.
-        table_kept c.args.settings c.args.members.now member (get (slice_cmp nat_cmp) c.in_ok-ties.ties member) (c.in_ok-ties.ensures member) among;
+        table_kept c.args.settings c.args.members.now member (get (slice_cmp nat_cmp) c.in_ok-ties.ties member)
+            (c.in_ok-ties.ensures member) among;
   };
 }

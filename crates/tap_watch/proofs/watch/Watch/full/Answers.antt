@@ -22,9 +22,11 @@ returns-clause-slots c s =
       λ here.
           let is = from_levels base joiner levels s (subst (λ slots. Contains slots s) (all c) here) in
           record { level = omega (arith, is.level); digit = is.digit; other = is.other },
-      λ is. subst (λ slots. Contains slots s) (sym (all c)) (to_levels base joiner levels s (record { level = omega (arith, is.level); digit = is.digit; other = is.other })),
+      λ is. subst (λ slots. Contains slots s) (sym (all c))
+          (to_levels base joiner levels s (record { level = omega (arith, is.level); digit = is.digit; other = is.other })),
     )
 
 pub returns-clause-len : goal.returns-clause-len
 returns-clause-len c =
-    rw (all c) (levels_len c.args.settings.now.base c.args.joiner.now (c.args.prefix + 1) (λ level lt. c.requires.is_name.below level 0 (omega (arith, c.requires.is_name.len, c.requires.within))))
+    rw (all c) (levels_len c.args.settings.now.base c.args.joiner.now (c.args.prefix + 1)
+        (λ level lt. c.requires.is_name.below level 0 (omega (arith, c.requires.is_name.len, c.requires.within))))

@@ -16,7 +16,8 @@ returns-in-Some-clause-was c = (λ _. is_there c.args.self.now c.args.slot c.in-
 pub returns-in-Some-clause-left : goal.returns-in-Some-clause-left
 returns-in-Some-clause-left c =
     let ascending = subst IsAscending c.self.view_is c.self.invariant in
-    rw (c.remove.ensures.items, c.self.view_is) (sym (without_at c.args.self.now c.args.slot c.in-Some.place ascending c.in-Some.ensures.some))
+    rw (c.remove.ensures.items, c.self.view_is) (sym (without_at c.args.self.now c.args.slot c.in-Some.place ascending
+        c.in-Some.ensures.some))
 
 pub returns-in-None-clause-left : goal.returns-in-None-clause-left
 returns-in-None-clause-left c = sym (without_absent c.args.self.now c.args.slot (c.in-None.ensures.none refl))
