@@ -1,5 +1,5 @@
--- How many links there are after each change of a link set, and how many of them are settled.
-use Rattle.std.proofs.Common.{◌≡◌, ◌≢◌, ◌&&◌, ℕ, ◌+◌, ◌≤◌, Bool, true, false, not, cond, length, Option, None, Some, arith, refl, inl, inr}
+-- How wide a link set is after each of its changes, how many links it has, and how many of them are settled.
+use Rattle.std.proofs.Common.{◌≡◌, ◌&&◌, ℕ, ◌+◌, ◌≤◌, Bool, true, false, not, cond, if◌then◌else◌, List, length, Option, None, Some, arith, refl}
 use Rattle.std.specs.Cmp.{IsTotalOrder}
 use Rattle.std.specs.Option.{is_none}
 use Rattle.std.specs.declared.cmp.Ordering.{Ordering}
@@ -7,7 +7,7 @@ use Rattle.std.proofs.lemmas.Bool.{ltb-false}
 use Rattle.tap_link.specs.declared.kind.Kind.{Kind}
 use Rattle.tap_link.specs.declared.kind.Kind.TheVariants.{Pin, Settled, Leaving}
 use Rattle.tap_link.specs.Entry.{Entry}
-use Rattle.tap_link.specs.LinkSet.{IsAscending, IsLinkSet, LinkSetValue, forgotten, has_room, is_pinned, is_settled, is_settled_or_leaving, kind_of, least_settled, marked, offered, pinned, released, removed, settled_count, with_kind, without}
+use Rattle.tap_link.specs.LinkSet.{IsAscending, IsLinkSet, LinkSetValue, forgotten, has_room, is_pinned, is_settled, is_settled_or_leaving, kind_of, least_settled, marked, offered, pinned, released, removed, settled_count, with_kind, with_link, without}
 use Rattle.tap_link.proofs.Counts.{length-with_kind, length-with_link, length-without, settled_count-with_kind, settled_count-with_link, settled_count-without}
 use Rattle.tap_link.proofs.Least.{counted_none}
 
@@ -15,7 +15,31 @@ use Rattle.tap_link.proofs.Least.{counted_none}
 abbrev pub one_if : Bool → ℕ
 one_if holds = cond holds 1 0
 
+width_if : {K : Type 0} (changes : Bool) (set : LinkSetValue K) (links : List (Entry K))
+    → (if changes then record set { links = links } else set).width ≡ set.width
+width_if true set links = refl
+width_if false set links = refl
+
 module _ {K : Type 0} (cmp : K → K → Ordering) (set : LinkSetValue K) (target : K) where
+  -- no change makes a set wider
+  pub width-pinned : (pinned cmp set target).width ≡ set.width
+  width-pinned = width_if (is_none (kind_of cmp set.links target)) set (with_link cmp set.links target Pin)
+
+  pub width-offered : (offered cmp set target).width ≡ set.width
+  width-offered = width_if (is_none (kind_of cmp set.links target) && has_room set) set (with_link cmp set.links target Settled)
+
+  pub width-released : (released cmp set target).width ≡ set.width
+  width-released = refl
+
+  pub width-forgotten : (forgotten cmp set target).width ≡ set.width
+  width-forgotten = width_if (is_pinned (kind_of cmp set.links target)) set (without cmp set.links target)
+
+  pub width-marked : (marked cmp set target).width ≡ set.width
+  width-marked = width_if (is_settled (kind_of cmp set.links target)) set (with_kind cmp set.links target Leaving)
+
+  pub width-removed : (removed cmp set target).width ≡ set.width
+  width-removed = width_if (is_settled_or_leaving (kind_of cmp set.links target)) set (without cmp set.links target)
+
   length_by_pin : (found : Option Kind) → kind_of cmp set.links target ≡ found
       → length (pinned cmp set target).links ≡ one_if (is_none (kind_of cmp set.links target)) + length set.links
   length_by_pin None is = rw is (length-with_link cmp set.links target Pin is)

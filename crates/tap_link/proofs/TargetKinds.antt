@@ -1,5 +1,5 @@
 -- The kind of every target after each change of a link set.
-use Rattle.std.proofs.Common.{◌≡◌, ◌&&◌, Bool, true, false, List, Option, None, Some, refl, sym, ap, ◌∙◌, inl, inr, if◌then◌else◌}
+use Rattle.std.proofs.Common.{◌≡◌, Bool, true, false, List, Option, None, Some, refl, ap, ◌∙◌, inl, inr, if◌then◌else◌}
 use Rattle.std.specs.Cmp.{IsTotalOrder}
 use Rattle.std.specs.Option.{is_some, option_map}
 use Rattle.std.specs.Ordering.{is_eq}
@@ -52,7 +52,7 @@ kind_removed (Some Leaving) = None
 
 module _ {K : Type 0} (cmp : K → K → Ordering) (o : IsTotalOrder cmp) where
   -- two rules that agree on the kind of a target agree on each target that is equal to it
-  by_rule : (links new : List (Entry K)) (target other : K) (made rule : Option Kind → Option Kind)
+  pub by_rule : (links new : List (Entry K)) (target other : K) (made rule : Option Kind → Option Kind)
       → kind_of cmp new other ≡ (if is_eq (cmp other target) then made (kind_of cmp links other) else kind_of cmp links other)
       → made (kind_of cmp links target) ≡ rule (kind_of cmp links target)
       → kind_of cmp new other ≡ (if is_eq (cmp other target) then rule (kind_of cmp links other) else kind_of cmp links other)

@@ -32,7 +32,8 @@ pub returns-in-Settled-clause-after : goal.returns-in-Settled-clause-after
 returns-in-Settled-clause-after g c =
     let kind = found_as g.K.Ord.cmp c.self.inside.places c.args.target c.in-Ok.at c.link_at.result.now c.kind.result c.in-Ok.ensures.found
     c.link_at.ensures c.kind.ensures in
-    rw (← c.self.view_is, kind, c.in-Settled.is) (ap (set_of c.self.inside.width) (c.mark_leaving.ensures c.link_at.result.now c.link_at.ensures
+    rw (← c.self.view_is, kind, c.in-Settled.is) (ap (set_of c.self.inside.width)
+    (c.mark_leaving.ensures c.link_at.result.now c.link_at.ensures
     ∙ set-with_kind g.K.Ord.cmp c.self.inside.places c.args.target c.in-Ok.at c.link_at.result.now Leaving c.in-Ok.ensures.found
     c.link_at.ensures))
 

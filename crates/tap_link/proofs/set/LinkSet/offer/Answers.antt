@@ -29,7 +29,8 @@ returns-in_ok-insert-in-Err-clause-answer g c =
 pub returns-in_ok-insert-in-Err-clause-after : goal.returns-in_ok-insert-in-Err-clause-after
 returns-in_ok-insert-in-Err-clause-after g c =
     let room : has_room (set_of c.self.inside.width c.self.inside.places) ≡ true = cc in
-    rw (← c.self.view_is, absent-kind_of g.K.Ord.cmp c.self.inside.places c.args.target c.in-Err.at c.in-Err.ensures.absent, room) (ap (set_of c.self.inside.width) (c.in_ok-insert-in-Err.ensures.ok
+    let absent = absent-kind_of g.K.Ord.cmp c.self.inside.places c.args.target c.in-Err.at c.in-Err.ensures.absent in
+    rw (← c.self.view_is, absent, room) (ap (set_of c.self.inside.width) (c.in_ok-insert-in-Err.ensures.ok
     ∙ insert-with_link g.K.Ord.cmp c.self.inside.places c.args.target c.in-Err.at c.settled.result Settled c.in-Err.ensures.absent
     c.settled.ensures.target c.settled.ensures.kind))
 

@@ -24,7 +24,8 @@ returns-in_ok-insert-in-Err-clause-answer g c =
 
 pub returns-in_ok-insert-in-Err-clause-after : goal.returns-in_ok-insert-in-Err-clause-after
 returns-in_ok-insert-in-Err-clause-after g c =
-    rw (← c.self.view_is, absent-kind_of g.K.Ord.cmp c.self.inside.places c.args.target c.in-Err.at c.in-Err.ensures.absent) (ap (set_of c.self.inside.width) (c.in_ok-insert-in-Err.ensures.ok
+    let absent = absent-kind_of g.K.Ord.cmp c.self.inside.places c.args.target c.in-Err.at c.in-Err.ensures.absent in
+    rw (← c.self.view_is, absent) (ap (set_of c.self.inside.width) (c.in_ok-insert-in-Err.ensures.ok
     ∙ insert-with_link g.K.Ord.cmp c.self.inside.places c.args.target c.in-Err.at c.pin.result Pin c.in-Err.ensures.absent
     c.pin.ensures.target c.pin.ensures.kind))
 
