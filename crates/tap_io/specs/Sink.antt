@@ -5,10 +5,13 @@ use Rattle.tap_io.specs.Faults.{Fails, counted}
 use Rattle.tap_io.specs.declared.sink.Took.{Took}
 use Rattle.tap_io.specs.declared.sink.Took.TheVariants.{Took as TookBytes, Failed}
 
--- the bytes that a sink holds, which are `None` where it doesn't tell them, and how many faults there were
+-- The bytes that a sink holds, which are `None` where it doesn't tell them; how many faults there were; and, of a sink
+-- that writes to a borrowed one, the name of that borrow, and then of those that it writes through in its turn. By
+-- these names the borrower knows the sink that it lent after it was written to.
 pub record SinkState : Type 0 where
   pub held : Option (List ℕ)
   pub faults : ℕ
+  pub borrows : List ℕ
 
 -- the first n bytes were appended, and no fault was counted
 pub record Takes (old new : SinkState) (bytes : List ℕ) (n : ℕ) : Type 0 where
@@ -22,9 +25,10 @@ abbrev pub WritesAs : SinkState → SinkState → List ℕ → Took → Type 0
 WritesAs old new bytes (TookBytes n) = Takes old new bytes n
 WritesAs old new bytes Failed = Fails old.held new.held old.faults new.faults
 
--- The count of faults doesn't fall, and the answer says what else came about.
+-- The count of faults doesn't fall, the bytes go to the same sink as before, and the answer says what else came about.
 pub record Writes (old new : SinkState) (bytes : List ℕ) (took : Took) : Type 0 where
   pub later : old.faults ≤ new.faults
+  pub same : new.borrows ≡ old.borrows
   pub answer : WritesAs old new bytes took
 
 -- the count of faults after an answer, of a sink that counts each failed write and nothing else
