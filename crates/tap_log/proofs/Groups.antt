@@ -238,7 +238,7 @@ last_within p (suc n) = subst Within (let e : n + 1 ≡ suc n = omega arith in e
     one_more : unwrap_or (last_or None (filter p (range_with_len 1 n))) 0 ≤ n → (b : Bool) → p (n + 1) ≡ b → Within (n + 1)
     one_more so_far true is = let e = last_passes p n (n + 1) is refl in omega (arith, e)
     one_more so_far false is = let e = last_stays p n (unwrap_or (last_or None (filter p (range_with_len 1 n))) 0) is refl in
-    omega (arith, e, so_far)
+        omega (arith, e, so_far)
 
 -- ---- the law
 
