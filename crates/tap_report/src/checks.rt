@@ -97,8 +97,8 @@ pub(crate) fn log_of(
 fn put_each<K: Sink>(mode: Mode, log: &Log, sink: &mut K) -> Written
     requires printable { IsPrintableLog log.now.records }
     requires few { length log.now.records < MOST_RECORDS }
-    ensures { WritesText (K.held sink.old) (K.held sink.new)
-        (K.faults sink.old) (K.faults sink.new) (text_of_log mode log.now.records) Written.All result }
+    ensures { WritesText (K.state sink.old) (K.state sink.new)
+        (text_of_log mode log.now.records) Written.All result }
 {
     let mut reporter = Reporter::new(mode);
     let records = log.as_slice();
