@@ -13,6 +13,10 @@ use Rattle.tap_report.specs.declared.tally.Tally.{Tally}
 use Rattle.tap_report.specs.declared.written.Written.{Written}
 use Rattle.tap_report.specs.declared.written.Written.TheVariants.{All}
 
+-- how many records may be put to one reporter
+abbrev pub most_records : ℕ
+most_records = 4000000000
+
 -- The mode, the settings of the `Begin` that was put, how many records were put, what the summary is made from, and
 -- whether all was written.
 pub record ReporterValue : Type 0 where

@@ -1,5 +1,5 @@
-ghost use Rattle.std.specs.Prelude.{◌≡◌, ◌<◌, ◌↔◌, IsNone};
-ghost use Rattle.tap_report.specs.Reporter.{Finishes, Puts, PutsWriteTheText, new_reporter, settings_after};
+ghost use Rattle.std.specs.Prelude.{◌≡◌, ◌<◌, ◌≤◌, ◌↔◌, IsNone, IsTrue};
+ghost use Rattle.tap_report.specs.Reporter.{Finishes, Puts, PutsWriteTheText, most_records, new_reporter, settings_after};
 ghost use Rattle.tap_report.specs.Text.{IsBegin, IsPrintable, IsPrintableLog, text_of_log};
 ghost use Rattle.tap_report.specs.Written.{WritesText};
 
@@ -55,6 +55,13 @@ impl Reporter {
         }
     }
 
+    /// Whether as many records were put as may be, which are [`MOST_RECORDS`].
+    pub fn is_full(&self) -> bool
+        ensures { IsTrue result ↔ (most_records ≤ self.now.records) }
+    {
+        self.records >= MOST_RECORDS
+    }
+
     /// Writes the text of one record. The first record, and no other one, is a `Begin`, and fewer than [`MOST_RECORDS`]
     /// were put. The path of a walk isn't empty, the digit of each slot is below the base, the head of a frame is read
     /// with the settings of the `Begin`, and want of memory isn't the fault of a damaged copy.
@@ -64,7 +71,7 @@ impl Reporter {
     pub fn put<K: Sink>(&mut self, item: &Record, sink: &mut K) -> Written
         requires begins { IsBegin item.now ↔ IsNone self.old.settings }
         requires printable { IsPrintable self.old.settings item.now }
-        requires few { self.old.records < MOST_RECORDS }
+        requires few { self.old.records < most_records }
         ensures { Puts self.old self.new item.now (K.state sink.old) (K.state sink.new) result }
     {
         self.so_far
