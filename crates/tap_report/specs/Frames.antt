@@ -1,7 +1,6 @@
 -- the lines of frames and of packets
-use Rattle.std.specs.Prelude.{ℕ, ◌/◌, ◌%◌, List, [], ◌∷◌, ◌++◌, slice_index_or, codes, Bool, true, false, Option, None, Some, Result, Ok, Err}
-use Rattle.std.specs.List.{flat_map}
-use Rattle.tap_name.specs.Digits.{text_of_digit}
+use Rattle.std.specs.Prelude.{ℕ, List, [], ◌∷◌, ◌++◌, slice_index_or, codes, Bool, true, false, Option, None, Some, Result, Ok, Err}
+use Rattle.hex.specs.Hex.{encode_lower}
 use Rattle.tap_name.specs.Settings.{SettingsValue}
 use Rattle.tap_wire.specs.Reading.{head_of}
 use Rattle.tap_wire.specs.declared.fault.HeadFault.{HeadFault}
@@ -30,17 +29,10 @@ abbrev pub heading : Option SettingsValue → List ℕ → List ℕ
 heading None bytes = []
 heading (Some p) bytes = text_of_head (head_of p bytes)
 
--- a byte as two digits
-abbrev pub hex_of_byte : ℕ → List ℕ
-hex_of_byte byte = text_of_digit (byte / 16) ∷ text_of_digit (byte % 16) ∷ []
-
-abbrev pub hex : List ℕ → List ℕ
-hex bytes = flat_map hex_of_byte bytes
-
--- the line of a frame that is sent
+-- the line of a frame that is sent, with its bytes in hexadecimal
 abbrev pub sent_line : Option SettingsValue → ℕ → List ℕ → List ℕ
 sent_line settings number bytes =
-    numbered (codes "sent ") number ++ codes " " ++ heading settings bytes ++ codes " " ++ hex bytes
+    numbered (codes "sent ") number ++ codes " " ++ heading settings bytes ++ codes " " ++ encode_lower bytes
 
 -- the words of a fault; want of memory is never printed
 abbrev pub words_of_fault : WireFault → List ℕ

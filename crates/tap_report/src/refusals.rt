@@ -1,16 +1,16 @@
 ghost use Rattle.std.specs.Prelude.{◌≡◌};
-ghost use Rattle.tap_report.specs.Outgoing.{AddsText};
+ghost use Rattle.tap_report.specs.Written.{WritesText};
 ghost use Rattle.tap_report.specs.Refusal.{code_of_refusal, refused_line, words_of_refusal};
 
-use crate::outgoing::Outgoing;
+use crate::written::Written;
 use tap_io::Sink;
 use tap_log::Refusal;
 
 // The lines of refused steps.
-impl Outgoing {
+impl Written {
     pub(crate) fn add_refused<K: Sink>(&mut self, sink: &mut K, index: u32, refusal: &Refusal)
-        ensures { AddsText (K.held sink.old) (K.held sink.new)
-            (K.faults sink.old) (K.faults sink.new) self.old self.new (refused_line index refusal.now) }
+        ensures { WritesText (K.state sink.old) (K.state sink.new)
+            (refused_line index refusal.now) self.old self.new }
     {
         self.add_numbered(sink, b"refused ", index);
         self.add_numbered(sink, b" ", code_of(refusal));
@@ -20,8 +20,8 @@ impl Outgoing {
 
     // Adds the words of a refusal.
     fn add_words<K: Sink>(&mut self, sink: &mut K, refusal: &Refusal)
-        ensures { AddsText (K.held sink.old) (K.held sink.new)
-            (K.faults sink.old) (K.faults sink.new) self.old self.new (words_of_refusal refusal.now) }
+        ensures { WritesText (K.state sink.old) (K.state sink.new)
+            (words_of_refusal refusal.now) self.old self.new }
     {
         match refusal {
             Refusal::NoSuchNode => self.add(sink, b"no such node"),
