@@ -1,4 +1,4 @@
--- The text of a log: a line for each record, further lines behind a beginning, a table and pointers, and the summary.
+-- The text of a log: a line for each record, further lines after a beginning, a table and pointers, and the summary.
 use Rattle.std.specs.Prelude.{◌≢◌, ℕ, ◌<◌, List, [], ◌∷◌, ◌++◌, length, codes, All, Bool, true, false, Option, None, Some, IsSome, IsSomeAnd, IsOk, if◌then◌else◌, fold}
 use Rattle.std.specs.Option.{option_or}
 use Rattle.tap_name.specs.Settings.{SettingsValue}
@@ -6,7 +6,7 @@ use Rattle.tap_wire.specs.Reading.{head_of}
 use Rattle.tap_wire.specs.declared.fault.WireFault.TheVariants.{NoMemory}
 use Rattle.tap_log.specs.declared.record.Record.{Record}
 use Rattle.tap_log.specs.declared.record.Record.TheVariants.{Begin, Step, Sent, Taken, Core, Gone, Walked, RootOf, Asked, Answered, Published, Withdrawn, TableOf, PointersOf, Refused, Spent, Finished, Garbled, Abandoned, Carrier, Packet, Arrived, Ticked, Lost, RootsOf, CastFrom, Reached, Closed}
-use Rattle.tap_report.specs.Shapes.{named, named_at, numbered, line}
+use Rattle.tap_report.specs.Shapes.{name_after, object_at, number_after, line}
 use Rattle.tap_report.specs.Starts.{begin_line, member_lines, step_line}
 use Rattle.tap_report.specs.Lookups.{walked_line, asked_line, answered_line, roots_line}
 use Rattle.tap_report.specs.Tables.{table_line, link_lines, pointers_line, pointer_lines}
@@ -22,31 +22,31 @@ abbrev pub line_of : Option SettingsValue → Record → List ℕ
 line_of settings (Begin begun frames members) = begin_line begun frames
 line_of settings (Step index step) = step_line index step
 line_of settings (Sent number bytes) = sent_line settings number bytes
-line_of settings (Taken number) = numbered (codes "taken ") number
-line_of settings (Core name) = named (codes "core ") name
-line_of settings (Gone name) = named (codes "gone ") name
+line_of settings (Taken number) = number_after (codes "taken ") number
+line_of settings (Core name) = name_after (codes "core ") name
+line_of settings (Gone name) = name_after (codes "gone ") name
 line_of settings (Walked object path) = walked_line object path
-line_of settings (RootOf object root) = named_at (codes "rooted ") object root
+line_of settings (RootOf object root) = object_at (codes "rooted ") object root
 line_of settings (Asked ticket object asker) = asked_line ticket object asker
 line_of settings (Answered ticket server) = answered_line ticket server
-line_of settings (Published object server) = named_at (codes "published ") object server
-line_of settings (Withdrawn object server) = named_at (codes "withdrawn ") object server
+line_of settings (Published object server) = object_at (codes "published ") object server
+line_of settings (Withdrawn object server) = object_at (codes "withdrawn ") object server
 line_of settings (TableOf name status links) = table_line name status (length links)
 line_of settings (PointersOf name pairs) = pointers_line name (length pairs)
 line_of settings (Refused index refusal) = refused_line index refusal
-line_of settings (Spent limit) = numbered (codes "spent ") limit
-line_of settings (Finished steps) = numbered (codes "done ") steps
+line_of settings (Spent limit) = number_after (codes "spent ") limit
+line_of settings (Finished steps) = number_after (codes "done ") steps
 line_of settings (Garbled number fault) = garbled_line number fault
-line_of settings (Abandoned name) = named (codes "abandoned ") name
+line_of settings (Abandoned name) = name_after (codes "abandoned ") name
 line_of settings Carrier = codes "carrier"
 line_of settings (Packet number frame ack) = packet_line number frame ack
-line_of settings (Arrived packet) = numbered (codes "arrived ") packet
+line_of settings (Arrived packet) = number_after (codes "arrived ") packet
 line_of settings Ticked = codes "ticked"
-line_of settings (Lost packet) = numbered (codes "lost ") packet
+line_of settings (Lost packet) = number_after (codes "lost ") packet
 line_of settings (RootsOf object asker roots) = roots_line object asker roots
 line_of settings (CastFrom cast word level name) = cast_line cast word level name
 line_of settings (Reached cast name) = reached_line cast name
-line_of settings (Closed cast) = numbered (codes "closed ") cast
+line_of settings (Closed cast) = number_after (codes "closed ") cast
 
 -- whether the lines of members are printed
 abbrev pub members_in : Mode → List (List ℕ) → List ℕ
@@ -165,7 +165,7 @@ settings_after settings item = option_or (begun_settings item) settings
 abbrev pub settings_of : List Record → Option SettingsValue
 settings_of records = fold settings_after None records
 
--- the texts of records one after another, behind a `Begin` with these settings
+-- the texts of records one after another, after a `Begin` with these settings
 abbrev pub texts_after : Mode → Option SettingsValue → List Record → List ℕ
 texts_after mode settings [] = []
 texts_after mode settings (item ∷ items) = text_of_record mode settings item ++ texts_after mode (settings_after settings item) items
@@ -174,7 +174,7 @@ texts_after mode settings (item ∷ items) = text_of_record mode settings item +
 abbrev pub text_of_log : Mode → List Record → List ℕ
 text_of_log mode records = texts_after mode None records ++ ending mode (settings_of records) (numbers_of records)
 
--- What a record must meet to be printed, behind a `Begin` with these settings: the head of a frame is read, a walk went
+-- What a record must meet to be printed, after a `Begin` with these settings: the head of a frame is read, a walk went
 -- through some node, the digits of slots are below the base, and want of memory isn't a fault.
 abbrev pub IsPrintable : Option SettingsValue → Record → Type 0
 IsPrintable settings (Begin begun frames members) = Unit {0}
@@ -206,7 +206,7 @@ IsPrintable settings (CastFrom cast word level name) = Unit {0}
 IsPrintable settings (Reached cast name) = Unit {0}
 IsPrintable settings (Closed cast) = Unit {0}
 
--- each record is printable behind those before it
+-- each record is printable after those before it
 abbrev pub ArePrintable : Option SettingsValue → List Record → Type 0
 ArePrintable settings [] = Unit {0}
 ArePrintable settings (item ∷ items) = IsPrintable settings item × ArePrintable (settings_after settings item) items
