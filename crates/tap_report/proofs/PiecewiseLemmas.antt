@@ -19,16 +19,16 @@ item_at log place item is = sym (get_or_from_slice_get log place item item is)
 -- it can be printed with the settings of those before it
 pub IsPrintable-at : (log : List Record) (place : ℕ) (item : Record) (settings : Option SettingsValue) → place < length log
     → slice_get log place ≡ Some item → settings ≡ settings_of (take place log) → ArePrintable None log → IsPrintable settings item
-IsPrintable-at log place item settings within is kept all =
+IsPrintable-at log place item settings within is so_far all =
     let P : Option SettingsValue → Type 0 = λ s. IsPrintable s item in
-    subst P (sym kept) (ArePrintable-at None log place item all within (item_at log place item is))
+    subst P (sym so_far) (ArePrintable-at None log place item all within (item_at log place item is))
 
 -- the settings with one record more
 pub settings_of-next : (log : List Record) (place : ℕ) (item : Record) (settings : Option SettingsValue) → place < length log
     → slice_get log place ≡ Some item → settings ≡ settings_of (take place log)
     → settings_after settings item ≡ settings_of (take (place + 1) log)
-settings_of-next log place item settings within is kept =
-    ap (λ s. settings_after s item) kept ∙ sym (settings_of-push (take place log) item)
+settings_of-next log place item settings within is so_far =
+    ap (λ s. settings_after s item) so_far ∙ sym (settings_of-push (take place log) item)
     ∙ sym (ap settings_of (take_next log place item within (item_at log place item is)))
 
 -- the reports of all records
@@ -44,7 +44,7 @@ Reports-fresh state reporter fresh =
     let P : ReporterValue → Type 0 = λ r. Reports reporter.mode [] state state r in
     subst P (sym fresh) (Reports-new reporter.mode state)
 
--- those of the records so far, where more have come behind them
+-- those of the records so far, where more have come after them
 pub Reports-front : (mode : Mode) (log longer : List Record) (from : ℕ) (old new : SinkState) (reporter : ReporterValue)
     → from ≡ length log → take (length log) longer ≡ log → Reports mode log old new reporter
     → Reports mode (take from longer) old new reporter
@@ -52,7 +52,7 @@ Reports-front mode log longer from old new reporter is front reports =
     let P : List Record → Type 0 = λ l. Reports mode l old new reporter in
     subst P (sym (ap (λ n. take n longer) is ∙ front)) reports
 
--- one record has come behind them
+-- one record has come after them
 pub front-push : (log longer : List Record) (item : Record) → longer ≡ log ++ item ∷ [] → take (length log) longer ≡ log
 front-push log longer item is =
     ap (take (length log)) is ∙ take-append-le (length log) log (item ∷ []) (omega arith) ∙ take_all (length log) log (omega arith)

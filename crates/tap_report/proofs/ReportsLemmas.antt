@@ -56,7 +56,7 @@ pub Reports-next : {mode : Mode} {old mid new : SinkState} {before after : Repor
 Reports-next {mode = mode} {old = old} {new = new} {after = after} records i item inside is r p =
     subst (λ l. Reports mode l old new after) (sym (take_next records i item inside is)) (Reports-put r p)
 
--- the settings of a `Begin` are kept
+-- after a `Begin` there always are settings
 begun : (first : Record) → IsBegin first → (s : SettingsValue) × (settings_after None first ≡ Some s)
 begun (Begin settings frames members) h = (settings, refl)
 begun item h = cc
@@ -74,14 +74,14 @@ always_begun (item ∷ items) settings =
 pub begins_next : (records : List Record) (i : ℕ) (item : Record) (settings : Option SettingsValue) → BeginsOnce records
     → i < length records
     → item ≡ get_or records i item → settings ≡ fold settings_after None (take i records) → IsBegin item ↔ IsNone settings
-begins_next [] i item settings begins inside is kept = absurd (omega arith)
-begins_next (first ∷ rest) zero item settings begins inside is kept = (λ _. ap is_some kept, λ _. subst IsBegin (sym is) begins.0)
-begins_next (first ∷ rest) (suc i) item settings begins inside is kept =
+begins_next [] i item settings begins inside is so_far = absurd (omega arith)
+begins_next (first ∷ rest) zero item settings begins inside is so_far = (λ _. ap is_some so_far, λ _. subst IsBegin (sym is) begins.0)
+begins_next (first ∷ rest) (suc i) item settings begins inside is so_far =
     let b = begun first begins.0 in
     let later : i < length rest = omega arith in
     let other = All-get_or (λ x. ¬ IsBegin x) rest i item later begins.1 in
     let some : is_some settings ≡ true =
-    ap is_some (kept ∙ ap (λ s. fold settings_after s (take i rest)) b.1) ∙ always_begun (take i rest) b.0 in
+    ap is_some (so_far ∙ ap (λ s. fold settings_after s (take i rest)) b.1) ∙ always_begun (take i rest) b.0 in
     (λ h. absurd (other (subst IsBegin is h)), λ h. cc)
 
 -- ---- the log that grows while it is printed

@@ -82,7 +82,7 @@ encode_lower-append [] more = refl
 encode_lower-append (byte ∷ bytes) more =
     ap (λ l. slice_index lower_digits (byte / 16) ∷ slice_index lower_digits (byte % 16) ∷ l) (encode_lower-append bytes more)
 
--- those up to a place, and a piece behind them
+-- those up to a place, and a piece after them
 pub encode_lower-piece : (bytes : List ℕ) (from to : ℕ) → from ≤ to
     → encode_lower (take to bytes) ≡ encode_lower (take from bytes) ++ encode_lower (slice_range bytes from to)
 encode_lower-piece bytes from to later =

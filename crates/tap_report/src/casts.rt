@@ -19,18 +19,18 @@ impl Written {
         ensures { WritesText (K.state sink.old) (K.state sink.new)
             (cast_line cast word.now level name.now) self.old self.new }
     {
-        self.add_numbered(sink, b"cast ", cast);
+        self.add_number_after(sink, b"cast ", cast);
         self.add(sink, b" ");
         self.add(sink, word);
-        self.add_numbered(sink, b" level ", level);
-        self.add_named(sink, b" from ", name);
+        self.add_number_after(sink, b" level ", level);
+        self.add_name_after(sink, b" from ", name);
     }
 
     pub(crate) fn add_reached<K: Sink>(&mut self, sink: &mut K, cast: u32, name: &Name)
         ensures { WritesText (K.state sink.old) (K.state sink.new)
             (reached_line cast name.now) self.old self.new }
     {
-        self.add_numbered(sink, b"reached ", cast);
-        self.add_named(sink, b" ", name);
+        self.add_number_after(sink, b"reached ", cast);
+        self.add_name_after(sink, b" ", name);
     }
 }

@@ -146,7 +146,7 @@ pub(crate) fn check_modes(
     check_text(rt, alloc, Mode::Summary, log, &[], Written::All, summary)
 }
 
-// Prints these records behind a beginning with no member, in each mode. The texts are the lines that the brief text leaves
+// Prints these records after a beginning with no member, in each mode. The texts are the lines that the brief text leaves
 // out, which stand first, those that it has, and the summary.
 pub(crate) fn check_records(
     rt: &impl Abort,
@@ -163,7 +163,7 @@ pub(crate) fn check_records(
     check_modes(rt, alloc, &log, [long.as_str(), brief.as_str(), summary])
 }
 
-// Prints one record behind a beginning.
+// Prints one record after a beginning.
 pub(crate) fn check_line(
     rt: &impl Abort,
     alloc: Global,

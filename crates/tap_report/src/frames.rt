@@ -26,7 +26,7 @@ impl Written {
         ensures { WritesText (K.state sink.old) (K.state sink.new)
             (sent_line settings.now number bytes.now) self.old self.new }
     {
-        self.add_numbered(sink, b"sent ", number);
+        self.add_number_after(sink, b"sent ", number);
         self.add(sink, b" ");
         self.add_heading(sink, settings, bytes);
         self.add(sink, b" ");
@@ -53,8 +53,8 @@ impl Written {
         match decode_head(settings, bytes) {
             Ok(head) => {
                 self.add_kind(sink, head.kind);
-                self.add_named(sink, b" ", &head.from);
-                self.add_named(sink, b" ", &head.to);
+                self.add_name_after(sink, b" ", &head.from);
+                self.add_name_after(sink, b" ", &head.to);
             }
             Err(_) => unreachable!(),
         }
@@ -117,7 +117,7 @@ impl Written {
         ensures { WritesText (K.state sink.old) (K.state sink.new)
             (garbled_line number fault) self.old self.new }
     {
-        self.add_numbered(sink, b"garbled ", number);
+        self.add_number_after(sink, b"garbled ", number);
         self.add(sink, b" ");
         self.add_fault(sink, fault);
     }
@@ -128,14 +128,14 @@ impl Written {
             (words_of_fault fault) self.old self.new }
     {
         match fault {
-            WireFault::Short(missing) => self.add_numbered(sink, b"short ", missing),
-            WireFault::BadVersion(version) => self.add_numbered(sink, b"bad version ", version),
-            WireFault::BadKind(kind) => self.add_numbered(sink, b"bad kind ", kind),
-            WireFault::BadLength(len) => self.add_numbered(sink, b"bad length ", len),
-            WireFault::BadCount(count) => self.add_numbered(sink, b"bad count ", count),
-            WireFault::Trailing(more) => self.add_numbered(sink, b"trailing ", more),
-            WireFault::BadDigit(place) => self.add_numbered(sink, b"bad digit ", place),
-            WireFault::BadBody(place) => self.add_numbered(sink, b"bad body ", place),
+            WireFault::Short(missing) => self.add_number_after(sink, b"short ", missing),
+            WireFault::BadVersion(version) => self.add_number_after(sink, b"bad version ", version),
+            WireFault::BadKind(kind) => self.add_number_after(sink, b"bad kind ", kind),
+            WireFault::BadLength(len) => self.add_number_after(sink, b"bad length ", len),
+            WireFault::BadCount(count) => self.add_number_after(sink, b"bad count ", count),
+            WireFault::Trailing(more) => self.add_number_after(sink, b"trailing ", more),
+            WireFault::BadDigit(place) => self.add_number_after(sink, b"bad digit ", place),
+            WireFault::BadBody(place) => self.add_number_after(sink, b"bad body ", place),
             WireFault::NoMemory => unreachable!(),
         }
     }
@@ -144,8 +144,8 @@ impl Written {
         ensures { WritesText (K.state sink.old) (K.state sink.new)
             (packet_line packet frame ack) self.old self.new }
     {
-        self.add_numbered(sink, b"packet ", packet);
-        self.add_numbered(sink, packet_word(ack), frame);
+        self.add_number_after(sink, b"packet ", packet);
+        self.add_number_after(sink, packet_word(ack), frame);
     }
 }
 

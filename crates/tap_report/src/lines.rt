@@ -18,7 +18,7 @@ use tap_name::Settings;
 
 // The lines of records, and the summary.
 impl Written {
-    // Adds the text of a record, behind a `Begin` with these settings.
+    // Adds the text of a record, after a `Begin` with these settings.
     pub(crate) fn add_record<K: Sink>(
         &mut self,
         sink: &mut K,
@@ -78,8 +78,8 @@ impl Written {
                 frames,
                 ..
             } => self.add_begin(sink, settings, *frames),
-            Record::Core { name } => self.add_named(sink, b"core ", name),
-            Record::Gone { name } => self.add_named(sink, b"gone ", name),
+            Record::Core { name } => self.add_name_after(sink, b"core ", name),
+            Record::Gone { name } => self.add_name_after(sink, b"gone ", name),
             Record::TableOf {
                 name,
                 status,
@@ -87,10 +87,10 @@ impl Written {
             } => self.add_table(sink, name, *status, links.len()),
             Record::PointersOf { name, pairs } => self.add_pointers(sink, name, pairs.len()),
             Record::Refused { index, refusal } => self.add_refused(sink, *index, refusal),
-            Record::Spent { limit } => self.add_numbered(sink, b"spent ", *limit),
-            Record::Finished { steps } => self.add_numbered(sink, b"done ", *steps),
+            Record::Spent { limit } => self.add_number_after(sink, b"spent ", *limit),
+            Record::Finished { steps } => self.add_number_after(sink, b"done ", *steps),
             Record::Garbled { number, fault } => self.add_garbled(sink, *number, *fault),
-            Record::Abandoned { name } => self.add_named(sink, b"abandoned ", name),
+            Record::Abandoned { name } => self.add_name_after(sink, b"abandoned ", name),
             Record::Carrier => self.add(sink, b"carrier"),
             Record::CastFrom {
                 cast,
@@ -99,7 +99,7 @@ impl Written {
                 name,
             } => self.add_cast(sink, *cast, word.as_slice(), *level, name),
             Record::Reached { cast, name } => self.add_reached(sink, *cast, name),
-            Record::Closed { cast } => self.add_numbered(sink, b"closed ", *cast),
+            Record::Closed { cast } => self.add_number_after(sink, b"closed ", *cast),
             _ => unreachable!(),
         }
     }
@@ -119,11 +119,11 @@ impl Written {
                 *number,
                 bytes.as_slice(),
             ),
-            Record::Taken { number } => self.add_numbered(sink, b"taken ", *number),
+            Record::Taken { number } => self.add_number_after(sink, b"taken ", *number),
             Record::Packet { number, frame, ack } => self.add_packet(sink, *number, *frame, *ack),
-            Record::Arrived { packet } => self.add_numbered(sink, b"arrived ", *packet),
+            Record::Arrived { packet } => self.add_number_after(sink, b"arrived ", *packet),
             Record::Ticked => self.add(sink, b"ticked"),
-            Record::Lost { packet } => self.add_numbered(sink, b"lost ", *packet),
+            Record::Lost { packet } => self.add_number_after(sink, b"lost ", *packet),
             _ => unreachable!(),
         }
     }
@@ -148,7 +148,7 @@ impl Written {
         }
     }
 
-    // Adds what stands behind the last record.
+    // Adds what stands after the last record.
     pub(crate) fn add_ending<K: Sink>(
         &mut self,
         sink: &mut K,
@@ -189,7 +189,7 @@ impl Written {
         ensures { WritesText (K.state sink.old) (K.state sink.new)
             (line (word.now ++ I.text count)) self.old self.new }
     {
-        self.add_numbered(sink, word, count);
+        self.add_number_after(sink, word, count);
         self.end_line(sink);
     }
 }

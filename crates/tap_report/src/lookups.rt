@@ -61,15 +61,15 @@ impl Written {
         self.add_from(sink, b"walked ", object, &path[0]);
         self.add(sink, b" path");
         self.add_names(sink, path);
-        self.add_named(sink, b" root ", &path[hops]);
-        self.add_numbered(sink, b" hops ", hops);
+        self.add_name_after(sink, b" root ", &path[hops]);
+        self.add_number_after(sink, b" hops ", hops);
     }
 
     fn add_asked<K: Sink>(&mut self, sink: &mut K, ticket: u32, object: &Name, asker: &Name)
         ensures { WritesText (K.state sink.old) (K.state sink.new)
             (asked_line ticket object.now asker.now) self.old self.new }
     {
-        self.add_numbered(sink, b"asked ", ticket);
+        self.add_number_after(sink, b"asked ", ticket);
         self.add_from(sink, b" ", object, asker);
     }
 
@@ -77,7 +77,7 @@ impl Written {
         ensures { WritesText (K.state sink.old) (K.state sink.new)
             (answered_line ticket server.now) self.old self.new }
     {
-        self.add_numbered(sink, b"answered ", ticket);
+        self.add_number_after(sink, b"answered ", ticket);
         self.add_server(sink, server);
     }
 
@@ -86,7 +86,7 @@ impl Written {
             (text_of_server server.now) self.old self.new }
     {
         match server {
-            Some(server) => self.add_named(sink, b" server ", server),
+            Some(server) => self.add_name_after(sink, b" server ", server),
             None => self.add(sink, b" none"),
         }
     }

@@ -12,8 +12,8 @@ impl Written {
         ensures { WritesText (K.state sink.old) (K.state sink.new)
             (refused_line index refusal.now) self.old self.new }
     {
-        self.add_numbered(sink, b"refused ", index);
-        self.add_numbered(sink, b" ", code_of(refusal));
+        self.add_number_after(sink, b"refused ", index);
+        self.add_number_after(sink, b" ", code_of(refusal));
         self.add(sink, b" ");
         self.add_words(sink, refusal);
     }
@@ -26,19 +26,23 @@ impl Written {
         match refusal {
             Refusal::NoSuchNode => self.add(sink, b"no such node"),
             Refusal::NotCore => self.add(sink, b"not core"),
-            Refusal::Departing(leaver) => self.add_named(sink, b"departing ", leaver),
-            Refusal::NotAtRest(count) => self.add_numbered(sink, b"not at rest ", *count),
+            Refusal::Departing(leaver) => self.add_name_after(sink, b"departing ", leaver),
+            Refusal::NotAtRest(count) => self.add_number_after(sink, b"not at rest ", *count),
             Refusal::NameTaken => self.add(sink, b"name taken"),
             Refusal::TooManyNodes => self.add(sink, b"too many nodes"),
             Refusal::LastNode => self.add(sink, b"last node"),
             Refusal::AlreadyPublished => self.add(sink, b"already published"),
             Refusal::NotPublished => self.add(sink, b"not published"),
-            Refusal::NoSuchFlight(count) => self.add_numbered(sink, b"no such flight ", *count),
-            Refusal::NoSuchByte(len) => self.add_numbered(sink, b"no such byte ", *len),
+            Refusal::NoSuchFlight(count) => self.add_number_after(sink, b"no such flight ", *count),
+            Refusal::NoSuchByte(len) => self.add_number_after(sink, b"no such byte ", *len),
             Refusal::Readable => self.add(sink, b"readable"),
             Refusal::NotJoining => self.add(sink, b"not joining"),
             Refusal::AlreadyAbandoned => self.add(sink, b"already abandoned"),
-            Refusal::TooManyPackets(made) => self.add_numbered(sink, b"too many packets ", *made),
+            Refusal::TooManyPackets(made) => self.add_number_after(
+                sink,
+                b"too many packets ",
+                *made,
+            ),
             Refusal::NotInPrefix => self.add(sink, b"not in prefix"),
         }
     }

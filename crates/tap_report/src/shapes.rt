@@ -2,7 +2,7 @@ ghost use Rattle.std.specs.Prelude.{◌≡◌, ◌<◌, ◌≤◌, ◌∷◌, []
 ghost use Rattle.tap_name.specs.Digits.{text_of_digit};
 ghost use Rattle.tap_name.specs.Name.{text_of_name};
 ghost use Rattle.tap_report.specs.Written.{WritesText};
-ghost use Rattle.tap_report.specs.Shapes.{named, named_at, named_from, spaced_names, two_named, two_numbered};
+ghost use Rattle.tap_report.specs.Shapes.{name_after, object_at, object_from, spaced_names, two_names_after, two_numbers_after};
 
 use crate::written::Written;
 use itoa::{Buffer, Integer};
@@ -58,16 +58,21 @@ impl Written {
     }
 
     // Adds a word and a name.
-    pub(crate) fn add_named<K: Sink>(&mut self, sink: &mut K, word: &[u8], name: &Name)
+    pub(crate) fn add_name_after<K: Sink>(&mut self, sink: &mut K, word: &[u8], name: &Name)
         ensures { WritesText (K.state sink.old) (K.state sink.new)
-            (named word.now name.now) self.old self.new }
+            (name_after word.now name.now) self.old self.new }
     {
         self.add(sink, word);
         self.add_name(sink, name);
     }
 
     // Adds a word and a number.
-    pub(crate) fn add_numbered<K: Sink, I: Integer>(&mut self, sink: &mut K, word: &[u8], number: I)
+    pub(crate) fn add_number_after<K: Sink, I: Integer>(
+        &mut self,
+        sink: &mut K,
+        word: &[u8],
+        number: I,
+    )
         ensures { WritesText (K.state sink.old) (K.state sink.new)
             (word.now ++ I.text number) self.old self.new }
     {
@@ -76,7 +81,7 @@ impl Written {
     }
 
     // Adds a word and a name, and then another word and name.
-    pub(crate) fn add_two_named<K: Sink>(
+    pub(crate) fn add_two_names_after<K: Sink>(
         &mut self,
         sink: &mut K,
         word: &[u8],
@@ -85,7 +90,7 @@ impl Written {
         second: &Name,
     )
         ensures { WritesText (K.state sink.old) (K.state sink.new)
-            (two_named word.now first.now link.now second.now) self.old self.new }
+            (two_names_after word.now first.now link.now second.now) self.old self.new }
     {
         self.add(sink, word);
         self.add_name(sink, first);
@@ -94,7 +99,7 @@ impl Written {
     }
 
     // Adds a word and a number, and then another word and number.
-    pub(crate) fn add_two_numbered<K: Sink>(
+    pub(crate) fn add_two_numbers_after<K: Sink>(
         &mut self,
         sink: &mut K,
         word: &[u8],
@@ -103,7 +108,7 @@ impl Written {
         second: u32,
     )
         ensures { WritesText (K.state sink.old) (K.state sink.new)
-            (two_numbered word.now first link.now second) self.old self.new }
+            (two_numbers_after word.now first link.now second) self.old self.new }
     {
         self.add(sink, word);
         self.add_number(sink, first);
@@ -114,9 +119,9 @@ impl Written {
     // Adds a word, an object and the node where it is.
     pub(crate) fn add_at<K: Sink>(&mut self, sink: &mut K, word: &[u8], object: &Name, node: &Name)
         ensures { WritesText (K.state sink.old) (K.state sink.new)
-            (named_at word.now object.now node.now) self.old self.new }
+            (object_at word.now object.now node.now) self.old self.new }
     {
-        self.add_two_named(sink, word, object, b" at ", node);
+        self.add_two_names_after(sink, word, object, b" at ", node);
     }
 
     // Adds a word, an object and the node that asks for it.
@@ -128,9 +133,9 @@ impl Written {
         asker: &Name,
     )
         ensures { WritesText (K.state sink.old) (K.state sink.new)
-            (named_from word.now object.now asker.now) self.old self.new }
+            (object_from word.now object.now asker.now) self.old self.new }
     {
-        self.add_two_named(sink, word, object, b" from ", asker);
+        self.add_two_names_after(sink, word, object, b" from ", asker);
     }
 
     // Adds names, each with a space before it.
@@ -139,7 +144,7 @@ impl Written {
             (spaced_names names.now) self.old self.new }
     {
         for name in names {
-            self.add_named(sink, b" ", name);
+            self.add_name_after(sink, b" ", name);
         }
     }
 }

@@ -15,17 +15,17 @@ impl Written {
         ensures { WritesText (K.state sink.old) (K.state sink.new)
             (begin_line settings.now frames) self.old self.new }
     {
-        self.add_numbered(sink, b"begin base ", settings.base());
-        self.add_numbered(sink, b" digits ", settings.digits());
-        self.add_numbered(sink, b" width ", settings.width());
-        self.add_numbered(sink, b" frames ", frames);
+        self.add_number_after(sink, b"begin base ", settings.base());
+        self.add_number_after(sink, b" digits ", settings.digits());
+        self.add_number_after(sink, b" width ", settings.width());
+        self.add_number_after(sink, b" frames ", frames);
     }
 
     fn add_member<K: Sink>(&mut self, sink: &mut K, name: &Name)
         ensures { WritesText (K.state sink.old) (K.state sink.new)
             (member_line name.now) self.old self.new }
     {
-        self.add_named(sink, b"member ", name);
+        self.add_name_after(sink, b"member ", name);
         self.end_line(sink);
     }
 
@@ -53,7 +53,7 @@ impl Written {
         ensures { WritesText (K.state sink.old) (K.state sink.new)
             (step_line index step.now) self.old self.new }
     {
-        self.add_numbered(sink, b"step ", index);
+        self.add_number_after(sink, b"step ", index);
         self.add(sink, b" ");
         self.add_step_text(sink, step);
     }

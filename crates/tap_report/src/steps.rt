@@ -15,25 +15,27 @@ impl Written {
             (text_of_step step.now) self.old self.new }
     {
         match step {
-            Step::Join { name, via } => self.add_two_named(sink, b"join ", name, b" via ", via),
-            Step::Depart { name } => self.add_named(sink, b"leave ", name),
+            Step::Join { name, via } => self.add_two_names_after(
+                sink, b"join ", name, b" via ", via,
+            ),
+            Step::Depart { name } => self.add_name_after(sink, b"leave ", name),
             Step::Publish { object, server } => self.add_at(sink, b"publish ", object, server),
             Step::Withdraw { object, server } => self.add_at(sink, b"withdraw ", object, server),
             Step::Find { object, asker } => self.add_from(sink, b"find ", object, asker),
             Step::Walk { object, asker } => self.add_from(sink, b"walk ", object, asker),
-            Step::Root { object } => self.add_named(sink, b"root ", object),
-            Step::Deliver { place } => self.add_numbered(sink, b"deliver ", *place),
+            Step::Root { object } => self.add_name_after(sink, b"root ", object),
+            Step::Deliver { place } => self.add_number_after(sink, b"deliver ", *place),
             Step::Settle => self.add(sink, b"settle"),
             Step::SettleNewest => self.add(sink, b"settle newest"),
-            Step::SettleMixed { seed } => self.add_numbered(sink, b"settle mixed ", *seed),
-            Step::Table { name } => self.add_named(sink, b"table ", name),
-            Step::Pointers { name } => self.add_named(sink, b"pointers ", name),
+            Step::SettleMixed { seed } => self.add_number_after(sink, b"settle mixed ", *seed),
+            Step::Table { name } => self.add_name_after(sink, b"table ", name),
+            Step::Pointers { name } => self.add_name_after(sink, b"pointers ", name),
             Step::Garble { place, at, byte } => self.add_garble(sink, *place, *at, *byte),
             Step::Cut { place, bytes } => self.add_cut(sink, *place, *bytes),
-            Step::Abandon { name } => self.add_named(sink, b"abandon ", name),
+            Step::Abandon { name } => self.add_name_after(sink, b"abandon ", name),
             Step::Tick => self.add(sink, b"tick"),
-            Step::Lose { place } => self.add_numbered(sink, b"lose ", *place),
-            Step::Repeat { place } => self.add_numbered(sink, b"repeat ", *place),
+            Step::Lose { place } => self.add_number_after(sink, b"lose ", *place),
+            Step::Repeat { place } => self.add_number_after(sink, b"repeat ", *place),
             Step::RootSet { object, asker } => self.add_from(sink, b"rootset ", object, asker),
             Step::Cast {
                 word,
@@ -47,7 +49,7 @@ impl Written {
         ensures { WritesText (K.state sink.old) (K.state sink.new)
             (text_of_step (Garble place at byte)) self.old self.new }
     {
-        self.add_two_numbered(sink, b"garble ", place, b" ", at);
+        self.add_two_numbers_after(sink, b"garble ", place, b" ", at);
         self.add(sink, b" ");
         self.add_number(sink, byte);
     }
@@ -56,7 +58,7 @@ impl Written {
         ensures { WritesText (K.state sink.old) (K.state sink.new)
             (text_of_step (Cut place bytes)) self.old self.new }
     {
-        self.add_two_numbered(sink, b"cut ", place, b" ", bytes);
+        self.add_two_numbers_after(sink, b"cut ", place, b" ", bytes);
     }
 
     fn add_cast_step<K: Sink>(&mut self, sink: &mut K, word: &Word, prefix: &Prefix, asker: &Name)

@@ -20,10 +20,10 @@ impl Written {
         ensures { WritesText (K.state sink.old) (K.state sink.new)
             (table_line name.now status count) self.old self.new }
     {
-        self.add_named(sink, b"table ", name);
+        self.add_name_after(sink, b"table ", name);
         self.add(sink, b" ");
         self.add(sink, node_word(status));
-        self.add_numbered(sink, b" links ", count);
+        self.add_number_after(sink, b" links ", count);
     }
 
     // Adds the lines of links, whose digits are below the base.
@@ -68,10 +68,10 @@ impl Written {
         ensures { WritesText (K.state sink.old) (K.state sink.new)
             (link_line link.now) self.old self.new }
     {
-        self.add_numbered(sink, b"link ", link.slot.level);
+        self.add_number_after(sink, b"link ", link.slot.level);
         self.add(sink, b" ");
         self.add_digit(sink, link.slot.digit);
-        self.add_named(sink, b" ", &link.name);
+        self.add_name_after(sink, b" ", &link.name);
         self.add(sink, b" ");
         self.add(sink, link_word(link.kind));
         self.end_line(sink);
@@ -82,8 +82,8 @@ impl Written {
         ensures { WritesText (K.state sink.old) (K.state sink.new)
             (pointers_line name.now count) self.old self.new }
     {
-        self.add_named(sink, b"pointers ", name);
-        self.add_numbered(sink, b" count ", count);
+        self.add_name_after(sink, b"pointers ", name);
+        self.add_number_after(sink, b" count ", count);
     }
 
     // Adds the lines of pointers.
@@ -100,7 +100,7 @@ impl Written {
         ensures { WritesText (K.state sink.old) (K.state sink.new)
             (pointer_line pair.now) self.old self.new }
     {
-        self.add_two_named(sink, b"pointer ", &pair.object, b" ", &pair.server);
+        self.add_two_names_after(sink, b"pointer ", &pair.object, b" ", &pair.server);
         self.end_line(sink);
     }
 }

@@ -44,7 +44,7 @@ fn table(alloc: Global, name: Name, digit: u8, target: Name) -> Result<Record, F
     })
 }
 
-// The records of one join behind the beginning, up to the last frame.
+// The records of one join after the beginning, up to the last frame.
 fn join(alloc: Global, old: Name, new: Name) -> Result<Vec<Record>, Fail> {
     let begun = step(
         1,

@@ -7,15 +7,15 @@ use tap_io::{Sink, Took};
 /// Rule: docs/FORMATS.md, "The printed text".
 #[derive(Clone, Copy, Debug, PartialEq, Eq)]
 pub enum Written {
-    /// All was written, and the sink counted no fault.
+    /// All was written, and no fault came.
     All,
     /// A write failed, and nothing was written after it.
     Failed,
 }
 
-/// Writes a text, where all before it was written, as `so_far` tells. The first `Failed` comes only where the sink counted
-/// a fault in this call, and some first bytes of the text are then written. Where `so_far` is `Failed`, nothing is written,
-/// and the answer is `Failed`.
+/// Writes a text, if all before it was written, as `so_far` tells. With `All` the sink counted no fault in this call. The
+/// first `Failed` comes only where it counted one, and some first bytes of the text are then written. If `so_far` is
+/// `Failed`, nothing is written, and the answer is `Failed`.
 pub fn write_text<K: Sink>(sink: &mut K, so_far: Written, text: &[u8]) -> Written
     ensures { WritesText (K.state sink.old) (K.state sink.new) text.now so_far result }
 {

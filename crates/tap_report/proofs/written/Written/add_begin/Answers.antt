@@ -3,5 +3,5 @@ use Rattle.tap_report.proofs.written.Written.add_begin.Goals as goal
 
 pub returns : goal.returns
 returns g c =
-    rw c.base.ensures.value at c.add_numbered.ensures ⨾ rw c.digits.ensures.value at c.add_numbered-2.ensures
-    ⨾ rw c.width.ensures.value at c.add_numbered-3.ensures ⨾ c.add_numbered-4.ensures
+    rw c.base.ensures.value at c.add_number_after.ensures ⨾ rw c.digits.ensures.value at c.add_number_after-2.ensures
+    ⨾ rw c.width.ensures.value at c.add_number_after-3.ensures ⨾ c.add_number_after-4.ensures

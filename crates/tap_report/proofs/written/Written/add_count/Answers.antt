@@ -3,4 +3,4 @@ use Rattle.tap_report.proofs.written.Written.add_count.Goals as goal
 
 pub returns : goal.returns
 returns g c =
-    c.add_numbered.ensures ⨾ c.end_line.ensures
+    c.add_number_after.ensures ⨾ c.end_line.ensures

@@ -3,4 +3,4 @@ use Rattle.tap_report.proofs.written.Written.add_member.Goals as goal
 
 pub returns : goal.returns
 returns g c =
-    c.add_named.ensures ⨾ c.end_line.ensures
+    c.add_name_after.ensures ⨾ c.end_line.ensures

@@ -3,4 +3,4 @@ use Rattle.tap_report.proofs.written.Written.add_pointers.Goals as goal
 
 pub returns : goal.returns
 returns g c =
-    c.add_named.ensures ⨾ c.add_numbered.ensures
+    c.add_name_after.ensures ⨾ c.add_number_after.ensures

@@ -3,4 +3,4 @@ use Rattle.tap_report.proofs.written.Written.add_step.Goals as goal
 
 pub returns : goal.returns
 returns g c =
-    c.add_numbered.ensures ⨾ c.add.ensures ⨾ c.add_step_text.ensures
+    c.add_number_after.ensures ⨾ c.add.ensures ⨾ c.add_step_text.ensures

@@ -1,5 +1,5 @@
 use Rattle.tap_report.proofs.WritesLemmas.{◌⨾◌}
-use Rattle.tap_report.proofs.written.Written.add_numbered.Goals as goal
+use Rattle.tap_report.proofs.written.Written.add_number_after.Goals as goal
 
 pub returns : goal.returns
 returns g c =
