@@ -117,7 +117,7 @@ module _ {K : Type 0} (cmp : K → K → Ordering) where
   at-remove (e ∷ es) target (suc at) d within below here above =
       rw (below 0 e (omega arith))
       (ap (λ l. e ∷ l) (at-remove es target at d (omega arith) (below_tail e es target at below) here
-          (above_tail e es target (suc at) above)))
+      (above_tail e es target (suc at) above)))
 
   at-set : (links : List (Entry K)) (target : K) (kind : Kind) (at : ℕ) (d : Entry K) → at < length links → AreBelow links target at
       → cmp target (get_or links at d).target ≡ Equal → AreAbove links target (suc at)
@@ -128,7 +128,7 @@ module _ {K : Type 0} (cmp : K → K → Ordering) where
   at-set (e ∷ es) target kind (suc at) d within below here above =
       rw (below 0 e (omega arith))
       (ap (λ l. e ∷ l) (at-set es target kind at d (omega arith) (below_tail e es target at below) here
-          (above_tail e es target (suc at) above)))
+      (above_tail e es target (suc at) above)))
 
   -- the steps of a search from the front: so far the target is above all, and now it meets x
   pub below_more : (links : List (Entry K)) (target : K) (at : ℕ) (x : Entry K) → slice_get links at ≡ Some x

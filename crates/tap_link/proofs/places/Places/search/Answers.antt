@@ -7,13 +7,13 @@ pub returns-in-Less-clause-absent : goal.returns-in-Less-clause-absent
 returns-in-Less-clause-absent g c =
     let less : g.K.Ord.cmp c.args.target c.link_at.result.now.target ≡ Less = cc in
     gap_before g.K.Ord.cmp g.met.K.Ord.total c.args.self.now c.args.target c.loop-at.at c.link_at.result.now c.requires c.link_at.ensures
-        c.loop-at.invariant less
+    c.loop-at.invariant less
 
 pub returns-in-Equal-clause-found : goal.returns-in-Equal-clause-found
 returns-in-Equal-clause-found g c =
     let same : g.K.Ord.cmp c.args.target c.link_at.result.now.target ≡ Equal = cc in
     found_at g.K.Ord.cmp g.met.K.Ord.total c.args.self.now c.args.target c.loop-at.at c.link_at.result.now c.requires c.link_at.ensures
-        c.loop-at.invariant same
+    c.loop-at.invariant same
 
 pub loop-at-preserved : goal.loop-at-preserved
 loop-at-preserved g c =
