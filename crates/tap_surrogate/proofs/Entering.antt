@@ -64,10 +64,21 @@ hops_to p core tables free node level wanted to here is =
           record { among = sound.1; shares = ap (λ (s : Slot). s.level) (place_where_it_fits node to slot sound.0) }
     ]
 
--- a list of nodes that are entered in turn, the first one as given, and none above a level
-record IsTurn (at : Entered) (most : ℕ) (entered : List Entered) : Type 0 where
-  rest : List Entered
-  begins : entered ≡ at ∷ rest
+-- the first node is the one from which it goes on
+pub entered_begins : (base : ℕ) (tables : Tables) (at : Entered) (level : ℕ) (digits : List ℕ)
+    → (rest : List Entered) × (entered_on base tables at level digits ≡ at ∷ rest)
+entered_begins base tables at level [] = ([], refl)
+entered_begins base tables at level (wanted ∷ more) =
+    by_hop (hop base tables at.node level wanted) refl (entered_begins base tables at (level + 1) more)
+  where
+    by_hop : (to : Option (List ℕ)) → hop base tables at.node level wanted ≡ to
+        → (rest : List Entered) × (entered_on base tables at (level + 1) more ≡ at ∷ rest)
+        → (rest : List Entered) × (entered_on base tables at level (wanted ∷ more) ≡ at ∷ rest)
+    by_hop None is later = (later.0, entered_on-stays base tables at level wanted more is ∙ later.1)
+    by_hop (Some to) is later = (_, entered_on-hops base tables at level wanted more to is)
+
+-- these nodes are entered in turn, at no level above the most
+record IsTurn (most : ℕ) (entered : List Entered) : Type 0 where
   in_turn : AllAdjacentBelow IsEnteredAfter entered (length entered)
   levels : All (λ e. e.level ≤ most) entered
 
@@ -79,23 +90,19 @@ adjacent-cons a b rest first later (suc k) d h =
     let next : suc k + 1 ≡ suc (k + 1) = omega arith in
     rw next (later k d (omega arith))
 
-turn-cons : (at next : Entered) (most : ℕ) (later : List Entered) → IsEnteredAfter at next → at.level ≤ most → IsTurn next most later
-    → IsTurn at most (at ∷ later)
-turn-cons at next most later after within turn =
+turn-cons : (at next : Entered) (most : ℕ) (rest later : List Entered) → IsEnteredAfter at next → at.level ≤ most
+    → later ≡ next ∷ rest → IsTurn most later → IsTurn most (at ∷ later)
+turn-cons at next most rest later after within begins turn =
     record {
-      rest = later;
-      begins = refl;
-      in_turn = rw turn.begins (adjacent-cons at next turn.rest after (rw turn.begins at turn.in_turn));
+      in_turn = rw begins (adjacent-cons at next rest after (rw begins at turn.in_turn));
       levels = All-cons (λ (e : Entered). e.level ≤ most) at later within turn.levels;
     }
 
 turns : (p : SettingsValue) (core : List (List ℕ)) (tables : Tables) → IsHoleFree p core tables → (at : Entered) (level : ℕ)
     (digits : List ℕ) → Among at.node core → at.level ≤ level → level + length digits ≤ p.digits
-    → IsTurn at p.digits (entered_on p.base tables at level digits)
+    → IsTurn p.digits (entered_on p.base tables at level digits)
 turns p core tables free at level [] here before within =
     record {
-      rest = [];
-      begins = refl;
       in_turn = λ k d h. absurd (omega arith);
       levels = All-cons (λ (e : Entered). e.level ≤ p.digits) at [] (omega arith) (All-nil (λ (e : Entered). e.level ≤ p.digits));
     }
@@ -105,15 +112,16 @@ turns p core tables free at level (wanted ∷ more) here before within =
   where
     by_hop : (to : Option (List ℕ)) → hop p.base tables at.node level wanted ≡ to
         → ((next : Entered) → Among next.node core → next.level ≤ level + 1
-        → IsTurn next p.digits (entered_on p.base tables next (level + 1) more))
-        → IsTurn at p.digits (entered_on p.base tables at level (wanted ∷ more))
+        → IsTurn p.digits (entered_on p.base tables next (level + 1) more))
+        → IsTurn p.digits (entered_on p.base tables at level (wanted ∷ more))
     by_hop None is later = rw (entered_on-stays p.base tables at level wanted more is) (later at here (omega arith))
     by_hop (Some to) is later =
         let next : Entered = record { node = to; level = level + 1 } in
         let hops = hops_to p core tables free at.node level wanted to here is in
+        let begins = entered_begins p.base tables next (level + 1) more in
         let after : IsEnteredAfter at next = record { rises = omega arith; shares = omega (arith, hops.shares) } in
         rw (entered_on-hops p.base tables at level wanted more to is)
-        (turn-cons at next p.digits _ after (omega arith) (later next hops.among (omega arith)))
+        (turn-cons at next p.digits begins.0 _ after (omega arith) begins.1 (later next hops.among (omega arith)))
 
 pub entered_law_holds : EnteredLaw
 entered_law_holds p core tables free node object among name =

@@ -9,4 +9,5 @@ pub mod AtRest
 pub mod RestTables
 pub mod Least
 pub mod NextHops
+pub mod Chains
 pub mod HoleFreeLinks

@@ -34,12 +34,12 @@ first_settled nodes (e ∷ es) settled core =
     rw (here, kind) refl
 
 -- The table of a node with such links, as the nodes have it.
-pub record IsSettledTable (nodes : Nodes) (table : TableValue) : Type 0 where
+pub record HasSettledTable (nodes : Nodes) (table : TableValue) : Type 0 where
   pub valid : IsTable table
   pub has : nodes.table_of table.owner ≡ Some table
   pub links : HasSettledCoreLinks nodes table
 
-module _ (nodes : Nodes) (table : TableValue) (is : IsSettledTable nodes table) where
+module _ (nodes : Nodes) (table : TableValue) (is : HasSettledTable nodes table) where
   abbrev base : ℕ
   base = table.settings.base
 
@@ -65,12 +65,12 @@ module _ (nodes : Nodes) (table : TableValue) (is : IsSettledTable nodes table) 
       base wanted below
 
   -- at the owner's own digit the walk stays
-  stays : (level wanted : ℕ) → wanted < base → eqb (own level) (taken_digit table level wanted) ≡ true
+  pub stays : (level wanted : ℕ) → wanted < base → eqb (own level) (taken_digit table level wanted) ≡ true
       → hop base (core_links nodes) table.owner level wanted ≡ None
   stays level wanted below same = rw (same_digit level wanted below, same) refl
 
   -- at another one there is a primary
-  leads_on : (level wanted : ℕ) → level < table.settings.digits → wanted < base
+  pub leads_on : (level wanted : ℕ) → level < table.settings.digits → wanted < base
       → eqb (own level) (taken_digit table level wanted) ≡ false
       → is_some (primary_at table level (taken_digit table level wanted)) ≡ true
   leads_on level wanted inside below other =
@@ -80,7 +80,7 @@ module _ (nodes : Nodes) (table : TableValue) (is : IsSettledTable nodes table) 
       rw other at passes
 
   -- to which the walk hops
-  hops : (level wanted : ℕ) (to : List ℕ) → wanted < base → eqb (own level) (taken_digit table level wanted) ≡ false
+  pub hops : (level wanted : ℕ) (to : List ℕ) → wanted < base → eqb (own level) (taken_digit table level wanted) ≡ false
       → primary_at table level (taken_digit table level wanted) ≡ Some to
       → hop base (core_links nodes) table.owner level wanted ≡ Some to
   hops level wanted to below other primary =
@@ -137,7 +137,7 @@ module _ (nodes : Nodes) (table : TableValue) (is : IsSettledTable nodes table) 
 
 pub next_hop_law_holds : NextHopLaw
 next_hop_law_holds nodes table valid has links level object within name =
-    let is : IsSettledTable nodes table = record { valid = valid; has = has; links = links } in
+    let is : HasSettledTable nodes table = record { valid = valid; has = has; links = links } in
     follows_by nodes table is level object (next_from table level (drop level object))
     (follows_on nodes table is level object (drop level object) level name refl
     (omega (arith, within, name.len, length-drop level object))

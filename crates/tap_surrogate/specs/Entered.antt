@@ -5,6 +5,9 @@ use Rattle.std.specs.Option.{is_some}
 use Rattle.tap_name.specs.Settings.{SettingsValue}
 use Rattle.tap_table.specs.declared.next.Next.{Next}
 use Rattle.tap_table.specs.declared.next.Next.TheVariants.{Root, Hop}
+use Rattle.tap_table.specs.Next.{next_from}
+use Rattle.tap_table.specs.Table.{TableValue}
+use Rattle.tap_surrogate.specs.Nodes.{Nodes}
 use Rattle.tap_surrogate.specs.Tables.{Tables}
 use Rattle.tap_surrogate.specs.Walk.{hop}
 
@@ -50,3 +53,17 @@ abbrev pub Follows : ℕ → Tables → Entered → List ℕ → Next → Type 0
 Follows base tables at object Root = entered_from base tables at object ≡ at ∷ []
 Follows base tables at object (Hop to level) =
     entered_from base tables at object ≡ at ∷ entered_from base tables (record { node = to; level = level }) object
+
+-- the next hop of a message from where it stands, by the table of the node there
+abbrev pub next_in : Option TableValue → ℕ → List ℕ → Next
+next_in None level object = Root
+next_in (Some table) level object = next_from table level (drop level object)
+
+abbrev pub next_of : Nodes → List ℕ → Entered → Next
+next_of nodes object at = next_in (nodes.table_of at.node) at.level object
+
+-- a chain of next hops: each leads to where the next one starts, and the last one stays
+abbrev pub IsChain : (Entered → Next) → List Entered → Type 0
+IsChain next [] = Unit {0}
+IsChain next (at ∷ []) = next at ≡ Root
+IsChain next (at ∷ after ∷ more) = (next at ≡ Hop after.node after.level) × IsChain next (after ∷ more)

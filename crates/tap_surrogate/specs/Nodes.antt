@@ -6,7 +6,7 @@ use Rattle.tap_name.specs.Settings.{SettingsValue}
 use Rattle.tap_name.specs.Root.{Among}
 use Rattle.tap_link.specs.declared.kind.Kind.TheVariants.{Settled}
 use Rattle.tap_table.specs.Members.{IsBelow}
-use Rattle.tap_table.specs.Table.{SlotLinks, TableValue, links_at, place_of}
+use Rattle.tap_table.specs.Table.{IsTable, SlotLinks, TableValue, links_at, place_of}
 use Rattle.tap_surrogate.specs.Tables.{Tables}
 
 -- for each name the table of its node, if it has one, and whether the node is core
@@ -36,6 +36,12 @@ core_links nodes node slot = filter nodes.core (map (λ e. e.target) (links_in (
 pub record HasSettledCoreLinks (nodes : Nodes) (table : TableValue) : Type 0 where
   pub settled : (number : ℕ) → All (λ e. e.kind ≡ Settled) (slice_index_or table.slots number [])
   pub core : (number : ℕ) → All (λ e. IsCore nodes e.target) (slice_index_or table.slots number [])
+
+-- this is the table of an owner, and each of its links is settled and to a core node
+pub record IsSettledTable (p : SettingsValue) (nodes : Nodes) (owner : List ℕ) (table : TableValue) : Type 0 where
+  pub of_owner : IsTableOf p owner table
+  pub valid : IsTable table
+  pub links : HasSettledCoreLinks nodes table
 
 -- none of the names is below this one
 abbrev pub IsLeast : List (List ℕ) → List ℕ → Type 0

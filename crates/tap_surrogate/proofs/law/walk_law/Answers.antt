@@ -1,3 +1,4 @@
+use Rattle.tap_surrogate.proofs.Chains.{chain_law_holds}
 use Rattle.tap_surrogate.proofs.Entering.{entered_law_holds}
 use Rattle.tap_surrogate.proofs.HoleFreePaths.{walk_law_holds}
 use Rattle.tap_surrogate.proofs.NextHops.{next_hop_law_holds}
@@ -11,3 +12,6 @@ returns-clause-entered c = entered_law_holds
 
 pub returns-clause-next_hop : goal.returns-clause-next_hop
 returns-clause-next_hop c = next_hop_law_holds
+
+pub returns-clause-chain : goal.returns-clause-chain
+returns-clause-chain c = chain_law_holds
