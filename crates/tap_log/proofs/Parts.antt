@@ -10,7 +10,7 @@ use Rattle.tap_log.specs.Kinds.{begins_group, is_carried}
 use Rattle.tap_log.specs.Moments.{beginning, ends_before}
 use Rattle.tap_log.specs.Groups.{EachGroup, EachGroupFrom, after_beginning, beginning_of, can_be_cut, ending, ending_of, groups_of, is_ended, is_ending, is_last, is_spent, parted, records_of, with_record, without_ending}
 use Rattle.tap_log.specs.Laws.{IsGroup, LogInGroups}
-use Rattle.tap_log.proofs.Groups.{beginning_size, carried_size, is_carried-group}
+use Rattle.tap_log.proofs.OneMoreGroup.{beginning_size, carried_size, is_carried-group}
 
 -- ---- the ending
 
@@ -41,7 +41,7 @@ ending-none carried [] is = refl
 ending-none carried (item ∷ []) is = ap (λ b. if b then item ∷ [] else []) is
 ending-none carried (item ∷ last ∷ []) is =
     ap (λ b. if b then item ∷ last ∷ [] else ending carried (last ∷ []))
-        (and_false (can_be_cut carried item) (is_spent last) (not_spent last is))
+    (and_false (can_be_cut carried item) (is_spent last) (not_spent last is))
     ∙ ending-none carried (last ∷ []) is
 ending-none carried (item ∷ next ∷ other ∷ items) is = ending-none carried (next ∷ other ∷ items) is
 
@@ -206,10 +206,11 @@ EachGroup-earlier P log first after group going whole each =
     let Q : List Record → Type 0 = λ b. P b (first ∷ after) in
     let Each : List Record → List (List Record) → Type 0 = λ b groups. EachGroupFrom P b groups in
     let all : EachGroupFrom P (beginning_of log) (groups_of log ++ (first ∷ after) ∷ []) =
-        subst (Each (beginning_of log)) (groups_of-group log first after group going whole)
-        (subst (λ b. Each b (groups_of (log ++ first ∷ after))) (beginning_of-group log first after group) each) in
-    (EachGroupFrom-earlier P (beginning_of log) (groups_of log) (first ∷ after) all,
-    subst Q (log_is_groups log going) (EachGroupFrom-latest P (beginning_of log) (groups_of log) (first ∷ after) all))
+    subst (Each (beginning_of log)) (groups_of-group log first after group going whole)
+    (subst (λ b. Each b (groups_of (log ++ first ∷ after))) (beginning_of-group log first after group) each) in (
+      EachGroupFrom-earlier P (beginning_of log) (groups_of log) (first ∷ after) all,
+      subst Q (log_is_groups log going) (EachGroupFrom-latest P (beginning_of log) (groups_of log) (first ∷ after) all),
+    )
 
 -- ---- the law
 

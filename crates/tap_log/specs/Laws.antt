@@ -70,7 +70,7 @@ pub record OneMoreRecord : Type 0 where
   pub published : (log : List Record) (item : Record)
       → published_of (log ++ item ∷ []) ≡ without_servers (filter_map depart_name (accepted_by log item))
       (pairs_less (published_of log) (at_most_one (withdrawn_pair item))
-          ++ without_servers (departures_of log) (at_most_one (published_pair item)))
+      ++ without_servers (departures_of log) (at_most_one (published_pair item)))
   pub sent : (log : List Record) (item : Record)
       → sent_count (log ++ item ∷ []) ≡ sent_count log + length (at_most_one (sent_number item))
   pub joins : (log : List Record) (item : Record)
