@@ -118,7 +118,7 @@ core_of-first item stays none =
     ∙ ap (λ o. names_less (members_in item ++ at_most_one o) []) none
     ∙ less_by-none (pointwise nat_eq) (members_in item ++ []) ∙ append-nil (members_in item)
 
-came-push : (came told new gone ended : List (List ℕ)) (all all_gone : List (List ℕ)) → all ≡ (came ++ told) ++ new
+pub came-push : (came told new gone ended : List (List ℕ)) (all all_gone : List (List ℕ)) → all ≡ (came ++ told) ++ new
     → all_gone ≡ gone ++ ended
     → names_less all all_gone ≡ names_less (names_less (came ++ told) gone ++ names_less new gone) ended
 came-push came told new gone ended all all_gone is is_gone =
@@ -216,7 +216,7 @@ under_way-push log item = numbers-push packet_number ended_number log item
 
 -- ---- published pairs
 
-kept_cases : (a b : Bool) (pair : Pair) (pairs ended : List Pair) → has_pair ended pair ≡ b
+pub kept_cases : (a b : Bool) (pair : Pair) (pairs ended : List Pair) → has_pair ended pair ≡ b
     → cons_option (if a || b then None else Some pair) (pairs_less pairs ended)
     ≡ pairs_less (cons_option (if a then None else Some pair) pairs) ended
 kept_cases true b pair pairs ended is = refl
@@ -250,7 +250,7 @@ kept_pairs-push (first ∷ items) item =
     (at_most_one (published_pair item))
     ∙ ap (λ l. l ++ at_most_one (published_pair item)) (kept_here items item (published_pair first) (kept_pairs items))
 
-servers-more : (servers more : List (List ℕ)) (pairs : List Pair)
+pub servers-more : (servers more : List (List ℕ)) (pairs : List Pair)
     → without_servers (servers ++ more) pairs ≡ without_servers more (without_servers servers pairs)
 servers-more servers more pairs =
     filter-twice (λ pair. not (has_name servers pair.server)) (λ pair. not (has_name more pair.server))

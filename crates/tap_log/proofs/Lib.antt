@@ -8,3 +8,4 @@ pub mod Acknowledging
 pub mod Stepwise
 pub mod Parts
 pub mod Searching
+pub mod Telling

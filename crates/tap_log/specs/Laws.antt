@@ -1,6 +1,6 @@
 -- What one more record at the end of a log changes, and what one more group does.
 use Rattle.std.specs.Prelude.{◌≡◌, ◌≢◌, ℕ, ◌+◌, ◌<◌, ◌≤◌, All, Bool, false, true, if◌then◌else◌, List, [], ◌∷◌, ◌++◌, length, filter, fold, Option, None, Some}
-use Rattle.std.specs.List.{filter_map, cons_option, last_or}
+use Rattle.std.specs.List.{filter_map, cons_option, last_or, range_with_len}
 use Rattle.tap_name.specs.Settings.{SettingsValue}
 use Rattle.tap_scenario.specs.declared.step.Step.{Step}
 use Rattle.tap_log.specs.declared.record.Record.{Record}
@@ -9,7 +9,8 @@ use Rattle.tap_log.specs.Kinds.{begins_group, is_carried, members_in, step_of, s
 use Rattle.tap_log.specs.Moments.{acknowledged, acknowledged_by, acknowledged_by_all, awaiting, is_moment, is_still, last_of, less, outstanding, steps_of, under_way}
 use Rattle.tap_log.specs.Core.{abandoned_of, accepted_in, accepted_step, accepted_steps, ceased_of, core_of, departures_of, gone_of, has_name, joined_of, names_less}
 use Rattle.tap_log.specs.Departing.{departing_of}
-use Rattle.tap_log.specs.Published.{pairs_less, published_of, without_servers}
+use Rattle.tap_log.specs.Published.{kept_pairs, pairs_less, published_of, without_servers}
+use Rattle.tap_log.specs.Frames.{asked_ticket, ticket_count}
 use Rattle.tap_log.specs.Groups.{beginning_of, ending_of, groups_of, is_ended, records_of}
 use Rattle.tap_log.specs.Counts.{join_count, names_of, sent_count, with_name}
 
@@ -111,3 +112,39 @@ pub record LogInGroups : Type 0 where
   pub more : (log : List Record) (first : Record) (after : List Record) → IsGroup log first after
       → is_ended log ≡ false → is_ended (first ∷ after) ≡ false
       → groups_of (log ++ first ∷ after) ≡ groups_of log ++ (first ∷ after) ∷ []
+
+-- the steps that a group of this log accepts
+abbrev pub accepted_of : List Record → List Record → List Step
+accepted_of log group = accepted_in (is_carried log) group
+
+-- Frames are numbered from 0 and tickets from 1, in their order, and no frame is taken that wasn't sent.
+pub record IsNumbered (log : List Record) : Type 0 where
+  pub sent : filter_map sent_number log ≡ range_with_len 0 (sent_count log)
+  pub taken : All (λ number. number < sent_count log) (filter_map taken_number log)
+  pub asked : filter_map asked_ticket log ≡ range_with_len 1 (ticket_count log)
+
+-- the records of a group number on, and take frames that were sent before it
+pub record NumbersOn (log group : List Record) : Type 0 where
+  pub sent : filter_map sent_number group ≡ range_with_len (sent_count log) (sent_count group)
+  pub taken : All (λ number. number < sent_count log) (filter_map taken_number group)
+  pub asked : filter_map asked_ticket group ≡ range_with_len (1 + ticket_count log) (ticket_count group)
+
+-- What one more group tells is added, and what it ends is taken away. Where frames are numbered on, those that it sends are
+-- outstanding, and of the earlier ones those that it doesn't take.
+pub record GroupChanges : Type 0 where
+  pub core : (log : List Record) (first : Record) (after : List Record) → IsGroup log first after
+      → core_of (log ++ first ∷ after)
+      ≡ names_less (core_of log ++ names_less (filter_map core_name (first ∷ after)) (gone_of log)) (gone_of (first ∷ after))
+  pub joined : (log : List Record) (first : Record) (after : List Record) → IsGroup log first after
+      → joined_of (log ++ first ∷ after)
+      ≡ names_less (joined_of log ++ names_less (filter_map join_name (accepted_of log (first ∷ after))) (gone_of log))
+      (gone_of (first ∷ after))
+  pub names : (log : List Record) (first : Record) (after : List Record) → IsGroup log first after
+      → names_of (log ++ first ∷ after) ≡ fold with_name (names_of log) (filter_map join_name (accepted_of log (first ∷ after)))
+  pub published : (log : List Record) (first : Record) (after : List Record) → IsGroup log first after
+      → published_of (log ++ first ∷ after) ≡ without_servers (filter_map depart_name (accepted_of log (first ∷ after)))
+      (pairs_less (published_of log) (filter_map withdrawn_pair (first ∷ after))
+          ++ without_servers (departures_of log) (kept_pairs (first ∷ after)))
+  pub frames : (log group : List Record) → IsNumbered log → NumbersOn log group
+      → outstanding (log ++ group) ≡ less (outstanding log) (filter_map taken_number group) ++ filter_map sent_number group
+  pub numbered : (log group : List Record) → IsNumbered log → NumbersOn log group → IsNumbered (log ++ group)
