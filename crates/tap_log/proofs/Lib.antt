@@ -9,3 +9,4 @@ pub mod Stepwise
 pub mod Parts
 pub mod Searching
 pub mod Telling
+pub mod Ends

@@ -1,17 +1,17 @@
 -- What one more record at the end of a log changes, and what one more group does.
-use Rattle.std.specs.Prelude.{◌≡◌, ◌≢◌, ℕ, ◌+◌, ◌<◌, ◌≤◌, All, Bool, false, true, if◌then◌else◌, List, [], ◌∷◌, ◌++◌, length, filter, fold, Option, None, Some}
+use Rattle.std.specs.Prelude.{◌≡◌, ◌≢◌, ℕ, ◌+◌, ◌<◌, ◌≤◌, All, Bool, false, true, if◌then◌else◌, List, [], ◌∷◌, ◌++◌, length, filter, fold, slice_get, Option, None, Some}
 use Rattle.std.specs.List.{filter_map, cons_option, last_or, range_with_len}
 use Rattle.tap_name.specs.Settings.{SettingsValue}
 use Rattle.tap_scenario.specs.declared.step.Step.{Step}
 use Rattle.tap_log.specs.declared.record.Record.{Record}
 use Rattle.tap_log.specs.declared.record.Record.TheVariants.{Arrived, Begin, Carrier}
 use Rattle.tap_log.specs.Kinds.{begins_group, is_carried, members_in, step_of, sent_number, taken_number, packet_number, arrived_number, ended_number, core_name, gone_name, abandoned_name, published_pair, withdrawn_pair, join_name, depart_name}
-use Rattle.tap_log.specs.Moments.{acknowledged, acknowledged_by, acknowledged_by_all, awaiting, is_moment, is_still, last_of, less, outstanding, steps_of, under_way}
+use Rattle.tap_log.specs.Moments.{acknowledged, acknowledged_by, acknowledged_by_all, awaiting, ends_before, has_number, is_moment, is_still, last_of, less, outstanding, steps_of, under_way}
 use Rattle.tap_log.specs.Core.{abandoned_of, accepted_in, accepted_step, accepted_steps, ceased_of, core_of, departures_of, gone_of, has_name, joined_of, names_less}
 use Rattle.tap_log.specs.Departing.{departing_of}
 use Rattle.tap_log.specs.Published.{kept_pairs, pairs_less, published_of, without_servers}
 use Rattle.tap_log.specs.Frames.{asked_ticket, ticket_count}
-use Rattle.tap_log.specs.Groups.{beginning_of, ending_of, groups_of, is_ended, records_of}
+use Rattle.tap_log.specs.Groups.{after_beginning, beginning_of, ending_of, groups_of, is_ended, moments_of, records_of}
 use Rattle.tap_log.specs.Counts.{join_count, names_of, sent_count, with_name}
 
 -- the one thing that there may be, as a list
@@ -102,8 +102,13 @@ pub record OneMoreGroup : Type 0 where
   pub departing : (log : List Record) (first : Record) (behind : List Record) → IsGroup log first behind
       → departing_of (log ++ first ∷ behind) ≡ departing_after log (first ∷ behind)
 
+-- the log has its beginning, and after that a group begins or nothing stands
+pub record IsOpened (log : List Record) : Type 0 where
+  pub begun : 1 ≤ length log
+  pub next : ends_before (is_carried log) (slice_get (after_beginning log) 0) ≡ true
+
 -- A log is its beginning, its groups and its ending. One that has its beginning alone has no group, and one more whole group is its
--- last one.
+-- last one. The moments of a log without an ending are the ends of its beginning and of each group.
 pub record LogInGroups : Type 0 where
   pub whole : (log : List Record) → beginning_of log ++ (records_of (groups_of log) ++ ending_of log) ≡ log
   pub none : (settings : SettingsValue) (frames : ℕ) (members : List (List ℕ)) → groups_of (Begin settings frames members ∷ []) ≡ []
@@ -112,6 +117,8 @@ pub record LogInGroups : Type 0 where
   pub more : (log : List Record) (first : Record) (after : List Record) → IsGroup log first after
       → is_ended log ≡ false → is_ended (first ∷ after) ≡ false
       → groups_of (log ++ first ∷ after) ≡ groups_of log ++ (first ∷ after) ∷ []
+  pub moments : (log : List Record) → IsOpened log → is_ended log ≡ false
+      → (m : ℕ) → is_moment log m ≡ has_number (moments_of log) m
 
 -- the steps that a group of this log accepts
 abbrev pub accepted_of : List Record → List Record → List Step
