@@ -1,3 +1,5 @@
+pub mod Orderings
 pub mod Lists
 pub mod Places
 pub mod Written
+pub mod Applied

@@ -1,6 +1,7 @@
--- The place of a key's entry in an ascending list, from what a search by halves answers.
-use Rattle.std.proofs.Common.{◌≡◌, ℕ, ◌+◌, ◌<◌, ◌≤◌, List, length, Result, Ok, Err, IfOk, IfErr, sym, ap, ◌∙◌, inl, inr, arith}
-use Rattle.std.specs.List.{AllWithin, HoldsAt, slice_index_or}
+-- The place of a key's entry in an ascending list: from what a search by halves answers, and that what stands at a place
+-- is what its key finds, both ways.
+use Rattle.std.proofs.Common.{◌≡◌, ℕ, zero, suc, ◌+◌, ◌<◌, ◌≤◌, true, List, [], ◌∷◌, length, slice_get, Some, refl, Result, Ok, Err, IfOk, IfErr, ◌⊎◌, sym, ap, ◌∙◌, inl, inr, arith}
+use Rattle.std.specs.List.{All, AllWithin, HoldsAt, slice_index_or}
 use Rattle.std.specs.List.Sorted.{IsBinarySearchResult, IsNonDecreasingBy, IsSearchInRange}
 use Rattle.std.specs.Cmp.{IsTotalOrder}
 use Rattle.std.specs.Fn.{Called, ComputesKey}
@@ -11,11 +12,71 @@ use Rattle.std.specs.Ordering.{is_lt, is_eq, is_gt, ordering_index, ordering_rev
 use Rattle.std.specs.declared.cmp.Ordering.{Ordering}
 use Rattle.std.specs.declared.cmp.Ordering.TheVariants.{Less, Equal, Greater}
 use Rattle.std.proofs.lemmas.Bool.{cases_order}
+use Rattle.std.proofs.lemmas.Option.{get_or_from_slice_get, slice_get_within}
 use Rattle.std.proofs.lemmas.Cmp.{alike_right}
 use Rattle.std.proofs.lemmas.List.Sorted.{searchable_from_sorted}
 use Rattle.tap_register.specs.declared.registers.Entry.{Entry}
-use Rattle.tap_register.specs.Registers.{IsAscending, IsAt, IsGap}
-use Rattle.tap_register.proofs.Lists.{filter_first, filter_last, find_first, find_nothing}
+use Rattle.tap_register.specs.Registers.{IsAscending, IsAt, IsGap, entry_of}
+use Rattle.tap_register.proofs.Orderings.{is_equal}
+use Rattle.tap_register.proofs.Lists.{AllWithin-first, AllWithin-later, filter_first, filter_last, find_first, find_nothing, find_passes, find_All}
+
+-- how many entries stand before a key: those are below it, and the next one is the key's or those from there on are above it
+record IsParted {K V : Type 0} (cmp : K → K → Ordering) (entries : List (Entry K V)) (key : K) (at : ℕ) : Type 0 where
+  within : at ≤ length entries
+  before : AllWithin (λ e. cmp e.key key ≡ Less) entries 0 at
+  behind : AllWithin (λ e. cmp e.key key ≡ Greater) entries at (length entries)
+      ⊎ ((at < length entries) × HoldsAt (λ e. cmp e.key key ≡ Equal) entries at)
+
+-- each key has such a number
+parted : {K V : Type 0} (cmp : K → K → Ordering) (total : IsTotalOrder cmp) (entries : List (Entry K V)) (key : K)
+    → IsAscending cmp entries → (at : ℕ) × IsParted cmp entries key at
+parted cmp total [] key ascending = (
+  0,
+  record {
+    within = omega arith;
+    before = λ k d low high. absurd (omega arith);
+    behind = inl (λ k d low high. absurd (omega arith));
+  },
+)
+parted cmp total (e ∷ es) key ascending =
+    step (cmp e.key key) refl (parted cmp total es key (λ i j d lt within. ascending (suc i) (suc j) d (omega arith) (omega arith)))
+  where
+    step : (r : Ordering) → cmp e.key key ≡ r → (at : ℕ) × IsParted cmp es key at → (at : ℕ) × IsParted cmp (e ∷ es) key at
+    step Less is (at, rest) = (
+      suc at,
+      record {
+        within = omega (arith, rest.within);
+        before = AllWithin-first (λ e. cmp e.key key ≡ Less) e es at is rest.before;
+        behind = elim rest.behind [
+          | inl above ↦ inl (AllWithin-later (λ e. cmp e.key key ≡ Greater) e es at above)
+          | inr (within, here) ↦ inr (omega arith, here)
+        ];
+      },
+    )
+    step Equal is rest = (
+      0,
+      record {
+        within = omega arith;
+        before = λ k d low high. absurd (omega arith);
+        behind = inr (omega arith, λ d. is);
+      },
+    )
+    step Greater is rest = (
+      0,
+      record {
+        within = omega arith;
+        before = λ k d low high. absurd (omega arith);
+        behind = inl (all_above is);
+      },
+    )
+      where
+        all_above : cmp e.key key ≡ Greater → AllWithin (λ e. cmp e.key key ≡ Greater) (e ∷ es) 0 (length (e ∷ es))
+        all_above is zero d low high = is
+        all_above is (suc k) d low high =
+            let there = slice_index_or es k d in
+            let first : cmp key e.key ≡ Less = total.antisymm key e.key ∙ ap ordering_reverse is in
+            let under = total.trans key e.key there.key first (ascending 0 (suc k) d (omega arith) (omega arith)) in
+            total.antisymm there.key key ∙ ap ordering_reverse under
 
 module _ {K V : Type 0} (cmp : K → K → Ordering) (total : IsTotalOrder cmp) (entries : List (Entry K V)) (key : K) where
   -- what stands before and behind the entry of the key
@@ -101,3 +162,32 @@ module _ {K V : Type 0} (cmp : K → K → Ordering) (total : IsTotalOrder cmp) 
   gap_of_search (Err at) ascending within split =
       let parts = split (rising ascending) in
       gap at within parts.0 parts.1
+
+  -- a key has an entry at a place, or there is a place where it would stand
+  pub located : IsAscending cmp entries → ((at : ℕ) × IsAt cmp entries key at) ⊎ ((at : ℕ) × IsGap cmp entries key at)
+  located ascending = by_part (parted cmp total entries key ascending)
+    where
+      by_part : (at : ℕ) × IsParted cmp entries key at → ((at : ℕ) × IsAt cmp entries key at) ⊎ ((at : ℕ) × IsGap cmp entries key at)
+      by_part (at, part) = elim part.behind [
+        | inl above ↦ inr (at, gap at part.within part.before above)
+        | inr (within, same) ↦ inl (at, place at ascending within same)
+      ]
+
+  -- the entry at a place is what its key finds
+  pub entry_at-found : (at : ℕ) (e : Entry K V) → IsAscending cmp entries → slice_get entries at ≡ Some e → is_eq (cmp e.key key) ≡ true
+      → entry_of cmp entries key ≡ Some e
+  entry_at-found at e ascending here same =
+      let within : at < length entries = slice_get_within entries at e here in
+      (place at ascending within (λ d. rw (get_or_from_slice_get entries at e d here) (is_equal _ same))).found ∙ here
+
+  -- and what a key finds stands at a place
+  pub found-entry_at : (e : Entry K V) → IsAscending cmp entries → entry_of cmp entries key ≡ Some e
+      → (at : ℕ) × (slice_get entries at ≡ Some e) × (is_eq (cmp e.key key) ≡ true)
+  found-entry_at e ascending found = elim (located ascending) [
+    | inl (at, there) ↦ (at, sym there.found ∙ found, find_passes (λ e. is_eq (cmp e.key key)) entries e found)
+    | inr (at, gap) ↦ let nothing = gap.absent in absurd cc
+  ]
+
+  -- what holds of each entry holds of the one that a key finds
+  pub All-found : (P : Entry K V → Type 0) (e : Entry K V) → All P entries → entry_of cmp entries key ≡ Some e → P e
+  All-found P e all found = find_All (λ e. is_eq (cmp e.key key)) P entries e all found

@@ -12,23 +12,8 @@ use Rattle.std.proofs.lemmas.List.Folds.{find-append}
 use Rattle.std.proofs.lemmas.List.Kept.{AllPairs-cons, AllPairs-filter}
 use Rattle.tap_register.specs.declared.registers.Entry.{Entry}
 use Rattle.tap_register.specs.Registers.{IsAscending, IsAt, IsGap, entry_of, below, above, written}
+use Rattle.tap_register.proofs.Orderings.{is_less, is_equal, is_greater}
 use Rattle.tap_register.proofs.Lists.{AllPairs-append, find-filter_all, find-filter_none, option_or-none}
-
--- what a test of an ordering means
-is_less : (r : Ordering) → is_lt r ≡ true → r ≡ Less
-is_less Less pass = refl
-is_less Equal pass = cc
-is_less Greater pass = cc
-
-is_equal : (r : Ordering) → is_eq r ≡ true → r ≡ Equal
-is_equal Less pass = cc
-is_equal Equal pass = refl
-is_equal Greater pass = cc
-
-is_greater : (r : Ordering) → is_gt r ≡ true → r ≡ Greater
-is_greater Less pass = cc
-is_greater Equal pass = cc
-is_greater Greater pass = refl
 
 -- an entry in the place of the one that stood there, and in a gap
 pub set-written : {K V : Type 0} (cmp : K → K → Ordering) (entries : List (Entry K V)) (entry : Entry K V) (at : ℕ)
@@ -36,7 +21,7 @@ pub set-written : {K V : Type 0} (cmp : K → K → Ordering) (entries : List (E
     → set entries at entry ≡ written cmp entries entry
 set-written cmp entries entry at place =
     sym (take-append-drop at (set entries at entry)) ∙ rw
-        (take-set entries at entry, drop-set entries at entry place.within, place.before, place.behind) refl
+    (take-set entries at entry, drop-set entries at entry place.within, place.before, place.behind) refl
 
 pub insert-written : {K V : Type 0} (cmp : K → K → Ordering) (entries : List (Entry K V)) (entry : Entry K V) (at : ℕ)
     → IsGap cmp entries entry.key at
@@ -49,15 +34,15 @@ module _ {K V : Type 0} (cmp : K → K → Ordering) (total : IsTotalOrder cmp) 
       let before = below cmp entries entry.key in
       let behind = above cmp entries entry.key in
       let lower : All (λ e. cmp e.key entry.key ≡ Less) before =
-          λ k d h. is_less _ (filter_passes (λ e. is_lt (cmp e.key entry.key)) entries k d h) in
+      λ k d h. is_less _ (filter_passes (λ e. is_lt (cmp e.key entry.key)) entries k d h) in
       let upper : All (λ e. cmp entry.key e.key ≡ Less) behind = λ k d h.
       total.antisymm entry.key (slice_index_or behind k d).key
-          ∙ ap ordering_reverse (is_greater _ (filter_passes (λ e. is_gt (cmp e.key entry.key)) entries k d h)) in
+      ∙ ap ordering_reverse (is_greater _ (filter_passes (λ e. is_gt (cmp e.key entry.key)) entries k d h)) in
       let R : Entry K V → Entry K V → Type 0 = λ a b. cmp a.key b.key ≡ Less in
       let across : All (λ e. All (R e) (entry ∷ behind)) before = λ k d h.
       let e = slice_index_or before k d in
       All-cons (R e) entry behind (lower k d h) (λ j f l. total.trans e.key entry.key (slice_index_or behind j f).key (lower k d h)
-          (upper j f l)) in
+      (upper j f l)) in
       AllPairs-append R before (entry ∷ behind)
       (AllPairs-filter R (λ e. is_lt (cmp e.key entry.key)) entries ascending)
       (AllPairs-cons R entry behind upper (AllPairs-filter R (λ e. is_gt (cmp e.key entry.key)) entries ascending))
@@ -88,7 +73,7 @@ module _ {K V : Type 0} (cmp : K → K → Ordering) (total : IsTotalOrder cmp) 
           (find-filter_all (has_key key) (λ e. is_gt (cmp e.key entry.key)) (λ e same. ap is_gt (side Less is e same)) entries)
       by_order Equal is =
           rw (find-filter_none (has_key key) (λ e. is_lt (cmp e.key entry.key)) (λ e same. ap is_lt (side Equal is e same)) entries, is)
-              refl
+          refl
       by_order Greater is =
           rw (
             find-filter_all (has_key key) (λ e. is_lt (cmp e.key entry.key)) (λ e same. ap is_lt (side Greater is e same)) entries,

@@ -1,6 +1,6 @@
 -- Registers are seen as the list of their entries. A comparison of keys, `cmp`, says which key is below which, and two
 -- keys are the same where it answers `Equal`.
-use Rattle.std.specs.Prelude.{◌≡◌, ℕ, ◌+◌, ◌<◌, ◌≤◌, nat_lt, Bool, true, List, ◌∷◌, ◌++◌, length, take, drop, filter, find, slice_get, AllPairs, Option, Some, None}
+use Rattle.std.specs.Prelude.{◌≡◌, ℕ, ◌+◌, ◌<◌, ◌≤◌, nat_lt, Bool, if◌then◌else◌, true, List, ◌∷◌, ◌++◌, length, take, drop, filter, find, slice_get, AllPairs, Option, Some, None}
 use Rattle.std.specs.Ordering.{is_lt, is_eq, is_gt}
 use Rattle.std.specs.declared.cmp.Ordering.{Ordering}
 use Rattle.std.specs.declared.cmp.Ordering.TheVariants.{Less}
@@ -19,6 +19,15 @@ abbrev pub supersedes : {K V : Type 0} → ℕ → Option (Entry K V) → Bool
 supersedes version None = true
 supersedes version (Some kept) = nat_lt kept.version version
 
+-- whether a version is newer than what a key has
+abbrev pub is_newer : {K V : Type 0} → (K → K → Ordering) → List (Entry K V) → K → ℕ → Bool
+is_newer cmp entries key version = supersedes version (entry_of cmp entries key)
+
+-- the newer of what is kept, if anything is, and a write; of two of one version, what is kept
+abbrev pub newest : {K V : Type 0} → Option (Entry K V) → Entry K V → Entry K V
+newest None entry = entry
+newest (Some kept) entry = if nat_lt kept.version entry.version then entry else kept
+
 -- the entries whose keys are below a key, and those whose keys are above it
 abbrev pub below : {K V : Type 0} → (K → K → Ordering) → List (Entry K V) → K → List (Entry K V)
 below cmp entries key = filter (λ e. is_lt (cmp e.key key)) entries
@@ -29,6 +38,13 @@ above cmp entries key = filter (λ e. is_gt (cmp e.key key)) entries
 -- the entries after this one is written: it stands between those below its key and those above it
 abbrev pub written : {K V : Type 0} → (K → K → Ordering) → List (Entry K V) → Entry K V → List (Entry K V)
 written cmp entries entry = below cmp entries entry.key ++ entry ∷ above cmp entries entry.key
+
+-- the entries after a write is applied: it is written if its version is newer, else they stay as they were
+abbrev pub applied : {K V : Type 0} → (K → K → Ordering) → List (Entry K V) → K → ℕ → V → List (Entry K V)
+applied cmp entries key version value =
+    if is_newer cmp entries key version
+    then written cmp entries (record { key = key; version = version; value = value })
+    else entries
 
 -- the entry of the key stands at this place
 pub record IsAt {K V : Type 0} (cmp : K → K → Ordering) (entries : List (Entry K V)) (key : K) (at : ℕ) : Type 0 where

@@ -1,8 +1,8 @@
-ghost use Rattle.std.specs.Prelude.{◌≡◌, ◌==◌, ◌<◌, if◌then◌else◌, true, None, Some};
-ghost use Rattle.std.specs.Prelude.{[], length, slice_get, IfOk, IfErr, OnErr};
+ghost use Rattle.std.specs.Prelude.{◌≡◌, ◌==◌, ◌<◌, if◌then◌else◌, None, Some};
+ghost use Rattle.std.specs.Prelude.{[], length, slice_get, IfOk, IfErr, OnOk, OnErr};
 ghost use Rattle.std.specs.Option.{option_map};
 ghost use Rattle.std.specs.Ordering.{is_eq};
-ghost use Rattle.tap_register.specs.Registers.{IsAscending, IsAt, IsGap, entry_of, supersedes, written};
+ghost use Rattle.tap_register.specs.Registers.{IsAscending, IsAt, IsGap, applied, entry_of, is_newer, newest};
 
 use crate::memory::NoMemory;
 use std::alloc::Global;
@@ -66,16 +66,15 @@ impl<K: Ord + Copy, V: Copy> Registers<K, V> {
     /// A write that is older than the one that is kept, or as old, is answered `Ok(false)`. That and
     /// `Err` leave all as it was, and `Err` comes only at a new key.
     pub fn apply(&mut self, key: K, version: u32, value: V) -> Result<bool, NoMemory>
-        ensures answer { IfOk result (λ kept.
-            kept ≡ supersedes version (entry_of K.cmp self.old key)) }
-        ensures kept { result ≡ Ok true →
-            self.new ≡ written K.cmp self.old (record { key = key; version = version; value = value }) }
-        ensures look_up { result ≡ Ok true → (other : K) →
+        ensures answer { IfOk result (λ newer. newer ≡ is_newer K.cmp self.old key version) }
+        ensures after { OnOk result (self.new ≡ applied K.cmp self.old key version value) }
+        // Each key keeps its newest write.
+        ensures look_up { OnOk result ((other : K) →
             entry_of K.cmp self.new other ≡
             (if is_eq (K.cmp key other)
-            then Some (record { key = key; version = version; value = value })
-            else entry_of K.cmp self.old other) }
-        ensures same { ¬ (result ≡ Ok true) → self.new ≡ self.old }
+            then Some (newest (entry_of K.cmp self.old key) (record { key = key; version = version; value = value }))
+            else entry_of K.cmp self.old other)) }
+        ensures same { OnErr result (self.new ≡ self.old) }
         // Only a new key wants memory.
         ensures new_key { OnErr result (entry_of K.cmp self.old key ≡ None) }
     {
@@ -168,11 +167,20 @@ mod tests {
             (3, 7, 'd', true),
             (7, 1, 'e', true),
             (5, 3, 'f', true),
+            (8, 1, 'g', true),
+            (1, 4, 'h', true),
         ] {
             assert_eq!(rt; registers.apply(key, version, value)?, kept);
         }
-        assert_eq!(rt; registers.len(), 4);
-        let expected = [(3, 7, 'd'), (5, 3, 'f'), (7, 1, 'e'), (9, 0, 'c')];
+        assert_eq!(rt; registers.len(), 6);
+        let expected = [
+            (1, 4, 'h'),
+            (3, 7, 'd'),
+            (5, 3, 'f'),
+            (7, 1, 'e'),
+            (8, 1, 'g'),
+            (9, 0, 'c'),
+        ];
         for (entry, (key, version, value)) in registers.as_slice().iter().zip(expected) {
             let is = Entry {
                 key,
@@ -182,7 +190,7 @@ mod tests {
             assert_eq!(rt; *entry, is);
             assert_eq!(rt; registers.get(key), Some(value));
         }
-        assert_eq!(rt; registers.entry_at(3).key, 9);
+        assert_eq!(rt; registers.entry_at(5).key, 9);
         assert_eq!(rt; registers.get(4), None);
         assert!(rt; !registers.is_empty());
         Ok(())

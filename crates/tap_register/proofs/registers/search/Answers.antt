@@ -8,7 +8,7 @@ returns-clause-found g c =
     let answer = c.binary_search_by in
     place_of_search cmp g.met.K.Ord.total c.args.entries.now c.args.key.now answer.result c.requires answer.ensures.bound
     (search_by_key cmp g.met.K.Ord.total c.args.entries.now c.args.key.now answer.result answer.ensures.position
-        (λ a r f called. search rules))
+    (λ a r f called. search rules))
 
 pub returns-clause-absent : goal.returns-clause-absent
 returns-clause-absent g c =
@@ -16,4 +16,4 @@ returns-clause-absent g c =
     let answer = c.binary_search_by in
     gap_of_search cmp g.met.K.Ord.total c.args.entries.now c.args.key.now answer.result c.requires answer.ensures.bound
     (search_by_key cmp g.met.K.Ord.total c.args.entries.now c.args.key.now answer.result answer.ensures.position
-        (λ a r f called. search rules))
+    (λ a r f called. search rules))
