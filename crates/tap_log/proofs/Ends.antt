@@ -14,7 +14,7 @@ use Rattle.tap_log.specs.Groups.{EachGroup, EachGroupFrom, after_beginning, begi
 use Rattle.tap_log.specs.Laws.{IsGroup, IsOpened, LogInGroups}
 use Rattle.tap_log.proofs.Growing.{carried_alone, carried_third}
 use Rattle.tap_log.proofs.OneMoreGroup.{beginning_size, carried_size, is_carried-group, is_moment-earlier, is_moment-end, is_moment-within}
-use Rattle.tap_log.proofs.Parts.{groups_of-group, is_ended-drop, log_is_groups, log_is_parts, without_ending-all}
+use Rattle.tap_log.proofs.Parts.{groups_of-ended, groups_of-group, is_ended-drop, log_is_groups, log_is_parts, without_ending-all}
 
 -- ---- what the parts of records are
 
@@ -49,10 +49,11 @@ follow_with : (carried : Bool) (first next : Record) (ends : Bool) (groups : Lis
 follow_with carried first next true groups begins follow = (refl, none_follow carried, are_parts carried next groups follow begins)
 follow_with carried first next false [] begins follow = absurd follow
 follow_with carried first next false ([] ∷ groups) begins follow = absurd follow
-follow_with carried first next false ((item ∷ after) ∷ groups) begins follow =
-    (refl,
-    All-cons (λ other. begins_group carried other ≡ false) item after (ap (begins_group carried) follow.0 ∙ begins) follow.1,
-    follow.2)
+follow_with carried first next false ((item ∷ after) ∷ groups) begins follow = (
+  refl,
+  All-cons (λ other. begins_group carried other ≡ false) item after (ap (begins_group carried) follow.0 ∙ begins) follow.1,
+  follow.2,
+)
 
 parted-follow : (carried : Bool) (first : Record) (items : List Record) → FollowFirst carried first (parted carried (first ∷ items))
 parted-follow carried first [] = (refl, none_follow carried, tt)
@@ -116,7 +117,7 @@ ends_alone before m ends from = by_place (cases_lt (length before) m)
 ends_step : (before : List Record) (first : Record) (after : List Record) (groups : List (List Record)) → IsGroup before first after
     → AreParts (is_carried (before ++ first ∷ after)) groups → is_moment before (length before) ≡ true → (m : ℕ) → length before ≤ m
     → (length (before ++ first ∷ after) ≤ m → is_moment ((before ++ first ∷ after) ++ records_of groups) m
-        ≡ has_number (ends_from (length (before ++ first ∷ after)) groups) m)
+    ≡ has_number (ends_from (length (before ++ first ∷ after)) groups) m)
     → is_moment ((before ++ first ∷ after) ++ records_of groups) m
     ≡ (nat_eq (length before) m || has_number (ends_from (length (before ++ first ∷ after)) groups) m)
 ends_step before first after groups group parts ends m from later =
@@ -136,11 +137,11 @@ ends_step before first after groups group parts ends m from later =
     by_place (inl above) (inl below) =
         stays (omega (arith, below)) ∙ is_moment-within before first after group m above below
         ∙ sym (ap (λ b. b || has_number (ends_from (length (before ++ first ∷ after)) groups) m)
-            (ne_eqb (length before) m (λ is. absurd (omega (arith, is, above))))
+        (ne_eqb (length before) m (λ is. absurd (omega (arith, is, above))))
         ∙ ends_above m (length (before ++ first ∷ after)) groups below)
     by_place (inl above) (inr past) =
         later past ∙ sym (ap (λ b. b || has_number (ends_from (length (before ++ first ∷ after)) groups) m)
-            (ne_eqb (length before) m (λ is. absurd (omega (arith, is, above)))))
+        (ne_eqb (length before) m (λ is. absurd (omega (arith, is, above)))))
     by_place (inr within) place =
         let here : length before ≡ m = omega (arith, from, within) in
         stays (omega (arith, size, within)) ∙ is_moment-earlier before first after group m within
@@ -273,11 +274,11 @@ held_from Q P keeps before (group ∷ groups) here each m is =
     by_test : Rest → (b : Bool) → nat_eq (length before) m ≡ b → Q (take m (before ++ (group ++ records_of groups)))
     by_test later true same =
         subst Q (sym (ap (λ k. take k (before ++ (group ++ records_of groups))) (sym (eqb-true (length before) m same))
-            ∙ take-append_seam before (group ++ records_of groups))) here
+        ∙ take-append_seam before (group ++ records_of groups))) here
     by_test later false other =
         subst (λ l. Q (take m l)) (append_assoc before group (records_of groups))
         (later (ap (λ n. has_number (ends_from n groups) m) (length-append before group)
-            ∙ sym (ap (λ b. b || has_number (ends_from (length before + length group) groups) m) other) ∙ is))
+        ∙ sym (ap (λ b. b || has_number (ends_from (length before + length group) groups) m) other) ∙ is))
 
 -- what holds of the beginning, and is kept by each group, holds at each moment
 pub holds_at_each_moment : (Q : List Record → Type 0) (P : List Record → List Record → Type 0)
@@ -300,4 +301,4 @@ unfolding is_carried
 groups_of-carried settings frames members = refl
 
 pub log_in_groups_holds : LogInGroups
-log_in_groups_holds = record { whole = log_is_parts; none = groups_of-begin; none_carried = groups_of-carried; more = groups_of-group; moments = moments_are_ends }
+log_in_groups_holds = record { whole = log_is_parts; none = groups_of-begin; none_carried = groups_of-carried; more = groups_of-group; ended = groups_of-ended; moments = moments_are_ends }
