@@ -6,6 +6,7 @@ use Rattle.std.specs.Ordering.{is_eq, is_gt, is_lt}
 use Rattle.std.specs.declared.cmp.Ordering.{Ordering}
 use Rattle.std.specs.declared.cmp.Ordering.TheVariants.{Less, Equal, Greater}
 use Rattle.std.proofs.lemmas.Bool.{cases_Bool}
+use Rattle.std.proofs.lemmas.List.{length-map}
 use Rattle.std.proofs.lemmas.List.Sums.{sum_by-append, sum_by-cons}
 use Rattle.tap_link.specs.declared.kind.Kind.{Kind}
 use Rattle.tap_link.specs.Entry.{Entry}
@@ -78,7 +79,7 @@ module _ {K : Type 0} (cmp : K → K → Ordering) where
             let same : Some e.kind ≡ Some kind = rw tied at found in
             let same' : e.kind ≡ kind = cc in
             rw (tied, above-without cmp es target (above_all o e es target ascending tied), ← same', kind_sum-cons weight e es)
-                (omega arith)
+            (omega arith)
         | inr apart ↦
             let rest : kind_of cmp es target ≡ Some kind = rw apart at found in
             let ih = kind_sum-without o weight es target kind (ascending_tail cmp e es ascending) rest in
@@ -134,6 +135,9 @@ module _ {K : Type 0} (cmp : K → K → Ordering) where
         kind_sum-ones (with_link cmp links target kind),
         kind_sum-with_link (λ _. 1) links target kind absent,
       )
+
+  pub length-with_kind : (links : List (Entry K)) (target : K) (kind : Kind) → length (with_kind cmp links target kind) ≡ length links
+  length-with_kind links target kind = length-map links _
 
   pub length-without : IsTotalOrder cmp → (links : List (Entry K)) (target : K) (kind : Kind)
       → IsAscending cmp links → kind_of cmp links target ≡ Some kind → length (without cmp links target) + 1 ≡ length links

@@ -5,3 +5,7 @@ pub mod Least
 pub mod LookUps
 pub mod Counts
 pub mod Targets
+pub mod TargetKinds
+pub mod Valid
+pub mod Sizes
+pub mod Primaries

@@ -117,21 +117,21 @@ module _ {K : Type 0} (cmp : K → K → Ordering) where
   found_among o links target other kind Less is =
       let back : cmp other target ≡ Greater = o.antisymm other target ∙ ap ordering_reverse is in
       let lesser = find-filter_lost (names other) (λ e. is_gt (cmp target e.target))
-          (λ e named. ap is_gt (alike o target other e named ∙ is)) links in
+      (λ e named. ap is_gt (alike o target other e named ∙ is)) links in
       let greater = find-filter_kept (names other) (λ e. is_lt (cmp target e.target))
-          (λ e named. ap is_lt (alike o target other e named ∙ is)) links in
+      (λ e named. ap is_lt (alike o target other e named ∙ is)) links in
       rw (find-append (names other) (filter (λ e. is_gt (cmp target e.target)) links), lesser, back, greater) refl
   found_among o links target other kind Equal is =
       let back : cmp other target ≡ Equal = o.antisymm other target ∙ ap ordering_reverse is in
       let lesser = find-filter_lost (names other) (λ e. is_gt (cmp target e.target))
-          (λ e named. ap is_gt (alike o target other e named ∙ is)) links in
+      (λ e named. ap is_gt (alike o target other e named ∙ is)) links in
       rw (find-append (names other) (filter (λ e. is_gt (cmp target e.target)) links), lesser, back) refl
   found_among o links target other kind Greater is =
       let back : cmp other target ≡ Less = o.antisymm other target ∙ ap ordering_reverse is in
       let lesser = find-filter_kept (names other) (λ e. is_gt (cmp target e.target))
-          (λ e named. ap is_gt (alike o target other e named ∙ is)) links in
+      (λ e named. ap is_gt (alike o target other e named ∙ is)) links in
       let greater = find-filter_lost (names other) (λ e. is_lt (cmp target e.target))
-          (λ e named. ap is_lt (alike o target other e named ∙ is)) links in
+      (λ e named. ap is_lt (alike o target other e named ∙ is)) links in
       rw (find-append (names other) (filter (λ e. is_gt (cmp target e.target)) links), lesser, back, greater, option_or-none) refl
 
   pub kind_of-with_link : IsTotalOrder cmp → (links : List (Entry K)) (target other : K) (kind : Kind)

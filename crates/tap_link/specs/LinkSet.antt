@@ -1,6 +1,6 @@
 -- A link set: links with distinct targets in ascending order.
-use Rattle.std.specs.Prelude.{◌≡◌, ◌≢◌, ℕ, ◌≤◌, nat_lt, Bool, true, false, not, if◌then◌else◌, List, ◌∷◌, ◌++◌, map, filter, find, count_by, AllPairs, Option, None, Some}
-use Rattle.std.specs.Option.{option_map}
+use Rattle.std.specs.Prelude.{◌≡◌, ◌≢◌, ℕ, ◌≤◌, nat_lt, Bool, true, false, not, ◌&&◌, if◌then◌else◌, List, ◌∷◌, ◌++◌, map, filter, find, count_by, AllPairs, Option, None, Some}
+use Rattle.std.specs.Option.{option_map, is_none}
 use Rattle.std.specs.Ordering.{is_lt, is_eq, is_gt}
 use Rattle.std.specs.declared.cmp.Ordering.{Ordering}
 use Rattle.std.specs.declared.cmp.Ordering.TheVariants.{Less}
@@ -87,6 +87,36 @@ module _ {K : Type 0} (cmp : K → K → Ordering) where
   after_release links target ReleasedSettled = with_kind links target Settled
   after_release links target Dropped = without links target
   after_release links target Nothing = links
+
+  -- the set after a pin of the target: a pin more, if no link names it
+  abbrev pub pinned : LinkSetValue K → K → LinkSetValue K
+  pinned set target =
+      if is_none (kind_of set.links target) then record set { links = with_link set.links target Pin } else set
+
+  -- the set after an offer of the target: a settled link more, if no link names it and there is room
+  abbrev pub offered : LinkSetValue K → K → LinkSetValue K
+  offered set target =
+      if is_none (kind_of set.links target) && has_room set then record set { links = with_link set.links target Settled } else set
+
+  -- the set after the release of a node: a pin on it is settled if there is room, and gone if there is none
+  abbrev pub released : LinkSetValue K → K → LinkSetValue K
+  released set sender =
+      record set { links = after_release set.links sender (released_as (is_pinned (kind_of set.links sender)) (has_room set)) }
+
+  -- the set after the word of a node that gave up joining: a pin on it is gone
+  abbrev pub forgotten : LinkSetValue K → K → LinkSetValue K
+  forgotten set sender =
+      if is_pinned (kind_of set.links sender) then record set { links = without set.links sender } else set
+
+  -- the set after the target said that it will leave: a settled link to it is leaving
+  abbrev pub marked : LinkSetValue K → K → LinkSetValue K
+  marked set target =
+      if is_settled (kind_of set.links target) then record set { links = with_kind set.links target Leaving } else set
+
+  -- the set after the link to the target was let go: gone if it was settled or leaving
+  abbrev pub removed : LinkSetValue K → K → LinkSetValue K
+  removed set target =
+      if is_settled_or_leaving (kind_of set.links target) then record set { links = without set.links target } else set
 
   -- the target is settled and not leaving, and no lesser one is
   pub record IsLeastSettled (links : List (Entry K)) (target : K) : Type 0 where

@@ -1,7 +1,6 @@
-ghost use Rattle.std.specs.Prelude.{◌≡◌, ◌<◌, ◌≤◌, ◌↔◌, ◌&&◌, [], length, map, true, Some, None, IsOk, IsNone, IfOk, IfSome, IsTrue, slice_get};
-ghost use Rattle.std.specs.Bool.{OnTrue, OnFalse};
+ghost use Rattle.std.specs.Prelude.{◌≡◌, ◌<◌, ◌≤◌, ◌↔◌, ◌&&◌, [], length, map, Some, IsOk, IsNone, IsSome, IfOk, IfSome, OnErr, OnOk, IsTrue, slice_get};
 ghost use Rattle.std.specs.Option.{is_none};
-ghost use Rattle.tap_link.specs.LinkSet.{LinkSetValue, IsLinkSet, kind_of, with_link, with_kind, without, is_pinned, is_settled, is_settled_or_leaving, settled_count, has_room, least_settled, IsLeastSettled, released_as, after_release};
+ghost use Rattle.tap_link.specs.LinkSet.{LinkSetValue, IsLinkSet, kind_of, is_pinned, is_settled, is_settled_or_leaving, settled_count, has_room, least_settled, IsLeastSettled, released_as, pinned, offered, released, forgotten, marked, removed};
 
 use crate::kind::{Kind, Released};
 use crate::link::Link;
@@ -89,13 +88,14 @@ impl<K: Ord + Copy> LinkSet<K> {
 
     /// Pins a target that is absent, and answers whether it was.
     ///
-    /// With fewer than four links it needs no memory. A set that is refused memory stays as it was.
+    /// `NoMemory` comes only where a link would be added to four links or more. A set that is refused
+    /// memory stays as it was.
     pub fn pin(&mut self, target: K) -> Result<bool, NoMemory>
         ensures answer { IfOk result (λ added. added ≡ is_none (kind_of K.cmp self.old.links target)) }
-        ensures pinned { result ≡ Ok true
-            → self.new ≡ record self.old { links = with_link K.cmp self.old.links target Kind.Pin } }
-        ensures same { ¬ (result ≡ Ok true) → self.new ≡ self.old }
+        ensures after { OnOk result (self.new ≡ pinned K.cmp self.old target) }
+        ensures same { OnErr result (self.new ≡ self.old) }
         ensures inline { length self.old.links < 4 → IsOk result }
+        ensures linked { IsSome (kind_of K.cmp self.old.links target) → IsOk result }
     {
         match self.places.search(target) {
             Ok(_) => Ok(false), // some link names it
@@ -109,14 +109,16 @@ impl<K: Ord + Copy> LinkSet<K> {
     /// Settles on a target that is absent where there is room for a settled link, and answers
     /// whether it did. There is room where fewer than `width` links are settled and not leaving.
     ///
-    /// With fewer than four links it needs no memory. A set that is refused memory stays as it was.
+    /// `NoMemory` comes only where a link would be added to four links or more. A set that is refused
+    /// memory stays as it was.
     pub fn offer(&mut self, target: K) -> Result<bool, NoMemory>
         ensures answer { IfOk result (λ added. added
             ≡ (is_none (kind_of K.cmp self.old.links target) && has_room self.old)) }
-        ensures settled { result ≡ Ok true
-            → self.new ≡ record self.old { links = with_link K.cmp self.old.links target Kind.Settled } }
-        ensures same { ¬ (result ≡ Ok true) → self.new ≡ self.old }
+        ensures after { OnOk result (self.new ≡ offered K.cmp self.old target) }
+        ensures same { OnErr result (self.new ≡ self.old) }
         ensures inline { length self.old.links < 4 → IsOk result }
+        ensures linked { IsSome (kind_of K.cmp self.old.links target) → IsOk result }
+        ensures full { ¬ (IsTrue (has_room self.old)) → IsOk result }
     {
         match self.places.search(target) {
             Ok(_) => Ok(false),
@@ -135,8 +137,8 @@ impl<K: Ord + Copy> LinkSet<K> {
     pub fn release(&mut self, by: Release<K>) -> Released
         ensures answer { result
             ≡ released_as (is_pinned (kind_of K.cmp self.old.links by.from)) (has_room self.old) }
-        ensures after { self.new
-            ≡ record self.old { links = after_release K.cmp self.old.links by.from result } }
+        ensures after { self.new ≡ released K.cmp self.old by.from }
+        ensures nothing { result ≡ Released.Nothing → self.new ≡ self.old }
     {
         let Ok(at) = self.places.search(by.from) else {
             return Released::Nothing;
@@ -158,9 +160,7 @@ impl<K: Ord + Copy> LinkSet<K> {
     /// Ends the pin on a node that gave up joining: true exactly where it was pinned.
     pub fn forget(&mut self, by: Forget<K>) -> bool
         ensures answer { result ≡ is_pinned (kind_of K.cmp self.old.links by.from) }
-        ensures forgotten { OnTrue result
-            (self.new ≡ record self.old { links = without K.cmp self.old.links by.from }) }
-        ensures same { OnFalse result (self.new ≡ self.old) }
+        ensures after { self.new ≡ forgotten K.cmp self.old by.from }
     {
         let Ok(at) = self.places.search(by.from) else {
             return false;
@@ -177,9 +177,7 @@ impl<K: Ord + Copy> LinkSet<K> {
     /// Marks the link to a target as leaving: true exactly where it was settled and not leaving.
     pub fn mark_leaving(&mut self, target: K) -> bool
         ensures answer { result ≡ is_settled (kind_of K.cmp self.old.links target) }
-        ensures marked { OnTrue result
-            (self.new ≡ record self.old { links = with_kind K.cmp self.old.links target Kind.Leaving }) }
-        ensures same { OnFalse result (self.new ≡ self.old) }
+        ensures after { self.new ≡ marked K.cmp self.old target }
     {
         let Ok(at) = self.places.search(target) else {
             return false;
@@ -196,9 +194,7 @@ impl<K: Ord + Copy> LinkSet<K> {
     /// Takes out the link to a target that is settled or leaving: true exactly where it was.
     pub fn remove_settled(&mut self, target: K) -> bool
         ensures answer { result ≡ is_settled_or_leaving (kind_of K.cmp self.old.links target) }
-        ensures removed { OnTrue result
-            (self.new ≡ record self.old { links = without K.cmp self.old.links target }) }
-        ensures same { OnFalse result (self.new ≡ self.old) }
+        ensures after { self.new ≡ removed K.cmp self.old target }
     {
         let Ok(at) = self.places.search(target) else {
             return false;

@@ -6,7 +6,7 @@ use Rattle.tap_link.proofs.set.LinkSet.forget.Goals as goal
 pub returns-in_default-clause-answer : goal.returns-in_default-clause-answer
 returns-in_default-clause-answer g c =
     rw (← c.self.view_is, absent-kind_of g.K.Ord.cmp c.self.inside.places c.args.by.from c.in_default.field-0 c.in_default.ensures.absent)
-        refl
+    refl
 
 pub forget-requires-clause-by_target : goal.forget-requires-clause-by_target
 forget-requires-clause-by_target g c =
@@ -16,21 +16,29 @@ pub invariant_of-self : goal.invariant_of-self
 invariant_of-self g c =
     rw c.remove.ensures.rest
     (kept-remove g.K.Ord.cmp (set_of c.self.inside.width c.self.inside.places) c.in-Ok.at c.remove.result c.self.invariant
-        c.remove.ensures.taken)
+    c.remove.ensures.taken)
 
 pub returns-in-Settled : goal.returns-in-Settled
 returns-in-Settled g c =
     let kind = found_as g.K.Ord.cmp c.self.inside.places c.args.by.from c.in-Ok.at c.link_at.result.now c.kind.result c.in-Ok.ensures.found
-        c.link_at.ensures c.kind.ensures in
-    record { answer = rw (← c.self.view_is, kind) (not_pinned c.kind.result c.in-Settled.is); forgotten = tt; same = refl }
+    c.link_at.ensures c.kind.ensures in
+    let other = not_pinned c.kind.result c.in-Settled.is in
+    record { answer = rw (← c.self.view_is, kind) other; after = rw (← c.self.view_is, kind, ← other) refl }
 
 pub returns-in-Pin-clause-answer : goal.returns-in-Pin-clause-answer
 returns-in-Pin-clause-answer g c =
     let kind = found_as g.K.Ord.cmp c.self.inside.places c.args.by.from c.in-Ok.at c.link_at.result.now c.kind.result c.in-Ok.ensures.found
-        c.link_at.ensures c.kind.ensures in
+    c.link_at.ensures c.kind.ensures in
     rw (← c.self.view_is, kind, c.in-Pin.is) refl
 
-pub returns-in-Pin-clause-forgotten : goal.returns-in-Pin-clause-forgotten
-returns-in-Pin-clause-forgotten g c =
-    rw (← c.self.view_is) (ap (set_of c.self.inside.width) (c.remove.ensures.rest
+pub returns-in-Pin-clause-after : goal.returns-in-Pin-clause-after
+returns-in-Pin-clause-after g c =
+    let kind = found_as g.K.Ord.cmp c.self.inside.places c.args.by.from c.in-Ok.at c.link_at.result.now c.kind.result c.in-Ok.ensures.found
+    c.link_at.ensures c.kind.ensures in
+    rw (← c.self.view_is, kind, c.in-Pin.is) (ap (set_of c.self.inside.width) (c.remove.ensures.rest
     ∙ remove-without g.K.Ord.cmp c.self.inside.places c.args.by.from c.in-Ok.at c.remove.result c.in-Ok.ensures.found))
+
+pub returns-in_default-clause-after : goal.returns-in_default-clause-after
+returns-in_default-clause-after g c =
+    rw (← c.self.view_is, absent-kind_of g.K.Ord.cmp c.self.inside.places c.args.by.from c.in_default.field-0 c.in_default.ensures.absent)
+    refl

@@ -9,7 +9,7 @@ use Rattle.tap_link.proofs.set.LinkSet.release.Goals as goal
 pub returns-in_default-clause-answer : goal.returns-in_default-clause-answer
 returns-in_default-clause-answer g c =
     rw (← c.self.view_is, absent-kind_of g.K.Ord.cmp c.self.inside.places c.args.by.from c.in_default.field-0 c.in_default.ensures.absent)
-        refl
+    refl
 
 pub settle-requires : goal.settle-requires
 settle-requires g c = (
@@ -28,7 +28,7 @@ invariant_of-self g c =
     let room : has_room (set_of c.self.inside.width c.self.inside.places) ≡ true = cc in
     rw (c.settle.ensures c.link_at.result.now c.link_at.ensures)
     (kept-set g.K.Ord.cmp (set_of c.self.inside.width c.self.inside.places) c.in-Ok.at c.link_at.result.now Settled c.self.invariant
-        c.link_at.ensures (λ _. ltb-true _ _ room))
+    c.link_at.ensures (λ _. ltb-true _ _ room))
 
 pub spend-requires-clause-by_target : goal.spend-requires-clause-by_target
 spend-requires-clause-by_target g c =
@@ -38,35 +38,51 @@ pub invariant_of-self-else-has_room : goal.invariant_of-self-else-has_room
 invariant_of-self-else-has_room g c =
     rw c.remove.ensures.rest
     (kept-remove g.K.Ord.cmp (set_of c.self.inside.width c.self.inside.places) c.in-Ok.at c.remove.result c.self.invariant
-        c.remove.ensures.taken)
+    c.remove.ensures.taken)
 
 pub returns-in-Settled : goal.returns-in-Settled
 returns-in-Settled g c =
     let kind = found_as g.K.Ord.cmp c.self.inside.places c.args.by.from c.in-Ok.at c.link_at.result.now c.kind.result c.in-Ok.ensures.found
-        c.link_at.ensures c.kind.ensures in
-    record { answer = rw (← c.self.view_is, kind, ← not_pinned c.kind.result c.in-Settled.is) refl; after = refl }
+    c.link_at.ensures c.kind.ensures in
+    let other = not_pinned c.kind.result c.in-Settled.is in
+    record {
+      answer = rw (← c.self.view_is, kind, ← other) refl;
+      after = rw (← c.self.view_is, kind, ← other) refl;
+      nothing = λ _. refl;
+    }
 
 pub returns-then-has_room-clause-answer : goal.returns-then-has_room-clause-answer
 returns-then-has_room-clause-answer g c =
     let kind = found_as g.K.Ord.cmp c.self.inside.places c.args.by.from c.in-Ok.at c.link_at.result.now c.kind.result c.in-Ok.ensures.found
-        c.link_at.ensures c.kind.ensures in
+    c.link_at.ensures c.kind.ensures in
     let room : has_room (set_of c.self.inside.width c.self.inside.places) ≡ true = cc in
     rw (← c.self.view_is, kind, c.in-Pin.is, room) refl
 
 pub returns-then-has_room-clause-after : goal.returns-then-has_room-clause-after
 returns-then-has_room-clause-after g c =
-    rw (← c.self.view_is) (ap (set_of c.self.inside.width) (c.settle.ensures c.link_at.result.now c.link_at.ensures
+    let kind = found_as g.K.Ord.cmp c.self.inside.places c.args.by.from c.in-Ok.at c.link_at.result.now c.kind.result c.in-Ok.ensures.found
+    c.link_at.ensures c.kind.ensures in
+    let room : has_room (set_of c.self.inside.width c.self.inside.places) ≡ true = cc in
+    rw (← c.self.view_is, kind, c.in-Pin.is, room) (ap (set_of c.self.inside.width) (c.settle.ensures c.link_at.result.now c.link_at.ensures
     ∙ set-with_kind g.K.Ord.cmp c.self.inside.places c.args.by.from c.in-Ok.at c.link_at.result.now Settled c.in-Ok.ensures.found
     c.link_at.ensures))
 
 pub returns-else-has_room-clause-answer : goal.returns-else-has_room-clause-answer
 returns-else-has_room-clause-answer g c =
     let kind = found_as g.K.Ord.cmp c.self.inside.places c.args.by.from c.in-Ok.at c.link_at.result.now c.kind.result c.in-Ok.ensures.found
-        c.link_at.ensures c.kind.ensures in
+    c.link_at.ensures c.kind.ensures in
     let room : has_room (set_of c.self.inside.width c.self.inside.places) ≡ false = cc in
     rw (← c.self.view_is, kind, c.in-Pin.is, room) refl
 
 pub returns-else-has_room-clause-after : goal.returns-else-has_room-clause-after
 returns-else-has_room-clause-after g c =
-    rw (← c.self.view_is) (ap (set_of c.self.inside.width) (c.remove.ensures.rest
+    let kind = found_as g.K.Ord.cmp c.self.inside.places c.args.by.from c.in-Ok.at c.link_at.result.now c.kind.result c.in-Ok.ensures.found
+    c.link_at.ensures c.kind.ensures in
+    let room : has_room (set_of c.self.inside.width c.self.inside.places) ≡ false = cc in
+    rw (← c.self.view_is, kind, c.in-Pin.is, room) (ap (set_of c.self.inside.width) (c.remove.ensures.rest
     ∙ remove-without g.K.Ord.cmp c.self.inside.places c.args.by.from c.in-Ok.at c.remove.result c.in-Ok.ensures.found))
+
+pub returns-in_default-clause-after : goal.returns-in_default-clause-after
+returns-in_default-clause-after g c =
+    rw (← c.self.view_is, absent-kind_of g.K.Ord.cmp c.self.inside.places c.args.by.from c.in_default.field-0 c.in_default.ensures.absent)
+    refl
