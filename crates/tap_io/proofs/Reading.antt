@@ -1,8 +1,9 @@
 -- What comes of a source.
-use Rattle.std.proofs.Common.{◌≡◌, ◌≤◌, ℕ, ◌+◌, List, [], ◌++◌, length, take, drop, Option, None, Some, ◌⊎◌, inl, inr, refl, ap, sym, ◌∙◌, arith, take-append-drop, length-append, length-take-le, length-drop}
+use Rattle.std.proofs.Common.{◌≡◌, ◌≤◌, ℕ, ◌+◌, List, [], ◌++◌, length, take, drop, Option, None, Some, ◌⊎◌, inl, inr, refl, ap, sym, ◌∙◌, subst, arith, take-append-drop, length-append, length-take-le, length-drop}
 use Rattle.std.specs.Prelude.{slice_range}
+use Rattle.std.specs.Io.KnownBytes.{Consumes}
 use Rattle.std.proofs.lemmas.List.{drop-drop, take-append-le, take_all}
-use Rattle.tap_io.specs.Source.{Gives, Reads}
+use Rattle.tap_io.specs.Source.{Reads, SourceState}
 use Rattle.tap_io.specs.declared.source.Got.{Got}
 use Rattle.tap_io.specs.declared.source.Got.TheVariants.{Got as GotBytes, End, Failed}
 
@@ -26,14 +27,16 @@ read_then_rest bytes copy behind at n is within =
     rw (front, ← drop-drop n at bytes) (sym (take-append-drop n (drop at bytes)))
 
 -- no byte comes where none is left
-none_given : (new : Option (List ℕ)) (into : List ℕ) (n : ℕ) → Gives (Some []) new into n → ⊥
-none_given None into n g = g.bytes
-none_given (Some ys) into n g =
-    omega (arith, ap length g.bytes, length-append (take n into) ys, length-take-le n into g.within, g.at_least_one)
+none_given : (new : Option (List ℕ)) (into : List ℕ) (n : ℕ) → Consumes (Some []) new (take n into) → 1 ≤ n → n ≤ length into → ⊥
+none_given None into n bytes some within = bytes
+none_given (Some ys) into n bytes some within =
+    omega (arith, ap length bytes, length-append (take n into) ys, length-take-le n into within)
 
 -- Where the bytes are told and none is left, a read answers the end, or it fails.
-pub ends_where_none_left : (new : Option (List ℕ)) (before now : ℕ) (into : List ℕ) (got : Got)
-    → Reads (Some []) new before now into got → (got ≡ End) ⊎ (got ≡ Failed)
-ends_where_none_left new before now into (GotBytes n) r = absurd (none_given new into n r.answer)
-ends_where_none_left new before now into End r = inl refl
-ends_where_none_left new before now into Failed r = inr refl
+pub ends_where_none_left : (old new : SourceState) (into : List ℕ) (got : Got) → old.left ≡ Some []
+    → Reads old new into got → (got ≡ End) ⊎ (got ≡ Failed)
+ends_where_none_left old new into (GotBytes n) none r =
+    let bytes = subst (λ left. Consumes left new.left (take n into)) none r.answer.bytes in
+    absurd (none_given new.left into n bytes r.answer.at_least_one r.answer.within)
+ends_where_none_left old new into End none r = inl refl
+ends_where_none_left old new into Failed none r = inr refl

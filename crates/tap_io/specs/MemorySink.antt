@@ -1,6 +1,7 @@
 -- What a sink in memory is, and what its next write does.
-use Rattle.std.specs.Prelude.{◌==◌, ◌||◌, ◌++◌, ℕ, ◌-◌, min, true, false, if◌then◌else◌, List, [], length, take}
+use Rattle.std.specs.Prelude.{◌==◌, ◌||◌, ◌++◌, ℕ, ◌-◌, min, true, false, if◌then◌else◌, List, [], Some, length, take}
 use Rattle.tap_io.specs.Calls.{CallsValue, no_calls, is_next_to_fail, after_call}
+use Rattle.tap_io.specs.Sink.{SinkState}
 use Rattle.tap_io.specs.declared.sink.Took.{Took}
 use Rattle.tap_io.specs.declared.sink.Took.TheVariants.{Took as TookBytes, Failed}
 
@@ -10,6 +11,10 @@ pub record MemorySinkValue : Type 0 where
   pub piece : ℕ
   pub room : ℕ
   pub calls : CallsValue
+
+-- what a sink in memory tells
+abbrev pub sink_state : MemorySinkValue → SinkState
+sink_state s = record { held = Some s.held; faults = s.calls.faults; borrows = [] }
 
 -- before the first write
 abbrev pub new_sink : ℕ → ℕ → List ℕ → MemorySinkValue

@@ -1,6 +1,7 @@
 -- What a source in memory is, and what its next read does.
-use Rattle.std.specs.Prelude.{◌==◌, ℕ, min, true, false, if◌then◌else◌, List, length, drop}
+use Rattle.std.specs.Prelude.{◌==◌, ℕ, min, true, false, if◌then◌else◌, List, Some, length, drop}
 use Rattle.tap_io.specs.Calls.{CallsValue, no_calls, is_next_to_fail, after_call}
+use Rattle.tap_io.specs.Source.{SourceState}
 use Rattle.tap_io.specs.declared.source.Got.{Got}
 use Rattle.tap_io.specs.declared.source.Got.TheVariants.{Got as GotBytes, End, Failed}
 
@@ -9,6 +10,10 @@ pub record MemorySourceValue : Type 0 where
   pub left : List ℕ
   pub piece : ℕ
   pub calls : CallsValue
+
+-- what a source in memory tells
+abbrev pub source_state : MemorySourceValue → SourceState
+source_state s = record { left = Some s.left; faults = s.calls.faults }
 
 -- before the first read
 abbrev pub new_source : List ℕ → ℕ → List ℕ → MemorySourceValue

@@ -1,26 +1,35 @@
--- What a write to a sink does: to the bytes that it held (`old`) and holds (`new`), which are `None` where the sink
--- doesn't tell them, and to its count of faults (`before` and `now`).
-use Rattle.std.specs.Prelude.{◌≤◌, ℕ, List, Option, length, take}
+-- What contracts see of a sink, and what a write does to it.
+use Rattle.std.specs.Prelude.{◌≡◌, ◌≤◌, ℕ, List, Option, length, take}
 use Rattle.std.specs.Io.KnownBytes.{Appends}
 use Rattle.tap_io.specs.Faults.{Fails, counted}
 use Rattle.tap_io.specs.declared.sink.Took.{Took}
 use Rattle.tap_io.specs.declared.sink.Took.TheVariants.{Took as TookBytes, Failed}
 
--- the first n bytes were appended
-pub record Takes (old new : Option (List ℕ)) (bytes : List ℕ) (n : ℕ) : Type 0 where
+-- The bytes that a sink holds, which are `None` where it doesn't tell them; how many faults there were; and, of a sink
+-- that writes to a borrowed one, the name of that borrow, and then of those that it writes through in its turn. By
+-- these names the borrower knows the sink that it lent after it was written to.
+pub record SinkState : Type 0 where
+  pub held : Option (List ℕ)
+  pub faults : ℕ
+  pub borrows : List ℕ
+
+-- the first n bytes were appended, and no fault was counted
+pub record Takes (old new : SinkState) (bytes : List ℕ) (n : ℕ) : Type 0 where
   pub at_least_one : 1 ≤ n
   pub within : n ≤ length bytes
-  pub appends : Appends old new (take n bytes)
+  pub appends : Appends old.held new.held (take n bytes)
+  pub faults : new.faults ≡ old.faults
 
 -- what each answer says
-abbrev pub WritesAs : Option (List ℕ) → Option (List ℕ) → ℕ → ℕ → List ℕ → Took → Type 0
-WritesAs old new before now bytes (TookBytes n) = Takes old new bytes n
-WritesAs old new before now bytes Failed = Fails old new before now
+abbrev pub WritesAs : SinkState → SinkState → List ℕ → Took → Type 0
+WritesAs old new bytes (TookBytes n) = Takes old new bytes n
+WritesAs old new bytes Failed = Fails old.held new.held old.faults new.faults
 
--- The count of faults doesn't fall, and the answer says what else came about.
-pub record Writes (old new : Option (List ℕ)) (before now : ℕ) (bytes : List ℕ) (took : Took) : Type 0 where
-  pub later : before ≤ now
-  pub answer : WritesAs old new before now bytes took
+-- The count of faults doesn't fall, the bytes go to the same sink as before, and the answer says what else came about.
+pub record Writes (old new : SinkState) (bytes : List ℕ) (took : Took) : Type 0 where
+  pub later : old.faults ≤ new.faults
+  pub same : new.borrows ≡ old.borrows
+  pub answer : WritesAs old new bytes took
 
 -- the count of faults after an answer, of a sink that counts each failed write and nothing else
 abbrev pub faults_after : ℕ → Took → ℕ
@@ -29,7 +38,7 @@ faults_after faults Failed = counted faults
 
 -- Some first bytes of a text were appended, perhaps none and perhaps all: what a sink holds after several writes
 -- of which the last may have failed.
-pub record AppendsPrefixOf (old new : Option (List ℕ)) (text : List ℕ) : Type 0 where
+pub record AppendsPrefixOf (old new : SinkState) (text : List ℕ) : Type 0 where
   pub count : ℕ
   pub within : count ≤ length text
-  pub appends : Appends old new (take count text)
+  pub appends : Appends old.held new.held (take count text)

@@ -6,6 +6,7 @@
 //! stand over a reader and a writer of the standard library.
 #![tactic(auto)]
 
+mod buffered_sink;
 mod calls;
 mod memory_sink;
 mod memory_source;
@@ -15,6 +16,7 @@ mod source;
 mod std_sink;
 mod std_source;
 
+pub use buffered_sink::{BufferedSink, Flushed};
 pub use memory_sink::MemorySink;
 pub use memory_source::MemorySource;
 pub use no_memory::NoMemory;

@@ -1,6 +1,6 @@
-ghost use Rattle.std.specs.Prelude.{◌≡◌, ◌≤◌, ◌<◌, IfOk, Some, length};
+ghost use Rattle.std.specs.Prelude.{◌≡◌, ◌≤◌, ◌<◌, IfOk, length};
 ghost use Rattle.tap_io.specs.Sink.{Writes};
-ghost use Rattle.tap_io.specs.MemorySink.{new_sink, write_answer, after_write};
+ghost use Rattle.tap_io.specs.MemorySink.{new_sink, sink_state, write_answer, after_write};
 
 use crate::calls::Calls;
 use crate::no_memory::NoMemory;
@@ -65,9 +65,7 @@ impl MemorySink {
 }
 
 impl Sink for MemorySink {
-    ghost held = { λ s. Some s.held };
-
-    ghost faults = { λ s. s.calls.faults };
+    ghost state = { sink_state };
 
     /// Fails exactly where the number of this call, counted from 1, is among those that are to fail,
     /// or where the sink is full. Else it takes as many bytes as the least of the piece, the number of
@@ -76,8 +74,7 @@ impl Sink for MemorySink {
         requires { 0 < length bytes.now }
         ensures answer { result ≡ write_answer self.old (length bytes.now) }
         ensures after { self.new ≡ after_write self.old bytes.now result }
-        ensures writes { Writes (Some self.old.held) (Some self.new.held)
-            self.old.calls.faults self.new.calls.faults bytes.now result }
+        ensures writes { Writes (sink_state self.old) (sink_state self.new) bytes.now result }
     {
         let left = self.room - self.bytes.len();
         let fails = self.calls.is_next_to_fail() || left == 0;

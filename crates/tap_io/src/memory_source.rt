@@ -1,6 +1,6 @@
-ghost use Rattle.std.specs.Prelude.{◌≡◌, ◌≤◌, ◌<◌, IfOk, Some, length};
+ghost use Rattle.std.specs.Prelude.{◌≡◌, ◌≤◌, ◌<◌, IfOk, length};
 ghost use Rattle.tap_io.specs.Source.{Reads};
-ghost use Rattle.tap_io.specs.MemorySource.{new_source, read_answer, after_read};
+ghost use Rattle.tap_io.specs.MemorySource.{new_source, source_state, read_answer, after_read};
 
 use crate::calls::Calls;
 use crate::no_memory::NoMemory;
@@ -56,9 +56,7 @@ impl MemorySource {
 }
 
 impl Source for MemorySource {
-    ghost left = { λ s. Some s.left };
-
-    ghost faults = { λ s. s.calls.faults };
+    ghost state = { source_state };
 
     /// Fails exactly where the number of this call, counted from 1, is among those that are to fail.
     /// Else it gives as many bytes as the least of the piece, the length of the buffer and the number
@@ -67,8 +65,7 @@ impl Source for MemorySource {
         requires { 0 < length into.old }
         ensures answer { result ≡ read_answer self.old (length into.old) }
         ensures after { self.new ≡ after_read self.old result }
-        ensures reads { Reads (Some self.old.left) (Some self.new.left)
-            self.old.calls.faults self.new.calls.faults into.new result }
+        ensures reads { Reads (source_state self.old) (source_state self.new) into.new result }
     {
         let fails = self.calls.is_next_to_fail();
         self.calls.count(fails);

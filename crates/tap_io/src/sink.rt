@@ -1,5 +1,5 @@
-ghost use Rattle.std.specs.Prelude.{◌<◌, ℕ, List, Option, length};
-ghost use Rattle.tap_io.specs.Sink.{Writes};
+ghost use Rattle.std.specs.Prelude.{◌<◌, length};
+ghost use Rattle.tap_io.specs.Sink.{SinkState, Writes};
 
 /// What a write answers.
 #[derive(Clone, Copy, Debug, PartialEq, Eq)]
@@ -15,18 +15,15 @@ pub enum Took {
 ///
 /// Rule: docs/DECISIONS.md, "Sources and sinks".
 pub trait Sink {
-    /// The bytes that are held, or `None` where the sink doesn't tell them.
-    ghost held: { Self → Option (List ℕ) };
-
-    /// How many faults there were. The count never falls, and stands still at the greatest `u64`.
-    ghost faults: { Self → ℕ };
+    /// The bytes that are held, or `None` where the sink doesn't tell them; how many faults there were, a count that never
+    /// falls and stands still at the greatest `u64`; and the borrows that the sink writes through, which stay.
+    ghost state: { Self → SinkState };
 
     /// Takes at least one of the bytes, which aren't empty, from their front.
     ///
-    /// Where the sink tells its bytes, those that it took are appended to them. A write fails only
-    /// where the count of faults rises in this call, and then nothing is appended.
+    /// Where the sink tells its bytes, those that it took are appended to them, and the count of faults stays. A write
+    /// fails only where that count rises in this call, and then nothing is appended.
     fn write(&mut self, bytes: &[u8]) -> Took
         requires { 0 < length bytes.now }
-        ensures { Writes (held self.old) (held self.new)
-            (faults self.old) (faults self.new) bytes.now result };
+        ensures { Writes (state self.old) (state self.new) bytes.now result };
 }

@@ -1,5 +1,5 @@
-ghost use Rattle.std.specs.Prelude.{◌<◌, ℕ, List, Option, length};
-ghost use Rattle.tap_io.specs.Source.{Reads};
+ghost use Rattle.std.specs.Prelude.{◌<◌, length};
+ghost use Rattle.tap_io.specs.Source.{Reads, SourceState};
 
 /// What a read answers.
 #[derive(Clone, Copy, Debug, PartialEq, Eq)]
@@ -18,21 +18,18 @@ pub enum Got {
 ///
 /// Rule: docs/DECISIONS.md, "Sources and sinks".
 pub trait Source {
-    /// The bytes that are left, or `None` where the source doesn't tell them.
-    ghost left: { Self → Option (List ℕ) };
-
-    /// How many faults there were. The count never falls, and stands still at the greatest `u64`.
-    ghost faults: { Self → ℕ };
+    /// The bytes that are left, or `None` where the source doesn't tell them, and how many faults there were. That
+    /// count never falls, and stands still at the greatest `u64`.
+    ghost state: { Self → SourceState };
 
     /// Reads at least one byte, and no more than the buffer holds, into the front of the buffer,
     /// which isn't empty.
     ///
     /// Where the source tells its bytes, those that come are the next ones, and the answer is `End`
     /// exactly where none are left and the call doesn't fail. A read fails only where the count of
-    /// faults rises in this call, and then the bytes stay. What the buffer holds behind the bytes
-    /// that came is left open.
+    /// faults rises in this call, and then the bytes stay; else that count stays. What the buffer holds
+    /// after the bytes that came is left open.
     fn read(&mut self, into: &mut [u8]) -> Got
         requires { 0 < length into.old }
-        ensures { Reads (left self.old) (left self.new)
-            (faults self.old) (faults self.new) into.new result };
+        ensures { Reads (state self.old) (state self.new) into.new result };
 }

@@ -1,4 +1,5 @@
 ghost use Rattle.std.specs.Prelude.{◌≡◌, ◌<◌, length};
+ghost use Rattle.tap_io.specs.Adapter.{sink_state};
 ghost use Rattle.tap_io.specs.Sink.{Writes, faults_after};
 
 use crate::sink::{Sink, Took};
@@ -36,15 +37,12 @@ impl<W: Write> StdSink<W> {
 }
 
 impl<W: Write> Sink for StdSink<W> {
-    ghost held = { λ s. W.contents s.inner };
-
-    ghost faults = { λ s. s.faults };
+    ghost state = { λ s. sink_state W.contents s };
 
     /// Counts each error of the writer and each write that takes no byte as a fault, and nothing else.
     fn write(&mut self, bytes: &[u8]) -> Took
         requires { 0 < length bytes.now }
-        ensures writes { Writes (W.contents self.old.inner) (W.contents self.new.inner)
-            self.old.faults self.new.faults bytes.now result }
+        ensures writes { Writes (sink_state W.contents self.old) (sink_state W.contents self.new) bytes.now result }
         ensures counts { self.new.faults ≡ faults_after self.old.faults result }
     {
         match self.inner.write(bytes) {

@@ -1,4 +1,5 @@
 ghost use Rattle.std.specs.Prelude.{◌≡◌, ◌<◌, length};
+ghost use Rattle.tap_io.specs.Adapter.{source_state};
 ghost use Rattle.tap_io.specs.Source.{Reads, faults_after};
 
 use crate::source::{Got, Source};
@@ -35,15 +36,12 @@ impl<R: Read> StdSource<R> {
 }
 
 impl<R: Read> Source for StdSource<R> {
-    ghost left = { λ s. R.remaining s.inner };
-
-    ghost faults = { λ s. s.faults };
+    ghost state = { λ s. source_state R.remaining s };
 
     /// Counts each error of the reader as a fault, and nothing else. A read of no byte is the end.
     fn read(&mut self, into: &mut [u8]) -> Got
         requires { 0 < length into.old }
-        ensures reads { Reads (R.remaining self.old.inner) (R.remaining self.new.inner)
-            self.old.faults self.new.faults into.new result }
+        ensures reads { Reads (source_state R.remaining self.old) (source_state R.remaining self.new) into.new result }
         ensures counts { self.new.faults ≡ faults_after self.old.faults result }
     {
         match self.inner.read(into) {

@@ -37,7 +37,7 @@ last_or-append o (x ∷ xs) ys = last_or-append (Some x) xs ys
 
 -- ---- the log is carried as before
 
-carried_first : (carried : Bool) (first : Record) (behind : List Record) → begins_group carried first ≡ true
+pub carried_first : (carried : Bool) (first : Record) (behind : List Record) → begins_group carried first ≡ true
     → is_carried (first ∷ behind) ≡ false
 unfolding is_carried begins_group
 carried_first carried (Begin settings frames members) behind begins = absurd (cc)
@@ -50,7 +50,7 @@ carried_next carried (Begin settings frames members) Carrier behind begins = abs
 carried_next carried (Begin settings frames members) first behind begins = refl
 carried_next carried item first behind begins = refl
 
-is_carried-group : (carried : Bool) (log : List Record) (first : Record) (behind : List Record) → begins_group carried first ≡ true
+pub is_carried-group : (carried : Bool) (log : List Record) (first : Record) (behind : List Record) → begins_group carried first ≡ true
     → is_carried (log ++ first ∷ behind) ≡ is_carried log
 is_carried-group carried [] first behind begins = carried_first carried first behind begins ∙ sym carried_none
 is_carried-group carried (item ∷ []) first behind begins = carried_next carried item first behind begins ∙ sym (carried_alone item)
@@ -68,7 +68,7 @@ accepted_step-none : (carried : Bool) (item first : Record) → begins_group car
 unfolding accepted_step
 accepted_step-none carried item first begins = ap (λ b. if b then step_of item else None) (accepts-not carried first begins)
 
-accepted_in-group : (carried : Bool) (log : List Record) (first : Record) (behind : List Record) → begins_group carried first ≡ true
+pub accepted_in-group : (carried : Bool) (log : List Record) (first : Record) (behind : List Record) → begins_group carried first ≡ true
     → accepted_in carried (log ++ first ∷ behind) ≡ accepted_in carried log ++ accepted_in carried (first ∷ behind)
 accepted_in-group carried [] first behind begins = refl
 accepted_in-group carried (item ∷ []) first behind begins =
@@ -110,12 +110,12 @@ end_here true b true false within begun ends = absurd (cc)
 end_here true b false d within begun ends = absurd (cc)
 end_here false b c d within begun ends = absurd (cc)
 
-carried_size : (log : List Record) → is_carried log ≡ true → 2 ≤ length log
+pub carried_size : (log : List Record) → is_carried log ≡ true → 2 ≤ length log
 unfolding is_carried
 carried_size (Begin settings frames members ∷ Carrier ∷ items) is = omega arith
 carried_size log is = absurd (cc)
 
-beginning_size : (carried : Bool) (size : ℕ) → (carried ≡ true → 2 ≤ size) → 1 ≤ size → (if carried then 2 else 1) ≤ size
+pub beginning_size : (carried : Bool) (size : ℕ) → (carried ≡ true → 2 ≤ size) → 1 ≤ size → (if carried then 2 else 1) ≤ size
 beginning_size true size carries begun = carries refl
 beginning_size false size carries begun = begun
 
@@ -238,7 +238,7 @@ last_within p (suc n) = subst Within (let e : n + 1 ≡ suc n = omega arith in e
     one_more : unwrap_or (last_or None (filter p (range_with_len 1 n))) 0 ≤ n → (b : Bool) → p (n + 1) ≡ b → Within (n + 1)
     one_more so_far true is = let e = last_passes p n (n + 1) is refl in omega (arith, e)
     one_more so_far false is = let e = last_stays p n (unwrap_or (last_or None (filter p (range_with_len 1 n))) 0) is refl in
-    omega (arith, e, so_far)
+        omega (arith, e, so_far)
 
 -- ---- the law
 

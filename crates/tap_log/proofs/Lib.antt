@@ -6,3 +6,4 @@ pub mod KeptPairs
 pub mod Less
 pub mod Acknowledging
 pub mod Stepwise
+pub mod Parts

@@ -10,6 +10,7 @@ use Rattle.tap_log.specs.Moments.{acknowledged, acknowledged_by, acknowledged_by
 use Rattle.tap_log.specs.Core.{abandoned_of, accepted_in, accepted_step, accepted_steps, ceased_of, core_of, departures_of, gone_of, has_name, joined_of, names_less}
 use Rattle.tap_log.specs.Departing.{departing_of}
 use Rattle.tap_log.specs.Published.{pairs_less, published_of, without_servers}
+use Rattle.tap_log.specs.Groups.{beginning_of, ending_of, groups_of, is_ended, records_of}
 use Rattle.tap_log.specs.Counts.{join_count, names_of, sent_count, with_name}
 
 -- the one thing that there may be, as a list
@@ -99,3 +100,14 @@ pub record OneMoreGroup : Type 0 where
       → is_moment (log ++ first ∷ behind) (length (log ++ first ∷ behind)) ≡ true
   pub departing : (log : List Record) (first : Record) (behind : List Record) → IsGroup log first behind
       → departing_of (log ++ first ∷ behind) ≡ departing_after log (first ∷ behind)
+
+-- A log is its beginning, its groups and its ending. One that has its beginning alone has no group, and one more whole group is its
+-- last one.
+pub record LogInGroups : Type 0 where
+  pub whole : (log : List Record) → beginning_of log ++ (records_of (groups_of log) ++ ending_of log) ≡ log
+  pub none : (settings : SettingsValue) (frames : ℕ) (members : List (List ℕ)) → groups_of (Begin settings frames members ∷ []) ≡ []
+  pub none_carried : (settings : SettingsValue) (frames : ℕ) (members : List (List ℕ))
+      → groups_of (Begin settings frames members ∷ Carrier ∷ []) ≡ []
+  pub more : (log : List Record) (first : Record) (after : List Record) → IsGroup log first after
+      → is_ended log ≡ false → is_ended (first ∷ after) ≡ false
+      → groups_of (log ++ first ∷ after) ≡ groups_of log ++ (first ∷ after) ∷ []

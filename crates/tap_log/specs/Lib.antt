@@ -1,9 +1,14 @@
 pub mod Log
 pub mod Kinds
+pub mod Steps
 pub mod Asked
 pub mod Core
 pub mod Moments
+pub mod Groups
 pub mod Departing
 pub mod Published
 pub mod Counts
+pub mod Frames
+pub mod Reduced
+pub mod Refusals
 pub mod Laws

@@ -1,4 +1,4 @@
-ghost use Rattle.tap_log.specs.Laws.{OneMoreGroup, OneMoreRecord};
+ghost use Rattle.tap_log.specs.Laws.{LogInGroups, OneMoreGroup, OneMoreRecord};
 
 /// What a log tells with its beginning alone; and after one more record whether it is carried, its steps, those that were
 /// accepted, the nodes that are core, joined, abandoned or ceased, the frames that are outstanding, those that await their
@@ -19,4 +19,13 @@ pub fn one_more_record()
 /// Rule: docs/FORMATS.md, "Groups and moments".
 pub fn one_more_group()
     ensures { OneMoreGroup }
+{}
+
+/// A log is its beginning, its groups and its ending, and one more whole group is its last one.
+///
+/// It does nothing: its contract is the law.
+///
+/// Rule: docs/FORMATS.md, "Groups and moments".
+pub fn log_in_groups()
+    ensures { LogInGroups }
 {}

@@ -16,7 +16,7 @@ mod tests;
 pub use counts::{join_count, name_count, names_at, sent_count};
 pub use departing::departing_at;
 pub use kinds::{accepts, begins_group, depart_name};
-pub use law::{one_more_group, one_more_record};
+pub use law::{log_in_groups, one_more_group, one_more_record};
 pub use log::{Log, NoMemory};
 pub use moments::{awaiting, is_moment, is_rest, is_still, outstanding, under_way};
 pub use nodes::{abandoned_at, ceased_at, core_at, joined_at};

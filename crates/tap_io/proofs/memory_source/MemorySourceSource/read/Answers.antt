@@ -1,5 +1,5 @@
 -- The bytes that came are the next ones.
-use Rattle.std.proofs.Common.{◌≡◌, ◌≤◌, ◌+◌, ap, sym, ◌∙◌, take, drop, length, arith, length-append}
+use Rattle.std.proofs.Common.{◌≡◌, ◌≤◌, ◌+◌, ap, sym, ◌∙◌, take, drop, length, arith, rules, length-append}
 use Rattle.tap_io.proofs.Reading.{slice_range-from, length-copied, read_then_rest}
 use Rattle.tap_io.proofs.memory_source.MemorySourceSource.read.Goals as goal
 
@@ -19,5 +19,6 @@ returns-clause-reads c =
         at_least_one = omega arith;
         within = omega (arith, length-append copy behind);
         bytes = sym (ap (λ s. s.left) c.self.view_is) ∙ read_then_rest bytes copy behind at n is within;
+        faults = search rules;
       };
     }
