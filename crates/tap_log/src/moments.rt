@@ -12,7 +12,7 @@ ghost use Rattle.tap_log.specs.Moments.{
   is_moment,
   is_rest,
   is_still,
-  less,
+  numbers_less,
   outstanding,
   under_way,
 };
@@ -41,8 +41,8 @@ pub(crate) fn numbers(
 }
 
 // The first numbers less the second ones.
-fn less(alloc: Global, numbers: &[u32], ended: &[u32]) -> Result<Vec<u32>, NoMemory>
-    ensures { IfOk result (λ left. left.items ≡ less numbers.now ended.now) }
+fn numbers_less(alloc: Global, numbers: &[u32], ended: &[u32]) -> Result<Vec<u32>, NoMemory>
+    ensures { IfOk result (λ left. left.items ≡ numbers_less numbers.now ended.now) }
 {
     Ok(
         numbers
@@ -109,7 +109,7 @@ pub fn outstanding(alloc: Global, records: &[Record]) -> Result<List<u32>, NoMem
 {
     let sent = numbers(alloc, Number::Sent, records)?;
     let taken = numbers(alloc, Number::Taken, records)?;
-    Ok(List::from_vec(less(alloc, sent.as_slice(), taken.as_slice())?))
+    Ok(List::from_vec(numbers_less(alloc, sent.as_slice(), taken.as_slice())?))
 }
 
 /// The numbers of the packets that are under way: those that were made, less those that arrived or were lost.
@@ -120,7 +120,7 @@ pub fn under_way(alloc: Global, records: &[Record]) -> Result<List<u32>, NoMemor
 {
     let made = numbers(alloc, Number::Made, records)?;
     let ended = numbers(alloc, Number::Ended, records)?;
-    Ok(List::from_vec(less(alloc, made.as_slice(), ended.as_slice())?))
+    Ok(List::from_vec(numbers_less(alloc, made.as_slice(), ended.as_slice())?))
 }
 
 /// The numbers of the frames that await their acknowledgement: those that were sent, less those acknowledged.
@@ -131,7 +131,7 @@ pub fn awaiting(alloc: Global, records: &[Record]) -> Result<List<u32>, NoMemory
 {
     let sent = numbers(alloc, Number::Sent, records)?;
     let acknowledged = acknowledged(alloc, records)?;
-    Ok(List::from_vec(less(alloc, sent.as_slice(), acknowledged.as_slice())?))
+    Ok(List::from_vec(numbers_less(alloc, sent.as_slice(), acknowledged.as_slice())?))
 }
 
 /// Whether no frame is outstanding.
@@ -163,7 +163,7 @@ pub fn is_rest(alloc: Global, records: &[Record]) -> Result<bool, NoMemory>
 }
 
 // How many records a log begins with: `Begin`, and `Carrier` where it is carried.
-fn beginning(records: &[Record]) -> usize
+pub(crate) fn beginning(records: &[Record]) -> usize
     ensures { result ≡ beginning records.now }
 {
     if is_carried(records) { 2 } else { 1 }

@@ -15,14 +15,15 @@ use Rattle.tap_report.specs.Lookups.{node_at}
 use Rattle.tap_report.specs.Text.{IsBegin, IsPrintable, ArePrintable, further_lines, is_printed, line_of, text_of_record, texts_after, settings_after, settings_of}
 use Rattle.tap_report.specs.declared.mode.Mode.{Mode}
 
-chosen : (printed : Bool) (text other : List ℕ) → printed ≡ true → (if printed then text else other) ≡ text
-chosen true text other e = refl
-chosen false text other e = cc
-
 -- a record that is printed has its lines
 pub lines_of_record : (mode : Mode) (settings : Option SettingsValue) (item : Record) → is_printed mode item ≡ true
     → text_of_record mode settings item ≡ line (line_of settings item) ++ further_lines mode item
-lines_of_record mode settings item e = chosen (is_printed mode item) (line (line_of settings item) ++ further_lines mode item) [] e
+lines_of_record mode settings item printed = ap (λ b. if b then line (line_of settings item) ++ further_lines mode item else []) printed
+
+-- one that isn't has none
+pub no_lines_of_record : (mode : Mode) (settings : Option SettingsValue) (item : Record) → is_printed mode item ≡ false
+    → text_of_record mode settings item ≡ []
+no_lines_of_record mode settings item printed = ap (λ b. if b then line (line_of settings item) ++ further_lines mode item else []) printed
 
 -- the first items of a list, with the next one
 pub take_next : {X : Type 0} (xs : List X) (i : ℕ) (x : X) → i < length xs → x ≡ get_or xs i x → take (i + 1) xs ≡ take i xs ++ x ∷ []

@@ -1,7 +1,8 @@
 -- Texts that are written one after another.
-use Rattle.std.proofs.Common.{◌≡◌, ◌≤◌, ℕ, List, [], ◌++◌, refl, ◌∙◌, arith}
+use Rattle.std.proofs.Common.{◌≡◌, ◌≤◌, ℕ, List, [], ◌++◌, refl, sym, ◌∙◌, subst, arith}
 use Rattle.std.proofs.KnownBytes.{Appends-nil, Appends-trans}
 use Rattle.tap_io.specs.Sink.{SinkState}
+use Rattle.tap_io.proofs.Following.{Follows-refl, Follows-trans}
 use Rattle.tap_io.proofs.Writing.{AppendsPrefixOf-append, Appends-AppendsPrefixOf}
 use Rattle.tap_report.specs.Written.{AppendsAll, FirstFails, WritesText, WritesTextAs}
 use Rattle.tap_report.specs.declared.written.Written.{Written}
@@ -43,7 +44,7 @@ pub WritesText-then : {old mid new : SinkState} {text more : List ℕ} {first se
     → WritesText old mid text first second → WritesText mid new more second third → WritesText old new (text ++ more) first third
 WritesText-then {old = old} {mid = mid} {new = new} {text = text} {more = more} {first = first} {second = second} {third = third} p q =
     record {
-      later = omega (arith, p.later, q.later);
+      follows = Follows-trans old mid new p.follows q.follows;
       answer = answers_then old mid new text more first second third p.answer q.answer;
     }
 
@@ -59,4 +60,9 @@ none_as state Failed = refl
 
 -- nothing is written
 pub WritesText-none : (state : SinkState) (so_far : Written) → WritesText state state [] so_far so_far
-WritesText-none state so_far = record { later = omega arith; answer = none_as state so_far }
+WritesText-none state so_far = record { follows = Follows-refl state; answer = none_as state so_far }
+
+-- the same of a text that is empty
+pub WritesText-empty : {state : SinkState} {text : List ℕ} {so_far : Written} → text ≡ [] → WritesText state state text so_far so_far
+WritesText-empty {state = state} {text = text} {so_far = so_far} empty =
+    subst (λ t. WritesText state state t so_far so_far) (sym empty) (WritesText-none state so_far)

@@ -1,8 +1,8 @@
 -- What writing a whole text does to a sink, whose states before and after it are `old` and `new`.
-use Rattle.std.specs.Prelude.{◌≡◌, ◌≤◌, ℕ, List}
+use Rattle.std.specs.Prelude.{◌≡◌, ℕ, List}
 use Rattle.std.specs.Io.KnownBytes.{Appends}
 use Rattle.tap_io.specs.Faults.{HasRisen}
-use Rattle.tap_io.specs.Sink.{SinkState, AppendsPrefixOf}
+use Rattle.tap_io.specs.Sink.{AppendsPrefixOf, Follows, SinkState}
 use Rattle.tap_report.specs.declared.written.Written.{Written}
 use Rattle.tap_report.specs.declared.written.Written.TheVariants.{All, Failed}
 
@@ -23,7 +23,7 @@ WritesTextAs old new text All Failed = FirstFails old new text
 WritesTextAs old new text Failed All = ⊥
 WritesTextAs old new text Failed Failed = new ≡ old
 
--- The text is appended whole, or the sink fails within it. Nothing is written after a failure.
+-- The sink goes on: the text is appended whole, or the sink fails within it. Nothing is written after a failure.
 pub record WritesText (old new : SinkState) (text : List ℕ) (so_far written : Written) : Type 0 where
-  pub later : old.faults ≤ new.faults
+  pub follows : Follows old new
   pub answer : WritesTextAs old new text so_far written

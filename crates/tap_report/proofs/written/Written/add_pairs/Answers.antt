@@ -1,7 +1,10 @@
 use Rattle.tap_report.specs.Tables.{pointer_line}
 use Rattle.tap_report.proofs.TextLemmas.{flat_map-take_more}
-use Rattle.tap_report.proofs.WritesLemmas.{◌⨾◌}
+use Rattle.tap_report.proofs.WritesLemmas.{◌⨾◌, WritesText-none}
 use Rattle.tap_report.proofs.written.Written.add_pairs.Goals as goal
+
+pub loop-pair-init : goal.loop-pair-init
+loop-pair-init g c = WritesText-none _ _
 
 pub loop-pair-preserved : goal.loop-pair-preserved
 loop-pair-preserved g c =
