@@ -1,8 +1,8 @@
 -- The moments of a log are the ends of its beginning and of its groups.
-use Rattle.std.proofs.Common.{◌≡◌, ℕ, zero, suc, ◌+◌, ◌<◌, ◌≤◌, Bool, true, false, List, [], ◌∷◌, ◌++◌, length, take, drop, All, ◌⊎◌, inl, inr, refl, ap, sym, subst, ◌∙◌, arith, append-nil, append_assoc, length-append, length-take}
+use Rattle.std.proofs.Common.{◌≡◌, ℕ, zero, suc, ◌+◌, ◌<◌, ◌≤◌, Bool, true, false, List, [], ◌∷◌, ◌++◌, length, take, All, ◌⊎◌, inl, inr, refl, ap, sym, subst, ◌∙◌, arith, append-nil, append_assoc, length-append, length-take}
 use Rattle.std.specs.Prelude.{◌&&◌, ◌||◌, nat_eq, nat_le, slice_get, if◌then◌else◌}
 use Rattle.std.specs.List.{list_any}
-use Rattle.std.proofs.Math.Seq.{take-append_seam, take-length}
+use Rattle.std.proofs.Math.Seq.{take-append_seam}
 use Rattle.std.proofs.lemmas.Bool.{cases_lt, eq-eqb, eqb-true, le-leb, lt-leb, ne_eqb}
 use Rattle.std.proofs.lemmas.List.Elements.{All-cons}
 use Rattle.tap_name.specs.Settings.{SettingsValue}
@@ -64,7 +64,8 @@ parted-follow carried first (next ∷ items) =
 pub parted-parts : (carried : Bool) (items : List Record) → ends_before carried (slice_get items 0) ≡ true
     → AreParts carried (parted carried items)
 parted-parts carried [] begins = tt
-parted-parts carried (first ∷ items) begins = are_parts carried first (parted carried (first ∷ items)) (parted-follow carried first items) begins
+parted-parts carried (first ∷ items) begins =
+    are_parts carried first (parted carried (first ∷ items)) (parted-follow carried first items) begins
 
 -- ---- moments of a log with more groups
 
@@ -72,7 +73,8 @@ group_of_part : (before : List Record) (first : Record) (after : List Record) �
     → IsPart (is_carried before) (first ∷ after) → IsGroup before first after
 group_of_part before first after begun part = record { begun = begun; begins = part.0; alone = part.1 }
 
-longer : (before : List Record) (first : Record) (after : List Record) → length (before ++ first ∷ after) ≡ length before + length (first ∷ after)
+longer : (before : List Record) (first : Record) (after : List Record)
+    → length (before ++ first ∷ after) ≡ length before + length (first ∷ after)
 longer before first after = length-append before (first ∷ after)
 
 later_parts : (before : List Record) (first : Record) (after : List Record) (groups : List (List Record))
@@ -244,7 +246,8 @@ moments_are_ends log opened going m = by_place (cases_lt m (length (beginning_of
         ∙ sym (ends_above m (length (beginning_of log)) (groups_of log) before)
     by_place (inr from) =
         ap (λ l. is_moment l m) (sym (log_is_groups log going))
-        ∙ is_moment-ends (beginning_of log) (groups_of log) (omega (arith, size, beginning_least)) (beginning_moment log opened.begun) parts m from
+        ∙ is_moment-ends (beginning_of log) (groups_of log) (omega (arith, size, beginning_least)) (beginning_moment log opened.begun)
+        parts m from
       where
         least : (c : Bool) → 1 ≤ (if c then 2 else 1)
         least true = omega arith
@@ -301,4 +304,12 @@ unfolding is_carried
 groups_of-carried settings frames members = refl
 
 pub log_in_groups_holds : LogInGroups
-log_in_groups_holds = record { whole = log_is_parts; none = groups_of-begin; none_carried = groups_of-carried; more = groups_of-group; ended = groups_of-ended; moments = moments_are_ends }
+log_in_groups_holds =
+    record {
+      whole = log_is_parts;
+      none = groups_of-begin;
+      none_carried = groups_of-carried;
+      more = groups_of-group;
+      ended = groups_of-ended;
+      moments = moments_are_ends;
+    }

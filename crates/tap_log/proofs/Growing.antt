@@ -198,19 +198,22 @@ ceased_of-push log item =
 
 numbers-push : (h k : Record → Option ℕ) (log : List Record) (item : Record)
     → numbers_less (filter_map h (log ++ item ∷ [])) (filter_map k (log ++ item ∷ []))
-    ≡ numbers_less (numbers_less (filter_map h log) (filter_map k log) ++ numbers_less (at_most_one (h item)) (filter_map k log)) (at_most_one (k item))
+    ≡ numbers_less (numbers_less (filter_map h log) (filter_map k log) ++ numbers_less (at_most_one (h item)) (filter_map k log))
+    (at_most_one (k item))
 numbers-push h k log item =
     ap (λ l. numbers_less l (filter_map k (log ++ item ∷ []))) (told h log item)
     ∙ ap (λ l. numbers_less (filter_map h log ++ at_most_one (h item)) l) (told k log item)
     ∙ less_by-more nat_eq (filter_map h log) (at_most_one (h item)) (filter_map k log) (at_most_one (k item))
 
 pub outstanding-push : (log : List Record) (item : Record)
-    → outstanding (log ++ item ∷ []) ≡ numbers_less (outstanding log ++ numbers_less (at_most_one (sent_number item)) (filter_map taken_number log))
+    → outstanding (log ++ item ∷ [])
+    ≡ numbers_less (outstanding log ++ numbers_less (at_most_one (sent_number item)) (filter_map taken_number log))
     (at_most_one (taken_number item))
 outstanding-push log item = numbers-push sent_number taken_number log item
 
 pub under_way-push : (log : List Record) (item : Record)
-    → under_way (log ++ item ∷ []) ≡ numbers_less (under_way log ++ numbers_less (at_most_one (packet_number item)) (filter_map ended_number log))
+    → under_way (log ++ item ∷ [])
+    ≡ numbers_less (under_way log ++ numbers_less (at_most_one (packet_number item)) (filter_map ended_number log))
     (at_most_one (ended_number item))
 under_way-push log item = numbers-push packet_number ended_number log item
 
@@ -241,7 +244,8 @@ alone None = refl
 alone (Some pair) = refl
 
 unwithdrawn_pairs-push : (log : List Record) (item : Record)
-    → unwithdrawn_pairs (log ++ item ∷ []) ≡ pairs_less (unwithdrawn_pairs log) (at_most_one (withdrawn_pair item)) ++ at_most_one (published_pair item)
+    → unwithdrawn_pairs (log ++ item ∷ [])
+    ≡ pairs_less (unwithdrawn_pairs log) (at_most_one (withdrawn_pair item)) ++ at_most_one (published_pair item)
 unwithdrawn_pairs-push [] item = alone (published_pair item)
 unwithdrawn_pairs-push (first ∷ items) item =
     let ended = at_most_one (withdrawn_pair item) in

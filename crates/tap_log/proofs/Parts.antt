@@ -1,5 +1,5 @@
 -- A log is its beginning, its groups and its ending.
-use Rattle.std.proofs.Common.{◌≡◌, ◌≢◌, ℕ, zero, suc, ◌+◌, ◌≤◌, Bool, true, false, List, [], ◌∷◌, ◌++◌, length, take, drop, All, refl, ap, sym, subst, ◌∙◌, arith, append-nil, append_assoc}
+use Rattle.std.proofs.Common.{◌≡◌, ◌≢◌, ℕ, zero, suc, ◌≤◌, Bool, true, false, List, [], ◌∷◌, ◌++◌, length, take, drop, All, refl, ap, sym, subst, ◌∙◌, arith, append-nil, append_assoc}
 use Rattle.std.specs.Prelude.{◌&&◌, slice_get, if◌then◌else◌}
 use Rattle.std.proofs.lemmas.Bool.{true≢false}
 use Rattle.std.proofs.lemmas.List.{append_cancel_right, drop-append-le, take-append-drop, take-append-le}
@@ -108,7 +108,8 @@ parted-group carried first (next ∷ after) rest alone ends =
     (parted-group carried next after rest (All-tail (λ item. begins_group carried item ≡ false) next after alone) ends)
 
 with_record-append : (item next : Record) (ends others : Bool) (groups : List (List Record)) (group : List Record)
-    → with_record item ends (with_record next others groups ++ group ∷ []) ≡ with_record item ends (with_record next others groups) ++ group ∷ []
+    → with_record item ends (with_record next others groups ++ group ∷ [])
+    ≡ with_record item ends (with_record next others groups) ++ group ∷ []
 with_record-append item next true others groups group = refl
 with_record-append item next false true groups group = refl
 with_record-append item next false false [] group = refl

@@ -1,8 +1,7 @@
 -- What one more whole group of records changes.
-use Rattle.std.proofs.Common.{◌≡◌, ℕ, zero, suc, ◌+◌, ◌<◌, ◌≤◌, Bool, true, false, not, nat_eq, List, [], ◌∷◌, ◌++◌, length, filter, get_or, All, Option, None, Some, refl, ap, sym, subst, ◌∙◌, arith, append_assoc, append-nil, length-append, cond}
+use Rattle.std.proofs.Common.{◌≡◌, ℕ, zero, suc, ◌+◌, ◌<◌, ◌≤◌, false, not, nat_eq, List, [], ◌∷◌, ◌++◌, length, get_or, All, Option, None, Some, refl, ap, sym, subst, ◌∙◌, arith, append_assoc, length-append, cond}
 use Rattle.std.specs.Prelude.{fold, ◌||◌, if◌then◌else◌}
-use Rattle.std.specs.List.{filter_map, cons_option, list_any, range_with_len}
-use Rattle.std.specs.Cmp.Lexicographic.{pointwise}
+use Rattle.std.specs.List.{filter_map, cons_option, range_with_len}
 use Rattle.std.proofs.lemmas.Bool.{ne_eqb}
 use Rattle.std.proofs.lemmas.List.Elements.{All-append, All-head, All-tail, filter_map-append, filter-append}
 use Rattle.std.proofs.lemmas.List.Folds.{list_any-append}
@@ -42,7 +41,8 @@ unwithdrawn_pairs-append [] more = refl
 unwithdrawn_pairs-append (first ∷ items) more =
     let ended = filter_map withdrawn_pair more in
     ap (cons_option (unwithdrawn_pair (published_pair first) (items ++ more))) (unwithdrawn_pairs-append items more)
-    ∙ one_before (unwithdrawn_pair (published_pair first) (items ++ more)) (pairs_less (unwithdrawn_pairs items) ended) (unwithdrawn_pairs more)
+    ∙ one_before (unwithdrawn_pair (published_pair first) (items ++ more)) (pairs_less (unwithdrawn_pairs items) ended)
+    (unwithdrawn_pairs more)
     ∙ ap (λ l. l ++ unwithdrawn_pairs more) (pair_before items more (published_pair first) (unwithdrawn_pairs items))
 
 -- ---- numbers
@@ -110,10 +110,12 @@ module _ (log : List Record) (first : Record) (after : List Record) (group : IsG
       (filter_map-append gone_name log (first ∷ after))
 
   pub joined_of-group : joined_of whole
-      ≡ names_less (joined_of log ++ names_less (filter_map join_name (accepted_of log (first ∷ after))) (gone_of log)) (gone_of (first ∷ after))
+      ≡ names_less (joined_of log ++ names_less (filter_map join_name (accepted_of log (first ∷ after))) (gone_of log))
+      (gone_of (first ∷ after))
   joined_of-group =
       let new = filter_map join_name (accepted_of log (first ∷ after)) in
-      came-push (members_of log) (joins_of log) new (gone_of log) (gone_of (first ∷ after)) (members_of whole ++ joins_of whole) (gone_of whole)
+      came-push (members_of log) (joins_of log) new (gone_of log) (gone_of (first ∷ after))
+      (members_of whole ++ joins_of whole) (gone_of whole)
       (ap (λ l. l ++ joins_of whole) members_of-group ∙ ap (λ l. members_of log ++ l) (named-group join_name)
       ∙ sym (append_assoc (members_of log) (joins_of log) new))
       (filter_map-append gone_name log (first ∷ after))
@@ -127,7 +129,8 @@ module _ (log : List Record) (first : Record) (after : List Record) (group : IsG
       ∙ fold-append with_name [] (members_of log ++ joins_of log) new
 
   pub published_of-group : published_of whole ≡ without_servers (filter_map depart_name (accepted_of log (first ∷ after)))
-      (pairs_less (published_of log) (filter_map withdrawn_pair (first ∷ after)) ++ without_servers (departures_of log) (unwithdrawn_pairs (first ∷ after)))
+      (pairs_less (published_of log) (filter_map withdrawn_pair (first ∷ after))
+      ++ without_servers (departures_of log) (unwithdrawn_pairs (first ∷ after)))
   published_of-group =
       let gone = departures_of log in
       let more = filter_map depart_name (accepted_of log (first ∷ after)) in

@@ -9,14 +9,16 @@ use Rattle.tap_log.specs.Published.{unwithdrawn_pair, unwithdrawn_pairs}
 
 next_pair : (records : List Record) (at : ℕ) (item : Record) (later : List Record) → at < length records → item ≡ get_or records at item
     → later ≡ drop (at + 1) records
-    → unwithdrawn_pairs (drop at records) ≡ cons_option (unwithdrawn_pair (published_pair item) later) (unwithdrawn_pairs (drop (at + 1) records))
+    → unwithdrawn_pairs (drop at records)
+    ≡ cons_option (unwithdrawn_pair (published_pair item) later) (unwithdrawn_pairs (drop (at + 1) records))
 next_pair records at item later within is rest =
     ap unwithdrawn_pairs (drop_more records at item within ∙ ap (λ x. x ∷ drop (at + 1) records) (sym is))
     ∙ ap (λ l. cons_option (unwithdrawn_pair (published_pair item) l) (unwithdrawn_pairs (drop (at + 1) records))) (sym rest)
 
 pub one_more_pair : (records : List Record) (at : ℕ) (item : Record) (later : List Record) (pair : Pair) (pairs new all : List Pair)
     → at < length records → item ≡ get_or records at item
-    → later ≡ drop (at + 1) records → pairs ++ unwithdrawn_pairs (drop at records) ≡ all → unwithdrawn_pair (published_pair item) later ≡ Some pair
+    → later ≡ drop (at + 1) records → pairs ++ unwithdrawn_pairs (drop at records) ≡ all
+    → unwithdrawn_pair (published_pair item) later ≡ Some pair
     → new ≡ pairs ++ pair ∷ []
     → new ++ unwithdrawn_pairs (drop (at + 1) records) ≡ all
 one_more_pair records at item later pair pairs new all within is rest so_far kept grown =
@@ -26,7 +28,8 @@ one_more_pair records at item later pair pairs new all within is rest so_far kep
 
 pub same_pairs : (records : List Record) (at : ℕ) (item : Record) (later : List Record) (pairs all : List Pair) → at < length records
     → item ≡ get_or records at item
-    → later ≡ drop (at + 1) records → pairs ++ unwithdrawn_pairs (drop at records) ≡ all → unwithdrawn_pair (published_pair item) later ≡ None
+    → later ≡ drop (at + 1) records → pairs ++ unwithdrawn_pairs (drop at records) ≡ all
+    → unwithdrawn_pair (published_pair item) later ≡ None
     → pairs ++ unwithdrawn_pairs (drop (at + 1) records) ≡ all
 same_pairs records at item later pairs all within is rest so_far kept =
     let left = unwithdrawn_pairs (drop (at + 1) records) in

@@ -58,10 +58,12 @@ pub record OneMoreRecord : Type 0 where
       ≡ filter (has_name (gone_of log ++ at_most_one (gone_name item))) (abandoned_of log ++ at_most_one (abandoned_name item))
   pub frames : (log : List Record) (item : Record)
       → outstanding (log ++ item ∷ [])
-      ≡ numbers_less (outstanding log ++ numbers_less (at_most_one (sent_number item)) (filter_map taken_number log)) (at_most_one (taken_number item))
+      ≡ numbers_less (outstanding log ++ numbers_less (at_most_one (sent_number item)) (filter_map taken_number log))
+      (at_most_one (taken_number item))
   pub packets : (log : List Record) (item : Record)
       → under_way (log ++ item ∷ [])
-      ≡ numbers_less (under_way log ++ numbers_less (at_most_one (packet_number item)) (filter_map ended_number log)) (at_most_one (ended_number item))
+      ≡ numbers_less (under_way log ++ numbers_less (at_most_one (packet_number item)) (filter_map ended_number log))
+      (at_most_one (ended_number item))
   pub awaits : (log : List Record) (item : Record) → arrived_number item ≡ None
       → awaiting (log ++ item ∷ [])
       ≡ numbers_less (awaiting log ++ numbers_less (at_most_one (sent_number item)) (acknowledged log))
@@ -108,7 +110,8 @@ pub record IsOpened (log : List Record) : Type 0 where
   pub next : ends_before (is_carried log) (slice_get (after_beginning log) 0) ≡ true
 
 -- A log is its beginning, its groups and its ending. One that has its beginning alone has no group, and one more whole group is its
--- last one; an ending leaves the groups as they were. The moments of a log without an ending are the ends of its beginning and of each group.
+-- last one; an ending leaves the groups as they were. The moments of a log without an ending are the ends of its beginning and
+-- of each group.
 pub record LogInGroups : Type 0 where
   pub whole : (log : List Record) → beginning_of log ++ (records_of (groups_of log) ++ ending_of log) ≡ log
   pub none : (settings : SettingsValue) (frames : ℕ) (members : List (List ℕ)) → groups_of (Begin settings frames members ∷ []) ≡ []

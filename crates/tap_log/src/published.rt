@@ -69,7 +69,8 @@ fn without_servers(alloc: Global, pairs: &[Pair], servers: &[Name]) -> Result<Ve
 }
 
 /// The pairs that are published at the end of the records: those that were published, less those that were withdrawn
-/// later, less those of a server from its accepted departure on.
+/// later, less those of a server from its accepted departure on. This is for tests and small logs: it takes memory, and time
+/// that grows with the square of the number of records.
 ///
 /// Rule: docs/FORMATS.md, "Groups and moments".
 pub fn published_at(alloc: Global, records: &[Record]) -> Result<List<Pair>, NoMemory>
