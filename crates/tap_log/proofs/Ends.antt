@@ -1,8 +1,8 @@
 -- The moments of a log are the ends of its beginning and of its groups.
-use Rattle.std.proofs.Common.{◌≡◌, ℕ, zero, suc, ◌+◌, ◌<◌, ◌≤◌, Bool, true, false, List, [], ◌∷◌, ◌++◌, length, take, drop, All, ◌⊎◌, inl, inr, refl, ap, sym, subst, ◌∙◌, arith, append-nil, append_assoc, length-append, length-take}
+use Rattle.std.proofs.Common.{◌≡◌, ℕ, zero, suc, ◌+◌, ◌<◌, ◌≤◌, Bool, true, false, List, [], ◌∷◌, ◌++◌, length, take, All, ◌⊎◌, inl, inr, refl, ap, sym, subst, ◌∙◌, arith, append-nil, append_assoc, length-append, length-take}
 use Rattle.std.specs.Prelude.{◌&&◌, ◌||◌, nat_eq, nat_le, slice_get, if◌then◌else◌}
 use Rattle.std.specs.List.{list_any}
-use Rattle.std.proofs.Math.Seq.{take-append_seam, take-length}
+use Rattle.std.proofs.Math.Seq.{take-append_seam}
 use Rattle.std.proofs.lemmas.Bool.{cases_lt, eq-eqb, eqb-true, le-leb, lt-leb, ne_eqb}
 use Rattle.std.proofs.lemmas.List.Elements.{All-cons}
 use Rattle.tap_name.specs.Settings.{SettingsValue}
@@ -14,7 +14,7 @@ use Rattle.tap_log.specs.Groups.{EachGroup, EachGroupFrom, after_beginning, begi
 use Rattle.tap_log.specs.Laws.{IsGroup, IsOpened, LogInGroups}
 use Rattle.tap_log.proofs.Growing.{carried_alone, carried_third}
 use Rattle.tap_log.proofs.OneMoreGroup.{beginning_size, carried_size, is_carried-group, is_moment-earlier, is_moment-end, is_moment-within}
-use Rattle.tap_log.proofs.Parts.{groups_of-group, is_ended-drop, log_is_groups, log_is_parts, without_ending-all}
+use Rattle.tap_log.proofs.Parts.{groups_of-ended, groups_of-group, is_ended-drop, log_is_groups, log_is_parts, without_ending-all}
 
 -- ---- what the parts of records are
 
@@ -49,10 +49,11 @@ follow_with : (carried : Bool) (first next : Record) (ends : Bool) (groups : Lis
 follow_with carried first next true groups begins follow = (refl, none_follow carried, are_parts carried next groups follow begins)
 follow_with carried first next false [] begins follow = absurd follow
 follow_with carried first next false ([] ∷ groups) begins follow = absurd follow
-follow_with carried first next false ((item ∷ after) ∷ groups) begins follow =
-    (refl,
-    All-cons (λ other. begins_group carried other ≡ false) item after (ap (begins_group carried) follow.0 ∙ begins) follow.1,
-    follow.2)
+follow_with carried first next false ((item ∷ after) ∷ groups) begins follow = (
+  refl,
+  All-cons (λ other. begins_group carried other ≡ false) item after (ap (begins_group carried) follow.0 ∙ begins) follow.1,
+  follow.2,
+)
 
 parted-follow : (carried : Bool) (first : Record) (items : List Record) → FollowFirst carried first (parted carried (first ∷ items))
 parted-follow carried first [] = (refl, none_follow carried, tt)
@@ -63,7 +64,8 @@ parted-follow carried first (next ∷ items) =
 pub parted-parts : (carried : Bool) (items : List Record) → ends_before carried (slice_get items 0) ≡ true
     → AreParts carried (parted carried items)
 parted-parts carried [] begins = tt
-parted-parts carried (first ∷ items) begins = are_parts carried first (parted carried (first ∷ items)) (parted-follow carried first items) begins
+parted-parts carried (first ∷ items) begins =
+    are_parts carried first (parted carried (first ∷ items)) (parted-follow carried first items) begins
 
 -- ---- moments of a log with more groups
 
@@ -71,7 +73,8 @@ group_of_part : (before : List Record) (first : Record) (after : List Record) �
     → IsPart (is_carried before) (first ∷ after) → IsGroup before first after
 group_of_part before first after begun part = record { begun = begun; begins = part.0; alone = part.1 }
 
-longer : (before : List Record) (first : Record) (after : List Record) → length (before ++ first ∷ after) ≡ length before + length (first ∷ after)
+longer : (before : List Record) (first : Record) (after : List Record)
+    → length (before ++ first ∷ after) ≡ length before + length (first ∷ after)
 longer before first after = length-append before (first ∷ after)
 
 later_parts : (before : List Record) (first : Record) (after : List Record) (groups : List (List Record))
@@ -116,7 +119,7 @@ ends_alone before m ends from = by_place (cases_lt (length before) m)
 ends_step : (before : List Record) (first : Record) (after : List Record) (groups : List (List Record)) → IsGroup before first after
     → AreParts (is_carried (before ++ first ∷ after)) groups → is_moment before (length before) ≡ true → (m : ℕ) → length before ≤ m
     → (length (before ++ first ∷ after) ≤ m → is_moment ((before ++ first ∷ after) ++ records_of groups) m
-        ≡ has_number (ends_from (length (before ++ first ∷ after)) groups) m)
+    ≡ has_number (ends_from (length (before ++ first ∷ after)) groups) m)
     → is_moment ((before ++ first ∷ after) ++ records_of groups) m
     ≡ (nat_eq (length before) m || has_number (ends_from (length (before ++ first ∷ after)) groups) m)
 ends_step before first after groups group parts ends m from later =
@@ -136,11 +139,11 @@ ends_step before first after groups group parts ends m from later =
     by_place (inl above) (inl below) =
         stays (omega (arith, below)) ∙ is_moment-within before first after group m above below
         ∙ sym (ap (λ b. b || has_number (ends_from (length (before ++ first ∷ after)) groups) m)
-            (ne_eqb (length before) m (λ is. absurd (omega (arith, is, above))))
+        (ne_eqb (length before) m (λ is. absurd (omega (arith, is, above))))
         ∙ ends_above m (length (before ++ first ∷ after)) groups below)
     by_place (inl above) (inr past) =
         later past ∙ sym (ap (λ b. b || has_number (ends_from (length (before ++ first ∷ after)) groups) m)
-            (ne_eqb (length before) m (λ is. absurd (omega (arith, is, above)))))
+        (ne_eqb (length before) m (λ is. absurd (omega (arith, is, above)))))
     by_place (inr within) place =
         let here : length before ≡ m = omega (arith, from, within) in
         stays (omega (arith, size, within)) ∙ is_moment-earlier before first after group m within
@@ -243,7 +246,8 @@ moments_are_ends log opened going m = by_place (cases_lt m (length (beginning_of
         ∙ sym (ends_above m (length (beginning_of log)) (groups_of log) before)
     by_place (inr from) =
         ap (λ l. is_moment l m) (sym (log_is_groups log going))
-        ∙ is_moment-ends (beginning_of log) (groups_of log) (omega (arith, size, beginning_least)) (beginning_moment log opened.begun) parts m from
+        ∙ is_moment-ends (beginning_of log) (groups_of log) (omega (arith, size, beginning_least)) (beginning_moment log opened.begun)
+        parts m from
       where
         least : (c : Bool) → 1 ≤ (if c then 2 else 1)
         least true = omega arith
@@ -273,11 +277,11 @@ held_from Q P keeps before (group ∷ groups) here each m is =
     by_test : Rest → (b : Bool) → nat_eq (length before) m ≡ b → Q (take m (before ++ (group ++ records_of groups)))
     by_test later true same =
         subst Q (sym (ap (λ k. take k (before ++ (group ++ records_of groups))) (sym (eqb-true (length before) m same))
-            ∙ take-append_seam before (group ++ records_of groups))) here
+        ∙ take-append_seam before (group ++ records_of groups))) here
     by_test later false other =
         subst (λ l. Q (take m l)) (append_assoc before group (records_of groups))
         (later (ap (λ n. has_number (ends_from n groups) m) (length-append before group)
-            ∙ sym (ap (λ b. b || has_number (ends_from (length before + length group) groups) m) other) ∙ is))
+        ∙ sym (ap (λ b. b || has_number (ends_from (length before + length group) groups) m) other) ∙ is))
 
 -- what holds of the beginning, and is kept by each group, holds at each moment
 pub holds_at_each_moment : (Q : List Record → Type 0) (P : List Record → List Record → Type 0)
@@ -300,4 +304,12 @@ unfolding is_carried
 groups_of-carried settings frames members = refl
 
 pub log_in_groups_holds : LogInGroups
-log_in_groups_holds = record { whole = log_is_parts; none = groups_of-begin; none_carried = groups_of-carried; more = groups_of-group; moments = moments_are_ends }
+log_in_groups_holds =
+    record {
+      whole = log_is_parts;
+      none = groups_of-begin;
+      none_carried = groups_of-carried;
+      more = groups_of-group;
+      ended = groups_of-ended;
+      moments = moments_are_ends;
+    }

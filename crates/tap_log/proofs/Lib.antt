@@ -2,7 +2,7 @@ pub mod Gathering
 pub mod OneMoreGroup
 pub mod Growing
 pub mod Instants
-pub mod KeptPairs
+pub mod Unwithdrawn
 pub mod Less
 pub mod Acknowledging
 pub mod Stepwise

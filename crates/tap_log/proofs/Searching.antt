@@ -1,8 +1,8 @@
 -- What a loop over records finds first: an ending, the end of a group, the bytes of a frame.
-use Rattle.std.proofs.Common.{◌≡◌, ℕ, zero, suc, ◌+◌, ◌-◌, ◌<◌, ◌≤◌, Bool, true, false, List, [], ◌∷◌, ◌++◌, length, take, drop, get_or, All, Option, None, Some, refl, ap, sym, subst, ◌∙◌, arith, length-append}
+use Rattle.std.proofs.Common.{◌≡◌, ℕ, zero, suc, ◌+◌, ◌-◌, ◌<◌, ◌≤◌, Bool, true, false, List, [], ◌∷◌, length, take, drop, get_or, All, Option, None, Some, refl, ap, sym, subst, ◌∙◌, arith, length-append}
 use Rattle.std.specs.Prelude.{slice_get, if◌then◌else◌}
 use Rattle.std.specs.List.{filter_map, cons_option}
-use Rattle.std.proofs.Math.Seq.{drop-length, take-append_seam, take-length}
+use Rattle.std.proofs.Math.Seq.{drop-length, take-append_seam}
 use Rattle.std.proofs.lemmas.List.{drop_more, take-append-drop, take_more}
 use Rattle.std.proofs.lemmas.List.Elements.{All-push}
 use Rattle.tap_log.specs.declared.record.Record.{Record}
@@ -22,7 +22,8 @@ ending_later carried (item ∷ items) (suc at) within fails =
     ending_later carried items at (omega arith) fails
     ∙ ap (λ n. ending carried (drop n (item ∷ items))) (let e : suc (at + 1) ≡ suc at + 1 = omega arith in e)
 
-pub ending_size : (carried : Bool) (items : List Record) → length (without_ending carried items) + length (ending carried items) ≡ length items
+pub ending_size : (carried : Bool) (items : List Record)
+    → length (without_ending carried items) + length (ending carried items) ≡ length items
 ending_size carried items =
     sym (length-append (without_ending carried items) (ending carried items)) ∙ ap length (without_ending-whole carried items)
 

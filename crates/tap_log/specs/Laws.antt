@@ -6,12 +6,12 @@ use Rattle.tap_scenario.specs.declared.step.Step.{Step}
 use Rattle.tap_log.specs.declared.record.Record.{Record}
 use Rattle.tap_log.specs.declared.record.Record.TheVariants.{Arrived, Begin, Carrier}
 use Rattle.tap_log.specs.Kinds.{begins_group, is_carried, members_in, step_of, sent_number, taken_number, packet_number, arrived_number, ended_number, core_name, gone_name, abandoned_name, published_pair, withdrawn_pair, join_name, depart_name}
-use Rattle.tap_log.specs.Moments.{acknowledged, acknowledged_by, acknowledged_by_all, awaiting, ends_before, has_number, is_moment, is_still, last_of, less, outstanding, steps_of, under_way}
+use Rattle.tap_log.specs.Moments.{acknowledged, acknowledged_by, acknowledged_by_all, awaiting, ends_before, has_number, is_moment, is_still, last_of, numbers_less, outstanding, steps_of, under_way}
 use Rattle.tap_log.specs.Core.{abandoned_of, accepted_in, accepted_step, accepted_steps, ceased_of, core_of, departures_of, gone_of, has_name, joined_of, names_less}
 use Rattle.tap_log.specs.Departing.{departing_of}
-use Rattle.tap_log.specs.Published.{kept_pairs, pairs_less, published_of, without_servers}
+use Rattle.tap_log.specs.Published.{unwithdrawn_pairs, pairs_less, published_of, without_servers}
 use Rattle.tap_log.specs.Frames.{asked_ticket, ticket_count}
-use Rattle.tap_log.specs.Groups.{after_beginning, beginning_of, ending_of, groups_of, is_ended, moments_of, records_of}
+use Rattle.tap_log.specs.Groups.{after_beginning, beginning_of, ending_of, groups_of, is_ended, is_ending, is_lengthened, moments_of, records_of}
 use Rattle.tap_log.specs.Counts.{join_count, names_of, sent_count, with_name}
 
 -- the one thing that there may be, as a list
@@ -58,16 +58,18 @@ pub record OneMoreRecord : Type 0 where
       ≡ filter (has_name (gone_of log ++ at_most_one (gone_name item))) (abandoned_of log ++ at_most_one (abandoned_name item))
   pub frames : (log : List Record) (item : Record)
       → outstanding (log ++ item ∷ [])
-      ≡ less (outstanding log ++ less (at_most_one (sent_number item)) (filter_map taken_number log)) (at_most_one (taken_number item))
+      ≡ numbers_less (outstanding log ++ numbers_less (at_most_one (sent_number item)) (filter_map taken_number log))
+      (at_most_one (taken_number item))
   pub packets : (log : List Record) (item : Record)
       → under_way (log ++ item ∷ [])
-      ≡ less (under_way log ++ less (at_most_one (packet_number item)) (filter_map ended_number log)) (at_most_one (ended_number item))
+      ≡ numbers_less (under_way log ++ numbers_less (at_most_one (packet_number item)) (filter_map ended_number log))
+      (at_most_one (ended_number item))
   pub awaits : (log : List Record) (item : Record) → arrived_number item ≡ None
       → awaiting (log ++ item ∷ [])
-      ≡ less (awaiting log ++ less (at_most_one (sent_number item)) (acknowledged log))
+      ≡ numbers_less (awaiting log ++ numbers_less (at_most_one (sent_number item)) (acknowledged log))
       (at_most_one (acknowledged_by (filter_map arrived_number log) item))
   pub arrives : (log : List Record) (packet : ℕ)
-      → awaiting (log ++ Arrived packet ∷ []) ≡ less (awaiting log) (acknowledged_by_all (packet ∷ []) log)
+      → awaiting (log ++ Arrived packet ∷ []) ≡ numbers_less (awaiting log) (acknowledged_by_all (packet ∷ []) log)
   pub published : (log : List Record) (item : Record)
       → published_of (log ++ item ∷ []) ≡ without_servers (filter_map depart_name (accepted_by log item))
       (pairs_less (published_of log) (at_most_one (withdrawn_pair item))
@@ -108,7 +110,8 @@ pub record IsOpened (log : List Record) : Type 0 where
   pub next : ends_before (is_carried log) (slice_get (after_beginning log) 0) ≡ true
 
 -- A log is its beginning, its groups and its ending. One that has its beginning alone has no group, and one more whole group is its
--- last one. The moments of a log without an ending are the ends of its beginning and of each group.
+-- last one; an ending leaves the groups as they were. The moments of a log without an ending are the ends of its beginning and
+-- of each group.
 pub record LogInGroups : Type 0 where
   pub whole : (log : List Record) → beginning_of log ++ (records_of (groups_of log) ++ ending_of log) ≡ log
   pub none : (settings : SettingsValue) (frames : ℕ) (members : List (List ℕ)) → groups_of (Begin settings frames members ∷ []) ≡ []
@@ -117,6 +120,10 @@ pub record LogInGroups : Type 0 where
   pub more : (log : List Record) (first : Record) (after : List Record) → IsGroup log first after
       → is_ended log ≡ false → is_ended (first ∷ after) ≡ false
       → groups_of (log ++ first ∷ after) ≡ groups_of log ++ (first ∷ after) ∷ []
+  pub ended : (log : List Record) (first : Record) (after : List Record) → 1 ≤ length log → is_ended log ≡ false
+      → is_ending (is_carried log) (first ∷ after) ≡ true
+      → is_lengthened (is_carried log) (last_of (after_beginning log)) (first ∷ after) ≡ false
+      → (groups_of (log ++ first ∷ after) ≡ groups_of log) × (ending_of (log ++ first ∷ after) ≡ first ∷ after)
   pub moments : (log : List Record) → IsOpened log → is_ended log ≡ false
       → (m : ℕ) → is_moment log m ≡ has_number (moments_of log) m
 
@@ -151,7 +158,7 @@ pub record GroupChanges : Type 0 where
   pub published : (log : List Record) (first : Record) (after : List Record) → IsGroup log first after
       → published_of (log ++ first ∷ after) ≡ without_servers (filter_map depart_name (accepted_of log (first ∷ after)))
       (pairs_less (published_of log) (filter_map withdrawn_pair (first ∷ after))
-          ++ without_servers (departures_of log) (kept_pairs (first ∷ after)))
+      ++ without_servers (departures_of log) (unwithdrawn_pairs (first ∷ after)))
   pub frames : (log group : List Record) → IsNumbered log → NumbersOn log group
-      → outstanding (log ++ group) ≡ less (outstanding log) (filter_map taken_number group) ++ filter_map sent_number group
+      → outstanding (log ++ group) ≡ numbers_less (outstanding log) (filter_map taken_number group) ++ filter_map sent_number group
   pub numbered : (log group : List Record) → IsNumbered log → NumbersOn log group → IsNumbered (log ++ group)

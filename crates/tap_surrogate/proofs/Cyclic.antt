@@ -132,33 +132,3 @@ first_from_agree base p q same zero digit below = refl
 first_from_agree base p q same (suc left) digit below =
     let later = first_from_agree base p q same left (next_digit base digit) (next_below base digit below) in
     rw (same digit below) (ap (λ n. cond (q digit) digit n) later)
-
--- what is found is a digit of the base
-pub first_from_below : (base : ℕ) (passes : ℕ → Bool) (left digit : ℕ) → digit < base → first_from base passes left digit < base
-first_from_below base passes zero digit below = below
-first_from_below base passes (suc left) digit below =
-    elim (cases_Bool (passes digit)) [
-      | inl e ↦ rw e below
-      | inr e ↦ rw e (first_from_below base passes left (next_digit base digit) (next_below base digit below))
-    ]
-
--- where some digit passes, the one that is found does
-first_from_passes : (base : ℕ) (passes : ℕ → Bool) (target : ℕ) → target < base → passes target ≡ true
-    → (left digit : ℕ) → digit < base
-    → cyclic_distance base digit target < left → passes (first_from base passes left digit) ≡ true
-first_from_passes base passes target target_below h zero digit below near = absurd (omega arith)
-first_from_passes base passes target target_below h (suc left) digit below near =
-    elim (cases_Bool (passes digit)) [
-      | inl e ↦ rw e e
-      | inr e ↦
-          let apart : digit ≡ target → ⊥ = λ same. true≢false (sym h ∙ ap passes (sym same) ∙ e) in
-          let next = distance-next base digit target below target_below apart in
-          rw e (first_from_passes base passes target target_below h left (next_digit base digit) (next_below base digit below)
-          (omega (arith, next)))
-    ]
-
-pub first_cyclic_passes : (base : ℕ) (passes : ℕ → Bool) (target from : ℕ) → target < base → passes target ≡ true
-    → from < base
-    → passes (first_cyclic base passes from) ≡ true
-first_cyclic_passes base passes target from target_below h below =
-    first_from_passes base passes target target_below h base from below (distance_below base from target below target_below)

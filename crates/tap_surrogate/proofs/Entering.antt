@@ -1,9 +1,10 @@
 -- a walk enters its nodes in turn
-use Rattle.std.proofs.Common.{◌≡◌, inl, inr, ℕ, ◌+◌, ◌≤◌, zero, suc, List, [], ◌∷◌, length, map, get_or, nat_eq, Option, None, Some, All, arith, ap, sym, refl, ◌∙◌, eqb}
-use Rattle.std.specs.List.{AllAdjacentBelow, common_prefix_len}
+use Rattle.std.proofs.Common.{◌≡◌, inl, inr, ℕ, ◌+◌, ◌≤◌, zero, suc, List, [], ◌∷◌, length, map, get_or, Option, None, Some, All, arith, ap, sym, refl, ◌∙◌, eqb}
+use Rattle.std.specs.List.{AllAdjacentBelow}
 use Rattle.std.proofs.lemmas.Bool.{cases_Bool}
 use Rattle.std.proofs.lemmas.List.Elements.{All-cons, All-nil}
 use Rattle.tap_name.specs.declared.slot.Slot.{Slot}
+use Rattle.tap_name.specs.Prefix.{lcp}
 use Rattle.tap_name.specs.Settings.{SettingsValue}
 use Rattle.tap_name.specs.Root.{Among}
 use Rattle.tap_surrogate.specs.Tables.{Tables, least_link}
@@ -47,13 +48,14 @@ entered_on-nodes base tables at level (wanted ∷ more) =
         ∙ sym (walk_on-hops base tables at.node level wanted more to is)
 
 -- a hop leads to a core node that shares as many digits as the level says
-record HopsTo (core : List (List ℕ)) (node : List ℕ) (level : ℕ) (to : List ℕ) : Type 0 where
+record IsHopTarget (core : List (List ℕ)) (node : List ℕ) (level : ℕ) (to : List ℕ) : Type 0 where
   among : Among to core
-  shares : common_prefix_len nat_eq node to ≡ level
+  shares : lcp node to ≡ level
 
-hops_to : (p : SettingsValue) (core : List (List ℕ)) (tables : Tables) → IsHoleFree p core tables → (node : List ℕ) (level wanted : ℕ)
-    (to : List ℕ) → Among node core → hop p.base tables node level wanted ≡ Some to → HopsTo core node level to
-hops_to p core tables free node level wanted to here is =
+hop_target : (p : SettingsValue) (core : List (List ℕ)) (tables : Tables) → IsHoleFree p core tables → (node : List ℕ) (level wanted : ℕ)
+    (to : List ℕ) → Among node core → hop p.base tables node level wanted ≡ Some to → IsHopTarget core node level to
+unfolding lcp
+hop_target p core tables free node level wanted to here is =
     let digit = walked_digit p.base tables node level wanted in
     let slot : Slot = record { level = level; digit = digit } in
     elim (cases_Bool (eqb (get_or node level 0) digit)) [
@@ -117,7 +119,7 @@ turns p core tables free at level (wanted ∷ more) here before within =
     by_hop None is later = rw (entered_on-stays p.base tables at level wanted more is) (later at here (omega arith))
     by_hop (Some to) is later =
         let next : Entered = record { node = to; level = level + 1 } in
-        let hops = hops_to p core tables free at.node level wanted to here is in
+        let hops = hop_target p core tables free at.node level wanted to here is in
         let begins = entered_begins p.base tables next (level + 1) more in
         let after : IsEnteredAfter at next = record { rises = omega arith; shares = omega (arith, hops.shares) } in
         rw (entered_on-hops p.base tables at level wanted more to is)

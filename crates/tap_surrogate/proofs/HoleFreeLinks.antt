@@ -13,7 +13,7 @@ use Rattle.tap_name.proofs.Names.{among-filter_from}
 use Rattle.tap_name.proofs.Prefix.{prefix_of_itself}
 use Rattle.tap_link.specs.LinkSet.{kind_of}
 use Rattle.tap_table.specs.Table.{SlotLinks, TableValue, kind_in, links_at, name_cmp, place_of}
-use Rattle.tap_table.proofs.LookUps.{tied_names}
+use Rattle.tap_table.proofs.Near.{tied_names}
 use Rattle.tap_table.proofs.Slots.{place_inside}
 use Rattle.tap_surrogate.specs.HoleFree.{IsHoleFree}
 use Rattle.tap_surrogate.specs.Nodes.{IsCore, Nodes, core_links}

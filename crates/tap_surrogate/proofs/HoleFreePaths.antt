@@ -12,7 +12,8 @@ use Rattle.tap_surrogate.specs.Tables.{Tables, least_link}
 use Rattle.tap_surrogate.specs.HoleFree.{IsHoleFree}
 use Rattle.tap_surrogate.specs.Walk.{walked_digit, hop, walk_on}
 use Rattle.tap_surrogate.specs.Laws.{WalkLaw}
-use Rattle.tap_surrogate.proofs.Cyclic.{first_from_agree, first_cyclic_passes}
+use Rattle.tap_name.proofs.Cyclic.{first_cyclic-passes}
+use Rattle.tap_surrogate.proofs.Cyclic.{first_from_agree}
 use Rattle.tap_name.proofs.Names.{same_tests, has_digit-from, has_digit-to, among-filter, among-filter_from, only_left, share_more, share_fewer, same_at, share_all}
 use Rattle.tap_name.proofs.Slots.{shares_what_fits, fits_what_shares}
 use Rattle.tap_surrogate.proofs.Paths.{leads, walk_on-stays, walk_on-hops}
@@ -114,7 +115,7 @@ taken_leads p core tables free node level wanted inside below here =
     let own_below = name.below level 0 (omega (arith, name.len)) in
     let own_leads : leads tables node level own ≡ true = rw (eq-eqb own own refl) refl in
     let passes : leads tables node level digit ≡ true =
-    first_cyclic_passes p.base (leads tables node level) own wanted own_below own_leads below in
+    first_cyclic-passes p.base (leads tables node level) own wanted own_below own_leads below in
     elim (cases_Bool (eqb own digit)) [
       | inl e ↦ inl (rw e refl, record { among = here; prefix = refl; digit_is = eqb-true own digit e })
       | inr e ↦

@@ -5,6 +5,7 @@ use Rattle.std.proofs.lemmas.Bool.{cases_Bool, eq-eqb, true≢false}
 use Rattle.std.proofs.lemmas.List.{drop_more, length-drop}
 use Rattle.std.proofs.lemmas.List.Elements.{All-drop, All-head, All-tail}
 use Rattle.tap_name.specs.declared.slot.Slot.{Slot}
+use Rattle.tap_name.proofs.Cyclic.{first_cyclic-below, first_cyclic-passes}
 use Rattle.tap_name.specs.Name.{IsName}
 use Rattle.tap_name.specs.Root.{first_of}
 use Rattle.tap_link.specs.declared.kind.Kind.TheVariants.{Settled}
@@ -18,7 +19,7 @@ use Rattle.tap_surrogate.specs.Nodes.{HasSettledCoreLinks, IsCore, Nodes, core_l
 use Rattle.tap_surrogate.specs.Walk.{hop, walked_digit}
 use Rattle.tap_surrogate.specs.Entered.{Entered, Follows, entered_from, entered_on}
 use Rattle.tap_surrogate.specs.Laws.{NextHopLaw}
-use Rattle.tap_surrogate.proofs.Cyclic.{first_cyclic_passes, first_from_agree, first_from_below}
+use Rattle.tap_surrogate.proofs.Cyclic.{first_from_agree}
 use Rattle.tap_surrogate.proofs.CoreLinks.{least_link_of}
 use Rattle.tap_surrogate.proofs.Entering.{entered_on-hops, entered_on-stays}
 use Rattle.tap_surrogate.proofs.HoleFreePaths.{hop_other}
@@ -76,7 +77,7 @@ module _ (nodes : Nodes) (table : TableValue) (is : HasSettledTable nodes table)
   leads_on level wanted inside below other =
       let own_below = is.valid.owner.below level 0 (omega (arith, inside, is.valid.owner.len)) in
       let own_passes : can_take table level (own level) ≡ true = rw (eq-eqb (own level) (own level) refl) refl in
-      let passes = first_cyclic_passes base (can_take table level) (own level) wanted own_below own_passes below in
+      let passes = first_cyclic-passes base (can_take table level) (own level) wanted own_below own_passes below in
       rw other at passes
 
   -- to which the walk hops
@@ -84,7 +85,7 @@ module _ (nodes : Nodes) (table : TableValue) (is : HasSettledTable nodes table)
       → primary_at table level (taken_digit table level wanted) ≡ Some to
       → hop base (core_links nodes) table.owner level wanted ≡ Some to
   hops level wanted to below other primary =
-      let digit_below = first_from_below base (can_take table level) base wanted below in
+      let digit_below = first_cyclic-below base (can_take table level) wanted below in
       let walked = same_digit level wanted below in
       let other' : eqb (own level) (walked_digit base (core_links nodes) table.owner level wanted) ≡ false = rw walked other in
       hop_other base (core_links nodes) table.owner level wanted other'

@@ -1,7 +1,8 @@
 -- A walk with the level at which it enters each node: the level from which it goes on there.
-use Rattle.std.specs.Prelude.{◌≡◌, ℕ, ◌+◌, ◌<◌, ◌≤◌, if◌then◌else◌, List, [], ◌∷◌, length, map, drop, nat_eq, All, Option, None, Some}
-use Rattle.std.specs.List.{AllAdjacentBelow, common_prefix_len}
+use Rattle.std.specs.Prelude.{◌≡◌, ℕ, ◌+◌, ◌<◌, ◌≤◌, if◌then◌else◌, List, [], ◌∷◌, length, map, drop, All, Option, None, Some}
+use Rattle.std.specs.List.{AllAdjacentBelow}
 use Rattle.std.specs.Option.{is_some}
+use Rattle.tap_name.specs.Prefix.{lcp}
 use Rattle.tap_name.specs.Settings.{SettingsValue}
 use Rattle.tap_table.specs.declared.next.Next.{Next}
 use Rattle.tap_table.specs.declared.next.Next.TheVariants.{Root, Hop}
@@ -40,7 +41,7 @@ walk_entered base tables from object = entered_from base tables (record { node =
 -- The walk enters one node after another: at a greater level, one more than the number of digits that they share.
 pub record IsEnteredAfter (before after : Entered) : Type 0 where
   pub rises : before.level < after.level
-  pub shares : after.level ≡ common_prefix_len nat_eq before.node after.node + 1
+  pub shares : after.level ≡ lcp before.node after.node + 1
 
 -- These are the nodes of a path, each entered after the one before it, at a level of the settings.
 pub record AreEntered (p : SettingsValue) (path : List (List ℕ)) (entered : List Entered) : Type 0 where

@@ -8,7 +8,7 @@ use Rattle.tap_surrogate.specs.Standing.{WalkValue, IsStanding, path_left}
 
 -- A hop leads to the least core node of a slot. It leaves the node where the walk stood behind,
 -- and raises the level.
-pub record IsHop (p : SettingsValue) (nodes : Nodes) (before after : WalkValue) : Type 0 where
+pub record IsWalkHop (p : SettingsValue) (nodes : Nodes) (before after : WalkValue) : Type 0 where
   pub passes : path_left p.base (core_links nodes) before ≡ before.node ∷ path_left p.base (core_links nodes) after
   pub link : IsLeastLink nodes before.node after.node
   pub rises : before.level < after.level
@@ -22,5 +22,5 @@ pub record IsAtRoot (p : SettingsValue) (nodes : Nodes) (before after : WalkValu
 
 -- The step that a walk makes: a hop to the node where it then stands, or none, at the root.
 abbrev pub IsWalkStep : SettingsValue → Nodes → WalkValue → WalkValue → Step1 → Type 0
-IsWalkStep p nodes before after (Hop to) = (to ≡ after.node) × IsHop p nodes before after
+IsWalkStep p nodes before after (Hop to) = (to ≡ after.node) × IsWalkHop p nodes before after
 IsWalkStep p nodes before after (Root node) = (node ≡ before.node) × IsAtRoot p nodes before after

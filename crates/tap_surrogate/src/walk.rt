@@ -45,7 +45,7 @@ impl Model for Walk {
 
 impl Walk {
     ghost use Rattle.tap_surrogate.specs.Standing.{IsStanding, path_left};
-    ghost use Rattle.tap_surrogate.specs.Step1.{IsHop, IsWalkStep};
+    ghost use Rattle.tap_surrogate.specs.Step1.{IsWalkHop, IsWalkStep};
 
     /// The walk of an object that stands at a node and has made no hop.
     pub fn new(from: Name, object: Name) -> Walk
@@ -93,7 +93,7 @@ impl Walk {
         ensures { let p = T.parameters tables.now in let nodes = T.nodes tables.now in
             MatchOption result
             (path_left p.base (core_links nodes) self.now ≡ self.now.node ∷ [])
-            (λ after. IsHop p nodes self.now after) }
+            (λ after. IsWalkHop p nodes self.now after) }
     {
         let Some(table) = tables.table_of(self.node) else {
             unreachable!()

@@ -53,6 +53,11 @@ Contains-filter_to test (a ∷ rest) x here pass = step (test a) refl (λ there.
       | inr there ↦ rw is (later there)
     ]
 
+-- what a test leaves of a list has a slot exactly if the list had it and it passes
+pub Contains-filter : (test : Slot → Bool) (slots : List Slot) (s : Slot)
+    → Contains (filter test slots) s ↔ (Contains slots s × (test s ≡ true))
+Contains-filter test slots s = (Contains-filter_from test slots s, λ (here, pass). Contains-filter_to test slots s here pass)
+
 -- after a strike a slot is there exactly if it was and is another one than the one struck
 pub Contains-without : (slots : List Slot) (struck s : Slot) → Contains (without struck slots) s ↔ (Contains slots s × (s ≢ struck))
 Contains-without slots struck s = (
