@@ -17,7 +17,7 @@ first_bad : (base : ℕ) (digits : List ℕ) (i : ℕ) → i ≤ length digits �
     → position_or_len (λ d. nat_le base d) digits ≡ i
 first_bad base digits i within below bad =
     position_or_len_is (λ d. nat_le base d) digits i 0 within (λ k h. let b = below k h in grind (arith, nat_tests))
-        (λ h. let b = bad h in grind (arith, nat_tests))
+    (λ h. let b = bad h in grind (arith, nat_tests))
 
 pub bad_at : (s : SettingsValue) (digits : List ℕ) (i : ℕ) → length digits ≡ s.digits → i < length digits → AreBelow s.base digits i
     → s.base ≤ get_or digits i 0

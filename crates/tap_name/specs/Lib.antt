@@ -2,7 +2,11 @@ pub mod Settings
 pub mod Digits
 pub mod Padded
 pub mod Name
+pub mod Word
 pub mod Cyclic
+pub mod Prefix
 pub mod Slot
+pub mod Order
+pub mod Names
 pub mod Root
 pub mod Distinct

@@ -7,8 +7,10 @@ mod settings;
 mod slot;
 #[cfg(test)]
 mod tests;
+mod word;
 
 pub use list::{List, NoMemory};
-pub use name::{Name, NameFault, read_name};
+pub use name::{Name, NameFault, read_name, text_of_digit};
 pub use settings::Settings;
 pub use slot::{Offered, Slot, next_cyclic, slot_of};
+pub use word::are_word_bytes;

@@ -1,4 +1,4 @@
-ghost use Rattle.std.specs.Prelude.{◌≡◌, ℕ, ◌+◌, ◌<◌, ◌≤◌, [], ◌∷◌, ◌++◌, length, slice_index, All, Some, nat_eq, IfOk};
+ghost use Rattle.std.specs.Prelude.{◌≡◌, ◌↔◌, ℕ, ◌+◌, ◌<◌, ◌≤◌, List, [], ◌∷◌, ◌++◌, length, slice_index, All, Some, Ok, nat_eq, IfOk};
 ghost use Rattle.std.proofs.Common.{rules};
 ghost use Rattle.std.specs.Cmp.{partial_equiv_from_equiv};
 ghost use Rattle.std.specs.Cmp.Lexicographic.{pointwise, slice_cmp, nat_list_eq_equiv, nat_list_cmp_total, texts_po, texts_ties};
@@ -7,7 +7,8 @@ ghost use Rattle.std.specs.Ordering.{nat_cmp};
 ghost use Rattle.std.specs.Hash as fed;
 ghost use Rattle.std.specs.List.{common_prefix_len};
 ghost use Rattle.tap_name.specs.Digits.{digit_of_text, text_of_digit};
-ghost use Rattle.tap_name.specs.Name.{IsName, name_of_digits, name_of_text};
+ghost use Rattle.tap_name.specs.Name.{IsName, name_of_digits, name_of_text, text_of_name};
+ghost use Rattle.tap_name.specs.Prefix.{lcp};
 
 use crate::settings::Settings;
 use std::cmp::Ordering;
@@ -26,7 +27,7 @@ pub struct Name {
 }
 
 impl Model for Name {
-    ghost use Rattle.std.specs.Prelude.{List, ℕ, take, length};
+    ghost use Rattle.std.specs.Prelude.{List, ℕ, ◌<◌, take, length};
     ghost use Rattle.std.proofs.Common.{arith, length-take-le};
     ghost use Rattle.tap_name.specs.Padded.{IsPadded, padded, padded_take};
 
@@ -34,12 +35,12 @@ impl Model for Name {
 
     ghost view = { λ n. take n.len n.places };
 
-    ghost invariant = { λ n. IsPadded n.places n.len };
+    ghost invariant = { λ n. IsPadded 40 (λ d. d < 16) n.places n.len };
 
-    ghost inverse = { λ xs. record { places = padded xs; len = length xs } };
+    ghost inverse = { λ xs. record { places = padded 40 xs; len = length xs } };
 
     ghost inverse_ok = { λ n h i. record {
-      places = padded_take n.places n.len h i;
+      places = padded_take 40 (λ d. d < 16) n.places n.len h i;
       len = length-take-le n.len n.places (omega (arith, h.fits, h.all)) i;
     } };
 }
@@ -105,13 +106,13 @@ impl Name {
         requires { at < length self.now }
         ensures { result ≡ text_of_digit (slice_index self.now at) }
     {
-        let digit = self.digit(at);
-        if digit < 10 { b'0' + digit } else { 87 + digit }
+        text_of_digit(self.digit(at))
     }
 
     /// The length of the longest common prefix of two names.
     pub fn lcp(&self, other: &Name) -> usize
         ensures value { result ≡ common_prefix_len nat_eq self.now other.now }
+        ensures shared { result ≡ lcp self.now other.now }
         ensures within { result ≤ length self.now }
         ensures within_other { result ≤ length other.now }
         ensures most { result ≤ 40 }
@@ -133,6 +134,9 @@ impl Name {
     pub fn from_digits(settings: &Settings, digits: &[u8]) -> Result<Name, NameFault>
         ensures value { result ≡ name_of_digits settings.now digits.now }
         ensures valid { IfOk result (IsName settings.now) }
+
+        // Digits are taken exactly where they are a name of the settings, which is then that name.
+        ensures exact { (name : List ℕ) → ((result ≡ Ok name) ↔ ((digits.now ≡ name) × IsName settings.now name)) }
     {
         if digits.len() != settings.digits() as usize {
             return Err(NameFault::BadLength(digits.len()));
@@ -148,6 +152,14 @@ impl Name {
     }
 }
 
+/// The byte that a digit is printed as: `0` to `9`, then `a` to `f`.
+pub fn text_of_digit(digit: u8) -> u8
+    requires { digit < 16 }
+    ensures { result ≡ text_of_digit digit }
+{
+    if digit < 10 { b'0' + digit } else { 87 + digit }
+}
+
 // The value of a printed digit, and 16 where the byte is none.
 fn digit_value(byte: u8) -> u8
     ensures { result ≡ digit_of_text byte }
@@ -159,11 +171,8 @@ fn digit_value(byte: u8) -> u8
     }
 }
 
-/// The name that a text spells, one byte for each digit: `0` to `9` and `a` to `f`, below the base. Capital letters
-/// are no digits. A wrong length is found before a bad digit.
-///
-/// Rule: docs/PROTOCOL.md, "Names".
-pub fn read_name(settings: &Settings, text: &[u8]) -> Result<Name, NameFault>
+// The name that a text spells.
+fn spelled(settings: &Settings, text: &[u8]) -> Result<Name, NameFault>
     ensures value { result ≡ name_of_text settings.now text.now }
     ensures valid { IfOk result (IsName settings.now) }
 {
@@ -179,6 +188,23 @@ pub fn read_name(settings: &Settings, text: &[u8]) -> Result<Name, NameFault>
         name.push(digit);
     }
     Ok(name)
+}
+
+/// The name that a text spells, one byte for each digit: `0` to `9` and `a` to `f`, below the base. Capital letters
+/// are no digits. A wrong length is found before a bad digit.
+///
+/// Rule: docs/PROTOCOL.md, "Names".
+pub fn read_name(settings: &Settings, text: &[u8]) -> Result<Name, NameFault>
+    ensures value { result ≡ name_of_text settings.now text.now }
+    ensures valid { IfOk result (IsName settings.now) }
+
+    // A text is read exactly where it is the text of a name of the settings, as that name.
+    ensures exact { (name : List ℕ) → ((result ≡ Ok name) ↔ ((text.now ≡ text_of_name name) × IsName settings.now name)) }
+{
+    // A digit below this base prints as one byte, which is read as that digit alone.
+    let base = settings.base();
+    prove!(base <= 16);
+    spelled(settings, text)
 }
 
 impl PartialEq for Name {

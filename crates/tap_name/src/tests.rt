@@ -1,4 +1,7 @@
-use crate::{List, Name, NameFault, Offered, Settings, Slot, next_cyclic, read_name, slot_of};
+use crate::{
+    List, Name, NameFault, Offered, Settings, Slot, are_word_bytes, next_cyclic, read_name,
+    slot_of, text_of_digit,
+};
 use std::test::Fail;
 
 // Settings of base 4 with three digits, and a name of theirs.
@@ -50,6 +53,8 @@ fn tells_digits_and_slots(rt: HostRuntime) -> Result<(), Fail> {
     assert!(rt; a.len() == b.len());
     assert_eq!(rt; slot_of(&a, &b), Some(Slot { level: 1, digit: 1 }));
     assert_eq!(rt; slot_of(&a, &a), None);
+    let least = Slot { level: 0, digit: 3 };
+    assert!(rt; least < Slot { level: 1, digit: 0 } && least < Slot { level: 1, digit: 3 });
     assert_eq!(rt; (next_cyclic(4, 2), next_cyclic(4, 3)), (3, 0));
     Ok(())
 }
@@ -60,6 +65,11 @@ fn prints_letters_and_refuses_settings(rt: HostRuntime) -> Result<(), Fail> {
     let name = read_name(&settings, b"f").map_err(|_| "a name")?;
     assert!(rt; name.len() == 1);
     assert_eq!(rt; (name.digit(0), name.text_byte(0)), (15, b'f'));
+    assert_eq!(rt; text_of_digit(9), b'9');
+    assert_eq!(rt;
+        (are_word_bytes(b"node7"), are_word_bytes(b"node_7")),
+        (true, false)
+    );
     for (base, digits, width) in [
         (1, 3, 2),
         (17, 3, 2),

@@ -1,16 +1,19 @@
-ghost use Rattle.std.specs.Prelude.{◌≡◌, ◌+◌, ◌-◌, ◌/◌, ◌≤◌, length, None};
+ghost use Rattle.std.specs.Prelude.{◌≡◌, ◌+◌, ◌*◌, ◌-◌, ◌/◌, ◌≤◌, length, take, drop, None, Ok, Err, IfOk, OnOk, IfErr};
+ghost use Rattle.std.specs.Option.{option_copied};
+ghost use Rattle.tap_name.specs.Name.{IsName};
 ghost use Rattle.tap_name.specs.declared.slot.Slot.{Slot};
 ghost use Rattle.tap_name.specs.declared.slot.Offered.{Offered};
-ghost use Rattle.tap_wire.specs.Fields.{slot_at, slots_at, link_at, links_at, word_at, is_next_level, is_next_digit, is_next_name, is_word_byte};
-ghost use Rattle.std.specs.List.{list_all};
-ghost use Rattle.tap_wire.specs.Reading.{Gives};
+ghost use Rattle.tap_wire.specs.Fields.{slot_at, slots_at, link_at, links_at, word_at, is_next_level, is_next_digit, is_next_name};
+ghost use Rattle.tap_wire.specs.Layout.{slot_len, link_len};
+ghost use Rattle.tap_wire.specs.Reading.{Fails, Gives};
 
 use crate::bytes::Bytes;
 use crate::fault::{BodyFault, Broken};
-use crate::fields::{flag_at, is_word_byte, name_at};
+use crate::fields::{bad_digit, digits_at, flag_at, name_of};
+use crate::layout::{SLOT_LEN, link_len};
 use std::alloc::Global;
 use std::cmp::Ordering;
-use tap_name::{List, Name, Offered, Settings, Slot};
+use tap_name::{List, Offered, Settings, Slot, are_word_bytes};
 use tap_watch::Watch;
 
 // Whether a slot of this level may stand behind the one before.
@@ -55,6 +58,29 @@ fn slot_at(
     Ok(Slot { level, digit })
 }
 
+// Why slots aren't read where memory was refused: the first field that breaks its rule, and else want of memory.
+fn slots_fault(
+    settings: &Settings,
+    bytes: &[u8],
+    start: usize,
+    prefix: u8,
+    count: usize,
+) -> BodyFault
+    requires { start + SLOT_LEN * count ≤ length bytes.now }
+    ensures { Fails result (slots_at settings.now prefix count None start bytes.now) }
+{
+    let mut before = None;
+    let mut place = start;
+    for _ in 0..count {
+        match slot_at(settings, bytes, place, prefix, before) {
+            Ok(slot) => before = Some(slot),
+            Err(broken) => return BodyFault::Field(broken),
+        }
+        place += SLOT_LEN;
+    }
+    BodyFault::NoMemory
+}
+
 // The slots that are left.
 pub(crate) fn watch_at(
     alloc: Global,
@@ -64,47 +90,76 @@ pub(crate) fn watch_at(
     prefix: u8,
 ) -> Result<Watch, BodyFault>
     requires { start ≤ length bytes.now }
-    ensures { Gives result (slots_at settings.now prefix ((length bytes.now - start) / 2) None start bytes.now) }
+    ensures { Gives result (slots_at settings.now prefix ((length bytes.now - start) / slot_len) None start bytes.now) }
 {
-    let count = (bytes.len() - start) / 2;
-    let mut slots = Vec::with_capacity(alloc, count)?;
+    let count = (bytes.len() - start) / SLOT_LEN;
+    let mut slots = match Vec::with_capacity(alloc, count) {
+        Ok(slots) => slots,
+        Err(_) => return Err(slots_fault(settings, bytes, start, prefix, count)),
+    };
     let mut before = None;
     let mut place = start;
     for _ in 0..count {
         let slot = slot_at(settings, bytes, place, prefix, before)?;
-        slots.push(slot)?;
+        slots.push_reserved(slot);
         before = Some(slot);
-        place += 2;
+        place += SLOT_LEN;
     }
     Ok(Watch::from_vec(slots))
 }
 
-// Whether a link of this name may stand behind the name before.
-fn is_next_name(before: Option<Name>, name: &Name) -> bool
-    ensures { result ≡ is_next_name before name.now }
+// Whether a link of a name with these digits may stand behind the name before.
+#[inline(always)]
+fn is_next_name(before: Option<&[u8]>, digits: &[u8]) -> bool
+    ensures { result ≡ is_next_name (option_copied before.entry) digits.now }
 {
     match before {
         None => true,
-        Some(before) => before.cmp(name) == Ordering::Less,
+        Some(before) => before.cmp(digits) == Ordering::Less,
     }
 }
 
-// A link behind the name before.
-fn link_at(
+// Whether the link at a place, behind the name before, is settled. Its name isn't made here, but its digits are found to be
+// one.
+#[inline(always)]
+fn settled_at(
     settings: &Settings,
     bytes: &[u8],
     place: usize,
-    before: Option<Name>,
-) -> Result<Offered, Broken>
+    before: Option<&[u8]>,
+) -> Result<bool, Broken>
     requires { place + settings.now.digits + 1 ≤ length bytes.now }
-    ensures { result ≡ link_at settings.now before place bytes.now }
+    ensures ok { IfOk result (λ settled. link_at settings.now (option_copied before.entry) place bytes.now
+        ≡ Ok (record { name = take settings.now.digits (drop place bytes.now); settled = settled })) }
+    ensures name { OnOk result (IsName settings.now (take settings.now.digits (drop place bytes.now))) }
+    ensures err { IfErr result (λ broken. link_at settings.now (option_copied before.entry) place bytes.now ≡ Err broken) }
 {
-    let name = name_at(settings, bytes, place)?;
-    if !is_next_name(before, &name) {
+    let digits = digits_at(settings, bytes, place);
+    if let Some(at) = bad_digit(settings, digits) {
+        return Err(Broken { at: place + at });
+    }
+    if !is_next_name(before, digits) {
         return Err(Broken { at: place });
     }
-    let settled = flag_at(bytes, place + settings.digits() as usize)?;
-    Ok(Offered { name, settled })
+    flag_at(bytes, place + settings.digits() as usize)
+}
+
+// Why links aren't read where memory was refused: the first field that breaks its rule, and else want of memory.
+fn links_fault(settings: &Settings, bytes: &[u8], start: usize, count: usize) -> BodyFault
+    requires { start + link_len settings.now * count ≤ length bytes.now }
+    ensures { Fails result (links_at settings.now count None start bytes.now) }
+{
+    let size = link_len(settings);
+    let mut before = None;
+    let mut place = start;
+    for _ in 0..count {
+        if let Err(broken) = settled_at(settings, bytes, place, before) {
+            return BodyFault::Field(broken);
+        }
+        before = Some(digits_at(settings, bytes, place));
+        place += size;
+    }
+    BodyFault::NoMemory
 }
 
 // The links that are left.
@@ -115,27 +170,25 @@ pub(crate) fn links_at(
     start: usize,
 ) -> Result<List<Offered>, BodyFault>
     requires { start ≤ length bytes.now }
-    ensures { Gives result (links_at settings.now ((length bytes.now - start) / (settings.now.digits + 1)) None start bytes.now) }
+    ensures { Gives result (links_at settings.now ((length bytes.now - start) / link_len settings.now) None start bytes.now) }
 {
-    let size = settings.digits() as usize + 1;
+    let size = link_len(settings);
     let count = (bytes.len() - start) / size;
-    let mut links = Vec::with_capacity(alloc, count)?;
+    let mut links = match Vec::with_capacity(alloc, count) {
+        Ok(links) => links,
+        Err(_) => return Err(links_fault(settings, bytes, start, count)),
+    };
     let mut before = None;
     let mut place = start;
     for _ in 0..count {
-        let link = link_at(settings, bytes, place, before)?;
-        before = Some(link.name);
-        links.push(link)?;
+        let settled = settled_at(settings, bytes, place, before)?;
+        let digits = digits_at(settings, bytes, place);
+        let name = name_of(settings, digits);
+        links.push_reserved(Offered { name, settled });
+        before = Some(digits);
         place += size;
     }
     Ok(List::from_vec(links))
-}
-
-// Whether bytes are lower-case letters and digits alone.
-fn is_word(bytes: &[u8]) -> bool
-    ensures { result ≡ list_all is_word_byte bytes.now }
-{
-    bytes.iter().all(|byte| is_word_byte(*byte))
 }
 
 // The word that the rest of the bytes are.
@@ -144,7 +197,7 @@ pub(crate) fn word_at(alloc: Global, bytes: &[u8], start: usize) -> Result<Bytes
     ensures { Gives result (word_at start bytes.now) }
 {
     let word = &bytes[start..];
-    if !is_word(word) {
+    if !are_word_bytes(word) {
         return Err(BodyFault::Field(Broken { at: start }));
     }
     Ok(Bytes::copy_of(alloc, word)?)

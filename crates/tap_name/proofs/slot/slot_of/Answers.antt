@@ -13,6 +13,6 @@ returns-clause-none c = (
   λ h. absurd (true≢false h),
   λ same.
       let all : common_prefix_len nat_eq c.args.a.now c.args.b.now
-          ≡ length c.args.a.now = ap (common_prefix_len nat_eq c.args.a.now) (sym same) ∙ prefix_of_itself c.args.a.now in
+      ≡ length c.args.a.now = ap (common_prefix_len nat_eq c.args.a.now) (sym same) ∙ prefix_of_itself c.args.a.now in
       absurd (omega arith),
 )

@@ -9,9 +9,9 @@ returns-then-digit-base-clause-value c =
 pub returns-clause-value : goal.returns-clause-value
 returns-clause-value c =
     at_end c.args.settings.now c.args.digits.now c.loop-at.at c.loop-at.name (omega arith)
-        (omega arith) c.loop-at.invariant.below c.loop-at.invariant.name
+    (omega arith) c.loop-at.invariant.below c.loop-at.invariant.name
 
 pub returns-clause-valid : goal.returns-clause-valid
 returns-clause-valid c =
     is_name c.args.settings.now c.args.digits.now c.loop-at.at c.loop-at.name (omega arith)
-        (omega arith) c.loop-at.invariant.below c.loop-at.invariant.name
+    (omega arith) c.loop-at.invariant.below c.loop-at.invariant.name
