@@ -73,7 +73,7 @@ acknowledged-or packets packet number (Packet made frame ack ∷ log) =
     let test = nat_eq frame number in
     let both : (ack && has_number (packets ++ one) made) ≡ (before || now) =
     ap (λ b. ack && b) (list_any-append (λ other. nat_eq other made) packets one)
-        ∙ and-or ack (has_number packets made) (has_number one made) in
+    ∙ and-or ack (has_number packets made) (has_number one made) in
     any-picked (ack && has_number (packets ++ one) made) frame number (acknowledged_by_all (packets ++ one) log)
     ∙ ap (λ b. picked b test (has_number (acknowledged_by_all (packets ++ one) log) number)) both
     ∙ ap (picked (before || now) test) (acknowledged-or packets packet number log)
@@ -105,12 +105,12 @@ awaiting-arrived log packet =
     let one = packet ∷ [] in
     let all = log ++ item ∷ [] in
     ap (λ p. less (filter_map sent_number all) (acknowledged_by_all p all))
-        (told arrived_number log item ∙ ap (λ o. packets ++ at_most_one o) (arrived-arrived packet))
+    (told arrived_number log item ∙ ap (λ o. packets ++ at_most_one o) (arrived-arrived packet))
     ∙ ap (λ sent. less sent (acknowledged_by_all (packets ++ one) all)) (told-none sent_number log item (sent-arrived packet))
     ∙ ap (less (filter_map sent_number log)) (told-none (acknowledged_by (packets ++ one)) log item
     (acknowledged-arrived (packets ++ one) packet))
     ∙ filter-twice (λ n. not (has_number (acknowledged_by_all packets log) n)) (λ n. not (has_number (acknowledged_by_all one log) n))
     (λ n. not (has_number (acknowledged_by_all (packets ++ one) log) n))
     (λ n. ap not (acknowledged-or packets packet n log)
-        ∙ not_or (has_number (acknowledged_by_all packets log) n) (has_number (acknowledged_by_all one log) n))
+    ∙ not_or (has_number (acknowledged_by_all packets log) n) (has_number (acknowledged_by_all one log) n))
     (filter_map sent_number log)

@@ -118,7 +118,7 @@ core_of-first item stays none =
     ∙ ap (λ o. names_less (members_in item ++ at_most_one o) []) none
     ∙ less_by-none (pointwise nat_eq) (members_in item ++ []) ∙ append-nil (members_in item)
 
-came-push : (came told new gone ended : List (List ℕ)) (all all_gone : List (List ℕ)) → all ≡ (came ++ told) ++ new
+pub came-push : (came told new gone ended : List (List ℕ)) (all all_gone : List (List ℕ)) → all ≡ (came ++ told) ++ new
     → all_gone ≡ gone ++ ended
     → names_less all all_gone ≡ names_less (names_less (came ++ told) gone ++ names_less new gone) ended
 came-push came told new gone ended all all_gone is is_gone =
@@ -132,7 +132,7 @@ core_of-push log item none =
     came-push (members_of log) (filter_map core_name log) (at_most_one (core_name item)) (gone_of log) (at_most_one (gone_name item))
     (members_of (log ++ item ∷ []) ++ filter_map core_name (log ++ item ∷ [])) (gone_of (log ++ item ∷ []))
     (ap (λ l. l ++ filter_map core_name (log ++ item ∷ [])) (members_of-push log item none)
-        ∙ ap (λ l. members_of log ++ l) (told core_name log item)
+    ∙ ap (λ l. members_of log ++ l) (told core_name log item)
     ∙ sym (append_assoc (members_of log) (filter_map core_name log) (at_most_one (core_name item))))
     (told gone_name log item)
 
@@ -183,7 +183,7 @@ joined_of-push log item none =
     came-push (members_of log) (joins_of log) (filter_map join_name (accepted_by log item)) (gone_of log) (at_most_one (gone_name item))
     (members_of (log ++ item ∷ []) ++ joins_of (log ++ item ∷ [])) (gone_of (log ++ item ∷ []))
     (ap (λ l. l ++ joins_of (log ++ item ∷ [])) (members_of-push log item none)
-        ∙ ap (λ l. members_of log ++ l) (named-push join_name log item)
+    ∙ ap (λ l. members_of log ++ l) (named-push join_name log item)
     ∙ sym (append_assoc (members_of log) (joins_of log) (filter_map join_name (accepted_by log item))))
     (told gone_name log item)
 
@@ -201,7 +201,7 @@ numbers-push : (h k : Record → Option ℕ) (log : List Record) (item : Record)
     ≡ less (less (filter_map h log) (filter_map k log) ++ less (at_most_one (h item)) (filter_map k log)) (at_most_one (k item))
 numbers-push h k log item =
     ap (λ l. less l (filter_map k (log ++ item ∷ []))) (told h log item)
-        ∙ ap (λ l. less (filter_map h log ++ at_most_one (h item)) l) (told k log item)
+    ∙ ap (λ l. less (filter_map h log ++ at_most_one (h item)) l) (told k log item)
     ∙ less_by-more nat_eq (filter_map h log) (at_most_one (h item)) (filter_map k log) (at_most_one (k item))
 
 pub outstanding-push : (log : List Record) (item : Record)
@@ -216,7 +216,7 @@ under_way-push log item = numbers-push packet_number ended_number log item
 
 -- ---- published pairs
 
-kept_cases : (a b : Bool) (pair : Pair) (pairs ended : List Pair) → has_pair ended pair ≡ b
+pub kept_cases : (a b : Bool) (pair : Pair) (pairs ended : List Pair) → has_pair ended pair ≡ b
     → cons_option (if a || b then None else Some pair) (pairs_less pairs ended)
     ≡ pairs_less (cons_option (if a then None else Some pair) pairs) ended
 kept_cases true b pair pairs ended is = refl
@@ -232,7 +232,7 @@ kept_here later item None pairs = refl
 kept_here later item (Some pair) pairs =
     let ended = at_most_one (withdrawn_pair item) in
     let told = ap (λ l. has_pair l pair) (told withdrawn_pair later item)
-        ∙ list_any-append (λ other. same_pair other pair) (filter_map withdrawn_pair later) ended in
+    ∙ list_any-append (λ other. same_pair other pair) (filter_map withdrawn_pair later) ended in
     ap (λ b. cons_option (if b then None else Some pair) (pairs_less pairs ended)) told
     ∙ kept_cases (has_pair (filter_map withdrawn_pair later) pair) (has_pair ended pair) pair pairs ended refl
 
@@ -250,18 +250,18 @@ kept_pairs-push (first ∷ items) item =
     (at_most_one (published_pair item))
     ∙ ap (λ l. l ++ at_most_one (published_pair item)) (kept_here items item (published_pair first) (kept_pairs items))
 
-servers-more : (servers more : List (List ℕ)) (pairs : List Pair)
+pub servers-more : (servers more : List (List ℕ)) (pairs : List Pair)
     → without_servers (servers ++ more) pairs ≡ without_servers more (without_servers servers pairs)
 servers-more servers more pairs =
     filter-twice (λ pair. not (has_name servers pair.server)) (λ pair. not (has_name more pair.server))
-        (λ pair. not (has_name (servers ++ more) pair.server))
+    (λ pair. not (has_name (servers ++ more) pair.server))
     (λ pair. ap not (list_any-append (λ other. pointwise nat_eq other pair.server) servers more)
-        ∙ not_or (has_name servers pair.server) (has_name more pair.server)) pairs
+    ∙ not_or (has_name servers pair.server) (has_name more pair.server)) pairs
 
 pub published_of-push : (log : List Record) (item : Record)
     → published_of (log ++ item ∷ []) ≡ without_servers (filter_map depart_name (accepted_by log item))
     (pairs_less (published_of log) (at_most_one (withdrawn_pair item))
-        ++ without_servers (departures_of log) (at_most_one (published_pair item)))
+    ++ without_servers (departures_of log) (at_most_one (published_pair item)))
 published_of-push log item =
     let gone = departures_of log in
     let more = filter_map depart_name (accepted_by log item) in

@@ -1,5 +1,5 @@
 pub mod Gathering
-pub mod Groups
+pub mod OneMoreGroup
 pub mod Growing
 pub mod Instants
 pub mod KeptPairs
@@ -7,3 +7,6 @@ pub mod Less
 pub mod Acknowledging
 pub mod Stepwise
 pub mod Parts
+pub mod Searching
+pub mod Telling
+pub mod Ends

@@ -3,14 +3,13 @@ use Rattle.std.proofs.Common.{◌≡◌, ℕ, zero, suc, ◌+◌, ◌≤◌, Boo
 use Rattle.std.specs.Prelude.{◌&&◌, slice_get, if◌then◌else◌}
 use Rattle.std.proofs.lemmas.List.{drop-append-le, take-append-drop, take-append-le}
 use Rattle.std.proofs.lemmas.List.Elements.{All-head, All-tail}
-use Rattle.tap_name.specs.Settings.{SettingsValue}
 use Rattle.tap_log.specs.declared.record.Record.{Record}
-use Rattle.tap_log.specs.declared.record.Record.TheVariants.{Begin, Carrier, Spent}
+use Rattle.tap_log.specs.declared.record.Record.TheVariants.{Spent}
 use Rattle.tap_log.specs.Kinds.{begins_group, is_carried}
 use Rattle.tap_log.specs.Moments.{beginning, ends_before}
 use Rattle.tap_log.specs.Groups.{EachGroup, EachGroupFrom, after_beginning, beginning_of, can_be_cut, ending, ending_of, groups_of, is_ended, is_ending, is_last, is_spent, parted, records_of, with_record, without_ending}
-use Rattle.tap_log.specs.Laws.{IsGroup, LogInGroups}
-use Rattle.tap_log.proofs.Groups.{beginning_size, carried_size, is_carried-group}
+use Rattle.tap_log.specs.Laws.{IsGroup}
+use Rattle.tap_log.proofs.OneMoreGroup.{beginning_size, carried_size, is_carried-group}
 
 -- ---- the ending
 
@@ -41,7 +40,7 @@ ending-none carried [] is = refl
 ending-none carried (item ∷ []) is = ap (λ b. if b then item ∷ [] else []) is
 ending-none carried (item ∷ last ∷ []) is =
     ap (λ b. if b then item ∷ last ∷ [] else ending carried (last ∷ []))
-        (and_false (can_be_cut carried item) (is_spent last) (not_spent last is))
+    (and_false (can_be_cut carried item) (is_spent last) (not_spent last is))
     ∙ ending-none carried (last ∷ []) is
 ending-none carried (item ∷ next ∷ other ∷ items) is = ending-none carried (next ∷ other ∷ items) is
 
@@ -54,7 +53,7 @@ is_ended-tail : (item : Record) (items : List Record) → is_ended (item ∷ ite
 is_ended-tail item [] is = refl
 is_ended-tail item (next ∷ items) is = is
 
-is_ended-drop : (n : ℕ) (items : List Record) → is_ended items ≡ false → is_ended (drop n items) ≡ false
+pub is_ended-drop : (n : ℕ) (items : List Record) → is_ended items ≡ false → is_ended (drop n items) ≡ false
 is_ended-drop zero items is = is
 is_ended-drop (suc n) [] is = refl
 is_ended-drop (suc n) (item ∷ items) is = is_ended-drop n items (is_ended-tail item items is)
@@ -206,21 +205,8 @@ EachGroup-earlier P log first after group going whole each =
     let Q : List Record → Type 0 = λ b. P b (first ∷ after) in
     let Each : List Record → List (List Record) → Type 0 = λ b groups. EachGroupFrom P b groups in
     let all : EachGroupFrom P (beginning_of log) (groups_of log ++ (first ∷ after) ∷ []) =
-        subst (Each (beginning_of log)) (groups_of-group log first after group going whole)
-        (subst (λ b. Each b (groups_of (log ++ first ∷ after))) (beginning_of-group log first after group) each) in
-    (EachGroupFrom-earlier P (beginning_of log) (groups_of log) (first ∷ after) all,
-    subst Q (log_is_groups log going) (EachGroupFrom-latest P (beginning_of log) (groups_of log) (first ∷ after) all))
-
--- ---- the law
-
-groups_of-begin : (settings : SettingsValue) (frames : ℕ) (members : List (List ℕ)) → groups_of (Begin settings frames members ∷ []) ≡ []
-unfolding is_carried
-groups_of-begin settings frames members = refl
-
-groups_of-carried : (settings : SettingsValue) (frames : ℕ) (members : List (List ℕ))
-    → groups_of (Begin settings frames members ∷ Carrier ∷ []) ≡ []
-unfolding is_carried
-groups_of-carried settings frames members = refl
-
-pub log_in_groups_holds : LogInGroups
-log_in_groups_holds = record { whole = log_is_parts; none = groups_of-begin; none_carried = groups_of-carried; more = groups_of-group }
+    subst (Each (beginning_of log)) (groups_of-group log first after group going whole)
+    (subst (λ b. Each b (groups_of (log ++ first ∷ after))) (beginning_of-group log first after group) each) in (
+      EachGroupFrom-earlier P (beginning_of log) (groups_of log) (first ∷ after) all,
+      subst Q (log_is_groups log going) (EachGroupFrom-latest P (beginning_of log) (groups_of log) (first ∷ after) all),
+    )

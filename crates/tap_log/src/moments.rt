@@ -163,7 +163,7 @@ pub fn is_rest(alloc: Global, records: &[Record]) -> Result<bool, NoMemory>
 }
 
 // How many records a log begins with: `Begin`, and `Carrier` where it is carried.
-fn beginning(records: &[Record]) -> usize
+pub(crate) fn beginning(records: &[Record]) -> usize
     ensures { result ≡ beginning records.now }
 {
     if is_carried(records) { 2 } else { 1 }

@@ -10,7 +10,7 @@ use crate::record::{Pair, Record};
 use std::alloc::Global;
 use tap_name::{List, Name};
 
-fn same_pair(a: &Pair, b: &Pair) -> bool
+pub(crate) fn same_pair(a: &Pair, b: &Pair) -> bool
     ensures { result ≡ same_pair a.now b.now }
 {
     a.object == b.object && a.server == b.server

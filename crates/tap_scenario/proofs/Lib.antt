@@ -2,7 +2,6 @@ pub mod Arrays
 pub mod Casts
 pub mod Keys
 pub mod Members
-pub mod Names
 pub mod Numbers
 pub mod Scripts
 pub mod Shapes

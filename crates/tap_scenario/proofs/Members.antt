@@ -4,11 +4,12 @@ use Rattle.std.specs.Option.{ok_or, option_and_then}
 use Rattle.toml.specs.declared.value.Value.{Value}
 use Rattle.toml.specs.Data.{Members as Table}
 use Rattle.toml.specs.View.{items_view}
+use Rattle.tap_name.specs.Names.{are_distinct}
 use Rattle.tap_name.specs.Settings.{SettingsValue}
 use Rattle.tap_scenario.specs.declared.fault.Key.TheVariants.{Members}
 use Rattle.tap_scenario.specs.declared.fault.Fault.TheVariants.{BadValue}
 use Rattle.tap_scenario.specs.Document.{read_at, members_of}
-use Rattle.tap_scenario.specs.Value.{are_strings, texts_of, array_of_strings, names_of, are_distinct, distinct_names}
+use Rattle.tap_scenario.specs.Value.{are_strings, texts_of, array_of_strings, names_of, distinct_names}
 use Rattle.tap_scenario.proofs.Arrays.{length-texts_of}
 
 -- there are not as many as members can be

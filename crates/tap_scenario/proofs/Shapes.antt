@@ -4,9 +4,9 @@ use Rattle.std.specs.Option.{option_zip, option_and_then}
 use Rattle.std.proofs.lemmas.Bool.{cases_Bool}
 use Rattle.std.proofs.lemmas.Slice.Eq.{bytes_eq-Decides}
 use Rattle.tap_name.specs.Settings.{SettingsValue}
-use Rattle.tap_name.specs.Name.{IsName, text_of_name}
-use Rattle.tap_scenario.specs.Step.{name_of_word, number_below, one_name, two_names, one_number, two_numbers, only}
-use Rattle.tap_scenario.proofs.Names.{name_of_word-text, name_of_word-back}
+use Rattle.tap_name.specs.Name.{IsName, name_of_word, text_of_name}
+use Rattle.tap_scenario.specs.Step.{number_below, one_name, two_names, one_number, two_numbers, only}
+use Rattle.tap_name.proofs.Texts.{name_of_word-back, name_of_word-text}
 use Rattle.tap_scenario.proofs.Numbers.{number_below-decimal, number_below-back}
 
 pub option_map-back : {A B : Type 0} (f : A → B) (o : Option A) (y : B) → option_map f o ≡ Some y → (x : A) × (o ≡ Some x) × (f x ≡ y)

@@ -8,10 +8,11 @@ use Rattle.tap_wire.specs.declared.frame.Body.{Body}
 use Rattle.tap_wire.specs.declared.frame.Body.TheVariants.{Seek, Tell, Hello, Heard, Ack, Done, Release, Link, Lay, Find, Answer, Leave, Left, Gone, Forget, Cast, CastAck}
 use Rattle.tap_wire.specs.declared.kind.Kind.{Kind}
 use Rattle.tap_wire.specs.declared.kind.Kind.TheVariants as kinds
-use Rattle.tap_wire.specs.Kind.{kind_of, is_length, is_parts}
+use Rattle.tap_wire.specs.Kind.{kind_of}
 use Rattle.tap_wire.specs.Fields.{◌>>=◌, session_at}
 use Rattle.tap_wire.specs.Reading.{body_at}
 use Rattle.tap_wire.specs.Spelling.{optional_bytes, body_bytes, IsBody, IsTyped}
+use Rattle.tap_wire.specs.Layout.{is_length, is_parts}
 use Rattle.tap_wire.proofs.Steps.{bind_ok, bind_is, ok_is}
 use Rattle.tap_wire.proofs.Taken.{Takes}
 use Rattle.tap_wire.proofs.ShortBodies.{nothing, left, seek_again, seek_taken, alone_again, alone_taken, TakesSession, link_again, link_taken, answer_again, answer_taken, leave_again, leave_taken}
@@ -116,16 +117,16 @@ body_taken p kinds.Hello start bytes body all within long e =
     hello_taken p start bytes body all parts.least parts.whole parts.few e
 body_taken p kinds.Heard start bytes body all within long e =
     session_taken p Heard kinds.Heard start bytes body all within long
-        (λ session is. record { parts = is.parts; same = refl; rules = is.least; typed = is.fits }) e
+    (λ session is. record { parts = is.parts; same = refl; rules = is.least; typed = is.fits }) e
 body_taken p kinds.Ack start bytes body all within long e =
     session_taken p Ack kinds.Ack start bytes body all within long
-        (λ session is. record { parts = is.parts; same = refl; rules = is.least; typed = is.fits }) e
+    (λ session is. record { parts = is.parts; same = refl; rules = is.least; typed = is.fits }) e
 body_taken p kinds.Done start bytes body all within long e =
     subst (Takes p kinds.Done start bytes) (ok_is Done body e)
-        (record { parts = none_taken start bytes within long; same = refl; rules = tt; typed = tt })
+    (record { parts = none_taken start bytes within long; same = refl; rules = tt; typed = tt })
 body_taken p kinds.Release start bytes body all within long e =
     subst (Takes p kinds.Release start bytes) (ok_is Release body e)
-        (record { parts = none_taken start bytes within long; same = refl; rules = tt; typed = tt })
+    (record { parts = none_taken start bytes within long; same = refl; rules = tt; typed = tt })
 body_taken p kinds.Link start bytes body all within long e =
     link_taken p start bytes body all (omega (arith, eqb-true (length bytes - start) 5 long)) e
 body_taken p kinds.Lay start bytes body all within long e =
@@ -138,17 +139,17 @@ body_taken p kinds.Leave start bytes body all within long e =
     let either = either_length start p.digits 1 bytes within long in leave_taken p start bytes body either.0 either.1 e
 body_taken p kinds.Left start bytes body all within long e =
     subst (Takes p kinds.Left start bytes) (ok_is Left body e)
-        (record { parts = none_taken start bytes within long; same = refl; rules = tt; typed = tt })
+    (record { parts = none_taken start bytes within long; same = refl; rules = tt; typed = tt })
 body_taken p kinds.Gone start bytes body all within long e =
     subst (Takes p kinds.Gone start bytes) (ok_is Gone body e)
-        (record { parts = none_taken start bytes within long; same = refl; rules = tt; typed = tt })
+    (record { parts = none_taken start bytes within long; same = refl; rules = tt; typed = tt })
 body_taken p kinds.Forget start bytes body all within long e =
     subst (Takes p kinds.Forget start bytes) (ok_is Forget body e)
-        (record { parts = none_taken start bytes within long; same = refl; rules = tt; typed = tt })
+    (record { parts = none_taken start bytes within long; same = refl; rules = tt; typed = tt })
 body_taken p kinds.Cast start bytes body all within long e =
     let l = length bytes - start in
     let parts = and_parts (nat_le 12 l) (nat_le l 43) long in
     cast_taken p start bytes body all (omega (arith, leb-true 12 l parts.0)) (omega (arith, leb-true l 43 parts.1)) e
 body_taken p kinds.CastAck start bytes body all within long e =
     session_taken p CastAck kinds.CastAck start bytes body all within long
-        (λ session is. record { parts = is.parts; same = refl; rules = is.least; typed = is.fits }) e
+    (λ session is. record { parts = is.parts; same = refl; rules = is.least; typed = is.fits }) e

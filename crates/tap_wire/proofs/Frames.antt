@@ -1,25 +1,32 @@
 -- whole frames: read where they were written, and written as they are read
-use Rattle.std.proofs.Common.{◌≡◌, ◌<◌, ◌≤◌, ◌++◌, ◌+◌, ◌-◌, ℕ, Bool, true, false, cond, List, [], ◌∷◌, length, drop, All, Result, Ok, Err, IfOk, arith, refl, ap, sym, subst, ◌∙◌, append_assoc, length-append}
+use Rattle.std.proofs.Common.{◌≡◌, ◌<◌, ◌≤◌, ◌++◌, ◌+◌, ◌-◌, ℕ, Bool, true, false, cond, List, [], ◌∷◌, length, drop, All, Result, Ok, Err, IsOk, IfOk, IsTrue, Vec, vec_len, vec_capacity, arith, refl, ap, sym, subst, ◌∙◌, append_assoc, length-append}
 use Rattle.byteorder.specs.Endian.{big_bytes}
 use Rattle.byteorder.specs.Numbers.{length-bytes_high_first}
 use Rattle.tap_name.specs.Settings.{SettingsValue, AreWithinLimits}
+use Rattle.tap_wire.specs.declared.fault.Broken.{Broken}
+use Rattle.tap_wire.specs.declared.fault.BodyFault.{BodyFault}
 use Rattle.tap_wire.specs.declared.fault.BodyFault.TheVariants as faults
+use Rattle.tap_wire.specs.declared.fault.HeadFault.{HeadFault}
 use Rattle.tap_wire.specs.declared.fault.HeadFault.TheVariants as head
 use Rattle.tap_wire.specs.declared.fault.WireFault.{WireFault}
 use Rattle.tap_wire.specs.declared.fault.WireFault.TheVariants.{NoMemory}
 use Rattle.tap_wire.specs.declared.frame.Frame.{Frame}
+use Rattle.tap_wire.specs.declared.frame.Head.{Head}
+use Rattle.tap_wire.specs.declared.kind.Kind.{Kind}
 use Rattle.tap_wire.specs.declared.frame.Body.{Body}
 use Rattle.tap_wire.specs.declared.opening.Opening.{Opening}
 use Rattle.tap_wire.specs.Fault.{fault_of_head, fault_of_body}
-use Rattle.tap_wire.specs.Kind.{code_of, kind_of, is_length}
+use Rattle.tap_wire.specs.Kind.{code_of, kind_of, has_list}
 use Rattle.tap_wire.specs.Fields.{◌>>=◌, number_at}
-use Rattle.tap_wire.specs.Reading.{is_long, version_of, head_len, body_start, opening_of, body_at, in_frame, frame_of}
+use Rattle.tap_wire.specs.Reading.{head_of_frame, head_of, opening_of, body_at, in_frame, frame_of, Fails, WantsMemory}
 use Rattle.tap_wire.specs.Spelling.{body_bytes, spelling, IsFrame, IsTyped}
+use Rattle.tap_wire.specs.Writing.{HasRoom}
+use Rattle.tap_wire.specs.Layout.{is_length, is_long, version_of, head_len, body_start, body_len}
 use Rattle.tap_wire.proofs.Steps.{bind_ok, bind_is}
 use Rattle.tap_wire.proofs.Pieces.{moved, byte_is, past_byte, byte_taken, number_is, past_number, number_taken, name_is, past_name, name_taken}
 use Rattle.tap_wire.proofs.ShortBodies.{left}
 use Rattle.tap_wire.proofs.Bodies.{body_again, body_taken}
-use Rattle.tap_wire.proofs.Lengths.{body_length, length-body, long_body, short_enough}
+use Rattle.tap_wire.proofs.Lengths.{length-body, long_body, short_enough}
 use Rattle.tap_wire.proofs.Openings.{HasHead, count_bytes, count_is, past_count, count_taken, opening_is, opening_parts}
 
 five : (a b c d e f : List ℕ) → a ++ b ++ c ++ (d ++ e ++ f) ≡ a ++ (b ++ (c ++ (d ++ (e ++ f))))
@@ -32,13 +39,13 @@ grouped h d e f = append_assoc (h ++ d) e f ∙ append_assoc h d (e ++ f) ∙ ap
 -- a spelling piece by piece
 pub pieces : (p : SettingsValue) (frame : Frame) → spelling p frame ≡
     version_of p ∷ code_of (kind_of frame.body) ∷ (big_bytes 2 (length (body_bytes frame.body))
-        ++ (count_bytes (is_long p) p.digits ++ (frame.from ++ (frame.to ++ body_bytes frame.body))))
+    ++ (count_bytes (is_long p) p.digits ++ (frame.from ++ (frame.to ++ body_bytes frame.body))))
 pieces p frame =
     let first = version_of p ∷ code_of (kind_of frame.body) ∷ [] in
     let len = big_bytes 2 (length (body_bytes frame.body)) in
     let count = count_bytes (is_long p) p.digits in
     grouped (first ++ len ++ count) frame.from frame.to (body_bytes frame.body)
-        ∙ five first len count frame.from frame.to (body_bytes frame.body)
+    ∙ five first len count frame.from frame.to (body_bytes frame.body)
 
 -- ---- what is written is read
 
@@ -61,7 +68,7 @@ stands p frame bytes limits is spelled =
     let names = frame.from ++ (frame.to ++ B) in
     let C = count_bytes (is_long p) p.digits in
     let N = big_bytes 2 len in
-    let many : len ≡ body_length p frame.body = length-body p frame.body is.body in
+    let many : len ≡ body_len p frame.body = length-body p frame.body is.body in
     let fits : len < 65536 = omega (arith, many, short_enough p frame.body limits is.body) in
     let h0 : drop 0 bytes ≡ version_of p ∷ code ∷ (N ++ (C ++ names)) = spelled in
     let h1 : drop 1 bytes ≡ code ∷ (N ++ (C ++ names)) = past_byte bytes 0 (version_of p) (code ∷ (N ++ (C ++ names))) h0 in
@@ -80,7 +87,7 @@ stands p frame bytes limits is spelled =
     let number = length-bytes_high_first 2 len in
     let headed : 4 + length C ≡ head_len p = count_len (is_long p) p.digits in
     let whole : length bytes ≡ body_start p + len = omega
-        (arith, size, joined, counted, named, ended, number, headed, is.sender.len, is.receiver.len) in
+    (arith, size, joined, counted, named, ended, number, headed, is.sender.len, is.receiver.len) in
     record {
       head = record {
         version = byte_is bytes 0 (version_of p) (code ∷ (N ++ (C ++ names))) h0;
@@ -115,16 +122,20 @@ framed o body = Ok (record { from = o.sender; to = o.receiver; body = body })
 abbrev next_body : SettingsValue → List ℕ → Opening → Result Frame WireFault
 next_body p bytes o = in_frame (λ b. fault_of_body (faults.Field b)) (body_at p o.kind (body_start p) bytes) >>= λ body. framed o body
 
+-- what the head of a frame says
+abbrev headed : Opening → Result Head HeadFault
+headed o = Ok (record { kind = code_of o.kind; from = o.sender; to = o.receiver })
+
 frame_is : (p : SettingsValue) (frame : Frame) (bytes : List ℕ) → AreWithinLimits p → IsFrame p frame → IsTyped frame.body
     → Stands p frame bytes → frame_of p bytes ≡ Ok frame
 frame_is p frame bytes limits is typed h =
     let o : Opening = record { kind = kind_of frame.body; sender = frame.from; receiver = frame.to } in
     let opened = in_frame_is fault_of_head (opening_of p bytes) o (opening_is p bytes o (length (body_bytes frame.body)) h.head) in
     let read = in_frame_is (λ b. fault_of_body (faults.Field b)) (body_at p (kind_of frame.body) (body_start p) bytes) frame.body
-        (body_again p (body_start p) bytes frame.body limits h.within is.body typed h.body) in
+    (body_again p (body_start p) bytes frame.body limits h.within is.body typed h.body) in
     bind_is (in_frame fault_of_head (opening_of p bytes)) (next_body p bytes) o (Ok frame) opened
     (bind_is (in_frame (λ b. fault_of_body (faults.Field b)) (body_at p (kind_of frame.body) (body_start p) bytes)) (framed o) frame.body
-        (Ok frame) read refl)
+    (Ok frame) read refl)
 
 pub reads_back : (p : SettingsValue) (frame : Frame) → AreWithinLimits p → IsFrame p frame → IsTyped frame.body
     → frame_of p (spelling p frame) ≡ Ok frame
@@ -160,23 +171,27 @@ frame_taken p bytes o body limits all h e =
     let receiver = name_taken head.BadDigit p bytes (head_len p + p.digits) o.receiver (omega (arith, h.whole)) h.receiver in
     let same : head_len p + p.digits + p.digits ≡ start = omega arith in
     let t5 : drop (head_len p + p.digits) bytes ≡ o.receiver ++ B = receiver.0
-        ∙ ap (λ (xs : List ℕ). o.receiver ++ xs) (ap (λ k. drop k bytes) same ∙ read.parts) in
+    ∙ ap (λ (xs : List ℕ). o.receiver ++ xs) (ap (λ k. drop k bytes) same ∙ read.parts) in
     let t4 : drop (head_len p) bytes ≡ names = sender.0 ∙ ap (λ (xs : List ℕ). o.sender ++ xs) t5 in
     let t3 : drop 4 bytes ≡ C ++ names = count_taken (is_long p) p.digits bytes (omega (arith, h.whole)) h.count
-        ∙ ap (λ (xs : List ℕ). C ++ xs) t4 in
+    ∙ ap (λ (xs : List ℕ). C ++ xs) t4 in
     let t2 : drop 2 bytes ≡ N ++ (C ++ names) = number_taken bytes 2 2 all (omega (arith, h.whole, four_most p))
-        ∙ ap (λ (xs : List ℕ). N ++ xs) t3 in
+    ∙ ap (λ (xs : List ℕ). N ++ xs) t3 in
     let t1 : drop 1 bytes ≡ code_of o.kind ∷ (N ++ (C ++ names)) = byte_taken bytes 1 (omega (arith, h.whole, four_most p))
-        ∙ ap (λ x. x ∷ drop 2 bytes) h.kind ∙ ap (λ (xs : List ℕ). code_of o.kind ∷ xs) t2 in
+    ∙ ap (λ x. x ∷ drop 2 bytes) h.kind ∙ ap (λ (xs : List ℕ). code_of o.kind ∷ xs) t2 in
     let t0 : bytes ≡ version_of p ∷ code_of o.kind ∷ (N ++ (C ++ names)) =
     byte_taken bytes 0 (omega (arith, h.whole, four_most p)) ∙ ap (λ x. x ∷ drop 1 bytes) h.version
-        ∙ ap (λ (xs : List ℕ). version_of p ∷ xs) t1 in
+    ∙ ap (λ (xs : List ℕ). version_of p ∷ xs) t1 in
     let kinds : code_of o.kind ≡ code_of (kind_of body) = ap code_of (sym read.same) in
     let spelled : bytes ≡ version_of p ∷ code_of (kind_of body) ∷ (big_bytes 2 (length B) ++ (C ++ names)) =
     t0 ∙ ap (λ k. version_of p ∷ k ∷ (N ++ (C ++ names))) kinds
-        ∙ ap (λ l. version_of p ∷ code_of (kind_of body) ∷ (big_bytes 2 l ++ (C ++ names))) size in
-    record { parts = spelled ∙ sym (pieces p frame); rules = record { sender = sender.1; receiver = receiver.1; body = read.rules }; typed =
-        read.typed }
+    ∙ ap (λ l. version_of p ∷ code_of (kind_of body) ∷ (big_bytes 2 l ++ (C ++ names))) size in
+    record {
+      parts = spelled ∙ sym (pieces p frame);
+      rules = record { sender = sender.1; receiver = receiver.1; body = read.rules };
+      typed =
+          read.typed;
+    }
   where
     four_of : (long : Bool) → 4 ≤ cond {A = ℕ} long 5 4
     four_of true = omega arith
@@ -195,7 +210,7 @@ spelled_so p frame bytes limits all e =
     let read = in_frame_ok (λ b. fault_of_body (faults.Field b)) (body_at p a.0.kind (body_start p) bytes) b.0 b.1 in
     let taken = frame_taken p bytes a.0 b.0 limits all h read in
     let all_of : Taken p bytes frame = subst (Taken p bytes)
-        (frame_same (record { from = a.0.sender; to = a.0.receiver; body = b.0 }) frame b.2) taken in
+    (frame_same (record { from = a.0.sender; to = a.0.receiver; body = b.0 }) frame b.2) taken in
     (all_of.parts, all_of.rules, all_of.typed)
 
 -- what an answer says of its frame
@@ -204,3 +219,69 @@ pub is_found : (p : SettingsValue) (bytes : List ℕ) (r : Result Frame WireFaul
     → IfOk r (λ frame. IsFrame p frame × (bytes ≡ spelling p frame))
 is_found p bytes (Ok frame) limits all given = let is = spelled_so p frame bytes limits all (sym (given (λ e. cc))) in (is.1, is.0)
 is_found p bytes (Err fault) limits all given = tt
+
+-- ---- how long a spelling is
+
+pub length-spelling : (p : SettingsValue) (frame : Frame) → AreWithinLimits p → IsFrame p frame
+    → length (spelling p frame) ≡ body_start p + length (body_bytes frame.body)
+length-spelling p frame limits is = let h = stands p frame (spelling p frame) limits is (pieces p frame) in h.head.whole
+
+-- room for a head, two names and so many bytes of a body has room for the spelling
+pub spelling_fits : {A : Type 0} (p : SettingsValue) (frame : Frame) (len : ℕ) (out : Vec ℕ A) → AreWithinLimits p → IsFrame p frame
+    → len ≡ length (body_bytes frame.body) → vec_len out + (body_start p + len) ≤ vec_capacity out → HasRoom out (spelling p frame)
+spelling_fits p frame len out limits is same room = omega (arith, length-spelling p frame limits is, same, room)
+
+-- ---- heads
+
+-- the head of a frame's spelling is that frame's
+pub head_reads_back : (p : SettingsValue) (frame : Frame) → AreWithinLimits p → IsFrame p frame
+    → head_of p (spelling p frame) ≡ Ok (head_of_frame frame)
+head_reads_back p frame limits is =
+    let bytes = spelling p frame in
+    let o : Opening = record { kind = kind_of frame.body; sender = frame.from; receiver = frame.to } in
+    let h = stands p frame bytes limits is (pieces p frame) in
+    bind_is (opening_of p bytes) headed o (Ok (head_of_frame frame)) (opening_is p bytes o (length (body_bytes frame.body)) h.head) refl
+
+-- the head of bytes that are a frame is that frame's
+pub head_read : (p : SettingsValue) (bytes : List ℕ) (frame : Frame) → AreWithinLimits p → All (λ b. b < 256) bytes
+    → frame_of p bytes ≡ Ok frame → head_of p bytes ≡ Ok (head_of_frame frame)
+head_read p bytes frame limits all read =
+    let is = spelled_so p frame bytes limits all read in ap (head_of p) is.0 ∙ head_reads_back p frame limits is.1
+
+-- so what was read of it is that frame's head
+pub head_whole : (p : SettingsValue) (bytes : List ℕ) (o : Opening) (frame : Frame) → AreWithinLimits p → All (λ b. b < 256) bytes
+    → opening_of p bytes ≡ Ok o → frame_of p bytes ≡ Ok frame → headed o ≡ Ok (head_of_frame frame)
+head_whole p bytes o frame limits all opened read =
+    sym (bind_is (opening_of p bytes) headed o (headed o) opened refl) ∙ head_read p bytes frame limits all read
+
+-- ---- want of memory
+
+-- a fault alone is told from a fault as an answer
+pub only_fault : (x y : WireFault) → ◌≡◌ {A = Result Frame WireFault} (Err x) (Err y) → x ≡ y
+only_fault x y e = cc
+
+-- the frame whose body is read has a list where its kind has one
+listed : (p : SettingsValue) (bytes : List ℕ) (o : Opening) (read : Result Body Broken) → AreWithinLimits p → All (λ b. b < 256) bytes
+    → opening_of p bytes ≡ Ok o → body_at p o.kind (body_start p) bytes ≡ read → IsOk read → IsTrue (has_list o.kind)
+    → WantsMemory (frame_of p bytes)
+listed p bytes o (Err broken) limits all opened e ok list = absurd cc
+listed p bytes o (Ok body) limits all opened e ok list =
+    let h = opening_parts p bytes o opened in
+    let long : length bytes - body_start p ≡ number_at 2 2 bytes = omega (arith, h.whole) in
+    let taken = body_taken p o.kind (body_start p) bytes body all (omega (arith, h.whole)) (ap (is_length p o.kind) long ∙ h.possible) e in
+    let read : frame_of p bytes ≡ framed o body =
+    bind_is (in_frame fault_of_head (opening_of p bytes)) (next_body p bytes) o (framed o body)
+    (in_frame_is fault_of_head (opening_of p bytes) o opened)
+    (bind_is (in_frame (λ b. fault_of_body (faults.Field b)) (body_at p o.kind (body_start p) bytes)) (framed o) body (framed o body)
+    (in_frame_is (λ b. fault_of_body (faults.Field b)) (body_at p o.kind (body_start p) bytes) body e) refl) in
+    let Q : Kind → Type 0 = λ kind. IsTrue (has_list kind) in
+    subst WantsMemory (sym read) (subst Q (sym taken.same) list)
+
+-- want of memory comes in place of a frame with a list alone
+pub wanting : (p : SettingsValue) (bytes : List ℕ) (o : Opening) (fault : BodyFault) → AreWithinLimits p → All (λ b. b < 256) bytes
+    → opening_of p bytes ≡ Ok o → Fails fault (body_at p o.kind (body_start p) bytes)
+    → (◌≡◌ {A = Result Body BodyFault} (Err fault) (Err faults.NoMemory) → IsTrue (has_list o.kind)) → fault_of_body fault ≡ NoMemory
+    → WantsMemory (frame_of p bytes)
+wanting p bytes o (faults.Field broken) limits all opened fails list want = absurd cc
+wanting p bytes o faults.NoMemory limits all opened fails list want =
+    listed p bytes o (body_at p o.kind (body_start p) bytes) limits all opened refl fails (list refl)

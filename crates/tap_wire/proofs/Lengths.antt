@@ -9,33 +9,10 @@ use Rattle.tap_name.specs.Settings.{SettingsValue, AreWithinLimits}
 use Rattle.tap_name.specs.Name.{IsName}
 use Rattle.tap_wire.specs.declared.frame.Body.{Body}
 use Rattle.tap_wire.specs.declared.frame.Body.TheVariants.{Seek, Tell, Hello, Heard, Ack, Done, Release, Link, Lay, Find, Answer, Leave, Left, Gone, Forget, Cast, CastAck}
-use Rattle.tap_wire.specs.Kind.{kind_of, is_length, is_parts}
+use Rattle.tap_wire.specs.Kind.{kind_of}
 use Rattle.tap_wire.specs.Spelling.{flag, slot_bytes, link_bytes, optional_bytes, body_bytes, IsBody}
+use Rattle.tap_wire.specs.Layout.{is_length, is_parts, name_len, body_len}
 use Rattle.tap_wire.proofs.ListBodies.{length-slots, length-links, quotient}
-
-abbrev pub optional_length : SettingsValue → Option (List ℕ) → ℕ
-optional_length p None = 1
-optional_length p (Some name) = p.digits + 1
-
--- the number of bytes of a body
-abbrev pub body_length : SettingsValue → Body → ℕ
-body_length p (Seek joiner) = p.digits
-body_length p (Tell joiner prefix level session depth watch) = p.digits + 8 + 2 * length watch
-body_length p (Hello session core links) = 5 + (p.digits + 1) * length links
-body_length p (Heard session) = 4
-body_length p (Ack session) = 4
-body_length p Done = 0
-body_length p Release = 0
-body_length p (Link version on) = 5
-body_length p (Lay object server level version on) = 2 * p.digits + 6
-body_length p (Find ticket object asker level) = 2 * p.digits + 5
-body_length p (Answer ticket server) = 4 + optional_length p server
-body_length p (Leave replacement) = optional_length p replacement
-body_length p Left = 0
-body_length p Gone = 0
-body_length p Forget = 0
-body_length p (Cast cast level session depth word) = 11 + length word
-body_length p (CastAck session) = 4
 
 -- ---- the bytes of a body are as many
 
@@ -49,12 +26,12 @@ five_parts : (a b c d e : List ℕ) → length (a ++ b ++ c ++ d ++ e) ≡ lengt
 five_parts a b c d e = omega (arith, length-append (a ++ b ++ c ++ d) e, four_parts a b c d)
 
 pub length-optional : (p : SettingsValue) (name : Option (List ℕ)) → IfSome name (IsName p)
-    → length (optional_bytes name) ≡ optional_length p name
+    → length (optional_bytes name) ≡ 1 + name_len p name
 length-optional p None is = refl
 length-optional p (Some name) is = omega (arith, is.len)
 
-pub length-body : (p : SettingsValue) (body : Body) → IsBody p body → length (body_bytes body) ≡ body_length p body
-length-body p (Seek joiner) is = is.len
+pub length-body : (p : SettingsValue) (body : Body) → IsBody p body → length (body_bytes body) ≡ body_len p body
+length-body p (Seek joiner) is = omega (arith, is.len)
 length-body p (Tell joiner prefix level session depth watch) is =
     omega (
       arith,
@@ -65,16 +42,25 @@ length-body p (Tell joiner prefix level session depth watch) is =
       length-slots watch,
     )
 length-body p (Hello session core links) is =
-    omega (arith, three_parts (big_bytes 4 session) (flag core ∷ []) (flat_map link_bytes links), length-bytes_high_first 4 session,
-        length-links p links is.1.names)
+    omega (
+      arith,
+      three_parts (big_bytes 4 session) (flag core ∷ []) (flat_map link_bytes links),
+      length-bytes_high_first 4 session,
+      length-links p links is.1.names,
+    )
 length-body p (Heard session) is = length-bytes_high_first 4 session
 length-body p (Ack session) is = length-bytes_high_first 4 session
 length-body p Done is = refl
 length-body p Release is = refl
 length-body p (Link version on) is = omega (arith, length-append (big_bytes 4 version) (flag on ∷ []), length-bytes_high_first 4 version)
 length-body p (Lay object server level version on) is =
-    omega (arith, five_parts object server (level ∷ []) (big_bytes 4 version) (flag on ∷ []), is.0.len, is.1.len,
-        length-bytes_high_first 4 version)
+    omega (
+      arith,
+      five_parts object server (level ∷ []) (big_bytes 4 version) (flag on ∷ []),
+      is.0.len,
+      is.1.len,
+      length-bytes_high_first 4 version,
+    )
 length-body p (Find ticket object asker level) is =
     omega (arith, four_parts (big_bytes 4 ticket) object asker (level ∷ []), is.0.len, is.1.len, length-bytes_high_first 4 ticket)
 length-body p (Answer ticket server) is =
@@ -84,8 +70,13 @@ length-body p Left is = refl
 length-body p Gone is = refl
 length-body p Forget is = refl
 length-body p (Cast cast level session depth word) is =
-    omega (arith, five_parts (big_bytes 4 cast) (level ∷ []) (big_bytes 4 session) (big_bytes 2 depth) word, length-bytes_high_first 4 cast,
-        length-bytes_high_first 4 session, length-bytes_high_first 2 depth)
+    omega (
+      arith,
+      five_parts (big_bytes 4 cast) (level ∷ []) (big_bytes 4 session) (big_bytes 2 depth) word,
+      length-bytes_high_first 4 cast,
+      length-bytes_high_first 4 session,
+      length-bytes_high_first 2 depth,
+    )
 length-body p (CastAck session) is = length-bytes_high_first 4 session
 
 -- ---- and its kind may have so many
@@ -98,15 +89,15 @@ parts_hold fixed size most count len positive few e =
     let whole : (len - fixed) % size ≡ 0 = omega (arith, div-add-mod (len - fixed) size, product, rest) in
     and_from (nat_le fixed len) (eqb ((len - fixed) % size) 0 && nat_le ((len - fixed) / size) most) (le-leb fixed len (omega (arith, e)))
     (and_from (eqb ((len - fixed) % size) 0) (nat_le ((len - fixed) / size) most) (eq-eqb ((len - fixed) % size) 0 whole)
-        (le-leb ((len - fixed) / size) most (omega (arith, many, few))))
+    (le-leb ((len - fixed) / size) most (omega (arith, many, few))))
 
 or_second : (a b : Bool) → b ≡ true → (a || b) ≡ true
 or_second true b e = refl
 or_second false b e = e
 
 pub long_body : (p : SettingsValue) (body : Body) → AreWithinLimits p → IsBody p body
-    → is_length p (kind_of body) (body_length p body) ≡ true
-long_body p (Seek joiner) limits is = eq-eqb p.digits p.digits refl
+    → is_length p (kind_of body) (body_len p body) ≡ true
+long_body p (Seek joiner) limits is = eq-eqb (p.digits + 0) p.digits (omega arith)
 long_body p (Tell joiner prefix level session depth watch) limits is =
     parts_hold (p.digits + 8) 2 (p.digits * (p.base - 1)) (length watch) (p.digits + 8 + 2 * length watch) (omega arith) is.slots.few refl
 long_body p (Hello session core links) limits is =
@@ -116,27 +107,27 @@ long_body p (Ack session) limits is = refl
 long_body p Done limits is = refl
 long_body p Release limits is = refl
 long_body p (Link version on) limits is = refl
-long_body p (Lay object server level version on) limits is = eq-eqb (2 * p.digits + 6) (2 * p.digits + 6) refl
-long_body p (Find ticket object asker level) limits is = eq-eqb (2 * p.digits + 5) (2 * p.digits + 5) refl
+long_body p (Lay object server level version on) limits is = eq-eqb (2 * p.digits + 6 + 0) (2 * p.digits + 6) (omega arith)
+long_body p (Find ticket object asker level) limits is = eq-eqb (2 * p.digits + 5 + 0) (2 * p.digits + 5) (omega arith)
 long_body p (Answer ticket None) limits is = refl
 long_body p (Answer ticket (Some name)) limits is =
-    let len = 4 + (p.digits + 1) in or_second (eqb len 5) (eqb len (p.digits + 5)) (eq-eqb len (p.digits + 5) (omega arith))
+    let len = 5 + p.digits in or_second (eqb len 5) (eqb len (p.digits + 5)) (eq-eqb len (p.digits + 5) (omega arith))
 long_body p (Leave None) limits is = refl
 long_body p (Leave (Some name)) limits is =
-    let len = p.digits + 1 in or_second (eqb len 1) (eqb len (p.digits + 1)) (eq-eqb len (p.digits + 1) refl)
+    let len = 1 + p.digits in or_second (eqb len 1) (eqb len (p.digits + 1)) (eq-eqb len (p.digits + 1) (omega arith))
 long_body p Left limits is = refl
 long_body p Gone limits is = refl
 long_body p Forget limits is = refl
 long_body p (Cast cast level session depth word) limits is =
     let len = 11 + length word in
-    and_from (nat_le 12 len) (nat_le len 43) (le-leb 12 len (omega (arith, is.2.least))) (le-leb len 43 (omega (arith, is.2.most)))
+    and_from (nat_le 12 len) (nat_le len 43) (le-leb 12 len (omega (arith, is.2.some))) (le-leb len 43 (omega (arith, is.2.few)))
 long_body p (CastAck session) limits is = refl
 
 product_most : (a b c d : ℕ) → a ≤ c → b ≤ d → a * b ≤ c * d
 product_most a b c d h k = grind arith
 
 -- a length that a kind may have fits two bytes
-pub short_enough : (p : SettingsValue) (body : Body) → AreWithinLimits p → IsBody p body → body_length p body < 65536
+pub short_enough : (p : SettingsValue) (body : Body) → AreWithinLimits p → IsBody p body → body_len p body < 65536
 short_enough p (Seek joiner) limits is = omega (arith, limits.digits_to)
 short_enough p (Tell joiner prefix level session depth watch) limits is =
     omega (arith, is.slots.few, limits.digits_to, product_most p.digits (p.base - 1) 40 15 limits.digits_to (omega (arith, limits.base_to)))
@@ -156,5 +147,5 @@ short_enough p (Leave (Some name)) limits is = omega (arith, limits.digits_to)
 short_enough p Left limits is = omega arith
 short_enough p Gone limits is = omega arith
 short_enough p Forget limits is = omega arith
-short_enough p (Cast cast level session depth word) limits is = omega (arith, is.2.most)
+short_enough p (Cast cast level session depth word) limits is = omega (arith, is.2.few)
 short_enough p (CastAck session) limits is = omega arith

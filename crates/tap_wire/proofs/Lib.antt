@@ -1,3 +1,4 @@
+pub mod Appending
 pub mod Codes
 pub mod Steps
 pub mod Numbers

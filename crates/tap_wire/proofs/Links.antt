@@ -59,10 +59,10 @@ link_is p before place bytes rest l is rises here =
     let settled = flag_is (place + p.digits) bytes l.settled (byte_is bytes (place + p.digits) (flag l.settled) rest after) in
     let last : List ℕ → Bool → Result Offered Broken = λ name settled. Ok (record { name = name; settled = settled }) in
     bind_is (name_at p place bytes) (λ name. field (is_next_name before name) place name >>= λ name. flag_at (place + p.digits) bytes >>=
-        λ settled. last name settled) l.name (Ok l)
+    λ settled. last name settled) l.name (Ok l)
     (name_is (λ at. record { at = at }) p bytes place l.name (flag l.settled ∷ rest) is here)
     (bind_is (field (is_next_name before l.name) place l.name)
-        (λ name. flag_at (place + p.digits) bytes >>= λ settled. last name settled) l.name (Ok l)
+    (λ name. flag_at (place + p.digits) bytes >>= λ settled. last name settled) l.name (Ok l)
     (field_is (is_next_name before l.name) place l.name rises)
     (bind_is (flag_at (place + p.digits) bytes) (λ settled. last l.name settled) l.settled (Ok l) settled refl))
 
@@ -74,11 +74,11 @@ links_again p (l ∷ ls) before place bytes rest follow here =
     let after = flat_map link_bytes ls ++ rest in
     let split : drop place bytes ≡ l.name ++ (flag l.settled ∷ after) =
     here ∙ ap (λ (xs : List ℕ). xs ++ rest) (flat_map-cons link_bytes l ls) ∙ append_assoc (link_bytes l) (flat_map link_bytes ls) rest
-        ∙ append_assoc l.name (flag l.settled ∷ []) after in
+    ∙ append_assoc l.name (flag l.settled ∷ []) after in
     let second = past_name p bytes place l.name (flag l.settled ∷ after) follow.0 split in
     let third = past_byte bytes (place + p.digits) (flag l.settled) after second in
     bind_is (link_at p before place bytes) (λ link. links_at p (length ls) (Some link.name) (place + p.digits + 1) bytes >>=
-        λ links. Ok (link ∷ links)) l (Ok (l ∷ ls))
+    λ links. Ok (link ∷ links)) l (Ok (l ∷ ls))
     (link_is p before place bytes after l follow.0 follow.1 split)
     (bind_is (links_at p (length ls) (Some l.name) (place + p.digits + 1) bytes) (λ links. Ok (l ∷ links)) ls (Ok (l ∷ ls))
     (links_again p ls (Some l.name) (place + p.digits + 1) bytes rest follow.2 third) refl)
@@ -102,9 +102,9 @@ link_taken : (p : SettingsValue) (before : Option (List ℕ)) (place : ℕ) (byt
 link_taken p before place bytes l room e =
     let last : List ℕ → Bool → Result Offered Broken = λ name settled. Ok (record { name = name; settled = settled }) in
     let a = bind_ok (name_at p place bytes) (λ name. field (is_next_name before name) place name >>=
-        λ name. flag_at (place + p.digits) bytes >>= λ settled. last name settled) l e in
+    λ name. flag_at (place + p.digits) bytes >>= λ settled. last name settled) l e in
     let b = bind_ok (field (is_next_name before a.0) place a.0)
-        (λ name. flag_at (place + p.digits) bytes >>= λ settled. last name settled) l a.2 in
+    (λ name. flag_at (place + p.digits) bytes >>= λ settled. last name settled) l a.2 in
     let c = bind_ok (flag_at (place + p.digits) bytes) (λ settled. last b.0 settled) l b.2 in
     let rises = field_ok (is_next_name before a.0) place a.0 b.0 b.1 in
     let named = name_taken (λ at. record { at = at }) p bytes place a.0 (omega arith) a.1 in
@@ -115,8 +115,12 @@ link_taken p before place bytes l room e =
     let whole : drop place bytes ≡ b.0 ++ (flag c.0 ∷ drop (place + p.digits + 1) bytes) =
     named.0 ∙ ap (λ (xs : List ℕ). a.0 ++ xs) second ∙ ap (λ (xs : List ℕ). xs ++ (flag c.0 ∷ drop (place + p.digits + 1) bytes)) rises.1 in
     subst (TakesOne p before place bytes) (ok_is made l c.2)
-    (record { parts = whole; name = subst (IsName p) rises.1 named.1; rises =
-        subst (λ name. is_next_name before name ≡ true) rises.1 rises.0 })
+    (record {
+      parts = whole;
+      name = subst (IsName p) rises.1 named.1;
+      rises =
+          subst (λ name. is_next_name before name ≡ true) rises.1 rises.0;
+    })
 
 pub links_taken : (p : SettingsValue) (count : ℕ) (before : Option (List ℕ)) (place : ℕ) (bytes : List ℕ) (ls : List Offered)
     → place + (p.digits + 1) * count ≤ length bytes
@@ -130,7 +134,7 @@ links_taken p (suc count) before place bytes ls room e =
     let size = (p.digits + 1) * count in
     let product : (p.digits + 1) * suc count ≡ size + (p.digits + 1) = grind arith in
     let a = bind_ok (link_at p before place bytes) (λ link. links_at p count (Some link.name) (place + p.digits + 1) bytes >>=
-        λ links. Ok (link ∷ links)) ls e in
+    λ links. Ok (link ∷ links)) ls e in
     let l = a.0 in
     let b = bind_ok (links_at p count (Some l.name) (place + p.digits + 1) bytes) (λ links. Ok (l ∷ links)) ls a.2 in
     let one = link_taken p before place bytes l (omega (arith, product)) a.1 in
@@ -138,14 +142,14 @@ links_taken p (suc count) before place bytes ls room e =
     let after = drop (place + (p.digits + 1) * suc count) bytes in
     let last : drop (place + p.digits + 1 + size) bytes ≡ after = ap (λ k. drop k bytes) (omega (arith, product)) in
     let rest : drop (place + p.digits + 1) bytes ≡ flat_map link_bytes b.0 ++ after = more.parts
-        ∙ ap (λ (xs : List ℕ). flat_map link_bytes b.0 ++ xs) last in
+    ∙ ap (λ (xs : List ℕ). flat_map link_bytes b.0 ++ xs) last in
     let whole : drop place bytes ≡ flat_map link_bytes (l ∷ b.0) ++ after =
     one.parts ∙ ap (λ (xs : List ℕ). l.name ++ (flag l.settled ∷ xs)) rest
-        ∙ sym (append_assoc l.name (flag l.settled ∷ []) (flat_map link_bytes b.0 ++ after))
+    ∙ sym (append_assoc l.name (flag l.settled ∷ []) (flat_map link_bytes b.0 ++ after))
     ∙ sym (append_assoc (link_bytes l) (flat_map link_bytes b.0) after)
     ∙ ap (λ (xs : List ℕ). xs ++ after) (sym (flat_map-cons link_bytes l b.0)) in
     subst (Takes p (suc count) before place bytes) (ok_is (l ∷ b.0) ls b.2)
-        (record { parts = whole; many = ap suc more.many; follow = (one.name, one.rises, more.follow) })
+    (record { parts = whole; many = ap suc more.many; follow = (one.name, one.rises, more.follow) })
 
 -- ---- the rules of links one by one, and of all
 
@@ -165,7 +169,7 @@ pub follow_ascends : (p : SettingsValue) (before : Option (List ℕ)) (ls : List
 follow_ascends p before [] follow = λ i j d lt within. absurd (omega arith)
 follow_ascends p before (l ∷ ls) follow =
     AllPairs-cons (λ a b. name_cmp a.name b.name ≡ Less) l ls (follow_behind p l.name ls follow.2)
-        (follow_ascends p (Some l.name) ls follow.2)
+    (follow_ascends p (Some l.name) ls follow.2)
 
 -- the first of these links stands behind the one before
 abbrev FirstBehind : Option (List ℕ) → List Offered → Type 0

@@ -33,8 +33,12 @@ use Rattle.tap_wire.proofs.LongBodies.{same_place}
 pub length-slots : (ss : List Slot) → length (flat_map slot_bytes ss) ≡ 2 * length ss
 length-slots [] = refl
 length-slots (s ∷ ss) =
-    omega (arith, ap (λ (xs : List ℕ). length xs) (flat_map-cons slot_bytes s ss), length-append (slot_bytes s) (flat_map slot_bytes ss),
-        length-slots ss)
+    omega (
+      arith,
+      ap (λ (xs : List ℕ). length xs) (flat_map-cons slot_bytes s ss),
+      length-append (slot_bytes s) (flat_map slot_bytes ss),
+      length-slots ss,
+    )
 
 -- the prefix and the level of a Tell
 prefix_is : (p : SettingsValue) (place : ℕ) (bytes : List ℕ) (prefix : ℕ) → slice_index bytes place ≡ prefix → prefix < p.digits
@@ -81,7 +85,7 @@ tell_again p start bytes joiner prefix level session depth watch is ascending fi
     let h4 = moved bytes (D ++ W) (at + 2 + 4) (at + 6) (omega arith) (past_number bytes (at + 2) 4 session (D ++ W) h3) in
     let h5 = moved bytes W (at + 6 + 2) (at + 8) (omega arith) (past_number bytes (at + 6) 2 depth W h4) in
     let long : length bytes - (at + 8) ≡ 2 * length watch = sym (length-drop (at + 8) bytes) ∙ ap (λ (xs : List ℕ). length xs) h5
-        ∙ length-slots watch in
+    ∙ length-slots watch in
     let count : (length bytes - (at + 8)) / 2 ≡ length watch = omega (arith, long) in
     let follow = slots.follow_from p.base prefix None watch tt is.slots.levels is.slots.digits ascending in
     let e0 = name_is (λ at. record { at = at }) p bytes start joiner (prefix ∷ level ∷ (S ++ (D ++ W))) is.joiner_is h0 in
@@ -91,21 +95,21 @@ tell_again p start bytes joiner prefix level session depth watch is ascending fi
     let e4 = number_is bytes (at + 6) 2 depth W fits1 h4 in
     let e5 : slots_at p prefix ((length bytes - (at + 8)) / 2) None (at + 8) bytes ≡ Ok watch =
     ap (λ k. slots_at p prefix k None (at + 8) bytes) count
-        ∙ slots.slots_again p prefix watch None (at + 8) bytes [] follow (ends bytes W (at + 8) h5) in
+    ∙ slots.slots_again p prefix watch None (at + 8) bytes [] follow (ends bytes W (at + 8) h5) in
     let whole : Result Body Broken = Ok (Tell joiner prefix level session depth watch) in
     let made : List ℕ → ℕ → ℕ → ℕ → List Slot → Result Body Broken =
-        λ joiner prefix level session watch. Ok (Tell joiner prefix level session (number_at 2 (at + 6) bytes) watch) in
+    λ joiner prefix level session watch. Ok (Tell joiner prefix level session (number_at 2 (at + 6) bytes) watch) in
     let slots_next : ℕ → Result (List Slot) Broken = λ prefix. slots_at p prefix ((length bytes - (at + 8)) / 2) None (at + 8) bytes in
     bind_is (name_at p start bytes) (λ joiner. prefix_at p at bytes >>= λ prefix. level_above_at p prefix (at + 1) bytes >>=
-        λ level. session_at (at + 2) bytes >>= λ session. slots_next prefix >>= λ watch. made joiner prefix level session watch) joiner
-            whole e0
+    λ level. session_at (at + 2) bytes >>= λ session. slots_next prefix >>= λ watch. made joiner prefix level session watch) joiner
+    whole e0
     (bind_is (prefix_at p at bytes) (λ prefix. level_above_at p prefix (at + 1) bytes >>= λ level. session_at (at + 2) bytes >>=
-        λ session. slots_next prefix >>= λ watch. made joiner prefix level session watch) prefix whole e1
+    λ session. slots_next prefix >>= λ watch. made joiner prefix level session watch) prefix whole e1
     (bind_is (level_above_at p prefix (at + 1) bytes) (λ level. session_at (at + 2) bytes >>= λ session. slots_next prefix >>=
-        λ watch. made joiner prefix level session watch) level whole e2
+    λ watch. made joiner prefix level session watch) level whole e2
     (bind_is (session_at (at + 2) bytes) (λ session. slots_next prefix >>= λ watch. made joiner prefix level session watch) session whole e3
     (bind_is (slots_next prefix) (λ watch. made joiner prefix level session watch) watch whole e5
-        (ap (λ d. Ok (Tell joiner prefix level session d watch)) e4)))))
+    (ap (λ d. Ok (Tell joiner prefix level session d watch)) e4)))))
 
 pub tell_taken : (p : SettingsValue) (start : ℕ) (bytes : List ℕ) (body : Body) → All (λ b. b < 256) bytes
     → start + p.digits + 8 ≤ length bytes
@@ -117,14 +121,14 @@ tell_taken p start bytes body all room even few e =
     let count = (length bytes - (at + 8)) / 2 in
     let depth = number_at 2 (at + 6) bytes in
     let made : List ℕ → ℕ → ℕ → ℕ → List Slot → Result Body Broken =
-        λ joiner prefix level session watch. Ok (Tell joiner prefix level session depth watch) in
+    λ joiner prefix level session watch. Ok (Tell joiner prefix level session depth watch) in
     let slots_next : ℕ → Result (List Slot) Broken = λ prefix. slots_at p prefix count None (at + 8) bytes in
     let a = bind_ok (name_at p start bytes) (λ joiner. prefix_at p at bytes >>= λ prefix. level_above_at p prefix (at + 1) bytes >>=
-        λ level. session_at (at + 2) bytes >>= λ session. slots_next prefix >>= λ watch. made joiner prefix level session watch) body e in
+    λ level. session_at (at + 2) bytes >>= λ session. slots_next prefix >>= λ watch. made joiner prefix level session watch) body e in
     let b = bind_ok (prefix_at p at bytes) (λ prefix. level_above_at p prefix (at + 1) bytes >>= λ level. session_at (at + 2) bytes >>=
-        λ session. slots_next prefix >>= λ watch. made a.0 prefix level session watch) body a.2 in
+    λ session. slots_next prefix >>= λ watch. made a.0 prefix level session watch) body a.2 in
     let c = bind_ok (level_above_at p b.0 (at + 1) bytes)
-        (λ level. session_at (at + 2) bytes >>= λ session. slots_next b.0 >>= λ watch. made a.0 b.0 level session watch) body b.2 in
+    (λ level. session_at (at + 2) bytes >>= λ session. slots_next b.0 >>= λ watch. made a.0 b.0 level session watch) body b.2 in
     let d = bind_ok (session_at (at + 2) bytes) (λ session. slots_next b.0 >>= λ watch. made a.0 b.0 c.0 session watch) body c.2 in
     let w = bind_ok (slots_next b.0) (λ watch. made a.0 b.0 c.0 d.0 watch) body d.2 in
     let joiner = name_taken (λ at. record { at = at }) p bytes start a.0 (omega arith) a.1 in
@@ -137,19 +141,19 @@ tell_taken p start bytes body all room even few e =
     let D = big_bytes 2 depth in
     let W = flat_map slot_bytes w.0 in
     let t5 : drop (at + 8) bytes ≡ W = watch.parts ∙ ap (λ (xs : List ℕ). W ++ xs) (nothing bytes (at + 8 + 2 * count) (sym fit))
-        ∙ append-nil W in
+    ∙ append-nil W in
     let t4 : drop (at + 6) bytes ≡ D ++ W = number_taken bytes (at + 6) 2 all (omega arith)
-        ∙ ap (λ (xs : List ℕ). D ++ xs) (same_place bytes (at + 6 + 2) (at + 8) (omega arith) ∙ t5) in
+    ∙ ap (λ (xs : List ℕ). D ++ xs) (same_place bytes (at + 6 + 2) (at + 8) (omega arith) ∙ t5) in
     let t3 : drop (at + 2) bytes ≡ S ++ (D ++ W) =
     number_taken bytes (at + 2) 4 all (omega arith) ∙ ap (λ x. big_bytes 4 x ++ drop (at + 2 + 4) bytes) session.0
-        ∙ ap (λ (xs : List ℕ). S ++ xs) (same_place bytes (at + 2 + 4) (at + 6) (omega arith) ∙ t4) in
+    ∙ ap (λ (xs : List ℕ). S ++ xs) (same_place bytes (at + 2 + 4) (at + 6) (omega arith) ∙ t4) in
     let t2 : drop (at + 1) bytes ≡ c.0 ∷ (S ++ (D ++ W)) =
     byte_taken bytes (at + 1) (omega arith) ∙ ap (λ x. x ∷ drop (at + 1 + 1) bytes) level.0
-        ∙ ap (λ (xs : List ℕ). c.0 ∷ xs) (same_place bytes (at + 1 + 1) (at + 2) (omega arith) ∙ t3) in
+    ∙ ap (λ (xs : List ℕ). c.0 ∷ xs) (same_place bytes (at + 1 + 1) (at + 2) (omega arith) ∙ t3) in
     let t1 : drop at bytes ≡ b.0 ∷ c.0 ∷ (S ++ (D ++ W)) = byte_taken bytes at (omega arith) ∙ ap (λ x. x ∷ drop (at + 1) bytes) prefix.0
-        ∙ ap (λ (xs : List ℕ). b.0 ∷ xs) t2 in
+    ∙ ap (λ (xs : List ℕ). b.0 ∷ xs) t2 in
     let t0 : drop start bytes ≡ body_bytes (Tell a.0 b.0 c.0 d.0 depth w.0) = joiner.0 ∙ ap (λ (xs : List ℕ). a.0 ++ xs) t1
-        ∙ sym (four a.0 (b.0 ∷ c.0 ∷ []) S D W) in
+    ∙ sym (four a.0 (b.0 ∷ c.0 ∷ []) S D W) in
     let rules : IsTell p a.0 b.0 c.0 d.0 w.0 = record {
       joiner_is = joiner.1;
       prefix_below = prefix.1;
@@ -164,8 +168,13 @@ tell_taken p start bytes body all room even few e =
     } in
     let typed_session : d.0 < 2 ^ 32 = subst (λ x. x < 2 ^ 32) session.0 (number_below bytes (at + 2) 4 all) in
     subst (Takes p kinds.Tell start bytes) (ok_is (Tell a.0 b.0 c.0 d.0 depth w.0) body w.2)
-    (record { parts = t0; same = refl; rules = rules; typed =
-        (typed_session, number_below bytes (at + 6) 2 all, slots.follow_ascends p.base b.0 None w.0 watch.follow) })
+    (record {
+      parts = t0;
+      same = refl;
+      rules = rules;
+      typed =
+          (typed_session, number_below bytes (at + 6) 2 all, slots.follow_ascends p.base b.0 None w.0 watch.follow);
+    })
 
 -- ---- Hello
 
@@ -177,8 +186,14 @@ length-links p (l ∷ ls) names =
     let named = names 0 l (omega arith) in
     let one : length (link_bytes l) ≡ p.digits + 1 = length-append l.name (flag l.settled ∷ []) ∙ ap (λ n. n + 1) named.len in
     let product : (p.digits + 1) * suc (length ls) ≡ (p.digits + 1) * length ls + (p.digits + 1) = grind arith in
-    omega (arith, ap (λ (xs : List ℕ). length xs) (flat_map-cons link_bytes l ls), length-append (link_bytes l) (flat_map link_bytes ls),
-        more, one, product)
+    omega (
+      arith,
+      ap (λ (xs : List ℕ). length xs) (flat_map-cons link_bytes l ls),
+      length-append (link_bytes l) (flat_map link_bytes ls),
+      more,
+      one,
+      product,
+    )
 
 pub quotient : (size count x : ℕ) → 0 < size → x ≡ size * count → x / size ≡ count
 quotient size count x positive e =
@@ -195,15 +210,15 @@ hello_again p start bytes session core ls least are fits here =
     let h1 = past_number bytes start 4 session (flag core ∷ W) h0 in
     let h2 = moved bytes W (start + 4 + 1) (start + 5) (omega arith) (past_byte bytes (start + 4) (flag core) W h1) in
     let long : length bytes - (start + 5) ≡ (p.digits + 1) * length ls = sym (length-drop (start + 5) bytes)
-        ∙ ap (λ (xs : List ℕ). length xs) h2 ∙ length-links p ls are.names in
+    ∙ ap (λ (xs : List ℕ). length xs) h2 ∙ length-links p ls are.names in
     let count : (length bytes - (start + 5)) / (p.digits + 1)
-        ≡ length ls = quotient (p.digits + 1) (length ls) (length bytes - (start + 5)) (omega arith) long in
+    ≡ length ls = quotient (p.digits + 1) (length ls) (length bytes - (start + 5)) (omega arith) long in
     let follow = links.follow_from p None ls tt are.names are.ascending in
     let e0 = session_is start bytes session (number_is bytes start 4 session (flag core ∷ W) fits h0) least in
     let e1 = flag_is (start + 4) bytes core (byte_is bytes (start + 4) (flag core) W h1) in
     let e2 : links_at p ((length bytes - (start + 5)) / (p.digits + 1)) None (start + 5) bytes ≡ Ok ls =
     ap (λ k. links_at p k None (start + 5) bytes) count
-        ∙ links.links_again p ls None (start + 5) bytes [] follow (ends bytes W (start + 5) h2) in
+    ∙ links.links_again p ls None (start + 5) bytes [] follow (ends bytes W (start + 5) h2) in
     let whole : Result Body Broken = Ok (Hello session core ls) in
     let next : Result (List Offered) Broken = links_at p ((length bytes - (start + 5)) / (p.digits + 1)) None (start + 5) bytes in
     let made : ℕ → Bool → List Offered → Result Body Broken = λ session core ls. Ok (Hello session core ls) in
@@ -222,7 +237,7 @@ hello_taken p start bytes body all room even few e =
     let next : Result (List Offered) Broken = links_at p count None (start + 5) bytes in
     let made : ℕ → Bool → List Offered → Result Body Broken = λ session core ls. Ok (Hello session core ls) in
     let a = bind_ok (session_at start bytes) (λ session. flag_at (start + 4) bytes >>= λ core. next >>= λ ls. made session core ls) body e
-        in
+    in
     let b = bind_ok (flag_at (start + 4) bytes) (λ core. next >>= λ ls. made a.0 core ls) body a.2 in
     let w = bind_ok next (λ ls. made a.0 b.0 ls) body b.2 in
     let session = session_taken start bytes a.0 a.1 in
@@ -233,13 +248,13 @@ hello_taken p start bytes body all room even few e =
     let S = big_bytes 4 a.0 in
     let W = flat_map link_bytes w.0 in
     let t2 : drop (start + 5) bytes ≡ W = linked.parts ∙ ap (λ (xs : List ℕ). W ++ xs) (nothing bytes (start + 5 + size * count) (sym fit))
-        ∙ append-nil W in
+    ∙ append-nil W in
     let t1 : drop (start + 4) bytes ≡ flag b.0 ∷ W =
     byte_taken bytes (start + 4) (omega arith) ∙ ap (λ x. x ∷ drop (start + 4 + 1) bytes) core
-        ∙ ap (λ (xs : List ℕ). flag b.0 ∷ xs) (same_place bytes (start + 4 + 1) (start + 5) (omega arith) ∙ t2) in
+    ∙ ap (λ (xs : List ℕ). flag b.0 ∷ xs) (same_place bytes (start + 4 + 1) (start + 5) (omega arith) ∙ t2) in
     let t0 : drop start bytes ≡ body_bytes (Hello a.0 b.0 w.0) =
     number_taken bytes start 4 all (omega arith) ∙ ap (λ x. big_bytes 4 x ++ drop (start + 4) bytes) session.0
-        ∙ ap (λ (xs : List ℕ). S ++ xs) t1 ∙ sym (two S (flag b.0 ∷ []) W) in
+    ∙ ap (λ (xs : List ℕ). S ++ xs) t1 ∙ sym (two S (flag b.0 ∷ []) W) in
     let are : AreLinks p w.0 = record {
       names = links.follow_names p None w.0 linked.follow;
       ascending = links.follow_ascends p None w.0 linked.follow;
@@ -247,4 +262,4 @@ hello_taken p start bytes body all room even few e =
     } in
     let typed : a.0 < 2 ^ 32 = subst (λ x. x < 2 ^ 32) session.0 (number_below bytes start 4 all) in
     subst (Takes p kinds.Hello start bytes) (ok_is (Hello a.0 b.0 w.0) body w.2)
-        (record { parts = t0; same = refl; rules = (session.1, are); typed = typed })
+    (record { parts = t0; same = refl; rules = (session.1, are); typed = typed })

@@ -1,5 +1,5 @@
 -- reading a list one by one, as a loop does
-use Rattle.std.proofs.Common.{◌≡◌, ℕ, suc, ◌-◌, ◌+◌, ◌*◌, ◌/◌, ◌≤◌, ◌<◌, List, [], ◌∷◌, ◌++◌, length, Option, None, Some, Result, Ok, Err, refl, sym, ap, ◌∙◌, append_assoc, arith}
+use Rattle.std.proofs.Common.{◌≡◌, ℕ, suc, ◌-◌, ◌+◌, ◌*◌, ◌/◌, ◌≤◌, ◌<◌, List, [], ◌∷◌, ◌++◌, length, Option, None, Some, Result, Ok, Err, IsOk, is_ok, refl, sym, ap, ◌∙◌, append_assoc, arith}
 use Rattle.std.proofs.lemmas.List.{append-nil}
 use Rattle.std.proofs.Math.Nat.{div-add-mod}
 use Rattle.tap_name.specs.Settings.{SettingsValue}
@@ -29,7 +29,7 @@ unfolding slots_at
 slots_go_on p prefix count i before place bytes front s total lt h so_far =
     let k : count - i ≡ suc (count - (i + 1)) = omega arith in
     let one : with_front front (slots_at p prefix (count - i) before place bytes)
-        ≡ with_front (front ++ s ∷ []) (slots_at p prefix (count - (i + 1)) (Some s) (place + 2) bytes) =
+    ≡ with_front (front ++ s ∷ []) (slots_at p prefix (count - (i + 1)) (Some s) (place + 2) bytes) =
     ap (λ n. with_front front (slots_at p prefix n before place bytes)) k
     ∙ ap (λ r. with_front front (r >>= λ slot. slots_at p prefix (count - (i + 1)) (Some slot) (place + 2) bytes >>=
     λ slots. Ok (slot ∷ slots))) h
@@ -78,7 +78,7 @@ unfolding links_at
 links_go_on p count i before place next bytes front l total lt behind h so_far =
     let k : count - i ≡ suc (count - (i + 1)) = omega arith in
     let one : with_front front (links_at p (count - i) before place bytes)
-        ≡ with_front (front ++ l ∷ []) (links_at p (count - (i + 1)) (Some l.name) (place + p.digits + 1) bytes) =
+    ≡ with_front (front ++ l ∷ []) (links_at p (count - (i + 1)) (Some l.name) (place + p.digits + 1) bytes) =
     ap (λ n. with_front front (links_at p n before place bytes)) k
     ∙ ap (λ r. with_front front (r >>= λ link. links_at p (count - (i + 1)) (Some link.name) (place + p.digits + 1) bytes >>=
     λ links. Ok (link ∷ links))) h
@@ -107,13 +107,21 @@ links_done p count i before place bytes front total le so_far =
     ap (λ n. with_front front (links_at p n before place bytes)) k ∙ ap (λ (ls : List Offered). Ok ls) (append-nil front) in
     sym so_far ∙ one
 
--- as many links fit as there are
-pub links_fit : (left size count i : ℕ) → 0 < size → count ≡ left / size → i < count → i * size + size ≤ left
-links_fit left size count i positive e lt =
-    let whole = div-add-mod left size in
-    let product : size * (left / size) ≡ size * count = ap (λ n. size * n) (sym e) in
-    let least = products i count size lt in
-    omega (arith, whole, product, least)
-  where
-    products : (i count size : ℕ) → i < count → i * size + size ≤ size * count
-    products i count size lt = grind arith
+-- one more link of so many bytes fits where all of them do
+pub one_more_fits : (size count i : ℕ) → i < count → i * size + size ≤ size * count
+one_more_fits size count i lt = grind arith
+
+-- so many parts as fit into what is left are no longer than it
+pub parts_fit : (left size : ℕ) → size * (left / size) ≤ left
+parts_fit left size = let whole = div-add-mod left size in omega (arith, whole)
+
+-- ---- where memory was refused
+
+-- nothing was read before, and the rest is still read
+pub from_the_start : {X : Type 0} (read : Result (List X) Broken) → with_front [] read ≡ read
+from_the_start (Ok xs) = refl
+from_the_start (Err b) = refl
+
+-- what was read is a value
+pub is_read : {X : Type 0} (read : Result (List X) Broken) (front : List X) → read ≡ Ok front → IsOk read
+is_read read front e = ap is_ok e

@@ -27,7 +27,7 @@ one_byte : (n a y : ℕ) → byte_at n ((a * 256) * 256 ^ n + y) ≡ byte_at n y
 one_byte zero a y = omega arith
 one_byte (suc n) a y =
     rw (above (256 ^ suc n) a y (y / 256 ^ suc n) (y % 256 ^ suc n) (mod-lt y (positive (suc n))) (mod-add-div' y (256 ^ suc n)))
-        (omega arith)
+    (omega arith)
 
 shifted : (a p q y : ℕ) → q ≡ 256 * p → a * q + y ≡ (a * 256) * p + y
 shifted a p q y e = rw e (grind arith)

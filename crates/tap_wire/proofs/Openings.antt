@@ -7,9 +7,10 @@ use Rattle.tap_wire.specs.declared.fault.HeadFault.TheVariants.{Short, BadVersio
 use Rattle.tap_wire.specs.declared.kind.Kind.{Kind}
 use Rattle.tap_wire.specs.declared.kind.Kind.TheVariants.{Seek, Tell, Hello, Heard, Ack, Done, Release, Link, Lay, Find, Answer, Leave, Left, Gone, Forget, Cast, CastAck}
 use Rattle.tap_wire.specs.declared.opening.Opening.{Opening}
-use Rattle.tap_wire.specs.Kind.{code_of, kinds, kind_of_code, is_length}
+use Rattle.tap_wire.specs.Kind.{code_of, kinds, kind_of_code}
 use Rattle.tap_wire.specs.Fields.{◌>>=◌, number_at, digits_at}
-use Rattle.tap_wire.specs.Reading.{is_long, version_of, head_len, body_start, names_at, sized, of_kind, opening_of}
+use Rattle.tap_wire.specs.Reading.{names_at, sized, of_kind, opening_of}
+use Rattle.tap_wire.specs.Layout.{is_length, is_long, version_of, head_len, body_start}
 use Rattle.tap_wire.proofs.Steps.{bind_ok, bind_is}
 use Rattle.tap_wire.proofs.Pieces.{byte_is, past_byte, byte_taken}
 
@@ -52,8 +53,25 @@ coded_at (k ∷ ks) first zero chosen coded e = same_code k chosen e ∙ coded.0
 coded_at (k ∷ ks) first (suc place) chosen coded e = coded_at ks (suc first) place chosen coded.1 e ∙ omega arith
 
 kinds_coded : Coded kinds 1
-kinds_coded = (refl, (refl, (refl, (refl, (refl, (refl,
-    (refl, (refl, (refl, (refl, (refl, (refl, (refl, (refl, (refl, (refl, (refl, tt)))))))))))))))))
+kinds_coded = (
+  refl,
+  (
+    refl,
+    (
+      refl,
+      (
+        refl,
+        (
+          refl,
+          (
+            refl,
+            (refl, (refl, (refl, (refl, (refl, (refl, (refl, (refl, (refl, (refl, (refl, tt))))))))))),
+          ),
+        ),
+      ),
+    ),
+  ),
+)
 
 pub code_back : (code : ℕ) (chosen : Kind) → kind_of_code code ≡ Some chosen → code_of chosen ≡ code
 code_back zero chosen e = absurd cc
@@ -126,9 +144,9 @@ head_most p = omega arith
 names_is : (p : SettingsValue) (bytes : List ℕ) (o : Opening) (len : ℕ) → HasHead p bytes o len → names_at p o.kind bytes ≡ Ok o
 names_is p bytes o len h =
     let made : List ℕ → List ℕ → Result Opening HeadFault =
-        λ sender receiver. Ok (record { kind = o.kind; sender = sender; receiver = receiver }) in
+    λ sender receiver. Ok (record { kind = o.kind; sender = sender; receiver = receiver }) in
     bind_is (digits_at BadDigit p (head_len p) bytes) (λ sender. digits_at BadDigit p (head_len p + p.digits) bytes >>=
-        λ receiver. made sender receiver) o.sender (Ok o) h.sender
+    λ receiver. made sender receiver) o.sender (Ok o) h.sender
     (bind_is (digits_at BadDigit p (head_len p + p.digits) bytes) (λ receiver. made o.sender receiver) o.receiver (Ok o) h.receiver refl)
 
 sized_is : (p : SettingsValue) (bytes : List ℕ) (o : Opening) (len : ℕ) → HasHead p bytes o len → sized p o.kind len bytes ≡ Ok o
@@ -143,11 +161,11 @@ sized_is p bytes o len h =
     let second : Result Opening HeadFault = cond other (Err (BadCount (slice_index bytes 4))) third in
     passes (not (is_length p o.kind len)) (BadLength len) second o (not_from (is_length p o.kind len) h.possible)
     (passes other (BadCount (slice_index bytes 4)) third o
-        (both_false (is_long p) (not (eqb (slice_index bytes 4) p.digits))
-            (λ long. not_from (eqb (slice_index bytes 4) p.digits) (eq-eqb (slice_index bytes 4) p.digits (h.count long))))
+    (both_false (is_long p) (not (eqb (slice_index bytes 4) p.digits))
+    (λ long. not_from (eqb (slice_index bytes 4) p.digits) (eq-eqb (slice_index bytes 4) p.digits (h.count long))))
     (passes short (Short (whole - length bytes)) fourth o (le-ltb (length bytes) whole (omega (arith, h.whole)))
     (passes more (Trailing (length bytes - whole)) names o (le-ltb whole (length bytes) (omega (arith, h.whole)))
-        (names_is p bytes o len h))))
+    (names_is p bytes o len h))))
 
 pub opening_is : (p : SettingsValue) (bytes : List ℕ) (o : Opening) (len : ℕ) → HasHead p bytes o len → opening_of p bytes ≡ Ok o
 opening_is p bytes o len h =
@@ -158,9 +176,9 @@ opening_is p bytes o len h =
     let kind : kind_of_code b1 ≡ Some o.kind = ap kind_of_code h.kind ∙ code_kind o.kind in
     let last : rest ≡ Ok o = ap (λ k. of_kind p k bytes) kind ∙ ap (λ l. sized p o.kind l bytes) h.stated ∙ sized_is p bytes o len h in
     passes (nat_lt (length bytes) (head_len p)) (Short (head_len p - length bytes)) second o
-        (le-ltb (length bytes) (head_len p) (omega (arith, h.whole, head_most p)))
+    (le-ltb (length bytes) (head_len p) (omega (arith, h.whole, head_most p)))
     (passes (not (eqb b0 (version_of p))) (BadVersion b0) rest o
-        (not_from (eqb b0 (version_of p)) (eq-eqb b0 (version_of p) h.version)) last)
+    (not_from (eqb b0 (version_of p)) (eq-eqb b0 (version_of p) h.version)) last)
 
 names_parts : (p : SettingsValue) (kind : Kind) (bytes : List ℕ) (o : Opening) → names_at p kind bytes ≡ Ok o
     → (kind ≡ o.kind) × (digits_at BadDigit p (head_len p) bytes ≡ Ok o.sender)
@@ -169,7 +187,7 @@ names_parts p kind bytes o e =
     let made : List ℕ → List ℕ → Opening = λ sender receiver. record { kind = kind; sender = sender; receiver = receiver } in
     let ok : Opening → Result Opening HeadFault = λ x. Ok x in
     let a = bind_ok (digits_at BadDigit p (head_len p) bytes)
-        (λ sender. digits_at BadDigit p (head_len p + p.digits) bytes >>= λ receiver. ok (made sender receiver)) o e in
+    (λ sender. digits_at BadDigit p (head_len p + p.digits) bytes >>= λ receiver. ok (made sender receiver)) o e in
     let b = bind_ok (digits_at BadDigit p (head_len p + p.digits) bytes) (λ receiver. ok (made a.0 receiver)) o a.2 in
     let is : made a.0 b.0 ≡ o = opening_same (made a.0 b.0) o b.2 in
     (ap (λ (x : Opening). x.kind) is, a.1 ∙ ap (λ (x : Opening). Ok x.sender) is, b.1 ∙ ap (λ (x : Opening). Ok x.receiver) is)
@@ -224,4 +242,4 @@ opening_parts p bytes o e =
     let a = passed (nat_lt (length bytes) (head_len p)) (Short (head_len p - length bytes)) second o e in
     let b = passed (not (eqb b0 (version_of p))) (BadVersion b0) rest o a.1 in
     of_kind_parts p (kind_of_code (slice_index bytes 1)) bytes o
-        (eqb-true b0 (version_of p) (not-false (eqb b0 (version_of p)) b.0)) refl b.1
+    (eqb-true b0 (version_of p) (not-false (eqb b0 (version_of p)) b.0)) refl b.1

@@ -57,7 +57,7 @@ number_taken bytes place width all room =
     let front_small = All-take (λ b. b < 256) width rest (All-drop (λ b. b < 256) place bytes all) in
     let same : big_number width front ≡ big_number width rest = big_from-take 0 width width rest (omega arith) in
     let written : big_bytes width (big_number width rest) ≡ front = ap (big_bytes width) (sym same)
-        ∙ writes_back width front len front_small in
+    ∙ writes_back width front len front_small in
     sym (take-append-drop width rest) ∙ ap (λ (xs : List ℕ). xs ++ drop width rest) (sym written)
     ∙ ap (λ (xs : List ℕ). big_bytes width (number_at width place bytes) ++ xs) (drop-drop width place bytes)
 
@@ -71,7 +71,7 @@ no_bad : (base : ℕ) (name : List ℕ) → All (λ d. d < base) name → positi
 no_bad base name below =
     let all : position_or_len (λ d. nat_le base d) name ≡ length name =
     position_or_len_is (λ d. nat_le base d) name (length name) 0 (omega arith) (λ k h. lt-leb base (get_or name k 0) (below k 0 h))
-        (λ h. absurd (omega arith)) in
+    (λ h. absurd (omega arith)) in
     ap (λ (n : ℕ). cond {A = Option ℕ} (nat_lt n (length name)) (Some n) None) all
     ∙ ap (λ (b : Bool). cond {A = Option ℕ} b (Some (length name)) None) (le-ltb (length name) (length name) (omega arith))
 
@@ -91,7 +91,7 @@ name_is {E} bad p bytes place name rest is here =
     let fault : ℕ → E = λ at. bad (place + at) in
     let digits : take p.digits (drop place bytes) ≡ name = ap (take p.digits) here ∙ take_at name rest p.digits is.len in
     ap (λ (xs : List ℕ). digits_unless fault xs (position (λ d. nat_le p.base d) xs)) digits
-        ∙ ap (digits_unless fault name) (no_bad p.base name is.below)
+    ∙ ap (digits_unless fault name) (no_bad p.base name is.below)
 
 pub past_name : (p : SettingsValue) (bytes : List ℕ) (place : ℕ) (name rest : List ℕ) → IsName p name → drop place bytes ≡ name ++ rest
     → drop (place + p.digits) bytes ≡ rest
@@ -107,6 +107,6 @@ name_taken bad p bytes place name room e =
     let len : length digits ≡ p.digits = length-take-le p.digits rest (omega (arith, length-drop place bytes)) in
     let written : rest ≡ name ++ drop (place + p.digits) bytes =
     sym (take-append-drop p.digits rest) ∙ ap (λ (xs : List ℕ). xs ++ drop p.digits rest) is.0
-        ∙ ap (λ (xs : List ℕ). name ++ xs) (drop-drop p.digits place bytes) in
+    ∙ ap (λ (xs : List ℕ). name ++ xs) (drop-drop p.digits place bytes) in
     let name_is : IsName p digits = record { len = len; below = all_below p.base digits is.1 } in
     (written, subst (IsName p) is.0 name_is)

@@ -31,7 +31,7 @@ pub seek_again : (p : SettingsValue) (start : ℕ) (bytes joiner : List ℕ) →
     → seek_at p start bytes ≡ Ok (Seek joiner)
 seek_again p start bytes joiner is here =
     bind_is (name_at p start bytes) (λ name. Ok (Seek name)) joiner (Ok (Seek joiner))
-        (name_is (λ at. record { at = at }) p bytes start joiner [] is (ends bytes joiner start here)) refl
+    (name_is (λ at. record { at = at }) p bytes start joiner [] is (ends bytes joiner start here)) refl
 
 pub seek_taken : (p : SettingsValue) (start : ℕ) (bytes : List ℕ) (body : Body) → length bytes ≡ start + p.digits
     → seek_at p start bytes ≡ Ok body → Takes p kinds.Seek start bytes body
@@ -39,7 +39,7 @@ seek_taken p start bytes body len e =
     let a = bind_ok (name_at p start bytes) (λ name. Ok (Seek name)) body e in
     let named = name_taken (λ at. record { at = at }) p bytes start a.0 (omega arith) a.1 in
     let whole : drop start bytes ≡ a.0 = named.0 ∙ ap (λ (xs : List ℕ). a.0 ++ xs) (nothing bytes (start + p.digits) len)
-        ∙ append-nil a.0 in
+    ∙ append-nil a.0 in
     subst (Takes p kinds.Seek start bytes) (ok_is (Seek a.0) body a.2) (record { parts = whole; same = refl; rules = named.1; typed = tt })
 
 -- ---- bodies of one session
@@ -61,7 +61,7 @@ alone_taken start bytes session all len e =
     let is = session_taken start bytes session e in
     let whole : drop start bytes ≡ big_bytes 4 session =
     number_taken bytes start 4 all (omega arith) ∙ ap (λ (xs : List ℕ). big_bytes 4 (number_at 4 start bytes) ++ xs)
-        (nothing bytes (start + 4) len)
+    (nothing bytes (start + 4) len)
     ∙ append-nil (big_bytes 4 (number_at 4 start bytes)) ∙ ap (big_bytes 4) is.0 in
     record { parts = whole; least = is.1; fits = subst (λ x. x < 2 ^ 32) is.0 (number_below bytes start 4 all) }
 
@@ -74,7 +74,7 @@ link_again start bytes version on fits here =
     let after = past_number bytes start 4 version (flag on ∷ []) here in
     let set = flag_is (start + 4) bytes on (byte_is bytes (start + 4) (flag on) [] after) in
     bind_is (flag_at (start + 4) bytes) (λ on. Ok (Link (number_at 4 start bytes) on)) on (Ok (Link version on)) set
-        (ap (λ v. Ok (Link v on)) number)
+    (ap (λ v. Ok (Link v on)) number)
 
 pub link_taken : (p : SettingsValue) (start : ℕ) (bytes : List ℕ) (body : Body) → All (λ b. b < 256) bytes → length bytes ≡ start + 5
     → link_body_at start bytes ≡ Ok body → Takes p kinds.Link start bytes body
@@ -84,10 +84,10 @@ link_taken p start bytes body all len e =
     let set = flag_taken (start + 4) bytes a.0 a.1 in
     let after : drop (start + 4) bytes ≡ flag a.0 ∷ [] =
     byte_taken bytes (start + 4) (omega arith) ∙ ap (λ b. b ∷ drop (start + 4 + 1) bytes) set
-        ∙ ap (λ (xs : List ℕ). flag a.0 ∷ xs) (nothing bytes (start + 4 + 1) (omega arith)) in
+    ∙ ap (λ (xs : List ℕ). flag a.0 ∷ xs) (nothing bytes (start + 4 + 1) (omega arith)) in
     let whole = number_taken bytes start 4 all (omega arith) ∙ ap (λ (xs : List ℕ). big_bytes 4 version ++ xs) after in
     subst (Takes p kinds.Link start bytes) (ok_is (Link version a.0) body a.2)
-        (record { parts = whole; same = refl; rules = tt; typed = number_below bytes start 4 all })
+    (record { parts = whole; same = refl; rules = tt; typed = number_below bytes start 4 all })
 
 -- ---- a name that may be there
 
@@ -107,7 +107,7 @@ optional_again p place bytes (Some name) within digits is here =
     let len : length bytes ≡ place + suc (length name) = left bytes (1 ∷ name) place within here in
     let more = ne_eqb (length bytes) (place + 1) (λ e. omega (arith, is.len, e, len)) in
     let read : name_at p (place + 1) bytes ≡ Ok name = name_is (λ at. record { at = at }) p bytes (place + 1) name [] is
-        (ends bytes name (place + 1) after) in
+    (ends bytes name (place + 1) after) in
     rw (more, flagged, read) refl
 
 pub record TakesOptional (p : SettingsValue) (place : ℕ) (bytes : List ℕ) (name : Option (List ℕ)) : Type 0 where
@@ -127,18 +127,18 @@ optional_taken p place bytes name within exact e =
           subst (TakesOptional p place bytes) a.1 (record { parts = none; is = tt })
       | inr more ↦
           let a = bind_ok (field (eqb (slice_index bytes place) 1) place (place + 1))
-              (λ after. name_at p after bytes >>= λ name. with_name (Some name)) name (rw more at e) in
+          (λ after. name_at p after bytes >>= λ name. with_name (Some name)) name (rw more at e) in
           let flagged = field_ok (eqb (slice_index bytes place) 1) place (place + 1) a.0 a.1 in
           let b = bind_ok (name_at p a.0 bytes) (λ name. with_name (Some name)) name a.2 in
           let differs = eqb-false (length bytes) (place + 1) more in
           let len : length bytes ≡ place + 1 + p.digits = exact (omega (arith, differs)) in
           let named = name_taken (λ at. record { at = at }) p bytes (place + 1) b.0 (omega arith)
-              (ap (λ k. name_at p k bytes) flagged.1 ∙ b.1) in
+          (ap (λ k. name_at p k bytes) flagged.1 ∙ b.1) in
           let whole : drop (place + 1) bytes ≡ b.0 = named.0 ∙ ap (λ (xs : List ℕ). b.0 ++ xs) (nothing bytes (place + 1 + p.digits) len)
-              ∙ append-nil b.0 in
+          ∙ append-nil b.0 in
           let some : drop place bytes ≡ 1 ∷ b.0 =
           byte_taken bytes place (omega arith) ∙ ap (λ b. b ∷ drop (place + 1) bytes) (eqb-true (slice_index bytes place) 1 flagged.0)
-              ∙ ap (λ (xs : List ℕ). 1 ∷ xs) whole in
+          ∙ ap (λ (xs : List ℕ). 1 ∷ xs) whole in
           subst (TakesOptional p place bytes) (option_is (Some b.0) name b.2) (record { parts = some; is = named.1 })
     ]
   where
@@ -165,14 +165,14 @@ answer_taken p start bytes body all within exact e =
     let server = optional_taken p (start + 4) bytes a.0 (omega arith) (λ lt. omega (arith, exact (omega arith))) a.1 in
     let whole = number_taken bytes start 4 all (omega arith) ∙ ap (λ (xs : List ℕ). big_bytes 4 ticket ++ xs) server.parts in
     subst (Takes p kinds.Answer start bytes) (ok_is (Answer ticket a.0) body a.2)
-        (record { parts = whole; same = refl; rules = server.is; typed = number_below bytes start 4 all })
+    (record { parts = whole; same = refl; rules = server.is; typed = number_below bytes start 4 all })
 
 pub leave_again : (p : SettingsValue) (start : ℕ) (bytes : List ℕ) (replacement : Option (List ℕ)) → 1 ≤ p.digits → start ≤ length bytes
     → IfSome replacement (IsName p)
     → drop start bytes ≡ optional_bytes replacement → leave_at p start bytes ≡ Ok (Leave replacement)
 leave_again p start bytes replacement digits within is here =
     bind_is (optional_at p start bytes) (λ name. Ok (Leave name)) replacement (Ok (Leave replacement))
-        (optional_again p start bytes replacement within digits is here) refl
+    (optional_again p start bytes replacement within digits is here) refl
 
 pub leave_taken : (p : SettingsValue) (start : ℕ) (bytes : List ℕ) (body : Body) → start + 1 ≤ length bytes
     → (start + 1 < length bytes → length bytes ≡ start + 1 + p.digits)
@@ -181,4 +181,4 @@ leave_taken p start bytes body within exact e =
     let a = bind_ok (optional_at p start bytes) (λ name. Ok (Leave name)) body e in
     let name = optional_taken p start bytes a.0 within exact a.1 in
     subst (Takes p kinds.Leave start bytes) (ok_is (Leave a.0) body a.2)
-        (record { parts = name.parts; same = refl; rules = name.is; typed = tt })
+    (record { parts = name.parts; same = refl; rules = name.is; typed = tt })

@@ -41,10 +41,10 @@ slots_again p prefix (s ∷ ss) before place bytes rest follow here =
     let digit = byte_is bytes (place + 1) s.digit after second in
     let third = moved bytes after (place + 1 + 1) (place + 2) (omega arith) (past_byte bytes (place + 1) s.digit after second) in
     bind_is (slot_at p prefix before place bytes) (λ slot. slots_at p prefix (length ss) (Some slot) (place + 2) bytes >>=
-        λ slots. Ok (slot ∷ slots)) s (Ok (s ∷ ss))
+    λ slots. Ok (slot ∷ slots)) s (Ok (s ∷ ss))
     (slot_is p prefix before place bytes s level digit follow.0 follow.1)
     (bind_is (slots_at p prefix (length ss) (Some s) (place + 2) bytes) (λ slots. Ok (s ∷ slots)) ss (Ok (s ∷ ss))
-        (slots_again p prefix ss (Some s) (place + 2) bytes rest follow.2 third) refl)
+    (slots_again p prefix ss (Some s) (place + 2) bytes rest follow.2 third) refl)
 
 -- ---- what is read was written
 
@@ -68,7 +68,7 @@ slot_taken p prefix before place bytes s e =
     let digit = slice_index bytes (place + 1) in
     let made : ℕ → Slot = λ l. record { level = l; digit = digit } in
     let a = bind_ok (field (is_next_level prefix before level) place level)
-        (λ l. field (is_next_digit p.base before l digit) (place + 1) (made l)) s e in
+    (λ l. field (is_next_digit p.base before l digit) (place + 1) (made l)) s e in
     let b = field_ok (is_next_level prefix before level) place level a.0 a.1 in
     let c = field_ok (is_next_digit p.base before a.0 digit) (place + 1) (made a.0) s a.2 in
     let level_is : level ≡ s.level = b.1 ∙ ap (λ (x : Slot). x.level) c.1 in
@@ -91,26 +91,26 @@ slots_taken p prefix zero before place bytes ss room e =
     subst (Takes p.base prefix 0 before place bytes) none (record { parts = ap (λ k. drop k bytes) same; many = refl; follow = tt })
 slots_taken p prefix (suc count) before place bytes ss room e =
     let a = bind_ok (slot_at p prefix before place bytes)
-        (λ slot. slots_at p prefix count (Some slot) (place + 2) bytes >>= λ slots. Ok (slot ∷ slots)) ss e in
+    (λ slot. slots_at p prefix count (Some slot) (place + 2) bytes >>= λ slots. Ok (slot ∷ slots)) ss e in
     let s = a.0 in
     let b = bind_ok (slots_at p prefix count (Some s) (place + 2) bytes) (λ slots. Ok (s ∷ slots)) ss a.2 in
     let one = slot_taken p prefix before place bytes s a.1 in
     let more = slots_taken p prefix count (Some s) (place + 2) bytes b.0 (omega arith) b.1 in
     let after = drop (place + 2 * suc count) bytes in
     let level : drop place bytes ≡ s.level ∷ drop (place + 1) bytes = byte_taken bytes place (omega arith)
-        ∙ ap (λ l. l ∷ drop (place + 1) bytes) one.level in
+    ∙ ap (λ l. l ∷ drop (place + 1) bytes) one.level in
     let third : drop (place + 1 + 1) bytes ≡ flat_map slot_bytes b.0 ++ after =
     moved_place bytes (place + 1 + 1) (place + 2) (omega arith) ∙ more.parts
-        ∙ ap (λ (xs : List ℕ). flat_map slot_bytes b.0 ++ xs)
-        (moved_place bytes (place + 2 + 2 * count) (place + 2 * suc count) (omega arith)) in
+    ∙ ap (λ (xs : List ℕ). flat_map slot_bytes b.0 ++ xs)
+    (moved_place bytes (place + 2 + 2 * count) (place + 2 * suc count) (omega arith)) in
     let digit : drop (place + 1) bytes ≡ s.digit ∷ (flat_map slot_bytes b.0 ++ after) =
     byte_taken bytes (place + 1) (omega arith) ∙ ap (λ d. d ∷ drop (place + 1 + 1) bytes) one.digit
-        ∙ ap (λ (xs : List ℕ). s.digit ∷ xs) third in
+    ∙ ap (λ (xs : List ℕ). s.digit ∷ xs) third in
     let whole : drop place bytes ≡ flat_map slot_bytes (s ∷ b.0) ++ after =
     level ∙ ap (λ (xs : List ℕ). s.level ∷ xs) digit ∙ sym (append_assoc (slot_bytes s) (flat_map slot_bytes b.0) after)
-        ∙ ap (λ (xs : List ℕ). xs ++ after) (sym (flat_map-cons slot_bytes s b.0)) in
+    ∙ ap (λ (xs : List ℕ). xs ++ after) (sym (flat_map-cons slot_bytes s b.0)) in
     subst (Takes p.base prefix (suc count) before place bytes) (ok_is (s ∷ b.0) ss b.2)
-        (record { parts = whole; many = ap suc more.many; follow = (one.rises, one.rises_on, more.follow) })
+    (record { parts = whole; many = ap suc more.many; follow = (one.rises, one.rises_on, more.follow) })
   where
     moved_place : (bytes : List ℕ) (here there : ℕ) → here ≡ there → drop here bytes ≡ drop there bytes
     moved_place bytes here there e = ap (λ k. drop k bytes) e
@@ -132,8 +132,11 @@ next_rises_on : (base : ℕ) (b : Slot) (level digit : ℕ) → is_next_digit ba
 next_rises_on base b level digit h same = grind (arith, nat_tests)
 
 pub Precedes-trans : (a b c : Slot) → Precedes a b → Precedes b c → Precedes a c
-Precedes-trans a b c h k = record { level = omega (arith, h.level, k.level); digit =
-    λ e. omega (arith, h.level, k.level, h.digit, k.digit) }
+Precedes-trans a b c h k = record {
+  level = omega (arith, h.level, k.level);
+  digit =
+      λ e. omega (arith, h.level, k.level, h.digit, k.digit);
+}
 
 pub follow_levels : (base prefix : ℕ) (before : Option Slot) (ss : List Slot) → Follow base prefix before ss
     → All (λ s. s.level ≤ prefix) ss
@@ -150,7 +153,7 @@ follow_behind : (base prefix : ℕ) (b : Slot) (ss : List Slot) → Follow base 
 follow_behind base prefix b [] follow = All-nil (Precedes b)
 follow_behind base prefix b (s ∷ ss) follow =
     let here : Precedes b s = record { level = next_rises prefix b s.level follow.0; digit = next_rises_on base b s.level s.digit follow.1 }
-        in
+    in
     let behind = follow_behind base prefix s ss follow.2 in
     All-cons (Precedes b) s ss here (λ k d h. Precedes-trans b s (get_or ss k d) here (behind k d h))
 

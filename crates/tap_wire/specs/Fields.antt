@@ -7,6 +7,7 @@ use Rattle.byteorder.specs.Endian.{big_number}
 use Rattle.tap_name.specs.Settings.{SettingsValue}
 use Rattle.tap_name.specs.declared.slot.Slot.{Slot}
 use Rattle.tap_name.specs.declared.slot.Offered.{Offered}
+use Rattle.tap_name.specs.Word.{is_word_byte}
 use Rattle.tap_wire.specs.declared.fault.Broken.{Broken}
 
 -- one step of reading after another, up to the first that fails
@@ -111,10 +112,6 @@ links_at p (suc count) before place bytes =
     link_at p before place bytes >>= λ link.
     links_at p count (Some link.name) (place + p.digits + 1) bytes >>= λ links.
     Ok (link ∷ links)
-
--- a lower-case letter or a digit
-abbrev pub is_word_byte : ℕ → Bool
-is_word_byte b = (nat_le 97 b && nat_le b 122) || (nat_le 48 b && nat_le b 57)
 
 -- a word is the rest of the bytes, all lower-case letters and digits
 abbrev pub word_at : ℕ → List ℕ → Result (List ℕ) Broken

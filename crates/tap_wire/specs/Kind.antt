@@ -1,6 +1,5 @@
--- the kinds of frames, their codes, and the lengths that their bodies may have
-use Rattle.std.specs.Prelude.{◌==◌, ℕ, zero, suc, ◌+◌, ◌*◌, ◌-◌, ◌/◌, ◌%◌, nat_le, Bool, ◌&&◌, ◌||◌, List, [], ◌∷◌, slice_get, Option, None}
-use Rattle.tap_name.specs.Settings.{SettingsValue}
+-- the kinds of frames, and their codes
+use Rattle.std.specs.Prelude.{ℕ, zero, suc, Bool, true, false, List, [], ◌∷◌, slice_get, Option, None}
 use Rattle.tap_wire.specs.declared.kind.Kind.{Kind}
 use Rattle.tap_wire.specs.declared.kind.Kind.TheVariants.{Seek, Tell, Hello, Heard, Ack, Done, Release, Link, Lay, Find, Answer, Leave, Left, Gone, Forget, Cast, CastAck}
 use Rattle.tap_wire.specs.declared.frame.Body.{Body}
@@ -55,26 +54,22 @@ kind_of body.Forget = Forget
 kind_of (body.Cast cast level session depth word) = Cast
 kind_of (body.CastAck session) = CastAck
 
--- so many bytes are a fixed part and then at most so many parts of one size
-abbrev pub is_parts : ℕ → ℕ → ℕ → ℕ → Bool
-is_parts len fixed size most = nat_le fixed len && ((len - fixed) % size == 0 && nat_le ((len - fixed) / size) most)
-
--- a body of this kind may have so many bytes
-abbrev pub is_length : SettingsValue → Kind → ℕ → Bool
-is_length p Seek len = len == p.digits
-is_length p Tell len = is_parts len (p.digits + 8) 2 (p.digits * (p.base - 1))
-is_length p Hello len = is_parts len 5 (p.digits + 1) 255
-is_length p Heard len = len == 4
-is_length p Ack len = len == 4
-is_length p Done len = len == 0
-is_length p Release len = len == 0
-is_length p Link len = len == 5
-is_length p Lay len = len == 2 * p.digits + 6
-is_length p Find len = len == 2 * p.digits + 5
-is_length p Answer len = len == 5 || len == p.digits + 5
-is_length p Leave len = len == 1 || len == p.digits + 1
-is_length p Left len = len == 0
-is_length p Gone len = len == 0
-is_length p Forget len = len == 0
-is_length p Cast len = nat_le 12 len && nat_le len 43
-is_length p CastAck len = len == 4
+-- bodies of these kinds have a list: slots, links or letters
+abbrev pub has_list : Kind → Bool
+has_list Seek = false
+has_list Tell = true
+has_list Hello = true
+has_list Heard = false
+has_list Ack = false
+has_list Done = false
+has_list Release = false
+has_list Link = false
+has_list Lay = false
+has_list Find = false
+has_list Answer = false
+has_list Leave = false
+has_list Left = false
+has_list Gone = false
+has_list Forget = false
+has_list Cast = true
+has_list CastAck = false

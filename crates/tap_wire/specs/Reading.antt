@@ -1,5 +1,5 @@
 -- the frame that bytes spell, or the first refusal
-use Rattle.std.specs.Prelude.{◌≡◌, ◌==◌, ℕ, ◌+◌, ◌*◌, ◌-◌, ◌/◌, nat_le, nat_lt, Bool, not, ◌&&◌, if◌then◌else◌, List, length, slice_index, Option, None, Some, Result, Ok, Err}
+use Rattle.std.specs.Prelude.{◌≡◌, ◌==◌, ℕ, ◌+◌, ◌*◌, ◌-◌, ◌/◌, nat_le, nat_lt, not, ◌&&◌, if◌then◌else◌, List, length, slice_index, Option, None, Some, Result, Ok, Err, IsOk, IsOkAnd, IsTrue}
 use Rattle.tap_name.specs.Settings.{SettingsValue}
 use Rattle.tap_wire.specs.declared.fault.Broken.{Broken}
 use Rattle.tap_wire.specs.declared.fault.BodyFault.{BodyFault}
@@ -15,24 +15,9 @@ use Rattle.tap_wire.specs.declared.kind.Kind.{Kind}
 use Rattle.tap_wire.specs.declared.kind.Kind.TheVariants as kinds
 use Rattle.tap_wire.specs.declared.opening.Opening.{Opening}
 use Rattle.tap_wire.specs.Fault.{fault_of_head, fault_of_body}
-use Rattle.tap_wire.specs.Kind.{code_of, kind_of_code, is_length}
+use Rattle.tap_wire.specs.Kind.{code_of, kind_of, kind_of_code, has_list}
+use Rattle.tap_wire.specs.Layout.{is_long, version_of, head_len, body_start, slot_len, link_len, is_length}
 use Rattle.tap_wire.specs.Fields.{◌>>=◌, field, number_at, session_at, level_at, flag_at, digits_at, name_at, optional_at, slots_at, links_at, word_at}
-
--- names of more than eight digits have the second version
-abbrev pub is_long : SettingsValue → Bool
-is_long p = nat_lt 8 p.digits
-
--- the version of frames
-abbrev pub version_of : SettingsValue → ℕ
-version_of p = if is_long p then 2 else 1
-
--- the bytes of a head: the version, the kind, two of the body's length, and in the second version the number of digits
-abbrev pub head_len : SettingsValue → ℕ
-head_len p = if is_long p then 5 else 4
-
--- a head, a sender and a receiver
-abbrev pub body_start : SettingsValue → ℕ
-body_start p = head_len p + 2 * p.digits
 
 -- the two names, where the bytes are as many as they should be
 abbrev pub names_at : SettingsValue → Kind → List ℕ → Result Opening HeadFault
@@ -62,6 +47,10 @@ opening_of p bytes =
     else if not (slice_index bytes 0 == version_of p) then Err (BadVersion (slice_index bytes 0))
     else of_kind p (kind_of_code (slice_index bytes 1)) bytes
 
+-- the head of a frame
+abbrev pub head_of_frame : Frame → Head
+head_of_frame frame = record { kind = code_of (kind_of frame.body); from = frame.from; to = frame.to }
+
 -- a head by itself
 abbrev pub head_of : SettingsValue → List ℕ → Result Head HeadFault
 head_of p bytes = opening_of p bytes >>= λ opening. Ok
@@ -90,7 +79,7 @@ tell_at p start bytes =
     prefix_at p at bytes >>= λ prefix.
     level_above_at p prefix (at + 1) bytes >>= λ level.
     session_at (at + 2) bytes >>= λ session.
-    slots_at p prefix ((length bytes - (at + 8)) / 2) None (at + 8) bytes >>= λ watch.
+    slots_at p prefix ((length bytes - (at + 8)) / slot_len) None (at + 8) bytes >>= λ watch.
     Ok (Tell joiner prefix level session (number_at 2 (at + 6) bytes) watch)
 
 -- a Hello: the session, whether its sender is core, and the links
@@ -98,7 +87,7 @@ unfoldable pub hello_at : SettingsValue → ℕ → List ℕ → Result Body Bro
 hello_at p start bytes =
     session_at start bytes >>= λ session.
     flag_at (start + 4) bytes >>= λ core.
-    links_at p ((length bytes - (start + 5)) / (p.digits + 1)) None (start + 5) bytes >>= λ links.
+    links_at p ((length bytes - (start + 5)) / link_len p) None (start + 5) bytes >>= λ links.
     Ok (Hello session core links)
 
 -- a Link: the version, and whether there is a link
@@ -171,12 +160,16 @@ frame_of p bytes =
     in_frame (λ b. fault_of_body (faults.Field b)) (body_at p opening.kind (body_start p) bytes) >>= λ body.
     Ok (record { from = opening.sender; to = opening.receiver; body = body })
 
--- a reader's fault is the field that breaks its rule, unless memory ran out
+-- memory is wanted for the lists of frames alone, and for none of a refusal
+abbrev pub WantsMemory : Result Frame WireFault → Type 0
+WantsMemory read = IsOkAnd read (λ frame. IsTrue (has_list (kind_of frame.body)))
+
+-- a reader's fault is the field that breaks its rule, or want of memory for what is read
 abbrev pub Fails : {X : Type 0} → BodyFault → Result X Broken → Type 0
-Fails faults.NoMemory read = Unit {0}
+Fails faults.NoMemory read = IsOk read
 Fails (faults.Field b) read = read ≡ Err b
 
--- what a reader answered is what is read, unless memory ran out
+-- what a reader answered is what is read, or want of memory for it
 abbrev pub Gives : {X : Type 0} → Result X BodyFault → Result X Broken → Type 0
 Gives (Ok x) read = read ≡ Ok x
 Gives (Err e) read = Fails e read

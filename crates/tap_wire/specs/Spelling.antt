@@ -1,6 +1,6 @@
 -- the one spelling of each frame, and the rules of its fields
-use Rattle.std.specs.Prelude.{◌≡◌, ℕ, ◌*◌, ◌-◌, ◌<◌, ◌≤◌, ◌^◌, Bool, if◌then◌else◌, IsTrue, List, [], ◌∷◌, ◌++◌, length, All, AllPairs, Option, None, Some, IfSome}
-use Rattle.std.specs.List.{flat_map, list_all}
+use Rattle.std.specs.Prelude.{◌≡◌, ℕ, ◌<◌, ◌≤◌, ◌^◌, Bool, if◌then◌else◌, List, [], ◌∷◌, ◌++◌, length, All, AllPairs, Option, None, Some, IfSome}
+use Rattle.std.specs.List.{flat_map}
 use Rattle.std.specs.Ordering.{nat_cmp}
 use Rattle.std.specs.declared.cmp.Ordering.TheVariants.{Less}
 use Rattle.std.specs.Cmp.Lexicographic.{slice_cmp}
@@ -9,13 +9,14 @@ use Rattle.tap_name.specs.Settings.{SettingsValue}
 use Rattle.tap_name.specs.Name.{IsName}
 use Rattle.tap_name.specs.declared.slot.Slot.{Slot}
 use Rattle.tap_name.specs.declared.slot.Offered.{Offered}
+use Rattle.tap_name.specs.Word.{IsWord}
 use Rattle.tap_watch.specs.Watch.{IsAscending}
 use Rattle.tap_wire.specs.declared.frame.Frame.{Frame}
+use Rattle.tap_wire.specs.declared.frame.TellFields.{TellFields}
 use Rattle.tap_wire.specs.declared.frame.Body.{Body}
 use Rattle.tap_wire.specs.declared.frame.Body.TheVariants.{Seek, Tell, Hello, Heard, Ack, Done, Release, Link, Lay, Find, Answer, Leave, Left, Gone, Forget, Cast, CastAck}
 use Rattle.tap_wire.specs.Kind.{code_of, kind_of}
-use Rattle.tap_wire.specs.Fields.{is_word_byte}
-use Rattle.tap_wire.specs.Reading.{is_long, version_of}
+use Rattle.tap_wire.specs.Layout.{most_links, most_slots, is_long, version_of}
 
 -- ---- the spelling
 
@@ -66,6 +67,14 @@ abbrev pub spelling : SettingsValue → Frame → List ℕ
 spelling p frame = head_bytes p (code_of (kind_of frame.body)) (length (body_bytes frame.body)) ++ frame.from ++ frame.to
     ++ body_bytes frame.body
 
+-- a Tell with this watch list
+abbrev pub tell_frame : List ℕ → List ℕ → TellFields → List Slot → Frame
+tell_frame sender receiver fields watch = record {
+  from = sender;
+  to = receiver;
+  body = Tell fields.joiner fields.prefix fields.level fields.session fields.depth watch;
+}
+
 -- ---- the rules of the fields
 
 -- from 1 to the number of digits
@@ -76,7 +85,7 @@ IsLevel p level = (1 ≤ level) × (level ≤ p.digits)
 pub record AreSlots (p : SettingsValue) (prefix : ℕ) (watch : List Slot) : Type 0 where
   pub levels : All (λ slot. slot.level ≤ prefix) watch
   pub digits : All (λ slot. slot.digit < p.base) watch
-  pub few : length watch ≤ p.digits * (p.base - 1)
+  pub few : length watch ≤ most_slots p
 
 -- the fields of a Tell keep their rules
 pub record IsTell (p : SettingsValue) (joiner : List ℕ) (prefix level session : ℕ) (watch : List Slot) : Type 0 where
@@ -87,17 +96,11 @@ pub record IsTell (p : SettingsValue) (joiner : List ℕ) (prefix level session 
   pub session_least : 1 ≤ session
   pub slots : AreSlots p prefix watch
 
--- the links of a Hello ascend by name, and are at most 255
+-- the links of a Hello ascend by name, and are no more than the most
 pub record AreLinks (p : SettingsValue) (links : List Offered) : Type 0 where
   pub names : All (λ link. IsName p link.name) links
   pub ascending : AllPairs (λ a b. slice_cmp nat_cmp a.name b.name ≡ Less) links
-  pub few : length links ≤ 255
-
--- a word is 1 to 32 lower-case letters and digits
-pub record IsWord (word : List ℕ) : Type 0 where
-  pub least : 1 ≤ length word
-  pub most : length word ≤ 32
-  pub letters : IsTrue (list_all is_word_byte word)
+  pub few : length links ≤ most_links
 
 -- each field keeps its rule
 abbrev pub IsBody : SettingsValue → Body → Type 0

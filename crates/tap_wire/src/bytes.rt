@@ -37,10 +37,17 @@ impl Bytes {
         self.bytes.as_slice()
     }
 
-    // The list of a vector's bytes. It takes no memory.
-    pub(crate) fn from_vec(bytes: Vec<u8>) -> Bytes
+    /// The list of a vector's bytes. It takes no memory.
+    pub fn from_vec(bytes: Vec<u8>) -> Bytes
         ensures { result ≡ bytes.items }
     {
         Bytes { bytes }
+    }
+
+    /// The vector of the bytes. It takes no memory.
+    pub fn into_vec(self) -> Vec<u8>
+        ensures { result.items ≡ self }
+    {
+        self.bytes
     }
 }

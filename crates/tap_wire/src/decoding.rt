@@ -5,49 +5,19 @@ ghost use Rattle.tap_wire.specs.declared.frame.Frame.{Frame};
 ghost use Rattle.tap_wire.specs.declared.fault.HeadFault.TheVariants.{BadDigit};
 ghost use Rattle.tap_wire.specs.Fields.{number_at, digits_at};
 ghost use Rattle.tap_wire.specs.Fault.{fault_of_head};
-ghost use Rattle.tap_wire.specs.Kind.{is_length};
-ghost use Rattle.tap_wire.specs.Reading.{is_long, version_of, head_len, body_start, names_at, sized, opening_of, head_of, frame_of};
+ghost use Rattle.tap_wire.specs.Layout.{is_long, head_len, body_start, is_length};
+ghost use Rattle.tap_wire.specs.Reading.{names_at, sized, opening_of, head_of_frame, head_of, frame_of, WantsMemory};
 ghost use Rattle.tap_wire.specs.Spelling.{IsFrame, IsTyped, spelling};
 
 use crate::fault::{HeadFault, WireFault};
 use crate::fields::u16_at;
 use crate::frame::{Frame, Head};
 use crate::kind::Kind;
+use crate::layout::{body_start, head_len, is_long, version_of};
 use crate::opening::Opening;
 use crate::reading::body_at;
 use std::alloc::Global;
 use tap_name::{Name, NameFault, Settings};
-
-// Whether names are too long for the first version.
-pub(crate) fn is_long(settings: &Settings) -> bool
-    ensures { result ≡ is_long settings.now }
-{
-    settings.digits() > 8
-}
-
-// The version of the frames.
-pub(crate) fn version_of(settings: &Settings) -> u8
-    ensures { result ≡ version_of settings.now }
-{
-    if is_long(settings) { 2 } else { 1 }
-}
-
-// The number of bytes of a head.
-pub(crate) fn head_len(settings: &Settings) -> usize
-    ensures value { result ≡ head_len settings.now }
-    ensures most { result ≤ 5 }
-{
-    if is_long(settings) { 5 } else { 4 }
-}
-
-// Where a body starts.
-pub(crate) fn body_start(settings: &Settings) -> usize
-    ensures value { result ≡ body_start settings.now }
-    ensures most { result ≤ 85 }
-    ensures valid { AreWithinLimits settings.now }
-{
-    head_len(settings) + 2 * settings.digits() as usize
-}
 
 // One of the two names, each of its digits below the base.
 fn head_name_at(settings: &Settings, bytes: &[u8], place: usize) -> Result<Name, HeadFault>
@@ -112,6 +82,7 @@ fn has_other_count(settings: &Settings, bytes: &[u8]) -> bool
 // The kind and the two names, or the first refusal of a head.
 fn opening_of(settings: &Settings, bytes: &[u8]) -> Result<Opening, HeadFault>
     ensures value { result ≡ opening_of settings.now bytes.now }
+    ensures valid { AreWithinLimits settings.now }
     ensures long { IfOk result (λ o. IsTrue (is_length settings.now o.kind (length bytes.now - body_start settings.now))) }
     ensures within { IfOk result (λ _. body_start settings.now ≤ length bytes.now) }
 {
@@ -134,6 +105,8 @@ fn opening_of(settings: &Settings, bytes: &[u8]) -> Result<Opening, HeadFault>
 /// Rule: docs/FORMATS.md, "Frames".
 pub fn decode_head(settings: &Settings, bytes: &[u8]) -> Result<Head, HeadFault>
     ensures value { result ≡ head_of settings.now bytes.now }
+    // Of bytes that are a frame it is that frame's head.
+    ensures whole { (frame : Frame) → frame_of settings.now bytes.now ≡ Ok frame → result ≡ Ok (head_of_frame frame) }
     // Each refusal comes exactly where it is the refusal of the whole frame.
     ensures agrees { (fault : HeadFault) → (result ≡ Err fault) ↔ (frame_of settings.now bytes.now ≡ Err (fault_of_head fault)) }
 {
@@ -145,16 +118,20 @@ pub fn decode_head(settings: &Settings, bytes: &[u8]) -> Result<Head, HeadFault>
     })
 }
 
-/// The frame that the bytes spell, all of them, or the first refusal. Want of memory may come in place of either.
+/// The frame that the bytes spell, all of them, or the first refusal. Want of memory may come in place of a frame with slots,
+/// links or letters alone, which are a Tell, a Hello and a Cast, and never in place of a refusal.
 ///
 /// Rule: docs/FORMATS.md, "Frames".
 pub fn decode(alloc: Global, settings: &Settings, bytes: &[u8]) -> Result<Frame, WireFault>
     // Which frame or refusal it is.
     ensures exact { result ≢ Err WireFault.NoMemory → result ≡ frame_of settings.now bytes.now }
+    // Want of memory comes in place of a frame with a list alone.
+    ensures memory { result ≡ Err WireFault.NoMemory → WantsMemory (frame_of settings.now bytes.now) }
     // What is read is spelled so, and keeps the rules.
     ensures found { IfOk result (λ frame. IsFrame settings.now frame × (bytes.now ≡ spelling settings.now frame)) }
     // What is spelled so is read.
-    ensures only { (frame : Frame) → IsFrame settings.now frame → IsTyped frame.body → bytes.now ≡ spelling settings.now frame → result ≢ Err WireFault.NoMemory → result ≡ Ok frame }
+    ensures only { (frame : Frame) → IsFrame settings.now frame → IsTyped frame.body → bytes.now ≡ spelling settings.now frame
+        → result ≢ Err WireFault.NoMemory → result ≡ Ok frame }
 {
     read_frame(alloc, settings, bytes)
 }
@@ -162,6 +139,7 @@ pub fn decode(alloc: Global, settings: &Settings, bytes: &[u8]) -> Result<Frame,
 // The frame that the bytes spell, or the first refusal.
 fn read_frame(alloc: Global, settings: &Settings, bytes: &[u8]) -> Result<Frame, WireFault>
     ensures value { result ≢ Err WireFault.NoMemory → result ≡ frame_of settings.now bytes.now }
+    ensures memory { result ≡ Err WireFault.NoMemory → WantsMemory (frame_of settings.now bytes.now) }
     ensures valid { AreWithinLimits settings.now }
 {
     let start = body_start(settings);

@@ -1,7 +1,7 @@
 ghost use Rattle.std.specs.Prelude.{◌≡◌, ◌+◌, ◌*◌, ◌-◌, ◌/◌, ◌≤◌, ◌<◌, length, slice_index};
 ghost use Rattle.tap_name.specs.declared.slot.Slot.{Slot};
 ghost use Rattle.tap_wire.specs.declared.fault.Broken.{Broken};
-ghost use Rattle.tap_wire.specs.Fields.{number_at, session_at, level_at, flag_at, name_at, optional_at, is_word_byte};
+ghost use Rattle.tap_wire.specs.Fields.{number_at, session_at, level_at, flag_at, name_at, optional_at};
 
 use crate::fault::Broken;
 use byteorder::{BigEndian, ByteOrder};
@@ -96,11 +96,4 @@ pub(crate) fn optional_at(
         return Err(Broken { at: place });
     }
     Ok(Some(name_at(settings, bytes, place + 1)?))
-}
-
-// Whether a byte is a lower-case letter or a digit.
-pub(crate) fn is_word_byte(byte: u8) -> bool
-    ensures { result ≡ is_word_byte byte }
-{
-    matches!(byte, b'a'..=b'z' | b'0'..=b'9')
 }

@@ -28,6 +28,24 @@ pub struct Head {
     pub to: Name,
 }
 
+/// What a Tell says, but for its watch list: so one list serves the Tells to many receivers.
+///
+/// Rule: docs/FORMATS.md, "Frames".
+#[derive(Clone, Copy, Debug)]
+pub struct TellFields {
+    /// The joiner.
+    pub joiner: Name,
+    /// How many digits the joiner shares with its surrogate, below the number of digits.
+    pub prefix: u8,
+    /// The receiver is to tell nodes that share at least so many digits with it: above `prefix`, at most the number of
+    /// digits.
+    pub level: u8,
+    /// The sender's session, from 1.
+    pub session: u32,
+    /// How many Tells led from the surrogate to the receiver.
+    pub depth: u16,
+}
+
 /// What a frame says. The kinds have the codes 1 to 17, in this order.
 ///
 /// Rule: docs/FORMATS.md, "Frames".

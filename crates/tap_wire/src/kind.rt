@@ -1,7 +1,10 @@
 ghost use Rattle.std.specs.Prelude.{◌≡◌, ◌<◌, ◌≤◌};
-ghost use Rattle.tap_wire.specs.Kind.{code_of, kind_of_code, is_parts, is_length, kind_of};
+ghost use Rattle.tap_name.specs.Settings.{AreWithinLimits};
+ghost use Rattle.tap_wire.specs.Kind.{code_of, kind_of_code, kind_of};
+ghost use Rattle.tap_wire.specs.Layout.{fixed_len, is_parts, is_length};
 
 use crate::frame::Body;
+use crate::layout::{MOST_LETTERS, MOST_LINKS, SLOT_LEN, link_len, most_slots};
 use tap_name::Settings;
 
 // The kind of a frame.
@@ -92,24 +95,52 @@ impl Kind {
         self as u8 + 1
     }
 
+    // The bytes of a body of this kind without what its length depends on: slots, links, letters, and a name that may be
+    // missing.
+    pub(crate) fn fixed_len(self, settings: &Settings) -> usize
+        ensures value { result ≡ fixed_len settings.now self }
+        ensures most { result ≤ 86 }
+        ensures valid { AreWithinLimits settings.now }
+    {
+        let digits = settings.digits() as usize;
+        match self {
+            Kind::Seek => digits,
+            Kind::Tell => digits + 8,
+            Kind::Hello => 5,
+            Kind::Heard | Kind::Ack | Kind::CastAck => 4,
+            Kind::Done | Kind::Release | Kind::Left | Kind::Gone | Kind::Forget => 0,
+            Kind::Link => 5,
+            Kind::Lay => 2 * digits + 6,
+            Kind::Find => 2 * digits + 5,
+            Kind::Answer => 5,
+            Kind::Leave => 1,
+            Kind::Cast => 11,
+        }
+    }
+
     // Whether a body of this kind may have so many bytes.
     pub(crate) fn has_length(self, settings: &Settings, len: usize) -> bool
         ensures { result ≡ is_length settings.now self len }
     {
+        let fixed = self.fixed_len(settings);
         let digits = settings.digits() as usize;
-        let others = settings.base() as usize - 1;
         match self {
-            Kind::Seek => len == digits,
-            Kind::Tell => is_parts(len, digits + 8, 2, digits * others),
-            Kind::Hello => is_parts(len, 5, digits + 1, 255),
-            Kind::Heard | Kind::Ack | Kind::CastAck => len == 4,
-            Kind::Done | Kind::Release | Kind::Left | Kind::Gone | Kind::Forget => len == 0,
-            Kind::Link => len == 5,
-            Kind::Lay => len == 2 * digits + 6,
-            Kind::Find => len == 2 * digits + 5,
-            Kind::Answer => len == 5 || len == digits + 5,
-            Kind::Leave => len == 1 || len == digits + 1,
-            Kind::Cast => len >= 12 && len <= 43,
+            Kind::Tell => is_parts(len, fixed, SLOT_LEN, most_slots(settings)),
+            Kind::Hello => is_parts(len, fixed, link_len(settings), MOST_LINKS),
+            Kind::Answer | Kind::Leave => len == fixed || len == digits + fixed,
+            Kind::Cast => len >= fixed + 1 && len <= fixed + MOST_LETTERS,
+            Kind::Seek
+            | Kind::Heard
+            | Kind::Ack
+            | Kind::Done
+            | Kind::Release
+            | Kind::Link
+            | Kind::Lay
+            | Kind::Find
+            | Kind::Left
+            | Kind::Gone
+            | Kind::Forget
+            | Kind::CastAck => len == fixed,
         }
     }
 }

@@ -1,4 +1,4 @@
-ghost use Rattle.tap_wire.specs.Laws.{ReadsBack, SpelledSo};
+ghost use Rattle.tap_wire.specs.Laws.{ReadsBack, SpelledSo, HeadReadsBack};
 
 /// A law: the spelling of a frame whose fields keep their rules is read as that frame.
 ///
@@ -20,4 +20,13 @@ pub fn reads_back()
 /// Rule: docs/FORMATS.md, "Frames".
 pub fn spelled_so()
     ensures { SpelledSo }
+{}
+
+/// A law: the head of a frame's spelling is the frame's kind, sender and receiver.
+///
+/// It does nothing: its contract is the law.
+///
+/// Rule: docs/FORMATS.md, "Frames".
+pub fn head_reads_back()
+    ensures { HeadReadsBack }
 {}

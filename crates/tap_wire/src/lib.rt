@@ -9,6 +9,7 @@ mod fields;
 mod frame;
 mod kind;
 mod laws;
+mod layout;
 mod lists;
 mod memory;
 mod opening;
@@ -17,10 +18,11 @@ mod writing;
 
 pub use bytes::Bytes;
 pub use decoding::{decode, decode_head};
-pub use encoding::encode;
+pub use encoding::{encode, encode_into, encode_tell_into};
 pub use fault::{HeadFault, WireFault};
-pub use frame::{Body, Frame, Head};
-pub use laws::{reads_back, spelled_so};
+pub use frame::{Body, Frame, Head, TellFields};
+pub use laws::{head_reads_back, reads_back, spelled_so};
+pub use layout::{MOST_LETTERS, MOST_LINKS};
 pub use memory::NoMemory;
 
 #[cfg(test)]

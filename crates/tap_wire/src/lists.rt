@@ -1,16 +1,17 @@
-ghost use Rattle.std.specs.Prelude.{◌≡◌, ◌+◌, ◌-◌, ◌/◌, ◌≤◌, length, None};
+ghost use Rattle.std.specs.Prelude.{◌≡◌, ◌+◌, ◌*◌, ◌-◌, ◌/◌, ◌≤◌, length, None};
 ghost use Rattle.tap_name.specs.declared.slot.Slot.{Slot};
 ghost use Rattle.tap_name.specs.declared.slot.Offered.{Offered};
-ghost use Rattle.tap_wire.specs.Fields.{slot_at, slots_at, link_at, links_at, word_at, is_next_level, is_next_digit, is_next_name, is_word_byte};
-ghost use Rattle.std.specs.List.{list_all};
-ghost use Rattle.tap_wire.specs.Reading.{Gives};
+ghost use Rattle.tap_wire.specs.Fields.{slot_at, slots_at, link_at, links_at, word_at, is_next_level, is_next_digit, is_next_name};
+ghost use Rattle.tap_wire.specs.Layout.{slot_len, link_len};
+ghost use Rattle.tap_wire.specs.Reading.{Fails, Gives};
 
 use crate::bytes::Bytes;
 use crate::fault::{BodyFault, Broken};
-use crate::fields::{flag_at, is_word_byte, name_at};
+use crate::fields::{flag_at, name_at};
+use crate::layout::{SLOT_LEN, link_len};
 use std::alloc::Global;
 use std::cmp::Ordering;
-use tap_name::{List, Name, Offered, Settings, Slot};
+use tap_name::{List, Name, Offered, Settings, Slot, are_word_bytes};
 use tap_watch::Watch;
 
 // Whether a slot of this level may stand behind the one before.
@@ -55,6 +56,29 @@ fn slot_at(
     Ok(Slot { level, digit })
 }
 
+// Why slots aren't read where memory was refused: the first field that breaks its rule, and else want of memory.
+fn slots_fault(
+    settings: &Settings,
+    bytes: &[u8],
+    start: usize,
+    prefix: u8,
+    count: usize,
+) -> BodyFault
+    requires { start + SLOT_LEN * count ≤ length bytes.now }
+    ensures { Fails result (slots_at settings.now prefix count None start bytes.now) }
+{
+    let mut before = None;
+    let mut place = start;
+    for _ in 0..count {
+        match slot_at(settings, bytes, place, prefix, before) {
+            Ok(slot) => before = Some(slot),
+            Err(broken) => return BodyFault::Field(broken),
+        }
+        place += SLOT_LEN;
+    }
+    BodyFault::NoMemory
+}
+
 // The slots that are left.
 pub(crate) fn watch_at(
     alloc: Global,
@@ -64,17 +88,20 @@ pub(crate) fn watch_at(
     prefix: u8,
 ) -> Result<Watch, BodyFault>
     requires { start ≤ length bytes.now }
-    ensures { Gives result (slots_at settings.now prefix ((length bytes.now - start) / 2) None start bytes.now) }
+    ensures { Gives result (slots_at settings.now prefix ((length bytes.now - start) / slot_len) None start bytes.now) }
 {
-    let count = (bytes.len() - start) / 2;
-    let mut slots = Vec::with_capacity(alloc, count)?;
+    let count = (bytes.len() - start) / SLOT_LEN;
+    let mut slots = match Vec::with_capacity(alloc, count) {
+        Ok(slots) => slots,
+        Err(_) => return Err(slots_fault(settings, bytes, start, prefix, count)),
+    };
     let mut before = None;
     let mut place = start;
     for _ in 0..count {
         let slot = slot_at(settings, bytes, place, prefix, before)?;
-        slots.push(slot)?;
+        slots.push_reserved(slot);
         before = Some(slot);
-        place += 2;
+        place += SLOT_LEN;
     }
     Ok(Watch::from_vec(slots))
 }
@@ -107,6 +134,24 @@ fn link_at(
     Ok(Offered { name, settled })
 }
 
+// Why links aren't read where memory was refused: the first field that breaks its rule, and else want of memory.
+fn links_fault(settings: &Settings, bytes: &[u8], start: usize, count: usize) -> BodyFault
+    requires { start + link_len settings.now * count ≤ length bytes.now }
+    ensures { Fails result (links_at settings.now count None start bytes.now) }
+{
+    let size = link_len(settings);
+    let mut before = None;
+    let mut place = start;
+    for _ in 0..count {
+        match link_at(settings, bytes, place, before) {
+            Ok(link) => before = Some(link.name),
+            Err(broken) => return BodyFault::Field(broken),
+        }
+        place += size;
+    }
+    BodyFault::NoMemory
+}
+
 // The links that are left.
 pub(crate) fn links_at(
     alloc: Global,
@@ -115,27 +160,23 @@ pub(crate) fn links_at(
     start: usize,
 ) -> Result<List<Offered>, BodyFault>
     requires { start ≤ length bytes.now }
-    ensures { Gives result (links_at settings.now ((length bytes.now - start) / (settings.now.digits + 1)) None start bytes.now) }
+    ensures { Gives result (links_at settings.now ((length bytes.now - start) / link_len settings.now) None start bytes.now) }
 {
-    let size = settings.digits() as usize + 1;
+    let size = link_len(settings);
     let count = (bytes.len() - start) / size;
-    let mut links = Vec::with_capacity(alloc, count)?;
+    let mut links = match Vec::with_capacity(alloc, count) {
+        Ok(links) => links,
+        Err(_) => return Err(links_fault(settings, bytes, start, count)),
+    };
     let mut before = None;
     let mut place = start;
     for _ in 0..count {
         let link = link_at(settings, bytes, place, before)?;
         before = Some(link.name);
-        links.push(link)?;
+        links.push_reserved(link);
         place += size;
     }
     Ok(List::from_vec(links))
-}
-
-// Whether bytes are lower-case letters and digits alone.
-fn is_word(bytes: &[u8]) -> bool
-    ensures { result ≡ list_all is_word_byte bytes.now }
-{
-    bytes.iter().all(|byte| is_word_byte(*byte))
 }
 
 // The word that the rest of the bytes are.
@@ -144,7 +185,7 @@ pub(crate) fn word_at(alloc: Global, bytes: &[u8], start: usize) -> Result<Bytes
     ensures { Gives result (word_at start bytes.now) }
 {
     let word = &bytes[start..];
-    if !is_word(word) {
+    if !are_word_bytes(word) {
         return Err(BodyFault::Field(Broken { at: start }));
     }
     Ok(Bytes::copy_of(alloc, word)?)

@@ -1,5 +1,6 @@
-ghost use Rattle.std.specs.Prelude.{◌≡◌, ◌+◌, ◌*◌, ◌-◌, ◌≤◌, ◌<◌, length, IsTrue};
-ghost use Rattle.tap_wire.specs.Kind.{is_length};
+ghost use Rattle.std.specs.Prelude.{◌≡◌, ◌+◌, ◌*◌, ◌-◌, ◌≤◌, ◌<◌, length, IsTrue, Err};
+ghost use Rattle.tap_wire.specs.Kind.{has_list};
+ghost use Rattle.tap_wire.specs.Layout.{is_length};
 ghost use Rattle.tap_wire.specs.Reading.{Gives, prefix_at, level_above_at, seek_at, tell_at, hello_at, link_body_at, lay_at, find_at, answer_at, leave_at, cast_at, body_at};
 
 use crate::fault::{BodyFault, Broken};
@@ -193,7 +194,8 @@ pub(crate) fn body_at(
 ) -> Result<Body, BodyFault>
     requires within { start ≤ length bytes.now }
     requires long { IsTrue (is_length settings.now kind (length bytes.now - start)) }
-    ensures { Gives result (body_at settings.now kind start bytes.now) }
+    ensures value { Gives result (body_at settings.now kind start bytes.now) }
+    ensures memory { result ≡ Err BodyFault.NoMemory → IsTrue (has_list kind) }
 {
     Ok(match kind {
         Kind::Seek => seek_at(settings, bytes, start)?,

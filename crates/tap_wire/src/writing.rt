@@ -1,123 +1,116 @@
-ghost use Rattle.std.specs.Prelude.{◌≡◌, ◌+◌, ◌≤◌, ◌<◌, ◌++◌, ◌∷◌, [], length, OnOk, IfSome};
+ghost use Rattle.std.specs.Prelude.{◌≡◌, ◌∷◌, []};
 ghost use Rattle.std.specs.List.{flat_map};
 ghost use Rattle.byteorder.specs.Endian.{big_bytes};
-ghost use Rattle.tap_name.specs.Name.{IsName};
 ghost use Rattle.tap_wire.specs.declared.frame.Body.{Body};
-ghost use Rattle.tap_wire.specs.Spelling.{flag, slot_bytes, link_bytes, optional_bytes, body_bytes, IsBody};
+ghost use Rattle.tap_wire.specs.Spelling.{flag, slot_bytes, link_bytes, optional_bytes, body_bytes};
+ghost use Rattle.tap_wire.specs.Writing.{HasRoom, Appends};
 
-use crate::bytes::Bytes;
 use crate::frame::Body;
 use byteorder::{BigEndian, ByteOrder};
-use std::alloc::AllocError;
-use tap_name::{List, Name, Offered, Settings};
+use tap_name::{List, Name, Offered, Slot};
 use tap_watch::Watch;
 
-pub(crate) fn put_u16(out: &mut Vec<u8>, number: u16) -> Result<(), AllocError>
-    ensures { OnOk result (out.new.items ≡ out.old.items ++ big_bytes 2 number) }
+pub(crate) fn put_byte(out: &mut Vec<u8>, byte: u8)
+    requires { HasRoom out.old (byte ∷ []) }
+    ensures { Appends out.old out.new (byte ∷ []) }
+{
+    out.push_reserved(byte);
+}
+
+pub(crate) fn put_bytes(out: &mut Vec<u8>, bytes: &[u8])
+    requires { HasRoom out.old bytes.now }
+    ensures { Appends out.old out.new bytes.now }
+{
+    match out.extend_from_slice(bytes) {
+        Ok(()) => {}
+        Err(_) => unreachable!(),
+    }
+}
+
+pub(crate) fn put_u16(out: &mut Vec<u8>, number: u16)
+    requires { HasRoom out.old (big_bytes 2 number) }
+    ensures { Appends out.old out.new (big_bytes 2 number) }
 {
     let mut bytes = [0u8; 2];
     BigEndian::write_u16(&mut bytes, number);
-    out.extend_from_slice(&bytes)
+    put_bytes(out, &bytes);
 }
 
-fn put_u32(out: &mut Vec<u8>, number: u32) -> Result<(), AllocError>
-    ensures { OnOk result (out.new.items ≡ out.old.items ++ big_bytes 4 number) }
+fn put_u32(out: &mut Vec<u8>, number: u32)
+    requires { HasRoom out.old (big_bytes 4 number) }
+    ensures { Appends out.old out.new (big_bytes 4 number) }
 {
     let mut bytes = [0u8; 4];
     BigEndian::write_u32(&mut bytes, number);
-    out.extend_from_slice(&bytes)
+    put_bytes(out, &bytes);
 }
 
-fn put_flag(out: &mut Vec<u8>, on: bool) -> Result<(), AllocError>
-    ensures { OnOk result (out.new.items ≡ out.old.items ++ flag on ∷ []) }
+fn put_flag(out: &mut Vec<u8>, on: bool)
+    requires { HasRoom out.old (flag on ∷ []) }
+    ensures { Appends out.old out.new (flag on ∷ []) }
 {
-    out.push(if on { 1 } else { 0 })?;
-    Ok(())
+    put_byte(out, if on { 1 } else { 0 });
 }
 
-pub(crate) fn put_name(out: &mut Vec<u8>, name: &Name) -> Result<(), AllocError>
-    ensures { OnOk result (out.new.items ≡ out.old.items ++ name.now) }
+pub(crate) fn put_name(out: &mut Vec<u8>, name: &Name)
+    requires { HasRoom out.old name.now }
+    ensures { Appends out.old out.new name.now }
 {
-    out.extend_from_slice(name.as_slice())
-}
-
-fn put_bytes(out: &mut Vec<u8>, bytes: &Bytes) -> Result<(), AllocError>
-    ensures { OnOk result (out.new.items ≡ out.old.items ++ bytes.now) }
-{
-    out.extend_from_slice(bytes.as_slice())
+    put_bytes(out, name.as_slice());
 }
 
 // A flag, and the name where there is one.
-fn put_optional(out: &mut Vec<u8>, name: &Option<Name>) -> Result<(), AllocError>
-    ensures { OnOk result (out.new.items ≡ out.old.items ++ optional_bytes name.now) }
+fn put_optional(out: &mut Vec<u8>, name: &Option<Name>)
+    requires { HasRoom out.old (optional_bytes name.now) }
+    ensures { Appends out.old out.new (optional_bytes name.now) }
 {
     match name {
-        None => {
-            out.push(0)?;
-            Ok(())
-        }
+        None => put_byte(out, 0),
         Some(name) => {
-            out.push(1)?;
-            put_name(out, name)
+            put_byte(out, 1);
+            put_name(out, name);
         }
     }
 }
 
-fn put_watch(out: &mut Vec<u8>, watch: &Watch) -> Result<(), AllocError>
-    ensures { OnOk result (out.new.items ≡ out.old.items ++ flat_map slot_bytes watch.now) }
+#[tactic(auto, using(crate::proofs::Appending::sizes))]
+fn put_slot(out: &mut Vec<u8>, slot: Slot)
+    requires { HasRoom out.old (slot_bytes slot) }
+    ensures { Appends out.old out.new (slot_bytes slot) }
+{
+    put_byte(out, slot.level);
+    put_byte(out, slot.digit);
+}
+
+fn put_watch(out: &mut Vec<u8>, watch: &Watch)
+    requires { HasRoom out.old (flat_map slot_bytes watch.now) }
+    ensures { Appends out.old out.new (flat_map slot_bytes watch.now) }
 {
     for slot in watch.as_slice() {
-        out.push(slot.level)?;
-        out.push(slot.digit)?;
+        put_slot(out, *slot);
     }
-    Ok(())
 }
 
-fn put_links(out: &mut Vec<u8>, links: &List<Offered>) -> Result<(), AllocError>
-    ensures { OnOk result (out.new.items ≡ out.old.items ++ flat_map link_bytes links.now) }
+#[tactic(auto, using(crate::proofs::Appending::sizes))]
+fn put_offered(out: &mut Vec<u8>, link: &Offered)
+    requires { HasRoom out.old (link_bytes link.now) }
+    ensures { Appends out.old out.new (link_bytes link.now) }
+{
+    put_name(out, &link.name);
+    put_flag(out, link.settled);
+}
+
+fn put_links(out: &mut Vec<u8>, links: &List<Offered>)
+    requires { HasRoom out.old (flat_map link_bytes links.now) }
+    ensures { Appends out.old out.new (flat_map link_bytes links.now) }
 {
     for link in links.as_slice() {
-        put_name(out, &link.name)?;
-        put_flag(out, link.settled)?;
-    }
-    Ok(())
-}
-
-// The number of bytes of a body.
-pub(crate) fn body_len(settings: &Settings, body: &Body) -> usize
-    requires { IsBody settings.now body.now }
-    ensures value { result ≡ length (body_bytes body.now) }
-    ensures most { result < 65536 }
-{
-    let digits = settings.digits() as usize;
-    match body {
-        Body::Seek { .. } => digits,
-        Body::Tell { watch, .. } => digits + 8 + 2 * watch.len(),
-        Body::Hello { links, .. } => 5 + (digits + 1) * links.len(),
-        Body::Heard { .. } | Body::Ack { .. } | Body::CastAck { .. } => 4,
-        Body::Done | Body::Release | Body::Left | Body::Gone | Body::Forget => 0,
-        Body::Link { .. } => 5,
-        Body::Lay { .. } => 2 * digits + 6,
-        Body::Find { .. } => 2 * digits + 5,
-        Body::Answer { server, .. } => 4 + optional_len(settings, server),
-        Body::Leave { replacement } => optional_len(settings, replacement),
-        Body::Cast { word, .. } => 11 + word.as_slice().len(),
+        put_offered(out, link);
     }
 }
 
-// The number of bytes of a flag, and of the name where there is one.
-fn optional_len(settings: &Settings, name: &Option<Name>) -> usize
-    requires { IfSome name.now (IsName settings.now) }
-    ensures value { result ≡ length (optional_bytes name.now) }
-    ensures most { result ≤ 41 }
-{
-    match name {
-        None => 1,
-        Some(_) => settings.digits() as usize + 1,
-    }
-}
-
-fn put_tell(
+#[tactic(auto, using(crate::proofs::Appending::sizes))]
+pub(crate) fn put_tell(
     out: &mut Vec<u8>,
     joiner: &Name,
     prefix: u8,
@@ -125,98 +118,85 @@ fn put_tell(
     session: u32,
     depth: u16,
     watch: &Watch,
-) -> Result<(), AllocError>
-    ensures { OnOk result (out.new.items ≡ out.old.items ++ body_bytes (Body.Tell joiner.now prefix level session depth watch.now)) }
+)
+    requires { HasRoom out.old (body_bytes (Body.Tell joiner.now prefix level session depth watch.now)) }
+    ensures { Appends out.old out.new (body_bytes (Body.Tell joiner.now prefix level session depth watch.now)) }
 {
-    put_name(out, joiner)?;
-    out.push(prefix)?;
-    out.push(level)?;
-    put_u32(out, session)?;
-    put_u16(out, depth)?;
-    put_watch(out, watch)
+    put_name(out, joiner);
+    put_byte(out, prefix);
+    put_byte(out, level);
+    put_u32(out, session);
+    put_u16(out, depth);
+    put_watch(out, watch);
 }
 
-fn put_hello(
-    out: &mut Vec<u8>,
-    session: u32,
-    core: bool,
-    links: &List<Offered>,
-) -> Result<(), AllocError>
-    ensures { OnOk result (out.new.items ≡ out.old.items ++ body_bytes (Body.Hello session core links.now)) }
+#[tactic(auto, using(crate::proofs::Appending::sizes))]
+fn put_hello(out: &mut Vec<u8>, session: u32, core: bool, links: &List<Offered>)
+    requires { HasRoom out.old (body_bytes (Body.Hello session core links.now)) }
+    ensures { Appends out.old out.new (body_bytes (Body.Hello session core links.now)) }
 {
-    put_u32(out, session)?;
-    put_flag(out, core)?;
-    put_links(out, links)
+    put_u32(out, session);
+    put_flag(out, core);
+    put_links(out, links);
 }
 
-fn put_link(out: &mut Vec<u8>, version: u32, on: bool) -> Result<(), AllocError>
-    ensures { OnOk result (out.new.items ≡ out.old.items ++ body_bytes (Body.Link version on)) }
+#[tactic(auto, using(crate::proofs::Appending::sizes))]
+fn put_link(out: &mut Vec<u8>, version: u32, on: bool)
+    requires { HasRoom out.old (body_bytes (Body.Link version on)) }
+    ensures { Appends out.old out.new (body_bytes (Body.Link version on)) }
 {
-    put_u32(out, version)?;
-    put_flag(out, on)
+    put_u32(out, version);
+    put_flag(out, on);
 }
 
-fn put_lay(
-    out: &mut Vec<u8>,
-    object: &Name,
-    server: &Name,
-    level: u8,
-    version: u32,
-    on: bool,
-) -> Result<(), AllocError>
-    ensures { OnOk result (out.new.items ≡ out.old.items ++ body_bytes (Body.Lay object.now server.now level version on)) }
+#[tactic(auto, using(crate::proofs::Appending::sizes))]
+fn put_lay(out: &mut Vec<u8>, object: &Name, server: &Name, level: u8, version: u32, on: bool)
+    requires { HasRoom out.old (body_bytes (Body.Lay object.now server.now level version on)) }
+    ensures { Appends out.old out.new (body_bytes (Body.Lay object.now server.now level version on)) }
 {
-    put_name(out, object)?;
-    put_name(out, server)?;
-    out.push(level)?;
-    put_u32(out, version)?;
-    put_flag(out, on)
+    put_name(out, object);
+    put_name(out, server);
+    put_byte(out, level);
+    put_u32(out, version);
+    put_flag(out, on);
 }
 
-fn put_find(
-    out: &mut Vec<u8>,
-    ticket: u32,
-    object: &Name,
-    asker: &Name,
-    level: u8,
-) -> Result<(), AllocError>
-    ensures { OnOk result (out.new.items ≡ out.old.items ++ body_bytes (Body.Find ticket object.now asker.now level)) }
+#[tactic(auto, using(crate::proofs::Appending::sizes))]
+fn put_find(out: &mut Vec<u8>, ticket: u32, object: &Name, asker: &Name, level: u8)
+    requires { HasRoom out.old (body_bytes (Body.Find ticket object.now asker.now level)) }
+    ensures { Appends out.old out.new (body_bytes (Body.Find ticket object.now asker.now level)) }
 {
-    put_u32(out, ticket)?;
-    put_name(out, object)?;
-    put_name(out, asker)?;
-    out.push(level)?;
-    Ok(())
+    put_u32(out, ticket);
+    put_name(out, object);
+    put_name(out, asker);
+    put_byte(out, level);
 }
 
-fn put_answer(out: &mut Vec<u8>, ticket: u32, server: &Option<Name>) -> Result<(), AllocError>
-    ensures { OnOk result (out.new.items ≡ out.old.items ++ body_bytes (Body.Answer ticket server.now)) }
+#[tactic(auto, using(crate::proofs::Appending::sizes))]
+fn put_answer(out: &mut Vec<u8>, ticket: u32, server: &Option<Name>)
+    requires { HasRoom out.old (body_bytes (Body.Answer ticket server.now)) }
+    ensures { Appends out.old out.new (body_bytes (Body.Answer ticket server.now)) }
 {
-    put_u32(out, ticket)?;
-    put_optional(out, server)
+    put_u32(out, ticket);
+    put_optional(out, server);
 }
 
-fn put_cast(
-    out: &mut Vec<u8>,
-    cast: u32,
-    level: u8,
-    session: u32,
-    depth: u16,
-    word: &Bytes,
-) -> Result<(), AllocError>
-    ensures { OnOk result (out.new.items ≡ out.old.items ++ body_bytes (Body.Cast cast level session depth word.now)) }
+#[tactic(auto, using(crate::proofs::Appending::sizes))]
+fn put_cast(out: &mut Vec<u8>, cast: u32, level: u8, session: u32, depth: u16, word: &[u8])
+    requires { HasRoom out.old (body_bytes (Body.Cast cast level session depth word.now)) }
+    ensures { Appends out.old out.new (body_bytes (Body.Cast cast level session depth word.now)) }
 {
-    put_u32(out, cast)?;
-    out.push(level)?;
-    put_u32(out, session)?;
-    put_u16(out, depth)?;
-    put_bytes(out, word)?;
-    Ok(())
+    put_u32(out, cast);
+    put_byte(out, level);
+    put_u32(out, session);
+    put_u16(out, depth);
+    put_bytes(out, word);
 }
 
 // The bytes of a body.
-pub(crate) fn put_body(out: &mut Vec<u8>, body: &Body) -> Result<(), AllocError>
-    ensures { OnOk result (out.new.items ≡ out.old.items ++ body_bytes body.now) }
+pub(crate) fn put_body(out: &mut Vec<u8>, body: &Body)
+    requires { HasRoom out.old (body_bytes body.now) }
+    ensures { Appends out.old out.new (body_bytes body.now) }
 {
     match body {
         Body::Seek { joiner } => put_name(out, joiner),
@@ -235,8 +215,8 @@ pub(crate) fn put_body(out: &mut Vec<u8>, body: &Body) -> Result<(), AllocError>
         } => put_hello(out, *session, *core, links),
         Body::Heard { session } => put_u32(out, *session),
         Body::Ack { session } => put_u32(out, *session),
-        Body::Done => Ok(()),
-        Body::Release => Ok(()),
+        Body::Done => {}
+        Body::Release => {}
         Body::Link { version, on } => put_link(out, *version, *on),
         Body::Lay {
             object,
@@ -253,16 +233,16 @@ pub(crate) fn put_body(out: &mut Vec<u8>, body: &Body) -> Result<(), AllocError>
         } => put_find(out, *ticket, object, asker, *level),
         Body::Answer { ticket, server } => put_answer(out, *ticket, server),
         Body::Leave { replacement } => put_optional(out, replacement),
-        Body::Left => Ok(()),
-        Body::Gone => Ok(()),
-        Body::Forget => Ok(()),
+        Body::Left => {}
+        Body::Gone => {}
+        Body::Forget => {}
         Body::Cast {
             cast,
             level,
             session,
             depth,
             word,
-        } => put_cast(out, *cast, *level, *session, *depth, word),
+        } => put_cast(out, *cast, *level, *session, *depth, word.as_slice()),
         Body::CastAck { session } => put_u32(out, *session),
     }
 }

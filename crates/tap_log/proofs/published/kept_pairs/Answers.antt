@@ -13,10 +13,10 @@ loop-at-preserved c =
     elim c.match-kept_pair.branch [
       | in-Some+in_ok-push w ↦
           kept_more records here.at c.index-records-at.result _ w.in-Some.pair here.pairs.items _ (kept_pairs records)
-              (omega arith) c.index-records-at.is
+          (omega arith) c.index-records-at.is
           later here.invariant (sym c.kept_pair.ensures ∙ w.in-Some.is) (rw w.pairs-is w.in_ok-push.ensures.items)
       | in_default w ↦
           rw w.pairs-is (kept_same records here.at c.index-records-at.result _ here.pairs.items (kept_pairs records)
-              (omega arith) c.index-records-at.is
+          (omega arith) c.index-records-at.is
           later here.invariant (sym c.kept_pair.ensures ∙ w.in_default.is))
     ]

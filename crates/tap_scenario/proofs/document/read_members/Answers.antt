@@ -12,7 +12,7 @@ pub returns-then-is_empty : goal.returns-then-is_empty
 returns-then-is_empty c =
     let values = c.in_ok-strings.strings.now in
     let is : read_at Members array_of_strings (table_view c.args.table.now)
-        ≡ Ok (texts_of (items_view values)) = c.in_ok-strings.ensures.value in
+    ≡ Ok (texts_of (items_view values)) = c.in_ok-strings.ensures.value in
     let strings : are_strings (items_view values) ≡ true = c.in_ok-strings.ensures.strings in
     let empty = c.is_empty.ensures in
     elim c.then-is_empty.branch [
@@ -30,9 +30,9 @@ pub returns : goal.returns
 returns c =
     let values = c.in_ok-strings.strings.now in
     let is : read_at Members array_of_strings (table_view c.args.table.now)
-        ≡ Ok (texts_of (items_view values)) = c.in_ok-strings.ensures.value in
+    ≡ Ok (texts_of (items_view values)) = c.in_ok-strings.ensures.value in
     let strings : are_strings (items_view values) ≡ true = c.in_ok-strings.ensures.strings in
     let count : (nat_le 1 (length values) && nat_le (length values) 64) ≡ true = let e = c.if-is_empty.false in
     let f = c.is_empty.ensures in grind (arith, nat_tests) in
     members_of-names c.args.settings.now (table_view c.args.table.now) values c.in_ok-names.names is strings count c.in_ok-names.ensures
-        (search rules)
+    (search rules)

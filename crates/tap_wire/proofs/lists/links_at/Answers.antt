@@ -8,10 +8,10 @@ pub returns-in_err-link : goal.returns-in_err-link
 returns-in_err-link c =
     let p = c.args.settings.now in
     let bytes = c.args.bytes.now in
-    let count = (length bytes - c.args.start) / (c.digits.result + 1) in
-    let made = err_from_is_err_and c.from_residual-in_err-link.result c.from_residual-in_err-link.ensures.1 in
+    let count = (length bytes - c.args.start) / c.link_len-size.result in
+    let made = err_from_is_err_and c.from_residual.result c.from_residual.ensures.1 in
     rw (made.1, made.2)
-    (ap (λ d. links_at p ((length bytes - c.args.start) / (d + 1)) None c.args.start bytes) (sym c.digits.ensures.value)
+    (ap (λ size. links_at p ((length bytes - c.args.start) / size) None c.args.start bytes) (sym c.link_len-size.ensures.value)
     ∙ links_end p count c.loop.counter c.loop.before c.loop.place bytes c.loop.links.items c.in_err-link.field-0.0
     (links_at p count None c.args.start bytes) c.loop-test.true (sym c.in_err-link.ensures) c.loop.invariant.reads)
 
@@ -19,22 +19,24 @@ pub loop-preserved : goal.loop-preserved
 loop-preserved c =
     let p = c.args.settings.now in
     let bytes = c.args.bytes.now in
-    let count = (length bytes - c.args.start) / (c.digits.result + 1) in
-    let next : c.loop.place + (c.digits.result + 1) ≡ c.loop.place + p.digits + 1 = omega (arith, c.digits.ensures.value) in
+    let count = (length bytes - c.args.start) / c.link_len-size.result in
+    let next : c.loop.place + c.link_len-size.result ≡ c.loop.place + p.digits + 1 = omega (arith, c.link_len-size.ensures.value) in
     record {
-      reads = rw c.in_ok-push.ensures.items
-          (links_go_on p count c.loop.counter c.loop.before c.loop.place
-              (c.loop.place + (c.digits.result + 1)) bytes c.loop.links.items c.in_ok-link.link
-                  (links_at p count None c.args.start bytes) c.loop-test.true next (sym c.in_ok-link.ensures) c.loop.invariant.reads);
+      reads = rw c.push_reserved.ensures.items
+          (links_go_on p count c.loop.counter c.loop.before c.loop.place (c.loop.place + c.link_len-size.result) bytes c.loop.links.items
+          c.in_ok-link.link (links_at p count None c.args.start bytes) c.loop-test.true next (sym c.in_ok-link.ensures)
+          c.loop.invariant.reads);
       at = omega (arith, c.loop.invariant.at);
+      len = omega (arith, c.push_reserved.ensures.len, c.loop.invariant.len);
+      room = omega (arith, c.push_reserved.ensures.capacity, c.loop.invariant.room);
     }
 
 pub returns : goal.returns
 returns c =
     let p = c.args.settings.now in
     let bytes = c.args.bytes.now in
-    let count = (length bytes - c.args.start) / (c.digits.result + 1) in
-    ap (λ d. links_at p ((length bytes - c.args.start) / (d + 1)) None c.args.start bytes) (sym c.digits.ensures.value)
+    let count = (length bytes - c.args.start) / c.link_len-size.result in
+    ap (λ size. links_at p ((length bytes - c.args.start) / size) None c.args.start bytes) (sym c.link_len-size.ensures.value)
     ∙ links_done p count c.loop.counter c.loop.before c.loop.place bytes c.loop.links.items
     (links_at p count None c.args.start bytes) c.loop-test.false c.loop.invariant.reads
     ∙ ap Ok (sym c.from_vec.ensures)

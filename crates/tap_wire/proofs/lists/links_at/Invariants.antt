@@ -1,4 +1,4 @@
-use Rattle.std.proofs.Common.{◌≡◌, ◌+◌, ◌*◌, ◌-◌, None}
+use Rattle.std.proofs.Common.{◌≡◌, ◌+◌, ◌*◌, ◌-◌, None, vec_len, vec_capacity}
 use Rattle.tap_wire.specs.Fields.{links_at}
 use Rattle.tap_wire.proofs.Loops.{with_front}
 use Rattle.tap_wire.proofs.lists.links_at.Given as goal
@@ -8,4 +8,6 @@ invariant-loop l = record {
   reads : with_front l.links.items (links_at l.settings (l.count - l.counter) l.before l.place l.bytes)
       ≡ links_at l.settings l.count None l.start l.bytes;
   at : l.place ≡ l.start + l.counter * l.size;
+  len : vec_len l.links ≡ l.counter;
+  room : vec_capacity l.links ≡ l.count;
 }

@@ -1,0 +1,57 @@
+use Rattle.std.proofs.Common.{◌≡◌, ◌∙◌, ◌+◌, ◌*◌, ◌-◌, ◌++◌, ◌∷◌, [], None, arith, sym, ap}
+use Rattle.tap_wire.specs.Fields.{links_at}
+use Rattle.tap_wire.proofs.Loops.{links_go_on, links_end, links_done, one_more_fits, from_the_start, is_read}
+use Rattle.tap_wire.proofs.lists.links_fault.Goals as goal
+
+pub link_at-requires : goal.link_at-requires
+link_at-requires c =
+    omega (
+      arith,
+      c.link_len-size.ensures.value,
+      c.loop.invariant.at,
+      one_more_fits (c.args.settings.now.digits + 1) c.args.count c.loop.counter c.loop-test.true,
+      ap (λ size. c.loop.counter * size) c.link_len-size.ensures.value,
+    )
+
+pub loop-init : goal.loop-init
+loop-init c =
+    let count = c.args.count in
+    record {
+      reads = (
+        [],
+        from_the_start (links_at c.args.settings.now (count - 0) None c.args.start c.args.bytes.now)
+            ∙ ap (λ n. links_at c.args.settings.now n None c.args.start c.args.bytes.now) (omega arith),
+      );
+      at = omega arith;
+    }
+
+pub loop-preserved : goal.loop-preserved
+loop-preserved c =
+    let p = c.args.settings.now in
+    let front = c.loop.invariant.reads.0 in
+    let next : c.loop.place + c.link_len-size.result ≡ c.loop.place + p.digits + 1 = omega (arith, c.link_len-size.ensures.value) in
+    record {
+      reads = (
+        front ++ c.in-Ok.link ∷ [],
+        links_go_on p c.args.count c.loop.counter c.loop.before c.loop.place
+            (c.loop.place + c.link_len-size.result) c.args.bytes.now front c.in-Ok.link
+            (links_at p c.args.count None c.args.start c.args.bytes.now) c.loop-test.true next (sym c.link_at.ensures ∙ c.in-Ok.is)
+            c.loop.invariant.reads.1,
+      );
+      at = grind (arith, c.loop.invariant.at);
+    }
+
+pub returns-in-Err : goal.returns-in-Err
+returns-in-Err c =
+    let p = c.args.settings.now in
+    links_end p c.args.count c.loop.counter c.loop.before c.loop.place c.args.bytes.now c.loop.invariant.reads.0 c.in-Err.broken
+    (links_at p c.args.count None c.args.start c.args.bytes.now) c.loop-test.true (sym c.link_at.ensures ∙ c.in-Err.is)
+    c.loop.invariant.reads.1
+
+pub returns : goal.returns
+returns c =
+    let p = c.args.settings.now in
+    let front = c.loop.invariant.reads.0 in
+    let read = links_at p c.args.count None c.args.start c.args.bytes.now in
+    is_read read front (links_done p c.args.count c.loop.counter c.loop.before c.loop.place c.args.bytes.now front read
+    c.loop-test.false c.loop.invariant.reads.1)
