@@ -41,6 +41,14 @@ All-filtered test P Q (x ∷ xs) all gives =
       | inr fails ↦ rw fails rest
     ]
 
+-- the links of a slot at rest, by its number
+pub links_at_rest : (p : SettingsValue) (owner : List ℕ) (names : List (List ℕ)) (number : ℕ) → number < p.base * p.digits
+    → get_or (table_at_rest p owner names).slots number []
+    ≡ settled_links (first_fitting p owner (slot_numbered p.base number) names)
+links_at_rest p owner names number inside =
+    get_or-map-range_with_len (λ n. settled_links (first_fitting p owner (slot_numbered p.base n) names)) 0 (p.base * p.digits) number
+    number [] inside (omega arith)
+
 module _ (p : SettingsValue) (owner : List ℕ) (names : List (List ℕ)) (limits : AreWithinLimits p) (is_owner : IsName p owner)
     (are_names : All (IsName p) names) (ascending : AllPairs IsBelow names) where
   abbrev targets : ℕ → List (List ℕ)
@@ -48,10 +56,6 @@ module _ (p : SettingsValue) (owner : List ℕ) (names : List (List ℕ)) (limit
 
   abbrev rest : TableValue
   rest = table_at_rest p owner names
-
-  links_are : (number : ℕ) → number < p.base * p.digits → get_or rest.slots number [] ≡ settled_links (targets number)
-  links_are number inside =
-      get_or-map-range_with_len (λ n. settled_links (targets n)) 0 (p.base * p.digits) number number [] inside (omega arith)
 
   no_links : (number : ℕ) → p.base * p.digits ≤ number → get_or rest.slots number [] ≡ []
   no_links number past =
@@ -96,11 +100,11 @@ module _ (p : SettingsValue) (owner : List ℕ) (names : List (List ℕ)) (limit
         owner = is_owner;
         count = length-map-range_with_len (λ n. settled_links (targets n)) 0 (p.base * p.digits);
         standing = λ number. elim (cases_lt number (p.base * p.digits)) [
-          | inl inside ↦ rw (links_are number inside) (standing number)
+          | inl inside ↦ rw (links_at_rest p owner names number inside) (standing number)
           | inr past ↦ rw (no_links number past) (λ k d within. absurd (omega arith))
         ];
         sets = λ number. elim (cases_lt number (p.base * p.digits)) [
-          | inl inside ↦ rw (links_are number inside) (set_is number)
+          | inl inside ↦ rw (links_at_rest p owner names number inside) (set_is number)
           | inr past ↦ rw (no_links number past) (record {
             ascending = λ i j d before within. absurd (omega arith);
             within_width = omega arith;
