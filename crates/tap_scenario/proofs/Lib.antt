@@ -3,6 +3,7 @@ pub mod Casts
 pub mod Keys
 pub mod Members
 pub mod Numbers
+pub mod Options
 pub mod Scripts
 pub mod Shapes
 pub mod Splits

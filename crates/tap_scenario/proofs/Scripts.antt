@@ -24,17 +24,13 @@ use Rattle.tap_scenario.specs.Fault.{◌>>=◌, cons_result}
 use Rattle.tap_scenario.specs.Value.{whole_number, array_of_strings, strings_up_to, cons_both, names_of, distinct_names, members_of_texts}
 use Rattle.tap_name.proofs.Membership.{are_distinct-Decides}
 use Rattle.tap_name.proofs.Texts.{name_of_word-back}
-use Rattle.tap_scenario.proofs.Shapes.{and_then-back}
+use Rattle.tap_scenario.proofs.Options.{and_then-back, ok_or-Ok}
 use Rattle.tap_scenario.proofs.Steps.{step_of_text-back}
 
 then-Ok : {A B : Type 0} (r : Result A Fault) (next : A → Result B Fault) (y : B) → (r >>= next) ≡ Ok y
     → (x : A) × (r ≡ Ok x) × (next x ≡ Ok y)
 then-Ok (Ok x) next y e = (x, refl, e)
 then-Ok (Err fault) next y e = absurd (cc)
-
-ok_or-Ok : {A : Type 0} (o : Option A) (fault : Fault) (x : A) → ok_or o fault ≡ Ok x → o ≡ Some x
-ok_or-Ok None fault x e = absurd (cc)
-ok_or-Ok (Some y) fault x e = cc
 
 whole_number-limits : (low high : ℕ) (value : Data) (n : ℕ) → whole_number low high value ≡ Some n → (low ≤ n) × (n ≤ high)
 whole_number-limits low high (integer (pos m)) n e =

@@ -25,7 +25,8 @@ use Rattle.tap_name.proofs.Texts.{name_of_word-back, name_of_word-text, text_of_
 use Rattle.tap_name.proofs.Words.{word-no_space}
 use Rattle.tap_scenario.proofs.Numbers.{number_below-decimal, number_below-back, no_space_decimal}
 use Rattle.tap_scenario.proofs.Casts.{word_of_bytes-word, word_of_bytes-back, no_space_prefix, prefix_of_word-text, prefix_of_word-back}
-use Rattle.tap_scenario.proofs.Shapes.{option_map-back, option_zip-back, and_then-back, only-back, one_name-back, two_names-text, two_names-back, one_number-back, two_numbers-text, two_numbers-back}
+use Rattle.tap_scenario.proofs.Options.{and_then-back, find-passes, option_map-back, option_zip-back}
+use Rattle.tap_scenario.proofs.Shapes.{only-back, one_name-back, two_names-text, two_names-back, one_number-back, two_numbers-text, two_numbers-back}
 use Rattle.tap_scenario.proofs.Splits.{HasNoSpace, words-join}
 
 -- the words of a step
@@ -338,14 +339,6 @@ step_of_kind-back p false shape.Cut others step small there read = cut_step p ot
 step_of_kind-back p true shape.Tick others step small there read = tick_step p others step read
 step_of_kind-back p false shape.Tick others step small there read = absurd (let other : false ≡ true = there in cc)
 step_of_kind-back p carrier shape.Cast others step small there read = cast_step p carrier others step small read
-
-find-passes : {X : Type 0} (test : X → Bool) (xs : List X) (x : X) → find test xs ≡ Some x → test x ≡ true
-find-passes test [] x found = absurd (cc)
-find-passes test (y ∷ ys) x found =
-    elim (cases_Bool (test y)) [
-      | inl passes ↦ let whole : Some y ≡ Some x = rw passes at found in let same : y ≡ x = cc in rw (← same) passes
-      | inr fails ↦ find-passes test ys x (rw fails at found)
-    ]
 
 step_of_words-back : (p : SettingsValue) (carrier : Bool) (read : List (List ℕ)) (step : Step) → p.base ≤ 16
     → step_of_words p carrier read ≡ Some step → IsWordsOfStep p carrier read step

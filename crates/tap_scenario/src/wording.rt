@@ -8,7 +8,7 @@ use crate::kind::{FROM, Kind, MIXED, NEWEST, NameKind, PairKind, PlaceKind, TO};
 use crate::step::Step;
 use tap_name::Name;
 
-/// A step as it is written: its first word, and what stands after it, with one space between each two words.
+/// A step as it is written: its first word, and what stands after it, with one space between each two of them.
 ///
 /// Rule: docs/FORMATS.md, "The scenario".
 #[derive(Clone, Copy, Debug, PartialEq, Eq)]
@@ -19,7 +19,7 @@ pub struct StepWords {
     pub after: WordsAfter,
 }
 
-/// What stands after the first word of a step. Numbers are decimal.
+/// What stands after the first word of a step. Numbers are decimal, and the empty prefix is written `*`.
 ///
 /// Rule: docs/FORMATS.md, "The scenario".
 #[derive(Clone, Copy, Debug, PartialEq, Eq)]
@@ -40,7 +40,7 @@ pub enum WordsAfter {
     TwoNumbers(u32, u32),
     /// Three numbers.
     ThreeNumbers(u32, u32, u8),
-    /// The word that is spread, the prefix and a name, each of these two with a word before it.
+    /// The word that is spread, the prefix and a name, each of the last two with a word before it.
     Cast(Word, &'static str, Prefix, &'static str, Name),
 }
 

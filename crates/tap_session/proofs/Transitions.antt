@@ -95,15 +95,15 @@ after_answer-own id (a ∷ rest) ascending =
 All-after_answer : (P : Session → Type 0) (id : ℕ) (sessions : List Session)
     → ((a : Session) → P a → (a.waiting == 1) ≡ false → P (record a { waiting = a.waiting - 1 }))
     → All P sessions → All P (after_answer id sessions)
-All-after_answer P id [] less all = all
-All-after_answer P id (a ∷ rest) less all =
-    step (id == a.id) refl (a.waiting == 1) refl (All-after_answer P id rest less (All-tail P a rest all))
+All-after_answer P id [] again all = all
+All-after_answer P id (a ∷ rest) again all =
+    step (id == a.id) refl (a.waiting == 1) refl (All-after_answer P id rest again (All-tail P a rest all))
   where
     step : (here : Bool) → (id == a.id) ≡ here → (last : Bool) → (a.waiting == 1) ≡ last → All P (after_answer id rest)
         → All P (after_answer id (a ∷ rest))
     step true is true w later = rw (is, w) later
     step true is false w later =
-        rw (is, w) (All-cons P (record a { waiting = a.waiting - 1 }) (after_answer id rest) (less a (all 0 a (omega arith)) w) later)
+        rw (is, w) (All-cons P (record a { waiting = a.waiting - 1 }) (after_answer id rest) (again a (all 0 a (omega arith)) w) later)
     step false is last w later = rw is (All-cons P a (after_answer id rest) (all 0 a (omega arith)) later)
 
 ascending-after_answer : (id : ℕ) (sessions : List Session) → AllPairs (λ a b. a.id < b.id) sessions

@@ -152,6 +152,8 @@ impl Sessions {
     }
 
     /// Whether no further session may be opened.
+    ///
+    /// Rule: docs/PROTOCOL.md, "Sessions".
     pub fn is_full(&self) -> bool
         ensures { IsTrue result ↔ (most_sessions ≤ self.now.opened) }
     {

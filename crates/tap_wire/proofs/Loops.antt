@@ -1,5 +1,5 @@
 -- reading a list one by one, as a loop does
-use Rattle.std.proofs.Common.{◌≡◌, ℕ, suc, ◌-◌, ◌+◌, ◌*◌, ◌/◌, ◌≤◌, ◌<◌, List, [], ◌∷◌, ◌++◌, length, Option, None, Some, Result, Ok, Err, IsOk, is_ok, refl, sym, ap, ◌∙◌, append_assoc, arith}
+use Rattle.std.proofs.Common.{◌≡◌, ℕ, Bool, suc, ◌-◌, ◌+◌, ◌*◌, ◌/◌, ◌≤◌, ◌<◌, List, [], ◌∷◌, ◌++◌, length, Option, None, Some, Result, Ok, Err, IsOk, is_ok, refl, sym, ap, ◌∙◌, append_assoc, arith}
 use Rattle.std.proofs.lemmas.List.{append-nil}
 use Rattle.std.proofs.Math.Nat.{div-add-mod}
 use Rattle.tap_name.specs.Settings.{SettingsValue}
@@ -84,6 +84,11 @@ links_go_on p count i before place next bytes front l total lt behind h so_far =
     λ links. Ok (link ∷ links))) h
     ∙ regroup front l (links_at p (count - (i + 1)) (Some l.name) (place + p.digits + 1) bytes) in
     ap (λ k. with_front (front ++ l ∷ []) (links_at p (count - (i + 1)) (Some l.name) k bytes)) behind ∙ sym one ∙ so_far
+
+-- a link that was read, by another spelling of its name
+pub link_named : (name same : List ℕ) (settled : Bool) (read : Result Offered Broken) → read ≡ Ok (record { name = name; settled = settled })
+    → name ≡ same → read ≡ Ok (record { name = same; settled = settled })
+link_named name same settled read e is = e ∙ ap (λ (n : List ℕ). Ok (record { name = n; settled = settled })) is
 
 pub links_end : (p : SettingsValue) (count i : ℕ) (before : Option (List ℕ)) (place : ℕ) (bytes : List ℕ) (front : List Offered)
     (b : Broken) (total : Result (List Offered) Broken) → i < count

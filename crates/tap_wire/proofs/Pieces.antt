@@ -84,6 +84,14 @@ all_below base name none =
           (λ i h. leb-false base (get_or name i 0) (fails_before_first (λ d. nat_le base d) name i 0 (omega arith)))
     ]
 
+-- as many bytes as a name has, none of them bad, are one
+pub are_name : (p : SettingsValue) (bytes : List ℕ) (place : ℕ) (digits : List ℕ) → digits ≡ take p.digits (drop place bytes)
+    → place + p.digits ≤ length bytes → position (λ d. nat_le p.base d) digits ≡ None → IsName p digits
+are_name p bytes place digits same room none = record {
+  len = ap (λ (xs : List ℕ). length xs) same ∙ length-take-le p.digits (drop place bytes) (omega (arith, length-drop place bytes));
+  below = all_below p.base digits none;
+}
+
 pub name_is : {E : Type 0} (bad : ℕ → E) (p : SettingsValue) (bytes : List ℕ) (place : ℕ) (name rest : List ℕ) → IsName p name
     → drop place bytes ≡ name ++ rest
     → digits_at bad p place bytes ≡ Ok name

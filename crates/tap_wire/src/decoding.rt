@@ -10,25 +10,24 @@ ghost use Rattle.tap_wire.specs.Reading.{names_at, sized, opening_of, head_of_fr
 ghost use Rattle.tap_wire.specs.Spelling.{IsFrame, IsTyped, spelling};
 
 use crate::fault::{HeadFault, WireFault};
-use crate::fields::u16_at;
+use crate::fields::{bad_digit, digits_at, name_of, u16_at};
 use crate::frame::{Frame, Head};
 use crate::kind::Kind;
 use crate::layout::{body_start, head_len, is_long, version_of};
 use crate::opening::Opening;
 use crate::reading::body_at;
 use std::alloc::Global;
-use tap_name::{Name, NameFault, Settings};
+use tap_name::{Name, Settings};
 
 // One of the two names, each of its digits below the base.
 fn head_name_at(settings: &Settings, bytes: &[u8], place: usize) -> Result<Name, HeadFault>
     requires { place + settings.now.digits ≤ length bytes.now }
     ensures { result ≡ digits_at BadDigit settings.now place bytes.now }
 {
-    let digits = &bytes[place..place + settings.digits() as usize];
-    match Name::from_digits(settings, digits) {
-        Ok(name) => Ok(name),
-        Err(NameFault::BadDigit(at)) => Err(HeadFault::BadDigit(place + at)),
-        Err(NameFault::BadLength(_)) => unreachable!(),
+    let digits = digits_at(settings, bytes, place);
+    match bad_digit(settings, digits) {
+        None => Ok(name_of(settings, digits)),
+        Some(at) => Err(HeadFault::BadDigit(place + at)),
     }
 }
 

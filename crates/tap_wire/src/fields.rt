@@ -1,11 +1,12 @@
-ghost use Rattle.std.specs.Prelude.{◌≡◌, ◌+◌, ◌*◌, ◌-◌, ◌/◌, ◌≤◌, ◌<◌, length, slice_index};
+ghost use Rattle.std.specs.Prelude.{◌≡◌, ◌+◌, ◌*◌, ◌-◌, ◌/◌, ◌≤◌, ◌<◌, nat_le, length, take, drop, position, slice_index};
+ghost use Rattle.tap_name.specs.Name.{IsName};
 ghost use Rattle.tap_name.specs.declared.slot.Slot.{Slot};
 ghost use Rattle.tap_wire.specs.declared.fault.Broken.{Broken};
 ghost use Rattle.tap_wire.specs.Fields.{number_at, session_at, level_at, flag_at, name_at, optional_at};
 
 use crate::fault::Broken;
 use byteorder::{BigEndian, ByteOrder};
-use tap_name::{Name, NameFault, Settings};
+use tap_name::{Name, Settings};
 
 // The number of four bytes from a place on.
 pub(crate) fn u32_at(bytes: &[u8], place: usize) -> u32
@@ -62,16 +63,45 @@ pub(crate) fn flag_at(bytes: &[u8], place: usize) -> Result<bool, Broken>
     Ok(flag == 1)
 }
 
+// The bytes of the name at a place.
+#[inline(always)]
+pub(crate) fn digits_at<'a>(settings: &Settings, bytes: &'a [u8], place: usize) -> &'a [u8]
+    requires { place + settings.now.digits ≤ length bytes.now }
+    ensures { result.now ≡ take settings.now.digits (drop place bytes.now) }
+{
+    &bytes[place..place + settings.digits() as usize]
+}
+
+// The place of the first digit that isn't below the base.
+#[inline(always)]
+pub(crate) fn bad_digit(settings: &Settings, digits: &[u8]) -> Option<usize>
+    ensures { result ≡ position (λ d. nat_le settings.now.base d) digits.now }
+{
+    let base = settings.base();
+    digits.iter().position(|digit| *digit >= base)
+}
+
+// The name of digits that are one.
+#[inline(always)]
+pub(crate) fn name_of(settings: &Settings, digits: &[u8]) -> Name
+    requires { IsName settings.now digits.now }
+    ensures { result ≡ digits.now }
+{
+    match Name::from_digits(settings, digits) {
+        Ok(name) => name,
+        Err(_) => unreachable!(),
+    }
+}
+
 // A name, each of its digits below the base.
 pub(crate) fn name_at(settings: &Settings, bytes: &[u8], place: usize) -> Result<Name, Broken>
     requires { place + settings.now.digits ≤ length bytes.now }
     ensures { result ≡ name_at settings.now place bytes.now }
 {
-    let digits = &bytes[place..place + settings.digits() as usize];
-    match Name::from_digits(settings, digits) {
-        Ok(name) => Ok(name),
-        Err(NameFault::BadDigit(at)) => Err(Broken { at: place + at }),
-        Err(NameFault::BadLength(_)) => unreachable!(),
+    let digits = digits_at(settings, bytes, place);
+    match bad_digit(settings, digits) {
+        None => Ok(name_of(settings, digits)),
+        Some(at) => Err(Broken { at: place + at }),
     }
 }
 

@@ -1,4 +1,6 @@
-ghost use Rattle.std.specs.Prelude.{◌≡◌, ◌+◌, ◌*◌, ◌-◌, ◌/◌, ◌≤◌, length, None};
+ghost use Rattle.std.specs.Prelude.{◌≡◌, ◌+◌, ◌*◌, ◌-◌, ◌/◌, ◌≤◌, length, take, drop, None, Ok, Err, IfOk, OnOk, IfErr};
+ghost use Rattle.std.specs.Option.{option_copied};
+ghost use Rattle.tap_name.specs.Name.{IsName};
 ghost use Rattle.tap_name.specs.declared.slot.Slot.{Slot};
 ghost use Rattle.tap_name.specs.declared.slot.Offered.{Offered};
 ghost use Rattle.tap_wire.specs.Fields.{slot_at, slots_at, link_at, links_at, word_at, is_next_level, is_next_digit, is_next_name};
@@ -7,11 +9,11 @@ ghost use Rattle.tap_wire.specs.Reading.{Fails, Gives};
 
 use crate::bytes::Bytes;
 use crate::fault::{BodyFault, Broken};
-use crate::fields::{flag_at, name_at};
+use crate::fields::{bad_digit, digits_at, flag_at, name_of};
 use crate::layout::{SLOT_LEN, link_len};
 use std::alloc::Global;
 use std::cmp::Ordering;
-use tap_name::{List, Name, Offered, Settings, Slot, are_word_bytes};
+use tap_name::{List, Offered, Settings, Slot, are_word_bytes};
 use tap_watch::Watch;
 
 // Whether a slot of this level may stand behind the one before.
@@ -106,32 +108,40 @@ pub(crate) fn watch_at(
     Ok(Watch::from_vec(slots))
 }
 
-// Whether a link of this name may stand behind the name before.
-fn is_next_name(before: Option<Name>, name: &Name) -> bool
-    ensures { result ≡ is_next_name before name.now }
+// Whether a link of a name with these digits may stand behind the name before.
+#[inline(always)]
+fn is_next_name(before: Option<&[u8]>, digits: &[u8]) -> bool
+    ensures { result ≡ is_next_name (option_copied before.entry) digits.now }
 {
     match before {
         None => true,
-        Some(before) => before.cmp(name) == Ordering::Less,
+        Some(before) => before.cmp(digits) == Ordering::Less,
     }
 }
 
-// A link behind the name before.
-fn link_at(
+// Whether the link at a place, behind the name before, is settled. Its name isn't made here, but its digits are found to be
+// one.
+#[inline(always)]
+fn settled_at(
     settings: &Settings,
     bytes: &[u8],
     place: usize,
-    before: Option<Name>,
-) -> Result<Offered, Broken>
+    before: Option<&[u8]>,
+) -> Result<bool, Broken>
     requires { place + settings.now.digits + 1 ≤ length bytes.now }
-    ensures { result ≡ link_at settings.now before place bytes.now }
+    ensures ok { IfOk result (λ settled. link_at settings.now (option_copied before.entry) place bytes.now
+        ≡ Ok (record { name = take settings.now.digits (drop place bytes.now); settled = settled })) }
+    ensures name { OnOk result (IsName settings.now (take settings.now.digits (drop place bytes.now))) }
+    ensures err { IfErr result (λ broken. link_at settings.now (option_copied before.entry) place bytes.now ≡ Err broken) }
 {
-    let name = name_at(settings, bytes, place)?;
-    if !is_next_name(before, &name) {
+    let digits = digits_at(settings, bytes, place);
+    if let Some(at) = bad_digit(settings, digits) {
+        return Err(Broken { at: place + at });
+    }
+    if !is_next_name(before, digits) {
         return Err(Broken { at: place });
     }
-    let settled = flag_at(bytes, place + settings.digits() as usize)?;
-    Ok(Offered { name, settled })
+    flag_at(bytes, place + settings.digits() as usize)
 }
 
 // Why links aren't read where memory was refused: the first field that breaks its rule, and else want of memory.
@@ -143,10 +153,10 @@ fn links_fault(settings: &Settings, bytes: &[u8], start: usize, count: usize) ->
     let mut before = None;
     let mut place = start;
     for _ in 0..count {
-        match link_at(settings, bytes, place, before) {
-            Ok(link) => before = Some(link.name),
-            Err(broken) => return BodyFault::Field(broken),
+        if let Err(broken) = settled_at(settings, bytes, place, before) {
+            return BodyFault::Field(broken);
         }
+        before = Some(digits_at(settings, bytes, place));
         place += size;
     }
     BodyFault::NoMemory
@@ -171,9 +181,11 @@ pub(crate) fn links_at(
     let mut before = None;
     let mut place = start;
     for _ in 0..count {
-        let link = link_at(settings, bytes, place, before)?;
-        before = Some(link.name);
-        links.push_reserved(link);
+        let settled = settled_at(settings, bytes, place, before)?;
+        let digits = digits_at(settings, bytes, place);
+        let name = name_of(settings, digits);
+        links.push_reserved(Offered { name, settled });
+        before = Some(digits);
         place += size;
     }
     Ok(List::from_vec(links))

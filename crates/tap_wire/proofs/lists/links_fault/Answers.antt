@@ -1,10 +1,12 @@
 use Rattle.std.proofs.Common.{◌≡◌, ◌∙◌, ◌+◌, ◌*◌, ◌-◌, ◌++◌, ◌∷◌, [], None, arith, sym, ap}
+use Rattle.std.specs.Option.{option_copied}
+use Rattle.tap_name.specs.declared.slot.Offered.{Offered}
 use Rattle.tap_wire.specs.Fields.{links_at}
-use Rattle.tap_wire.proofs.Loops.{links_go_on, links_end, links_done, one_more_fits, from_the_start, is_read}
+use Rattle.tap_wire.proofs.Loops.{links_go_on, links_end, links_done, one_more_fits, from_the_start, is_read, link_named}
 use Rattle.tap_wire.proofs.lists.links_fault.Goals as goal
 
-pub link_at-requires : goal.link_at-requires
-link_at-requires c =
+pub settled_at-requires : goal.settled_at-requires
+settled_at-requires c =
     omega (
       arith,
       c.link_len-size.ensures.value,
@@ -29,14 +31,15 @@ pub loop-preserved : goal.loop-preserved
 loop-preserved c =
     let p = c.args.settings.now in
     let front = c.loop.invariant.reads.0 in
+    let link : Offered = record { name = c.digits_at.result.now; settled = c.in_default.field-0 } in
     let next : c.loop.place + c.link_len-size.result ≡ c.loop.place + p.digits + 1 = omega (arith, c.link_len-size.ensures.value) in
     record {
       reads = (
-        front ++ c.in-Ok.link ∷ [],
-        links_go_on p c.args.count c.loop.counter c.loop.before c.loop.place
-            (c.loop.place + c.link_len-size.result) c.args.bytes.now front c.in-Ok.link
-            (links_at p c.args.count None c.args.start c.args.bytes.now) c.loop-test.true next (sym c.link_at.ensures ∙ c.in-Ok.is)
-            c.loop.invariant.reads.1,
+        front ++ link ∷ [],
+        links_go_on p c.args.count c.loop.counter (option_copied c.loop.before) c.loop.place
+            (c.loop.place + c.link_len-size.result) c.args.bytes.now front link
+            (links_at p c.args.count None c.args.start c.args.bytes.now) c.loop-test.true next
+            (link_named _ _ c.in_default.field-0 _ c.in_default.ensures.ok (sym c.digits_at.ensures)) c.loop.invariant.reads.1,
       );
       at = grind (arith, c.loop.invariant.at);
     }
@@ -44,14 +47,14 @@ loop-preserved c =
 pub returns-in-Err : goal.returns-in-Err
 returns-in-Err c =
     let p = c.args.settings.now in
-    links_end p c.args.count c.loop.counter c.loop.before c.loop.place c.args.bytes.now c.loop.invariant.reads.0 c.in-Err.broken
-    (links_at p c.args.count None c.args.start c.args.bytes.now) c.loop-test.true (sym c.link_at.ensures ∙ c.in-Err.is)
-    c.loop.invariant.reads.1
+    links_end p c.args.count c.loop.counter (option_copied c.loop.before) c.loop.place c.args.bytes.now c.loop.invariant.reads.0
+    c.in-Err.broken
+    (links_at p c.args.count None c.args.start c.args.bytes.now) c.loop-test.true c.in-Err.ensures.err c.loop.invariant.reads.1
 
 pub returns : goal.returns
 returns c =
     let p = c.args.settings.now in
     let front = c.loop.invariant.reads.0 in
     let read = links_at p c.args.count None c.args.start c.args.bytes.now in
-    is_read read front (links_done p c.args.count c.loop.counter c.loop.before c.loop.place c.args.bytes.now front read
+    is_read read front (links_done p c.args.count c.loop.counter (option_copied c.loop.before) c.loop.place c.args.bytes.now front read
     c.loop-test.false c.loop.invariant.reads.1)
