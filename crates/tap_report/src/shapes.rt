@@ -29,7 +29,8 @@ impl Written {
 
     // Adds a number, in decimal.
     pub(crate) fn add_number<K: Sink, I: Integer>(&mut self, sink: &mut K, number: I)
-        ensures { WritesText (K.state sink.old) (K.state sink.new) (I.text number) self.old self.new }
+        ensures { WritesText (K.state sink.old) (K.state sink.new)
+            (I.text number) self.old self.new }
     {
         let mut digits = Buffer::new();
         self.add(sink, digits.format(number).as_bytes());

@@ -1,12 +1,13 @@
-ghost use Rattle.std.specs.Prelude.{◌≡◌};
+ghost use Rattle.std.specs.Prelude.{◌++◌, codes};
 ghost use Rattle.tap_scenario.specs.Step.{text_of_prefix, text_of_step};
-ghost use Rattle.tap_scenario.specs.declared.step.Step.TheVariants.{Cast, Cut, Garble};
+ghost use Rattle.tap_scenario.specs.Wording.{text_after};
+ghost use Rattle.tap_scenario.specs.declared.wording.WordsAfter.TheVariants.{Cast, Names};
 ghost use Rattle.tap_report.specs.Written.{WritesText};
 
 use crate::written::Written;
 use tap_io::Sink;
 use tap_name::Name;
-use tap_scenario::{Prefix, Step, Word};
+use tap_scenario::{Prefix, Step, Word, WordsAfter};
 
 // Steps, as they are written in a scenario.
 impl Written {
@@ -14,63 +15,87 @@ impl Written {
         ensures { WritesText (K.state sink.old) (K.state sink.new)
             (text_of_step step.now) self.old self.new }
     {
-        match step {
-            Step::Join { name, via } => self.add_two_names_after(
-                sink, b"join ", name, b" via ", via,
+        let words = step.words();
+        self.add(sink, words.first.as_bytes());
+        self.add_words_after(sink, &words.after);
+    }
+
+    // Adds what stands after the first word of a step.
+    fn add_words_after<K: Sink>(&mut self, sink: &mut K, after: &WordsAfter)
+        ensures { WritesText (K.state sink.old) (K.state sink.new)
+            (text_after after.now) self.old self.new }
+    {
+        match after {
+            WordsAfter::Nothing => {}
+            WordsAfter::Word(word) => self.add_word(sink, word),
+            WordsAfter::WordAndNumber(word, number) => {
+                self.add_word(sink, word);
+                self.add(sink, b" ");
+                self.add_number(sink, *number);
+            }
+            WordsAfter::Name(name) => self.add_name_after(sink, b" ", name),
+            WordsAfter::Names(first, link, second) => self.add_pair_of_names(
+                sink, first, link, second,
             ),
-            Step::Depart { name } => self.add_name_after(sink, b"leave ", name),
-            Step::Publish { object, server } => self.add_at(sink, b"publish ", object, server),
-            Step::Withdraw { object, server } => self.add_at(sink, b"withdraw ", object, server),
-            Step::Find { object, asker } => self.add_from(sink, b"find ", object, asker),
-            Step::Walk { object, asker } => self.add_from(sink, b"walk ", object, asker),
-            Step::Root { object } => self.add_name_after(sink, b"root ", object),
-            Step::Deliver { place } => self.add_number_after(sink, b"deliver ", *place),
-            Step::Settle => self.add(sink, b"settle"),
-            Step::SettleNewest => self.add(sink, b"settle newest"),
-            Step::SettleMixed { seed } => self.add_number_after(sink, b"settle mixed ", *seed),
-            Step::Table { name } => self.add_name_after(sink, b"table ", name),
-            Step::Pointers { name } => self.add_name_after(sink, b"pointers ", name),
-            Step::Garble { place, at, byte } => self.add_garble(sink, *place, *at, *byte),
-            Step::Cut { place, bytes } => self.add_cut(sink, *place, *bytes),
-            Step::Abandon { name } => self.add_name_after(sink, b"abandon ", name),
-            Step::Tick => self.add(sink, b"tick"),
-            Step::Lose { place } => self.add_number_after(sink, b"lose ", *place),
-            Step::Repeat { place } => self.add_number_after(sink, b"repeat ", *place),
-            Step::RootSet { object, asker } => self.add_from(sink, b"rootset ", object, asker),
-            Step::Cast {
-                word,
-                prefix,
-                asker,
-            } => self.add_cast_step(sink, word, prefix, asker),
+            WordsAfter::Number(number) => self.add_number_after(sink, b" ", *number),
+            WordsAfter::TwoNumbers(first, second) => {
+                self.add_two_numbers_after(sink, b" ", *first, b" ", *second)
+            }
+            WordsAfter::ThreeNumbers(first, second, third) => {
+                self.add_two_numbers_after(sink, b" ", *first, b" ", *second);
+                self.add(sink, b" ");
+                self.add_number(sink, *third);
+            }
+            WordsAfter::Cast(word, to, prefix, from, asker) => {
+                self.add_cast_words(sink, word, to, prefix, from, asker)
+            }
         }
     }
 
-    fn add_garble<K: Sink>(&mut self, sink: &mut K, place: u32, at: u32, byte: u8)
+    // Adds two names and the word between them.
+    fn add_pair_of_names<K: Sink>(&mut self, sink: &mut K, first: &Name, link: &str, second: &Name)
         ensures { WritesText (K.state sink.old) (K.state sink.new)
-            (text_of_step (Garble place at byte)) self.old self.new }
+            (text_after (Names first.now link.entry second.now)) self.old self.new }
     {
-        self.add_two_numbers_after(sink, b"garble ", place, b" ", at);
+        self.add_name_after(sink, b" ", first);
         self.add(sink, b" ");
-        self.add_number(sink, byte);
+        self.add(sink, link.as_bytes());
+        self.add(sink, b" ");
+        self.add_name(sink, second);
     }
 
-    fn add_cut<K: Sink>(&mut self, sink: &mut K, place: u32, bytes: u32)
+    // Adds what stands after the first word of a cast.
+    fn add_cast_words<K: Sink>(
+        &mut self,
+        sink: &mut K,
+        word: &Word,
+        to: &str,
+        prefix: &Prefix,
+        from: &str,
+        asker: &Name,
+    )
         ensures { WritesText (K.state sink.old) (K.state sink.new)
-            (text_of_step (Cut place bytes)) self.old self.new }
+            (text_after (Cast word.now to.entry prefix.now from.entry asker.now)) self.old self.new }
     {
-        self.add_two_numbers_after(sink, b"cut ", place, b" ", bytes);
-    }
-
-    fn add_cast_step<K: Sink>(&mut self, sink: &mut K, word: &Word, prefix: &Prefix, asker: &Name)
-        ensures { WritesText (K.state sink.old) (K.state sink.new)
-            (text_of_step (Cast word.now prefix.now asker.now)) self.old self.new }
-    {
-        self.add(sink, b"cast ");
+        self.add(sink, b" ");
         self.add(sink, word.as_slice());
-        self.add(sink, b" to ");
+        self.add(sink, b" ");
+        self.add(sink, to.as_bytes());
+        self.add(sink, b" ");
         self.add_prefix(sink, prefix);
-        self.add(sink, b" from ");
+        self.add(sink, b" ");
+        self.add(sink, from.as_bytes());
+        self.add(sink, b" ");
         self.add_name(sink, asker);
+    }
+
+    // Adds a word with a space before it.
+    fn add_word<K: Sink>(&mut self, sink: &mut K, word: &str)
+        ensures { WritesText (K.state sink.old) (K.state sink.new)
+            (codes " " ++ word.now) self.old self.new }
+    {
+        self.add(sink, b" ");
+        self.add(sink, word.as_bytes());
     }
 
     fn add_prefix<K: Sink>(&mut self, sink: &mut K, prefix: &Prefix)

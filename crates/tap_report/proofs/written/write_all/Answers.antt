@@ -27,10 +27,11 @@ pub returns-in-Failed : goal.returns-in-Failed
 returns-in-Failed g c =
     let failed = c.in-Failed.ensures in
     let was = c.loop-done.invariant in
+    let mid = g.K.Sink.state c.loop-done.sink in
     record {
       follows = Follows-trans _ _ _ was.follows failed.follows;
       answer = record {
-        prefix = failed_write _ (g.K.Sink.state c.loop-done.sink) _ c.args.text.now c.loop-done.done was.within was.appends failed.answer.kept;
+        prefix = failed_write _ mid _ c.args.text.now c.loop-done.done was.within was.appends failed.answer.kept;
         risen = λ fallen. failed.answer.risen (omega (arith, was.faults));
       };
     }
