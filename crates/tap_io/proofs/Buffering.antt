@@ -95,3 +95,16 @@ pub first_part : (old new : SinkState) (waiting text : List ℕ) (count : ℕ) �
 first_part old new waiting text count grows within all =
     let part = part_of old.held new.held waiting text count grows within all in
     record { count = part.0; within = part.1; appends = part.2 }
+
+all_of : (old mid new : Option (List ℕ)) (waiting text : List ℕ) → Grows old mid
+    → Appends (append_known old []) (append_known mid waiting) text → Appends mid new waiting → Appends old new text
+all_of None mid new waiting text grows all last = tt
+all_of (Some x) None new waiting text grows all last = absurd grows.1
+all_of (Some x) (Some y) None waiting text grows all last = absurd last
+all_of (Some x) (Some y) (Some z) waiting text grows all last = last ∙ all ∙ ap (λ l. l ++ text) (append-nil x)
+
+-- Where a text was written, and then all that waits is passed on, the sink behind has appended the text.
+pub all_passed_on : (old mid new : SinkState) (waiting text : List ℕ) → Grows old.held mid.held
+    → Appends (append_known old.held []) (append_known mid.held waiting) text → Appends mid.held new.held waiting
+    → Appends old.held new.held text
+all_passed_on old mid new waiting text grows all last = all_of old.held mid.held new.held waiting text grows all last

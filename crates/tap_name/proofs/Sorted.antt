@@ -10,7 +10,8 @@ use Rattle.std.proofs.lemmas.List.Elements.{All-nil, All-cons, All-weaker}
 use Rattle.std.proofs.lemmas.List.Sorted.{All-permutation, IsPermutation-cons, IsPermutation-middle, IsPermutation-refl, IsPermutation-trans, ranks_by, sorted_far, sum_by-IsPermutation}
 use Rattle.std.proofs.lemmas.List.Recursion.{is_sum_by}
 use Rattle.std.proofs.lemmas.Slice.Eq.{bytes_eq-Decides}
-use Rattle.tap_name.specs.Names.{Among, AreDistinct}
+use Rattle.tap_name.specs.Names.{Among, AreDistinct, AreNames}
+use Rattle.tap_name.specs.Settings.{SettingsValue}
 use Rattle.tap_name.specs.Order.{AreAscending, IsBelow, inserted, name_cmp, sorted}
 use Rattle.tap_name.proofs.Membership.{among-permutation, distinct-permutation}
 use Rattle.tap_name.proofs.Names.{among-All}
@@ -256,3 +257,11 @@ pub sorted-of_ascending : (names : List (List ℕ)) → AreAscending names → s
 sorted-of_ascending names ascending =
     rising_same (sorted names) names (sorted-rising names) (rising-from_ascending names ascending)
     (λ name. count-permutation name names (sorted names) (sorted-permutation names))
+
+-- some names in an order in which they ascend are these names sorted
+pub ascending-sorted : (names after : List (List ℕ)) → IsPermutation names after → AreAscending after → after ≡ sorted names
+ascending-sorted names after moved ascending = sym (sorted-of_ascending after ascending) ∙ sym (sorted-same names after moved)
+
+-- sorted names of settings are names of these settings
+pub sorted-names : (p : SettingsValue) (names : List (List ℕ)) → AreNames p names → AreNames p (sorted names)
+sorted-names p names valid x among = valid x ((among-sorted names x).1 among)

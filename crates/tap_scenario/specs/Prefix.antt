@@ -1,22 +1,22 @@
--- how the digits of a prefix are kept: as a name, where there are any
+-- how the digits of a prefix are kept: as a name, if there are any
 use Rattle.std.specs.Prelude.{◌≡◌, ◌≢◌, ℕ, List, [], ◌∷◌, Option, None, Some, refl}
 
--- no name without a digit is kept
-abbrev pub IsKept : Option (List ℕ) → Type 0
-IsKept None = Unit {0}
-IsKept (Some digits) = digits ≢ []
+-- a name that is there has a digit
+abbrev pub IsPrefixName : Option (List ℕ) → Type 0
+IsPrefixName None = Unit {0}
+IsPrefixName (Some digits) = digits ≢ []
 
--- the digits
-abbrev pub digits_of : Option (List ℕ) → List ℕ
-digits_of None = []
-digits_of (Some digits) = digits
+-- the digits of the prefix that is kept as this name, or as none
+abbrev pub prefix_digits : Option (List ℕ) → List ℕ
+prefix_digits None = []
+prefix_digits (Some digits) = digits
 
--- how they are kept
-abbrev pub kept : List ℕ → Option (List ℕ)
-kept [] = None
-kept (digit ∷ digits) = Some (digit ∷ digits)
+-- the name as which a prefix of these digits is kept, if there are any
+abbrev pub prefix_name : List ℕ → Option (List ℕ)
+prefix_name [] = None
+prefix_name (digit ∷ digits) = Some (digit ∷ digits)
 
-pub kept_digits : (digits : Option (List ℕ)) → IsKept digits → kept (digits_of digits) ≡ digits
-kept_digits None is = refl
-kept_digits (Some []) is = absurd (is refl)
-kept_digits (Some (digit ∷ digits)) is = refl
+pub prefix_name-digits : (name : Option (List ℕ)) → IsPrefixName name → prefix_name (prefix_digits name) ≡ name
+prefix_name-digits None is = refl
+prefix_name-digits (Some []) is = absurd (is refl)
+prefix_name-digits (Some (digit ∷ digits)) is = refl

@@ -106,17 +106,17 @@ pub struct Prefix {
 
 impl Model for Prefix {
     ghost use Rattle.std.specs.Prelude.{List, ℕ};
-    ghost use Rattle.tap_scenario.specs.Prefix.{IsKept, digits_of, kept, kept_digits};
+    ghost use Rattle.tap_scenario.specs.Prefix.{IsPrefixName, prefix_digits, prefix_name, prefix_name-digits};
 
     ghost Value = { List ℕ };
 
-    ghost view = { λ p. digits_of p.digits };
+    ghost view = { λ p. prefix_digits p.digits };
 
-    ghost invariant = { λ p. IsKept p.digits };
+    ghost invariant = { λ p. IsPrefixName p.digits };
 
-    ghost inverse = { λ xs. record { digits = kept xs } };
+    ghost inverse = { λ xs. record { digits = prefix_name xs } };
 
-    ghost inverse_ok = { λ p h i. record { digits = kept_digits p.digits h i } };
+    ghost inverse_ok = { λ p h i. record { digits = prefix_name-digits p.digits h i } };
 }
 
 impl Prefix {

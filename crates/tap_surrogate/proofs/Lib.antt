@@ -10,4 +10,5 @@ pub mod RestTables
 pub mod Least
 pub mod NextHops
 pub mod Chains
+pub mod SettledAtRest
 pub mod HoleFreeLinks

@@ -93,7 +93,7 @@ some_table None P h = absurd h
 some_table (Some table) P h = (table, refl, h)
 
 -- a permutation has the same names
-moved : (xs ys : List (List ℕ)) → IsPermutation xs ys → (x : List ℕ) → Among x ys → Among x xs
+pub moved : (xs ys : List (List ℕ)) → IsPermutation xs ys → (x : List ℕ) → Among x ys → Among x xs
 moved xs ys same =
     let P : List ℕ → Type 0 = λ x. Among x xs in
     among-All P ys (All-permutation P xs ys same (All-among P xs (λ x among. among)))

@@ -16,7 +16,7 @@ use Rattle.tap_table.specs.Table.{IsTable, StandsIn, TableValue, name_cmp, place
 use Rattle.tap_table.specs.Ties.{AreTies}
 use Rattle.tap_table.proofs.Fitting.{no_slot_of_itself, slot_of_other}
 use Rattle.tap_table.proofs.Grown.{all_settled}
-use Rattle.tap_table.proofs.Holding.{not_held_by_itself}
+use Rattle.tap_table.proofs.Holding.{not_held_by_itself, word_of}
 use Rattle.tap_table.proofs.Least.{AllPairs-take, is_slot-to}
 
 -- what ascends as names does so as targets of links and as keys of words
@@ -41,6 +41,14 @@ All-filtered test P Q (x ∷ xs) all gives =
       | inr fails ↦ rw fails rest
     ]
 
+-- the links of a slot at rest, by its number
+pub links_at_rest : (p : SettingsValue) (owner : List ℕ) (names : List (List ℕ)) (number : ℕ) → number < p.base * p.digits
+    → get_or (table_at_rest p owner names).slots number []
+    ≡ settled_links (first_fitting p owner (slot_numbered p.base number) names)
+links_at_rest p owner names number inside =
+    get_or-map-range_with_len (λ n. settled_links (first_fitting p owner (slot_numbered p.base n) names)) 0 (p.base * p.digits) number
+    number [] inside (omega arith)
+
 module _ (p : SettingsValue) (owner : List ℕ) (names : List (List ℕ)) (limits : AreWithinLimits p) (is_owner : IsName p owner)
     (are_names : All (IsName p) names) (ascending : AllPairs IsBelow names) where
   abbrev targets : ℕ → List (List ℕ)
@@ -48,10 +56,6 @@ module _ (p : SettingsValue) (owner : List ℕ) (names : List (List ℕ)) (limit
 
   abbrev rest : TableValue
   rest = table_at_rest p owner names
-
-  links_are : (number : ℕ) → number < p.base * p.digits → get_or rest.slots number [] ≡ settled_links (targets number)
-  links_are number inside =
-      get_or-map-range_with_len (λ n. settled_links (targets n)) 0 (p.base * p.digits) number number [] inside (omega arith)
 
   no_links : (number : ℕ) → p.base * p.digits ≤ number → get_or rest.slots number [] ≡ []
   no_links number past =
@@ -66,7 +70,8 @@ module _ (p : SettingsValue) (owner : List ℕ) (names : List (List ℕ)) (limit
       let few = length-take p.width fitting_names in
       let count = all_settled (targets number) in
       record {
-        ascending = AllPairs-of_map IsBelow (λ target. record { target = target; kind = Settled }) (λ e. e.target) (λ name. refl) (targets number) pairs;
+        ascending = AllPairs-of_map IsBelow (λ target. record { target = target; kind = Settled }) (λ e. e.target) (λ name. refl)
+            (targets number) pairs;
         within_width = omega arith;
       }
 
@@ -96,11 +101,11 @@ module _ (p : SettingsValue) (owner : List ℕ) (names : List (List ℕ)) (limit
         owner = is_owner;
         count = length-map-range_with_len (λ n. settled_links (targets n)) 0 (p.base * p.digits);
         standing = λ number. elim (cases_lt number (p.base * p.digits)) [
-          | inl inside ↦ rw (links_are number inside) (standing number)
+          | inl inside ↦ rw (links_at_rest p owner names number inside) (standing number)
           | inr past ↦ rw (no_links number past) (λ k d within. absurd (omega arith))
         ];
         sets = λ number. elim (cases_lt number (p.base * p.digits)) [
-          | inl inside ↦ rw (links_are number inside) (set_is number)
+          | inl inside ↦ rw (links_at_rest p owner names number inside) (set_is number)
           | inr past ↦ rw (no_links number past) (record {
             ascending = λ i j d before within. absurd (omega arith);
             within_width = omega arith;
@@ -113,10 +118,10 @@ module _ (p : SettingsValue) (owner : List ℕ) (names : List (List ℕ)) (limit
       let holding = filter (holds p owner names) names in
       record {
         table = IsTable-at_rest;
-        ascending = AllPairs-of_map IsBelow (λ member. record { key = member; version = 0; value = true }) (λ e. e.key) (λ name. refl) holding
+        ascending = AllPairs-of_map IsBelow word_of (λ e. e.key) (λ name. refl) holding
             (AllPairs-filter IsBelow (holds p owner names) names ascending);
-        names = All-map (λ e. IsName p e.key) (λ member. record { key = member; version = 0; value = true }) holding (All-filter (holds p owner names) (IsName p) names are_names);
-        others = All-map (λ e. e.key ≢ owner) (λ member. record { key = member; version = 0; value = true }) holding
+        names = All-map (λ e. IsName p e.key) word_of holding (All-filter (holds p owner names) (IsName p) names are_names);
+        others = All-map (λ e. e.key ≢ owner) word_of holding
             (All-filtered (holds p owner names) (IsName p) (λ name. name ≢ owner) names are_names
             (λ name is_name held same.
             let wrong : true ≡ false = sym held ∙ ap (holds p owner names) same ∙ not_held_by_itself p owner names in cc));

@@ -17,6 +17,8 @@ pub mod Hops
 pub mod Fitting
 pub mod Grown
 pub mod Holding
-pub mod Ascending
 pub mod Least
 pub mod AtRest
+pub mod Held
+pub mod Flat
+pub mod ByName

@@ -3,6 +3,7 @@ pub mod Sets
 pub mod Row
 pub mod Place
 pub mod Next
+pub mod ByName
 pub mod Ties
 pub mod Members
 pub mod Laws

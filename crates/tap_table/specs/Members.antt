@@ -7,6 +7,7 @@ use Rattle.tap_name.specs.declared.slot.Slot.{Slot}
 use Rattle.tap_name.specs.Settings.{SettingsValue}
 use Rattle.tap_name.specs.Slot.{slot_at, Fits}
 use Rattle.tap_name.specs.Root.{Among}
+use Rattle.tap_name.specs.Order.{sorted}
 pub use Rattle.tap_name.specs.Order.{IsBelow}
 use Rattle.tap_link.specs.declared.kind.Kind.TheVariants.{Settled}
 use Rattle.tap_register.specs.declared.registers.Entry.{Entry}
@@ -50,6 +51,11 @@ holds p owner names member =
 abbrev pub holders_at_rest : SettingsValue → List ℕ → List (List ℕ) → List (List ℕ) → List (Entry (List ℕ) Bool)
 holders_at_rest p owner names members =
     map (λ member. record { key = member; version = 0; value = true }) (filter (holds p owner names) members)
+
+-- the ties of an owner at rest over the members, which are taken in ascending order
+abbrev pub ties_at_rest : SettingsValue → List ℕ → List (List ℕ) → TiesValue
+ties_at_rest p owner members =
+    record { table = table_at_rest p owner (sorted members); holders = holders_at_rest p owner (sorted members) (sorted members) }
 
 -- These links are the `width` least members that fit a slot of the owner, ascending; all that fit, where they are fewer.
 pub record AreLeastFitting (width : ℕ) (owner : List ℕ) (slot : Slot)

@@ -6,6 +6,7 @@ mod next;
 mod rest;
 mod row;
 mod sets;
+mod slot_range;
 mod table;
 #[cfg(test)]
 mod tests;
@@ -15,6 +16,7 @@ mod ties;
 pub use memory::NoMemory;
 pub use next::Next;
 pub use row::Row;
+pub use slot_range::SlotRange;
 pub use table::Table;
 pub use tie::Tie;
 pub use ties::Ties;

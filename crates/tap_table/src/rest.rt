@@ -1,5 +1,6 @@
 ghost use Rattle.std.specs.Prelude.{◌≡◌, ◌≢◌, ◌&&◌, ◌++◌, ◌∷◌, [], nat_eq, length, All, AllPairs, IfOk, OnOk};
 ghost use Rattle.tap_name.specs.Name.{IsName};
+ghost use Rattle.tap_name.specs.Order.{sorted};
 ghost use Rattle.tap_name.specs.Slot.{slot_at};
 ghost use Rattle.std.specs.List.{list_any};
 ghost use Rattle.std.specs.Cmp.Lexicographic.{pointwise};
@@ -9,8 +10,17 @@ ghost use Rattle.tap_table.specs.Table.{IsTable, offered};
 use crate::memory::NoMemory;
 use crate::table::Table;
 use std::alloc::Global;
-use tap_name::{Name, Settings, Slot, slot_of};
+use tap_name::{List, Name, Settings, Slot, slot_of};
 use tap_register::Registers;
+
+// The members in ascending order.
+pub(crate) fn sorted_names(alloc: Global, members: &List<Name>) -> Result<Vec<Name>, NoMemory>
+    ensures { IfOk result (λ names. names.items ≡ sorted members.now) }
+{
+    let mut names = Vec::from_slice(alloc, members.as_slice())?;
+    names.sort()?;
+    Ok(names)
+}
 
 // The table of an owner with settled links to the first of these names that fit each slot.
 pub(crate) fn table_over(

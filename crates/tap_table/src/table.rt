@@ -4,12 +4,14 @@ ghost use Rattle.tap_link.specs.LinkSet.{is_pinned, is_settled, is_settled_or_le
 ghost use Rattle.tap_name.specs.Name.{IsName};
 ghost use Rattle.tap_table.specs.Next.{HopsTo, IsHop, TakesOwnFrom, can_take, hop_to, next_from, primary_at, taken_digit};
 ghost use Rattle.tap_table.specs.Table.{IsTable, empty_table, forgotten, has_room_near, kind_in, links_at, links_near, marked, near, offered, pinned, place_of, released, removed, rows, set_at, slot_number};
+ghost use Rattle.tap_table.specs.ByName.{range_by_name};
 ghost use Rattle.tap_table.specs.Row.{row_of};
 
 use crate::memory::NoMemory;
 use crate::next::Next;
 use crate::row::Row;
 use crate::sets::Sets;
+use crate::slot_range::SlotRange;
 use std::alloc::Global;
 use std::marker::Model;
 use tap_link::{Cease, Forget, Kind, LinkSet, Release, Released};
@@ -176,6 +178,34 @@ impl Table {
         &self.sets.as_slice()[number]
     }
 
+    /// The slots in the order of the names that fit them, in ranges, of which this is one by its place,
+    /// from 0 and below twice the number of digits: up the levels over the digits below the owner's,
+    /// then down the levels over those above it.
+    ///
+    /// Who goes through the ranges in turn, through the slots of each and through the links of each slot
+    /// sees all links in ascending order of their targets.
+    pub fn range_by_name(&self, i: usize) -> SlotRange
+        requires { i < 2 * self.now.settings.digits }
+        ensures value { result ≡ range_by_name self.now.settings self.now.owner i }
+        ensures level { result.level < self.now.settings.digits }
+        ensures end { result.to ≤ self.now.settings.base }
+    {
+        let digits = self.settings.digits() as usize;
+        if i < digits {
+            return SlotRange {
+                level: i as u8,
+                from: 0,
+                to: self.owner.digit(i),
+            };
+        }
+        let level = 2 * digits - 1 - i;
+        SlotRange {
+            level: level as u8,
+            from: self.owner.digit(level) + 1,
+            to: self.settings.base(),
+        }
+    }
+
     /// The least target in a slot that is settled and not leaving, `None` exactly where there is
     /// none. The slot's level is below the number of digits, and its digit below the base.
     pub fn primary(&self, slot: Slot) -> Option<Name>
@@ -196,9 +226,9 @@ impl Table {
 
     /// Pins a target that the table has no link to, and answers whether it had none.
     ///
-    /// `NoMemory` comes only where a link would be added to four links or more; where a slot has 2^54
-    /// links, it comes in any case. A table that is refused memory stays as it was. The target is a name
-    /// of the settings, and not the owner.
+    /// `NoMemory` comes only where a link would be added to four links or more, and always where it
+    /// would be added to 2^54. A table that is refused memory stays as it was. The target is a name of
+    /// the settings, and not the owner.
     pub fn pin(&mut self, target: Name) -> Result<bool, NoMemory>
         requires name { IsName self.old.settings target }
         requires other { target ≢ self.old.owner }
@@ -218,9 +248,9 @@ impl Table {
     /// and answers whether it did. There is room where fewer links of the slot are settled and not
     /// leaving than the width of the settings.
     ///
-    /// `NoMemory` comes only where a link would be added to four links or more; where a slot has 2^54
-    /// links, it comes in any case. A table that is refused memory stays as it was. The target is a name
-    /// of the settings, and not the owner.
+    /// `NoMemory` comes only where a link would be added to four links or more, and always where it
+    /// would be added to 2^54. A table that is refused memory stays as it was. The target is a name of
+    /// the settings, and not the owner.
     pub fn offer(&mut self, target: Name) -> Result<bool, NoMemory>
         requires name { IsName self.old.settings target }
         requires other { target ≢ self.old.owner }

@@ -6,7 +6,7 @@ ghost use Rattle.tap_table.specs.Table.{empty_table, has_room_near, kind_in, lin
 ghost use Rattle.tap_table.specs.Ties.{AreTies, forgotten, held_word, holders_on, marked, offer_tells, offered, pin_tells, pinned, release_tells, released, removed, stamp_after};
 
 use crate::memory::NoMemory;
-use crate::rest::{holders_over, table_over};
+use crate::rest::{holders_over, sorted_names, table_over};
 use crate::table::Table;
 use crate::tie::Tie;
 use std::alloc::Global;
@@ -42,7 +42,7 @@ impl Model for Ties {
 
 impl Ties {
     ghost use Rattle.tap_name.specs.Distinct.{AreDistinct};
-    ghost use Rattle.tap_table.specs.Members.{AreAtRest};
+    ghost use Rattle.tap_table.specs.Members.{AreAtRest, ties_at_rest};
 
     /// No links and no holders. The owner is a name of the settings.
     pub fn new(alloc: Global, owner: Name, settings: &Settings) -> Result<Ties, NoMemory>
@@ -74,13 +74,15 @@ impl Ties {
         requires names { All (IsName settings.now) members.now }
         requires distinct { AreDistinct members.now }
         requires owner { Contains members.now owner }
-        ensures { IfOk result (AreAtRest settings.now owner members.now) }
+        ensures rest { IfOk result (AreAtRest settings.now owner members.now) }
+        ensures value { IfOk result (λ ties. ties ≡ ties_at_rest settings.now owner members.now) }
+        ensures valid { IfOk result AreTies }
     {
-        let mut names = Vec::from_slice(alloc, members.as_slice())?;
-        names.sort()?;
+        let sorted = sorted_names(alloc, members)?;
+        let names = sorted.as_slice();
         Ok(Ties {
-            table: table_over(alloc, owner, settings, names.as_slice())?,
-            holders: holders_over(alloc, &owner, settings, names.as_slice())?,
+            table: table_over(alloc, owner, settings, names)?,
+            holders: holders_over(alloc, &owner, settings, names)?,
         })
     }
 

@@ -61,7 +61,7 @@ kept_more p members owners i owner name ties old new within is rest grown so_far
     subst Over (sym more) (elim (cases_Bool (bytes_eq owner name)) [
       | inl e ↦
           subst Is (sym (grown ∙ ap given (test ∙ e))) (kept_new p members front owner name ties
-              (sym ((bytes_eq-Decides owner name).0 e)) rest)
+          (sym ((bytes_eq-Decides owner name).0 e)) rest)
       | inr e ↦
           let other : name ≡ owner → ⊥ = λ same. let yes = (bytes_eq-Decides owner name).1 (sym same) in absurd (cc) in
           subst Is (sym (grown ∙ ap given (test ∙ e))) (kept_as_before p members front owner name old other so_far)

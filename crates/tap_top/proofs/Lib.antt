@@ -1,3 +1,4 @@
+pub mod Flushing
 pub mod Kept
 pub mod Lines
 pub mod RunLemmas

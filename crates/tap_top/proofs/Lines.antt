@@ -46,11 +46,11 @@ rows_below base (links ∷ numbered) some =
     rw (flat_map-cons (rows_of base) links numbered) (
     All-append Below (rows_of base links) (flat_map (rows_of base) numbered)
     (All-map Below (λ e. record { slot = record { level = links.0 / base; digit = links.0 % base }; entry = e }) links.1
-        (λ i e within. mod-lt links.0 some))
+    (λ i e within. mod-lt links.0 some))
     (rows_below base numbered some))
 
 -- each line's digit is below the base
 pub lines_below : (table : TableValue) → zero < table.settings.base → All (λ line. line.slot.digit < table.settings.base) (lines_of table)
 lines_below table some =
     All-map (λ line. line.slot.digit < table.settings.base) line_of (rows table)
-        (rows_below table.settings.base (enumerate_from 0 table.slots) some)
+    (rows_below table.settings.base (enumerate_from 0 table.slots) some)

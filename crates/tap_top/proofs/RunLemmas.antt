@@ -173,7 +173,7 @@ after_each Q before (item ∷ items) zero each from to = absurd (omega arith)
 after_each Q before (item ∷ items) (suc zero) each from to = each.0
 after_each Q before (item ∷ items) (suc (suc k)) each from to =
     subst Q (append_assoc before (item ∷ []) (take (suc k) items))
-        (after_each Q (before ++ item ∷ []) items (suc k) each.1 (omega arith) (omega arith))
+    (after_each Q (before ++ item ∷ []) items (suc k) each.1 (omega arith) (omega arith))
 
 -- the first record of a run
 pub has_begun : (s : ScenarioValue) (nodes : Nodes) (first : Record) → first ≡ Begin s.settings s.frames s.members
@@ -222,18 +222,21 @@ has_run_more s nodes log count index step answer script rest run this within ind
     let have = subst Have (sym core_mid) (have_settings s.settings s.members nodes rest) in
     let some : 0 < s.settings.base = omega (arith, script.settings.base_from) in
     let says = answer_says s.settings nodes mid index step answer is_step some have free
-        (last_of-push log (StepRecord index step)) answered in
+    (last_of-push log (StepRecord index step)) answered in
     let core_new : core_of new ≡ s.members =
     core_of-left mid answer says.leaves ∙ core_mid in
     let steps_mid : steps_of mid ≡ steps_of log ++ step ∷ [] = steps_of-push log (StepRecord index step) in
     let no_more : steps_of new ≡ steps_of mid = steps_of-push mid answer ∙ ap (λ o. steps_of mid ++ cons_option o []) says.no_step
-        ∙ append-nil (steps_of mid) in
+    ∙ append-nil (steps_of mid) in
     let Ends : Option Record → Type 0 = λ last. IsTrue (ends_group last) in
     let settings_mid : settings_of mid ≡ Some s.settings = settings_of-push log (StepRecord index step) ∙ run.settings in
     let Prints : Option SettingsValue → Type 0 = λ settings. IsPrintable settings answer in
     record {
-      begins = (run.begins.0 ++ StepRecord index step ∷ [] ++ answer
-          ∷ [], ap (λ l. (l ++ StepRecord index step ∷ []) ++ answer ∷ []) run.begins.1);
+      begins = (
+        run.begins.0 ++ StepRecord index step ∷ [] ++ answer
+            ∷ [],
+        ap (λ l. (l ++ StepRecord index step ∷ []) ++ answer ∷ []) run.begins.1,
+      );
       between = subst Ends (sym (last_of-push mid answer)) says.ends;
       steps = no_more ∙ steps_mid ∙ ap (λ l. l ++ step ∷ []) run.steps ∙ ap (λ x. take count s.steps ++ x ∷ []) (sym this_step)
           ∙ sym (take_more s.steps count step within);
@@ -241,7 +244,7 @@ has_run_more s nodes log count index step answer script rest run this within ind
       settings = settings_of-push mid answer ∙ says.settings (settings_of mid) ∙ settings_mid;
       each = EachRecord-push (MayStand s.settings nodes) mid answer
           (EachRecord-push (MayStand s.settings nodes) log (StepRecord index step) run.each
-              (run.between, index_is ∙ ap (λ n. n + 1) (sym begun))) says.stands;
+          (run.between, index_is ∙ ap (λ n. n + 1) (sym begun))) says.stands;
       keeps_core = EachRecord-push (KeepsCore s.members) mid answer
           (EachRecord-push (KeepsCore s.members) log (StepRecord index step) run.keeps_core core_mid) core_new;
       finds_roots = EachRecord-push (FindsRoot s.settings) mid answer
@@ -294,7 +297,7 @@ whole_run s nodes log last script rest run is =
     let begun = steps_begun s nodes log (length s.steps) run (omega arith) in
     let core_new : core_of new ≡ s.members = core_of-left log end refl ∙ run.core in
     let steps_new : steps_of new ≡ s.steps = steps_of-push log end ∙ append-nil (steps_of log) ∙ run.steps
-        ∙ take_all (length s.steps) s.steps (omega arith) in
+    ∙ take_all (length s.steps) s.steps (omega arith) in
     let IsWholeAt : Option Record → Type 0 = λ o. IsTrue (is_whole o) in
     let keeps = EachRecord-push (KeepsCore s.members) log end run.keeps_core core_new in
     subst Whole (sym is) (

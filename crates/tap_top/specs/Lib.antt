@@ -1,7 +1,10 @@
+pub mod Limits
 pub mod Members
 pub mod AtRest
 pub mod Lines
+pub mod Status
 pub mod FaultLine
+pub mod Reading
 pub mod Lawful
 pub mod Headline
 pub mod Running

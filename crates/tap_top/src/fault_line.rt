@@ -1,6 +1,5 @@
 ghost use Rattle.std.specs.Prelude.{◌≡◌};
 ghost use Rattle.tap_report.specs.Written.{WritesText};
-ghost use Rattle.tap_top.specs.Ending.{HasWritten};
 ghost use Rattle.tap_top.specs.FaultLine.{fault_line, text_of_fault};
 
 use crate::status::Status;
@@ -9,24 +8,9 @@ use tap_io::Sink;
 use tap_report::{Written, write_text};
 use tap_scenario::Fault;
 
-/// Writes the fault line of a program that ends before it calls [`run`](crate::run), as one whose words can't be had, and
-/// says how it then ends: so, or with `WriteFault` where a write failed.
-///
-/// Rule: docs/FORMATS.md, "The fault line and the exit status".
-pub fn tell_fault<K: Sink>(before: Status, sink: &mut K) -> Status
-    ensures { HasWritten (K.held sink.old) (K.held sink.new) (K.faults sink.old) (K.faults sink.new)
-        (fault_line before) before result }
-{
-    match write_fault_line(sink, Written::All, before) {
-        Written::All => before,
-        Written::Failed => Status::WriteFault,
-    }
-}
-
-// Writes the line that says why a run didn't end with `done`, behind the text of its log.
+// Writes the line that says why a run didn't end with `done`, after the text of its log.
 pub(crate) fn write_fault_line<K: Sink>(sink: &mut K, so_far: Written, status: Status) -> Written
-    ensures { WritesText (K.held sink.old) (K.held sink.new)
-        (K.faults sink.old) (K.faults sink.new) (fault_line status) so_far result }
+    ensures { WritesText (K.state sink.old) (K.state sink.new) (fault_line status) so_far result }
 {
     match status {
         Status::NotScenario(fault) => write_not_scenario(sink, so_far, fault),
@@ -44,8 +28,7 @@ pub(crate) fn write_fault_line<K: Sink>(sink: &mut K, so_far: Written, status: S
 
 // Writes the line on a text that is no scenario's.
 fn write_not_scenario<K: Sink>(sink: &mut K, so_far: Written, fault: Fault) -> Written
-    ensures { WritesText (K.held sink.old) (K.held sink.new)
-        (K.faults sink.old) (K.faults sink.new) (fault_line (Status.NotScenario fault)) so_far result }
+    ensures { WritesText (K.state sink.old) (K.state sink.new) (fault_line (Status.NotScenario fault)) so_far result }
 {
     let so_far = write_text(sink, so_far, b"tapestry: not a scenario: ");
     let so_far = write_fault(sink, so_far, fault);
@@ -54,8 +37,7 @@ fn write_not_scenario<K: Sink>(sink: &mut K, so_far: Written, fault: Fault) -> W
 
 // Writes what is wrong with a text.
 fn write_fault<K: Sink>(sink: &mut K, so_far: Written, fault: Fault) -> Written
-    ensures { WritesText (K.held sink.old) (K.held sink.new)
-        (K.faults sink.old) (K.faults sink.new) (text_of_fault fault) so_far result }
+    ensures { WritesText (K.state sink.old) (K.state sink.new) (text_of_fault fault) so_far result }
 {
     match fault {
         Fault::NotUtf8 => write_text(sink, so_far, b"not UTF-8"),

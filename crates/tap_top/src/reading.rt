@@ -1,5 +1,6 @@
-ghost use Rattle.std.specs.Prelude.{◌≡◌, ◌≤◌, ◌<◌, [], length, vec_len, OnOk, IfOk, IsErrOf, IfSome};
+ghost use Rattle.std.specs.Prelude.{IfOk, IsErrOf};
 ghost use Rattle.tap_io.specs.Faults.{HasRisen};
+ghost use Rattle.tap_top.specs.Reading.{HasReadAll, HasReadTooMany};
 
 use std::alloc::Global;
 use tap_io::{Got, Source};
@@ -19,12 +20,9 @@ pub(crate) enum Unread {
 
 // Reads a source to its end, or one byte past the limit. The first read that fails ends it.
 pub(crate) fn read_all<S: Source>(alloc: Global, source: &mut S) -> Result<Vec<u8>, Unread>
-    ensures bytes { IfOk result (λ bytes. IfSome (S.left source.old) (λ all. bytes.items ≡ all)) }
-    ensures ended { OnOk result (IfSome (S.left source.new) (λ rest. rest ≡ [])) }
-    ensures within { IfOk result (λ bytes. vec_len bytes ≤ MOST_BYTES) }
-    ensures later { S.faults source.old ≤ S.faults source.new }
-    ensures failed { IsErrOf result Unread.Failed → HasRisen (S.faults source.old) (S.faults source.new) }
-    ensures too_long { IsErrOf result Unread.TooLong → IfSome (S.left source.old) (λ all. MOST_BYTES < length all) }
+    ensures all { IfOk result (λ bytes. HasReadAll (S.state source.old) (S.state source.new) bytes.items) }
+    ensures failed { IsErrOf result Unread.Failed → HasRisen (S.state source.old).faults (S.state source.new).faults }
+    ensures too_long { IsErrOf result Unread.TooLong → HasReadTooMany (S.state source.old) (S.state source.new) }
 {
     let mut bytes = Vec::new(alloc);
     let mut piece = [0u8; 16384];

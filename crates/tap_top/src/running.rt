@@ -1,6 +1,7 @@
-ghost use Rattle.std.specs.Prelude.{◌≡◌, ◌<◌, ◌≤◌, ◌+◌, [], ◌∷◌, ◌++◌, ℕ, List as Items, Option as Optional, None, Some, OnOk, OnErr, IfOk, length, ◌⊎◌, fold, take};
+ghost use Rattle.std.specs.Prelude.{◌≡◌, ◌<◌, ◌≤◌, ◌+◌, [], None, OnOk, OnErr, IfOk, length, ◌⊎◌, fold, take};
 ghost use Rattle.tap_report.specs.Text.{IsPrintableLog};
-ghost use Rattle.tap_report.specs.Reporter.{Reports, settings_after, kept_at_first};
+ghost use Rattle.tap_io.specs.Sink.{SinkState};
+ghost use Rattle.tap_report.specs.Reporter.{Reports, most_records, new_reporter, settings_after};
 ghost use Rattle.tap_report.specs.declared.mode.Mode.{Mode as ReportMode};
 ghost use Rattle.tap_top.specs.AtRest.{AreKeptAtRest, nodes_of};
 ghost use Rattle.tap_top.specs.Headline.{IsLogOf, IsWholeLogOf};
@@ -13,7 +14,7 @@ use std::alloc::Global;
 use tap_io::Sink;
 use tap_log::{Log, Record};
 use tap_name::List;
-use tap_report::{MOST_RECORDS, Reporter};
+use tap_report::Reporter;
 use tap_scenario::Scenario;
 
 // Adds the group of the step at a place: the step, and the record that answers it. A refused call adds nothing.
@@ -54,13 +55,13 @@ fn begin(alloc: Global, scenario: &Scenario) -> Result<Record, NoMemory>
 // Puts the records from a place on.
 fn put_from<K: Sink>(log: &Log, from: usize, reporter: &mut Reporter, sink: &mut K)
     requires printable { IsPrintableLog log.now.records }
-    requires few { length log.now.records < MOST_RECORDS }
+    requires few { length log.now.records < most_records }
     requires from { from ≤ length log.now.records }
     requires put { reporter.old.records ≡ from }
     requires settings { reporter.old.settings ≡ fold settings_after None (take from log.now.records) }
-    ensures { (mode : ReportMode) (held : Optional (Items ℕ)) (faults : ℕ)
-        → Reports mode (take from log.now.records) held (K.held sink.old) faults (K.faults sink.old) reporter.old
-        → Reports mode log.now.records held (K.held sink.new) faults (K.faults sink.new) reporter.new }
+    ensures { (mode : ReportMode) (first : SinkState)
+        → Reports mode (take from log.now.records) first (K.state sink.old) reporter.old
+        → Reports mode log.now.records first (K.state sink.new) reporter.new }
 {
     for place in from..log.len() {
         reporter.put(log.at(place), sink);
@@ -76,12 +77,11 @@ pub(crate) fn run_scenario<K: Sink>(
     sink: &mut K,
 ) -> Result<(), NoMemory>
     requires empty { log.old.records ≡ [] }
-    requires fresh { reporter.old ≡ kept_at_first reporter.old.mode }
+    requires fresh { reporter.old ≡ new_reporter reporter.old.mode }
     ensures done { OnOk result (IsWholeLogOf scenario.now log.new.records) }
     ensures part { OnErr result ((log.new.records ≡ []) ⊎ IsLogOf scenario.now log.new.records) }
     ensures printable { IsPrintableLog log.new.records }
-    ensures reports { Reports reporter.old.mode log.new.records (K.held sink.old) (K.held sink.new)
-        (K.faults sink.old) (K.faults sink.new) reporter.new }
+    ensures reports { Reports reporter.old.mode log.new.records (K.state sink.old) (K.state sink.new) reporter.new }
 {
     let members = Members::new(alloc, scenario.settings(), scenario.members())?;
     let first = begin(alloc, scenario)?;

@@ -1,4 +1,9 @@
+ghost use Rattle.std.specs.Prelude.{◌≡◌};
+ghost use Rattle.tap_top.specs.Ending.{with_writing};
+ghost use Rattle.tap_top.specs.Status.{exit_code};
+
 use tap_log::Log;
+use tap_report::Written;
 use tap_scenario::Fault;
 
 /// How the top call ended.
@@ -20,6 +25,34 @@ pub enum Status {
     WriteFault,
     /// Memory was refused.
     NoMemory,
+}
+
+impl Status {
+    /// The exit status of a program that ends so.
+    ///
+    /// Rule: docs/FORMATS.md, "The fault line and the exit status".
+    pub fn exit_code(&self) -> u8
+        ensures { result ≡ exit_code self.now }
+    {
+        match self {
+            Status::Done => 0,
+            Status::ReadFault => 1,
+            Status::Usage => 2,
+            Status::TooLong | Status::NotScenario(_) => 3,
+            Status::WriteFault => 4,
+            Status::NoMemory => 6,
+        }
+    }
+
+    // How it ends, where it would end so without a failed write.
+    pub(crate) fn with_writing(self, written: Written) -> Status
+        ensures { result ≡ with_writing self written }
+    {
+        match written {
+            Written::All => self,
+            Written::Failed => Status::WriteFault,
+        }
+    }
 }
 
 /// What the top call leaves.

@@ -89,7 +89,7 @@ fn frame_of(alloc: Global, settings: &Settings, kind: u8) -> Result<Vec<u8>, Fai
     Ok(frame)
 }
 
-// Reads a frame of a kind and spells it again, alone and behind a byte.
+// Reads a frame of a kind, and spells it again.
 fn check_frame(
     rt: &impl Abort,
     alloc: Global,
@@ -103,6 +103,17 @@ fn check_frame(
     assert!(rt; frame.from == head.from && frame.to == head.to);
     let again = encode(alloc, settings, &frame).map_err(|_| "memory")?;
     assert_eq!(rt; again.as_slice(), bytes);
+    Ok(())
+}
+
+// Reads a frame and spells it again behind a byte.
+fn check_appended(
+    rt: &impl Abort,
+    alloc: Global,
+    settings: &Settings,
+    bytes: &[u8],
+) -> Result<(), Fail> {
+    let frame = decode(alloc, settings, bytes).map_err(|_| "a frame")?;
     let mut out = vec![in alloc; 9]?;
     encode_into(&mut out, settings, &frame).map_err(|_| "memory")?;
     assert_eq!(rt; &out[1..], bytes);
@@ -116,6 +127,7 @@ fn reads_and_spells_each_kind(rt: HostRuntime) -> Result<(), Fail> {
         for kind in 1..18 {
             let bytes = frame_of(rt.alloc(), &settings, kind)?;
             check_frame(&rt, rt.alloc(), &settings, kind, bytes.as_slice())?;
+            check_appended(&rt, rt.alloc(), &settings, bytes.as_slice())?;
         }
     }
     Ok(())

@@ -6,18 +6,6 @@ use std::process::ExitCode;
 use tap_io::{StdSink, StdSource};
 use tap_top::Status;
 
-// The exit status of the program for how the run ended.
-fn exit_status(status: Status) -> u8 {
-    match status {
-        Status::Done => 0,
-        Status::ReadFault => 1,
-        Status::Usage => 2,
-        Status::TooLong | Status::NotScenario(_) => 3,
-        Status::WriteFault => 4,
-        Status::NoMemory => 6,
-    }
-}
-
 // How the program ends where its arguments can't be had: for want of memory, or since one of them isn't UTF-8.
 fn unread(error: io::Error) -> Status {
     match error.kind() {
@@ -26,7 +14,7 @@ fn unread(error: io::Error) -> Status {
     }
 }
 
-// The words behind the program's name, or how the program ends where they can't be had.
+// The words after the program's name, or how the program ends where they can't be had. It writes nothing then.
 fn words_of(rt: &HostRuntime) -> Result<Vec<String>, Status> {
     let mut words = Vec::new(rt.alloc());
     let arguments = std::env::args(rt).map_err(unread)?;
@@ -37,13 +25,13 @@ fn words_of(rt: &HostRuntime) -> Result<Vec<String>, Status> {
 }
 
 fn main(rt: HostRuntime) -> ExitCode {
-    let mut sink = StdSink::new(io::writer(&rt));
     let status = match words_of(&rt) {
-        Err(before) => tap_top::tell_fault(before, &mut sink),
+        Err(status) => status,
         Ok(words) => {
             let mut source = StdSource::new(rt.stdin());
+            let mut sink = StdSink::new(io::writer(&rt));
             tap_top::run(rt.alloc(), &words, &mut source, &mut sink).status
         }
     };
-    ExitCode::from(exit_status(status))
+    ExitCode::from(status.exit_code())
 }

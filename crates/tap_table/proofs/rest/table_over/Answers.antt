@@ -4,7 +4,6 @@ use Rattle.std.proofs.lemmas.Bool.{cases_Bool, true≢false}
 use Rattle.std.proofs.lemmas.Slice.Eq.{bytes_eq-Decides}
 use Rattle.tap_name.specs.Name.{IsName}
 use Rattle.tap_table.specs.Table.{IsTable}
-use Rattle.tap_table.proofs.Ascending.{same_name}
 use Rattle.tap_table.proofs.AtRest.{IsTable-at_rest}
 use Rattle.tap_table.proofs.Grown.{HasSettled, settled_on_all, settled_on_none, settled_on_other, settled_on_owner}
 use Rattle.tap_table.proofs.rest.table_over.Goals as goal
@@ -31,7 +30,7 @@ loop-name-preserved c =
     let is_name = subst P (sym c.name-item.is) (c.requires.names i name c.loop-name-test.true) in
     elim (cases_Bool (bytes_eq name owner)) [
       | inl e ↦
-          let own = same_name name owner e in
+          let own = (bytes_eq-Decides name owner).0 e in
           settled_on_owner p owner names i name c.loop-name.table c.settle_on.new.table has c.loop-name-test.true c.name-item.is own
           (c.in_ok-settle_on.ensures.owner (own ∙ sym has.owner_is))
       | inr e ↦

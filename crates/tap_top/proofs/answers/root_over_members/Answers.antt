@@ -6,4 +6,4 @@ pub root_of-requires-clause-names : goal.root_of-requires-clause-names
 root_of-requires-clause-names c =
     let script = c.args.scenario.now in
     rw (c.members.ensures.value, c.settings.ensures.value)
-        (among-All (IsName script.settings) script.members c.settings.ensures.valid.members)
+    (among-All (IsName script.settings) script.members c.settings.ensures.valid.members)

@@ -1,13 +1,18 @@
-use Rattle.std.proofs.Common.{◌≤◌, ◌-◌, vec_len}
+use Rattle.std.proofs.Common.{◌≡◌, ◌≤◌, ◌-◌, vec_len}
 use Rattle.std.specs.Io.KnownBytes.{Consumes}
+use Rattle.tap_io.specs.Source.{SourceState}
+use Rattle.tap_top.specs.Limits.{most_bytes}
 use Rattle.tap_top.proofs.reading.read_all.Given as goal
 
 abbrev pub invariant-loop-bytes : goal.invariant-loop-bytes
-invariant-loop-bytes g l = record {
-  within : vec_len l.bytes ≤ 1048576;
-  later : g.S.Source.faults l.fn.source ≤ g.S.Source.faults l.source;
-  read : Consumes (g.S.Source.left l.fn.source) (g.S.Source.left l.source) l.bytes.items;
-}
+invariant-loop-bytes g l =
+    let old : SourceState = g.S.Source.state l.fn.source in
+    let now : SourceState = g.S.Source.state l.source in
+    record {
+      within : vec_len l.bytes ≤ most_bytes;
+      consumes : Consumes old.left now.left l.bytes.items;
+      faults : now.faults ≡ old.faults;
+    }
 
 abbrev pub decreases-loop-bytes : goal.decreases-loop-bytes
-decreases-loop-bytes g l = 1048576 - vec_len l.bytes
+decreases-loop-bytes g l = most_bytes - vec_len l.bytes

@@ -9,9 +9,9 @@ returns-clause-ok c =
     let script = c.args.scenario.now in
     let tables = nodes_of c.args.members.now in
     same_run script tables c.reserve.new.self.records c.push_reserved.new.self.records c.push_reserved-2.new.self.records
-        c.args.log.now.records
+    c.args.log.now.records
     (Step (c.args.place + 1) c.step_at-step.result) c.in_ok-record.record
-        (c.args.place + 1) c.reserve.ensures.records c.push_reserved.ensures.records c.push_reserved-2.ensures.records
+    (c.args.place + 1) c.reserve.ensures.records c.push_reserved.ensures.records c.push_reserved-2.ensures.records
     (has_run_more script tables c.args.log.now.records c.args.place
-        (c.args.place + 1) c.step_at-step.result c.in_ok-record.record c.step_at-step.ensures.valid
+    (c.args.place + 1) c.step_at-step.result c.in_ok-record.record c.step_at-step.ensures.valid
     c.requires.at_rest.at_rest c.requires.run c.step_at-step.ensures.value c.requires.place refl c.in_ok-record.ensures)

@@ -8,13 +8,13 @@ use Rattle.tap_top.proofs.running.put_from.Goals as goal
 pub put-requires-clause-begins : goal.put-requires-clause-begins
 put-requires-clause-begins g c =
     begins_next c.args.log.now.records c.loop-place.place c.at.result.now c.loop-place.reporter.settings c.requires.printable.begins
-        (omega arith)
+    (omega arith)
     (item_at c.args.log.now.records c.loop-place.place c.at.result.now c.at.ensures) c.loop-place.invariant.settings
 
 pub put-requires-clause-printable : goal.put-requires-clause-printable
 put-requires-clause-printable g c =
     IsPrintable-at c.args.log.now.records c.loop-place.place c.at.result.now c.loop-place.reporter.settings
-        (omega arith) c.at.ensures c.loop-place.invariant.settings
+    (omega arith) c.at.ensures c.loop-place.invariant.settings
     c.requires.printable.each
 
 pub loop-place-preserved : goal.loop-place-preserved
@@ -22,18 +22,17 @@ loop-place-preserved g c =
     let records_of : ReporterValue → ℕ = λ kept. kept.records in
     let settings_of : ReporterValue → Option SettingsValue = λ kept. kept.settings in
     record {
-      put = ap records_of c.put.ensures.keeps ∙ ap (λ n. n + 1) c.loop-place.invariant.put;
-      settings = ap settings_of c.put.ensures.keeps
+      put = ap records_of c.put.ensures.reporter ∙ ap (λ n. n + 1) c.loop-place.invariant.put;
+      settings = ap settings_of c.put.ensures.reporter
           ∙ settings_of-next c.args.log.now.records c.loop-place.place c.at.result.now c.loop-place.reporter.settings
           (omega arith) c.at.ensures c.loop-place.invariant.settings;
-      reports = λ mode held faults reports.
+      reports = λ mode first reports.
           Reports-next c.args.log.now.records c.loop-place.place c.at.result.now (omega arith)
           (item_at c.args.log.now.records c.loop-place.place c.at.result.now c.at.ensures)
-              (c.loop-place.invariant.reports mode held faults reports) c.put.ensures;
+          (c.loop-place.invariant.reports mode first reports) c.put.ensures;
     }
 
 pub returns : goal.returns
-returns g c = λ mode held faults reports.
-    Reports-all mode c.args.log.now.records c.loop-place.place held (g.K.Sink.held c.loop-place.sink) faults
-        (g.K.Sink.faults c.loop-place.sink) c.loop-place.reporter
-    (omega arith) (c.loop-place.invariant.reports mode held faults reports)
+returns g c = λ mode first reports.
+    Reports-all mode c.args.log.now.records c.loop-place.place first (g.K.Sink.state c.loop-place.sink) c.loop-place.reporter
+    (omega arith) (c.loop-place.invariant.reports mode first reports)

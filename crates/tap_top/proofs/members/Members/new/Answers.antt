@@ -13,6 +13,6 @@ returns c = record {
         (c.in_ok-ties.ensures name);
     tables = λ member among.
         table_kept c.args.settings c.args.members.now member (get (slice_cmp nat_cmp) c.in_ok-ties.ties member)
-            (c.in_ok-ties.ensures member) among;
+        (c.in_ok-ties.ensures member) among;
   };
 }

@@ -1,0 +1,16 @@
+use Rattle.std.proofs.Common.{◌++◌, ◌∙◌, arith, length-append, length-take-le, take}
+use Rattle.std.proofs.lemmas.List.{length-take}
+use Rattle.std.proofs.KnownBytes.{Consumes-trans}
+use Rattle.tap_top.proofs.reading.read_all.Goals as goal
+
+pub returns-then-n-len-clause-too_long : goal.returns-then-n-len-clause-too_long
+returns-then-n-len-clause-too_long g c = λ _.
+    let so_far = c.loop-bytes.invariant in
+    let got = c.in-Got.ensures.answer in
+    let piece = take c.in-Got.n c.read.new.into in
+    record {
+      bytes = c.loop-bytes.bytes.items ++ piece;
+      count = omega (arith, got.within, length-append c.loop-bytes.bytes.items piece, length-take-le c.in-Got.n c.read.new.into got.within, length-take c.min-wanted.result c.loop-bytes.piece);
+      consumes = Consumes-trans _ _ _ _ _ so_far.consumes got.bytes;
+      faults = got.faults ∙ so_far.faults;
+    }
