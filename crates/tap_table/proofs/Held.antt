@@ -9,10 +9,10 @@ use Rattle.tap_name.specs.Name.{IsName}
 use Rattle.tap_name.specs.Names.{Among, AreDistinct}
 use Rattle.tap_name.specs.Order.{AreAscending, IsBelow, sorted}
 use Rattle.tap_name.specs.Settings.{AreWithinLimits, SettingsValue}
-use Rattle.tap_name.proofs.Membership.{has_name-Decides}
+use Rattle.tap_name.proofs.Membership.{Contains-from_among, among-from_Contains, has_name-Decides}
 use Rattle.tap_name.proofs.Names.{among-filter, among-filter_from}
 use Rattle.tap_name.proofs.Orders.{below-cases, below-itself}
-use Rattle.tap_name.proofs.Sorted.{sorted-ascending, sorted-of_ascending, sorted-permutation, sorted-same}
+use Rattle.tap_name.proofs.Sorted.{among-sorted, sorted-ascending, sorted-of_ascending, sorted-permutation, sorted-same}
 use Rattle.tap_link.specs.declared.kind.Kind.TheVariants.{Settled}
 use Rattle.tap_link.specs.LinkSet.{kind_of}
 use Rattle.tap_table.specs.Members.{AreAtRest, IsTableAtRest, first_fitting, holders_at_rest, holds, settled_links, table_at_rest, ties_at_rest}
@@ -139,6 +139,13 @@ names_over p members names sorted_are all =
 
 pub ascending_over : (members names : List (List ℕ)) → names ≡ sorted members → AreDistinct members → AreAscending names
 ascending_over members names sorted_are distinct = rw sorted_are (sorted-ascending members distinct)
+
+-- and each member is one of them
+pub contains_over : (members names : List (List ℕ)) (member : List ℕ) → names ≡ sorted members → Contains members member
+    → Contains names member
+contains_over members names member sorted_are contains =
+    let among = (among-sorted members member).0 (among-from_Contains members member contains) in
+    rw sorted_are (Contains-from_among (sorted members) member among)
 
 -- a table and holders that were made over the members in their order
 pub record RestOver (p : SettingsValue) (owner : List ℕ) (members names : List (List ℕ)) (table : TableValue)

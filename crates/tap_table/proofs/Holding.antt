@@ -1,20 +1,18 @@
 -- The registers of holders over ascending names, and whether a member's table has a link to the owner.
-use Rattle.std.proofs.Common.{◌≡◌, inl, inr, ℕ, ◌+◌, ◌<◌, ◌≤◌, nat_eq, eqb, cond, Bool, true, false, None, suc, List, [], ◌∷◌, ◌++◌, length, map, take, drop, filter, get_or, AllPairs, refl, ap, sym, ◌∙◌}
-use Rattle.std.specs.List.{common_prefix_len, list_any}
-use Rattle.std.specs.Cmp.Lexicographic.{pointwise}
+use Rattle.std.proofs.Common.{◌≡◌, inl, inr, ℕ, ◌+◌, ◌<◌, nat_eq, eqb, cond, Bool, true, false, None, List, [], ◌∷◌, ◌++◌, length, map, take, filter, get_or, AllPairs, refl, ap, sym, ◌∙◌}
+use Rattle.std.specs.List.{common_prefix_len}
 use Rattle.std.specs.Ordering.{is_gt, is_lt}
 use Rattle.std.specs.declared.cmp.Ordering.TheVariants.{Less}
 use Rattle.std.proofs.Math.Seq.{take-nil}
 use Rattle.std.proofs.lemmas.Bool.{cases_Bool}
-use Rattle.std.proofs.lemmas.List.{append-nil, drop_all, drop_more, map-append}
+use Rattle.std.proofs.lemmas.List.{append-nil, map-append}
 use Rattle.std.proofs.lemmas.List.Elements.{All-filter, All-head, All-tail, filter_more}
-use Rattle.tap_name.specs.declared.slot.Slot.{Slot}
 use Rattle.tap_name.specs.Settings.{SettingsValue}
 use Rattle.tap_name.specs.Slot.{slot_at}
 use Rattle.tap_name.proofs.Prefix.{prefix_of_itself}
 use Rattle.tap_register.specs.declared.registers.Entry.{Entry}
 use Rattle.tap_register.specs.Registers.{entry_of, written}
-use Rattle.tap_table.specs.Members.{IsBelow, fitting, holders_at_rest, holds, is_slot}
+use Rattle.tap_table.specs.Members.{IsBelow, holders_at_rest, holds, is_slot}
 use Rattle.tap_table.specs.Table.{name_cmp, place_of}
 use Rattle.tap_table.proofs.Grown.{IsAbove, above_the_first}
 
@@ -91,31 +89,3 @@ not_held_by_itself p owner names =
       | inr e ↦ rw (e, prefix_of_itself owner, e) refl
     ] in
     rw (filter_none (λ name. is_slot (place_of owner owner) (slot_at owner name)) names none_stands, take-nil {A = List ℕ} p.width) refl
-
--- whether the owner is among the first of the names from an index on that fit, as many as are left
-abbrev pub among_rest : List ℕ → List ℕ → Slot → List (List ℕ) → ℕ → ℕ → Bool
-among_rest owner member slot names n left = list_any (λ link. pointwise nat_eq link owner) (take left (fitting member slot (drop n names)))
-
-module _ (owner member : List ℕ) (slot : Slot) (names : List (List ℕ)) (n : ℕ) (name : List ℕ) (within : n < length names)
-    (is : name ≡ get_or names n name) where
-  parts : drop n names ≡ name ∷ drop (n + 1) names
-  parts = drop_more names n name within ∙ ap (λ x. x ∷ drop (n + 1) names) (sym is)
-
-  pub rest-skip : (left : ℕ) → is_slot slot (slot_at member name) ≡ false
-      → among_rest owner member slot names n left ≡ among_rest owner member slot names (n + 1) left
-  rest-skip left fails = rw (parts, fails) refl
-
-  pub rest-none : (left : ℕ) → left ≡ 0 → among_rest owner member slot names n left ≡ false
-  rest-none left none = rw none refl
-
-  pub rest-found : (left less : ℕ) → left ≡ suc less → is_slot slot (slot_at member name) ≡ true → pointwise nat_eq name owner ≡ true
-      → among_rest owner member slot names n left ≡ true
-  rest-found left less some fits same = rw (parts, fits, some, same) refl
-
-  pub rest-other : (left less : ℕ) → left ≡ suc less → is_slot slot (slot_at member name) ≡ true → pointwise nat_eq name owner ≡ false
-      → among_rest owner member slot names n left ≡ among_rest owner member slot names (n + 1) less
-  rest-other left less some fits differ = rw (parts, fits, some, differ) refl
-
-pub rest-end : (owner member : List ℕ) (slot : Slot) (names : List (List ℕ)) (n left : ℕ) → length names ≤ n
-    → among_rest owner member slot names n left ≡ false
-rest-end owner member slot names n left past = rw (drop_all n names past, take-nil {A = List ℕ} left) refl

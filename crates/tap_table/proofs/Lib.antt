@@ -18,6 +18,7 @@ pub mod Fitting
 pub mod Grown
 pub mod Holding
 pub mod Least
+pub mod LeastShared
 pub mod AtRest
 pub mod Held
 pub mod Flat

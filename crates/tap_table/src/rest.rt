@@ -1,16 +1,15 @@
-ghost use Rattle.std.specs.Prelude.{◌≡◌, ◌≢◌, ◌&&◌, ◌++◌, ◌∷◌, [], nat_eq, length, All, AllPairs, IfOk, OnOk};
+ghost use Rattle.std.specs.Prelude.{◌≡◌, ◌≢◌, ℕ, ◌&&◌, nat_eq, nat_le, not, All, AllPairs, Contains, IfOk, List, OnOk};
+ghost use Rattle.std.specs.Cmp.Lexicographic.{pointwise};
 ghost use Rattle.tap_name.specs.Name.{IsName};
 ghost use Rattle.tap_name.specs.Order.{sorted};
-ghost use Rattle.tap_name.specs.Slot.{slot_at};
-ghost use Rattle.std.specs.List.{list_any};
-ghost use Rattle.std.specs.Cmp.Lexicographic.{pointwise};
-ghost use Rattle.tap_table.specs.Members.{IsBelow, first_fitting, holders_at_rest, holds, is_slot, table_at_rest};
+ghost use Rattle.tap_name.specs.Prefix.{lcp};
+ghost use Rattle.tap_table.specs.Members.{IsBelow, holders_at_rest, holds, table_at_rest};
 ghost use Rattle.tap_table.specs.Table.{IsTable, offered};
 
 use crate::memory::NoMemory;
 use crate::table::Table;
 use std::alloc::Global;
-use tap_name::{List, Name, Settings, Slot, slot_of};
+use tap_name::{List, Name, Settings};
 use tap_register::Registers;
 
 // The members in ascending order.
@@ -54,7 +53,7 @@ fn settle_on(table: &mut Table, name: Name) -> Result<(), NoMemory>
     Ok(())
 }
 
-// The registers of those of these names whose tables over them have a link to the owner.
+// The registers of those of these names whose tables over them have a link to the owner, which is one of them.
 pub(crate) fn holders_over(
     alloc: Global,
     owner: &Name,
@@ -64,65 +63,44 @@ pub(crate) fn holders_over(
     requires owner { IsName settings.now owner.now }
     requires names { All (IsName settings.now) names.now }
     requires ascending { AllPairs IsBelow names.now }
+    requires among { Contains names.now owner.now }
     ensures { IfOk result (λ holders. holders ≡ holders_at_rest settings.now owner.now names.now names.now) }
 {
     let mut holders = Registers::new(alloc);
+    let least = least_shared(settings, owner, names);
     for member in names {
-        if holds(settings, owner, names, member) {
+        if is_holder(owner, least, member) {
             holders.apply(*member, 0, true)?;
         }
     }
     Ok(holders)
 }
 
-// Whether the table of a member over these names has a link to the owner.
-fn holds(settings: &Settings, owner: &Name, names: &[Name], member: &Name) -> bool
+// How many digits another name shares with the owner at the least, if its table over these names has a link to the owner.
+//
+// What stands in the other name's slot for the owner are the names that share more digits with the owner than it does, and
+// the nearer below the owner, the more they share. So the owner has a place there if the name that is `width` places below
+// the owner shares no more.
+fn least_shared(settings: &Settings, owner: &Name, names: &[Name]) -> usize
     requires owner { IsName settings.now owner.now }
     requires names { All (IsName settings.now) names.now }
-    requires member { IsName settings.now member.now }
-    ensures { result ≡ holds settings.now owner.now names.now member.now }
+    requires ascending { AllPairs IsBelow names.now }
+    requires among { Contains names.now owner.now }
+    ensures { (other : List ℕ) → IsName settings.now other → other ≢ owner.now
+        → (holds settings.now owner.now names.now other ≡ nat_le result (lcp other owner.now)) }
 {
-    match slot_of(member, owner) {
-        Some(slot) => is_among_first(settings, owner, names, member, slot),
-        None => false,
+    let width = settings.width() as usize;
+    let below = names.partition_point(|name| *name < *owner);
+    if below < width {
+        0
+    } else {
+        names[below - width].lcp(owner)
     }
 }
 
-// Whether a name is among the first of these names that fit a slot of a member.
-fn is_among_first(
-    settings: &Settings,
-    owner: &Name,
-    names: &[Name],
-    member: &Name,
-    slot: Slot,
-) -> bool
-    requires names { All (IsName settings.now) names.now }
-    requires member { IsName settings.now member.now }
-    ensures { result ≡ list_any (λ link. pointwise nat_eq link owner.now)
-        (first_fitting settings.now member.now slot names.now) }
+// Whether a member is a holder of the owner: another one, which shares as many digits with it as a holder does at the least.
+fn is_holder(owner: &Name, least: usize, member: &Name) -> bool
+    ensures { result ≡ (not (pointwise nat_eq member.now owner.now) && nat_le least (lcp member.now owner.now)) }
 {
-    let mut left = settings.width();
-    for name in names {
-        if is_in_slot(member, name, slot) {
-            if left == 0 {
-                return false;
-            }
-            if *name == *owner {
-                return true;
-            }
-            left -= 1;
-        }
-    }
-    false
-}
-
-// Whether a name stands in this slot of the table of another.
-fn is_in_slot(owner: &Name, name: &Name, slot: Slot) -> bool
-    requires { length owner.now ≡ length name.now }
-    ensures { result ≡ is_slot slot (slot_at owner.now name.now) }
-{
-    match slot_of(owner, name) {
-        Some(other) => other.level == slot.level && other.digit == slot.digit,
-        None => false,
-    }
+    *member != *owner && least <= member.lcp(owner)
 }

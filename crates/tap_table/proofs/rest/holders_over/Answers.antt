@@ -1,4 +1,5 @@
 use Rattle.std.proofs.Common.{◌≡◌, ◌+◌, take, filter, sym, ap, ◌∙◌, subst, true, List, ℕ, Bool}
+use Rattle.tap_name.specs.Name.{IsName}
 use Rattle.tap_register.specs.declared.registers.Entry.{Entry}
 use Rattle.std.proofs.lemmas.Cmp.{nat_list_cmp_total}
 use Rattle.tap_register.specs.Registers.{entry_of, is_newer, supersedes}
@@ -6,8 +7,9 @@ use Rattle.tap_register.proofs.Applied.{applied-newer}
 use Rattle.tap_table.specs.Members.{holders_at_rest, holds}
 use Rattle.tap_table.specs.Table.{name_cmp}
 use Rattle.tap_table.proofs.Holding.{above_holders, holder-more, holder-skip, no_word}
+use Rattle.tap_table.proofs.LeastShared.{held_exactly_where}
 use Rattle.tap_table.proofs.rest.holders_over.Goals as goal
-use Rattle.tap_table.proofs.rest.holders_over.Goals.{then-holds+in_ok-apply, else-holds}
+use Rattle.tap_table.proofs.rest.holders_over.Goals.{then-is_holder+in_ok-apply, else-is_holder}
 
 pub loop-member-preserved : goal.loop-member-preserved
 loop-member-preserved c =
@@ -16,10 +18,13 @@ loop-member-preserved c =
     let names = c.args.names.now in
     let i = c.loop-member.member-index in
     let name = c.member-item.result in
+    let P : List ℕ → Type 0 = IsName p in
+    let is_name = subst P (sym c.member-item.is) (c.requires.names i name c.loop-member-test.true) in
+    let exactly = held_exactly_where p owner names c.least_shared-least.result c.least_shared-least.ensures name is_name in
     let Done : List (Entry (List ℕ) Bool) → Type 0 = λ l. l ≡ holders_at_rest p owner names (take (i + 1) names) in
-    elim c.if-holds.branch [
-      | then-holds+in_ok-apply w ↦
-          let has = sym c.holds.ensures ∙ w.if-holds.true in
+    elim c.if-is_holder.branch [
+      | then-is_holder+in_ok-apply w ↦
+          let has = exactly ∙ sym c.is_holder.ensures ∙ w.if-is_holder.true in
           let front = filter (holds p owner names) (take i names) in
           let over = above_holders p owner names i name c.requires.ascending c.loop-member-test.true c.member-item.is in
           let absent = ap (λ l. entry_of name_cmp l name) c.loop-member.invariant ∙ no_word name front over in
@@ -29,7 +34,7 @@ loop-member-preserved c =
           (holder-more p owner names i name c.loop-member.holders w.apply.new.self c.loop-member-test.true c.member-item.is
           c.requires.ascending has
           c.loop-member.invariant grown)
-      | else-holds w ↦
-          let skip = holder-skip p owner names i name c.loop-member-test.true c.member-item.is (sym c.holds.ensures ∙ w.if-holds.false) in
+      | else-is_holder w ↦
+          let skip = holder-skip p owner names i name c.loop-member-test.true c.member-item.is (exactly ∙ sym c.is_holder.ensures ∙ w.if-is_holder.false) in
           subst Done (sym w.holders-is) (c.loop-member.invariant ∙ skip)
     ]

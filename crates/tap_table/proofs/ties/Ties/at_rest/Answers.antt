@@ -1,5 +1,5 @@
 use Rattle.std.proofs.Common.{◌∙◌}
-use Rattle.tap_table.proofs.Held.{RestOver, ascending_over, names_over, rest_over, ties_over, valid_over}
+use Rattle.tap_table.proofs.Held.{RestOver, ascending_over, contains_over, names_over, rest_over, ties_over, valid_over}
 use Rattle.tap_table.proofs.ties.Ties.at_rest.Goals as goal
 use Rattle.tap_table.proofs.ties.Ties.at_rest.Goals.{In_ok-holders_over}
 
@@ -22,6 +22,11 @@ pub holders_over-requires-clause-ascending : goal.holders_over-requires-clause-a
 holders_over-requires-clause-ascending c =
     ascending_over c.args.members.now c.as_slice-names.result.now (c.as_slice-names.ensures.value ∙ c.in_ok-sorted.ensures)
     c.requires.distinct
+
+pub holders_over-requires-clause-among : goal.holders_over-requires-clause-among
+holders_over-requires-clause-among c =
+    contains_over c.args.members.now c.as_slice-names.result.now c.args.owner
+    (c.as_slice-names.ensures.value ∙ c.in_ok-sorted.ensures) c.requires.owner
 
 rest : (c : In_ok-holders_over)
     → RestOver c.args.settings.now c.args.owner c.args.members.now c.as_slice-names.result.now c.in_ok-table_over.field-0
