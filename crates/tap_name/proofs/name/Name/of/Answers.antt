@@ -1,4 +1,4 @@
-use Rattle.std.proofs.Common.{◌≡◌, ◌<◌, ◌≤◌, ◌++◌, ◌-◌, ◌∙◌, ℕ, List, length, drop, All, replicate, arith, ap, length-append}
+use Rattle.std.proofs.Common.{◌≡◌, ◌<◌, ◌≤◌, ◌++◌, ◌∙◌, ℕ, List, length, drop, All, replicate, arith, ap, length-append}
 use Rattle.std.proofs.lemmas.List.{take_at, drop_at, drop-replicate, length-replicate, length-drop}
 use Rattle.std.proofs.lemmas.List.Elements.{All-same}
 use Rattle.tap_name.specs.Padded.{IsPadded}
