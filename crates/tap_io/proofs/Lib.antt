@@ -1,2 +1,4 @@
+pub mod Buffering
+pub mod Following
 pub mod Reading
 pub mod Writing

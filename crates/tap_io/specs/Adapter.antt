@@ -14,4 +14,4 @@ source_state remaining a = record { left = remaining a.inner; faults = a.faults 
 
 -- an adapter over a writer as a sink, which holds what the writer does
 abbrev pub sink_state : {T : Type 0} → (T → Option (List ℕ)) → Adapter T → SinkState
-sink_state contents a = record { held = contents a.inner; faults = a.faults; borrows = [] }
+sink_state contents a = record { held = contents a.inner; faults = a.faults; behind = [] }

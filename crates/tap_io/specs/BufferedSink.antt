@@ -2,26 +2,30 @@
 use Rattle.std.specs.Prelude.{◌≡◌, ◌≤◌, ◌<◌, ℕ, List, [], ◌∷◌, ◌++◌, length, take}
 use Rattle.std.specs.Io.KnownBytes.{Appends, append_known}
 use Rattle.tap_io.specs.Faults.{HasRisen}
-use Rattle.tap_io.specs.Sink.{SinkState}
+use Rattle.tap_io.specs.Sink.{Follows, SinkState}
 use Rattle.tap_io.specs.declared.buffered_sink.BufferedSink.{BufferedSink}
 use Rattle.tap_io.specs.declared.buffered_sink.Flushed.{Flushed}
 use Rattle.tap_io.specs.declared.buffered_sink.Flushed.TheVariants.{All, Failed}
 
--- what the sink behind it holds, and after that the bytes that wait
-abbrev pub buffered_state : {K : Type 0} → (K → SinkState) → BufferedSink K → SinkState
-buffered_state state b =
+-- what a sink tells that is over another one, of this state and borrowed by this name: what that one holds, and after that
+-- the bytes that wait
+abbrev pub state_over : SinkState → ℕ → List ℕ → SinkState
+state_over inner name waiting =
     record {
-      held = append_known (state b.inner.now).held b.waiting.items;
-      faults = (state b.inner.now).faults;
-      borrows = b.inner.ghost_name ∷ (state b.inner.now).borrows;
+      held = append_known inner.held waiting;
+      faults = inner.faults;
+      behind = record { name = name; held = inner.held } ∷ inner.behind;
     }
+
+-- what a buffered sink tells
+abbrev pub buffered_state : {K : Type 0} → (K → SinkState) → BufferedSink K → SinkState
+buffered_state state b = state_over (state b.inner.now) b.inner.ghost_name b.waiting.items
 
 -- Of a text, some first bytes were appended: all of them and no fault was counted, or fewer and one was.
 pub record WritesFirst (old new : SinkState) (text : List ℕ) (count : ℕ) : Type 0 where
   pub within : count ≤ length text
   pub appends : Appends old.held new.held (take count text)
-  pub later : old.faults ≤ new.faults
-  pub same : new.borrows ≡ old.borrows
+  pub follows : Follows old new
   pub whole : count ≡ length text → new.faults ≡ old.faults
   pub short : count < length text → HasRisen old.faults new.faults
 
@@ -31,8 +35,7 @@ FlushesAs old new was is All = (is ≡ []) × Appends old.held new.held was × (
 FlushesAs old new was is Failed =
     (front : List ℕ) × Appends old.held new.held front × (front ++ is ≡ was) × HasRisen old.faults new.faults
 
--- the count of faults doesn't fall, the sink stays the same one, and the answer says what else came about
+-- the sink goes on, and the answer says what else came about
 pub record Flushes (old new : SinkState) (was is : List ℕ) (flushed : Flushed) : Type 0 where
-  pub later : old.faults ≤ new.faults
-  pub same : new.borrows ≡ old.borrows
+  pub follows : Follows old new
   pub answer : FlushesAs old new was is flushed

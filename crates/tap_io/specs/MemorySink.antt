@@ -14,7 +14,7 @@ pub record MemorySinkValue : Type 0 where
 
 -- what a sink in memory tells
 abbrev pub sink_state : MemorySinkValue → SinkState
-sink_state s = record { held = Some s.held; faults = s.calls.faults; borrows = [] }
+sink_state s = record { held = Some s.held; faults = s.calls.faults; behind = [] }
 
 -- before the first write
 abbrev pub new_sink : ℕ → ℕ → List ℕ → MemorySinkValue

@@ -1,17 +1,38 @@
 -- What contracts see of a sink, and what a write does to it.
-use Rattle.std.specs.Prelude.{◌≡◌, ◌≤◌, ℕ, List, Option, length, take}
+use Rattle.std.specs.Prelude.{◌≡◌, ◌≤◌, ℕ, List, [], ◌∷◌, Option, length, take}
 use Rattle.std.specs.Io.KnownBytes.{Appends}
 use Rattle.tap_io.specs.Faults.{Fails, counted}
 use Rattle.tap_io.specs.declared.sink.Took.{Took}
 use Rattle.tap_io.specs.declared.sink.Took.TheVariants.{Took as TookBytes, Failed}
 
--- The bytes that a sink holds, which are `None` where it doesn't tell them; how many faults there were; and, of a sink
--- that writes to a borrowed one, the name of that borrow, and then of those that it writes through in its turn. By
--- these names the borrower knows the sink that it lent after it was written to.
+-- a sink to which another one writes by a borrow: the name of that borrow, and the bytes that it holds
+pub record SinkBehind : Type 0 where
+  pub name : ℕ
+  pub held : Option (List ℕ)
+
+-- The bytes that a sink holds, which are `None` where it doesn't tell them; how many faults there were; and the sinks behind
+-- it, the nearest one first. By these a caller that lent a sink knows it after it was written to.
 pub record SinkState : Type 0 where
   pub held : Option (List ℕ)
   pub faults : ℕ
-  pub borrows : List ℕ
+  pub behind : List SinkBehind
+
+-- known bytes stay, and some may be appended
+abbrev pub Grows : Option (List ℕ) → Option (List ℕ) → Type 0
+Grows old new = (more : List ℕ) × Appends old new more
+
+-- the sinks are the same, and what each holds grows
+abbrev pub EachGrows : List SinkBehind → List SinkBehind → Type 0
+EachGrows [] [] = Unit {0}
+EachGrows [] (y ∷ ys) = ⊥
+EachGrows (x ∷ xs) [] = ⊥
+EachGrows (x ∷ xs) (y ∷ ys) = (y.name ≡ x.name) × Grows x.held y.held × EachGrows xs ys
+
+-- The state of a sink after some writes, whatever came of them: the count of faults doesn't fall, and the sinks behind it
+-- are the same, and what they hold grows.
+pub record Follows (old new : SinkState) : Type 0 where
+  pub later : old.faults ≤ new.faults
+  pub behind : EachGrows old.behind new.behind
 
 -- the first n bytes were appended, and no fault was counted
 pub record Takes (old new : SinkState) (bytes : List ℕ) (n : ℕ) : Type 0 where
@@ -25,10 +46,9 @@ abbrev pub WritesAs : SinkState → SinkState → List ℕ → Took → Type 0
 WritesAs old new bytes (TookBytes n) = Takes old new bytes n
 WritesAs old new bytes Failed = Fails old.held new.held old.faults new.faults
 
--- The count of faults doesn't fall, the bytes go to the same sink as before, and the answer says what else came about.
+-- The sink goes on, and the answer says what else came about.
 pub record Writes (old new : SinkState) (bytes : List ℕ) (took : Took) : Type 0 where
-  pub later : old.faults ≤ new.faults
-  pub same : new.borrows ≡ old.borrows
+  pub follows : Follows old new
   pub answer : WritesAs old new bytes took
 
 -- the count of faults after an answer, of a sink that counts each failed write and nothing else

@@ -16,7 +16,7 @@ pub enum Took {
 /// Rule: docs/DECISIONS.md, "Sources and sinks".
 pub trait Sink {
     /// The bytes that are held, or `None` where the sink doesn't tell them; how many faults there were, a count that never
-    /// falls and stands still at the greatest `u64`; and the borrows that the sink writes through, which stay.
+    /// falls and stands still at the greatest `u64`; and, where the sink writes to others, these and what they hold.
     ghost state: { Self → SinkState };
 
     /// Takes at least one of the bytes, which aren't empty, from their front.

@@ -1,4 +1,6 @@
-use crate::{Got, MemorySink, MemorySource, Sink, Source, StdSink, StdSource, Took};
+use crate::{
+    BufferedSink, Flushed, Got, MemorySink, MemorySource, Sink, Source, StdSink, StdSource, Took,
+};
 use std::io::{self, ErrorKind, Read, Write};
 use std::process::Abort;
 use std::test::Fail;
@@ -37,13 +39,34 @@ impl<R: Read> Read for Interrupted<R> {
     }
 }
 
-// A pipe that nobody reads.
+// A reader that counts its calls, whether they give bytes or not.
 #[derive(Drop)]
-struct Broken;
+struct Counted<'a, R> {
+    inner: R,
+    calls: &'a mut u32,
+}
 
-impl Write for Broken {
-    fn write(&mut self, _: &[u8]) -> io::Result<usize> {
-        Err(ErrorKind::BrokenPipe.into())
+impl<R: Read> Read for Counted<'_, R> {
+    fn read(&mut self, buf: &mut [u8]) -> io::Result<usize> {
+        *self.calls = self.calls.saturating_add(1);
+        self.inner.read(buf)
+    }
+}
+
+// A writer whose second call fails.
+#[derive(Drop)]
+struct FailsOnce<W> {
+    inner: W,
+    calls: u32,
+}
+
+impl<W: Write> Write for FailsOnce<W> {
+    fn write(&mut self, bytes: &[u8]) -> io::Result<usize> {
+        self.calls = self.calls.saturating_add(1);
+        if self.calls == 2 {
+            return Err(ErrorKind::BrokenPipe.into());
+        }
+        self.inner.write(bytes)
     }
 
     fn flush(&mut self) -> io::Result<()> {
@@ -113,6 +136,79 @@ fn std_carries_the_bytes(rt: HostRuntime) -> Result<(), Fail> {
         &[(b"tape", Took::Took(3)), (b"e", Took::Failed)],
     );
     assert_eq!(rt; short.as_slice(), b"tap".as_slice());
-    check_writes(&rt, &mut StdSink::new(Broken), &[(b"tape", Took::Failed)]);
+    let mut kept = Vec::new(rt.alloc());
+    check_writes(
+        &rt,
+        &mut StdSink::new(FailsOnce {
+            inner: &mut kept,
+            calls: 0,
+        }),
+        &[
+            (b"tape", Took::Took(4)),
+            (b"stry", Took::Failed),
+            (b"stry", Took::Took(4)),
+        ],
+    );
+    assert_eq!(rt; kept.as_slice(), b"tapestry".as_slice());
+    Ok(())
+}
+
+#[test]
+fn each_read_is_one_call(rt: HostRuntime) -> Result<(), Fail> {
+    let mut calls = 0;
+    let mut source = StdSource::new(Counted {
+        inner: b"tapes".as_slice(),
+        calls: &mut calls,
+    });
+    check_reads(
+        &rt,
+        &mut source,
+        &[
+            (Got::Got(4), b"tape"),
+            (Got::Got(1), b"s"),
+            (Got::End, b""),
+            (Got::End, b""),
+        ],
+    );
+    drop(source);
+    assert_eq!(rt; calls, 4);
+    Ok(())
+}
+
+#[test]
+fn what_waits_goes_out_in_large_pieces(rt: HostRuntime) -> Result<(), Fail> {
+    // the second write behind it fails
+    let mut sink = MemorySink::new(rt.alloc(), 64, 64, &[2])?;
+    let room = Vec::with_capacity(rt.alloc(), 4)?;
+    let mut buffered = BufferedSink::new(&mut sink, room);
+    check_writes(
+        &rt,
+        &mut buffered,
+        &[
+            (b"ta", Took::Took(2)),
+            (b"pe", Took::Took(2)),
+            (b"st", Took::Took(2)),
+            (b"routes", Took::Failed),
+            (b"routes", Took::Took(6)),
+            (b"y", Took::Took(1)),
+        ],
+    );
+    assert_eq!(rt; buffered.flush(), Flushed::All);
+    assert_eq!(rt; buffered.flush(), Flushed::All);
+    assert_eq!(rt; buffered.into_inner().bytes(), b"tapestroutesy".as_slice());
+    Ok(())
+}
+
+#[test]
+fn a_failed_flush_leaves_the_rest(rt: HostRuntime) -> Result<(), Fail> {
+    // each write behind it takes three bytes, and the second fails
+    let mut sink = MemorySink::new(rt.alloc(), 3, 64, &[2])?;
+    let room = Vec::with_capacity(rt.alloc(), 8)?;
+    let mut buffered = BufferedSink::new(&mut sink, room);
+    check_writes(&rt, &mut buffered, &[(b"tapestry", Took::Took(8))]);
+    assert_eq!(rt; buffered.flush(), Flushed::Failed);
+    check_writes(&rt, &mut buffered, &[(b"!", Took::Took(1))]);
+    assert_eq!(rt; buffered.flush(), Flushed::All);
+    assert_eq!(rt; buffered.into_inner().bytes(), b"tapestry!".as_slice());
     Ok(())
 }

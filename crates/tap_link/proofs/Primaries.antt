@@ -168,7 +168,8 @@ module _ {K : Type 0} (cmp : K → K → Ordering) (o : IsTotalOrder cmp) (apart
   LosesSettled links new target =
       (t : K) → (kind_of cmp new t ≡ Some Settled) ↔ ((cmp t target ≢ Equal) × (kind_of cmp links t ≡ Some Settled))
 
-  loses_by_rule : (t target : K) (rule : Option Kind → Option Kind) (found : Option Kind) → ((kind : Option Kind) → rule kind ≢ Some Settled)
+  loses_by_rule : (t target : K) (rule : Option Kind → Option Kind) (found : Option Kind)
+      → ((kind : Option Kind) → rule kind ≢ Some Settled)
       → ((if is_eq (cmp t target) then rule found else found) ≡ Some Settled) ↔ ((cmp t target ≢ Equal) × (found ≡ Some Settled))
   loses_by_rule t target rule found never =
       elim (cases_Bool (is_eq (cmp t target))) [

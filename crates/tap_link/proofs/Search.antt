@@ -2,7 +2,7 @@
 use Rattle.std.proofs.Common.{◌≡◌, ℕ, ◌+◌, ◌<◌, ◌≤◌, true, false, List, [], ◌∷◌, length, filter, insert, remove, set, get_or, slice_get, None, Some, arith, zero, suc, refl, sym, ap, ◌∙◌, ◌⊎◌, inl, inr}
 use Rattle.std.specs.Cmp.{IsTotalOrder}
 use Rattle.std.specs.Option.{is_none}
-use Rattle.std.specs.Ordering.{is_gt, is_lt}
+use Rattle.std.specs.Ordering.{is_gt, is_lt, ordering_reverse}
 use Rattle.std.specs.declared.cmp.Ordering.{Ordering}
 use Rattle.std.specs.declared.cmp.Ordering.TheVariants.{Less, Equal, Greater}
 use Rattle.std.proofs.lemmas.Bool.{cases_order}
@@ -44,6 +44,13 @@ module _ {K : Type 0} (cmp : K → K → Ordering) where
   abbrev pub AreAbove : List (Entry K) → K → ℕ → Type 0
   AreAbove links target n =
       (k : ℕ) (d : Entry K) → n ≤ k → k < length links → cmp target (get_or links k d).target ≡ Less
+
+  -- what a search has found so far: the target goes between these two places
+  pub record IsBetween (links : List (Entry K)) (target : K) (low high : ℕ) : Type 0 where
+    pub ordered : low ≤ high
+    pub within : high ≤ length links
+    pub below : AreBelow links target low
+    pub above : AreAbove links target high
 
   below_tail : (e : Entry K) (es : List (Entry K)) (target : K) (n : ℕ) → AreBelow (e ∷ es) target (suc n) → AreBelow es target n
   below_tail e es target n below k d h = below (suc k) d (omega arith)
@@ -130,45 +137,46 @@ module _ {K : Type 0} (cmp : K → K → Ordering) where
       (ap (λ l. e ∷ l) (at-set es target kind at d (omega arith) (below_tail e es target at below) here
       (above_tail e es target (suc at) above)))
 
-  -- the steps of a search from the front: so far the target is above all, and now it meets x
-  pub below_more : (links : List (Entry K)) (target : K) (at : ℕ) (x : Entry K) → slice_get links at ≡ Some x
-      → AreBelow links target at → cmp target x.target ≡ Greater → AreBelow links target (at + 1)
-  below_more links target at x got below greater k d h =
+  -- what one look at a link tells of the others: those before a lesser target, those from a greater one on, and those on both sides
+  -- of an equal one
+  pub below_after : IsTotalOrder cmp → (links : List (Entry K)) (target : K) (at : ℕ) (x : Entry K) → IsAscending cmp links
+      → slice_get links at ≡ Some x → cmp target x.target ≡ Greater → AreBelow links target (at + 1)
+  below_after o links target at x ascending got greater k d h =
+      let read = get_or_from_got links at x d got in
       elim (cases_order k at) [
-        | inl is ↦ rw (is, get_or_from_got links at x d got) greater
-        | inr (inl lt) ↦ below k d lt
+        | inl is ↦ rw (is, read) greater
+        | inr (inl lt) ↦
+            let within = within_from_got links at x got in
+            let before : cmp (get_or links k d).target x.target ≡ Less = rw read at (ascending k at d lt within) in
+            let under : cmp x.target target ≡ Less = o.antisymm x.target target ∙ ap ordering_reverse greater in
+            o.antisymm target (get_or links k d).target
+            ∙ ap ordering_reverse (o.trans (get_or links k d).target x.target target before under)
         | inr (inr gt) ↦ absurd (omega arith)
       ]
 
-  pub gap_before : IsTotalOrder cmp → (links : List (Entry K)) (target : K) (at : ℕ) (x : Entry K) → IsAscending cmp links
-      → slice_get links at ≡ Some x → AreBelow links target at → cmp target x.target ≡ Less → IsGap cmp links target at
-  gap_before o links target at x ascending got below less =
+  pub above_from : IsTotalOrder cmp → (links : List (Entry K)) (target : K) (at : ℕ) (x : Entry K) → IsAscending cmp links
+      → slice_get links at ≡ Some x → cmp target x.target ≡ Less → AreAbove links target at
+  above_from o links target at x ascending got less k d ge h =
+      let read = get_or_from_got links at x d got in
+      elim (cases_order k at) [
+        | inl is ↦ rw (is, read) less
+        | inr (inl lt) ↦ absurd (omega arith)
+        | inr (inr gt) ↦
+            let later : cmp x.target (get_or links k d).target ≡ Less = rw read at (ascending at k d gt h) in
+            o.trans target x.target (get_or links k d).target less later
+      ]
+
+  pub found_here : IsTotalOrder cmp → (links : List (Entry K)) (target : K) (at : ℕ) (x : Entry K) → IsAscending cmp links
+      → slice_get links at ≡ Some x → cmp target x.target ≡ Equal → IsAt cmp links target at
+  found_here o links target at x ascending got same =
       let within = within_from_got links at x got in
       record {
-        within = omega arith;
-        below = below;
-        above = λ k d ge h.
-            let read = get_or_from_got links at x d got in
-            elim (cases_order k at) [
-              | inl is ↦ rw (is, read) less
-              | inr (inl lt) ↦ absurd (omega arith)
-              | inr (inr gt) ↦
-                  let later : cmp x.target (get_or links k d).target ≡ Less = rw read at (ascending at k d gt h) in
-                  o.trans target x.target (get_or links k d).target less later
-            ];
-      }
-
-  pub gap_at_end : (links : List (Entry K)) (target : K) (at : ℕ) → length links ≤ at → AreBelow links target at
-      → IsGap cmp links target (length links)
-  gap_at_end links target at end below =
-      record { within = omega arith; below = λ k d h. below k d (omega arith); above = λ k d ge h. absurd (omega arith) }
-
-  pub found_at : IsTotalOrder cmp → (links : List (Entry K)) (target : K) (at : ℕ) (x : Entry K) → IsAscending cmp links
-      → slice_get links at ≡ Some x → AreBelow links target at → cmp target x.target ≡ Equal → IsAt cmp links target at
-  found_at o links target at x ascending got below same =
-      record {
-        within = within_from_got links at x got;
-        below = below;
+        within = within;
+        below = λ k d lt.
+            let before : cmp (get_or links k d).target x.target ≡ Less =
+            rw (get_or_from_got links at x d got) at (ascending k at d lt within) in
+            o.congr target x.target (get_or links k d).target same
+            ∙ o.antisymm x.target (get_or links k d).target ∙ ap ordering_reverse before;
         here = λ d. rw (get_or_from_got links at x d got) same;
         above = λ k d gt h.
             let later : cmp x.target (get_or links k d).target ≡ Less = rw (get_or_from_got links at x d got) at (ascending at k d gt h) in

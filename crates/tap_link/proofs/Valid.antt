@@ -11,7 +11,7 @@ use Rattle.tap_link.specs.LinkSet.{IsAscending, IsLinkSet, LinkSetValue, forgott
 use Rattle.tap_link.specs.Places.{IsAt, IsGap}
 use Rattle.tap_link.proofs.Kept.{kept-insert, kept-remove, kept-set}
 use Rattle.tap_link.proofs.Least.{ascending_tail}
-use Rattle.tap_link.proofs.Search.{absent-kind_of, found-is_some, found_at, gap_before, insert-with_link, remove-without, set-with_kind}
+use Rattle.tap_link.proofs.Search.{absent-kind_of, found-is_some, found_here, above_from, insert-with_link, remove-without, set-with_kind}
 
 module _ {X : Type 0} where
   -- within a list there is an element
@@ -51,12 +51,21 @@ module _ {K : Type 0} (cmp : K → K → Ordering) where
   abbrev pub Stands : List (Entry K) → K → Type 0
   Stands links target = ((at : ℕ) × IsAt cmp links target at) ⊎ ((at : ℕ) × IsGap cmp links target at)
 
+  gap_first : IsTotalOrder cmp → (e : Entry K) (es : List (Entry K)) (target : K) → IsAscending cmp (e ∷ es)
+      → cmp target e.target ≡ Less → IsGap cmp (e ∷ es) target 0
+  gap_first o e es target ascending less =
+      record {
+        within = omega arith;
+        below = λ k d h. absurd (omega arith);
+        above = above_from cmp o (e ∷ es) target 0 e ascending refl less;
+      }
+
   stands_by : IsTotalOrder cmp → (e : Entry K) (es : List (Entry K)) (target : K) → IsAscending cmp (e ∷ es)
       → (r : Ordering) → cmp target e.target ≡ r → Stands es target → Stands (e ∷ es) target
   stands_by o e es target ascending Less is later =
-      inr (0, gap_before cmp o (e ∷ es) target 0 e ascending refl (λ k d h. absurd (omega arith)) is)
+      inr (0, gap_first o e es target ascending is)
   stands_by o e es target ascending Equal is later =
-      inl (0, found_at cmp o (e ∷ es) target 0 e ascending refl (λ k d h. absurd (omega arith)) is)
+      inl (0, found_here cmp o (e ∷ es) target 0 e ascending refl is)
   stands_by o e es target ascending Greater is later =
       elim later [
         | inl found ↦ inl (suc found.0, at_later e es target found.0 is found.1)

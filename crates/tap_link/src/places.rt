@@ -58,20 +58,23 @@ impl<K: Ord + Copy> Places<K> {
         }
     }
 
-    // Where the link to the target is, or where it would go.
+    // Where the link to the target is, or where it would go. It halves what is left to look at.
     pub(crate) fn search(&self, target: K) -> Result<usize, usize>
         requires { IsAscending K.cmp self.now }
         ensures found { IfOk result (IsAt K.cmp self.now target) }
         ensures absent { IfErr result (IsGap K.cmp self.now target) }
     {
-        for at in 0..self.len() {
+        let mut low = 0;
+        let mut high = self.len();
+        while low < high {
+            let at = low + (high - low) / 2;
             match target.cmp(&self.link_at(at).target()) {
-                Ordering::Less => return Err(at),
+                Ordering::Less => high = at,
                 Ordering::Equal => return Ok(at),
-                Ordering::Greater => {}
+                Ordering::Greater => low = at + 1,
             }
         }
-        Err(self.len())
+        Err(low)
     }
 
     // How many links are settled and not leaving.

@@ -234,8 +234,8 @@ impl<K: Ord + Copy> LinkSet<K> {
         places.cease(by);
     }
 
-    // Whether one more link may be settled.
-    fn has_room(&self) -> bool
+    /// Whether one more link may be settled: fewer than `width` links are settled and not leaving.
+    pub fn has_room(&self) -> bool
         ensures { result ≡ has_room self.now }
     {
         self.places.count_settled() < self.width as usize

@@ -8,7 +8,7 @@ use Rattle.tap_log.specs.declared.record.Record.{Record}
 use Rattle.tap_log.specs.declared.record.Record.TheVariants.{Arrived, Packet}
 use Rattle.tap_log.specs.Kinds.{arrived_number, sent_number}
 use Rattle.tap_log.specs.Laws.{at_most_one}
-use Rattle.tap_log.specs.Moments.{acknowledged, acknowledged_by, acknowledged_by_all, awaiting, has_number, less}
+use Rattle.tap_log.specs.Moments.{acknowledged, acknowledged_by, acknowledged_by_all, awaiting, has_number, numbers_less}
 use Rattle.tap_log.proofs.Less.{filter-twice, less_by-more, not_or}
 
 -- what the records tell, with one more
@@ -23,14 +23,14 @@ told-none h log item none = told h log item ∙ ap (λ o. filter_map h log ++ at
 -- no packet arrives
 pub awaiting-push : (log : List Record) (item : Record) → arrived_number item ≡ None
     → awaiting (log ++ item ∷ [])
-    ≡ less (awaiting log ++ less (at_most_one (sent_number item)) (acknowledged log))
+    ≡ numbers_less (awaiting log ++ numbers_less (at_most_one (sent_number item)) (acknowledged log))
     (at_most_one (acknowledged_by (filter_map arrived_number log) item))
 awaiting-push log item none =
     let packets = filter_map arrived_number log in
     let all = log ++ item ∷ [] in
-    ap (λ p. less (filter_map sent_number all) (acknowledged_by_all p all)) (told-none arrived_number log item none)
-    ∙ ap (λ sent. less sent (acknowledged_by_all packets all)) (told sent_number log item)
-    ∙ ap (less (filter_map sent_number log ++ at_most_one (sent_number item))) (told (acknowledged_by packets) log item)
+    ap (λ p. numbers_less (filter_map sent_number all) (acknowledged_by_all p all)) (told-none arrived_number log item none)
+    ∙ ap (λ sent. numbers_less sent (acknowledged_by_all packets all)) (told sent_number log item)
+    ∙ ap (numbers_less (filter_map sent_number log ++ at_most_one (sent_number item))) (told (acknowledged_by packets) log item)
     ∙ less_by-more nat_eq (filter_map sent_number log) (at_most_one (sent_number item)) (acknowledged log)
     (at_most_one (acknowledged_by packets item))
 
@@ -73,7 +73,7 @@ acknowledged-or packets packet number (Packet made frame ack ∷ log) =
     let test = nat_eq frame number in
     let both : (ack && has_number (packets ++ one) made) ≡ (before || now) =
     ap (λ b. ack && b) (list_any-append (λ other. nat_eq other made) packets one)
-        ∙ and-or ack (has_number packets made) (has_number one made) in
+    ∙ and-or ack (has_number packets made) (has_number one made) in
     any-picked (ack && has_number (packets ++ one) made) frame number (acknowledged_by_all (packets ++ one) log)
     ∙ ap (λ b. picked b test (has_number (acknowledged_by_all (packets ++ one) log) number)) both
     ∙ ap (picked (before || now) test) (acknowledged-or packets packet number log)
@@ -98,19 +98,19 @@ arrived-arrived packet = refl
 
 -- a packet arrives
 pub awaiting-arrived : (log : List Record) (packet : ℕ)
-    → awaiting (log ++ Arrived packet ∷ []) ≡ less (awaiting log) (acknowledged_by_all (packet ∷ []) log)
+    → awaiting (log ++ Arrived packet ∷ []) ≡ numbers_less (awaiting log) (acknowledged_by_all (packet ∷ []) log)
 awaiting-arrived log packet =
     let item = Arrived packet in
     let packets = filter_map arrived_number log in
     let one = packet ∷ [] in
     let all = log ++ item ∷ [] in
-    ap (λ p. less (filter_map sent_number all) (acknowledged_by_all p all))
-        (told arrived_number log item ∙ ap (λ o. packets ++ at_most_one o) (arrived-arrived packet))
-    ∙ ap (λ sent. less sent (acknowledged_by_all (packets ++ one) all)) (told-none sent_number log item (sent-arrived packet))
-    ∙ ap (less (filter_map sent_number log)) (told-none (acknowledged_by (packets ++ one)) log item
+    ap (λ p. numbers_less (filter_map sent_number all) (acknowledged_by_all p all))
+    (told arrived_number log item ∙ ap (λ o. packets ++ at_most_one o) (arrived-arrived packet))
+    ∙ ap (λ sent. numbers_less sent (acknowledged_by_all (packets ++ one) all)) (told-none sent_number log item (sent-arrived packet))
+    ∙ ap (numbers_less (filter_map sent_number log)) (told-none (acknowledged_by (packets ++ one)) log item
     (acknowledged-arrived (packets ++ one) packet))
     ∙ filter-twice (λ n. not (has_number (acknowledged_by_all packets log) n)) (λ n. not (has_number (acknowledged_by_all one log) n))
     (λ n. not (has_number (acknowledged_by_all (packets ++ one) log) n))
     (λ n. ap not (acknowledged-or packets packet n log)
-        ∙ not_or (has_number (acknowledged_by_all packets log) n) (has_number (acknowledged_by_all one log) n))
+    ∙ not_or (has_number (acknowledged_by_all packets log) n) (has_number (acknowledged_by_all one log) n))
     (filter_map sent_number log)

@@ -17,14 +17,14 @@ pub gathered_more : {X Y : Type 0} (h : X → Option Y) (xs : List X) (i : ℕ) 
     → found ≡ filter_map h (take i xs) → h x ≡ Some y → new ≡ found ++ y ∷ [] → new ≡ filter_map h (take (i + 1) xs)
 gathered_more h xs i x y found new within is so_far gives grown =
     grown ∙ ap (λ l. l ++ y ∷ []) so_far ∙ ap (λ o. filter_map h (take i xs) ++ cons_option o []) (sym gives)
-        ∙ sym (next_is h xs i x within is)
+    ∙ sym (next_is h xs i x within is)
 
 -- the next item gives nothing
 pub gathered_same : {X Y : Type 0} (h : X → Option Y) (xs : List X) (i : ℕ) (x : X) (found : List Y) → i < length xs → x ≡ get_or xs i x
     → found ≡ filter_map h (take i xs) → h x ≡ None → found ≡ filter_map h (take (i + 1) xs)
 gathered_same h xs i x found within is so_far gives =
     so_far ∙ sym (append-nil (filter_map h (take i xs))) ∙ ap (λ o. filter_map h (take i xs) ++ cons_option o []) (sym gives)
-        ∙ sym (next_is h xs i x within is)
+    ∙ sym (next_is h xs i x within is)
 
 or_true : (b : Bool) → (b || true) ≡ true
 or_true true = refl
@@ -41,7 +41,7 @@ pub any_found : {X Y : Type 0} (h : X → Option Y) (test : Y → Bool) (xs : Li
 any_found h test [] i x y within is gives passes = absurd (omega arith)
 any_found h test (first ∷ xs) zero x y within is gives passes =
     ap (λ o. list_any test (cons_option o (filter_map h xs))) (ap h (sym is) ∙ gives)
-        ∙ ap (λ b. b || list_any test (filter_map h xs)) passes
+    ∙ ap (λ b. b || list_any test (filter_map h xs)) passes
 any_found h test (first ∷ xs) (suc i) x y within is gives passes =
     any_after (h first) test (filter_map h xs) (any_found h test xs i x y (omega arith) is gives passes)
 
@@ -58,7 +58,7 @@ pub none_passes : {X Y : Type 0} (h : X → Option Y) (test : Y → Bool) (xs : 
     → list_any test (filter_map h (take (i + 1) xs)) ≡ false
 none_passes h test xs i x y within is none gives fails =
     ap (list_any test) (sym (gathered_more h xs i x y (filter_map h (take i xs))
-        (filter_map h (take i xs) ++ y ∷ []) within is refl gives refl))
+    (filter_map h (take i xs) ++ y ∷ []) within is refl gives refl))
     ∙ list_any-append test (filter_map h (take i xs)) (y ∷ [])
     ∙ ap (λ b. b || (test y || false)) none ∙ ap (λ b. b || false) fails
 

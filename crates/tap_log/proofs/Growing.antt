@@ -12,9 +12,9 @@ use Rattle.tap_log.specs.declared.record.Pair.{Pair}
 use Rattle.tap_log.specs.declared.record.Record.{Record}
 use Rattle.tap_log.specs.declared.record.Record.TheVariants.{Begin, Carrier, Core, Gone}
 use Rattle.tap_log.specs.Kinds.{accepts, begins_group, is_carried, members_in, step_of, sent_number, taken_number, packet_number, ended_number, core_name, gone_name, abandoned_name, published_pair, withdrawn_pair, join_name, depart_name}
-use Rattle.tap_log.specs.Moments.{EachFrom, EachRecord, last_of, outstanding, steps_of, under_way, less}
+use Rattle.tap_log.specs.Moments.{EachFrom, EachRecord, last_of, outstanding, steps_of, under_way, numbers_less}
 use Rattle.tap_log.specs.Core.{abandoned_of, accepted_in, accepted_step, accepted_steps, ceased_of, core_of, departures_of, gone_of, has_name, joined_of, joins_of, members_of, names_less}
-use Rattle.tap_log.specs.Published.{has_pair, kept_pair, kept_pairs, pairs_less, published_of, same_pair, without_servers}
+use Rattle.tap_log.specs.Published.{has_pair, unwithdrawn_pair, unwithdrawn_pairs, pairs_less, published_of, same_pair, without_servers}
 use Rattle.tap_log.specs.Counts.{join_count, names_of, sent_count, with_name}
 use Rattle.tap_log.specs.Laws.{IsNew, OneMoreRecord, accepted_behind, accepted_by, at_most_one}
 use Rattle.tap_log.proofs.Acknowledging.{awaiting-arrived, awaiting-push, told}
@@ -48,7 +48,7 @@ unfolding is_carried
 carried_alone (Begin settings frames members) = refl
 carried_alone item = refl
 
-carried_second : (first item : Record) → item ≢ Carrier → is_carried (first ∷ item ∷ []) ≡ false
+pub carried_second : (first item : Record) → item ≢ Carrier → is_carried (first ∷ item ∷ []) ≡ false
 unfolding is_carried
 carried_second (Begin settings frames members) Carrier other = absurd (other refl)
 carried_second (Begin settings frames members) item other = refl
@@ -118,7 +118,7 @@ core_of-first item stays none =
     ∙ ap (λ o. names_less (members_in item ++ at_most_one o) []) none
     ∙ less_by-none (pointwise nat_eq) (members_in item ++ []) ∙ append-nil (members_in item)
 
-came-push : (came told new gone ended : List (List ℕ)) (all all_gone : List (List ℕ)) → all ≡ (came ++ told) ++ new
+pub came-push : (came told new gone ended : List (List ℕ)) (all all_gone : List (List ℕ)) → all ≡ (came ++ told) ++ new
     → all_gone ≡ gone ++ ended
     → names_less all all_gone ≡ names_less (names_less (came ++ told) gone ++ names_less new gone) ended
 came-push came told new gone ended all all_gone is is_gone =
@@ -132,7 +132,7 @@ core_of-push log item none =
     came-push (members_of log) (filter_map core_name log) (at_most_one (core_name item)) (gone_of log) (at_most_one (gone_name item))
     (members_of (log ++ item ∷ []) ++ filter_map core_name (log ++ item ∷ [])) (gone_of (log ++ item ∷ []))
     (ap (λ l. l ++ filter_map core_name (log ++ item ∷ [])) (members_of-push log item none)
-        ∙ ap (λ l. members_of log ++ l) (told core_name log item)
+    ∙ ap (λ l. members_of log ++ l) (told core_name log item)
     ∙ sym (append_assoc (members_of log) (filter_map core_name log) (at_most_one (core_name item))))
     (told gone_name log item)
 
@@ -183,7 +183,7 @@ joined_of-push log item none =
     came-push (members_of log) (joins_of log) (filter_map join_name (accepted_by log item)) (gone_of log) (at_most_one (gone_name item))
     (members_of (log ++ item ∷ []) ++ joins_of (log ++ item ∷ [])) (gone_of (log ++ item ∷ []))
     (ap (λ l. l ++ joins_of (log ++ item ∷ [])) (members_of-push log item none)
-        ∙ ap (λ l. members_of log ++ l) (named-push join_name log item)
+    ∙ ap (λ l. members_of log ++ l) (named-push join_name log item)
     ∙ sym (append_assoc (members_of log) (joins_of log) (filter_map join_name (accepted_by log item))))
     (told gone_name log item)
 
@@ -197,82 +197,86 @@ ceased_of-push log item =
 -- ---- frames and packets
 
 numbers-push : (h k : Record → Option ℕ) (log : List Record) (item : Record)
-    → less (filter_map h (log ++ item ∷ [])) (filter_map k (log ++ item ∷ []))
-    ≡ less (less (filter_map h log) (filter_map k log) ++ less (at_most_one (h item)) (filter_map k log)) (at_most_one (k item))
+    → numbers_less (filter_map h (log ++ item ∷ [])) (filter_map k (log ++ item ∷ []))
+    ≡ numbers_less (numbers_less (filter_map h log) (filter_map k log) ++ numbers_less (at_most_one (h item)) (filter_map k log))
+    (at_most_one (k item))
 numbers-push h k log item =
-    ap (λ l. less l (filter_map k (log ++ item ∷ []))) (told h log item)
-        ∙ ap (λ l. less (filter_map h log ++ at_most_one (h item)) l) (told k log item)
+    ap (λ l. numbers_less l (filter_map k (log ++ item ∷ []))) (told h log item)
+    ∙ ap (λ l. numbers_less (filter_map h log ++ at_most_one (h item)) l) (told k log item)
     ∙ less_by-more nat_eq (filter_map h log) (at_most_one (h item)) (filter_map k log) (at_most_one (k item))
 
 pub outstanding-push : (log : List Record) (item : Record)
-    → outstanding (log ++ item ∷ []) ≡ less (outstanding log ++ less (at_most_one (sent_number item)) (filter_map taken_number log))
+    → outstanding (log ++ item ∷ [])
+    ≡ numbers_less (outstanding log ++ numbers_less (at_most_one (sent_number item)) (filter_map taken_number log))
     (at_most_one (taken_number item))
 outstanding-push log item = numbers-push sent_number taken_number log item
 
 pub under_way-push : (log : List Record) (item : Record)
-    → under_way (log ++ item ∷ []) ≡ less (under_way log ++ less (at_most_one (packet_number item)) (filter_map ended_number log))
+    → under_way (log ++ item ∷ [])
+    ≡ numbers_less (under_way log ++ numbers_less (at_most_one (packet_number item)) (filter_map ended_number log))
     (at_most_one (ended_number item))
 under_way-push log item = numbers-push packet_number ended_number log item
 
 -- ---- published pairs
 
-kept_cases : (a b : Bool) (pair : Pair) (pairs ended : List Pair) → has_pair ended pair ≡ b
+pub pair_cases : (a b : Bool) (pair : Pair) (pairs ended : List Pair) → has_pair ended pair ≡ b
     → cons_option (if a || b then None else Some pair) (pairs_less pairs ended)
     ≡ pairs_less (cons_option (if a then None else Some pair) pairs) ended
-kept_cases true b pair pairs ended is = refl
-kept_cases false true pair pairs ended is = sym (ap
+pair_cases true b pair pairs ended is = refl
+pair_cases false true pair pairs ended is = sym (ap
     (λ c. cond {A = List Pair} (not c) (pair ∷ pairs_less pairs ended) (pairs_less pairs ended)) is)
-kept_cases false false pair pairs ended is = sym (ap
+pair_cases false false pair pairs ended is = sym (ap
     (λ c. cond {A = List Pair} (not c) (pair ∷ pairs_less pairs ended) (pairs_less pairs ended)) is)
 
-kept_here : (later : List Record) (item : Record) (published : Option Pair) (pairs : List Pair)
-    → cons_option (kept_pair published (later ++ item ∷ [])) (pairs_less pairs (at_most_one (withdrawn_pair item)))
-    ≡ pairs_less (cons_option (kept_pair published later) pairs) (at_most_one (withdrawn_pair item))
-kept_here later item None pairs = refl
-kept_here later item (Some pair) pairs =
+pair_here : (later : List Record) (item : Record) (published : Option Pair) (pairs : List Pair)
+    → cons_option (unwithdrawn_pair published (later ++ item ∷ [])) (pairs_less pairs (at_most_one (withdrawn_pair item)))
+    ≡ pairs_less (cons_option (unwithdrawn_pair published later) pairs) (at_most_one (withdrawn_pair item))
+pair_here later item None pairs = refl
+pair_here later item (Some pair) pairs =
     let ended = at_most_one (withdrawn_pair item) in
     let told = ap (λ l. has_pair l pair) (told withdrawn_pair later item)
-        ∙ list_any-append (λ other. same_pair other pair) (filter_map withdrawn_pair later) ended in
+    ∙ list_any-append (λ other. same_pair other pair) (filter_map withdrawn_pair later) ended in
     ap (λ b. cons_option (if b then None else Some pair) (pairs_less pairs ended)) told
-    ∙ kept_cases (has_pair (filter_map withdrawn_pair later) pair) (has_pair ended pair) pair pairs ended refl
+    ∙ pair_cases (has_pair (filter_map withdrawn_pair later) pair) (has_pair ended pair) pair pairs ended refl
 
-alone : (published : Option Pair) → cons_option (kept_pair published []) [] ≡ at_most_one published
+alone : (published : Option Pair) → cons_option (unwithdrawn_pair published []) [] ≡ at_most_one published
 alone None = refl
 alone (Some pair) = refl
 
-kept_pairs-push : (log : List Record) (item : Record)
-    → kept_pairs (log ++ item ∷ []) ≡ pairs_less (kept_pairs log) (at_most_one (withdrawn_pair item)) ++ at_most_one (published_pair item)
-kept_pairs-push [] item = alone (published_pair item)
-kept_pairs-push (first ∷ items) item =
+unwithdrawn_pairs-push : (log : List Record) (item : Record)
+    → unwithdrawn_pairs (log ++ item ∷ [])
+    ≡ pairs_less (unwithdrawn_pairs log) (at_most_one (withdrawn_pair item)) ++ at_most_one (published_pair item)
+unwithdrawn_pairs-push [] item = alone (published_pair item)
+unwithdrawn_pairs-push (first ∷ items) item =
     let ended = at_most_one (withdrawn_pair item) in
-    ap (cons_option (kept_pair (published_pair first) (items ++ item ∷ []))) (kept_pairs-push items item)
-    ∙ one_before (kept_pair (published_pair first) (items ++ item ∷ [])) (pairs_less (kept_pairs items) ended)
+    ap (cons_option (unwithdrawn_pair (published_pair first) (items ++ item ∷ []))) (unwithdrawn_pairs-push items item)
+    ∙ one_before (unwithdrawn_pair (published_pair first) (items ++ item ∷ [])) (pairs_less (unwithdrawn_pairs items) ended)
     (at_most_one (published_pair item))
-    ∙ ap (λ l. l ++ at_most_one (published_pair item)) (kept_here items item (published_pair first) (kept_pairs items))
+    ∙ ap (λ l. l ++ at_most_one (published_pair item)) (pair_here items item (published_pair first) (unwithdrawn_pairs items))
 
-servers-more : (servers more : List (List ℕ)) (pairs : List Pair)
+pub servers-more : (servers more : List (List ℕ)) (pairs : List Pair)
     → without_servers (servers ++ more) pairs ≡ without_servers more (without_servers servers pairs)
 servers-more servers more pairs =
     filter-twice (λ pair. not (has_name servers pair.server)) (λ pair. not (has_name more pair.server))
-        (λ pair. not (has_name (servers ++ more) pair.server))
+    (λ pair. not (has_name (servers ++ more) pair.server))
     (λ pair. ap not (list_any-append (λ other. pointwise nat_eq other pair.server) servers more)
-        ∙ not_or (has_name servers pair.server) (has_name more pair.server)) pairs
+    ∙ not_or (has_name servers pair.server) (has_name more pair.server)) pairs
 
 pub published_of-push : (log : List Record) (item : Record)
     → published_of (log ++ item ∷ []) ≡ without_servers (filter_map depart_name (accepted_by log item))
     (pairs_less (published_of log) (at_most_one (withdrawn_pair item))
-        ++ without_servers (departures_of log) (at_most_one (published_pair item)))
+    ++ without_servers (departures_of log) (at_most_one (published_pair item)))
 published_of-push log item =
     let gone = departures_of log in
     let more = filter_map depart_name (accepted_by log item) in
     let ended = at_most_one (withdrawn_pair item) in
     let new = at_most_one (published_pair item) in
-    ap (λ l. without_servers l (kept_pairs (log ++ item ∷ []))) (named-push depart_name log item)
-    ∙ ap (without_servers (gone ++ more)) (kept_pairs-push log item)
-    ∙ servers-more gone more (pairs_less (kept_pairs log) ended ++ new)
-    ∙ ap (without_servers more) (filter-append (λ pair. not (has_name gone pair.server)) (pairs_less (kept_pairs log) ended) new)
+    ap (λ l. without_servers l (unwithdrawn_pairs (log ++ item ∷ []))) (named-push depart_name log item)
+    ∙ ap (without_servers (gone ++ more)) (unwithdrawn_pairs-push log item)
+    ∙ servers-more gone more (pairs_less (unwithdrawn_pairs log) ended ++ new)
+    ∙ ap (without_servers more) (filter-append (λ pair. not (has_name gone pair.server)) (pairs_less (unwithdrawn_pairs log) ended) new)
     ∙ ap (λ l. without_servers more (l ++ without_servers gone new))
-    (filter-swaps (λ pair. not (has_name gone pair.server)) (λ pair. not (has_pair ended pair)) (kept_pairs log))
+    (filter-swaps (λ pair. not (has_name gone pair.server)) (λ pair. not (has_pair ended pair)) (unwithdrawn_pairs log))
 
 -- ---- counts
 

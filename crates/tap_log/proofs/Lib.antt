@@ -1,9 +1,12 @@
 pub mod Gathering
-pub mod Groups
+pub mod OneMoreGroup
 pub mod Growing
 pub mod Instants
-pub mod KeptPairs
+pub mod Unwithdrawn
 pub mod Less
 pub mod Acknowledging
 pub mod Stepwise
 pub mod Parts
+pub mod Searching
+pub mod Telling
+pub mod Ends

@@ -1,16 +1,17 @@
 -- A log is its beginning, its groups and its ending.
-use Rattle.std.proofs.Common.{◌≡◌, ℕ, zero, suc, ◌+◌, ◌≤◌, Bool, true, false, List, [], ◌∷◌, ◌++◌, length, take, drop, All, refl, ap, sym, subst, ◌∙◌, arith, append-nil, append_assoc}
+use Rattle.std.proofs.Common.{◌≡◌, ◌≢◌, ℕ, zero, suc, ◌≤◌, Bool, true, false, List, [], ◌∷◌, ◌++◌, length, take, drop, All, refl, ap, sym, subst, ◌∙◌, arith, append-nil, append_assoc}
 use Rattle.std.specs.Prelude.{◌&&◌, slice_get, if◌then◌else◌}
-use Rattle.std.proofs.lemmas.List.{drop-append-le, take-append-drop, take-append-le}
+use Rattle.std.proofs.lemmas.Bool.{true≢false}
+use Rattle.std.proofs.lemmas.List.{append_cancel_right, drop-append-le, take-append-drop, take-append-le}
 use Rattle.std.proofs.lemmas.List.Elements.{All-head, All-tail}
-use Rattle.tap_name.specs.Settings.{SettingsValue}
 use Rattle.tap_log.specs.declared.record.Record.{Record}
-use Rattle.tap_log.specs.declared.record.Record.TheVariants.{Begin, Carrier, Spent}
+use Rattle.tap_log.specs.declared.record.Record.TheVariants.{Carrier, Spent}
 use Rattle.tap_log.specs.Kinds.{begins_group, is_carried}
-use Rattle.tap_log.specs.Moments.{beginning, ends_before}
-use Rattle.tap_log.specs.Groups.{EachGroup, EachGroupFrom, after_beginning, beginning_of, can_be_cut, ending, ending_of, groups_of, is_ended, is_ending, is_last, is_spent, parted, records_of, with_record, without_ending}
-use Rattle.tap_log.specs.Laws.{IsGroup, LogInGroups}
-use Rattle.tap_log.proofs.Groups.{beginning_size, carried_size, is_carried-group}
+use Rattle.tap_log.specs.Moments.{beginning, ends_before, last_of}
+use Rattle.tap_log.specs.Groups.{EachGroup, EachGroupFrom, after_beginning, beginning_of, can_be_cut, ending, ending_of, groups_of, is_ended, is_ending, is_last, is_lengthened, is_spent, parted, records_of, with_record, without_ending}
+use Rattle.tap_log.specs.Laws.{IsGroup}
+use Rattle.tap_log.proofs.Growing.{carried_alone, carried_second, carried_third}
+use Rattle.tap_log.proofs.OneMoreGroup.{beginning_size, carried_size, is_carried-group}
 
 -- ---- the ending
 
@@ -41,7 +42,7 @@ ending-none carried [] is = refl
 ending-none carried (item ∷ []) is = ap (λ b. if b then item ∷ [] else []) is
 ending-none carried (item ∷ last ∷ []) is =
     ap (λ b. if b then item ∷ last ∷ [] else ending carried (last ∷ []))
-        (and_false (can_be_cut carried item) (is_spent last) (not_spent last is))
+    (and_false (can_be_cut carried item) (is_spent last) (not_spent last is))
     ∙ ending-none carried (last ∷ []) is
 ending-none carried (item ∷ next ∷ other ∷ items) is = ending-none carried (next ∷ other ∷ items) is
 
@@ -54,7 +55,7 @@ is_ended-tail : (item : Record) (items : List Record) → is_ended (item ∷ ite
 is_ended-tail item [] is = refl
 is_ended-tail item (next ∷ items) is = is
 
-is_ended-drop : (n : ℕ) (items : List Record) → is_ended items ≡ false → is_ended (drop n items) ≡ false
+pub is_ended-drop : (n : ℕ) (items : List Record) → is_ended items ≡ false → is_ended (drop n items) ≡ false
 is_ended-drop zero items is = is
 is_ended-drop (suc n) [] is = refl
 is_ended-drop (suc n) (item ∷ items) is = is_ended-drop n items (is_ended-tail item items is)
@@ -107,7 +108,8 @@ parted-group carried first (next ∷ after) rest alone ends =
     (parted-group carried next after rest (All-tail (λ item. begins_group carried item ≡ false) next after alone) ends)
 
 with_record-append : (item next : Record) (ends others : Bool) (groups : List (List Record)) (group : List Record)
-    → with_record item ends (with_record next others groups ++ group ∷ []) ≡ with_record item ends (with_record next others groups) ++ group ∷ []
+    → with_record item ends (with_record next others groups ++ group ∷ [])
+    ≡ with_record item ends (with_record next others groups) ++ group ∷ []
 with_record-append item next true others groups group = refl
 with_record-append item next false true groups group = refl
 with_record-append item next false false [] group = refl
@@ -133,17 +135,19 @@ module _ (log : List Record) (first : Record) (after : List Record) (group : IsG
   begins_within : beginning log ≤ length log
   begins_within = beginning_size (is_carried log) (length log) (carried_size log) group.begun
 
-  carried : is_carried (log ++ first ∷ after) ≡ is_carried log
-  carried = is_carried-group (is_carried log) log first after group.begins
+  carried_as_before : is_carried (log ++ first ∷ after) ≡ is_carried log
+  carried_as_before = is_carried-group (is_carried log) log first after group.begins
 
   -- the beginning stays
   pub beginning_of-group : beginning_of (log ++ first ∷ after) ≡ beginning_of log
   beginning_of-group =
-      ap (λ c. take (if c then 2 else 1) (log ++ first ∷ after)) carried ∙ take-append-le (beginning log) log (first ∷ after) begins_within
+      ap (λ c. take (if c then 2 else 1) (log ++ first ∷ after)) carried_as_before
+      ∙ take-append-le (beginning log) log (first ∷ after) begins_within
 
   pub after_beginning-group : after_beginning (log ++ first ∷ after) ≡ after_beginning log ++ first ∷ after
   after_beginning-group =
-      ap (λ c. drop (if c then 2 else 1) (log ++ first ∷ after)) carried ∙ drop-append-le (beginning log) log (first ∷ after) begins_within
+      ap (λ c. drop (if c then 2 else 1) (log ++ first ∷ after)) carried_as_before
+      ∙ drop-append-le (beginning log) log (first ∷ after) begins_within
 
   -- a whole group is the last one of the longer log, which has no ending
   pub groups_of-group : is_ended log ≡ false → is_ended (first ∷ after) ≡ false
@@ -151,7 +155,7 @@ module _ (log : List Record) (first : Record) (after : List Record) (group : IsG
   groups_of-group going whole =
       let c = is_carried log in
       let old = after_beginning log in
-      ap (λ b. parted b (without_ending b (after_beginning (log ++ first ∷ after)))) carried
+      ap (λ b. parted b (without_ending b (after_beginning (log ++ first ∷ after)))) carried_as_before
       ∙ ap (λ l. parted c (without_ending c l)) after_beginning-group
       ∙ ap (parted c) (without_ending-all c (old ++ first ∷ after) (is_ended-append old first after ∙ whole))
       ∙ parted-append c old first after group.begins group.alone
@@ -206,21 +210,68 @@ EachGroup-earlier P log first after group going whole each =
     let Q : List Record → Type 0 = λ b. P b (first ∷ after) in
     let Each : List Record → List (List Record) → Type 0 = λ b groups. EachGroupFrom P b groups in
     let all : EachGroupFrom P (beginning_of log) (groups_of log ++ (first ∷ after) ∷ []) =
-        subst (Each (beginning_of log)) (groups_of-group log first after group going whole)
-        (subst (λ b. Each b (groups_of (log ++ first ∷ after))) (beginning_of-group log first after group) each) in
-    (EachGroupFrom-earlier P (beginning_of log) (groups_of log) (first ∷ after) all,
-    subst Q (log_is_groups log going) (EachGroupFrom-latest P (beginning_of log) (groups_of log) (first ∷ after) all))
+    subst (Each (beginning_of log)) (groups_of-group log first after group going whole)
+    (subst (λ b. Each b (groups_of (log ++ first ∷ after))) (beginning_of-group log first after group) each) in (
+      EachGroupFrom-earlier P (beginning_of log) (groups_of log) (first ∷ after) all,
+      subst Q (log_is_groups log going) (EachGroupFrom-latest P (beginning_of log) (groups_of log) (first ∷ after) all),
+    )
 
--- ---- the law
+-- ---- a log that has ended
 
-groups_of-begin : (settings : SettingsValue) (frames : ℕ) (members : List (List ℕ)) → groups_of (Begin settings frames members ∷ []) ≡ []
-unfolding is_carried
-groups_of-begin settings frames members = refl
+never_longer : (carried : Bool) (item next : Record) (items : List Record) (first : Record) (after : List Record)
+    → is_ending carried (item ∷ next ∷ (items ++ first ∷ after)) ≡ false
+never_longer carried item next [] first after = refl
+never_longer carried item next (other ∷ items) first after = refl
 
-groups_of-carried : (settings : SettingsValue) (frames : ℕ) (members : List (List ℕ))
-    → groups_of (Begin settings frames members ∷ Carrier ∷ []) ≡ []
-unfolding is_carried
-groups_of-carried settings frames members = refl
+-- the records end with an ending, which the record before it doesn't make longer
+pub ending-last : (carried : Bool) (items : List Record) (first : Record) (after : List Record) → is_ending carried (first ∷ after) ≡ true
+    → is_lengthened carried (last_of items) (first ∷ after) ≡ false → ending carried (items ++ first ∷ after) ≡ first ∷ after
+ending-last carried [] first after is alone = ap (λ b. if b then first ∷ after else ending carried after) is
+ending-last carried (item ∷ []) first after is alone =
+    ap (λ b. if b then item ∷ first ∷ after else ending carried (first ∷ after)) alone
+    ∙ ap (λ b. if b then first ∷ after else ending carried after) is
+ending-last carried (item ∷ next ∷ items) first after is alone =
+    ap (λ b. if b then item ∷ next ∷ (items ++ first ∷ after) else ending carried (next ∷ (items ++ first ∷ after)))
+    (never_longer carried item next items first after)
+    ∙ ending-last carried (next ∷ items) first after is alone
 
-pub log_in_groups_holds : LogInGroups
-log_in_groups_holds = record { whole = log_is_parts; none = groups_of-begin; none_carried = groups_of-carried; more = groups_of-group }
+without_ending-last : (carried : Bool) (items : List Record) (first : Record) (after : List Record)
+    → ending carried (items ++ first ∷ after) ≡ first ∷ after → without_ending carried (items ++ first ∷ after) ≡ items
+without_ending-last carried items first after is =
+    let all = items ++ first ∷ after in
+    append_cancel_right (without_ending carried all) items (first ∷ after)
+    (ap (λ l. without_ending carried all ++ l) (sym is) ∙ without_ending-whole carried all)
+
+carrier_goes_on : (carried : Bool) (after : List Record) → is_ending carried (Carrier ∷ after) ≡ false
+unfolding is_last can_be_cut
+carrier_goes_on carried [] = refl
+carrier_goes_on carried (last ∷ []) = refl
+carrier_goes_on carried (last ∷ other ∷ items) = refl
+
+is_carried-after : (log : List Record) (first : Record) (after : List Record) → 1 ≤ length log → first ≢ Carrier
+    → is_carried (log ++ first ∷ after) ≡ is_carried log
+is_carried-after [] first after begun other = absurd (omega (arith, begun))
+is_carried-after (item ∷ []) first after begun other =
+    carried_third item first after [] ∙ carried_second item first other ∙ sym (carried_alone item)
+is_carried-after (item ∷ next ∷ items) first after begun other = carried_third item next (items ++ first ∷ after) items
+
+-- an ending leaves the groups as they were
+pub groups_of-ended : (log : List Record) (first : Record) (after : List Record) → 1 ≤ length log → is_ended log ≡ false
+    → is_ending (is_carried log) (first ∷ after) ≡ true
+    → is_lengthened (is_carried log) (last_of (after_beginning log)) (first ∷ after) ≡ false
+    → (groups_of (log ++ first ∷ after) ≡ groups_of log) × (ending_of (log ++ first ∷ after) ≡ first ∷ after)
+groups_of-ended log first after begun going is alone =
+    let c = is_carried log in
+    let old = after_beginning log in
+    let other : first ≢ Carrier = λ same. absurd (true≢false (sym is ∙ ap (λ x. is_ending c (x ∷ after)) same ∙ carrier_goes_on c after)) in
+    let carried = is_carried-after log first after begun other in
+    let within = beginning_size c (length log) (carried_size log) begun in
+    let later : after_beginning (log ++ first ∷ after) ≡ old ++ first ∷ after =
+    ap (λ b. drop (if b then 2 else 1) (log ++ first ∷ after)) carried ∙ drop-append-le (beginning log) log (first ∷ after) within in
+    let last = ending-last c old first after is alone in (
+      ap (λ b. parted b (without_ending b (after_beginning (log ++ first ∷ after)))) carried
+          ∙ ap (λ l. parted c (without_ending c l)) later
+          ∙ ap (parted c) (without_ending-last c old first after last)
+          ∙ ap (parted c) (sym (without_ending-all c old (is_ended-drop (beginning log) log going))),
+      ap (λ b. ending b (after_beginning (log ++ first ∷ after))) carried ∙ ap (ending c) later ∙ last,
+    )

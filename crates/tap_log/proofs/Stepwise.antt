@@ -20,9 +20,9 @@ pub neighbours_at : (xs : List Record) (i : ℕ) (x y : Record) → i + 1 < leng
 neighbours_at xs i x y within first second =
     let drops = length-drop 1 xs in
     let at : get_or (neighbours xs) i (x, y) ≡ (get_or xs i x, get_or (drop 1 xs) i y) =
-        get_or-zip xs (drop 1 xs) i (x, y) (omega arith) (omega (arith, drops)) in
+    get_or-zip xs (drop 1 xs) i (x, y) (omega arith) (omega (arith, drops)) in
     let next : get_or (drop 1 xs) i y ≡ y = get_or-drop 1 xs i y ∙ ap (λ k. get_or xs k y) (let e : 1 + i ≡ i + 1 = omega arith in e)
-        ∙ sym second in
+    ∙ sym second in
     let Both : Record → Record → Record × Record = λ a b. (a, b) in
     sym (at ∙ ap (λ b. Both (get_or xs i x) b) next ∙ ap (λ a. Both a y) (sym first))
 
@@ -32,7 +32,7 @@ range_more : (a n : ℕ) → range_with_len a (suc n) ≡ range_with_len a n ++ 
 range_more a zero = ap (λ k. k ∷ []) (sym (add-zero a))
 range_more a (suc n) =
     ap (λ l. a ∷ l) (range_more (a + 1) n) ∙ ap (λ k. a ∷ (range_with_len (a + 1) n ++ k ∷ []))
-        (let e : (a + 1) + n ≡ a + suc n = omega arith in e)
+    (let e : (a + 1) + n ≡ a + suc n = omega arith in e)
 
 last_push : (o : Option ℕ) (xs : List ℕ) (y : ℕ) → last_or o (xs ++ y ∷ []) ≡ Some y
 last_push o [] y = refl
@@ -46,16 +46,16 @@ pub passing_more : (p : ℕ → Bool) (n : ℕ) (b : Bool) → p (n + 1) ≡ b
 passing_more p n b is =
     let next : range_with_len 1 (n + 1) ≡ range_with_len 1 n ++ (n + 1) ∷ [] =
     ap (range_with_len 1) (let e : n + 1 ≡ suc n = omega arith in e) ∙ range_more 1 n
-        ∙ ap (λ k. range_with_len 1 n ++ k ∷ []) (let e : 1 + n ≡ n + 1 = omega arith in e) in
+    ∙ ap (λ k. range_with_len 1 n ++ k ∷ []) (let e : 1 + n ≡ n + 1 = omega arith in e) in
     ap (filter p) next ∙ filter-append p (range_with_len 1 n) ((n + 1) ∷ [])
-        ∙ ap (λ l. filter p (range_with_len 1 n) ++ l) (filter_one p b (n + 1) is)
+    ∙ ap (λ l. filter p (range_with_len 1 n) ++ l) (filter_one p b (n + 1) is)
 
 -- the next number passes: it is the last one
 pub last_passes : (p : ℕ → Bool) (n last : ℕ) → p (n + 1) ≡ true → last ≡ n + 1
     → last ≡ unwrap_or (last_or None (filter p (range_with_len 1 (n + 1)))) 0
 last_passes p n last passes is =
     is ∙ sym (ap (λ l. unwrap_or (last_or None l) 0) (passing_more p n true passes)
-        ∙ ap (λ o. unwrap_or o 0) (last_push None (filter p (range_with_len 1 n)) (n + 1)))
+    ∙ ap (λ o. unwrap_or o 0) (last_push None (filter p (range_with_len 1 n)) (n + 1)))
 
 -- it doesn't: the last one stays
 pub last_stays : (p : ℕ → Bool) (n last : ℕ) → p (n + 1) ≡ false → last ≡ unwrap_or (last_or None (filter p (range_with_len 1 n))) 0
@@ -69,7 +69,7 @@ pub once_next : (names : List (List ℕ)) (i : ℕ) (name : List ℕ) → i < le
     → fold with_name [] (take (i + 1) names) ≡ with_name (fold with_name [] (take i names)) name
 once_next names i name within is =
     ap (fold with_name []) (take_more names i name within ∙ ap (λ y. take i names ++ y ∷ []) (sym is))
-        ∙ fold-append with_name [] (take i names) (name ∷ [])
+    ∙ fold-append with_name [] (take i names) (name ∷ [])
 
 pub once_same : (once names : List (List ℕ)) (i : ℕ) (name : List ℕ) → i < length names → name ≡ get_or names i name
     → once ≡ fold with_name [] (take i names)
@@ -82,4 +82,4 @@ pub once_more : (once new names : List (List ℕ)) (i : ℕ) (name : List ℕ) �
     → has_name once name ≡ false → new ≡ once ++ name ∷ [] → new ≡ fold with_name [] (take (i + 1) names)
 once_more once new names i name within is so_far has grown =
     grown ∙ sym (once_next names i name within is ∙ ap (λ l. with_name l name) (sym so_far)
-        ∙ ap (λ b. if b then once else once ++ name ∷ []) has)
+    ∙ ap (λ b. if b then once else once ++ name ∷ []) has)

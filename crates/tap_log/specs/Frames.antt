@@ -1,5 +1,5 @@
 -- The bytes of the frames of a log, the numbers of its lookups and casts, and the packets that were made once more.
-use Rattle.std.specs.Prelude.{ℕ, ◌+◌, Bool, true, false, ◌&&◌, if◌then◌else◌, nat_eq, List, [], ◌∷◌, length, slice_get, Option, None, Some, is_some, option_and_then}
+use Rattle.std.specs.Prelude.{ℕ, ◌+◌, Bool, false, ◌&&◌, if◌then◌else◌, nat_eq, List, [], ◌∷◌, length, slice_get, Option, None, Some, is_some, option_and_then}
 use Rattle.std.specs.List.{filter_map}
 use Rattle.tap_log.specs.declared.record.Record.{Record}
 use Rattle.tap_log.specs.declared.record.Record.TheVariants.{Step as StepRecord, Sent, Asked, CastFrom}

@@ -1,5 +1,5 @@
 -- A log is its beginning, its groups and its ending.
-use Rattle.std.specs.Prelude.{ℕ, ◌+◌, Bool, true, false, ◌&&◌, if◌then◌else◌, List, [], ◌∷◌, ◌++◌, length, take, drop, slice_get}
+use Rattle.std.specs.Prelude.{ℕ, ◌+◌, Bool, true, false, ◌&&◌, if◌then◌else◌, List, [], ◌∷◌, ◌++◌, length, take, drop, slice_get, Option, None, Some}
 use Rattle.tap_log.specs.declared.record.Record.{Record}
 use Rattle.tap_log.specs.declared.record.Record.TheVariants.{Step as StepRecord, Spent, Finished, Arrived}
 use Rattle.tap_log.specs.Kinds.{is_carried}
@@ -43,6 +43,11 @@ abbrev pub is_ending : Bool → List Record → Bool
 is_ending carried (last ∷ []) = is_last last
 is_ending carried (first ∷ last ∷ []) = can_be_cut carried first && is_spent last
 is_ending carried other = false
+
+-- the ending is longer with the record before it, if there is one
+abbrev pub is_lengthened : Bool → Option Record → List Record → Bool
+is_lengthened carried None last = false
+is_lengthened carried (Some item) last = is_ending carried (item ∷ last)
 
 -- the ending of the records, of which there may be none
 abbrev pub ending : Bool → List Record → List Record

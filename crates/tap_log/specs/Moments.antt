@@ -34,16 +34,16 @@ abbrev pub has_number : List ℕ → ℕ → Bool
 has_number numbers number = list_any (λ other. nat_eq other number) numbers
 
 -- the first numbers less the second ones
-abbrev pub less : List ℕ → List ℕ → List ℕ
-less numbers ended = filter (λ number. not (has_number ended number)) numbers
+abbrev pub numbers_less : List ℕ → List ℕ → List ℕ
+numbers_less numbers ended = filter (λ number. not (has_number ended number)) numbers
 
 -- the frames that are outstanding, by their numbers: those that were sent, less those that were taken
 abbrev pub outstanding : List Record → List ℕ
-outstanding log = less (filter_map sent_number log) (filter_map taken_number log)
+outstanding log = numbers_less (filter_map sent_number log) (filter_map taken_number log)
 
 -- the packets that are under way, by their numbers: those that were made, less those that arrived or were lost
 abbrev pub under_way : List Record → List ℕ
-under_way log = less (filter_map packet_number log) (filter_map ended_number log)
+under_way log = numbers_less (filter_map packet_number log) (filter_map ended_number log)
 
 -- the frame that a packet acknowledges, where this packet is among those that have arrived
 unfoldable pub acknowledged_by : List ℕ → Record → Option ℕ
@@ -60,7 +60,7 @@ acknowledged log = acknowledged_by_all (filter_map arrived_number log) log
 
 -- the frames that await their acknowledgement, by their numbers: those that were sent, less those acknowledged
 abbrev pub awaiting : List Record → List ℕ
-awaiting log = less (filter_map sent_number log) (acknowledged log)
+awaiting log = numbers_less (filter_map sent_number log) (acknowledged log)
 
 -- there is no number
 abbrev pub is_none : List ℕ → Bool

@@ -23,14 +23,14 @@ abbrev pub unless_withdrawn : List Record → Pair → Option Pair
 unless_withdrawn later pair = (if has_pair (filter_map withdrawn_pair later) pair then None else Some pair)
 
 -- the pair that a record publishes, where none of the later ones withdraws it
-abbrev pub kept_pair : Option Pair → List Record → Option Pair
-kept_pair None later = None
-kept_pair (Some pair) later = unless_withdrawn later pair
+abbrev pub unwithdrawn_pair : Option Pair → List Record → Option Pair
+unwithdrawn_pair None later = None
+unwithdrawn_pair (Some pair) later = unless_withdrawn later pair
 
 -- the pairs of `Published` records, less those of later `Withdrawn` records
-abbrev pub kept_pairs : List Record → List Pair
-kept_pairs [] = []
-kept_pairs (item ∷ later) = cons_option (kept_pair (published_pair item) later) (kept_pairs later)
+abbrev pub unwithdrawn_pairs : List Record → List Pair
+unwithdrawn_pairs [] = []
+unwithdrawn_pairs (item ∷ later) = cons_option (unwithdrawn_pair (published_pair item) later) (unwithdrawn_pairs later)
 
 -- the pairs less those of these servers
 abbrev pub without_servers : List (List ℕ) → List Pair → List Pair
@@ -39,4 +39,4 @@ without_servers servers pairs = filter (λ pair. not (has_name servers pair.serv
 -- The published pairs: those of `Published` records, less those of later `Withdrawn` records, less those of a server from its
 -- accepted departure on.
 abbrev pub published_of : List Record → List Pair
-published_of log = without_servers (departures_of log) (kept_pairs log)
+published_of log = without_servers (departures_of log) (unwithdrawn_pairs log)

@@ -1,5 +1,5 @@
 -- Why a step is refused, told from the log at the moment before it. Of several causes the first one is told.
-use Rattle.std.specs.Prelude.{ℕ, nat_eq, nat_le, nat_lt, ◌==◌, ◌+◌, Bool, true, false, not, ◌&&◌, if◌then◌else◌, List, [], ◌∷◌, length, take, slice_set, Option, None, Some, Result, is_ok}
+use Rattle.std.specs.Prelude.{ℕ, nat_eq, nat_le, nat_lt, ◌==◌, ◌+◌, Bool, false, not, ◌&&◌, if◌then◌else◌, List, [], ◌∷◌, length, take, slice_set, Option, None, Some, is_ok}
 use Rattle.std.specs.List.{starts_with}
 use Rattle.std.specs.Option.{option_map, option_map_or}
 use Rattle.tap_name.specs.Settings.{SettingsValue}

@@ -40,7 +40,8 @@ fn each_once(alloc: Global, names: &[Name]) -> Result<Vec<Name>, NoMemory>
     Ok(once)
 }
 
-/// The names that were ever members or joined, each once.
+/// The names that were ever members or joined, each once. This is for tests and small logs: it takes memory, and time that
+/// grows with the square of their number.
 ///
 /// Rule: docs/FORMATS.md, "Groups and moments".
 pub fn names_at(alloc: Global, records: &[Record]) -> Result<List<Name>, NoMemory>

@@ -37,7 +37,8 @@ fn last_still(alloc: Global, records: &[Record]) -> Result<usize, NoMemory>
 }
 
 /// The node that is departing at the end of the records: the last one whose departure was accepted since the last
-/// moment at which no frame was outstanding.
+/// moment at which no frame was outstanding. This is for tests and small logs: at each moment it asks anew which frames are
+/// outstanding, so its time grows with the cube of the number of records.
 ///
 /// Rule: docs/FORMATS.md, "Groups and moments".
 pub fn departing_at(alloc: Global, records: &[Record]) -> Result<Option<Name>, NoMemory>

@@ -90,10 +90,14 @@ pub(crate) enum Number {
     Arrived,
     // Those of the packets that arrive or are lost.
     Ended,
+    // Those of the lookups that are asked.
+    Asked,
+    // Those of the casts that begin.
+    Cast,
 }
 
 // The number that a record tells.
-#[tactic(auto, unfolding(crate::specs::Kinds::sent_number, crate::specs::Kinds::taken_number, crate::specs::Kinds::packet_number, crate::specs::Kinds::arrived_number, crate::specs::Kinds::ended_number))]
+#[tactic(auto, unfolding(crate::specs::Kinds::sent_number, crate::specs::Kinds::taken_number, crate::specs::Kinds::packet_number, crate::specs::Kinds::arrived_number, crate::specs::Kinds::ended_number, crate::specs::Frames::asked_ticket, crate::specs::Frames::begun_cast))]
 pub(crate) fn number_of(which: Number, item: &Record) -> Option<u32>
     ensures { result ≡ number_of which item.now }
 {
@@ -103,6 +107,8 @@ pub(crate) fn number_of(which: Number, item: &Record) -> Option<u32>
         (Number::Made, Record::Packet { number, .. }) => Some(*number),
         (Number::Arrived | Number::Ended, Record::Arrived { packet }) => Some(*packet),
         (Number::Ended, Record::Lost { packet }) => Some(*packet),
+        (Number::Asked, Record::Asked { ticket, .. }) => Some(*ticket),
+        (Number::Cast, Record::CastFrom { cast, .. }) => Some(*cast),
         _ => None,
     }
 }

@@ -1,4 +1,4 @@
-ghost use Rattle.tap_log.specs.Laws.{LogInGroups, OneMoreGroup, OneMoreRecord};
+ghost use Rattle.tap_log.specs.Laws.{GroupChanges, LogInGroups, OneMoreGroup, OneMoreRecord};
 
 /// What a log tells with its beginning alone; and after one more record whether it is carried, its steps, those that were
 /// accepted, the nodes that are core, joined, abandoned or ceased, the frames that are outstanding, those that await their
@@ -28,4 +28,14 @@ pub fn one_more_group()
 /// Rule: docs/FORMATS.md, "Groups and moments".
 pub fn log_in_groups()
     ensures { LogInGroups }
+{}
+
+/// What one more group of records changes in who is core and joined, in the names that were ever there, in the pairs that
+/// are published, and in the frames that are outstanding, where frames are numbered from 0 and tickets from 1.
+///
+/// It does nothing: its contract is the law.
+///
+/// Rule: docs/FORMATS.md, "Groups and moments".
+pub fn group_changes()
+    ensures { GroupChanges }
 {}

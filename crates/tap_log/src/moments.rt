@@ -12,7 +12,7 @@ ghost use Rattle.tap_log.specs.Moments.{
   is_moment,
   is_rest,
   is_still,
-  less,
+  numbers_less,
   outstanding,
   under_way,
 };
@@ -41,8 +41,8 @@ pub(crate) fn numbers(
 }
 
 // The first numbers less the second ones.
-fn less(alloc: Global, numbers: &[u32], ended: &[u32]) -> Result<Vec<u32>, NoMemory>
-    ensures { IfOk result (λ left. left.items ≡ less numbers.now ended.now) }
+fn numbers_less(alloc: Global, numbers: &[u32], ended: &[u32]) -> Result<Vec<u32>, NoMemory>
+    ensures { IfOk result (λ left. left.items ≡ numbers_less numbers.now ended.now) }
 {
     Ok(
         numbers
@@ -101,7 +101,8 @@ fn acknowledged(alloc: Global, records: &[Record]) -> Result<Vec<u32>, NoMemory>
     acknowledged_among(alloc, arrived.as_slice(), records)
 }
 
-/// The numbers of the frames that are outstanding: those that were sent, less those that were taken.
+/// The numbers of the frames that are outstanding: those that were sent, less those that were taken. This is for tests and
+/// small logs: it takes memory, and time that grows with the square of the number of records.
 ///
 /// Rule: docs/FORMATS.md, "Groups and moments".
 pub fn outstanding(alloc: Global, records: &[Record]) -> Result<List<u32>, NoMemory>
@@ -109,10 +110,11 @@ pub fn outstanding(alloc: Global, records: &[Record]) -> Result<List<u32>, NoMem
 {
     let sent = numbers(alloc, Number::Sent, records)?;
     let taken = numbers(alloc, Number::Taken, records)?;
-    Ok(List::from_vec(less(alloc, sent.as_slice(), taken.as_slice())?))
+    Ok(List::from_vec(numbers_less(alloc, sent.as_slice(), taken.as_slice())?))
 }
 
 /// The numbers of the packets that are under way: those that were made, less those that arrived or were lost.
+/// This is for tests and small logs, as `outstanding`.
 ///
 /// Rule: docs/FORMATS.md, "Groups and moments".
 pub fn under_way(alloc: Global, records: &[Record]) -> Result<List<u32>, NoMemory>
@@ -120,10 +122,11 @@ pub fn under_way(alloc: Global, records: &[Record]) -> Result<List<u32>, NoMemor
 {
     let made = numbers(alloc, Number::Made, records)?;
     let ended = numbers(alloc, Number::Ended, records)?;
-    Ok(List::from_vec(less(alloc, made.as_slice(), ended.as_slice())?))
+    Ok(List::from_vec(numbers_less(alloc, made.as_slice(), ended.as_slice())?))
 }
 
 /// The numbers of the frames that await their acknowledgement: those that were sent, less those acknowledged.
+/// This is for tests and small logs, as `outstanding`.
 ///
 /// Rule: docs/FORMATS.md, "Groups and moments".
 pub fn awaiting(alloc: Global, records: &[Record]) -> Result<List<u32>, NoMemory>
@@ -131,10 +134,10 @@ pub fn awaiting(alloc: Global, records: &[Record]) -> Result<List<u32>, NoMemory
 {
     let sent = numbers(alloc, Number::Sent, records)?;
     let acknowledged = acknowledged(alloc, records)?;
-    Ok(List::from_vec(less(alloc, sent.as_slice(), acknowledged.as_slice())?))
+    Ok(List::from_vec(numbers_less(alloc, sent.as_slice(), acknowledged.as_slice())?))
 }
 
-/// Whether no frame is outstanding.
+/// Whether no frame is outstanding. This is for tests and small logs, as `outstanding`.
 ///
 /// Rule: docs/FORMATS.md, "Groups and moments".
 pub fn is_still(alloc: Global, records: &[Record]) -> Result<bool, NoMemory>
@@ -144,7 +147,7 @@ pub fn is_still(alloc: Global, records: &[Record]) -> Result<bool, NoMemory>
 }
 
 /// Whether the log rests: no frame is outstanding, and in a carried log also no packet is under way and no frame awaits
-/// its acknowledgement.
+/// its acknowledgement. This is for tests and small logs, as `outstanding`.
 ///
 /// Rule: docs/FORMATS.md, "Groups and moments".
 pub fn is_rest(alloc: Global, records: &[Record]) -> Result<bool, NoMemory>
@@ -163,7 +166,7 @@ pub fn is_rest(alloc: Global, records: &[Record]) -> Result<bool, NoMemory>
 }
 
 // How many records a log begins with: `Begin`, and `Carrier` where it is carried.
-fn beginning(records: &[Record]) -> usize
+pub(crate) fn beginning(records: &[Record]) -> usize
     ensures { result ≡ beginning records.now }
 {
     if is_carried(records) { 2 } else { 1 }
@@ -192,7 +195,7 @@ fn has_begun(carried: bool, records: &[Record]) -> bool
 }
 
 /// Whether so many records are a moment of the log: the end of its beginning or of a group. The last group ends with the
-/// log.
+/// log, its ending included. This goes over the records up to there.
 ///
 /// Rule: docs/FORMATS.md, "Groups and moments".
 pub fn is_moment(records: &[Record], m: usize) -> bool

@@ -153,7 +153,8 @@ pub(crate) fn both(alloc: Global, first: &[Name], second: &[Name]) -> Result<Vec
 }
 
 /// The core nodes at the end of the records: the members and those that became core, less those that are gone. A node
-/// that departs is core until it is gone.
+/// that departs is core until it is gone. This is for tests and small logs: it takes memory, and time that grows with the
+/// square of the number of records.
 ///
 /// Rule: docs/FORMATS.md, "Groups and moments".
 pub fn core_at(alloc: Global, records: &[Record]) -> Result<List<Name>, NoMemory>
@@ -166,7 +167,7 @@ pub fn core_at(alloc: Global, records: &[Record]) -> Result<List<Name>, NoMemory
 }
 
 /// The nodes that are there at the end of the records: the members and those whose join was accepted, less those that
-/// are gone.
+/// are gone. This is for tests and small logs, as `core_at`.
 ///
 /// Rule: docs/FORMATS.md, "Groups and moments".
 pub fn joined_at(alloc: Global, records: &[Record]) -> Result<List<Name>, NoMemory>
@@ -187,7 +188,8 @@ pub fn abandoned_at(alloc: Global, records: &[Record]) -> Result<List<Name>, NoM
     Ok(List::from_vec(names(alloc, Naming::Abandoned, records)?))
 }
 
-/// The nodes that have given up joining: those that were abandoned and are gone.
+/// The nodes that have given up joining: those that were abandoned and are gone. This is for tests and small logs, as
+/// `core_at`.
 ///
 /// Rule: docs/FORMATS.md, "Groups and moments".
 pub fn ceased_at(alloc: Global, records: &[Record]) -> Result<List<Name>, NoMemory>

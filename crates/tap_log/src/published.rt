@@ -1,7 +1,7 @@
 ghost use Rattle.std.specs.Prelude.{◌≡◌, IfOk};
 ghost use Rattle.std.specs.List.{filter_map};
 ghost use Rattle.tap_log.specs.Kinds.{published_pair, withdrawn_pair};
-ghost use Rattle.tap_log.specs.Published.{has_pair, kept_pair, kept_pairs, published_of, same_pair, without_servers};
+ghost use Rattle.tap_log.specs.Published.{has_pair, unwithdrawn_pair, unwithdrawn_pairs, published_of, same_pair, without_servers};
 
 use crate::kinds::{published_pair, withdrawn_pair};
 use crate::log::NoMemory;
@@ -10,7 +10,7 @@ use crate::record::{Pair, Record};
 use std::alloc::Global;
 use tap_name::{List, Name};
 
-fn same_pair(a: &Pair, b: &Pair) -> bool
+pub(crate) fn same_pair(a: &Pair, b: &Pair) -> bool
     ensures { result ≡ same_pair a.now b.now }
 {
     a.object == b.object && a.server == b.server
@@ -31,8 +31,8 @@ fn is_withdrawn(records: &[Record], pair: &Pair) -> bool
 }
 
 // The pair that a record publishes, where none of the later ones withdraws it.
-fn kept_pair(item: &Record, later: &[Record]) -> Option<Pair>
-    ensures { result ≡ kept_pair (published_pair item.now) later.now }
+fn unwithdrawn_pair(item: &Record, later: &[Record]) -> Option<Pair>
+    ensures { result ≡ unwithdrawn_pair (published_pair item.now) later.now }
 {
     let pair = published_pair(item)?;
     if is_withdrawn(later, &pair) {
@@ -43,12 +43,12 @@ fn kept_pair(item: &Record, later: &[Record]) -> Option<Pair>
 }
 
 // The pairs that were published and not withdrawn later.
-fn kept_pairs(alloc: Global, records: &[Record]) -> Result<Vec<Pair>, NoMemory>
-    ensures { IfOk result (λ pairs. pairs.items ≡ kept_pairs records.now) }
+fn unwithdrawn_pairs(alloc: Global, records: &[Record]) -> Result<Vec<Pair>, NoMemory>
+    ensures { IfOk result (λ pairs. pairs.items ≡ unwithdrawn_pairs records.now) }
 {
     let mut pairs = Vec::new(alloc);
     for at in 0..records.len() {
-        if let Some(pair) = kept_pair(&records[at], &records[at + 1..]) {
+        if let Some(pair) = unwithdrawn_pair(&records[at], &records[at + 1..]) {
             pairs.push(pair)?;
         }
     }
@@ -69,13 +69,14 @@ fn without_servers(alloc: Global, pairs: &[Pair], servers: &[Name]) -> Result<Ve
 }
 
 /// The pairs that are published at the end of the records: those that were published, less those that were withdrawn
-/// later, less those of a server from its accepted departure on.
+/// later, less those of a server from its accepted departure on. This is for tests and small logs: it takes memory, and time
+/// that grows with the square of the number of records.
 ///
 /// Rule: docs/FORMATS.md, "Groups and moments".
 pub fn published_at(alloc: Global, records: &[Record]) -> Result<List<Pair>, NoMemory>
     ensures { IfOk result (λ pairs. pairs ≡ published_of records.now) }
 {
-    let pairs = kept_pairs(alloc, records)?;
+    let pairs = unwithdrawn_pairs(alloc, records)?;
     let departed = departures(alloc, records)?;
     Ok(List::from_vec(without_servers(alloc, pairs.as_slice(), departed.as_slice())?))
 }

@@ -1,8 +1,9 @@
 use crate::{
     Bytes, LinkLine, LinkWord, Log, NoMemory, NodeWord, Pair, Record, Refusal, abandoned_at,
-    accepts, awaiting, begins_group, ceased_at, core_at, depart_name, departing_at, is_moment,
-    is_rest, is_still, join_count, joined_at, name_count, names_at, one_more_group,
-    one_more_record, outstanding, published_at, sent_count, under_way,
+    accepts, actor_of, awaiting, beginning_of, begins_group, bytes_of, cast_count, ceased_at,
+    core_at, depart_name, departing_at, ending_of, groups_of, is_added, is_moment, is_rest,
+    is_start, is_still, join_count, joined_at, name_count, names_at, outstanding, published_at,
+    resent_count, sent_count, ticket_count, under_way,
 };
 use std::alloc::Global;
 use std::process::Abort;
@@ -31,15 +32,15 @@ const CARRIED_MOMENTS: [usize; 27] = [
 
 // A log that is typed in, with the settings of its names.
 #[derive(Drop)]
-struct Typed {
-    alloc: Global,
-    settings: Settings,
-    carried: bool,
-    steps: u32,
-    log: Log,
+pub(crate) struct Typed {
+    pub(crate) alloc: Global,
+    pub(crate) settings: Settings,
+    pub(crate) carried: bool,
+    pub(crate) steps: u32,
+    pub(crate) log: Log,
 }
 
-fn name_of(settings: &Settings, text: &str) -> Result<Name, Fail> {
+pub(crate) fn name_of(settings: &Settings, text: &str) -> Result<Name, Fail> {
     match read_name(settings, text.as_bytes()) {
         Ok(name) => Ok(name),
         Err(_) => Err("a name")?,
@@ -71,7 +72,7 @@ fn first_word(text: &str) -> (&str, &str) {
 }
 
 // A log with its beginning alone.
-fn begun(alloc: Global, base: u8, digits: u8, members: &str) -> Result<Typed, Fail> {
+pub(crate) fn begun(alloc: Global, base: u8, digits: u8, members: &str) -> Result<Typed, Fail> {
     let settings = Settings::new(base, digits, 1).ok_or("settings")?;
     let mut log = Log::new(alloc);
     log.push(Record::Begin {
@@ -91,7 +92,7 @@ fn begun(alloc: Global, base: u8, digits: u8, members: &str) -> Result<Typed, Fa
 impl Typed {
     // Adds records: lines of a word and what it tells, parted by semicolons. `sent 3 4` are two records. The bytes of the
     // frames are left out.
-    fn add(&mut self, lines: &str) -> Result<(), Fail> {
+    pub(crate) fn add(&mut self, lines: &str) -> Result<(), Fail> {
         for line in lines.split(';') {
             let (word, rest) = first_word(line.trim());
             self.add_line(word, rest)?;
@@ -203,6 +204,7 @@ impl Typed {
             "taken" => Ok(Record::Taken { number }),
             "arrived" => Ok(Record::Arrived { packet: number }),
             "lost" => Ok(Record::Lost { packet: number }),
+            "spent" => Ok(Record::Spent { limit: number }),
             _ => Err("a word")?,
         }
     }
@@ -596,4 +598,57 @@ fn a_carried_departure(rt: HostRuntime) -> Result<(), Fail> {
     run.add("arrived 1; taken 1; gone 01; packet 3 ack 1")?;
     run.check_frames(&rt, &[], &[2, 3], false)?;
     run.check_nodes(&rt, "00", "00", "")
+}
+
+// Compares how many records the beginning, each group and the ending have with what they are to be.
+fn check_parts(
+    run: &Typed,
+    rt: &impl Abort,
+    beginning: usize,
+    sizes: &[usize],
+    ending: usize,
+) -> Result<(), Fail> {
+    let records = run.log.as_slice();
+    let groups = groups_of(run.alloc, records)?;
+    assert_eq!(rt; beginning_of(records).len(), beginning);
+    assert_eq!(rt; groups.len(), sizes.len());
+    for (group, size) in groups.iter().zip(sizes.iter()) {
+        assert_eq!(rt; group.len(), *size);
+    }
+    assert_eq!(rt; ending_of(records).len(), ending);
+    Ok(())
+}
+
+// `spent` takes the beginning of the group that it cuts short with it.
+#[test]
+fn parts_of_logs(rt: HostRuntime) -> Result<(), Fail> {
+    let mut run = begun(rt.alloc(), 2, 2, "00")?;
+    check_parts(&run, &rt, 1, &[], 0)?;
+    run.add("step join 01 via 00; sent 0; step settle; taken 0; sent 1")?;
+    check_parts(&run, &rt, 1, &[2, 1, 2], 0)?;
+    run.add("done")?;
+    check_parts(&run, &rt, 1, &[2, 1, 2], 1)?;
+    let mut run = begun(rt.alloc(), 2, 2, "00")?;
+    run.add("step settle; step join 01 via 00; spent 1")?;
+    check_parts(&run, &rt, 1, &[1], 2)?;
+    let mut run = begun(rt.alloc(), 2, 2, "00")?;
+    run.add("carrier; step settle; spent 1")?;
+    check_parts(&run, &rt, 2, &[1], 1)
+}
+
+#[test]
+fn what_is_asked_of_a_log(rt: HostRuntime) -> Result<(), Fail> {
+    let mut run = begun(rt.alloc(), 2, 2, "00 01")?;
+    run.add("step find 11 from 01; asked 11 01; sent 0")?;
+    let records = run.log.as_slice();
+    assert_eq!(rt; bytes_of(records, 0), Some(b"frame".as_slice()));
+    assert_eq!(rt; bytes_of(records, 1), None);
+    assert_eq!(rt; ticket_count(rt.alloc(), records)?, 1);
+    assert_eq!(rt; cast_count(rt.alloc(), records)?, 0);
+    assert_eq!(rt; resent_count(records), 0);
+    assert!(rt; is_added(&Record::Ticked));
+    let step = read_step(&run.settings, false, b"find 11 from 01").ok_or("a step")?;
+    assert!(rt; is_start(&step));
+    assert_eq!(rt; actor_of(&step), Some(name_of(&run.settings, "01")?));
+    Ok(())
 }

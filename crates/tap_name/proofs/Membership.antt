@@ -1,14 +1,15 @@
 -- the forms in which a name is said to be among some, and names without others
-use Rattle.std.proofs.Common.{◌≡◌, ◌↔◌, ◌⊎◌, inl, inr, ℕ, ◌<◌, not, zero, suc, List, [], ◌∷◌, ◌++◌, length, get_or, arith, sym, refl, subst, ◌∙◌}
+use Rattle.std.proofs.Common.{All, ◌≡◌, ◌↔◌, ◌⊎◌, inl, inr, ℕ, ◌<◌, not, zero, suc, List, [], ◌∷◌, ◌++◌, length, get_or, arith, sym, refl, subst, ◌∙◌}
 use Rattle.std.specs.Bool.{Decides}
 use Rattle.std.specs.Prelude.{bytes_eq}
 use Rattle.std.specs.List.{Contains, IsDistinct}
 use Rattle.std.specs.List.Sorted.{IsPermutation}
-use Rattle.std.proofs.lemmas.Bool.{cases_Bool, true≢false}
+use Rattle.std.proofs.lemmas.Bool.{and_from, and_parts, cases_Bool, true≢false}
 use Rattle.std.proofs.lemmas.Slice.Eq.{bytes_eq-Decides}
+use Rattle.std.proofs.lemmas.List.Kept.{AllPairs-cons}
 use Rattle.std.proofs.lemmas.List.Sorted.{Contains-permutation, IsPermutation-sym}
 use Rattle.std.proofs.lemmas.Map.Keys.{IsDistinct-IsPermutation, IsDistinct-from_apart, apart_from_distinct}
-use Rattle.tap_name.specs.Names.{Among, AreDistinct, has_name, names_without}
+use Rattle.tap_name.specs.Names.{Among, AreDistinct, are_distinct, has_name, names_without}
 use Rattle.tap_name.proofs.Names.{among-filter, among-filter_from}
 
 -- std's word for it, a place where the name stands
@@ -105,3 +106,22 @@ distinct-from_IsDistinct names distinct i j d before within same =
 pub distinct-permutation : (names others : List (List ℕ)) → IsPermutation names others → AreDistinct names → AreDistinct others
 distinct-permutation names others moved distinct =
     distinct-from_IsDistinct others (IsDistinct-IsPermutation bytes_eq flipped names others moved (IsDistinct-from_distinct names distinct))
+
+apart_from_later : (name : List ℕ) (others : List (List ℕ)) → (Among name others → ⊥) → All (λ other. name ≡ other → ⊥) others
+apart_from_later name others absent k d within same = absent (subst (λ x. Among x others) (sym same) (among_at others k d within))
+
+-- the test of distinctness
+pub are_distinct-Decides : (names : List (List ℕ)) → Decides (are_distinct names) (AreDistinct names)
+are_distinct-Decides [] = (λ _ i j d before within. absurd (omega arith), λ _. refl)
+are_distinct-Decides (name ∷ others) =
+    let rest = are_distinct-Decides others in
+    let first = has_name-no others name in (
+      λ passes.
+          let parts = and_parts (not (has_name others name)) (are_distinct others) passes in
+          AllPairs-cons (λ x y. x ≡ y → ⊥) name others (apart_from_later name others (first.0 parts.0)) (rest.0 parts.1),
+      λ distinct. and_from (not (has_name others name)) (are_distinct others)
+          (first.1 (λ among.
+          let place = Contains-from_among others name among in
+          distinct 0 (suc place.0) name (omega arith) (let inside = place.1 in omega arith) (sym place.2)))
+          (rest.1 (λ i j d before within. distinct (suc i) (suc j) d (omega arith) (omega arith))),
+    )

@@ -1,6 +1,7 @@
 -- a name and its text
-use Rattle.std.proofs.Common.{◌≡◌, ◌↔◌, ◌==◌, ℕ, ◌<◌, ◌≤◌, nat_lt, nat_le, arith, List, [], ◌∷◌, length, get_or, map, All, Ok, refl, ap, sym, ◌∙◌, inl, inr}
+use Rattle.std.proofs.Common.{◌≡◌, ◌↔◌, ◌==◌, ℕ, ◌<◌, ◌≤◌, nat_lt, nat_le, arith, List, [], ◌∷◌, length, get_or, map, false, All, Some, Result, Ok, Err, refl, ap, sym, ◌∙◌, inl, inr}
 use Rattle.std.specs.List.{position_or_len}
+use Rattle.std.specs.Result.{result_ok}
 use Rattle.std.proofs.lemmas.Bool.{cases_Bool, ltb-false, leb-false, eqb-true}
 use Rattle.std.proofs.lemmas.Bool.Decides.{nat_tests}
 use Rattle.std.proofs.lemmas.List.Sums.{fails_before_first}
@@ -8,7 +9,7 @@ use Rattle.std.proofs.lemmas.List.{length-map}
 use Rattle.std.proofs.lemmas.List.Elements.{All-head, All-tail, All-map}
 use Rattle.tap_name.specs.Settings.{SettingsValue}
 use Rattle.tap_name.specs.Digits.{text_of_digit, digit_of_text}
-use Rattle.tap_name.specs.Name.{IsName, name_of_digits, name_of_text, text_of_name}
+use Rattle.tap_name.specs.Name.{IsName, name_of_digits, name_of_text, name_of_word, text_of_name}
 use Rattle.tap_name.proofs.Read.{all_good}
 
 -- a digit is read back from its text
@@ -86,3 +87,23 @@ text_of_name-length name = length-map name text_of_digit
 -- what holds of the byte of each digit holds of a name's text
 pub text_of_name-All : (P : ℕ → Type 0) → ((digit : ℕ) → P (text_of_digit digit)) → (name : List ℕ) → All P (text_of_name name)
 text_of_name-All P each name = All-map P text_of_digit name (λ k d h. each (get_or name k d))
+
+result_ok-back : {A E : Type 0} (r : Result A E) (x : A) → result_ok r ≡ Some x → r ≡ Ok x
+result_ok-back (Ok y) x e = cc
+result_ok-back (Err f) x e = absurd (cc)
+
+-- the text of a name is a word that spells it
+pub name_of_word-text : (p : SettingsValue) (name : List ℕ) → p.base ≤ 16 → IsName p name → name_of_word p (text_of_name name) ≡ Some name
+name_of_word-text p name small is = ap result_ok (name_of_text-text p name small is)
+
+-- a word that spells a name is the text of that name
+pub name_of_word-back : (p : SettingsValue) (word name : List ℕ) → p.base ≤ 16 → name_of_word p word ≡ Some name
+    → (word ≡ text_of_name name) × IsName p name
+name_of_word-back p word name small read = name_of_text-back p word name small (result_ok-back (name_of_text p word) name read)
+
+no_space_digit : (digit : ℕ) → (text_of_digit digit == 32) ≡ false
+no_space_digit digit = grind (arith, nat_tests)
+
+-- the text of a name has no space
+pub text_of_name-no_space : (name : List ℕ) → All (λ byte. (byte == 32) ≡ false) (text_of_name name)
+text_of_name-no_space name = text_of_name-All (λ byte. (byte == 32) ≡ false) no_space_digit name

@@ -1,5 +1,6 @@
 -- a name is a list of digits; what reading one answers
 use Rattle.std.specs.Prelude.{◌≡◌, ◌==◌, ℕ, ◌<◌, nat_le, if◌then◌else◌, List, length, map, position, All, Option, None, Some, Result, Ok, Err}
+use Rattle.std.specs.Result.{result_ok}
 use Rattle.tap_name.specs.declared.name.NameFault.{NameFault}
 use Rattle.tap_name.specs.declared.name.NameFault.TheVariants.{BadLength, BadDigit}
 use Rattle.tap_name.specs.Settings.{SettingsValue}
@@ -25,6 +26,10 @@ name_of_digits p digits =
 -- the name of this text
 abbrev pub name_of_text : SettingsValue → List ℕ → Result (List ℕ) NameFault
 name_of_text p text = name_of_digits p (map digit_of_text text)
+
+-- the name that a word spells, where it spells one
+abbrev pub name_of_word : SettingsValue → List ℕ → Option (List ℕ)
+name_of_word p word = result_ok (name_of_text p word)
 
 -- a name as it is printed
 abbrev pub text_of_name : List ℕ → List ℕ

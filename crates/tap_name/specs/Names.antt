@@ -1,5 +1,5 @@
 -- what is said of lists of names; a set of names is a list of them
-use Rattle.std.specs.Prelude.{◌≡◌, ◌≢◌, ℕ, ◌<◌, Bool, not, List, [], ◌∷◌, length, filter, nat_eq, Option, None, Some, ◌⊎◌}
+use Rattle.std.specs.Prelude.{◌≡◌, ◌≢◌, ℕ, ◌<◌, Bool, true, not, ◌&&◌, List, [], ◌∷◌, length, filter, nat_eq, Option, None, Some, ◌⊎◌}
 use Rattle.std.specs.List.{list_any, slice_index_or}
 use Rattle.std.specs.Cmp.Lexicographic.{pointwise}
 use Rattle.tap_name.specs.Settings.{SettingsValue}
@@ -22,6 +22,11 @@ AreNames p names = (x : List ℕ) → Among x names → IsName p x
 abbrev pub AreDistinct : List (List ℕ) → Type 0
 AreDistinct names =
     (i j : ℕ) (d : List ℕ) → i < j → j < length names → slice_index_or names i d ≢ slice_index_or names j d
+
+-- whether no two of these are one
+abbrev pub are_distinct : List (List ℕ) → Bool
+are_distinct [] = true
+are_distinct (name ∷ others) = not (has_name others name) && are_distinct others
 
 -- the first name, where there is one
 abbrev pub first_of : List (List ℕ) → Option (List ℕ)

@@ -19,17 +19,17 @@ use Rattle.tap_register.proofs.Places.{located}
 use Rattle.tap_register.proofs.Written.{IsAscending-written, entry_of-written, insert-written, set-written}
 
 -- the newer of two writes has a version at least as great as either
-newest_rises : {K V : Type 0} (kept entry : Entry K V) → kept.version ≤ (newest (Some kept) entry).version
-newest_rises kept entry = elim (cases_Bool (ltb kept.version entry.version)) [
-  | inl less ↦ let rises = ltb-true kept.version entry.version less in rw less (omega arith)
-  | inr not_less ↦ rw not_less (omega arith)
+newest_rises : {K V : Type 0} (current entry : Entry K V) → current.version ≤ (newest (Some current) entry).version
+newest_rises current entry = elim (cases_Bool (ltb current.version entry.version)) [
+  | inl lower ↦ let rises = ltb-true current.version entry.version lower in rw lower (omega arith)
+  | inr not_lower ↦ rw not_lower (omega arith)
 ]
 
-newest_reaches : {K V : Type 0} (kept : Option (Entry K V)) (entry : Entry K V) → entry.version ≤ (newest kept entry).version
+newest_reaches : {K V : Type 0} (current : Option (Entry K V)) (entry : Entry K V) → entry.version ≤ (newest current entry).version
 newest_reaches None entry = omega arith
-newest_reaches (Some kept) entry = elim (cases_Bool (ltb kept.version entry.version)) [
-  | inl less ↦ rw less (omega arith)
-  | inr not_less ↦ let reaches = ltb-false kept.version entry.version not_less in rw not_less (omega arith)
+newest_reaches (Some current) entry = elim (cases_Bool (ltb current.version entry.version)) [
+  | inl lower ↦ rw lower (omega arith)
+  | inr not_lower ↦ let reaches = ltb-false current.version entry.version not_lower in rw not_lower (omega arith)
 ]
 
 -- the entries that an apply leaves, and its answer
@@ -68,9 +68,9 @@ module _ {K V : Type 0} (cmp : K → K → Ordering) (total : IsTotalOrder cmp) 
         else entry_of cmp entries other)
     entry_of-applied other = step (entry_of cmp entries key) refl
       where
-        stays : (kept : Entry K V) → entry_of cmp entries key ≡ Some kept
-            → entry_of cmp entries other ≡ (if is_eq (cmp key other) then Some kept else entry_of cmp entries other)
-        stays kept is = elim (cases_Bool (is_eq (cmp key other))) [
+        stays : (current : Entry K V) → entry_of cmp entries key ≡ Some current
+            → entry_of cmp entries other ≡ (if is_eq (cmp key other) then Some current else entry_of cmp entries other)
+        stays current is = elim (cases_Bool (is_eq (cmp key other))) [
           | inl same ↦ rw same (sym (entry_of-same key other same) ∙ is)
           | inr differ ↦ rw differ refl
         ]
@@ -80,9 +80,9 @@ module _ {K V : Type 0} (cmp : K → K → Ordering) (total : IsTotalOrder cmp) 
             then Some (newest (entry_of cmp entries key) (record { key = key; version = version; value = value }))
             else entry_of cmp entries other)
         step None is = rw is (entry_of-written cmp total entries write other)
-        step (Some kept) is = elim (cases_Bool (ltb kept.version version)) [
+        step (Some current) is = elim (cases_Bool (ltb current.version version)) [
           | inl newer ↦ rw (is, newer) (entry_of-written cmp total entries write other)
-          | inr stale ↦ rw (is, stale) (stays kept is)
+          | inr stale ↦ rw (is, stale) (stays current is)
         ]
 
     -- the key then has a version at least as great as the one applied
@@ -142,19 +142,22 @@ module _ {K V : Type 0} (cmp : K → K → Ordering) (total : IsTotalOrder cmp) 
     applies new newer answer after =
         record { answer = answer; after = after; look_up = λ other. rw after (entry_of-applied other) }
 
-    there : (at : ℕ) (kept : Entry K V) → IsAt cmp entries key at → kept ≡ get_or entries at kept → entry_of cmp entries key ≡ Some kept
-    there at kept place is = place.found ∙ slice_get-get_or entries at kept place.within ∙ ap Some (sym is)
+    there : (at : ℕ) (current : Entry K V) → IsAt cmp entries key at → current ≡ get_or entries at current
+        → entry_of cmp entries key ≡ Some current
+    there at current place is = place.found ∙ slice_get-get_or entries at current place.within ∙ ap Some (sym is)
 
-    pub applies_stale : (at : ℕ) (kept : Entry K V) → IsAt cmp entries key at → kept ≡ get_or entries at kept → version ≤ kept.version
+    pub applies_stale : (at : ℕ) (current : Entry K V) → IsAt cmp entries key at → current ≡ get_or entries at current
+        → version ≤ current.version
         → Applies cmp entries entries key version value false
-    applies_stale at kept place is newest =
-        let stale : is_newer cmp entries key version ≡ false = rw (there at kept place is) (le-ltb kept.version version newest) in
+    applies_stale at current place is not_newer =
+        let stale : is_newer cmp entries key version ≡ false = rw (there at current place is) (le-ltb current.version version not_newer) in
         applies entries false (sym stale) (sym (applied-stale stale))
 
-    pub applies_newer : (at : ℕ) (kept : Entry K V) → IsAt cmp entries key at → kept ≡ get_or entries at kept → kept.version < version
+    pub applies_newer : (at : ℕ) (current : Entry K V) → IsAt cmp entries key at → current ≡ get_or entries at current
+        → current.version < version
         → Applies cmp entries (set entries at (record { key = key; version = version; value = value })) key version value true
-    applies_newer at kept place is older =
-        let newer : is_newer cmp entries key version ≡ true = rw (there at kept place is) (lt-ltb kept.version version older) in
+    applies_newer at current place is older =
+        let newer : is_newer cmp entries key version ≡ true = rw (there at current place is) (lt-ltb current.version version older) in
         applies (set entries at write) true (sym newer) (set-written cmp entries write at place ∙ sym (applied-newer newer))
 
     pub applies_new : (at : ℕ) → IsGap cmp entries key at

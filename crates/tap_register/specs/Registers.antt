@@ -17,7 +17,7 @@ entry_of cmp entries key = find (λ e. is_eq (cmp e.key key)) entries
 -- whether a version is newer than what is kept: nothing is kept, or what is kept has a version that is less
 abbrev pub supersedes : {K V : Type 0} → ℕ → Option (Entry K V) → Bool
 supersedes version None = true
-supersedes version (Some kept) = nat_lt kept.version version
+supersedes version (Some current) = nat_lt current.version version
 
 -- whether a version is newer than what a key has
 abbrev pub is_newer : {K V : Type 0} → (K → K → Ordering) → List (Entry K V) → K → ℕ → Bool
@@ -26,7 +26,7 @@ is_newer cmp entries key version = supersedes version (entry_of cmp entries key)
 -- the newer of what is kept, if anything is, and a write; of two of one version, what is kept
 abbrev pub newest : {K V : Type 0} → Option (Entry K V) → Entry K V → Entry K V
 newest None entry = entry
-newest (Some kept) entry = if nat_lt kept.version entry.version then entry else kept
+newest (Some current) entry = if nat_lt current.version entry.version then entry else current
 
 -- the entries whose keys are below a key, and those whose keys are above it
 abbrev pub below : {K V : Type 0} → (K → K → Ordering) → List (Entry K V) → K → List (Entry K V)

@@ -11,7 +11,7 @@ use Rattle.tap_log.specs.Core.{accepted_step, accepted_steps, departures_of, mem
 use Rattle.tap_log.specs.Laws.{accepted_behind, at_most_one}
 use Rattle.tap_log.specs.Moments.{last_of}
 use Rattle.tap_log.proofs.Growing.{accepted_steps-push, last_of-push}
-use Rattle.tap_report.specs.Summary.{departed_behind, is_departed, last_departure}
+use Rattle.tap_report.specs.Summary.{departed_after, is_departed, last_departure}
 use Rattle.tap_report.specs.Tally.{accepted_after, asked_by, asked_last, departures_after, departures_known, members_after, opening_after, opening_of, opens_carried}
 use Rattle.tap_report.specs.declared.opening.Opening.TheVariants.{Carried, Plain}
 
@@ -93,13 +93,13 @@ last_departure-push log item =
 
 -- ---- the departed nodes
 
-departed_behind-push : (before items : List Record) (item : Record)
-    → departed_behind before (items ++ item ∷ [])
-    ≡ departed_behind before items + cond (is_departed (before ++ items) item) 1 0
-departed_behind-push before [] item =
+departed_after-push : (before items : List Record) (item : Record)
+    → departed_after before (items ++ item ∷ [])
+    ≡ departed_after before items + cond (is_departed (before ++ items) item) 1 0
+departed_after-push before [] item =
     let same = ap (λ l. cond {A = ℕ} (is_departed l item) 1 0) (append-nil before) in omega (arith, same)
-departed_behind-push before (first ∷ items) item =
-    let rest = departed_behind-push (before ++ first ∷ []) items item in
+departed_after-push before (first ∷ items) item =
+    let rest = departed_after-push (before ++ first ∷ []) items item in
     let same = ap (λ l. cond {A = ℕ} (is_departed l item) 1 0) (append_assoc before (first ∷ []) items) in
     omega (arith, rest, same)
 
@@ -107,4 +107,4 @@ departed_behind-push before (first ∷ items) item =
 pub departures-push : (log : List Record) (item : Record)
     → departures_known (log ++ item ∷ []) ≡ departures_after (is_carried log) (departures_known log) item
 departures-push log item =
-    rw (last_of-push log item, departed_behind-push [] log item, last_departure-push log item) refl
+    rw (last_of-push log item, departed_after-push [] log item, last_departure-push log item) refl

@@ -1,5 +1,4 @@
 pub mod WritesLemmas
-pub mod AddsLemmas
 pub mod TextLemmas
 pub mod DepartedLemmas
 pub mod TallyLemmas

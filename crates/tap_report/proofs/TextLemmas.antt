@@ -1,23 +1,29 @@
--- The texts of records with one record more, and what each of them must meet.
-use Rattle.std.proofs.Common.{◌≡◌, ◌<◌, ℕ, zero, suc, ◌+◌, List, [], ◌∷◌, ◌++◌, length, take, get_or, Option, None, refl, sym, ap, ◌∙◌, subst, arith, append_assoc, append-nil}
+-- The texts of items and of records with one more, and what each record must meet.
+use Rattle.std.proofs.Common.{◌≡◌, ◌<◌, ◌≤◌, ℕ, zero, suc, ◌+◌, ◌-◌, List, [], ◌∷◌, ◌++◌, length, take, get_or, Option, None, refl, sym, ap, ◌∙◌, subst, arith, append_assoc, append-nil, take-add}
 use Rattle.std.specs.Prelude.{fold, Bool, true, false, if◌then◌else◌}
-use Rattle.std.proofs.lemmas.List.{take_more}
+use Rattle.std.specs.Prelude.{◌/◌, ◌%◌, slice_index, slice_range}
+use Rattle.std.specs.List.{flat_map}
+use Rattle.std.proofs.lemmas.List.{take_more, get_or_default}
+use Rattle.std.proofs.lemmas.List.Concat.{flat_map-append}
+use Rattle.hex.specs.Hex.{encode_lower, encode_with, lower_digits}
 use Rattle.std.proofs.lemmas.List.Sums.{fold-append}
 use Rattle.tap_name.specs.Settings.{SettingsValue}
 use Rattle.tap_log.specs.declared.record.Record.{Record}
 use Rattle.tap_log.specs.declared.record.Record.TheVariants.{Begin}
 use Rattle.tap_report.specs.Shapes.{line}
+use Rattle.tap_report.specs.Lookups.{node_at}
 use Rattle.tap_report.specs.Text.{IsBegin, IsPrintable, ArePrintable, further_lines, is_printed, line_of, text_of_record, texts_after, settings_after, settings_of}
 use Rattle.tap_report.specs.declared.mode.Mode.{Mode}
-
-chosen : (printed : Bool) (text other : List ℕ) → printed ≡ true → (if printed then text else other) ≡ text
-chosen true text other e = refl
-chosen false text other e = cc
 
 -- a record that is printed has its lines
 pub lines_of_record : (mode : Mode) (settings : Option SettingsValue) (item : Record) → is_printed mode item ≡ true
     → text_of_record mode settings item ≡ line (line_of settings item) ++ further_lines mode item
-lines_of_record mode settings item e = chosen (is_printed mode item) (line (line_of settings item) ++ further_lines mode item) [] e
+lines_of_record mode settings item printed = ap (λ b. if b then line (line_of settings item) ++ further_lines mode item else []) printed
+
+-- one that isn't has none
+pub no_lines_of_record : (mode : Mode) (settings : Option SettingsValue) (item : Record) → is_printed mode item ≡ false
+    → text_of_record mode settings item ≡ []
+no_lines_of_record mode settings item printed = ap (λ b. if b then line (line_of settings item) ++ further_lines mode item else []) printed
 
 -- the first items of a list, with the next one
 pub take_next : {X : Type 0} (xs : List X) (i : ℕ) (x : X) → i < length xs → x ≡ get_or xs i x → take (i + 1) xs ≡ take i xs ++ x ∷ []
@@ -54,3 +60,33 @@ pub ArePrintable-push : (settings : Option SettingsValue) (records : List Record
 ArePrintable-push settings [] item each printable = (printable, tt)
 ArePrintable-push settings (first ∷ rest) item each printable =
     (each.0, ArePrintable-push (settings_after settings first) rest item each.1 printable)
+
+-- ---- the items of a list, one after another
+
+-- the texts of one item more
+pub flat_map-take_more : {X : Type 0} (f : X → List ℕ) (xs : List X) (i : ℕ) (x : X) → i < length xs → x ≡ get_or xs i x
+    → flat_map f (take (i + 1) xs) ≡ flat_map f (take i xs) ++ f x
+flat_map-take_more f xs i x inside is =
+    ap (flat_map f) (take_next xs i x inside is) ∙ flat_map-append f (take i xs) (x ∷ [])
+    ∙ ap (λ l. flat_map f (take i xs) ++ l) (append-nil (f x))
+
+-- the node that stands at a place of a path
+pub node_at-is : (path : List (List ℕ)) (place : ℕ) (node : List ℕ) → place < length path → node ≡ get_or path place node
+    → node ≡ node_at path place
+node_at-is path place node inside is = is ∙ get_or_default path place node [] inside
+
+-- ---- bytes in hexadecimal
+
+encode_lower-append : (bytes more : List ℕ) → encode_lower (bytes ++ more) ≡ encode_lower bytes ++ encode_lower more
+unfolding encode_with
+encode_lower-append [] more = refl
+encode_lower-append (byte ∷ bytes) more =
+    ap (λ l. slice_index lower_digits (byte / 16) ∷ slice_index lower_digits (byte % 16) ∷ l) (encode_lower-append bytes more)
+
+-- those up to a place, and a piece after them
+pub encode_lower-piece : (bytes : List ℕ) (from to : ℕ) → from ≤ to
+    → encode_lower (take to bytes) ≡ encode_lower (take from bytes) ++ encode_lower (slice_range bytes from to)
+encode_lower-piece bytes from to later =
+    let length_of_piece : to ≡ from + (to - from) = omega arith in
+    ap (λ n. encode_lower (take n bytes)) length_of_piece ∙ ap encode_lower (take-add from (to - from) bytes)
+    ∙ encode_lower-append (take from bytes) (slice_range bytes from to)

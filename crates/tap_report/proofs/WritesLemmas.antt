@@ -1,59 +1,68 @@
 -- Texts that are written one after another.
-use Rattle.std.proofs.Common.{◌≤◌, ℕ, List, [], ◌++◌, Option, refl, ◌∙◌, arith}
+use Rattle.std.proofs.Common.{◌≡◌, ◌≤◌, ℕ, List, [], ◌++◌, refl, sym, ◌∙◌, subst, arith}
 use Rattle.std.proofs.KnownBytes.{Appends-nil, Appends-trans}
-use Rattle.std.specs.Io.KnownBytes.{Appends}
+use Rattle.tap_io.specs.Sink.{SinkState}
+use Rattle.tap_io.proofs.Following.{Follows-refl, Follows-trans}
 use Rattle.tap_io.proofs.Writing.{AppendsPrefixOf-append, Appends-AppendsPrefixOf}
-use Rattle.tap_report.specs.Written.{FirstFails, IsUntouched, WritesText, WritesTextAs}
+use Rattle.tap_report.specs.Written.{AppendsAll, FirstFails, WritesText, WritesTextAs}
 use Rattle.tap_report.specs.declared.written.Written.{Written}
 use Rattle.tap_report.specs.declared.written.Written.TheVariants.{All, Failed}
 
+-- two whole texts
+AppendsAll-then : (old mid new : SinkState) (text more : List ℕ) → AppendsAll old mid text → AppendsAll mid new more
+    → AppendsAll old new (text ++ more)
+AppendsAll-then old mid new text more p q = record {
+  appends = Appends-trans old.held mid.held new.held text more p.appends q.appends;
+  faults = q.faults ∙ p.faults;
+}
+
 -- a failure within a text is one within a longer text
-pub FirstFails-append : (old new : Option (List ℕ)) (before now : ℕ) (text more : List ℕ) → FirstFails old new before now text
-    → FirstFails old new before now (text ++ more)
-FirstFails-append old new before now text more f = record { prefix = AppendsPrefixOf-append old new text more f.prefix; risen = f.risen }
+FirstFails-append : (old new : SinkState) (text more : List ℕ) → FirstFails old new text → FirstFails old new (text ++ more)
+FirstFails-append old new text more f = record { prefix = AppendsPrefixOf-append old new text more f.prefix; risen = f.risen }
 
 -- a whole text, and then a failure within the next
-pub FirstFails-after : (old mid new : Option (List ℕ)) (before between now : ℕ) (text more : List ℕ) → before ≤ between
-    → Appends old mid text → FirstFails mid new between now more → FirstFails old new before now (text ++ more)
-FirstFails-after old mid new before between now text more later first f =
-    record { prefix = Appends-AppendsPrefixOf old mid new text more first f.prefix; risen = λ h. f.risen (omega arith) }
+FirstFails-after : (old mid new : SinkState) (text more : List ℕ) → AppendsAll old mid text → FirstFails mid new more
+    → FirstFails old new (text ++ more)
+FirstFails-after old mid new text more p f = record {
+  prefix = Appends-AppendsPrefixOf old mid new text more p.appends f.prefix;
+  risen = λ h. f.risen (omega (arith, p.faults));
+}
 
--- nothing is written after a failure
-pub FirstFails-untouched : (old mid new : Option (List ℕ)) (before between now : ℕ) (text : List ℕ) → FirstFails old mid before between text
-    → IsUntouched mid new between now → FirstFails old new before now text
-FirstFails-untouched old mid new before between now text f u = rw (u.held, u.faults) f
-
-pub IsUntouched-trans : (old mid new : Option (List ℕ)) (before between now : ℕ) → IsUntouched old mid before between
-    → IsUntouched mid new between now → IsUntouched old new before now
-IsUntouched-trans old mid new before between now p q = record { held = q.held ∙ p.held; faults = q.faults ∙ p.faults }
-
-answers_then : (old mid new : Option (List ℕ)) (before between now : ℕ) (text more : List ℕ) (first second third : Written)
-    → before ≤ between
-    → WritesTextAs old mid before between text first second → WritesTextAs mid new between now more second third
-    → WritesTextAs old new before now (text ++ more) first third
-answers_then old mid new before between now text more All All All later p q = Appends-trans old mid new text more p q
-answers_then old mid new before between now text more All All Failed later p q =
-    FirstFails-after old mid new before between now text more later p q
-answers_then old mid new before between now text more All Failed All later p q = absurd q
-answers_then old mid new before between now text more All Failed Failed later p q =
-    FirstFails-append old new before now text more (FirstFails-untouched old mid new before between now text p q)
-answers_then old mid new before between now text more Failed All third later p q = absurd p
-answers_then old mid new before between now text more Failed Failed All later p q = absurd q
-answers_then old mid new before between now text more Failed Failed Failed later p q = IsUntouched-trans old mid new before between now p q
+answers_then : (old mid new : SinkState) (text more : List ℕ) (first second third : Written)
+    → WritesTextAs old mid text first second → WritesTextAs mid new more second third
+    → WritesTextAs old new (text ++ more) first third
+answers_then old mid new text more All All All p q = AppendsAll-then old mid new text more p q
+answers_then old mid new text more All All Failed p q = FirstFails-after old mid new text more p q
+answers_then old mid new text more All Failed All p q = absurd q
+answers_then old mid new text more All Failed Failed p q = rw q (FirstFails-append old mid text more p)
+answers_then old mid new text more Failed All third p q = absurd p
+answers_then old mid new text more Failed Failed All p q = absurd q
+answers_then old mid new text more Failed Failed Failed p q = q ∙ p
 
 -- two texts, one after the other
-pub WritesText-then : {old mid new : Option (List ℕ)} {before between now : ℕ} {text more : List ℕ} {first second third : Written}
-    → WritesText old mid before between text first second → WritesText mid new between now more second third
-    → WritesText old new before now (text ++ more) first third
-WritesText-then {old = old} {mid = mid} {new = new} {before = before} {between = between} {now = now} {text = text} {more = more}
-    {first = first} {second = second} {third = third} p q =
-    record { later = omega (arith, p.later, q.later); answer =
-        answers_then old mid new before between now text more first second third p.later p.answer q.answer }
+pub WritesText-then : {old mid new : SinkState} {text more : List ℕ} {first second third : Written}
+    → WritesText old mid text first second → WritesText mid new more second third → WritesText old new (text ++ more) first third
+WritesText-then {old = old} {mid = mid} {new = new} {text = text} {more = more} {first = first} {second = second} {third = third} p q =
+    record {
+      follows = Follows-trans old mid new p.follows q.follows;
+      answer = answers_then old mid new text more first second third p.answer q.answer;
+    }
 
-none_as : (held : Option (List ℕ)) (faults : ℕ) (so_far : Written) → WritesTextAs held held faults faults [] so_far so_far
-none_as held faults All = Appends-nil held
-none_as held faults Failed = record { held = refl; faults = refl }
+-- the same, written between the two
+pub ◌⨾◌ : {old mid new : SinkState} {text more : List ℕ} {first second third : Written}
+    → WritesText old mid text first second → WritesText mid new more second third → WritesText old new (text ++ more) first third
+p ⨾ q = WritesText-then p q
+
+infixl 10 ◌⨾◌
+none_as : (state : SinkState) (so_far : Written) → WritesTextAs state state [] so_far so_far
+none_as state All = record { appends = Appends-nil state.held; faults = refl }
+none_as state Failed = refl
 
 -- nothing is written
-pub WritesText-none : (held : Option (List ℕ)) (faults : ℕ) (so_far : Written) → WritesText held held faults faults [] so_far so_far
-WritesText-none held faults so_far = record { later = omega arith; answer = none_as held faults so_far }
+pub WritesText-none : (state : SinkState) (so_far : Written) → WritesText state state [] so_far so_far
+WritesText-none state so_far = record { follows = Follows-refl state; answer = none_as state so_far }
+
+-- the same of a text that is empty
+pub WritesText-empty : {state : SinkState} {text : List ℕ} {so_far : Written} → text ≡ [] → WritesText state state text so_far so_far
+WritesText-empty {state = state} {text = text} {so_far = so_far} empty =
+    subst (λ t. WritesText state state t so_far so_far) (sym empty) (WritesText-none state so_far)

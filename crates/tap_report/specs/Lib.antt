@@ -1,5 +1,4 @@
 pub mod Written
-pub mod Outgoing
 pub mod Shapes
 pub mod Refusal
 pub mod Starts

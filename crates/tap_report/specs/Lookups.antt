@@ -2,7 +2,7 @@
 use Rattle.std.specs.Prelude.{ℕ, ◌-◌, List, [], ◌++◌, length, slice_index_or, codes, Bool, true, false, Option, None, Some}
 use Rattle.tap_log.specs.declared.record.Record.{Record}
 use Rattle.tap_log.specs.declared.record.Record.TheVariants.{Walked, RootOf, Asked, Answered, Published, Withdrawn, RootsOf}
-use Rattle.tap_report.specs.Shapes.{named, named_from, numbered, spaced_names}
+use Rattle.tap_report.specs.Shapes.{name_after, object_from, number_after, spaced_names}
 
 -- whether a record tells of a walk, a root, or where an object is
 abbrev pub is_lookup : Record → Bool
@@ -22,22 +22,22 @@ node_at path place = slice_index_or path place []
 -- The line of a walk. The first node of the path is the asker, and the last one is the object's root.
 abbrev pub walked_line : List ℕ → List (List ℕ) → List ℕ
 walked_line object path =
-    named_from (codes "walked ") object (node_at path 0) ++ codes " path" ++ spaced_names path
-    ++ named (codes " root ") (node_at path (length path - 1)) ++ numbered (codes " hops ") (length path - 1)
+    object_from (codes "walked ") object (node_at path 0) ++ codes " path" ++ spaced_names path
+    ++ name_after (codes " root ") (node_at path (length path - 1)) ++ number_after (codes " hops ") (length path - 1)
 
 -- the line of a lookup that is asked
 abbrev pub asked_line : ℕ → List ℕ → List ℕ → List ℕ
-asked_line ticket object asker = numbered (codes "asked ") ticket ++ named_from (codes " ") object asker
+asked_line ticket object asker = number_after (codes "asked ") ticket ++ object_from (codes " ") object asker
 
 -- a server, or none
 abbrev pub text_of_server : Option (List ℕ) → List ℕ
 text_of_server None = codes " none"
-text_of_server (Some server) = named (codes " server ") server
+text_of_server (Some server) = name_after (codes " server ") server
 
 -- the line of its answer
 abbrev pub answered_line : ℕ → Option (List ℕ) → List ℕ
-answered_line ticket server = numbered (codes "answered ") ticket ++ text_of_server server
+answered_line ticket server = number_after (codes "answered ") ticket ++ text_of_server server
 
 -- the line of a root set
 abbrev pub roots_line : List ℕ → List ℕ → List (List ℕ) → List ℕ
-roots_line object asker roots = named_from (codes "rootset ") object asker ++ codes " roots" ++ spaced_names roots
+roots_line object asker roots = object_from (codes "rootset ") object asker ++ codes " roots" ++ spaced_names roots

@@ -1,7 +1,7 @@
--- What a reporter keeps, and what its calls do to it and to a sink. The bytes that the sink held and holds are `old` and
--- `new`, and its count of faults was `before` and is `now`.
+-- What a reporter keeps, and what its calls do to it, which was `before` and is `after`, and to a sink, whose states are `old` and `new`.
 use Rattle.std.specs.Prelude.{◌≡◌, ℕ, ◌+◌, List, [], ◌∷◌, length, Option, None}
 use Rattle.tap_name.specs.Settings.{SettingsValue}
+use Rattle.tap_io.specs.Sink.{SinkState}
 use Rattle.tap_log.specs.declared.record.Record.{Record}
 use Rattle.tap_report.specs.Summary.{ending}
 use Rattle.tap_report.specs.Tally.{numbers_in, tally_after, tally_of}
@@ -13,6 +13,10 @@ use Rattle.tap_report.specs.declared.tally.Tally.{Tally}
 use Rattle.tap_report.specs.declared.written.Written.{Written}
 use Rattle.tap_report.specs.declared.written.Written.TheVariants.{All}
 
+-- how many records may be put to one reporter
+abbrev pub most_records : ℕ
+most_records = 4000000000
+
 -- The mode, the settings of the `Begin` that was put, how many records were put, what the summary is made from, and
 -- whether all was written.
 pub record ReporterValue : Type 0 where
@@ -23,49 +27,47 @@ pub record ReporterValue : Type 0 where
   pub so_far : Written
 
 -- before the first put
-abbrev pub kept_at_first : Mode → ReporterValue
-kept_at_first mode = record { mode = mode; settings = None; records = 0; tally = tally_of []; so_far = All }
+abbrev pub new_reporter : Mode → ReporterValue
+new_reporter mode = record { mode = mode; settings = None; records = 0; tally = tally_of []; so_far = All }
 
 -- after the put of a record, whether it was written or not
-abbrev pub kept_after : ReporterValue → Record → Written → ReporterValue
-kept_after kept item written =
-    record kept {
-      settings = settings_after kept.settings item;
-      records = kept.records + 1;
-      tally = tally_after kept.tally item;
+abbrev pub after_put : ReporterValue → Record → Written → ReporterValue
+after_put r item written =
+    record r {
+      settings = settings_after r.settings item;
+      records = r.records + 1;
+      tally = tally_after r.tally item;
       so_far = written;
     }
 
 -- the put of a record
-pub record Puts (kept then_kept : ReporterValue) (item : Record) (old new : Option (List ℕ)) (before now : ℕ)
-    (written : Written) : Type 0 where
-  pub text : WritesText old new before now (text_of_record kept.mode kept.settings item) kept.so_far written
-  pub keeps : then_kept ≡ kept_after kept item written
+pub record Puts (before after : ReporterValue) (item : Record) (old new : SinkState) (written : Written) : Type 0 where
+  pub text : WritesText old new (text_of_record before.mode before.settings item) before.so_far written
+  pub reporter : after ≡ after_put before item written
 
 -- The finish, which writes what follows the last record: the summary, in the mode Summary.
-pub record Finishes (kept then_kept : ReporterValue) (old new : Option (List ℕ)) (before now : ℕ) (written : Written) : Type 0 where
-  pub text : WritesText old new before now (ending kept.mode kept.settings (numbers_in kept.tally)) kept.so_far written
-  pub keeps : then_kept ≡ record kept { so_far = written }
+pub record Finishes (before after : ReporterValue) (old new : SinkState) (written : Written) : Type 0 where
+  pub text : WritesText old new (ending before.mode before.settings (numbers_in before.tally)) before.so_far written
+  pub reporter : after ≡ record before { so_far = written }
 
 -- the puts of records, one after another
-abbrev pub PutsEach : List Record → ReporterValue → ReporterValue → Option (List ℕ) → Option (List ℕ) → ℕ → ℕ → Type 0
-PutsEach [] kept then_kept old new before now = (then_kept ≡ kept) × (new ≡ old) × (now ≡ before)
-PutsEach (item ∷ items) kept then_kept old new before now =
-    (mid_kept : ReporterValue) × (mid : Option (List ℕ)) × (between : ℕ) × (written : Written)
-    × Puts kept mid_kept item old mid before between written × PutsEach items mid_kept then_kept mid new between now
+abbrev pub PutsEach : List Record → ReporterValue → ReporterValue → SinkState → SinkState → Type 0
+PutsEach [] before after old new = (after ≡ before) × (new ≡ old)
+PutsEach (item ∷ items) before after old new =
+    (between : ReporterValue) × (mid : SinkState) × (written : Written)
+    × Puts before between item old mid written × PutsEach items between after mid new
 
 -- the puts of a log's records and a finish write the text of the log
 abbrev pub PutsWriteTheText : Type 0
 PutsWriteTheText =
-    (mode : Mode) (records : List Record) (kept then_kept : ReporterValue) (old mid new : Option (List ℕ)) (before between now : ℕ)
-        (written : Written)
-    → PutsEach records (kept_at_first mode) kept old mid before between → Finishes kept then_kept mid new between now written
-    → WritesText old new before now (text_of_log mode records) All written
+    (mode : Mode) (records : List Record) (before after : ReporterValue) (old mid new : SinkState) (written : Written)
+    → PutsEach records (new_reporter mode) before old mid → Finishes before after mid new written
+    → WritesText old new (text_of_log mode records) All written
 
 -- Where a reporter and a sink stand after the puts of some records, from a new reporter on. A loop over records keeps this.
-pub record Reports (mode : Mode) (records : List Record) (old new : Option (List ℕ)) (before now : ℕ) (kept : ReporterValue) : Type 0 where
-  pub same_mode : kept.mode ≡ mode
-  pub settings : kept.settings ≡ settings_of records
-  pub count : kept.records ≡ length records
-  pub tally : kept.tally ≡ tally_of records
-  pub text : WritesText old new before now (texts_after mode None records) All kept.so_far
+pub record Reports (mode : Mode) (records : List Record) (old new : SinkState) (reporter : ReporterValue) : Type 0 where
+  pub same_mode : reporter.mode ≡ mode
+  pub settings : reporter.settings ≡ settings_of records
+  pub count : reporter.records ≡ length records
+  pub tally : reporter.tally ≡ tally_of records
+  pub text : WritesText old new (texts_after mode None records) All reporter.so_far

@@ -1,31 +1,31 @@
--- the shapes of lines: what a line says behind its word
+-- the shapes of lines: what a line says after its word
 use Rattle.std.specs.Prelude.{ℕ, List, ◌++◌, codes, decimal}
 use Rattle.std.specs.List.{flat_map}
 use Rattle.tap_name.specs.Name.{text_of_name}
 
 -- a word and a name
-abbrev pub named : List ℕ → List ℕ → List ℕ
-named word name = word ++ text_of_name name
+abbrev pub name_after : List ℕ → List ℕ → List ℕ
+name_after word name = word ++ text_of_name name
 
 -- a word and a number
-abbrev pub numbered : List ℕ → ℕ → List ℕ
-numbered word number = word ++ decimal number
+abbrev pub number_after : List ℕ → ℕ → List ℕ
+number_after word number = word ++ decimal number
 
--- a name, and another behind a word of its own
-abbrev pub two_named : List ℕ → List ℕ → List ℕ → List ℕ → List ℕ
-two_named word first link second = word ++ text_of_name first ++ link ++ text_of_name second
+-- a name, and another after a word of its own
+abbrev pub two_names_after : List ℕ → List ℕ → List ℕ → List ℕ → List ℕ
+two_names_after word first link second = word ++ text_of_name first ++ link ++ text_of_name second
 
--- a number, and another behind a word of its own
-abbrev pub two_numbered : List ℕ → ℕ → List ℕ → ℕ → List ℕ
-two_numbered word first link second = word ++ decimal first ++ link ++ decimal second
+-- a number, and another after a word of its own
+abbrev pub two_numbers_after : List ℕ → ℕ → List ℕ → ℕ → List ℕ
+two_numbers_after word first link second = word ++ decimal first ++ link ++ decimal second
 
 -- an object, and the node where it is
-abbrev pub named_at : List ℕ → List ℕ → List ℕ → List ℕ
-named_at word object node = two_named word object (codes " at ") node
+abbrev pub object_at : List ℕ → List ℕ → List ℕ → List ℕ
+object_at word object node = two_names_after word object (codes " at ") node
 
 -- an object, and the node that asks for it
-abbrev pub named_from : List ℕ → List ℕ → List ℕ → List ℕ
-named_from word object asker = two_named word object (codes " from ") asker
+abbrev pub object_from : List ℕ → List ℕ → List ℕ → List ℕ
+object_from word object asker = two_names_after word object (codes " from ") asker
 
 -- a name with a space before it
 abbrev pub spaced_name : List ℕ → List ℕ

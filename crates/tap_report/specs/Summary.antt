@@ -8,7 +8,7 @@ use Rattle.tap_log.specs.declared.record.Record.TheVariants as rec
 use Rattle.tap_log.specs.Kinds.{core_name}
 use Rattle.tap_log.specs.Core.{departures_of, members_of}
 use Rattle.tap_log.specs.Counts.{sent_count}
-use Rattle.tap_report.specs.Shapes.{numbered, line}
+use Rattle.tap_report.specs.Shapes.{number_after, line}
 use Rattle.tap_report.specs.declared.mode.Mode.{Mode}
 use Rattle.tap_report.specs.declared.mode.Mode.TheVariants.{Summary}
 
@@ -27,18 +27,18 @@ abbrev pub is_gone : Option (List ℕ) → Record → Bool
 is_gone (Some leaver) (rec.Gone name) = bytes_eq leaver name
 is_gone leaver item = false
 
--- whether a record behind these is the `Gone` of a departed node: of the one whose departure was accepted last before it
+-- whether a record after these is the `Gone` of a departed node: of the one whose departure was accepted last before it
 abbrev pub is_departed : List Record → Record → Bool
 is_departed before item = is_gone (last_departure (before ++ item ∷ [])) item
 
--- how many of the second records, which stand behind the first ones, are the `Gone` of a departed node
-abbrev pub departed_behind : List Record → List Record → ℕ
-departed_behind before [] = 0
-departed_behind before (item ∷ items) = cond (is_departed before item) 1 0 + departed_behind (before ++ item ∷ []) items
+-- how many of the second records, which stand after the first ones, are the `Gone` of a departed node
+abbrev pub departed_after : List Record → List Record → ℕ
+departed_after before [] = 0
+departed_after before (item ∷ items) = cond (is_departed before item) 1 0 + departed_after (before ++ item ∷ []) items
 
 -- how many records are the `Gone` of a departed node
 abbrev pub departed_count : List Record → ℕ
-departed_count log = departed_behind [] log
+departed_count log = departed_after [] log
 
 -- the nodes that are left: the members and the `Core` records, less the `Gone` of departed nodes; 0 where that would be less
 abbrev pub nodes_left : List Record → ℕ
@@ -80,10 +80,10 @@ numbers_of log = record { nodes = nodes_left log; frames = sent_count log; hops 
 -- the four lines
 abbrev pub summary_text : Numbers → List ℕ
 summary_text n =
-    line (numbered (codes "nodes ") n.nodes) ++ line (numbered (codes "frames ") n.frames)
-    ++ line (numbered (codes "hops ") n.hops) ++ line (numbered (codes "answered ") n.answered)
+    line (number_after (codes "nodes ") n.nodes) ++ line (number_after (codes "frames ") n.frames)
+    ++ line (number_after (codes "hops ") n.hops) ++ line (number_after (codes "answered ") n.answered)
 
--- what stands behind the last record: in the mode Summary the summary, where there is a `Begin`
+-- what stands after the last record: in the mode Summary the summary, where there is a `Begin`
 abbrev pub ending : Mode → Option SettingsValue → Numbers → List ℕ
 ending Summary (Some settings) n = summary_text n
 ending mode settings n = []

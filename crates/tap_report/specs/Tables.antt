@@ -8,7 +8,7 @@ use Rattle.tap_log.specs.declared.record.LinkWord.{LinkWord}
 use Rattle.tap_log.specs.declared.record.LinkWord.TheVariants as link
 use Rattle.tap_log.specs.declared.record.LinkLine.{LinkLine}
 use Rattle.tap_log.specs.declared.record.Pair.{Pair}
-use Rattle.tap_report.specs.Shapes.{named, numbered, two_named, line}
+use Rattle.tap_report.specs.Shapes.{name_after, number_after, two_names_after, line}
 
 -- what a node is
 abbrev pub words_of_node : NodeWord → List ℕ
@@ -25,24 +25,24 @@ words_of_link link.Leaving = codes "leaving"
 -- the first line of a table
 abbrev pub table_line : List ℕ → NodeWord → ℕ → List ℕ
 table_line name status count =
-    named (codes "table ") name ++ codes " " ++ words_of_node status ++ numbered (codes " links ") count
+    name_after (codes "table ") name ++ codes " " ++ words_of_node status ++ number_after (codes " links ") count
 
 -- its further lines, one for each link
 abbrev pub link_line : LinkLine → List ℕ
 link_line l =
-    line (numbered (codes "link ") l.slot.level ++ codes " " ++ (text_of_digit l.slot.digit ∷ [])
-    ++ named (codes " ") l.name ++ codes " " ++ words_of_link l.kind)
+    line (number_after (codes "link ") l.slot.level ++ codes " " ++ (text_of_digit l.slot.digit ∷ [])
+    ++ name_after (codes " ") l.name ++ codes " " ++ words_of_link l.kind)
 
 abbrev pub link_lines : List LinkLine → List ℕ
 link_lines links = flat_map link_line links
 
 -- the first line of pointers
 abbrev pub pointers_line : List ℕ → ℕ → List ℕ
-pointers_line name count = named (codes "pointers ") name ++ numbered (codes " count ") count
+pointers_line name count = name_after (codes "pointers ") name ++ number_after (codes " count ") count
 
 -- the further lines, one for each pointer
 abbrev pub pointer_line : Pair → List ℕ
-pointer_line pair = line (two_named (codes "pointer ") pair.object (codes " ") pair.server)
+pointer_line pair = line (two_names_after (codes "pointer ") pair.object (codes " ") pair.server)
 
 abbrev pub pointer_lines : List Pair → List ℕ
 pointer_lines pairs = flat_map pointer_line pairs

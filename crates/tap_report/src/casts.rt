@@ -1,13 +1,13 @@
 ghost use Rattle.std.specs.Prelude.{◌≡◌};
-ghost use Rattle.tap_report.specs.Outgoing.{AddsText};
+ghost use Rattle.tap_report.specs.Written.{WritesText};
 ghost use Rattle.tap_report.specs.Casts.{cast_line, reached_line};
 
-use crate::outgoing::Outgoing;
+use crate::written::Written;
 use tap_io::Sink;
 use tap_name::Name;
 
 // The lines of casts.
-impl Outgoing {
+impl Written {
     pub(crate) fn add_cast<K: Sink>(
         &mut self,
         sink: &mut K,
@@ -16,21 +16,21 @@ impl Outgoing {
         level: u8,
         name: &Name,
     )
-        ensures { AddsText (K.held sink.old) (K.held sink.new)
-            (K.faults sink.old) (K.faults sink.new) self.old self.new (cast_line cast word.now level name.now) }
+        ensures { WritesText (K.state sink.old) (K.state sink.new)
+            (cast_line cast word.now level name.now) self.old self.new }
     {
-        self.add_numbered(sink, b"cast ", cast);
+        self.add_number_after(sink, b"cast ", cast);
         self.add(sink, b" ");
         self.add(sink, word);
-        self.add_numbered(sink, b" level ", level);
-        self.add_named(sink, b" from ", name);
+        self.add_number_after(sink, b" level ", level);
+        self.add_name_after(sink, b" from ", name);
     }
 
     pub(crate) fn add_reached<K: Sink>(&mut self, sink: &mut K, cast: u32, name: &Name)
-        ensures { AddsText (K.held sink.old) (K.held sink.new)
-            (K.faults sink.old) (K.faults sink.new) self.old self.new (reached_line cast name.now) }
+        ensures { WritesText (K.state sink.old) (K.state sink.new)
+            (reached_line cast name.now) self.old self.new }
     {
-        self.add_numbered(sink, b"reached ", cast);
-        self.add_named(sink, b" ", name);
+        self.add_number_after(sink, b"reached ", cast);
+        self.add_name_after(sink, b" ", name);
     }
 }

@@ -1,8 +1,9 @@
 ghost use Rattle.std.specs.Prelude.{◌<◌, All, IfOk, IsTrue, Some, length};
+ghost use Rattle.tap_report.specs.Reporter.{most_records};
 ghost use Rattle.tap_report.specs.Text.{IsBegin, IsPrintable, IsPrintableLog, text_of_log};
 ghost use Rattle.tap_report.specs.Written.{WritesText};
 
-use crate::{MOST_RECORDS, Mode, Reporter, Written, write_log};
+use crate::{Mode, Reporter, Written, write_log};
 use std::alloc::Global;
 use std::process::Abort;
 use std::test::Fail;
@@ -96,9 +97,9 @@ pub(crate) fn log_of(
 // Puts each record of a log, as a run does that is printed while it goes on.
 fn put_each<K: Sink>(mode: Mode, log: &Log, sink: &mut K) -> Written
     requires printable { IsPrintableLog log.now.records }
-    requires few { length log.now.records < MOST_RECORDS }
-    ensures { WritesText (K.held sink.old) (K.held sink.new)
-        (K.faults sink.old) (K.faults sink.new) (text_of_log mode log.now.records) Written.All result }
+    requires few { length log.now.records < most_records }
+    ensures { WritesText (K.state sink.old) (K.state sink.new)
+        (text_of_log mode log.now.records) Written.All result }
 {
     let mut reporter = Reporter::new(mode);
     let records = log.as_slice();
@@ -145,7 +146,7 @@ pub(crate) fn check_modes(
     check_text(rt, alloc, Mode::Summary, log, &[], Written::All, summary)
 }
 
-// Prints these records behind a beginning with no member, in each mode. The texts are the lines that the brief text leaves
+// Prints these records after a beginning with no member, in each mode. The texts are the lines that the brief text leaves
 // out, which stand first, those that it has, and the summary.
 pub(crate) fn check_records(
     rt: &impl Abort,
@@ -162,7 +163,7 @@ pub(crate) fn check_records(
     check_modes(rt, alloc, &log, [long.as_str(), brief.as_str(), summary])
 }
 
-// Prints one record behind a beginning.
+// Prints one record after a beginning.
 pub(crate) fn check_line(
     rt: &impl Abort,
     alloc: Global,

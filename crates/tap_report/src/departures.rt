@@ -5,7 +5,7 @@ ghost use Rattle.tap_report.specs.Tally.{accepted_after, asked_by, departures_af
 use tap_log::{Record, accepts, depart_name};
 use tap_name::Name;
 
-// What is known of departures behind some records.
+// What is known of departures after some records.
 #[derive(Clone, Copy, Debug)]
 pub(crate) struct Departures {
     // The departure that the last record asks for.

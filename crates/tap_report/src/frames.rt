@@ -1,17 +1,20 @@
-ghost use Rattle.std.specs.Prelude.{◌≡◌, ◌≢◌, IsOk, IsSomeAnd};
-ghost use Rattle.tap_report.specs.Outgoing.{AddsText};
-ghost use Rattle.tap_report.specs.Frames.{garbled_line, heading, hex, hex_of_byte, packet_line, packet_word, sent_line, text_of_head, word_of_kind, words_of_fault};
+ghost use Rattle.std.specs.Prelude.{◌≡◌, ◌≢◌, ◌*◌, ◌≤◌, IsOk, IsSomeAnd, length};
+ghost use Rattle.hex.specs.Hex.{encode_lower};
+ghost use Rattle.tap_report.specs.Written.{WritesText};
+ghost use Rattle.tap_report.specs.Frames.{garbled_line, heading, packet_line, packet_word, sent_line, text_of_head, word_of_kind, words_of_fault};
 ghost use Rattle.tap_wire.specs.declared.fault.WireFault.TheVariants.{NoMemory};
 ghost use Rattle.tap_wire.specs.Reading.{head_of};
 
-use crate::outgoing::Outgoing;
-use crate::shapes::text_of;
+use crate::written::Written;
 use tap_io::Sink;
 use tap_name::Settings;
 use tap_wire::{WireFault, decode_head};
 
+// How many bytes are encoded at once.
+const PIECE: usize = 64;
+
 // The lines of frames and of packets.
-impl Outgoing {
+impl Written {
     pub(crate) fn add_sent<K: Sink>(
         &mut self,
         sink: &mut K,
@@ -20,10 +23,10 @@ impl Outgoing {
         bytes: &[u8],
     )
         requires { IsSomeAnd settings.now (λ p. IsOk (head_of p bytes.now)) }
-        ensures { AddsText (K.held sink.old) (K.held sink.new)
-            (K.faults sink.old) (K.faults sink.new) self.old self.new (sent_line settings.now number bytes.now) }
+        ensures { WritesText (K.state sink.old) (K.state sink.new)
+            (sent_line settings.now number bytes.now) self.old self.new }
     {
-        self.add_numbered(sink, b"sent ", number);
+        self.add_number_after(sink, b"sent ", number);
         self.add(sink, b" ");
         self.add_heading(sink, settings, bytes);
         self.add(sink, b" ");
@@ -33,8 +36,8 @@ impl Outgoing {
     // Adds what the head of a frame says, which is read with these settings.
     fn add_heading<K: Sink>(&mut self, sink: &mut K, settings: &Option<Settings>, bytes: &[u8])
         requires { IsSomeAnd settings.now (λ p. IsOk (head_of p bytes.now)) }
-        ensures { AddsText (K.held sink.old) (K.held sink.new)
-            (K.faults sink.old) (K.faults sink.new) self.old self.new (heading settings.now bytes.now) }
+        ensures { WritesText (K.state sink.old) (K.state sink.new)
+            (heading settings.now bytes.now) self.old self.new }
     {
         match settings {
             Some(settings) => self.add_head(sink, settings, bytes),
@@ -44,14 +47,14 @@ impl Outgoing {
 
     fn add_head<K: Sink>(&mut self, sink: &mut K, settings: &Settings, bytes: &[u8])
         requires { IsOk (head_of settings.now bytes.now) }
-        ensures { AddsText (K.held sink.old) (K.held sink.new)
-            (K.faults sink.old) (K.faults sink.new) self.old self.new (text_of_head (head_of settings.now bytes.now)) }
+        ensures { WritesText (K.state sink.old) (K.state sink.new)
+            (text_of_head (head_of settings.now bytes.now)) self.old self.new }
     {
         match decode_head(settings, bytes) {
             Ok(head) => {
                 self.add_kind(sink, head.kind);
-                self.add_named(sink, b" ", &head.from);
-                self.add_named(sink, b" ", &head.to);
+                self.add_name_after(sink, b" ", &head.from);
+                self.add_name_after(sink, b" ", &head.to);
             }
             Err(_) => unreachable!(),
         }
@@ -59,8 +62,8 @@ impl Outgoing {
 
     // Adds the word of the kind with this code, where there is one.
     fn add_kind<K: Sink>(&mut self, sink: &mut K, code: u8)
-        ensures { AddsText (K.held sink.old) (K.held sink.new)
-            (K.faults sink.old) (K.faults sink.new) self.old self.new (word_of_kind code) }
+        ensures { WritesText (K.state sink.old) (K.state sink.new)
+            (word_of_kind code) self.old self.new }
     {
         match code {
             1 => self.add(sink, b"seek"),
@@ -84,57 +87,65 @@ impl Outgoing {
         }
     }
 
-    // Adds bytes, each as two digits.
+    // Adds bytes in hexadecimal, a piece at a time.
     fn add_hex<K: Sink>(&mut self, sink: &mut K, bytes: &[u8])
-        ensures { AddsText (K.held sink.old) (K.held sink.new)
-            (K.faults sink.old) (K.faults sink.new) self.old self.new (hex bytes.now) }
+        ensures { WritesText (K.state sink.old) (K.state sink.new)
+            (encode_lower bytes.now) self.old self.new }
     {
-        for at in 0..bytes.len() {
-            self.add_byte(sink, bytes[at]);
+        let mut room = [0; 2 * PIECE];
+        let mut done = 0;
+        while done < bytes.len() {
+            let end = bytes.len().min(done + PIECE);
+            self.add_hex_piece(sink, &bytes[done..end], &mut room);
+            done = end;
         }
     }
 
-    fn add_byte<K: Sink>(&mut self, sink: &mut K, byte: u8)
-        ensures { AddsText (K.held sink.old) (K.held sink.new)
-            (K.faults sink.old) (K.faults sink.new) self.old self.new (hex_of_byte byte) }
+    // Adds a piece of bytes in hexadecimal, by way of this room.
+    fn add_hex_piece<K: Sink>(&mut self, sink: &mut K, piece: &[u8], room: &mut [u8])
+        requires { 2 * length piece.now ≤ length room.old }
+        ensures { WritesText (K.state sink.old) (K.state sink.new)
+            (encode_lower piece.now) self.old self.new }
     {
-        self.add(sink, &[text_of(byte / 16), text_of(byte % 16)]);
+        let text = &mut room[..2 * piece.len()];
+        hex::encode_to_slice(piece, text).unwrap();
+        self.add(sink, text);
     }
 
     pub(crate) fn add_garbled<K: Sink>(&mut self, sink: &mut K, number: u32, fault: WireFault)
         requires { fault ≢ NoMemory }
-        ensures { AddsText (K.held sink.old) (K.held sink.new)
-            (K.faults sink.old) (K.faults sink.new) self.old self.new (garbled_line number fault) }
+        ensures { WritesText (K.state sink.old) (K.state sink.new)
+            (garbled_line number fault) self.old self.new }
     {
-        self.add_numbered(sink, b"garbled ", number);
+        self.add_number_after(sink, b"garbled ", number);
         self.add(sink, b" ");
         self.add_fault(sink, fault);
     }
 
     fn add_fault<K: Sink>(&mut self, sink: &mut K, fault: WireFault)
         requires { fault ≢ NoMemory }
-        ensures { AddsText (K.held sink.old) (K.held sink.new)
-            (K.faults sink.old) (K.faults sink.new) self.old self.new (words_of_fault fault) }
+        ensures { WritesText (K.state sink.old) (K.state sink.new)
+            (words_of_fault fault) self.old self.new }
     {
         match fault {
-            WireFault::Short(missing) => self.add_numbered(sink, b"short ", missing),
-            WireFault::BadVersion(version) => self.add_numbered(sink, b"bad version ", version),
-            WireFault::BadKind(kind) => self.add_numbered(sink, b"bad kind ", kind),
-            WireFault::BadLength(len) => self.add_numbered(sink, b"bad length ", len),
-            WireFault::BadCount(count) => self.add_numbered(sink, b"bad count ", count),
-            WireFault::Trailing(more) => self.add_numbered(sink, b"trailing ", more),
-            WireFault::BadDigit(place) => self.add_numbered(sink, b"bad digit ", place),
-            WireFault::BadBody(place) => self.add_numbered(sink, b"bad body ", place),
+            WireFault::Short(missing) => self.add_number_after(sink, b"short ", missing),
+            WireFault::BadVersion(version) => self.add_number_after(sink, b"bad version ", version),
+            WireFault::BadKind(kind) => self.add_number_after(sink, b"bad kind ", kind),
+            WireFault::BadLength(len) => self.add_number_after(sink, b"bad length ", len),
+            WireFault::BadCount(count) => self.add_number_after(sink, b"bad count ", count),
+            WireFault::Trailing(more) => self.add_number_after(sink, b"trailing ", more),
+            WireFault::BadDigit(place) => self.add_number_after(sink, b"bad digit ", place),
+            WireFault::BadBody(place) => self.add_number_after(sink, b"bad body ", place),
             WireFault::NoMemory => unreachable!(),
         }
     }
 
     pub(crate) fn add_packet<K: Sink>(&mut self, sink: &mut K, packet: u32, frame: u32, ack: bool)
-        ensures { AddsText (K.held sink.old) (K.held sink.new)
-            (K.faults sink.old) (K.faults sink.new) self.old self.new (packet_line packet frame ack) }
+        ensures { WritesText (K.state sink.old) (K.state sink.new)
+            (packet_line packet frame ack) self.old self.new }
     {
-        self.add_numbered(sink, b"packet ", packet);
-        self.add_numbered(sink, packet_word(ack), frame);
+        self.add_number_after(sink, b"packet ", packet);
+        self.add_number_after(sink, packet_word(ack), frame);
     }
 }
 

@@ -1,6 +1,6 @@
 ghost use Rattle.std.specs.Prelude.{◌≡◌, ◌++◌, true, false};
 ghost use Rattle.tap_report.specs.Lookups.{is_lookup};
-ghost use Rattle.tap_report.specs.Outgoing.{AddsText};
+ghost use Rattle.tap_report.specs.Written.{WritesText};
 ghost use Rattle.tap_report.specs.declared.mode.Mode.TheVariants.{Summary};
 ghost use Rattle.tap_report.specs.Shapes.{line};
 ghost use Rattle.tap_report.specs.Summary.{ending, summary_text};
@@ -9,16 +9,16 @@ ghost use Rattle.tap_report.specs.Text.{IsPrintable, further_lines, is_in_brief,
 
 use crate::lookups::is_lookup;
 use crate::mode::Mode;
-use crate::outgoing::Outgoing;
 use crate::tally::Tally;
+use crate::written::Written;
 use itoa::Integer;
 use tap_io::Sink;
 use tap_log::Record;
 use tap_name::Settings;
 
 // The lines of records, and the summary.
-impl Outgoing {
-    // Adds the text of a record, behind a `Begin` with these settings.
+impl Written {
+    // Adds the text of a record, after a `Begin` with these settings.
     pub(crate) fn add_record<K: Sink>(
         &mut self,
         sink: &mut K,
@@ -27,8 +27,8 @@ impl Outgoing {
         item: &Record,
     )
         requires { IsPrintable settings.now item.now }
-        ensures { AddsText (K.held sink.old) (K.held sink.new)
-            (K.faults sink.old) (K.faults sink.new) self.old self.new (text_of_record mode settings.now item.now) }
+        ensures { WritesText (K.state sink.old) (K.state sink.new)
+            (text_of_record mode settings.now item.now) self.old self.new }
     {
         if is_printed(mode, item) {
             self.add_line(sink, settings, item);
@@ -40,8 +40,8 @@ impl Outgoing {
     // Adds the first line of a record.
     fn add_line<K: Sink>(&mut self, sink: &mut K, settings: &Option<Settings>, item: &Record)
         requires { IsPrintable settings.now item.now }
-        ensures { AddsText (K.held sink.old) (K.held sink.new)
-            (K.faults sink.old) (K.faults sink.new) self.old self.new (line_of settings.now item.now) }
+        ensures { WritesText (K.state sink.old) (K.state sink.new)
+            (line_of settings.now item.now) self.old self.new }
     {
         if is_in_brief(item) {
             self.add_brief_line(sink, settings, item);
@@ -54,8 +54,8 @@ impl Outgoing {
     fn add_brief_line<K: Sink>(&mut self, sink: &mut K, settings: &Option<Settings>, item: &Record)
         requires printable { IsPrintable settings.now item.now }
         requires brief { is_in_brief item.now ≡ true }
-        ensures { AddsText (K.held sink.old) (K.held sink.new)
-            (K.faults sink.old) (K.faults sink.new) self.old self.new (line_of settings.now item.now) }
+        ensures { WritesText (K.state sink.old) (K.state sink.new)
+            (line_of settings.now item.now) self.old self.new }
     {
         if is_lookup(item) {
             self.add_lookup(sink, settings, item);
@@ -69,8 +69,8 @@ impl Outgoing {
         requires printable { IsPrintable settings.now item.now }
         requires brief { is_in_brief item.now ≡ true }
         requires event { is_lookup item.now ≡ false }
-        ensures { AddsText (K.held sink.old) (K.held sink.new)
-            (K.faults sink.old) (K.faults sink.new) self.old self.new (line_of settings.now item.now) }
+        ensures { WritesText (K.state sink.old) (K.state sink.new)
+            (line_of settings.now item.now) self.old self.new }
     {
         match item {
             Record::Begin {
@@ -78,8 +78,8 @@ impl Outgoing {
                 frames,
                 ..
             } => self.add_begin(sink, settings, *frames),
-            Record::Core { name } => self.add_named(sink, b"core ", name),
-            Record::Gone { name } => self.add_named(sink, b"gone ", name),
+            Record::Core { name } => self.add_name_after(sink, b"core ", name),
+            Record::Gone { name } => self.add_name_after(sink, b"gone ", name),
             Record::TableOf {
                 name,
                 status,
@@ -87,10 +87,10 @@ impl Outgoing {
             } => self.add_table(sink, name, *status, links.len()),
             Record::PointersOf { name, pairs } => self.add_pointers(sink, name, pairs.len()),
             Record::Refused { index, refusal } => self.add_refused(sink, *index, refusal),
-            Record::Spent { limit } => self.add_numbered(sink, b"spent ", *limit),
-            Record::Finished { steps } => self.add_numbered(sink, b"done ", *steps),
+            Record::Spent { limit } => self.add_number_after(sink, b"spent ", *limit),
+            Record::Finished { steps } => self.add_number_after(sink, b"done ", *steps),
             Record::Garbled { number, fault } => self.add_garbled(sink, *number, *fault),
-            Record::Abandoned { name } => self.add_named(sink, b"abandoned ", name),
+            Record::Abandoned { name } => self.add_name_after(sink, b"abandoned ", name),
             Record::Carrier => self.add(sink, b"carrier"),
             Record::CastFrom {
                 cast,
@@ -99,7 +99,7 @@ impl Outgoing {
                 name,
             } => self.add_cast(sink, *cast, word.as_slice(), *level, name),
             Record::Reached { cast, name } => self.add_reached(sink, *cast, name),
-            Record::Closed { cast } => self.add_numbered(sink, b"closed ", *cast),
+            Record::Closed { cast } => self.add_number_after(sink, b"closed ", *cast),
             _ => unreachable!(),
         }
     }
@@ -108,8 +108,8 @@ impl Outgoing {
     fn add_detail<K: Sink>(&mut self, sink: &mut K, settings: &Option<Settings>, item: &Record)
         requires printable { IsPrintable settings.now item.now }
         requires detail { is_in_brief item.now ≡ false }
-        ensures { AddsText (K.held sink.old) (K.held sink.new)
-            (K.faults sink.old) (K.faults sink.new) self.old self.new (line_of settings.now item.now) }
+        ensures { WritesText (K.state sink.old) (K.state sink.new)
+            (line_of settings.now item.now) self.old self.new }
     {
         match item {
             Record::Step { index, step } => self.add_step(sink, *index, step),
@@ -119,11 +119,11 @@ impl Outgoing {
                 *number,
                 bytes.as_slice(),
             ),
-            Record::Taken { number } => self.add_numbered(sink, b"taken ", *number),
+            Record::Taken { number } => self.add_number_after(sink, b"taken ", *number),
             Record::Packet { number, frame, ack } => self.add_packet(sink, *number, *frame, *ack),
-            Record::Arrived { packet } => self.add_numbered(sink, b"arrived ", *packet),
+            Record::Arrived { packet } => self.add_number_after(sink, b"arrived ", *packet),
             Record::Ticked => self.add(sink, b"ticked"),
-            Record::Lost { packet } => self.add_numbered(sink, b"lost ", *packet),
+            Record::Lost { packet } => self.add_number_after(sink, b"lost ", *packet),
             _ => unreachable!(),
         }
     }
@@ -137,8 +137,8 @@ impl Outgoing {
         item: &Record,
     )
         requires { IsPrintable settings.now item.now }
-        ensures { AddsText (K.held sink.old) (K.held sink.new)
-            (K.faults sink.old) (K.faults sink.new) self.old self.new (further_lines mode item.now) }
+        ensures { WritesText (K.state sink.old) (K.state sink.new)
+            (further_lines mode item.now) self.old self.new }
     {
         match item {
             Record::Begin { members, .. } => self.add_members_in(sink, mode, members.as_slice()),
@@ -148,7 +148,7 @@ impl Outgoing {
         }
     }
 
-    // Adds what stands behind the last record.
+    // Adds what stands after the last record.
     pub(crate) fn add_ending<K: Sink>(
         &mut self,
         sink: &mut K,
@@ -156,8 +156,8 @@ impl Outgoing {
         settings: &Option<Settings>,
         tally: &Tally,
     )
-        ensures { AddsText (K.held sink.old) (K.held sink.new)
-            (K.faults sink.old) (K.faults sink.new) self.old self.new (ending mode settings.now (numbers_in tally.now)) }
+        ensures { WritesText (K.state sink.old) (K.state sink.new)
+            (ending mode settings.now (numbers_in tally.now)) self.old self.new }
     {
         match mode {
             Mode::Summary => self.add_summary(sink, settings, tally),
@@ -166,8 +166,8 @@ impl Outgoing {
     }
 
     fn add_summary<K: Sink>(&mut self, sink: &mut K, settings: &Option<Settings>, tally: &Tally)
-        ensures { AddsText (K.held sink.old) (K.held sink.new)
-            (K.faults sink.old) (K.faults sink.new) self.old self.new (ending Summary settings.now (numbers_in tally.now)) }
+        ensures { WritesText (K.state sink.old) (K.state sink.new)
+            (ending Summary settings.now (numbers_in tally.now)) self.old self.new }
     {
         if settings.is_some() {
             self.add_numbers(sink, tally);
@@ -175,8 +175,8 @@ impl Outgoing {
     }
 
     fn add_numbers<K: Sink>(&mut self, sink: &mut K, tally: &Tally)
-        ensures { AddsText (K.held sink.old) (K.held sink.new)
-            (K.faults sink.old) (K.faults sink.new) self.old self.new (summary_text (numbers_in tally.now)) }
+        ensures { WritesText (K.state sink.old) (K.state sink.new)
+            (summary_text (numbers_in tally.now)) self.old self.new }
     {
         self.add_count(sink, b"nodes ", tally.nodes_left());
         self.add_count(sink, b"frames ", tally.frames);
@@ -186,10 +186,10 @@ impl Outgoing {
 
     // Adds a line with one number.
     fn add_count<K: Sink, I: Integer>(&mut self, sink: &mut K, word: &[u8], count: I)
-        ensures { AddsText (K.held sink.old) (K.held sink.new)
-            (K.faults sink.old) (K.faults sink.new) self.old self.new (line (word.now ++ I.text count)) }
+        ensures { WritesText (K.state sink.old) (K.state sink.new)
+            (line (word.now ++ I.text count)) self.old self.new }
     {
-        self.add_numbered(sink, word, count);
+        self.add_number_after(sink, word, count);
         self.end_line(sink);
     }
 }

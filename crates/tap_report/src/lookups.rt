@@ -1,15 +1,15 @@
 ghost use Rattle.std.specs.Prelude.{◌≡◌, ◌<◌, length, true};
-ghost use Rattle.tap_report.specs.Outgoing.{AddsText};
+ghost use Rattle.tap_report.specs.Written.{WritesText};
 ghost use Rattle.tap_report.specs.Lookups.{answered_line, asked_line, is_lookup, roots_line, text_of_server, walked_line};
 ghost use Rattle.tap_report.specs.Text.{IsPrintable, line_of};
 
-use crate::outgoing::Outgoing;
+use crate::written::Written;
 use tap_io::Sink;
 use tap_log::Record;
 use tap_name::{Name, Settings};
 
 // The lines of walks, lookups and root sets.
-impl Outgoing {
+impl Written {
     // Adds the line of a record of these.
     pub(crate) fn add_lookup<K: Sink>(
         &mut self,
@@ -19,8 +19,8 @@ impl Outgoing {
     )
         requires printable { IsPrintable settings.now item.now }
         requires lookup { is_lookup item.now ≡ true }
-        ensures { AddsText (K.held sink.old) (K.held sink.new)
-            (K.faults sink.old) (K.faults sink.new) self.old self.new (line_of settings.now item.now) }
+        ensures { WritesText (K.state sink.old) (K.state sink.new)
+            (line_of settings.now item.now) self.old self.new }
     {
         match item {
             Record::Walked { object, path } => self.add_walked(sink, object, path.as_slice()),
@@ -54,46 +54,46 @@ impl Outgoing {
 
     fn add_walked<K: Sink>(&mut self, sink: &mut K, object: &Name, path: &[Name])
         requires { 0 < length path.now }
-        ensures { AddsText (K.held sink.old) (K.held sink.new)
-            (K.faults sink.old) (K.faults sink.new) self.old self.new (walked_line object.now path.now) }
+        ensures { WritesText (K.state sink.old) (K.state sink.new)
+            (walked_line object.now path.now) self.old self.new }
     {
         let hops = path.len() - 1;
         self.add_from(sink, b"walked ", object, &path[0]);
         self.add(sink, b" path");
         self.add_names(sink, path);
-        self.add_named(sink, b" root ", &path[hops]);
-        self.add_numbered(sink, b" hops ", hops);
+        self.add_name_after(sink, b" root ", &path[hops]);
+        self.add_number_after(sink, b" hops ", hops);
     }
 
     fn add_asked<K: Sink>(&mut self, sink: &mut K, ticket: u32, object: &Name, asker: &Name)
-        ensures { AddsText (K.held sink.old) (K.held sink.new)
-            (K.faults sink.old) (K.faults sink.new) self.old self.new (asked_line ticket object.now asker.now) }
+        ensures { WritesText (K.state sink.old) (K.state sink.new)
+            (asked_line ticket object.now asker.now) self.old self.new }
     {
-        self.add_numbered(sink, b"asked ", ticket);
+        self.add_number_after(sink, b"asked ", ticket);
         self.add_from(sink, b" ", object, asker);
     }
 
     fn add_answered<K: Sink>(&mut self, sink: &mut K, ticket: u32, server: &Option<Name>)
-        ensures { AddsText (K.held sink.old) (K.held sink.new)
-            (K.faults sink.old) (K.faults sink.new) self.old self.new (answered_line ticket server.now) }
+        ensures { WritesText (K.state sink.old) (K.state sink.new)
+            (answered_line ticket server.now) self.old self.new }
     {
-        self.add_numbered(sink, b"answered ", ticket);
+        self.add_number_after(sink, b"answered ", ticket);
         self.add_server(sink, server);
     }
 
     fn add_server<K: Sink>(&mut self, sink: &mut K, server: &Option<Name>)
-        ensures { AddsText (K.held sink.old) (K.held sink.new)
-            (K.faults sink.old) (K.faults sink.new) self.old self.new (text_of_server server.now) }
+        ensures { WritesText (K.state sink.old) (K.state sink.new)
+            (text_of_server server.now) self.old self.new }
     {
         match server {
-            Some(server) => self.add_named(sink, b" server ", server),
+            Some(server) => self.add_name_after(sink, b" server ", server),
             None => self.add(sink, b" none"),
         }
     }
 
     fn add_roots<K: Sink>(&mut self, sink: &mut K, object: &Name, asker: &Name, roots: &[Name])
-        ensures { AddsText (K.held sink.old) (K.held sink.new)
-            (K.faults sink.old) (K.faults sink.new) self.old self.new (roots_line object.now asker.now roots.now) }
+        ensures { WritesText (K.state sink.old) (K.state sink.new)
+            (roots_line object.now asker.now roots.now) self.old self.new }
     {
         self.add_from(sink, b"rootset ", object, asker);
         self.add(sink, b" roots");

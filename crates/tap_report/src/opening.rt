@@ -10,7 +10,7 @@ pub(crate) enum Opening {
     Nothing,
     // There is a `Begin` alone.
     Begun,
-    // The log is carried: `Carrier` stands right behind `Begin`.
+    // The log is carried: `Carrier` stands right after `Begin`.
     Carried,
     // The log isn't carried.
     Plain,

@@ -1,44 +1,48 @@
 ghost use Rattle.std.specs.Prelude.{◌≡◌};
-ghost use Rattle.tap_report.specs.Outgoing.{AddsText};
+ghost use Rattle.tap_report.specs.Written.{WritesText};
 ghost use Rattle.tap_report.specs.Refusal.{code_of_refusal, refused_line, words_of_refusal};
 
-use crate::outgoing::Outgoing;
+use crate::written::Written;
 use tap_io::Sink;
 use tap_log::Refusal;
 
 // The lines of refused steps.
-impl Outgoing {
+impl Written {
     pub(crate) fn add_refused<K: Sink>(&mut self, sink: &mut K, index: u32, refusal: &Refusal)
-        ensures { AddsText (K.held sink.old) (K.held sink.new)
-            (K.faults sink.old) (K.faults sink.new) self.old self.new (refused_line index refusal.now) }
+        ensures { WritesText (K.state sink.old) (K.state sink.new)
+            (refused_line index refusal.now) self.old self.new }
     {
-        self.add_numbered(sink, b"refused ", index);
-        self.add_numbered(sink, b" ", code_of(refusal));
+        self.add_number_after(sink, b"refused ", index);
+        self.add_number_after(sink, b" ", code_of(refusal));
         self.add(sink, b" ");
         self.add_words(sink, refusal);
     }
 
     // Adds the words of a refusal.
     fn add_words<K: Sink>(&mut self, sink: &mut K, refusal: &Refusal)
-        ensures { AddsText (K.held sink.old) (K.held sink.new)
-            (K.faults sink.old) (K.faults sink.new) self.old self.new (words_of_refusal refusal.now) }
+        ensures { WritesText (K.state sink.old) (K.state sink.new)
+            (words_of_refusal refusal.now) self.old self.new }
     {
         match refusal {
             Refusal::NoSuchNode => self.add(sink, b"no such node"),
             Refusal::NotCore => self.add(sink, b"not core"),
-            Refusal::Departing(leaver) => self.add_named(sink, b"departing ", leaver),
-            Refusal::NotAtRest(count) => self.add_numbered(sink, b"not at rest ", *count),
+            Refusal::Departing(leaver) => self.add_name_after(sink, b"departing ", leaver),
+            Refusal::NotAtRest(count) => self.add_number_after(sink, b"not at rest ", *count),
             Refusal::NameTaken => self.add(sink, b"name taken"),
             Refusal::TooManyNodes => self.add(sink, b"too many nodes"),
             Refusal::LastNode => self.add(sink, b"last node"),
             Refusal::AlreadyPublished => self.add(sink, b"already published"),
             Refusal::NotPublished => self.add(sink, b"not published"),
-            Refusal::NoSuchFlight(count) => self.add_numbered(sink, b"no such flight ", *count),
-            Refusal::NoSuchByte(len) => self.add_numbered(sink, b"no such byte ", *len),
+            Refusal::NoSuchFlight(count) => self.add_number_after(sink, b"no such flight ", *count),
+            Refusal::NoSuchByte(len) => self.add_number_after(sink, b"no such byte ", *len),
             Refusal::Readable => self.add(sink, b"readable"),
             Refusal::NotJoining => self.add(sink, b"not joining"),
             Refusal::AlreadyAbandoned => self.add(sink, b"already abandoned"),
-            Refusal::TooManyPackets(made) => self.add_numbered(sink, b"too many packets ", *made),
+            Refusal::TooManyPackets(made) => self.add_number_after(
+                sink,
+                b"too many packets ",
+                *made,
+            ),
             Refusal::NotInPrefix => self.add(sink, b"not in prefix"),
         }
     }

@@ -1,10 +1,9 @@
-ghost use Rattle.std.specs.Prelude.{◌≡◌, ◌<◌, ◌↔◌, IsNone};
-ghost use Rattle.tap_report.specs.Reporter.{Finishes, Puts, PutsWriteTheText, kept_at_first, settings_after};
+ghost use Rattle.std.specs.Prelude.{◌≡◌, ◌<◌, ◌≤◌, ◌↔◌, IsNone, IsTrue};
+ghost use Rattle.tap_report.specs.Reporter.{Finishes, Puts, PutsWriteTheText, most_records, new_reporter, settings_after};
 ghost use Rattle.tap_report.specs.Text.{IsBegin, IsPrintable, IsPrintableLog, text_of_log};
 ghost use Rattle.tap_report.specs.Written.{WritesText};
 
 use crate::mode::Mode;
-use crate::outgoing::Outgoing;
 use crate::tally::Tally;
 use crate::written::Written;
 use std::marker::Model;
@@ -45,7 +44,7 @@ impl Model for Reporter {
 impl Reporter {
     /// A reporter to which nothing was put.
     pub fn new(mode: Mode) -> Reporter
-        ensures { result ≡ kept_at_first mode }
+        ensures { result ≡ new_reporter mode }
     {
         Reporter {
             mode,
@@ -54,6 +53,13 @@ impl Reporter {
             tally: Tally::new(),
             so_far: Written::All,
         }
+    }
+
+    /// Whether as many records were put as may be, which are [`MOST_RECORDS`].
+    pub fn is_full(&self) -> bool
+        ensures { IsTrue result ↔ (most_records ≤ self.now.records) }
+    {
+        self.records >= MOST_RECORDS
     }
 
     /// Writes the text of one record. The first record, and no other one, is a `Begin`, and fewer than [`MOST_RECORDS`]
@@ -65,13 +71,11 @@ impl Reporter {
     pub fn put<K: Sink>(&mut self, item: &Record, sink: &mut K) -> Written
         requires begins { IsBegin item.now ↔ IsNone self.old.settings }
         requires printable { IsPrintable self.old.settings item.now }
-        requires few { self.old.records < MOST_RECORDS }
-        ensures { Puts self.old self.new item.now (K.held sink.old) (K.held sink.new)
-            (K.faults sink.old) (K.faults sink.new) result }
+        requires few { self.old.records < most_records }
+        ensures { Puts self.old self.new item.now (K.state sink.old) (K.state sink.new) result }
     {
-        let mut text = Outgoing::new(self.so_far);
-        text.add_record(sink, self.mode, &self.settings, item);
-        self.so_far = text.pass_on(sink);
+        self.so_far
+            .add_record(sink, self.mode, &self.settings, item);
         self.settings = settings_with(self.settings, item);
         self.tally = self.tally.with(item);
         self.records += 1;
@@ -81,12 +85,10 @@ impl Reporter {
     /// Ends the text. In the mode Summary the summary follows the last record, where a `Begin` was put, and in the
     /// other modes nothing does. The answer tells whether all was written.
     pub fn finish<K: Sink>(&mut self, sink: &mut K) -> Written
-        ensures { Finishes self.old self.new (K.held sink.old) (K.held sink.new)
-            (K.faults sink.old) (K.faults sink.new) result }
+        ensures { Finishes self.old self.new (K.state sink.old) (K.state sink.new) result }
     {
-        let mut last = Outgoing::new(self.so_far);
-        last.add_ending(sink, self.mode, &self.settings, &self.tally);
-        self.so_far = last.pass_on(sink);
+        self.so_far
+            .add_ending(sink, self.mode, &self.settings, &self.tally);
         self.so_far
     }
 }
@@ -101,7 +103,7 @@ fn settings_with(settings: Option<Settings>, item: &Record) -> Option<Settings>
     }
 }
 
-/// Writes the text of a log, as the puts of its records and a finish do, and in larger pieces. Takes no memory.
+/// Writes the text of a log, as the puts of its records and a finish do. Takes no memory.
 ///
 /// The log is empty, or its first record is its only `Begin`. Each record is as [`Reporter::put`] wants it. `Failed`
 /// comes only where the sink counted a fault in this call, and some first bytes of the text are then written.
@@ -109,20 +111,20 @@ fn settings_with(settings: Option<Settings>, item: &Record) -> Option<Settings>
 /// Rule: docs/FORMATS.md, "The printed text".
 pub fn write_log<K: Sink>(mode: Mode, log: &Log, sink: &mut K) -> Written
     requires { IsPrintableLog log.now.records }
-    ensures { WritesText (K.held sink.old) (K.held sink.new)
-        (K.faults sink.old) (K.faults sink.new) (text_of_log mode log.now.records) Written.All result }
+    ensures { WritesText (K.state sink.old) (K.state sink.new)
+        (text_of_log mode log.now.records) Written.All result }
 {
-    let mut text = Outgoing::new(Written::All);
+    let mut written = Written::All;
     let records = log.as_slice();
     let mut settings = None;
     let mut tally = Tally::new();
     for item in records {
-        text.add_record(sink, mode, &settings, item);
+        written.add_record(sink, mode, &settings, item);
         settings = settings_with(settings, item);
         tally = tally.with(item);
     }
-    text.add_ending(sink, mode, &settings, &tally);
-    text.pass_on(sink)
+    written.add_ending(sink, mode, &settings, &tally);
+    written
 }
 
 /// A law that runs nothing: the puts of a log's records to a new reporter, and then a finish, write the text of the log.

@@ -1,19 +1,19 @@
-ghost use Rattle.std.specs.Prelude.{◌≡◌, ◌<◌, ◌∷◌, [], ◌++◌, codes};
+ghost use Rattle.std.specs.Prelude.{◌≡◌, ◌<◌, ◌≤◌, ◌∷◌, [], ◌++◌, All, codes, length};
 ghost use Rattle.tap_name.specs.Digits.{text_of_digit};
-ghost use Rattle.tap_report.specs.Outgoing.{AddsText};
-ghost use Rattle.tap_report.specs.Shapes.{named, named_at, named_from, spaced_names, two_named, two_numbered};
+ghost use Rattle.tap_name.specs.Name.{text_of_name};
+ghost use Rattle.tap_report.specs.Written.{WritesText};
+ghost use Rattle.tap_report.specs.Shapes.{name_after, object_at, object_from, spaced_names, two_names_after, two_numbers_after};
 
-use crate::outgoing::Outgoing;
-use itoa::Integer;
+use crate::written::Written;
+use itoa::{Buffer, Integer};
 use tap_io::Sink;
 use tap_name::Name;
 
 // The shapes of lines.
-impl Outgoing {
+impl Written {
     // Ends a line.
     pub(crate) fn end_line<K: Sink>(&mut self, sink: &mut K)
-        ensures { AddsText (K.held sink.old) (K.held sink.new)
-            (K.faults sink.old) (K.faults sink.new) self.old self.new (codes "\n") }
+        ensures { WritesText (K.state sink.old) (K.state sink.new) (codes "\n") self.old self.new }
     {
         self.add(sink, b"\n");
     }
@@ -21,32 +21,67 @@ impl Outgoing {
     // Adds a digit as it is printed.
     pub(crate) fn add_digit<K: Sink>(&mut self, sink: &mut K, digit: u8)
         requires { digit < 16 }
-        ensures { AddsText (K.held sink.old) (K.held sink.new)
-            (K.faults sink.old) (K.faults sink.new) self.old self.new (text_of_digit digit ∷ []) }
+        ensures { WritesText (K.state sink.old) (K.state sink.new)
+            (text_of_digit digit ∷ []) self.old self.new }
     {
         self.add(sink, &[text_of(digit)]);
     }
 
+    // Adds a number, in decimal.
+    pub(crate) fn add_number<K: Sink, I: Integer>(&mut self, sink: &mut K, number: I)
+        ensures { WritesText (K.state sink.old) (K.state sink.new) (I.text number) self.old self.new }
+    {
+        let mut digits = Buffer::new();
+        self.add(sink, digits.format(number).as_bytes());
+    }
+
+    // Adds a name, in printed digits.
+    pub(crate) fn add_name<K: Sink>(&mut self, sink: &mut K, name: &Name)
+        ensures { WritesText (K.state sink.old) (K.state sink.new)
+            (text_of_name name.now) self.old self.new }
+    {
+        self.add_digits(sink, name.as_slice());
+    }
+
+    // Adds at most 40 digits as they are printed.
+    pub(crate) fn add_digits<K: Sink>(&mut self, sink: &mut K, digits: &[u8])
+        requires few { length digits.now ≤ 40 }
+        requires below { All (λ digit. digit < 16) digits.now }
+        ensures { WritesText (K.state sink.old) (K.state sink.new)
+            (text_of_name digits.now) self.old self.new }
+    {
+        let mut text = [0; 40];
+        for at in 0..digits.len() {
+            text[at] = text_of(digits[at]);
+        }
+        self.add(sink, &text[..digits.len()]);
+    }
+
     // Adds a word and a name.
-    pub(crate) fn add_named<K: Sink>(&mut self, sink: &mut K, word: &[u8], name: &Name)
-        ensures { AddsText (K.held sink.old) (K.held sink.new)
-            (K.faults sink.old) (K.faults sink.new) self.old self.new (named word.now name.now) }
+    pub(crate) fn add_name_after<K: Sink>(&mut self, sink: &mut K, word: &[u8], name: &Name)
+        ensures { WritesText (K.state sink.old) (K.state sink.new)
+            (name_after word.now name.now) self.old self.new }
     {
         self.add(sink, word);
         self.add_name(sink, name);
     }
 
     // Adds a word and a number.
-    pub(crate) fn add_numbered<K: Sink, I: Integer>(&mut self, sink: &mut K, word: &[u8], number: I)
-        ensures { AddsText (K.held sink.old) (K.held sink.new)
-            (K.faults sink.old) (K.faults sink.new) self.old self.new (word.now ++ I.text number) }
+    pub(crate) fn add_number_after<K: Sink, I: Integer>(
+        &mut self,
+        sink: &mut K,
+        word: &[u8],
+        number: I,
+    )
+        ensures { WritesText (K.state sink.old) (K.state sink.new)
+            (word.now ++ I.text number) self.old self.new }
     {
         self.add(sink, word);
         self.add_number(sink, number);
     }
 
     // Adds a word and a name, and then another word and name.
-    pub(crate) fn add_two_named<K: Sink>(
+    pub(crate) fn add_two_names_after<K: Sink>(
         &mut self,
         sink: &mut K,
         word: &[u8],
@@ -54,8 +89,8 @@ impl Outgoing {
         link: &[u8],
         second: &Name,
     )
-        ensures { AddsText (K.held sink.old) (K.held sink.new)
-            (K.faults sink.old) (K.faults sink.new) self.old self.new (two_named word.now first.now link.now second.now) }
+        ensures { WritesText (K.state sink.old) (K.state sink.new)
+            (two_names_after word.now first.now link.now second.now) self.old self.new }
     {
         self.add(sink, word);
         self.add_name(sink, first);
@@ -64,7 +99,7 @@ impl Outgoing {
     }
 
     // Adds a word and a number, and then another word and number.
-    pub(crate) fn add_two_numbered<K: Sink>(
+    pub(crate) fn add_two_numbers_after<K: Sink>(
         &mut self,
         sink: &mut K,
         word: &[u8],
@@ -72,8 +107,8 @@ impl Outgoing {
         link: &[u8],
         second: u32,
     )
-        ensures { AddsText (K.held sink.old) (K.held sink.new)
-            (K.faults sink.old) (K.faults sink.new) self.old self.new (two_numbered word.now first link.now second) }
+        ensures { WritesText (K.state sink.old) (K.state sink.new)
+            (two_numbers_after word.now first link.now second) self.old self.new }
     {
         self.add(sink, word);
         self.add_number(sink, first);
@@ -83,10 +118,10 @@ impl Outgoing {
 
     // Adds a word, an object and the node where it is.
     pub(crate) fn add_at<K: Sink>(&mut self, sink: &mut K, word: &[u8], object: &Name, node: &Name)
-        ensures { AddsText (K.held sink.old) (K.held sink.new)
-            (K.faults sink.old) (K.faults sink.new) self.old self.new (named_at word.now object.now node.now) }
+        ensures { WritesText (K.state sink.old) (K.state sink.new)
+            (object_at word.now object.now node.now) self.old self.new }
     {
-        self.add_two_named(sink, word, object, b" at ", node);
+        self.add_two_names_after(sink, word, object, b" at ", node);
     }
 
     // Adds a word, an object and the node that asks for it.
@@ -97,19 +132,19 @@ impl Outgoing {
         object: &Name,
         asker: &Name,
     )
-        ensures { AddsText (K.held sink.old) (K.held sink.new)
-            (K.faults sink.old) (K.faults sink.new) self.old self.new (named_from word.now object.now asker.now) }
+        ensures { WritesText (K.state sink.old) (K.state sink.new)
+            (object_from word.now object.now asker.now) self.old self.new }
     {
-        self.add_two_named(sink, word, object, b" from ", asker);
+        self.add_two_names_after(sink, word, object, b" from ", asker);
     }
 
     // Adds names, each with a space before it.
     pub(crate) fn add_names<K: Sink>(&mut self, sink: &mut K, names: &[Name])
-        ensures { AddsText (K.held sink.old) (K.held sink.new)
-            (K.faults sink.old) (K.faults sink.new) self.old self.new (spaced_names names.now) }
+        ensures { WritesText (K.state sink.old) (K.state sink.new)
+            (spaced_names names.now) self.old self.new }
     {
         for name in names {
-            self.add_named(sink, b" ", name);
+            self.add_name_after(sink, b" ", name);
         }
     }
 }

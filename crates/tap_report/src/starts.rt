@@ -1,37 +1,37 @@
 ghost use Rattle.std.specs.Prelude.{◌≡◌};
-ghost use Rattle.tap_report.specs.Outgoing.{AddsText};
+ghost use Rattle.tap_report.specs.Written.{WritesText};
 ghost use Rattle.tap_report.specs.Starts.{begin_line, member_line, member_lines, step_line};
 ghost use Rattle.tap_report.specs.Text.{members_in};
 
 use crate::mode::Mode;
-use crate::outgoing::Outgoing;
+use crate::written::Written;
 use tap_io::Sink;
 use tap_name::{Name, Settings};
 use tap_scenario::Step;
 
 // The lines of the beginning of a run and of its steps.
-impl Outgoing {
+impl Written {
     pub(crate) fn add_begin<K: Sink>(&mut self, sink: &mut K, settings: &Settings, frames: u32)
-        ensures { AddsText (K.held sink.old) (K.held sink.new)
-            (K.faults sink.old) (K.faults sink.new) self.old self.new (begin_line settings.now frames) }
+        ensures { WritesText (K.state sink.old) (K.state sink.new)
+            (begin_line settings.now frames) self.old self.new }
     {
-        self.add_numbered(sink, b"begin base ", settings.base());
-        self.add_numbered(sink, b" digits ", settings.digits());
-        self.add_numbered(sink, b" width ", settings.width());
-        self.add_numbered(sink, b" frames ", frames);
+        self.add_number_after(sink, b"begin base ", settings.base());
+        self.add_number_after(sink, b" digits ", settings.digits());
+        self.add_number_after(sink, b" width ", settings.width());
+        self.add_number_after(sink, b" frames ", frames);
     }
 
     fn add_member<K: Sink>(&mut self, sink: &mut K, name: &Name)
-        ensures { AddsText (K.held sink.old) (K.held sink.new)
-            (K.faults sink.old) (K.faults sink.new) self.old self.new (member_line name.now) }
+        ensures { WritesText (K.state sink.old) (K.state sink.new)
+            (member_line name.now) self.old self.new }
     {
-        self.add_named(sink, b"member ", name);
+        self.add_name_after(sink, b"member ", name);
         self.end_line(sink);
     }
 
     fn add_members<K: Sink>(&mut self, sink: &mut K, members: &[Name])
-        ensures { AddsText (K.held sink.old) (K.held sink.new)
-            (K.faults sink.old) (K.faults sink.new) self.old self.new (member_lines members.now) }
+        ensures { WritesText (K.state sink.old) (K.state sink.new)
+            (member_lines members.now) self.old self.new }
     {
         for name in members {
             self.add_member(sink, name);
@@ -40,8 +40,8 @@ impl Outgoing {
 
     // Adds the lines of members, where the mode has them.
     pub(crate) fn add_members_in<K: Sink>(&mut self, sink: &mut K, mode: Mode, members: &[Name])
-        ensures { AddsText (K.held sink.old) (K.held sink.new)
-            (K.faults sink.old) (K.faults sink.new) self.old self.new (members_in mode members.now) }
+        ensures { WritesText (K.state sink.old) (K.state sink.new)
+            (members_in mode members.now) self.old self.new }
     {
         match mode {
             Mode::Long => self.add_members(sink, members),
@@ -50,10 +50,10 @@ impl Outgoing {
     }
 
     pub(crate) fn add_step<K: Sink>(&mut self, sink: &mut K, index: u32, step: &Step)
-        ensures { AddsText (K.held sink.old) (K.held sink.new)
-            (K.faults sink.old) (K.faults sink.new) self.old self.new (step_line index step.now) }
+        ensures { WritesText (K.state sink.old) (K.state sink.new)
+            (step_line index step.now) self.old self.new }
     {
-        self.add_numbered(sink, b"step ", index);
+        self.add_number_after(sink, b"step ", index);
         self.add(sink, b" ");
         self.add_step_text(sink, step);
     }

@@ -1,14 +1,14 @@
 ghost use Rattle.std.specs.Prelude.{◌≡◌, ◌<◌, All, IsSomeAnd};
-ghost use Rattle.tap_report.specs.Outgoing.{AddsText};
+ghost use Rattle.tap_report.specs.Written.{WritesText};
 ghost use Rattle.tap_report.specs.Tables.{link_line, link_lines, pointer_line, pointer_lines, pointers_line, table_line, words_of_link, words_of_node};
 
-use crate::outgoing::Outgoing;
+use crate::written::Written;
 use tap_io::Sink;
 use tap_log::{LinkLine, LinkWord, NodeWord, Pair};
 use tap_name::{Name, Settings};
 
 // The lines of tables and pointers.
-impl Outgoing {
+impl Written {
     // Adds the first line of a table with so many links.
     pub(crate) fn add_table<K: Sink>(
         &mut self,
@@ -17,13 +17,13 @@ impl Outgoing {
         status: NodeWord,
         count: usize,
     )
-        ensures { AddsText (K.held sink.old) (K.held sink.new)
-            (K.faults sink.old) (K.faults sink.new) self.old self.new (table_line name.now status count) }
+        ensures { WritesText (K.state sink.old) (K.state sink.new)
+            (table_line name.now status count) self.old self.new }
     {
-        self.add_named(sink, b"table ", name);
+        self.add_name_after(sink, b"table ", name);
         self.add(sink, b" ");
         self.add(sink, node_word(status));
-        self.add_numbered(sink, b" links ", count);
+        self.add_number_after(sink, b" links ", count);
     }
 
     // Adds the lines of links, whose digits are below the base.
@@ -34,8 +34,8 @@ impl Outgoing {
         links: &[LinkLine],
     )
         requires { IsSomeAnd settings.now (λ p. All (λ link. link.slot.digit < p.base) links.now) }
-        ensures { AddsText (K.held sink.old) (K.held sink.new)
-            (K.faults sink.old) (K.faults sink.new) self.old self.new (link_lines links.now) }
+        ensures { WritesText (K.state sink.old) (K.state sink.new)
+            (link_lines links.now) self.old self.new }
     {
         match settings {
             Some(settings) => self.add_links_below(sink, settings, links),
@@ -45,8 +45,8 @@ impl Outgoing {
 
     fn add_links_below<K: Sink>(&mut self, sink: &mut K, settings: &Settings, links: &[LinkLine])
         requires { All (λ link. link.slot.digit < settings.now.base) links.now }
-        ensures { AddsText (K.held sink.old) (K.held sink.new)
-            (K.faults sink.old) (K.faults sink.new) self.old self.new (link_lines links.now) }
+        ensures { WritesText (K.state sink.old) (K.state sink.new)
+            (link_lines links.now) self.old self.new }
     {
         let base = settings.base();
         prove!(base <= 16);
@@ -55,8 +55,8 @@ impl Outgoing {
 
     fn add_links<K: Sink>(&mut self, sink: &mut K, links: &[LinkLine])
         requires { All (λ link. link.slot.digit < 16) links.now }
-        ensures { AddsText (K.held sink.old) (K.held sink.new)
-            (K.faults sink.old) (K.faults sink.new) self.old self.new (link_lines links.now) }
+        ensures { WritesText (K.state sink.old) (K.state sink.new)
+            (link_lines links.now) self.old self.new }
     {
         for link in links {
             self.add_link(sink, link);
@@ -65,13 +65,13 @@ impl Outgoing {
 
     fn add_link<K: Sink>(&mut self, sink: &mut K, link: &LinkLine)
         requires { link.now.slot.digit < 16 }
-        ensures { AddsText (K.held sink.old) (K.held sink.new)
-            (K.faults sink.old) (K.faults sink.new) self.old self.new (link_line link.now) }
+        ensures { WritesText (K.state sink.old) (K.state sink.new)
+            (link_line link.now) self.old self.new }
     {
-        self.add_numbered(sink, b"link ", link.slot.level);
+        self.add_number_after(sink, b"link ", link.slot.level);
         self.add(sink, b" ");
         self.add_digit(sink, link.slot.digit);
-        self.add_named(sink, b" ", &link.name);
+        self.add_name_after(sink, b" ", &link.name);
         self.add(sink, b" ");
         self.add(sink, link_word(link.kind));
         self.end_line(sink);
@@ -79,17 +79,17 @@ impl Outgoing {
 
     // Adds the first line of so many pointers.
     pub(crate) fn add_pointers<K: Sink>(&mut self, sink: &mut K, name: &Name, count: usize)
-        ensures { AddsText (K.held sink.old) (K.held sink.new)
-            (K.faults sink.old) (K.faults sink.new) self.old self.new (pointers_line name.now count) }
+        ensures { WritesText (K.state sink.old) (K.state sink.new)
+            (pointers_line name.now count) self.old self.new }
     {
-        self.add_named(sink, b"pointers ", name);
-        self.add_numbered(sink, b" count ", count);
+        self.add_name_after(sink, b"pointers ", name);
+        self.add_number_after(sink, b" count ", count);
     }
 
     // Adds the lines of pointers.
     pub(crate) fn add_pairs<K: Sink>(&mut self, sink: &mut K, pairs: &[Pair])
-        ensures { AddsText (K.held sink.old) (K.held sink.new)
-            (K.faults sink.old) (K.faults sink.new) self.old self.new (pointer_lines pairs.now) }
+        ensures { WritesText (K.state sink.old) (K.state sink.new)
+            (pointer_lines pairs.now) self.old self.new }
     {
         for pair in pairs {
             self.add_pair(sink, pair);
@@ -97,10 +97,10 @@ impl Outgoing {
     }
 
     fn add_pair<K: Sink>(&mut self, sink: &mut K, pair: &Pair)
-        ensures { AddsText (K.held sink.old) (K.held sink.new)
-            (K.faults sink.old) (K.faults sink.new) self.old self.new (pointer_line pair.now) }
+        ensures { WritesText (K.state sink.old) (K.state sink.new)
+            (pointer_line pair.now) self.old self.new }
     {
-        self.add_two_named(sink, b"pointer ", &pair.object, b" ", &pair.server);
+        self.add_two_names_after(sink, b"pointer ", &pair.object, b" ", &pair.server);
         self.end_line(sink);
     }
 }

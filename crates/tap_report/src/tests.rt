@@ -1,7 +1,7 @@
 use crate::checks::{
     ack, arrived, check_modes, check_text, data, log_of, name, settings, step, taken,
 };
-use crate::{Mode, Written, puts_write_the_text, write_text};
+use crate::{Mode, Reporter, Written, puts_write_the_text, write_text};
 use std::alloc::Global;
 use std::process::Abort;
 use std::test::Fail;
@@ -44,7 +44,7 @@ fn table(alloc: Global, name: Name, digit: u8, target: Name) -> Result<Record, F
     })
 }
 
-// The records of one join behind the beginning, up to the last frame.
+// The records of one join after the beginning, up to the last frame.
 fn join(alloc: Global, old: Name, new: Name) -> Result<Vec<Record>, Fail> {
     let begun = step(
         1,
@@ -333,6 +333,7 @@ fn a_log_is_carried_where_carrier_is_second(rt: HostRuntime) -> Result<(), Fail>
 #[test]
 fn a_text_follows_only_what_was_written(rt: HostRuntime) -> Result<(), Fail> {
     puts_write_the_text();
+    assert!(rt; !Reporter::new(Mode::Long).is_full());
     let mut sink = MemorySink::new(rt.alloc(), 4, 100, &[3])?;
     assert_eq!(rt;
         write_text(&mut sink, Written::All, b"tapestry"),

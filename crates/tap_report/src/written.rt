@@ -7,18 +7,17 @@ use tap_io::{Sink, Took};
 /// Rule: docs/FORMATS.md, "The printed text".
 #[derive(Clone, Copy, Debug, PartialEq, Eq)]
 pub enum Written {
-    /// All was written.
+    /// All was written, and no fault came.
     All,
     /// A write failed, and nothing was written after it.
     Failed,
 }
 
-/// Writes a text, where all before it was written, as `so_far` tells. The first `Failed` comes only where the sink counted
-/// a fault in this call, and some first bytes of the text are then written. Where `so_far` is `Failed`, nothing is written,
-/// and the answer is `Failed`.
+/// Writes a text, if all before it was written, as `so_far` tells. With `All` the sink counted no fault in this call. The
+/// first `Failed` comes only where it counted one, and some first bytes of the text are then written. If `so_far` is
+/// `Failed`, nothing is written, and the answer is `Failed`.
 pub fn write_text<K: Sink>(sink: &mut K, so_far: Written, text: &[u8]) -> Written
-    ensures { WritesText (K.held sink.old) (K.held sink.new)
-        (K.faults sink.old) (K.faults sink.new) text.now so_far result }
+    ensures { WritesText (K.state sink.old) (K.state sink.new) text.now so_far result }
 {
     match so_far {
         Written::Failed => Written::Failed,
@@ -28,8 +27,7 @@ pub fn write_text<K: Sink>(sink: &mut K, so_far: Written, text: &[u8]) -> Writte
 
 // Writes all of a text, or a first part where a write fails.
 fn write_all<K: Sink>(sink: &mut K, text: &[u8]) -> Written
-    ensures { WritesText (K.held sink.old) (K.held sink.new)
-        (K.faults sink.old) (K.faults sink.new) text.now Written.All result }
+    ensures { WritesText (K.state sink.old) (K.state sink.new) text.now Written.All result }
 {
     let mut done = 0;
     while done < text.len() {
@@ -39,4 +37,13 @@ fn write_all<K: Sink>(sink: &mut K, text: &[u8]) -> Written
         }
     }
     Written::All
+}
+
+// Pieces of a text are added to what was written so far.
+impl Written {
+    pub(crate) fn add<K: Sink>(&mut self, sink: &mut K, piece: &[u8])
+        ensures { WritesText (K.state sink.old) (K.state sink.new) piece.now self.old self.new }
+    {
+        *self = write_text(sink, *self, piece);
+    }
 }

@@ -5,51 +5,36 @@ use Rattle.std.proofs.lemmas.Bool.{cases_Bool, and_parts, leb-true, le-leb}
 use Rattle.std.proofs.lemmas.Bool.Decides.{nat_tests}
 use Rattle.std.proofs.lemmas.List.{length-map}
 use Rattle.std.proofs.lemmas.List.Elements.{All-nil, All-cons}
-use Rattle.std.proofs.lemmas.List.Sums.{AllPass-from_list_all, list_all-from_AllPass}
 use Rattle.std.proofs.lemmas.Slice.Eq.{bytes_eq-Decides}
 use Rattle.tap_name.specs.Settings.{SettingsValue}
 use Rattle.tap_name.specs.Digits.{text_of_digit}
 use Rattle.tap_name.specs.Name.{name_of_digits, text_of_name}
 use Rattle.tap_name.proofs.Read.{all_good}
-use Rattle.tap_scenario.specs.Step.{is_word_byte, IsWord, IsPrefix, word_of_bytes, with_digits, prefix_of_word, text_of_prefix}
-use Rattle.tap_scenario.proofs.Names.{no_space_name, name_of_word-text, name_of_word-back}
+use Rattle.tap_name.specs.Word.{IsWord, is_word}
+use Rattle.tap_scenario.specs.Step.{IsPrefix, word_of_bytes, with_digits, prefix_of_word, text_of_prefix}
+use Rattle.tap_name.proofs.Texts.{name_of_word-back, name_of_word-text, text_of_name-no_space}
+use Rattle.tap_name.proofs.Words.{is_word-Decides}
 use Rattle.tap_scenario.proofs.Splits.{HasNoSpace}
 
 -- a word is read as itself
 pub word_of_bytes-word : (word : List ℕ) → IsWord word → word_of_bytes word ≡ Some word
-word_of_bytes-word word is =
-    rw (le-leb 1 (length word) is.some, le-leb (length word) 32 is.few, list_all-from_AllPass is_word_byte word is.bytes) refl
+word_of_bytes-word word is = rw ((is_word-Decides word).1 is) refl
 
 -- bytes that are read as a word are that word
 pub word_of_bytes-back : (bytes word : List ℕ) → word_of_bytes bytes ≡ Some word → (bytes ≡ word) × IsWord word
 word_of_bytes-back bytes word read =
-    elim (cases_Bool (nat_le 1 (length bytes) && nat_le (length bytes) 32 && list_all is_word_byte bytes)) [
+    elim (cases_Bool (is_word bytes)) [
       | inr other ↦ absurd (let failed = rw other at read in cc)
       | inl all ↦
           let whole : Some bytes ≡ Some word = rw all at read in
           let same : bytes ≡ word = cc in
-          let parts = and_parts (nat_le 1 (length bytes) && nat_le (length bytes) 32) (list_all is_word_byte bytes) all in
-          let limits = and_parts (nat_le 1 (length bytes)) (nat_le (length bytes) 32) parts.0 in (
-            same,
-            subst IsWord same (record {
-              some = leb-true 1 (length bytes) limits.0;
-              few = leb-true (length bytes) 32 limits.1;
-              bytes = AllPass-from_list_all is_word_byte bytes parts.1;
-            }),
-          )
+          (same, subst IsWord same ((is_word-Decides bytes).0 all))
     ]
-
-no_space_byte : (byte : ℕ) → is_word_byte byte ≡ true → (byte == 32) ≡ false
-no_space_byte byte is = grind (arith, nat_tests)
-
--- a word has no space
-pub no_space_word : (word : List ℕ) → IsWord word → HasNoSpace word
-no_space_word word is = λ k d h. no_space_byte _ (is.bytes k d h)
 
 -- the text of a prefix has no space
 pub no_space_prefix : (prefix : List ℕ) → HasNoSpace (text_of_prefix prefix)
 no_space_prefix [] = All-cons (λ byte. (byte == 32) ≡ false) 42 [] refl (All-nil (λ byte. (byte == 32) ≡ false))
-no_space_prefix (digit ∷ digits) = no_space_name (digit ∷ digits)
+no_space_prefix (digit ∷ digits) = text_of_name-no_space (digit ∷ digits)
 
 no_star : (digit : ℕ) → (text_of_digit digit == 42) ≡ false
 no_star digit = grind (arith, nat_tests)
@@ -65,7 +50,7 @@ prefix_of_word-text p (digit ∷ digits) small is =
     let some : nat_le 1 (length (text_of_name (digit ∷ digits))) ≡ true = le-leb 1 (length (text_of_name (digit ∷ digits))) (omega arith) in
     let whole =
     name_of_word-text (with_digits (length (text_of_name (digit ∷ digits))) p) (digit ∷ digits) small
-        (record { len = omega arith; below = is.below }) in
+    (record { len = omega arith; below = is.below }) in
     elim (cases_Bool (bytes_eq (text_of_name (digit ∷ digits)) (codes "*"))) [
       | inl star ↦
           let same : text_of_name (digit ∷ digits) ≡ codes "*" = (bytes_eq-Decides (text_of_name (digit ∷ digits)) (codes "*")).0 star in

@@ -2,8 +2,8 @@ pub mod Arrays
 pub mod Casts
 pub mod Keys
 pub mod Members
-pub mod Names
 pub mod Numbers
+pub mod Options
 pub mod Scripts
 pub mod Shapes
 pub mod Splits

@@ -42,8 +42,8 @@ digits-no_space : (digits : List ℕ) → AllDigits 10 digits → HasNoSpace dig
 digits-no_space [] are = All-nil (λ byte. (byte == 32) ≡ false)
 digits-no_space (digit ∷ digits) are =
     All-cons (λ byte. (byte == 32) ≡ false) digit digits
-        (ne_eqb digit 32 (λ space. let below : digit_value 32 < 10 = subst (λ byte. digit_value byte < 10) space are.0 in
-        absurd (omega arith))) (digits-no_space digits are.1)
+    (ne_eqb digit 32 (λ space. let below : digit_value 32 < 10 = subst (λ byte. digit_value byte < 10) space are.0 in
+    absurd (omega arith))) (digits-no_space digits are.1)
 
 -- the text of a number has no space
 pub no_space_decimal : (n : ℕ) → n < 2 ^ 64 → HasNoSpace (decimal n)

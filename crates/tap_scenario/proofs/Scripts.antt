@@ -1,5 +1,5 @@
 -- what is read is within its limits
-use Rattle.std.proofs.Common.{◌≡◌, ◌∙◌, ◌&&◌, not, ℕ, suc, ◌+◌, ◌≤◌, nat_le, true, false, IsTrue, bytes_eq, pos, negsuc, arith, List, [], ◌∷◌, length, All, Option, None, Some, Result, Ok, Err, refl, ap, sym, inl, inr}
+use Rattle.std.proofs.Common.{◌≡◌, ◌∙◌, ◌&&◌, not, ℕ, suc, ◌+◌, ◌≤◌, nat_le, true, false, IsTrue, bytes_eq, pos, negsuc, arith, List, [], ◌∷◌, length, All, if◌then◌else◌, Option, None, Some, Result, Ok, Err, refl, ap, sym, inl, inr}
 use Rattle.std.specs.List.{list_any}
 use Rattle.std.specs.Option.{ok_or, option_and_then, is_some}
 use Rattle.std.proofs.lemmas.Bool.{cases_Bool, and_parts, or_parts, leb-true, not-true}
@@ -9,7 +9,8 @@ use Rattle.std.proofs.lemmas.List.Kept.{AllPairs-cons}
 use Rattle.std.proofs.lemmas.Slice.Eq.{bytes_eq-Decides}
 use Rattle.toml.specs.Data.{Data, string, integer, float, boolean, datetime, array, table, Members as Table}
 use Rattle.tap_name.specs.Settings.{SettingsValue, AreWithinLimits}
-use Rattle.tap_name.specs.Name.{IsName}
+use Rattle.tap_name.specs.Name.{IsName, name_of_word}
+use Rattle.tap_name.specs.Names.{are_distinct, AreDistinct}
 use Rattle.tap_scenario.specs.declared.fault.Key.{Key}
 use Rattle.tap_scenario.specs.declared.fault.Key.TheVariants.{Base, Digits, Width, Frames, Members, Steps}
 use Rattle.tap_scenario.specs.declared.fault.Fault.{Fault}
@@ -17,23 +18,19 @@ use Rattle.tap_scenario.specs.declared.fault.Fault.TheVariants.{BadValue, BadSte
 use Rattle.tap_scenario.specs.declared.step.Step.{Step}
 use Rattle.tap_scenario.specs.Document.{read_at, settings_of, default_frames, frames_of, members_of, if_runs, numbered_step, steps_from, steps_of}
 use Rattle.tap_scenario.specs.Key.{value_at}
-use Rattle.tap_name.specs.Distinct.{AreDistinct}
-use Rattle.tap_scenario.specs.Scenario.{IsScript, most_frames}
-use Rattle.tap_scenario.specs.Step.{IsStep, name_of_word, step_of_text, can_run}
+use Rattle.tap_scenario.specs.Scenario.{IsScript, most_frames, most_members, most_steps}
+use Rattle.tap_scenario.specs.Step.{IsStep, step_of_text, can_run}
 use Rattle.tap_scenario.specs.Fault.{◌>>=◌, cons_result}
-use Rattle.tap_scenario.specs.Value.{whole_number, array_of_strings, are_distinct, cons_both, names_of, distinct_names, members_of_texts}
-use Rattle.tap_scenario.proofs.Names.{name_of_word-back}
-use Rattle.tap_scenario.proofs.Shapes.{and_then-back}
+use Rattle.tap_scenario.specs.Value.{whole_number, array_of_strings, strings_up_to, cons_both, names_of, distinct_names, members_of_texts}
+use Rattle.tap_name.proofs.Membership.{are_distinct-Decides}
+use Rattle.tap_name.proofs.Texts.{name_of_word-back}
+use Rattle.tap_scenario.proofs.Options.{and_then-back, ok_or-Ok}
 use Rattle.tap_scenario.proofs.Steps.{step_of_text-back}
 
 then-Ok : {A B : Type 0} (r : Result A Fault) (next : A → Result B Fault) (y : B) → (r >>= next) ≡ Ok y
     → (x : A) × (r ≡ Ok x) × (next x ≡ Ok y)
 then-Ok (Ok x) next y e = (x, refl, e)
 then-Ok (Err fault) next y e = absurd (cc)
-
-ok_or-Ok : {A : Type 0} (o : Option A) (fault : Fault) (x : A) → ok_or o fault ≡ Ok x → o ≡ Some x
-ok_or-Ok None fault x e = absurd (cc)
-ok_or-Ok (Some y) fault x e = cc
 
 whole_number-limits : (low high : ℕ) (value : Data) (n : ℕ) → whole_number low high value ≡ Some n → (low ≤ n) × (n ≤ high)
 whole_number-limits low high (integer (pos m)) n e =
@@ -98,36 +95,22 @@ names_of-names p (text ∷ others) names small e =
     let rest = names_of-names p others parts.1 small parts.3 in
     rw (← parts.4) (ap suc rest.0, All-cons (IsName p) parts.0 parts.1 first.1 rest.1)
 
-differ : (name : List ℕ) (others : List (List ℕ)) → list_any (λ other. bytes_eq other name) others ≡ false
-    → All (λ other. name ≡ other → ⊥) others
-differ name [] e = All-nil (λ other. name ≡ other → ⊥)
-differ name (other ∷ others) e =
-    let parts = or_parts (bytes_eq other name) (list_any (λ o. bytes_eq o name) others) e in
-    All-cons (λ o. name ≡ o → ⊥) other others (λ same. let yes = (bytes_eq-Decides other name).1 (sym same) in absurd (cc))
-        (differ name others parts.1)
-
-AreDistinct-test : (names : List (List ℕ)) → are_distinct names ≡ true → AreDistinct names
-AreDistinct-test [] e = λ i j d l m. absurd (omega arith)
-AreDistinct-test (name ∷ others) e =
-    let parts = and_parts (not (list_any (λ other. bytes_eq other name) others)) (are_distinct others) e in
-    AllPairs-cons (λ x y. x ≡ y → ⊥) name others (differ name others (not-true _ parts.0)) (AreDistinct-test others parts.1)
-
 -- what a script has of its members
 record AreMembers (p : SettingsValue) (names : List (List ℕ)) : Type 0 where
   from : 1 ≤ length names
-  to : length names ≤ 64
+  to : length names ≤ most_members
   are_names : All (IsName p) names
   distinct : AreDistinct names
 
 members_of_texts-limits : (p : SettingsValue) (texts names : List (List ℕ)) → p.base ≤ 16 → members_of_texts p texts ≡ Some names
     → AreMembers p names
 members_of_texts-limits p texts names small e =
-    elim (cases_Bool (nat_le 1 (length texts) && nat_le (length texts) 64)) [
+    elim (cases_Bool (nat_le 1 (length texts) && nat_le (length texts) most_members)) [
       | inr out ↦ absurd (let none : None ≡ Some names = rw out at e in cc)
       | inl within ↦
-          let tests = and_parts (nat_le 1 (length texts)) (nat_le (length texts) 64) within in
+          let tests = and_parts (nat_le 1 (length texts)) (nat_le (length texts) most_members) within in
           let from = leb-true 1 (length texts) tests.0 in
-          let to = leb-true (length texts) 64 tests.1 in
+          let to = leb-true (length texts) most_members tests.1 in
           let found = and_then-back distinct_names (names_of p texts) names (rw within at e) in
           let read = names_of-names p texts found.0 small found.1 in
           elim (cases_Bool (are_distinct found.0)) [
@@ -135,8 +118,13 @@ members_of_texts-limits p texts names small e =
             | inl distinct ↦
                 let whole : Some found.0 ≡ Some names = rw distinct at found.2 in
                 let same : found.0 ≡ names = cc in
-                rw (← same) (record { from = omega arith; to = omega arith; are_names = read.1; distinct =
-                    AreDistinct-test found.0 distinct })
+                rw (← same) (record {
+                  from = omega arith;
+                  to = omega arith;
+                  are_names = read.1;
+                  distinct =
+                      (are_distinct-Decides found.0).0 distinct;
+                })
           ]
     ]
 
@@ -164,32 +152,42 @@ if_runs-Some read step e =
     ]
 
 numbered_step-Ok : (p : SettingsValue) (number : ℕ) (text : List ℕ) (step : Step) → p.base ≤ 16 → numbered_step p number text ≡ Ok step
-    → (number ≤ 10000) × IsRunning p step
+    → IsRunning p step
 numbered_step-Ok p number text step small e =
-    elim (cases_Bool (nat_le number 10000)) [
-      | inr out ↦ absurd (let none : Err (BadStep number) ≡ Ok step = rw out at e in cc)
-      | inl within ↦
-          let told = ok_or-Ok (option_and_then if_runs (step_of_text p false text)) (BadStep number) step (rw within at e) in
-          let read = and_then-back if_runs (step_of_text p false text) step told in
-          let runs = if_runs-Some read.0 step read.2 in
-          (leb-true number 10000 within, record { is_step = (step_of_text-back p false text step small (read.1 ∙ ap Some runs.0)).1; runs =
-              runs.1 })
-    ]
+    let told = ok_or-Ok (option_and_then if_runs (step_of_text p false text)) (BadStep number) step e in
+    let read = and_then-back if_runs (step_of_text p false text) step told in
+    let runs = if_runs-Some read.0 step read.2 in
+    record { is_step = (step_of_text-back p false text step small (read.1 ∙ ap Some runs.0)).1; runs = runs.1 }
 
-steps_from-limits : (p : SettingsValue) (number : ℕ) (texts : List (List ℕ)) (steps : List Step) → p.base ≤ 16 → number ≤ 10001
-    → steps_from p number texts ≡ Ok steps → (number + length steps ≤ 10001) × All (IsRunning p) steps
-steps_from-limits p number [] steps small few e = let none : [] ≡ steps = cc in rw (← none) (omega arith, All-nil (IsRunning p))
-steps_from-limits p number (text ∷ others) steps small few e =
+steps_from-limits : (p : SettingsValue) (number : ℕ) (texts : List (List ℕ)) (steps : List Step) → p.base ≤ 16
+    → steps_from p number texts ≡ Ok steps → (length steps ≡ length texts) × All (IsRunning p) steps
+steps_from-limits p number [] steps small e = let none : [] ≡ steps = cc in rw (← none) (refl, All-nil (IsRunning p))
+steps_from-limits p number (text ∷ others) steps small e =
     let parts = cons_result-Ok (numbered_step p number text) (steps_from p (number + 1) others) steps e in
     let first = numbered_step-Ok p number text parts.0 small parts.2 in
-    let rest = steps_from-limits p (number + 1) others parts.1 small (omega arith) parts.3 in
-    rw (← parts.4) (omega arith, All-cons (IsRunning p) parts.0 parts.1 first.1 rest.1)
+    let rest = steps_from-limits p (number + 1) others parts.1 small parts.3 in
+    rw (← parts.4) (ap suc rest.0, All-cons (IsRunning p) parts.0 parts.1 first rest.1)
+
+strings_up_to-few : (most : ℕ) (value : Data) (texts : List (List ℕ)) → strings_up_to most value ≡ Some texts → length texts ≤ most
+strings_up_to-few most value texts e =
+    let test = λ (read : List (List ℕ)). if nat_le (length read) most then Some read else None in
+    let found = and_then-back test (array_of_strings value) texts e in
+    elim (cases_Bool (nat_le (length found.0) most)) [
+      | inr many ↦ absurd (let none : None ≡ Some texts = rw many at found.2 in cc)
+      | inl few ↦
+          let whole : Some found.0 ≡ Some texts = rw few at found.2 in
+          let same : found.0 ≡ texts = cc in
+          rw (← same) (leb-true (length found.0) most few)
+    ]
 
 steps_of-limits : (p : SettingsValue) (t : Table) (steps : List Step) → p.base ≤ 16 → steps_of p t ≡ Ok steps
-    → (length steps ≤ 10000) × All (IsRunning p) steps
+    → (length steps ≤ most_steps) × All (IsRunning p) steps
 steps_of-limits p t steps small e =
-    let texts = then-Ok (read_at Steps array_of_strings t) _ steps e in
-    let read = steps_from-limits p 1 texts.0 steps small (omega arith) texts.2 in
+    let texts = then-Ok (read_at Steps (strings_up_to most_steps) t) _ steps e in
+    let told = ok_or-Ok (option_and_then (strings_up_to most_steps) (value_at Steps t)) (BadValue Steps) texts.0 texts.1 in
+    let value = and_then-back (strings_up_to most_steps) (value_at Steps t) texts.0 told in
+    let few = strings_up_to-few most_steps value.0 texts.0 value.2 in
+    let read = steps_from-limits p 1 texts.0 steps small texts.2 in
     (omega arith, read.1)
 
 -- the parts that a table gives are a script's

@@ -4,26 +4,11 @@ use Rattle.std.specs.Option.{option_zip, option_and_then}
 use Rattle.std.proofs.lemmas.Bool.{cases_Bool}
 use Rattle.std.proofs.lemmas.Slice.Eq.{bytes_eq-Decides}
 use Rattle.tap_name.specs.Settings.{SettingsValue}
-use Rattle.tap_name.specs.Name.{IsName, text_of_name}
-use Rattle.tap_scenario.specs.Step.{name_of_word, number_below, one_name, two_names, one_number, two_numbers, only}
-use Rattle.tap_scenario.proofs.Names.{name_of_word-text, name_of_word-back}
+use Rattle.tap_name.specs.Name.{IsName, name_of_word, text_of_name}
+use Rattle.tap_scenario.specs.Step.{number_below, one_name, two_names, one_number, two_numbers, only}
+use Rattle.tap_name.proofs.Texts.{name_of_word-back, name_of_word-text}
+use Rattle.tap_scenario.proofs.Options.{option_map-back, option_zip-back}
 use Rattle.tap_scenario.proofs.Numbers.{number_below-decimal, number_below-back}
-
-pub option_map-back : {A B : Type 0} (f : A → B) (o : Option A) (y : B) → option_map f o ≡ Some y → (x : A) × (o ≡ Some x) × (f x ≡ y)
-option_map-back f None y mapped = absurd (cc)
-option_map-back f (Some x) y mapped = (x, refl, cc)
-
-pub option_zip-back : {A B : Type 0} (a : Option A) (b : Option B) (pair : A × B) → option_zip a b ≡ Some pair
-    → (a ≡ Some pair.0) × (b ≡ Some pair.1)
-option_zip-back None b pair zipped = absurd (cc)
-option_zip-back (Some x) None pair zipped = absurd (cc)
-option_zip-back (Some x) (Some y) pair zipped =
-    let same : (x, y) ≡ pair = cc in (ap (λ both. Some both.0) same, ap (λ both. Some both.1) same)
-
-pub and_then-back : {A B : Type 0} (f : A → Option B) (o : Option A) (y : B) → option_and_then f o ≡ Some y
-    → (x : A) × (o ≡ Some x) × (f x ≡ Some y)
-and_then-back f None y e = absurd (cc)
-and_then-back f (Some x) y e = (x, refl, e)
 
 pub only-back : {A : Type 0} (step other : A) (others : List (List ℕ)) → only step others ≡ Some other → (others ≡ []) × (step ≡ other)
 only-back step other [] read = (refl, cc)

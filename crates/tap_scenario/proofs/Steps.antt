@@ -7,7 +7,7 @@ use Rattle.std.proofs.lemmas.List.Sums.{AllPass-from_list_all}
 use Rattle.std.proofs.lemmas.List.Splits.{join_with_byte-slice_split}
 use Rattle.std.proofs.lemmas.Slice.Eq.{bytes_eq-Decides}
 use Rattle.tap_name.specs.Settings.{SettingsValue}
-use Rattle.tap_name.specs.Name.{IsName, text_of_name}
+use Rattle.tap_name.specs.Name.{IsName, name_of_word, text_of_name}
 use Rattle.tap_scenario.specs.declared.kind.NameKind.{NameKind}
 use Rattle.tap_scenario.specs.declared.kind.NameKind.TheVariants as named
 use Rattle.tap_scenario.specs.declared.kind.PairKind.{PairKind}
@@ -19,12 +19,14 @@ use Rattle.tap_scenario.specs.declared.kind.Kind.TheVariants as shape
 use Rattle.tap_scenario.specs.declared.step.Step.{Step}
 use Rattle.tap_scenario.specs.declared.step.Step.TheVariants.{Join, Depart, Publish, Withdraw, Find, Walk, Root, Deliver, Settle, SettleNewest, SettleMixed, Table, Pointers, Garble, Cut, Abandon, Tick, Lose, Repeat, RootSet, Cast}
 use Rattle.tap_scenario.specs.Kind.{kinds, text_of_kind, link_of_pair, kind_of_word, is_there}
-use Rattle.tap_scenario.specs.Step.{IsStep, text_of_prefix, text_of_step, name_of_word, number_below, word_of_bytes, prefix_of_word, one_name, two_names, one_number, two_numbers, only, settle_of_words, garble_of_words, cast_of_words, step_of_name, step_of_pair, step_of_place, step_of_kind, step_of_words, step_of_text}
+use Rattle.tap_scenario.specs.Step.{IsStep, text_of_prefix, text_of_step, number_below, word_of_bytes, prefix_of_word, one_name, two_names, one_number, two_numbers, only, settle_of_words, garble_of_words, cast_of_words, step_of_name, step_of_pair, step_of_place, step_of_kind, step_of_words, step_of_text}
 use Rattle.tap_scenario.specs.Words.{words}
-use Rattle.tap_scenario.proofs.Names.{no_space_name, name_of_word-text, name_of_word-back}
+use Rattle.tap_name.proofs.Texts.{name_of_word-back, name_of_word-text, text_of_name-no_space}
+use Rattle.tap_name.proofs.Words.{word-no_space}
 use Rattle.tap_scenario.proofs.Numbers.{number_below-decimal, number_below-back, no_space_decimal}
-use Rattle.tap_scenario.proofs.Casts.{word_of_bytes-word, word_of_bytes-back, no_space_word, no_space_prefix, prefix_of_word-text, prefix_of_word-back}
-use Rattle.tap_scenario.proofs.Shapes.{option_map-back, option_zip-back, and_then-back, only-back, one_name-back, two_names-text, two_names-back, one_number-back, two_numbers-text, two_numbers-back}
+use Rattle.tap_scenario.proofs.Casts.{word_of_bytes-word, word_of_bytes-back, no_space_prefix, prefix_of_word-text, prefix_of_word-back}
+use Rattle.tap_scenario.proofs.Options.{and_then-back, find-passes, option_map-back, option_zip-back}
+use Rattle.tap_scenario.proofs.Shapes.{only-back, one_name-back, two_names-text, two_names-back, one_number-back, two_numbers-text, two_numbers-back}
 use Rattle.tap_scenario.proofs.Splits.{HasNoSpace, words-join}
 
 -- the words of a step
@@ -81,14 +83,14 @@ no_space word passes = λ k d h. not-true _ (AllPass-from_list_all (λ byte. not
 
 words-name : (first name : List ℕ) → list_all (λ byte. not (byte == 32)) first ≡ true
     → words (join_with_byte 32 (first ∷ text_of_name name ∷ [])) ≡ first ∷ text_of_name name ∷ []
-words-name first name passes = words-join _ _ (no_space first passes) (no_space_name name, tt)
+words-name first name passes = words-join _ _ (no_space first passes) (text_of_name-no_space name, tt)
 
 words-names : (first name link other : List ℕ) → list_all (λ byte. not (byte == 32)) first ≡ true
     → list_all (λ byte. not (byte == 32)) link ≡ true
     → words (join_with_byte 32 (first ∷ text_of_name name ∷ link ∷ text_of_name other ∷ [])) ≡ first ∷ text_of_name name ∷ link
     ∷ text_of_name other ∷ []
 words-names first name link other passes unspaced =
-    words-join _ _ (no_space first passes) (no_space_name name, (no_space link unspaced, (no_space_name other, tt)))
+    words-join _ _ (no_space first passes) (text_of_name-no_space name, (no_space link unspaced, (text_of_name-no_space other, tt)))
 
 words-number : (first : List ℕ) (n : ℕ) → list_all (λ byte. not (byte == 32)) first ≡ true → n < 2 ^ 64
     → words (join_with_byte 32 (first ∷ decimal n ∷ [])) ≡ first ∷ decimal n ∷ []
@@ -111,8 +113,10 @@ words-join_step p carrier (SettleMixed seed) is =
 words-join_step p carrier (Table name) is = words-name (codes "table") name refl
 words-join_step p carrier (Pointers name) is = words-name (codes "pointers") name refl
 words-join_step p carrier (Garble place at byte) is =
-    words-join _ _ (no_space (codes "garble") refl) (no_space_decimal place (omega arith),
-        (no_space_decimal at (omega arith), (no_space_decimal byte (omega arith), tt)))
+    words-join _ _ (no_space (codes "garble") refl) (
+      no_space_decimal place (omega arith),
+      (no_space_decimal at (omega arith), (no_space_decimal byte (omega arith), tt)),
+    )
 words-join_step p carrier (Cut place bytes) is =
     words-join _ _ (no_space (codes "cut") refl) (no_space_decimal place (omega arith), (no_space_decimal bytes (omega arith), tt))
 words-join_step p carrier (Abandon name) is = words-name (codes "abandon") name refl
@@ -121,8 +125,10 @@ words-join_step p carrier (Lose place) is = words-number (codes "lose") place re
 words-join_step p carrier (Repeat place) is = words-number (codes "repeat") place refl (omega arith)
 words-join_step p carrier (RootSet object asker) is = words-names (codes "rootset") object (codes "from") asker refl refl
 words-join_step p carrier (Cast word prefix asker) is =
-    words-join _ _ (no_space (codes "cast") refl) (no_space_word word is.0,
-        (no_space (codes "to") refl, (no_space_prefix prefix, (no_space (codes "from") refl, (no_space_name asker, tt)))))
+    words-join _ _ (no_space (codes "cast") refl) (
+      word-no_space word is.0,
+      (no_space (codes "to") refl, (no_space_prefix prefix, (no_space (codes "from") refl, (text_of_name-no_space asker, tt)))),
+    )
 
 -- the words of a step's text
 words-text_of_step : (p : SettingsValue) (carrier : Bool) (step : Step) → IsStep p carrier step
@@ -157,12 +163,12 @@ step_of_words-words p false (Garble place at byte) small is =
     let first = number_below-decimal (2 ^ 32) place (decimal place) (omega arith) (omega arith) refl in
     let others = two_numbers-text (2 ^ 32) 256 at byte (omega arith) (omega arith) (omega arith) (omega arith) in
     ap (λ numbers. option_map (λ n. Garble n.0 n.1.0 n.1.1)
-        (option_zip numbers (two_numbers (2 ^ 32) 256 (decimal at ∷ decimal byte ∷ [])))) first
+    (option_zip numbers (two_numbers (2 ^ 32) 256 (decimal at ∷ decimal byte ∷ [])))) first
     ∙ ap (λ numbers. option_map (λ n. Garble n.0 n.1.0 n.1.1) (option_zip (Some place) numbers)) others
 step_of_words-words p true (Cut place bytes) small is = absurd (let other : true ≡ false = is.0 in cc)
 step_of_words-words p false (Cut place bytes) small is =
     ap (option_map (λ numbers. Cut numbers.0 numbers.1))
-        (two_numbers-text (2 ^ 32) (2 ^ 32) place bytes (omega arith) (omega arith) (omega arith) (omega arith))
+    (two_numbers-text (2 ^ 32) (2 ^ 32) place bytes (omega arith) (omega arith) (omega arith) (omega arith))
 step_of_words-words p carrier (Abandon name) small is = ap (option_map Abandon) (name_of_word-text p name small is)
 step_of_words-words p true Tick small is = refl
 step_of_words-words p false Tick small is = absurd (let other : false ≡ true = is in cc)
@@ -237,7 +243,7 @@ settle_step p carrier (word ∷ others) step read =
           let back = one_number-back (2 ^ 64) others made.0 made.1 in
           let is : word ≡ codes "mixed" = (bytes_eq-Decides word (codes "mixed")).0 mixed in
           same_words p carrier (codes "settle") (word ∷ others) (codes "mixed" ∷ decimal made.0 ∷ []) (SettleMixed made.0) step
-              (same_first word (codes "mixed") others (decimal made.0 ∷ []) is back.0) made.2 (refl, back.1)
+          (same_first word (codes "mixed") others (decimal made.0 ∷ []) is back.0) made.2 (refl, back.1)
       | inr other ↦
           elim (cases_Bool (bytes_eq word (codes "newest"))) [
             | inr neither ↦ absurd (let failed = rw (other, neither) at read in cc)
@@ -245,7 +251,7 @@ settle_step p carrier (word ∷ others) step read =
                 let back = only-back SettleNewest step others (rw (other, newest) at read) in
                 let is : word ≡ codes "newest" = (bytes_eq-Decides word (codes "newest")).0 newest in
                 same_words p carrier (codes "settle") (word ∷ others) (codes "newest" ∷ []) SettleNewest step
-                    (same_first word (codes "newest") others [] is back.0) back.1 (refl, tt)
+                (same_first word (codes "newest") others [] is back.0) back.1 (refl, tt)
           ]
     ]
 
@@ -259,9 +265,9 @@ garble_step p (word ∷ others) step read =
     let first = number_below-back (2 ^ 32) made.0.0 word zipped.0 in
     let more = two_numbers-back (2 ^ 32) 256 others made.0.1 zipped.1 in
     same_words p false (codes "garble") (word ∷ others) (decimal made.0.0 ∷ decimal made.0.1.0 ∷ decimal made.0.1.1 ∷ [])
-        (Garble made.0.0 made.0.1.0 made.0.1.1) step
+    (Garble made.0.0 made.0.1.0 made.0.1.1) step
     (same_first word (decimal made.0.0) others (decimal made.0.1.0 ∷ decimal made.0.1.1 ∷ []) first.0 more.0) made.2
-        (refl, (refl, first.1, more.1, more.2))
+    (refl, (refl, first.1, more.1, more.2))
 
 cut_step : (p : SettingsValue) (others : List (List ℕ)) (step : Step)
     → option_map (λ numbers. Cut numbers.0 numbers.1) (two_numbers (2 ^ 32) (2 ^ 32) others) ≡ Some step
@@ -270,7 +276,7 @@ cut_step p others step read =
     let made = option_map-back (λ numbers. Cut numbers.0 numbers.1) (two_numbers (2 ^ 32) (2 ^ 32) others) step read in
     let back = two_numbers-back (2 ^ 32) (2 ^ 32) others made.0 made.1 in
     same_words p false (codes "cut") others (decimal made.0.0 ∷ decimal made.0.1 ∷ []) (Cut made.0.0 made.0.1) step back.0 made.2
-        (refl, (refl, back.1, back.2))
+    (refl, (refl, back.1, back.2))
 
 tick_step : (p : SettingsValue) (others : List (List ℕ)) (step : Step) → only Tick others ≡ Some step
     → IsWordsOfStep p true (codes "tick" ∷ others) step
@@ -293,15 +299,15 @@ cast_step p carrier (a ∷ b ∷ c ∷ d ∷ e ∷ []) step small read =
           let from : d ≡ codes "from" = (bytes_eq-Decides d (codes "from")).0 tests.1 in
           let made =
           option_map-back (λ parts. Cast parts.0 parts.1.0 parts.1.1)
-              (option_zip (word_of_bytes a) (option_zip (prefix_of_word p c) (name_of_word p e))) step (rw both at read) in
+          (option_zip (word_of_bytes a) (option_zip (prefix_of_word p c) (name_of_word p e))) step (rw both at read) in
           let zipped = option_zip-back (word_of_bytes a) (option_zip (prefix_of_word p c) (name_of_word p e)) made.0 made.1 in
           let more = option_zip-back (prefix_of_word p c) (name_of_word p e) made.0.1 zipped.1 in
           let word = word_of_bytes-back a made.0.0 zipped.0 in
           let prefix = prefix_of_word-back p c made.0.1.0 small more.0 in
           let asker = name_of_word-back p e made.0.1.1 small more.1 in
           same_words p carrier (codes "cast") (a ∷ b ∷ c ∷ d ∷ e ∷ [])
-              (made.0.0 ∷ codes "to" ∷ text_of_prefix made.0.1.0 ∷ codes "from" ∷ text_of_name made.0.1.1 ∷ [])
-                  (Cast made.0.0 made.0.1.0 made.0.1.1) step
+          (made.0.0 ∷ codes "to" ∷ text_of_prefix made.0.1.0 ∷ codes "from" ∷ text_of_name made.0.1.1 ∷ [])
+          (Cast made.0.0 made.0.1.0 made.0.1.1) step
           (cc (word.0, to, prefix.0, from, asker.0)) made.2 (refl, (word.1, prefix.1, asker.1))
     ]
 cast_step p carrier (a ∷ b ∷ c ∷ d ∷ e ∷ f ∷ others) step small read = absurd (cc)
@@ -313,18 +319,18 @@ step_of_kind-back p carrier (shape.Name kind) others step small there read =
     let made = option_map-back (step_of_name kind) (one_name p others) step read in
     let back = one_name-back p others made.0 small made.1 in
     same_words p carrier (text_of_kind (shape.Name kind)) others (text_of_name made.0 ∷ []) (step_of_name kind made.0) step back.0 made.2
-        (name_step p carrier kind made.0 back.1)
+    (name_step p carrier kind made.0 back.1)
 step_of_kind-back p carrier (shape.Pair kind) others step small there read =
     let made = option_map-back (λ names. step_of_pair kind names.0 names.1) (two_names p (link_of_pair kind) others) step read in
     let back = two_names-back p (link_of_pair kind) others made.0 small made.1 in
     same_words p carrier (text_of_kind (shape.Pair kind)) others (text_of_name made.0.0 ∷ link_of_pair kind ∷ text_of_name made.0.1 ∷ [])
-        (step_of_pair kind made.0.0 made.0.1) step back.0 made.2
+    (step_of_pair kind made.0.0 made.0.1) step back.0 made.2
     (pair_step p carrier kind made.0.0 made.0.1 there back.1)
 step_of_kind-back p carrier (shape.Place kind) others step small there read =
     let made = option_map-back (step_of_place kind) (one_number (2 ^ 32) others) step read in
     let back = one_number-back (2 ^ 32) others made.0 made.1 in
     same_words p carrier (text_of_kind (shape.Place kind)) others (decimal made.0 ∷ []) (step_of_place kind made.0) step back.0 made.2
-        (place_step p carrier kind made.0 there back.1)
+    (place_step p carrier kind made.0 there back.1)
 step_of_kind-back p carrier shape.Settle others step small there read = settle_step p carrier others step read
 step_of_kind-back p true shape.Garble others step small there read = absurd (let other : false ≡ true = there in cc)
 step_of_kind-back p false shape.Garble others step small there read = garble_step p others step read
@@ -333,14 +339,6 @@ step_of_kind-back p false shape.Cut others step small there read = cut_step p ot
 step_of_kind-back p true shape.Tick others step small there read = tick_step p others step read
 step_of_kind-back p false shape.Tick others step small there read = absurd (let other : false ≡ true = there in cc)
 step_of_kind-back p carrier shape.Cast others step small there read = cast_step p carrier others step small read
-
-find-passes : {X : Type 0} (test : X → Bool) (xs : List X) (x : X) → find test xs ≡ Some x → test x ≡ true
-find-passes test [] x found = absurd (cc)
-find-passes test (y ∷ ys) x found =
-    elim (cases_Bool (test y)) [
-      | inl passes ↦ let whole : Some y ≡ Some x = rw passes at found in let same : y ≡ x = cc in rw (← same) passes
-      | inr fails ↦ find-passes test ys x (rw fails at found)
-    ]
 
 step_of_words-back : (p : SettingsValue) (carrier : Bool) (read : List (List ℕ)) (step : Step) → p.base ≤ 16
     → step_of_words p carrier read ≡ Some step → IsWordsOfStep p carrier read step

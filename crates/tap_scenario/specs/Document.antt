@@ -10,10 +10,10 @@ use Rattle.tap_scenario.specs.declared.fault.Fault.{Fault}
 use Rattle.tap_scenario.specs.declared.fault.Fault.TheVariants.{NotUtf8, NotToml, BadKey, BadValue, BadStep}
 use Rattle.tap_scenario.specs.declared.step.Step.{Step}
 use Rattle.tap_scenario.specs.Key.{value_at, wrong_key}
-use Rattle.tap_scenario.specs.Scenario.{ScenarioValue, most_frames}
+use Rattle.tap_scenario.specs.Scenario.{ScenarioValue, most_frames, most_steps}
 use Rattle.tap_scenario.specs.Step.{step_of_text, can_run}
 use Rattle.tap_scenario.specs.Fault.{◌>>=◌, cons_result}
-use Rattle.tap_scenario.specs.Value.{whole_number, array_of_strings, members_of_texts}
+use Rattle.tap_scenario.specs.Value.{whole_number, array_of_strings, strings_up_to, members_of_texts}
 
 -- what the value under a key is read as, where it is as it has to be
 abbrev pub read_at : {A : Type 0} → Key → (Data → Option A) → Table → Result A Fault
@@ -44,11 +44,9 @@ members_of p table = read_at Members array_of_strings table >>= (λ texts. ok_or
 abbrev pub if_runs : Step → Option Step
 if_runs step = if can_run step then Some step else None
 
--- the step of the string of this number, which is at most 10,000
+-- the step of the string of this number
 abbrev pub numbered_step : SettingsValue → ℕ → List ℕ → Result Step Fault
-numbered_step p number text =
-    if nat_le number 10000 then ok_or (option_and_then if_runs (step_of_text p false text)) (BadStep number)
-    else Err (BadStep number)
+numbered_step p number text = ok_or (option_and_then if_runs (step_of_text p false text)) (BadStep number)
 
 -- the steps so far and this one, or its fault
 abbrev pub with_step : List Step → Result Step Fault → Result (List Step) Fault
@@ -62,7 +60,7 @@ steps_from p number (text ∷ others) = cons_result (numbered_step p number text
 
 -- the steps that a table gives, counted from 1
 abbrev pub steps_of : SettingsValue → Table → Result (List Step) Fault
-steps_of p table = read_at Steps array_of_strings table >>= steps_from p 1
+steps_of p table = read_at Steps (strings_up_to most_steps) table >>= steps_from p 1
 
 -- the scenario of a table whose keys are right
 abbrev pub script_of : Table → Result ScenarioValue Fault

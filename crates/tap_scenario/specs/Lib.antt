@@ -1,9 +1,10 @@
+pub mod Word
 pub mod Prefix
-pub mod Places
 pub mod Key
 pub mod Words
 pub mod Kind
 pub mod Step
+pub mod Wording
 pub mod Scenario
 pub mod Value
 pub mod Fault

@@ -2,7 +2,7 @@
 use Rattle.std.specs.Prelude.{ℕ, ◌≤◌, nat_le, false, IsTrue, if◌then◌else◌, List, length, All}
 use Rattle.tap_name.specs.Settings.{SettingsValue, AreWithinLimits}
 use Rattle.tap_name.specs.Name.{IsName}
-use Rattle.tap_name.specs.Distinct.{AreDistinct}
+use Rattle.tap_name.specs.Names.{AreDistinct}
 use Rattle.tap_scenario.specs.declared.step.Step.{Step}
 use Rattle.tap_scenario.specs.Step.{IsStep, can_run}
 
@@ -12,6 +12,14 @@ pub record ScenarioValue : Type 0 where
   pub frames : ℕ
   pub members : List (List ℕ)
   pub steps : List Step
+
+-- the most members of a scenario
+abbrev pub most_members : ℕ
+most_members = 64
+
+-- the most steps of a scenario
+abbrev pub most_steps : ℕ
+most_steps = 10000
 
 -- the most frames that a run may send, by the number of digits
 abbrev pub most_frames : ℕ → ℕ
@@ -23,9 +31,9 @@ pub record IsScript (s : ScenarioValue) : Type 0 where
   pub frames_from : 1 ≤ s.frames
   pub frames_to : s.frames ≤ most_frames s.settings.digits
   pub members_from : 1 ≤ length s.members
-  pub members_to : length s.members ≤ 64
+  pub members_to : length s.members ≤ most_members
   pub members : All (IsName s.settings) s.members
   pub distinct : AreDistinct s.members
-  pub steps_to : length s.steps ≤ 10000
+  pub steps_to : length s.steps ≤ most_steps
   pub steps : All (IsStep s.settings false) s.steps
   pub runs : All (λ step. IsTrue (can_run step)) s.steps

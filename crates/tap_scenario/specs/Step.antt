@@ -1,11 +1,10 @@
 -- steps, and how they are written
-use Rattle.std.specs.Prelude.{◌≡◌, ℕ, ◌^◌, ◌<◌, ◌≤◌, nat_le, nat_lt, Bool, true, false, ◌&&◌, ◌||◌, IsTrue, length, All, decimal, List, [], ◌∷◌, ◌++◌, codes, bytes_eq, Option, None, Some, option_map, option_and_then, if◌then◌else◌}
-use Rattle.std.specs.List.{list_all}
+use Rattle.std.specs.Prelude.{◌≡◌, ℕ, ◌^◌, ◌<◌, ◌≤◌, nat_le, nat_lt, Bool, true, false, ◌&&◌, length, All, decimal, List, [], ◌∷◌, ◌++◌, codes, bytes_eq, Option, None, Some, option_map, option_and_then, if◌then◌else◌}
 use Rattle.std.specs.Option.{option_zip}
-use Rattle.std.specs.Result.{result_ok}
 use Rattle.std.specs.Str.Parse.{digits_value}
 use Rattle.tap_name.specs.Settings.{SettingsValue}
-use Rattle.tap_name.specs.Name.{IsName, name_of_text, text_of_name}
+use Rattle.tap_name.specs.Name.{IsName, name_of_word, text_of_name}
+use Rattle.tap_name.specs.Word.{IsWord, is_word}
 use Rattle.tap_scenario.specs.Kind.{kind_of_word, is_there, link_of_pair}
 use Rattle.tap_scenario.specs.Words.{words}
 use Rattle.tap_scenario.specs.declared.kind.NameKind.{NameKind}
@@ -18,16 +17,6 @@ use Rattle.tap_scenario.specs.declared.kind.Kind.{Kind}
 use Rattle.tap_scenario.specs.declared.kind.Kind.TheVariants as shape
 use Rattle.tap_scenario.specs.declared.step.Step.{Step}
 use Rattle.tap_scenario.specs.declared.step.Step.TheVariants.{Join, Depart, Publish, Withdraw, Find, Walk, Root, Deliver, Settle, SettleNewest, SettleMixed, Table, Pointers, Garble, Cut, Abandon, Tick, Lose, Repeat, RootSet, Cast}
-
--- a lower-case letter or a digit
-abbrev pub is_word_byte : ℕ → Bool
-is_word_byte byte = (nat_le 97 byte && nat_le byte 122) || (nat_le 48 byte && nat_le byte 57)
-
--- a word of a cast: 1 to 32 lower-case letters and digits
-pub record IsWord (word : List ℕ) : Type 0 where
-  pub some : 1 ≤ length word
-  pub few : length word ≤ 32
-  pub bytes : All (λ byte. IsTrue (is_word_byte byte)) word
 
 -- a prefix of names of these settings
 pub record IsPrefix (p : SettingsValue) (prefix : List ℕ) : Type 0 where
@@ -98,11 +87,7 @@ number_below limit word =
 
 -- the word of a cast
 abbrev pub word_of_bytes : List ℕ → Option (List ℕ)
-word_of_bytes bytes = if nat_le 1 (length bytes) && nat_le (length bytes) 32 && list_all is_word_byte bytes then Some bytes else None
-
--- the name that a word spells
-abbrev pub name_of_word : SettingsValue → List ℕ → Option (List ℕ)
-name_of_word p word = result_ok (name_of_text p word)
+word_of_bytes bytes = if is_word bytes then Some bytes else None
 
 -- the settings of names with so many digits
 abbrev pub with_digits : ℕ → SettingsValue → SettingsValue

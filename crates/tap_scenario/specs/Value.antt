@@ -1,9 +1,10 @@
 -- what the values of a scenario's text have to be
-use Rattle.std.specs.Prelude.{ℕ, pos, nat_le, Bool, true, false, ◌&&◌, not, bytes_eq, List, [], ◌∷◌, length, Option, None, Some, option_and_then, if◌then◌else◌}
-use Rattle.std.specs.List.{list_any}
+use Rattle.std.specs.Prelude.{ℕ, pos, nat_le, Bool, true, false, ◌&&◌, List, [], ◌∷◌, length, Option, None, Some, option_and_then, if◌then◌else◌}
 use Rattle.toml.specs.Data.{Data, string, integer, array, Items, no_items, item}
 use Rattle.tap_name.specs.Settings.{SettingsValue}
-use Rattle.tap_scenario.specs.Step.{name_of_word}
+use Rattle.tap_name.specs.Name.{name_of_word}
+use Rattle.tap_name.specs.Names.{are_distinct}
+use Rattle.tap_scenario.specs.Scenario.{most_members}
 
 -- a whole number within these limits
 abbrev pub whole_number : ℕ → ℕ → Data → Option ℕ
@@ -27,10 +28,9 @@ abbrev pub array_of_strings : Data → Option (List (List ℕ))
 array_of_strings (array items) = if are_strings items then Some (texts_of items) else None
 array_of_strings _ = None
 
--- whether no two of these are the same
-abbrev pub are_distinct : List (List ℕ) → Bool
-are_distinct [] = true
-are_distinct (name ∷ others) = not (list_any (λ other. bytes_eq other name) others) && are_distinct others
+-- an array of at most so many strings
+abbrev pub strings_up_to : ℕ → Data → Option (List (List ℕ))
+strings_up_to most value = option_and_then (λ texts. if nat_le (length texts) most then Some texts else None) (array_of_strings value)
 
 -- one more at the front, where both are there
 abbrev pub cons_both : {A : Type 0} → Option A → Option (List A) → Option (List A)
@@ -46,7 +46,7 @@ names_of p (text ∷ others) = cons_both (name_of_word p text) (names_of p other
 abbrev pub distinct_names : List (List ℕ) → Option (List (List ℕ))
 distinct_names names = if are_distinct names then Some names else None
 
--- 1 to 64 texts that are distinct names
+-- texts that are distinct names, as many as a scenario may have members
 abbrev pub members_of_texts : SettingsValue → List (List ℕ) → Option (List (List ℕ))
 members_of_texts p texts =
-    if nat_le 1 (length texts) && nat_le (length texts) 64 then option_and_then distinct_names (names_of p texts) else None
+    if nat_le 1 (length texts) && nat_le (length texts) most_members then option_and_then distinct_names (names_of p texts) else None

@@ -2,10 +2,11 @@ ghost use Rattle.std.specs.Prelude.{◌≡◌, ◌↔◌, ℕ, ◌<◌, ◌≤�
 ghost use Rattle.std.specs.Cmp.{partial_equiv_from_equiv};
 ghost use Rattle.std.specs.Cmp.Lexicographic.{pointwise, nat_list_eq_equiv};
 ghost use Rattle.std.specs.Option.{SomeIff};
-ghost use Rattle.tap_scenario.specs.Step.{IsWord, IsPrefix, is_word_byte, word_of_bytes, prefix_of_word, text_of_prefix};
+ghost use Rattle.tap_name.specs.Word.{IsWord, is_word};
+ghost use Rattle.tap_scenario.specs.Step.{IsPrefix, word_of_bytes, prefix_of_word, text_of_prefix};
 
 use std::marker::Model;
-use tap_name::{Name, Settings, read_name};
+use tap_name::{Name, Settings, are_word_bytes, read_name};
 
 /// The word that a cast spreads: 1 to 32 lower-case letters and digits. Contracts see its bytes.
 ///
@@ -17,49 +18,45 @@ pub struct Word {
 }
 
 impl Model for Word {
-    ghost use Rattle.std.specs.Prelude.{List, ℕ, take, length};
+    ghost use Rattle.std.specs.Prelude.{List, ℕ, IsTrue, take, length};
     ghost use Rattle.std.proofs.Common.{arith, length-take-le};
-    ghost use Rattle.tap_scenario.specs.Places.{IsPadded, padded, padded_take};
+    ghost use Rattle.tap_name.specs.Padded.{padded, padded_take};
+    ghost use Rattle.tap_name.specs.Word.{is_word_byte};
+    ghost use Rattle.tap_scenario.specs.Word.{KeepsWord};
 
     ghost Value = { List ℕ };
 
     ghost view = { λ w. take w.len w.bytes };
 
-    ghost invariant = { λ w. IsPadded w.bytes w.len };
+    ghost invariant = { λ w. KeepsWord w.bytes w.len };
 
-    ghost inverse = { λ xs. record { bytes = padded xs; len = length xs } };
+    ghost inverse = { λ xs. record { bytes = padded 32 xs; len = length xs } };
 
     ghost inverse_ok = { λ w h i. record {
-      bytes = padded_take w.bytes w.len h i;
-      len = length-take-le w.len w.bytes (omega (arith, h.fits, h.all)) i;
+      bytes = padded_take 32 (λ byte. IsTrue (is_word_byte byte)) w.bytes w.len h.padded i;
+      len = length-take-le w.len w.bytes (omega (arith, h.padded.fits, h.padded.all)) i;
     } };
 }
 
-// Whether a byte is a lower-case letter or a digit.
-fn is_word_byte(byte: u8) -> bool
-    ensures { result ≡ is_word_byte byte }
+// Whether bytes are 1 to 32 lower-case letters and digits.
+fn is_word(bytes: &[u8]) -> bool
+    ensures { result ≡ is_word bytes.now }
 {
-    matches!(byte, b'a'..=b'z' | b'0'..=b'9')
+    !bytes.is_empty() && bytes.len() <= 32 && are_word_bytes(bytes)
 }
 
 impl Word {
-    // The word with no bytes.
-    fn empty() -> Word
-        ensures { result ≡ [] }
+    // The word of these bytes.
+    fn copy_of(bytes: &[u8]) -> Word
+        requires { IsWord bytes.now }
+        ensures { result ≡ bytes.now }
     {
+        let mut places = [0; 32];
+        places[..bytes.len()].copy_from_slice(bytes);
         Word {
-            bytes: [0; 32],
-            len: 0,
+            bytes: places,
+            len: bytes.len() as u8,
         }
-    }
-
-    // Adds a byte at the end.
-    fn push(&mut self, byte: u8)
-        requires { length self.old < 32 }
-        ensures { self.new ≡ self.old ++ byte ∷ [] }
-    {
-        self.bytes[self.len as usize] = byte;
-        self.len += 1;
     }
 
     /// The word of these bytes, `None` exactly where they aren't 1 to 32 lower-case letters and digits.
@@ -69,23 +66,17 @@ impl Word {
         ensures value { result ≡ word_of_bytes bytes.now }
         ensures exact { SomeIff result (IsWord bytes.now) bytes.now }
     {
-        if bytes.is_empty() || bytes.len() > 32 {
-            return None;
+        if is_word(bytes) {
+            Some(Word::copy_of(bytes))
+        } else {
+            None
         }
-        let mut word = Word::empty();
-        for byte in bytes {
-            if !is_word_byte(*byte) {
-                return None;
-            }
-            word.push(*byte);
-        }
-        Some(word)
     }
 
     /// The bytes, lent.
     pub fn as_slice(&self) -> &[u8]
         ensures value { result.now ≡ self.now }
-        ensures len { length self.now ≤ 32 }
+        ensures valid { IsWord self.now }
     {
         &self.bytes[..self.len as usize]
     }

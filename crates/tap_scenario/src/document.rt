@@ -1,11 +1,11 @@
-ghost use Rattle.std.specs.Prelude.{◌≡◌, ◌+◌, ◌≤◌, length, IsTrue, IfOk, OnOk, MatchResult, Ok, Err};
+ghost use Rattle.std.specs.Prelude.{◌≡◌, ◌+◌, ◌<◌, ◌≤◌, length, IsTrue, IfOk, OnOk, MatchResult, Ok, Err};
 ghost use Rattle.std.specs.Option.{ok_or};
 ghost use Rattle.toml.specs.View.{table_view, items_view};
 ghost use Rattle.tap_scenario.specs.Document.{read_at, settings_of, frames_of, members_of, numbered_step, with_step, steps_from, steps_of, script_of, scenario_of_table, scenario_of};
 ghost use Rattle.tap_scenario.specs.Key.{missing_key, is_known, has_known_keys, wrong_key};
 ghost use Rattle.tap_scenario.specs.Scenario.{IsScript};
 ghost use Rattle.tap_scenario.specs.ReadRefusal.{AnswersUnlessMemory, TellsFault};
-ghost use Rattle.tap_scenario.specs.Value.{whole_number, array_of_strings, are_strings, names_of, texts_of};
+ghost use Rattle.tap_scenario.specs.Value.{whole_number, array_of_strings, strings_up_to, are_strings, names_of, texts_of};
 
 use crate::fault::{Fault, Key, ReadRefusal};
 use crate::scenario::Scenario;
@@ -104,6 +104,21 @@ fn strings_at(table: &Table, key: Key) -> Result<&[Value], Fault>
     }
 }
 
+// The strings of the array of at most so many strings that has to stand under a key.
+fn few_strings_at(table: &Table, key: Key, most: usize) -> Result<&[Value], Fault>
+    ensures value { let read = read_at key (strings_up_to most) (table_view table.now)
+        in MatchResult result (λ values. read ≡ Ok (texts_of (items_view values.now))) (λ fault. read ≡ Err fault) }
+    ensures strings { IfOk result (λ values. IsTrue (are_strings (items_view values.now))) }
+    ensures few { IfOk result (λ values. length values.now ≤ most) }
+{
+    let strings = strings_at(table, key)?;
+    if strings.len() <= most {
+        Ok(strings)
+    } else {
+        Err(Fault::BadValue(key))
+    }
+}
+
 // The settings that a table gives.
 fn read_settings(table: &Table) -> Result<Settings, Fault>
     ensures { result ≡ settings_of (table_view table.now) }
@@ -171,12 +186,9 @@ fn read_members(
 
 // The step of the string of this number, counted from 1, where it is one that a run takes.
 fn numbered_step(settings: &Settings, number: usize, text: &[u8]) -> Result<Step, Fault>
-    requires { number ≤ MOST_STEPS + 1 }
+    requires { number ≤ MOST_STEPS }
     ensures { result ≡ numbered_step settings.now number text.now }
 {
-    if number > MOST_STEPS {
-        return Err(Fault::BadStep(number as u32));
-    }
     match read_step(settings, false, text) {
         Some(step) if step.can_run() => Ok(step),
         _ => Err(Fault::BadStep(number as u32)),
@@ -185,10 +197,10 @@ fn numbered_step(settings: &Settings, number: usize, text: &[u8]) -> Result<Step
 
 // Adds the step of the next string to the steps of the strings before it.
 fn add_step(settings: &Settings, steps: &mut Vec<Step>, text: &[u8]) -> Result<(), ReadRefusal>
-    requires { length steps.now.items ≤ MOST_STEPS }
+    requires { length steps.now.items < MOST_STEPS }
     ensures value { let read = numbered_step settings.now (length steps.old.items + 1) text.now
         in MatchResult result (λ _. with_step steps.old.items read ≡ Ok steps.new.items) (TellsFault read) }
-    ensures few { OnOk result (length steps.new.items ≤ MOST_STEPS) }
+    ensures len { OnOk result (length steps.new.items ≡ length steps.old.items + 1) }
 {
     let step = numbered_step(settings, steps.len() + 1, text)?;
     steps.push(step)?;
@@ -199,8 +211,8 @@ fn add_step(settings: &Settings, steps: &mut Vec<Step>, text: &[u8]) -> Result<(
 fn read_steps(alloc: Global, settings: &Settings, table: &Table) -> Result<List<Step>, ReadRefusal>
     ensures { AnswersUnlessMemory (steps_of settings.now (table_view table.now)) result }
 {
-    let strings = strings_at(table, Key::Steps)?;
-    let mut steps = Vec::with_capacity(alloc, strings.len().min(MOST_STEPS))?;
+    let strings = few_strings_at(table, Key::Steps, MOST_STEPS)?;
+    let mut steps = Vec::with_capacity(alloc, strings.len())?;
     for value in strings {
         if let Some(text) = value.as_str() {
             add_step(settings, &mut steps, text.as_bytes())?;

@@ -52,9 +52,9 @@ pub enum Fault {
     NotToml,
     /// The first key that is missing, or `Unknown` where none is missing and another key is there.
     BadKey(Key),
-    /// The first key whose value isn't as it has to be.
+    /// The first key whose value isn't as it has to be. Of the steps this asks for an array of at most 10,000 strings.
     BadValue(Key),
-    /// The first string, counted from 1, that is no step, or with which there are too many.
+    /// The first string, counted from 1, that is no step.
     BadStep(u32),
 }
 

@@ -47,6 +47,15 @@ pub(crate) enum Kind {
     Cast,
 }
 
+// The words that stand after the first one in a settle and in a cast.
+pub(crate) const NEWEST: &str = "newest";
+
+pub(crate) const MIXED: &str = "mixed";
+
+pub(crate) const TO: &str = "to";
+
+pub(crate) const FROM: &str = "from";
+
 // All first words.
 const KINDS: [Kind; 19] = [
     Kind::Name(NameKind::Leave),
@@ -105,7 +114,7 @@ impl PairKind {
         match self {
             PairKind::Join => "via",
             PairKind::Publish | PairKind::Withdraw => "at",
-            PairKind::Find | PairKind::Walk | PairKind::RootSet => "from",
+            PairKind::Find | PairKind::Walk | PairKind::RootSet => FROM,
         }
     }
 

@@ -10,6 +10,7 @@ mod step;
 #[cfg(test)]
 mod tests;
 mod values;
+mod wording;
 mod words;
 
 pub use cast::{Prefix, Word};
@@ -17,3 +18,4 @@ pub use document::read;
 pub use fault::{Fault, Key, ReadRefusal};
 pub use scenario::Scenario;
 pub use step::{Step, read_step};
+pub use wording::{StepWords, WordsAfter};

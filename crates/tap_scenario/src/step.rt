@@ -2,7 +2,7 @@ ghost use Rattle.std.specs.Prelude.{◌≡◌, ◌↔◌, Some};
 ghost use Rattle.tap_scenario.specs.Step.{IsStep, settle_of_words, garble_of_words, cast_of_words, step_of_kind, step_of_words, step_of_text, text_of_step, can_run};
 
 use crate::cast::{Prefix, Word};
-use crate::kind::Kind;
+use crate::kind::{FROM, Kind, MIXED, NEWEST, TO};
 use crate::words::{Words, read_number};
 use tap_name::{Name, Settings, read_name};
 
@@ -155,10 +155,10 @@ fn read_settle(mut words: Words<'_>) -> Option<Step>
     let Some(word) = words.next() else {
         return Some(Step::Settle);
     };
-    if word == b"mixed".as_slice() {
+    if word == MIXED.as_bytes() {
         let seed = words.one_number(u64::MAX)?;
         Some(Step::SettleMixed { seed })
-    } else if word == b"newest".as_slice() {
+    } else if word == NEWEST.as_bytes() {
         words.only(Step::SettleNewest)
     } else {
         None
@@ -187,7 +187,7 @@ fn read_cast(settings: &Settings, mut words: Words<'_>) -> Option<Step>
     let prefix = words.next()?;
     let from = words.next()?;
     let asker = words.next()?;
-    if words.next().is_some() || to != b"to".as_slice() || from != b"from".as_slice() {
+    if words.next().is_some() || to != TO.as_bytes() || from != FROM.as_bytes() {
         return None;
     }
     let word = Word::of(word)?;

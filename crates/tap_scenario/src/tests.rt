@@ -1,4 +1,4 @@
-use crate::{Fault, Key, Prefix, ReadRefusal, Scenario, Step, Word, read, read_step};
+use crate::{Fault, Key, Prefix, ReadRefusal, Scenario, Step, Word, WordsAfter, read, read_step};
 use std::alloc::{AllocError, Global};
 use std::process::Abort;
 use std::test::Fail;
@@ -584,10 +584,12 @@ fn text_of_members(alloc: Global, more: &str) -> Result<String, AllocError> {
     Ok(text)
 }
 
-// The line of so many steps, which are all one.
-fn line_of_steps(alloc: Global, count: u32) -> Result<String, AllocError> {
-    let mut line = String::from_str(alloc, "steps = [")?;
-    for _ in 0..count {
+// The line of a step and so many others, which are all one.
+fn line_of_steps(alloc: Global, first: &str, others: u32) -> Result<String, AllocError> {
+    let mut line = String::from_str(alloc, "steps = [\"")?;
+    line.push_str(first)?;
+    line.push_str("\", ")?;
+    for _ in 0..others {
         line.push_str("\"root 000\", ")?;
     }
     line.push_str("]\n")?;
@@ -610,12 +612,40 @@ fn keeps_to_the_most_members(rt: HostRuntime) -> Result<(), Fail> {
 #[test]
 fn keeps_to_the_most_steps(rt: HostRuntime) -> Result<(), Fail> {
     let alloc = rt.alloc();
-    let most = text_with(alloc, "steps", line_of_steps(alloc, 10_000)?.as_str())?;
+    let most = text_with(
+        alloc,
+        "steps",
+        line_of_steps(alloc, "root 000", 9_999)?.as_str(),
+    )?;
     assert_eq!(rt; counts(alloc, most.as_str()), Ok((200_000, 5, 10_000)));
-    let more = text_with(alloc, "steps", line_of_steps(alloc, 10_001)?.as_str())?;
+    let more = text_with(
+        alloc,
+        "steps",
+        line_of_steps(alloc, "root 000", 10_000)?.as_str(),
+    )?;
     assert_eq!(rt;
         counts(alloc, more.as_str()),
-        Err(ReadRefusal::Fault(Fault::BadStep(10_001)))
+        Err(ReadRefusal::Fault(Fault::BadValue(Key::Steps)))
     );
+    let other = text_with(
+        alloc,
+        "steps",
+        line_of_steps(alloc, "no step", 10_000)?.as_str(),
+    )?;
+    assert_eq!(rt;
+        counts(alloc, other.as_str()),
+        Err(ReadRefusal::Fault(Fault::BadValue(Key::Steps)))
+    );
+    Ok(())
+}
+
+#[test]
+fn tells_the_words_of_steps_and_keys(rt: HostRuntime) -> Result<(), Fail> {
+    let (_, object, asker) = named()?;
+    let words = Step::Walk { object, asker }.words();
+    assert_eq!(rt; words.first, "walk");
+    assert_eq!(rt; words.after, WordsAfter::Names(object, "from", asker));
+    assert_eq!(rt; Step::Tick.words().after, WordsAfter::Nothing);
+    assert_eq!(rt; Key::Frames.text(), "frames");
     Ok(())
 }

@@ -1,7 +1,8 @@
 ghost use Rattle.std.specs.Prelude.{◌≡◌, ◌≤◌, map, IfSome, IsTrue, MatchResult, option_map};
 ghost use Rattle.toml.specs.View.{view, table_view, items_view};
 ghost use Rattle.tap_scenario.specs.Key.{value_at};
-ghost use Rattle.tap_scenario.specs.Value.{whole_number, are_strings, texts_of, array_of_strings, are_distinct};
+ghost use Rattle.tap_name.specs.Names.{are_distinct};
+ghost use Rattle.tap_scenario.specs.Value.{whole_number, are_strings, texts_of, array_of_strings};
 
 use crate::fault::Key;
 use tap_name::Name;

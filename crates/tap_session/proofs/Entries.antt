@@ -1,11 +1,11 @@
 -- The map of open sessions and the list that it is seen as change alike.
-use Rattle.std.proofs.Common.{◌≡◌, ◌==◌, ℕ, ◌+◌, ◌-◌, ◌<◌, ◌≤◌, true, false, Bool, List, [], ◌∷◌, ◌++◌, Option, None, Some, refl, sym, ap, ◌∙◌, arith, cond, if◌then◌else◌, eqb-true, inl, inr}
+use Rattle.std.proofs.Common.{◌≡◌, ◌==◌, ℕ, ◌+◌, ◌-◌, ◌<◌, ◌≤◌, true, false, Bool, List, [], ◌∷◌, ◌++◌, Option, None, Some, refl, sym, ap, ◌∙◌, arith, eqb-true, inl, inr}
 use Rattle.std.specs.List.{All, AllPairs, AllByRecursion}
 use Rattle.std.specs.List.Sorted.{IsStrictlySortedBy}
 use Rattle.std.specs.Cmp.{nat_cmp_is, ranked, unsigned_tied}
 use Rattle.std.specs.Map.{keys_of, values_of, lookup, remove_entry, set_value}
 use Rattle.std.specs.BTreeMap.{insert_entry, is_at}
-use Rattle.std.specs.Option.{option_map, option_and_then}
+use Rattle.std.specs.Option.{option_map}
 use Rattle.std.specs.Ordering.{nat_cmp, is_eq}
 use Rattle.std.specs.declared.cmp.Ordering.TheVariants.{Less, Greater}
 use Rattle.std.proofs.lemmas.List.Elements.{All-cons, All-tail}
@@ -13,9 +13,9 @@ use Rattle.std.proofs.lemmas.List.Kept.{AllPairs-cons}
 use Rattle.std.proofs.lemmas.Bool.Decides.{eqb_tells}
 use Rattle.std.proofs.lemmas.Map.Views.{IfSome-lookup_from_All}
 use Rattle.tap_session.specs.declared.sessions.Awaited.{Awaited}
-use Rattle.tap_session.specs.Session.{Session}
-use Rattle.tap_session.specs.Awaited.{session, sessions_of}
-use Rattle.tap_session.specs.Sessions.{after_answer, session_of, with_answer}
+use Rattle.tap_session.specs.Awaited.{AreCounted, session, sessions_of}
+use Rattle.tap_session.specs.Sessions.{AreSessions, after_answer, session_of}
+use Rattle.tap_session.proofs.Transitions.{after_answer-unknown}
 
 -- what the map holds at a number
 abbrev pub awaited_at : ℕ → List (ℕ × Awaited) → Option Awaited
@@ -33,32 +33,10 @@ session_of-sessions_of (e ∷ es) id = step (id == e.0) refl (session_of-session
     step false is rest = rw (unsigned_tied id e.0, is) rest
 
 -- an answer to a session that is not there changes nothing
-pub after_answer-unknown : (id : ℕ) (entries : List (ℕ × Awaited)) → awaited_at id entries ≡ None
+pub after_answer-absent : (id : ℕ) (entries : List (ℕ × Awaited)) → awaited_at id entries ≡ None
     → after_answer id (sessions_of entries) ≡ sessions_of entries
-after_answer-unknown id [] absent = refl
-after_answer-unknown id (e ∷ es) absent = step (id == e.0) refl (after_answer-unknown id es)
-  where
-    step : (b : Bool) → (id == e.0) ≡ b → (awaited_at id es ≡ None → after_answer id (sessions_of es) ≡ sessions_of es)
-        → after_answer id (sessions_of (e ∷ es)) ≡ sessions_of (e ∷ es)
-    step true is rest = let found : awaited_at id (e ∷ es) ≡ Some e.1 = rw (unsigned_tied id e.0, is) refl in cc
-    step false is rest =
-        let behind : awaited_at id es ≡ None = rw (unsigned_tied id e.0, is) at absent in
-        rw is (ap (λ l. session e.0 e.1 ∷ l) (rest behind))
-
--- and each session is found as before
-pub session_of-unknown : (entries : List (ℕ × Awaited)) (id other : ℕ) → awaited_at id entries ≡ None
-    → session_of (sessions_of entries) other ≡ (if id ==
-    other then option_and_then with_answer (session_of (sessions_of entries) id) else session_of (sessions_of entries) other)
-session_of-unknown entries id other absent = step (id == other) refl
-  where
-    nothing : session_of (sessions_of entries) id ≡ None
-    nothing = rw (session_of-sessions_of entries id, absent) refl
-
-    step : (b : Bool) → (id == other) ≡ b
-        → session_of (sessions_of entries) other ≡ cond b (option_and_then with_answer (session_of (sessions_of entries) id))
-        (session_of (sessions_of entries) other)
-    step true is = rw (← eqb-true id other is, nothing) refl
-    step false is = refl
+after_answer-absent id entries absent =
+    after_answer-unknown id (sessions_of entries) (session_of-sessions_of entries id ∙ ap (option_map (session id)) absent)
 
 -- nothing is held at a number that is below all others
 absent_below : (id : ℕ) (entries : List (ℕ × Awaited)) → AllByRecursion (λ k. nat_cmp id k ≡ Less) (keys_of entries)
@@ -93,7 +71,7 @@ after_answer-closed id a (e ∷ es) sorted found last =
         let here : Some e.1 ≡ Some a = rw (unsigned_tied id e.0, is) at found in
         let same : e.1 ≡ a = cc in
         let gone : (e.1.waiting == 1) ≡ true = rw same last in
-        rw (unsigned_tied id e.0, is, gone) (sym (after_answer-unknown id es (absent_behind id e es (eqb-true id e.0 is) sorted)))
+        rw (unsigned_tied id e.0, is, gone) (sym (after_answer-absent id es (absent_behind id e es (eqb-true id e.0 is) sorted)))
     step false is rest =
         let behind : awaited_at id es ≡ Some a = rw (unsigned_tied id e.0, is) at found in
         rw (unsigned_tied id e.0, is) (ap (λ l. session e.0 e.1 ∷ l) (rest behind last))
@@ -116,23 +94,11 @@ after_answer-open id a (e ∷ es) sorted found more = step (id == e.0) refl (aft
         let same : e.1 ≡ a = cc in
         let stays : (e.1.waiting == 1) ≡ false = rw same more in
         let others : after_answer id (sessions_of es) ≡ sessions_of es =
-            after_answer-unknown id es (absent_behind id e es (eqb-true id e.0 is) sorted) in
+        after_answer-absent id es (absent_behind id e es (eqb-true id e.0 is) sorted) in
         rw (unsigned_tied id e.0, is, stays, others, same) refl
     step false is rest =
         let behind : awaited_at id es ≡ Some a = rw (unsigned_tied id e.0, is) at found in
         rw (unsigned_tied id e.0, is) (ap (λ l. session e.0 e.1 ∷ l) (rest behind more))
-
--- the look-up law: a change of the map at one number changes the session of that number alone
-pub session_of-updated : (old new : List (ℕ × Awaited)) (id other : ℕ) (now : Option Awaited) (is : Option Session)
-    → awaited_at other new ≡ cond (is_at (nat_cmp id) other) now (awaited_at other old) → option_map (session id) now ≡ is
-    → session_of (sessions_of new) other ≡ (if id == other then is else session_of (sessions_of old) other)
-session_of-updated old new id other now is updated same = session_of-sessions_of new other
-    ∙ rw (updated, unsigned_tied id other) (step (id == other) refl)
-  where
-    step : (b : Bool) → (id == other) ≡ b
-        → option_map (session other) (cond b now (awaited_at other old)) ≡ cond b is (session_of (sessions_of old) other)
-    step true e = rw (← eqb-true id other e) same
-    step false e = sym (session_of-sessions_of old other)
 
 -- a number above all others goes to the end
 pub insert_entry-last : (entries : List (ℕ × Awaited)) (opened : ℕ) (a : Awaited) → All (λ id. (1 ≤ id) × (id ≤ opened)) (keys_of entries)
@@ -169,6 +135,15 @@ All-waiting P [] all = λ k d h. absurd (omega arith)
 All-waiting P (e ∷ es) all =
     All-cons (λ s. P s.waiting) (session e.0 e.1) (sessions_of es) (all 0 e.1 (omega arith))
     (All-waiting P es (All-tail (λ a. P a.waiting) e.1 (values_of es) all))
+
+-- they are sessions
+pub are_sessions : (entries : List (ℕ × Awaited)) (opened : ℕ) → IsStrictlySortedBy nat_cmp (keys_of entries) → AreCounted entries opened
+    → AreSessions (record { sessions = sessions_of entries; opened = opened })
+are_sessions entries opened sorted counted = record {
+  ascending = ascending entries sorted;
+  given = All-ids (λ id. (1 ≤ id) × (id ≤ opened)) entries counted.given;
+  waiting = All-waiting (λ n. 1 ≤ n) entries counted.waiting;
+}
 
 -- each session that is held waits for an answer
 pub waits : (id : ℕ) (a : Awaited) (entries : List (ℕ × Awaited)) → All (λ a. 1 ≤ a.waiting) (values_of entries)

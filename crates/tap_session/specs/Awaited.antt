@@ -2,8 +2,7 @@
 use Rattle.std.specs.Prelude.{ℕ, ◌≤◌, List, map, All}
 use Rattle.std.specs.Map.{keys_of, values_of}
 use Rattle.tap_session.specs.declared.sessions.Awaited.{Awaited}
-use Rattle.tap_session.specs.declared.sessions.TheConstants.{MOST_SESSIONS}
-use Rattle.tap_session.specs.Session.{Session}
+use Rattle.tap_session.specs.Session.{Session, most_sessions}
 
 -- the session of this number
 abbrev pub session : ℕ → Awaited → Session
@@ -17,4 +16,4 @@ sessions_of entries = map (λ e. session e.0 e.1) entries
 pub record AreCounted (entries : List (ℕ × Awaited)) (opened : ℕ) : Type 0 where
   pub given : All (λ id. (1 ≤ id) × (id ≤ opened)) (keys_of entries)
   pub waiting : All (λ a. 1 ≤ a.waiting) (values_of entries)
-  pub few : opened ≤ MOST_SESSIONS
+  pub few : opened ≤ most_sessions

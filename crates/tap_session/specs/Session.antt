@@ -13,3 +13,7 @@ pub record Session : Type 0 where
 pub record SessionsValue : Type 0 where
   pub sessions : List Session
   pub opened : ℕ
+
+-- how many sessions a node may open
+abbrev pub most_sessions : ℕ
+most_sessions = 500001

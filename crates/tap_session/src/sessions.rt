@@ -1,8 +1,9 @@
-ghost use Rattle.std.specs.Prelude.{◌≡◌, ◌==◌, ℕ, ◌+◌, ◌<◌, ◌≤◌, if◌then◌else◌, Some};
-ghost use Rattle.std.specs.Prelude.{[], ◌∷◌, ◌++◌, length, IfOk, OnOk, OnErr};
+ghost use Rattle.std.specs.Prelude.{◌≡◌, ◌==◌, ◌↔◌, ℕ, ◌+◌, ◌<◌, ◌≤◌, if◌then◌else◌, Some};
+ghost use Rattle.std.specs.Prelude.{[], length, IsTrue, IfOk, OnOk, OnErr};
 ghost use Rattle.std.specs.Option.{option_map, option_and_then};
-ghost use Rattle.tap_session.specs.Sessions.{AreSessions, after_answer, answer_to};
-ghost use Rattle.tap_session.specs.Sessions.{next_session, session_of, with_answer};
+ghost use Rattle.tap_session.specs.Session.{most_sessions};
+ghost use Rattle.tap_session.specs.Sessions.{AreSessions, answer_to, answered_at};
+ghost use Rattle.tap_session.specs.Sessions.{next_session, opened_with, session_of, with_answer};
 
 use crate::memory::NoMemory;
 use crate::parent::Parent;
@@ -82,12 +83,9 @@ impl Sessions {
     /// this one, up to the one whose parent is the root.
     pub fn open(&mut self, parent: Parent, depth: u16, waiting: u32) -> Result<u32, NoMemory>
         requires waits { 1 ≤ waiting }
-        requires room { self.old.opened < MOST_SESSIONS }
+        requires room { self.old.opened < most_sessions }
         ensures number { IfOk result (λ id. id ≡ self.old.opened + 1) }
-        ensures sessions { OnOk result (
-            self.new.sessions ≡
-            self.old.sessions ++ next_session self.old parent depth waiting ∷ []) }
-        ensures opened { OnOk result (self.new.opened ≡ self.old.opened + 1) }
+        ensures after { OnOk result (self.new ≡ opened_with self.old parent depth waiting) }
         ensures look_up { OnOk result ((other : ℕ) →
             session_of self.new.sessions other ≡
             (if self.old.opened + 1 == other
@@ -109,8 +107,7 @@ impl Sessions {
     /// Takes an answer to the session of this number. It takes no memory.
     pub fn answered(&mut self, id: u32) -> Answered
         ensures answer { result ≡ answer_to (session_of self.old.sessions id) }
-        ensures sessions { self.new.sessions ≡ after_answer id self.old.sessions }
-        ensures opened { self.new.opened ≡ self.old.opened }
+        ensures after { self.new ≡ answered_at self.old id }
         ensures look_up { (other : ℕ) →
             session_of self.new.sessions other ≡
             (if id == other
@@ -149,9 +146,18 @@ impl Sessions {
     /// How many sessions were ever opened, which is the number that was given last, or 0.
     pub fn opened(&self) -> u32
         ensures count { result ≡ self.now.opened }
-        ensures most { result ≤ MOST_SESSIONS }
+        ensures most { result ≤ most_sessions }
     {
         self.opened
+    }
+
+    /// Whether no further session may be opened.
+    ///
+    /// Rule: docs/PROTOCOL.md, "Sessions".
+    pub fn is_full(&self) -> bool
+        ensures { IsTrue result ↔ (most_sessions ≤ self.now.opened) }
+    {
+        self.opened >= MOST_SESSIONS
     }
 }
 
@@ -192,6 +198,22 @@ mod tests {
         }
         assert_eq!(rt; sessions.depth_of(1), None);
         assert_eq!(rt; sessions.opened(), 2);
+        open_many(&mut sessions, &root, 1_000)?;
+        assert_eq!(rt; sessions.open_count(), 1_000);
+        assert!(rt; !sessions.is_full());
+        assert!(rt; sessions.answered(1_002) == Answered::Closed(root));
+        assert_eq!(rt; sessions.open_count(), 999);
+        Ok(())
+    }
+
+    // Opens so many sessions that wait for one answer each.
+    fn open_many(sessions: &mut Sessions, parent: &Parent, count: u32) -> Result<(), NoMemory> {
+        for _ in 0..count {
+            if sessions.is_full() {
+                return Ok(());
+            }
+            let _ = sessions.open(*parent, 0, 1)?;
+        }
         Ok(())
     }
 }

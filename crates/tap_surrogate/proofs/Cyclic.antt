@@ -96,7 +96,7 @@ first_from_is base passes found found_below found_passes (suc left) digit below 
           let apart : digit ≡ found → ⊥ = λ same. true≢false (sym found_passes ∙ ap passes (sym same) ∙ e) in
           let next = distance-next base digit found below found_below apart in
           rw e (first_from_is base passes found found_below found_passes left (next_digit base digit) (next_below base digit below)
-              (omega (arith, next))
+          (omega (arith, next))
           (λ other other_below other_passes.
           let other_apart : digit ≡ other → ⊥ = λ same. true≢false (sym other_passes ∙ ap passes (sym same) ∙ e) in
           let other_next = distance-next base digit other below other_below other_apart in
@@ -109,7 +109,7 @@ pub first_cyclic_is : (base : ℕ) (passes : ℕ → Bool) (from found : ℕ) �
     → NonePassesBefore base passes from found → first_cyclic base passes from ≡ found
 first_cyclic_is base passes from found from_below found_below found_passes first =
     first_from_is base passes found found_below found_passes base from from_below
-        (distance_below base from found from_below found_below) first
+    (distance_below base from found from_below found_below) first
 
 -- a digit that does not pass is left behind
 pub none_before_next : (base : ℕ) (passes : ℕ → Bool) (from digit : ℕ) → from < base → digit < base
@@ -120,35 +120,15 @@ none_before_next base passes from digit from_below below fails first =
     let least = first other other_below other_passes in
     let apart : cyclic_distance base from digit ≡ cyclic_distance base from other → ⊥ =
     λ same. true≢false (sym other_passes ∙ ap passes (sym (same_distance base from digit other from_below below other_below same)) ∙ fails)
-        in
+    in
     let other_near = distance_below base from other from_below other_below in
     let next = distance_to_next base from digit from_below below (omega (arith, least, apart, other_near)) in
     omega (arith, next, least, apart)
 
--- two tests that agree find one digit
-pub first_from_agree : (base : ℕ) (p q : ℕ → Bool) → ((digit : ℕ) → p digit ≡ q digit) → (left digit : ℕ)
-    → first_from base p left digit ≡ first_from base q left digit
-first_from_agree base p q same zero digit = refl
-first_from_agree base p q same (suc left) digit =
-    rw (same digit) (ap (λ n. cond (q digit) digit n) (first_from_agree base p q same left (next_digit base digit)))
-
--- where some digit passes, the one that is found does
-first_from_passes : (base : ℕ) (passes : ℕ → Bool) (target : ℕ) → target < base → passes target ≡ true
-    → (left digit : ℕ) → digit < base
-    → cyclic_distance base digit target < left → passes (first_from base passes left digit) ≡ true
-first_from_passes base passes target target_below h zero digit below near = absurd (omega arith)
-first_from_passes base passes target target_below h (suc left) digit below near =
-    elim (cases_Bool (passes digit)) [
-      | inl e ↦ rw e e
-      | inr e ↦
-          let apart : digit ≡ target → ⊥ = λ same. true≢false (sym h ∙ ap passes (sym same) ∙ e) in
-          let next = distance-next base digit target below target_below apart in
-          rw e (first_from_passes base passes target target_below h left (next_digit base digit) (next_below base digit below)
-              (omega (arith, next)))
-    ]
-
-pub first_cyclic_passes : (base : ℕ) (passes : ℕ → Bool) (target from : ℕ) → target < base → passes target ≡ true
-    → from < base
-    → passes (first_cyclic base passes from) ≡ true
-first_cyclic_passes base passes target from target_below h below =
-    first_from_passes base passes target target_below h base from below (distance_below base from target below target_below)
+-- two tests that agree on the digits of the base find one digit
+pub first_from_agree : (base : ℕ) (p q : ℕ → Bool) → ((digit : ℕ) → digit < base → p digit ≡ q digit) → (left digit : ℕ)
+    → digit < base → first_from base p left digit ≡ first_from base q left digit
+first_from_agree base p q same zero digit below = refl
+first_from_agree base p q same (suc left) digit below =
+    let later = first_from_agree base p q same left (next_digit base digit) (next_below base digit below) in
+    rw (same digit below) (ap (λ n. cond (q digit) digit n) later)

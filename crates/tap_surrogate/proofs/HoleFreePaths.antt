@@ -10,9 +10,10 @@ use Rattle.tap_name.specs.Cyclic.{first_cyclic}
 use Rattle.tap_name.specs.Root.{Among, has_digit, narrowed, first_of}
 use Rattle.tap_surrogate.specs.Tables.{Tables, least_link}
 use Rattle.tap_surrogate.specs.HoleFree.{IsHoleFree}
-use Rattle.tap_surrogate.specs.Walk.{taken_digit, hop, walk_on}
+use Rattle.tap_surrogate.specs.Walk.{walked_digit, hop, walk_on}
 use Rattle.tap_surrogate.specs.Laws.{WalkLaw}
-use Rattle.tap_surrogate.proofs.Cyclic.{first_from_agree, first_cyclic_passes}
+use Rattle.tap_name.proofs.Cyclic.{first_cyclic-passes}
+use Rattle.tap_surrogate.proofs.Cyclic.{first_from_agree}
 use Rattle.tap_name.proofs.Names.{same_tests, has_digit-from, has_digit-to, among-filter, among-filter_from, only_left, share_more, share_fewer, same_at, share_all}
 use Rattle.tap_name.proofs.Slots.{shares_what_fits, fits_what_shares}
 use Rattle.tap_surrogate.proofs.Paths.{leads, walk_on-stays, walk_on-hops}
@@ -63,7 +64,7 @@ same_digit p core tables free node level names inside left digit =
       | inr e ↦
           let apart = eqb-false (get_or node level 0) digit e in
           let fits = fits_what_shares p node w.0 level (free.names node left.here) (free.names w.0 o.0) inside o.1
-              (λ same. apart (same ∙ w.2)) in
+          (λ same. apart (same ∙ w.2)) in
           let full = filled_has_least _ (free.filled node w.0 (record { level = level; digit = get_or w.0 level 0 }) left.here o.0 fits) in
           rw e (rw w.2 at full)
     ])
@@ -86,33 +87,35 @@ left_more p core tables free node next level names digit inside left reaches =
       here = reaches.among;
       only = λ x h.
           let w = among-filter test names x h in
-          let o = left.only x w.0 in
-          (o.0, share_more p level next x (free.names next reaches.among) (free.names x o.0) inside (sym reaches.prefix ∙ o.1)
-              (reaches.digit_is ∙ sym (eqb-true (get_or x level 0) digit w.1)));
+          let o = left.only x w.0 in (
+            o.0,
+            share_more p level next x (free.names next reaches.among) (free.names x o.0) inside (sym reaches.prefix ∙ o.1)
+                (reaches.digit_is ∙ sym (eqb-true (get_or x level 0) digit w.1)),
+          );
       each = λ x h e.
           among-filter_from test names x (left.each x h (reaches.prefix ∙ share_fewer level (level + 1) next x (omega arith) e))
           (eq-eqb (get_or x level 0) digit (sym (same_at level (level + 1) next x (omega arith) e) ∙ reaches.digit_is));
     }
 
-hop_other : (base : ℕ) (tables : Tables) (node : List ℕ) (level wanted : ℕ)
-    → eqb (get_or node level 0) (taken_digit base tables node level wanted) ≡ false
-    → hop base tables node level wanted ≡ least_link tables node level (taken_digit base tables node level wanted)
+pub hop_other : (base : ℕ) (tables : Tables) (node : List ℕ) (level wanted : ℕ)
+    → eqb (get_or node level 0) (walked_digit base tables node level wanted) ≡ false
+    → hop base tables node level wanted ≡ least_link tables node level (walked_digit base tables node level wanted)
 hop_other base tables node level wanted other = rw other refl
 
 -- at a level the walk stays, by its own digit, or hops to a core node
 taken_leads : (p : SettingsValue) (core : List (List ℕ)) (tables : Tables) → IsHoleFree p core tables → (node : List ℕ)
     (level wanted : ℕ) → level < p.digits → wanted < p.base → Among node core
-    → let digit = taken_digit p.base tables node level wanted
+    → let digit = walked_digit p.base tables node level wanted
     in (hop p.base tables node level wanted ≡ None) × Reaches core node level digit node
     ⊎ ((to : List ℕ) × (hop p.base tables node level wanted ≡ Some to) × Reaches core node level digit to)
 taken_leads p core tables free node level wanted inside below here =
-    let digit = taken_digit p.base tables node level wanted in
+    let digit = walked_digit p.base tables node level wanted in
     let own = get_or node level 0 in
     let name = free.names node here in
     let own_below = name.below level 0 (omega (arith, name.len)) in
     let own_leads : leads tables node level own ≡ true = rw (eq-eqb own own refl) refl in
     let passes : leads tables node level digit ≡ true =
-        first_cyclic_passes p.base (leads tables node level) own wanted own_below own_leads below in
+    first_cyclic-passes p.base (leads tables node level) own wanted own_below own_leads below in
     elim (cases_Bool (eqb own digit)) [
       | inl e ↦ inl (rw e refl, record { among = here; prefix = refl; digit_is = eqb-true own digit e })
       | inr e ↦
@@ -147,9 +150,9 @@ leads-hops core node next levels end whole rest path same same_end here leads =
 
 -- the narrowing keeps those with the digit that the walk takes
 narrowed-taken : (base : ℕ) (tables : Tables) (node : List ℕ) (level wanted : ℕ) (more : List ℕ) (names : List (List ℕ))
-    → first_cyclic base (has_digit names level) wanted ≡ taken_digit base tables node level wanted
+    → first_cyclic base (has_digit names level) wanted ≡ walked_digit base tables node level wanted
     → first_of (narrowed base level (wanted ∷ more) names)
-    ≡ first_of (narrowed base (level + 1) more (filter (λ x. get_or x level 0 == taken_digit base tables node level wanted) names))
+    ≡ first_of (narrowed base (level + 1) more (filter (λ x. get_or x level 0 == walked_digit base tables node level wanted) names))
 narrowed-taken base tables node level wanted more names agree = rw agree refl
 
 leads_on : (p : SettingsValue) (core : List (List ℕ)) (tables : Tables) → IsHoleFree p core tables → (more : List ℕ)
@@ -162,30 +165,36 @@ leads_on p core tables free [] node level names len below left =
     (λ x h.
     let o = left.only x h in
     sym (share_all p level node x n (free.names x o.0) (omega arith) o.1)) in
-    record { begins = refl; ends = λ before. sym alone; few = omega arith; over_core =
-        λ x h. elim h [ inl e ↦ rw e left.here | inr none ↦ absurd none ] }
+    record {
+      begins = refl;
+      ends = λ before. sym alone;
+      few = omega arith;
+      over_core =
+          λ x h. elim h [ inl e ↦ rw e left.here | inr none ↦ absurd none ];
+    }
 leads_on p core tables free (wanted ∷ more) node level names len below left =
     let inside : level < p.digits = omega arith in
     let same = same_digit p core tables free node level names inside left in
-    let agree = first_from_agree p.base (has_digit names level) (leads tables node level) same p.base wanted in
-    let digit = taken_digit p.base tables node level wanted in
-    elim (taken_leads p core tables free node level wanted inside (All-head (λ d. d < p.base) wanted more below) left.here) [
+    let wanted_below = All-head (λ d. d < p.base) wanted more below in
+    let agree = first_from_agree p.base (has_digit names level) (leads tables node level) (λ d _. same d) p.base wanted wanted_below in
+    let digit = walked_digit p.base tables node level wanted in
+    elim (taken_leads p core tables free node level wanted inside wanted_below left.here) [
       | inl stays ↦
           leads-stays core node (length more) _ _ _ _ (walk_on-stays p.base tables node level wanted more stays.0)
-              (narrowed-taken p.base tables node level wanted more names agree)
+          (narrowed-taken p.base tables node level wanted more names agree)
           (leads_on p core tables free more node (level + 1) (filter (λ x. get_or x level 0 == digit) names) (omega arith)
-              (All-tail (λ d. d < p.base) wanted more below)
+          (All-tail (λ d. d < p.base) wanted more below)
           (left_more p core tables free node node level names digit inside left stays.1))
       | inr hops ↦
           leads-hops core node hops.0 (length more) _ _ _ _ (walk_on-hops p.base tables node level wanted more hops.0 hops.1)
-              (narrowed-taken p.base tables node level wanted more names agree) left.here
+          (narrowed-taken p.base tables node level wanted more names agree) left.here
           (leads_on p core tables free more hops.0 (level + 1) (filter (λ x. get_or x level 0 == digit) names) (omega arith)
-              (All-tail (λ d. d < p.base) wanted more below)
+          (All-tail (λ d. d < p.base) wanted more below)
           (left_more p core tables free node hops.0 level names digit inside left hops.2))
     ]
 
 pub walk_law_holds : WalkLaw
 walk_law_holds p core tables free node object among name =
     let whole = leads_on p core tables free object node 0 core (omega (arith, name.len)) name.below
-        (record { here = among; only = λ x h. (h, refl); each = λ x h e. h }) in
+    (record { here = among; only = λ x h. (h, refl); each = λ x h e. h }) in
     record { begins = whole.begins; ends = whole.ends None; few_hops = omega (arith, whole.few, name.len); over_core = whole.over_core }

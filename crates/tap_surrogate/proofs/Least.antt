@@ -56,12 +56,12 @@ first_is_least core links to ascending first other among below =
     let pairs = AllPairs-filter IsBelow core targets (targets_ascend links ascending) in
     first_of_ascending (filter core targets) to other pairs first among below
 
-first_among : (names : List (List ℕ)) (to : List ℕ) → first_of names ≡ Some to → Among to names
+pub first_among : (names : List (List ℕ)) (to : List ℕ) → first_of names ≡ Some to → Among to names
 first_among [] to first = let wrong : None ≡ Some to = first in cc
 first_among (x ∷ xs) to first = let here : x ≡ to = cc in inl (sym here)
 
 -- what fits a slot has its place there
-place_where_it_fits : (a b : List ℕ) (slot : Slot) → Fits a b slot → place_of a b ≡ slot
+pub place_where_it_fits : (a b : List ℕ) (slot : Slot) → Fits a b slot → place_of a b ≡ slot
 place_where_it_fits a b slot fits = elim (cases_Bool (eqb (common_prefix_len nat_eq a b) (length a))) [
   | inl e ↦ let wrong : None ≡ Some slot = rw e at fits in cc
   | inr e ↦ let is : Some (place_of a b) ≡ Some slot = rw e at fits in cc

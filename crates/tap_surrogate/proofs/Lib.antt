@@ -1,9 +1,13 @@
 pub mod Cyclic
 pub mod Nearest
 pub mod Paths
+pub mod Entering
 pub mod CoreLinks
 pub mod Standing
 pub mod HoleFreePaths
 pub mod AtRest
 pub mod RestTables
 pub mod Least
+pub mod NextHops
+pub mod Chains
+pub mod HoleFreeLinks

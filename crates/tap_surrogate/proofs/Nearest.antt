@@ -47,7 +47,7 @@ shared_between p object a b c object_name a_name b_name c_name near next (suc le
     let ends = ap (cyclic_distance p.base (get_or object level 0)) (same_at level many a c (omega arith) shared) in
     let same = same_distance p.base (get_or object level 0) (get_or a level 0) (get_or b level 0) (object_name.below level 0 in_object)
     (a_name.below level 0 (omega (arith, a_name.len))) (b_name.below level 0 (omega (arith, b_name.len)))
-        (omega (arith, low, high, ends)) in
+    (omega (arith, low, high, ends)) in
     rw add-one at (share_more p level a b a_name b_name inside before same)
 
 -- to be as near is transitive
@@ -55,7 +55,7 @@ pub as_near-trans : (p : SettingsValue) (object a b c : List ℕ) → IsName p o
     → IsAsNear p.base object a b → IsAsNear p.base object b c → IsAsNear p.base object a c
 as_near-trans p object a b c object_name a_name b_name c_name near next level inside shared =
     let before = shared_between p object a b c object_name a_name b_name c_name near next level level (omega arith)
-        (omega (arith, object_name.len)) shared in
+    (omega (arith, object_name.len)) shared in
     let low = near level inside before in
     let high = next level inside (sym before ∙ shared) in
     omega (arith, low, high)
@@ -93,7 +93,7 @@ left_more p object nearest level names inside left =
       share = λ x h.
           let w = among-filter test names x h in
           share_more p level nearest x (left.valid nearest left.here) (left.valid x w.0) inside (left.share x w.0)
-              (sym (eqb-true (get_or x level 0) (get_or nearest level 0) w.1));
+          (sym (eqb-true (get_or x level 0) (get_or nearest level 0) w.1));
       near = λ x h. left.near x (among-filter test names x h).0;
     }
 
@@ -111,8 +111,8 @@ narrowed_to_nearest p object nearest (wanted ∷ more) level names object_name l
     let tail : more ≡ drop (level + 1) object = cc in
     let digit = ap (first_cyclic p.base (has_digit names level)) head ∙ kept_digit p object nearest level names object_name inside left in
     rw digit (narrowed_to_nearest p object nearest more (level + 1)
-        (filter (λ x. get_or x level 0 == get_or nearest level 0) names) object_name (omega arith) tail
-            (left_more p object nearest level names inside left))
+    (filter (λ x. get_or x level 0 == get_or nearest level 0) names) object_name (omega arith) tail
+    (left_more p object nearest level names inside left))
 
 narrowed-nil : (base level : ℕ) (more : List ℕ) → narrowed base level more [] ≡ []
 narrowed-nil base level [] = refl
@@ -128,7 +128,7 @@ pub nearest_is_root : (p : SettingsValue) (names : List (List ℕ)) (object near
     → ((x : List ℕ) → Among x names → IsAsNear p.base object nearest x) → root p.base names object ≡ Some nearest
 nearest_is_root p names object nearest valid object_name here near =
     narrowed_to_nearest p object nearest object 0 names object_name (omega (arith, object_name.len)) refl
-        (record { here = here; valid = valid; share = λ x h. refl; near = near })
+    (record { here = here; valid = valid; share = λ x h. refl; near = near })
 
 -- The nearest of the names that were seen so far: the first one, and as many of the others as the index says.
 pub record IsNearestSeen (p : SettingsValue) (object : List ℕ) (names : List (List ℕ)) (first : List ℕ) (others : List (List ℕ)) (i : ℕ)
@@ -194,4 +194,4 @@ nearest_seen_is_root p object names first others i nearest valid object_name spl
     let all = take_all i others end in
     let near : All (IsAsNear p.base object nearest) (first ∷ others) = rw all at seen.near in
     nearest_is_root p names object nearest valid object_name seen.among
-        (λ x h. among-All (IsAsNear p.base object nearest) (first ∷ others) near x (rw split at h))
+    (λ x h. among-All (IsAsNear p.base object nearest) (first ∷ others) near x (rw split at h))

@@ -88,7 +88,7 @@ links_at_rest p owner slot names is_owner are =
 
 -- ---- all members
 
-some_table : (o : Option TableValue) (P : TableValue → Type 0) → IsSomeAnd o P → (table : TableValue) × (o ≡ Some table) × P table
+pub some_table : (o : Option TableValue) (P : TableValue → Type 0) → IsSomeAnd o P → (table : TableValue) × (o ≡ Some table) × P table
 some_table None P h = absurd h
 some_table (Some table) P h = (table, refl, h)
 

@@ -1,6 +1,7 @@
 pub mod Tables
 pub mod Nodes
 pub mod Walk
+pub mod Entered
 pub mod HoleFree
 pub mod Members
 pub mod Laws

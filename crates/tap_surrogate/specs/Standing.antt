@@ -19,5 +19,5 @@ pub record IsStanding (p : SettingsValue) (nodes : Nodes) (walk : WalkValue) : T
   pub object : IsName p walk.object
 
 -- the nodes of the walk from where it stands to its end
-abbrev pub nodes_left : ℕ → Tables → WalkValue → List (List ℕ)
-nodes_left base tables walk = walk_on base tables walk.node walk.level (drop walk.level walk.object)
+abbrev pub path_left : ℕ → Tables → WalkValue → List (List ℕ)
+path_left base tables walk = walk_on base tables walk.node walk.level (drop walk.level walk.object)

@@ -7,8 +7,8 @@ use Rattle.tap_surrogate.specs.Tables.{Tables, least_link}
 
 -- the digit that a walk takes at a level: the first one, cyclically from the object's, that is the
 -- node's own or whose slot has a link to a core node
-abbrev pub taken_digit : ℕ → Tables → List ℕ → ℕ → ℕ → ℕ
-taken_digit base tables node level wanted =
+abbrev pub walked_digit : ℕ → Tables → List ℕ → ℕ → ℕ → ℕ
+walked_digit base tables node level wanted =
     first_cyclic base
     (λ digit. slice_index node level == digit || is_some (least_link tables node level digit)) wanted
 
@@ -16,7 +16,7 @@ taken_digit base tables node level wanted =
 -- least core node in its slot
 abbrev pub hop : ℕ → Tables → List ℕ → ℕ → ℕ → Option (List ℕ)
 hop base tables node level wanted =
-    let digit = taken_digit base tables node level wanted
+    let digit = walked_digit base tables node level wanted
     in (if slice_index node level == digit then None else least_link tables node level digit)
 
 -- the nodes of a walk from where it stands, before a level at which these digits of the object are

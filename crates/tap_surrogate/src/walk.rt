@@ -44,8 +44,8 @@ impl Model for Walk {
 }
 
 impl Walk {
-    ghost use Rattle.tap_surrogate.specs.Standing.{IsStanding, nodes_left};
-    ghost use Rattle.tap_surrogate.specs.Step1.{IsHop, IsStep};
+    ghost use Rattle.tap_surrogate.specs.Standing.{IsStanding, path_left};
+    ghost use Rattle.tap_surrogate.specs.Step1.{IsWalkHop, IsWalkStep};
 
     /// The walk of an object that stands at a node and has made no hop.
     pub fn new(from: Name, object: Name) -> Walk
@@ -71,7 +71,7 @@ impl Walk {
     /// The walk stands at a core node, and its object is a name of the settings.
     pub fn next<T: Tables>(&mut self, tables: &T) -> Step1
         requires { IsStanding (T.parameters tables.now) (T.nodes tables.now) self.old }
-        ensures step { IsStep (T.parameters tables.now) (T.nodes tables.now) self.old self.new result }
+        ensures step { IsWalkStep (T.parameters tables.now) (T.nodes tables.now) self.old self.new result }
         ensures standing { IsStanding (T.parameters tables.now) (T.nodes tables.now) self.new }
     {
         match self.after_hop(tables) {
@@ -92,8 +92,8 @@ impl Walk {
         requires { IsStanding (T.parameters tables.now) (T.nodes tables.now) self.now }
         ensures { let p = T.parameters tables.now in let nodes = T.nodes tables.now in
             MatchOption result
-            (nodes_left p.base (core_links nodes) self.now ≡ self.now.node ∷ [])
-            (λ after. IsHop p nodes self.now after) }
+            (path_left p.base (core_links nodes) self.now ≡ self.now.node ∷ [])
+            (λ after. IsWalkHop p nodes self.now after) }
     {
         let Some(table) = tables.table_of(self.node) else {
             unreachable!()

@@ -1,5 +1,5 @@
 -- A table that settles on ascending names, one after another.
-use Rattle.std.proofs.Common.{◌≡◌, ◌≢◌, inl, inr, ℕ, ◌+◌, ◌*◌, ◌<◌, nat_lt, cond, Bool, true, false, ◌&&◌, None, Some, List, [], ◌∷◌, ◌++◌, length, map, set, take, filter, get_or, All, AllPairs, refl, ap, sym, ◌∙◌, arith}
+use Rattle.std.proofs.Common.{◌≡◌, ◌≢◌, inl, inr, ℕ, ◌+◌, ◌*◌, ◌<◌, nat_lt, cond, if◌then◌else◌, Bool, true, false, ◌&&◌, None, Some, List, [], ◌∷◌, ◌++◌, length, map, set, take, filter, get_or, All, AllPairs, refl, ap, sym, ◌∙◌, arith}
 use Rattle.std.specs.List.{range_with_len}
 use Rattle.std.specs.Option.{is_none}
 use Rattle.std.specs.Ordering.{is_gt, is_lt, ordering_reverse}
@@ -16,10 +16,11 @@ use Rattle.tap_name.specs.Settings.{SettingsValue}
 use Rattle.tap_name.specs.Slot.{slot_at}
 use Rattle.tap_link.specs.declared.kind.Kind.TheVariants.{Settled}
 use Rattle.tap_link.specs.Entry.{Entry}
-use Rattle.tap_link.specs.LinkSet.{is_settled, kind_of, settled_count, with_link}
+use Rattle.tap_link.specs.LinkSet.{LinkSetValue, is_settled, kind_of, settled_count, with_link}
 use Rattle.tap_table.specs.Members.{IsBelow, first_fitting, fitting, is_slot, settled_links, table_at_rest}
-use Rattle.tap_table.specs.Table.{SlotLinks, TableValue, empty_table, has_room_near, kind_in, links_near, name_cmp, place_of, slot_number, slot_numbered, with_links}
+use Rattle.tap_table.specs.Table.{SlotLinks, TableValue, empty_table, has_room_near, kind_in, links_near, name_cmp, near, offered, place_of, slot_number, slot_numbered, with_near}
 use Rattle.tap_table.proofs.Fitting.{fits_no_other, fits_own, fitting-push, fitting-skip, no_slot_of_itself, take-push}
+use Rattle.tap_table.proofs.Near.{with_near_same}
 use Rattle.tap_table.proofs.Slots.{target_inside}
 
 -- a name above the targets of settled links
@@ -59,7 +60,7 @@ pub all_settled : (targets : List (List ℕ)) → settled_count (settled_links t
 all_settled [] = refl
 all_settled (x ∷ xs) =
     let more = sum_by-cons (λ (e : Entry (List ℕ)). cond {A = ℕ} (is_settled (Some e.kind)) 1 0) (record { target = x; kind = Settled })
-        (settled_links xs) in
+    (settled_links xs) in
     more ∙ omega (arith, all_settled xs)
 
 -- a table that has settled on these names
@@ -84,7 +85,7 @@ pub settled_on_all : (p : SettingsValue) (owner : List ℕ) (names : List (List 
 settled_on_all p owner names t has =
     let of : ℕ → SlotLinks = λ number. settled_links (first_fitting p owner (slot_numbered p.base number) names) in
     let slots : t.slots ≡ map of (range_with_len 0 (p.base * p.digits)) =
-        fill_by_all of t.slots (p.base * p.digits) [] has.count has.each in
+    fill_by_all of t.slots (p.base * p.digits) [] has.count has.each in
     let with_owner : List ℕ → TableValue = λ o. record { owner = o; settings = t.settings; slots = t.slots } in
     let with_settings : SettingsValue → TableValue = λ q. record { owner = owner; settings = q; slots = t.slots } in
     let with_slots : List SlotLinks → TableValue = λ l. record { owner = owner; settings = p; slots = l } in
@@ -135,7 +136,7 @@ module _ (p : SettingsValue) (owner : List ℕ) (names : List (List ℕ)) (i : �
   fitting_here is_owner is_name within is other k here =
       let slot = slot_numbered p.base mine in
       let fits : is_slot slot (slot_at owner (get_or names i name))
-          ≡ true = rw (← is) (fits_own p owner name mine is_owner is_name other refl) in
+      ≡ true = rw (← is) (fits_own p owner name mine is_owner is_name other refl) in
       let more = fitting-push owner slot names i name within fits in
       let at : ℕ → List (List ℕ) = λ n. first_fitting p owner (slot_numbered p.base n) (take (i + 1) names) in
       ap at here ∙ ap (take p.width) more ∙ ap (λ x. take p.width (fitting owner slot (take i names) ++ x ∷ [])) (sym is)
@@ -146,13 +147,13 @@ module _ (p : SettingsValue) (owner : List ℕ) (names : List (List ℕ)) (i : �
   fitting_elsewhere is_owner is_name within is other k ne =
       let slot = slot_numbered p.base k in
       let fails : is_slot slot (slot_at owner (get_or names i name))
-          ≡ false = rw (← is) (fits_no_other p owner name k is_owner is_name other ne) in
+      ≡ false = rw (← is) (fits_no_other p owner name k is_owner is_name other ne) in
       ap (take p.width) (fitting-skip owner slot names i name within fails)
 
   number_is : HasSettled p owner (take i names) old → slot_number old.settings.base (place_of old.owner name) ≡ mine
   number_is has =
       ap (λ (q : SettingsValue). slot_number q.base (place_of old.owner name)) has.settings_are
-          ∙ ap (λ o. slot_number p.base (place_of o name)) has.owner_is
+      ∙ ap (λ o. slot_number p.base (place_of o name)) has.owner_is
 
   near_is : HasSettled p owner (take i names) old → IsName p owner → IsName p name → name ≢ owner
       → links_near old name ≡ settled_links targets
@@ -181,28 +182,29 @@ module _ (p : SettingsValue) (owner : List ℕ) (names : List (List ℕ)) (i : �
               ∙ ap (λ n. settled_links (first_fitting p owner (slot_numbered p.base n) (take i names))) here ∙ ap settled_links (sym now)
           | inr ne ↦
               ap (λ u. get_or u.slots k []) same ∙ has.each k inside
-                  ∙ ap settled_links (sym (fitting_elsewhere is_owner is_name within is other k ne))
+              ∙ ap settled_links (sym (fitting_elsewhere is_owner is_name within is other k ne))
         ];
       }
 
   more_after : HasSettled p owner (take i names) old → IsName p owner → IsName p name → i < length names → name ≡ get_or names i name
       → name ≢ owner
-      → nat_lt (length targets) p.width ≡ true → new ≡ with_links old name (settled_links (targets ++ name ∷ []))
+      → nat_lt (length targets) p.width ≡ true → new.slots ≡ set old.slots (slot_number old.settings.base (place_of old.owner name)) (settled_links (targets ++ name ∷ []))
+      → new.owner ≡ old.owner → new.settings ≡ old.settings
       → HasSettled p owner (take (i + 1) names) new
-  more_after has is_owner is_name within is other room grown =
+  more_after has is_owner is_name within is other room grown same_owner same_settings =
       let links = settled_links (targets ++ name ∷ []) in
       let number = number_is has in
-      let slots : new.slots ≡ set old.slots mine links = ap (λ u. u.slots) grown ∙ ap (λ n. set old.slots n links) number in
+      let slots : new.slots ≡ set old.slots mine links = grown ∙ ap (λ n. set old.slots n links) number in
       record {
-        owner_is = ap (λ u. u.owner) grown ∙ has.owner_is;
-        settings_are = ap (λ u. u.settings) grown ∙ has.settings_are;
+        owner_is = same_owner ∙ has.owner_is;
+        settings_are = same_settings ∙ has.settings_are;
         count = ap length slots ∙ length-set old.slots mine links ∙ has.count;
         each = λ k inside. elim (cases_eq k mine) [
           | inl here ↦
               let now = fitting_here is_owner is_name within is other k here ∙ ap (λ b. cond b (targets ++ name ∷ []) targets) room in
               let there : mine < length old.slots = let c = has.count in omega arith in
               ap (λ l. get_or l k []) slots ∙ ap (λ n. get_or (set old.slots mine links) n []) here
-                  ∙ get_or-set_same old.slots mine links [] there
+              ∙ get_or-set_same old.slots mine links [] there
               ∙ ap settled_links (sym now)
           | inr ne ↦
               ap (λ l. get_or l k []) slots ∙ get_or-set_other old.slots mine k links [] ne ∙ has.each k inside
@@ -211,22 +213,26 @@ module _ (p : SettingsValue) (owner : List ℕ) (names : List (List ℕ)) (i : �
       }
 
   pub settled_on_other : HasSettled p owner (take i names) old → IsName p owner → IsName p name → AllPairs IsBelow names → i < length names
-      → name ≡ get_or names i name → name ≢ owner
-      → new ≡ cond (is_none (kind_in old name) && has_room_near old name)
-      (with_links old name (with_link name_cmp (links_near old name) name Settled)) old
-      → HasSettled p owner (take (i + 1) names) new
+      → name ≡ get_or names i name → name ≢ owner → new ≡ offered old name → HasSettled p owner (take (i + 1) names) new
   settled_on_other has is_owner is_name ascending within is other new_is =
-      let near = near_is has is_owner is_name other in
+      let at = near_is has is_owner is_name other in
       let first : IsAbove name (take i names) = rw (← is) at (above_the_first names i name ascending within) in
       let over = above_fitting p owner name mine (take i names) first in
-      let absent : kind_in old name ≡ None = ap (λ l. kind_of name_cmp l name) near ∙ not_linked name targets over in
+      let absent : kind_in old name ≡ None = ap (λ l. kind_of name_cmp l name) at ∙ not_linked name targets over in
       let room = has_room_is has is_owner is_name other in
       let behind : with_link name_cmp (links_near old name) name Settled ≡ settled_links (targets ++ name ∷ []) =
-      ap (λ l. with_link name_cmp l name Settled) near ∙ with_link_behind name targets over in
-      let result : Bool → TableValue = λ b. cond b (with_links old name (with_link name_cmp (links_near old name) name Settled)) old in
+      ap (λ l. with_link name_cmp l name Settled) at ∙ with_link_behind name targets over in
+      let added : LinkSetValue (List ℕ) =
+      record { width = old.settings.width; links = with_link name_cmp (links_near old name) name Settled } in
+      let result : Bool → TableValue = λ b. with_near old name (if b then added else near old name) in
       let test : (is_none (kind_in old name) && has_room_near old name) ≡ nat_lt (length targets) p.width =
       ap (λ k. is_none k && has_room_near old name) absent ∙ room in
       elim (cases_Bool (nat_lt (length targets) p.width)) [
-        | inl e ↦ more_after has is_owner is_name within is other e (new_is ∙ ap result (test ∙ e) ∙ ap (with_links old name) behind)
-        | inr e ↦ same_after has is_owner is_name within is other e (new_is ∙ ap result (test ∙ e))
+        | inl e ↦
+            let grown : new ≡ with_near old name added = new_is ∙ ap result (test ∙ e) in
+            let slots = set old.slots (slot_number old.settings.base (place_of old.owner name)) in
+            more_after has is_owner is_name within is other e (ap (λ u. u.slots) grown ∙ ap slots behind) (ap (λ u. u.owner) grown)
+            (ap (λ u. u.settings) grown)
+        | inr e ↦
+            same_after has is_owner is_name within is other e (new_is ∙ ap result (test ∙ e) ∙ with_near_same old name)
       ]

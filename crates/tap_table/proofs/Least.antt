@@ -22,7 +22,7 @@ is_slot-to slot (Some other) is =
     let parts = and_parts (eqb other.level slot.level) (eqb other.digit slot.digit) is in
     ap Some (same_slot other slot (eqb-true other.level slot.level parts.0) (eqb-true other.digit slot.digit parts.1))
 
-AllPairs-take : (R : List ℕ → List ℕ → Type 0) (n : ℕ) (names : List (List ℕ)) → AllPairs R names
+pub AllPairs-take : (R : List ℕ → List ℕ → Type 0) (n : ℕ) (names : List (List ℕ)) → AllPairs R names
     → AllPairs R (take n names)
 AllPairs-take R n names pairs = λ i j d before within.
     let len = length-take n names in
@@ -64,7 +64,7 @@ first_fitting_law_holds width owner slot members ascending =
           (w.0, is_slot-to slot (slot_at owner link) w.1);
       least = λ member among fits.
           in_front_or_above width (fitting owner slot members) pairs member
-              (among-filter_from test members member among (is_slot-from slot (slot_at owner member) fits));
+          (among-filter_from test members member among (is_slot-from slot (slot_at owner member) fits));
     }
 
 pub ties_law_holds : TiesLaw

@@ -1,19 +1,18 @@
 -- All links of a table, slot by slot.
-use Rattle.std.proofs.Common.{◌≡◌, ℕ, ◌+◌, ◌*◌, ◌<◌, ◌≤◌, zero, suc, None, Some, List, [], ◌∷◌, ◌++◌, length, get_or, slice_get, map, drop, All, arith, ap, sym, refl, ◌∙◌, length-append}
+use Rattle.std.proofs.Common.{◌≡◌, ℕ, ◌+◌, ◌<◌, ◌≤◌, zero, suc, None, Some, List, [], ◌∷◌, ◌++◌, length, get_or, slice_get, map, drop, arith, ap, sym, refl, ◌∙◌, length-append}
 use Rattle.std.specs.List.{enumerate_from, flat_map, sum_by}
 use Rattle.std.specs.Option.{option_map}
-use Rattle.std.proofs.Math.Nat.{mul-le-mul_left}
 use Rattle.std.proofs.lemmas.List.{drop_all, drop_more, length-map}
-use Rattle.std.proofs.lemmas.List.Elements.{All-head, All-tail, All-from_get_or}
 use Rattle.std.proofs.lemmas.List.Sums.{sum_by-cons}
 use Rattle.std.proofs.lemmas.Option.{slice_get-map, slice_get_past}
 use Rattle.tap_name.specs.Settings.{SettingsValue}
+use Rattle.tap_link.specs.declared.kind.Kind.{Kind}
 use Rattle.tap_link.specs.Entry.{Entry}
 use Rattle.tap_link.specs.LinkSet.{LinkSetValue}
-use Rattle.tap_table.specs.declared.table.TheConstants.{MOST_LINKS}
 use Rattle.tap_table.specs.declared.table.Place.{Place}
 use Rattle.tap_table.specs.Place.{IsPlace}
-use Rattle.tap_table.specs.Table.{AreSets, Row, SlotLinks, TableValue, rows, rows_of, slot_numbered, table_of}
+use Rattle.tap_table.specs.Sets.{all_links}
+use Rattle.tap_table.specs.Table.{Row, SlotLinks, TableValue, rows, rows_of, slot_numbered, table_of}
 use Rattle.tap_table.proofs.Slots.{links_of_set}
 
 module _ {X : Type 0} where
@@ -33,42 +32,28 @@ module _ {X : Type 0} where
   got (x ∷ xs) (suc k) within = got xs k (omega arith)
 
 -- as many rows as links
-pub length-rows : (base n : ℕ) (sets : List (LinkSetValue (List ℕ)))
-    → length (flat_map (rows_of base) (enumerate_from n (map (λ s. s.links) sets))) ≡ sum_by (λ s. length s.links) sets
+pub length-rows : (base n : ℕ) (slots : List SlotLinks)
+    → length (flat_map (rows_of base) (enumerate_from n slots)) ≡ sum_by (λ links. length links) slots
 length-rows base n [] = refl
-length-rows base n (s ∷ sets) =
+length-rows base n (links ∷ slots) =
+    let more = flat_map (rows_of base) (enumerate_from (n + 1) slots) in
+    let both = length-append (rows_of base (n, links)) more in
+    let here : length (rows_of base (n, links)) ≡ length links = length-map links _ in
+    let rest = length-rows base (n + 1) slots in
+    let sum = sum_by-cons (λ (l : SlotLinks). length l) links slots in
+    omega (arith, both, here, rest, sum)
+
+-- as many as all sets have
+pub length-rows_of_sets : (base n : ℕ) (sets : List (LinkSetValue (List ℕ)))
+    → length (flat_map (rows_of base) (enumerate_from n (map (λ s. s.links) sets))) ≡ all_links sets
+length-rows_of_sets base n [] = refl
+length-rows_of_sets base n (s ∷ sets) =
     let more = flat_map (rows_of base) (enumerate_from (n + 1) (map (λ s. s.links) sets)) in
     let both = length-append (rows_of base (n, s.links)) more in
     let here : length (rows_of base (n, s.links)) ≡ length s.links = length-map s.links _ in
-    let rest = length-rows base (n + 1) sets in
+    let rest = length-rows_of_sets base (n + 1) sets in
     let sum = sum_by-cons (λ (s : LinkSetValue (List ℕ)). length s.links) s sets in
     omega (arith, both, here, rest, sum)
-
-sum_le : (sets : List (LinkSetValue (List ℕ))) → All (λ s. length s.links ≤ MOST_LINKS) sets
-    → sum_by (λ s. length s.links) sets ≤ length sets * MOST_LINKS
-sum_le [] few = omega arith
-sum_le (s ∷ sets) few =
-    let rest = sum_le sets (All-tail (λ s. length s.links ≤ MOST_LINKS) s sets few) in
-    let here = All-head (λ s. length s.links ≤ MOST_LINKS) s sets few in
-    let sum = sum_by-cons (λ (s : LinkSetValue (List ℕ)). length s.links) s sets in
-    omega (arith, rest, here, sum)
-
--- the links of all slots are counted in 64 bits
-pub links_fit : (owner : List ℕ) (p : SettingsValue) (sets : List (LinkSetValue (List ℕ))) → AreSets owner p sets
-    → sum_by (λ s. length s.links) sets ≤ 640 * MOST_LINKS
-links_fit owner p sets are =
-    let few : All (λ s. length s.links ≤ MOST_LINKS) sets =
-        All-from_get_or (λ s. length s.links ≤ MOST_LINKS) sets (record { width = 0; links = [] })
-    (λ i within.
-    let is = links_of_set sets i (record { width = 0; links = [] }) within in
-    let small = are.valid.few i in
-    rw is at small) in
-    let sum = sum_le sets few in
-    let len = length-map sets (λ (s : LinkSetValue (List ℕ)). s.links) in
-    let count = are.valid.count in
-    let wide = mul-le-mul_left p.base are.valid.limits.digits_to in
-    let base = are.valid.limits.base_to in
-    omega (arith, sum, len, count, wide, base)
 
 -- the rows from a slot on begin with those of the slot
 rows_more : (base n : ℕ) (slots : List SlotLinks) → n < length slots
@@ -88,17 +73,21 @@ pub place_found : (t : TableValue) (i n link : ℕ) → n < length t.slots → l
 place_found t i n link within inside rest =
     let links = get_or t.slots n [] in
     let front = slice_get_front (rows_of t.settings.base (n, links))
-        (flat_map (rows_of t.settings.base) (enumerate_from (n + 1) (drop (n + 1) t.slots))) link
+    (flat_map (rows_of t.settings.base) (enumerate_from (n + 1) (drop (n + 1) t.slots))) link
     (omega (arith, inside, length-rows_of t.settings.base n links)) in
-    record { slot = within; link = inside; same = sym rest ∙ ap (λ l. slice_get l link) (rows_more t.settings.base n t.slots within)
-        ∙ front }
+    record {
+      slot = within;
+      link = inside;
+      same = sym rest ∙ ap (λ l. slice_get l link) (rows_more t.settings.base n t.slots within)
+          ∙ front;
+    }
 
 pub place_later : (t : TableValue) (i n link less : ℕ) → n < length t.slots → less + length (get_or t.slots n []) ≡ link → IsRest t i n link
     → IsRest t i (n + 1) less
 place_later t i n link less within is rest =
     let links = get_or t.slots n [] in
     let behind = slice_get_behind (rows_of t.settings.base (n, links))
-        (flat_map (rows_of t.settings.base) (enumerate_from (n + 1) (drop (n + 1) t.slots))) link less
+    (flat_map (rows_of t.settings.base) (enumerate_from (n + 1) (drop (n + 1) t.slots))) link less
     (omega (arith, is, length-rows_of t.settings.base n links)) in
     sym behind ∙ sym (ap (λ l. slice_get l link) (rows_more t.settings.base n t.slots within)) ∙ rest
 
@@ -107,17 +96,9 @@ place_within t i n link within rest past =
     let row = got (rows t) i within in
     let none : drop n t.slots ≡ [] = drop_all n t.slots past in
     let nothing : slice_get (flat_map (rows_of t.settings.base) (enumerate_from n (drop n t.slots))) link
-        ≡ None = rw none (slice_get_past [] link (omega arith)) in
+    ≡ None = rw none (slice_get_past [] link (omega arith)) in
     let wrong : None ≡ Some row.0 = sym nothing ∙ rest ∙ row.1 in
     cc
-
--- what a row says of the link that stands at its place
-pub field_at : {A : Type 0} (field : Row → A) (t : TableValue) (i : ℕ) (place : Place) (e : Entry (List ℕ)) → IsPlace t i place
-    → slice_get (get_or t.slots place.number []) place.link ≡ Some e
-    → slice_get (map field (rows t)) i ≡ Some (field (record { slot = slot_numbered t.settings.base place.number; entry = e }))
-field_at field t i place e is found =
-    let links = get_or t.slots place.number [] in
-    slice_get-map field (rows t) i ∙ ap (option_map field) (is.same ∙ slice_get-map _ links place.link ∙ ap (option_map _) found)
 
 -- the slots of a table, from the sets that a loop goes over
 pub slots_are : (t : TableValue) (owner : List ℕ) (p : SettingsValue) (items sets : List (LinkSetValue (List ℕ)))
@@ -133,13 +114,23 @@ pub slot_is : (t : TableValue) (sets : List (LinkSetValue (List ℕ))) (n : ℕ)
     → e ≡ get_or sets n e → get_or t.slots n [] ≡ e.links
 slot_is t sets n e are within is = ap (λ l. get_or l n []) are ∙ links_of_set sets n e within ∙ sym (ap (λ s. s.links) is)
 
--- what a set says of its link at the place
-pub at_place : {A : Type 0} (f : Entry (List ℕ) → A) (t : TableValue) (i : ℕ) (place : Place) (links : SlotLinks) (r : A)
-    → IsPlace t i place
-    → get_or t.slots place.number [] ≡ links → slice_get (map f links) place.link ≡ Some r
-    → slice_get (map (λ row. f row.entry) (rows t)) i ≡ Some r
-at_place f t i place links r is same said =
-    let e = got (get_or t.slots place.number []) place.link is.link in
-    let read = slice_get-map f (get_or t.slots place.number []) place.link ∙ ap (option_map f) e.1 in
-    let said_here = ap (λ l. slice_get (map f l) place.link) same ∙ said in
-    field_at (λ row. f row.entry) t i place e.0 is e.1 ∙ sym read ∙ said_here
+-- the row of the link that stands at a place
+pub row_of_place : (t : TableValue) (i : ℕ) (place : Place) (links : SlotLinks) (target : List ℕ) (kind : Kind) → IsPlace t i place
+    → get_or t.slots place.number [] ≡ links → slice_get (map (λ e. e.target) links) place.link ≡ Some target
+    → slice_get (map (λ e. e.kind) links) place.link ≡ Some kind
+    → slice_get (rows t) i
+    ≡ Some (record { slot = slot_numbered t.settings.base place.number; entry = record { target = target; kind = kind } })
+row_of_place t i place links target kind is same target_is kind_is =
+    let e = got links place.link (rw same at is.link) in
+    let here : slice_get (get_or t.slots place.number []) place.link ≡ Some e.0 = ap (λ l. slice_get l place.link) same ∙ e.1 in
+    let target_read = slice_get-map (λ e. e.target) links place.link ∙ ap (option_map (λ e. e.target)) e.1 in
+    let kind_read = slice_get-map (λ e. e.kind) links place.link ∙ ap (option_map (λ e. e.kind)) e.1 in
+    let same_target : Some e.0.target ≡ Some target = sym target_read ∙ target_is in
+    let same_kind : Some e.0.kind ≡ Some kind = sym kind_read ∙ kind_is in
+    let t_is : e.0.target ≡ target = cc in
+    let k_is : e.0.kind ≡ kind = cc in
+    let of_entry : Entry (List ℕ) → Row = λ f. record { slot = slot_numbered t.settings.base place.number; entry = f } in
+    let with_target : List ℕ → Entry (List ℕ) = λ n. record { target = n; kind = e.0.kind } in
+    let with_kind : Kind → Entry (List ℕ) = λ k. record { target = target; kind = k } in
+    is.same ∙ slice_get-map of_entry (get_or t.slots place.number []) place.link ∙ ap (option_map of_entry) here
+    ∙ ap (λ f. Some (of_entry f)) (ap with_target t_is ∙ ap with_kind k_is)

@@ -1,11 +1,11 @@
 -- The slots of a table, and what a change of one of them keeps.
-use Rattle.std.proofs.Common.{◌≡◌, ◌≢◌, ℕ, ◌+◌, ◌*◌, ◌<◌, ◌≤◌, zero, suc, List, [], ◌∷◌, ◌++◌, replicate, length, get_or, map, set, nat_eq, All, arith, ap, sym, refl, ◌∙◌, inl, inr}
+use Rattle.std.proofs.Common.{◌≡◌, ◌≢◌, ℕ, ◌+◌, ◌*◌, ◌<◌, zero, suc, List, [], ◌∷◌, ◌++◌, replicate, length, get_or, map, nat_eq, arith, ap, sym, refl, ◌∙◌, inl, inr}
 use Rattle.std.specs.List.{common_prefix_len}
 use Rattle.std.proofs.Math.Nat.{mul-le-mul_left}
-use Rattle.std.proofs.lemmas.Bool.{cases_eq, cases_lt}
+use Rattle.std.proofs.lemmas.Bool.{cases_lt}
 use Rattle.std.proofs.lemmas.Nat.{div-mul-add, mod-mul-add}
-use Rattle.std.proofs.lemmas.List.{get_or-map, get_or-set_same, get_or-set_other, get_or_past, get_or-replicate, length-replicate, replicate-append-replicate, length-set, map-set}
-use Rattle.std.proofs.lemmas.List.Elements.{All-nil, All-replicate, All-set}
+use Rattle.std.proofs.lemmas.List.{get_or-map, get_or_past, get_or-replicate, length-replicate, replicate-append-replicate}
+use Rattle.std.proofs.lemmas.List.Elements.{All-nil, All-replicate}
 use Rattle.std.proofs.lemmas.List.Sums.{common_prefix_len-le}
 use Rattle.tap_name.specs.declared.slot.Slot.{Slot}
 use Rattle.tap_name.specs.Name.{IsName}
@@ -13,7 +13,6 @@ use Rattle.tap_name.specs.Settings.{AreWithinLimits, SettingsValue}
 use Rattle.tap_name.proofs.Prefix.{whole_prefix}
 use Rattle.tap_name.proofs.Slots.{same_slot}
 use Rattle.tap_link.specs.LinkSet.{LinkSetValue}
-use Rattle.tap_table.specs.declared.table.TheConstants.{MOST_LINKS}
 use Rattle.tap_table.specs.Table.{AreSets, SlotLinks, TableValue, StandsIn, empty_table, place_of, slot_number, slot_numbered, table_of}
 
 -- a slot of the table has its number below the number of slots
@@ -49,68 +48,25 @@ pub links_of_set : (sets : List (LinkSetValue (List ℕ))) (number : ℕ) (d : L
     → get_or (map (λ s. s.links) sets) number [] ≡ (get_or sets number d).links
 links_of_set sets number d within = get_or-map (λ s. s.links) sets number d [] within
 
--- another set in one slot
-pub table-set : (owner : List ℕ) (p : SettingsValue) (sets : List (LinkSetValue (List ℕ))) (number : ℕ) (new : LinkSetValue (List ℕ))
-    (links : SlotLinks) → new.links ≡ links
-    → table_of owner p (set sets number new) ≡ record (table_of owner p sets) { slots = set (map (λ s. s.links) sets) number links }
-table-set owner p sets number new links is =
-    let with : List SlotLinks → TableValue = λ slots. record { owner = owner; settings = p; slots = slots } in
-    ap with (map-set (λ s. s.links) sets number new ∙ ap (set (map (λ s. s.links) sets) number) is)
-
-pub sets-set : (owner : List ℕ) (p : SettingsValue) (sets : List (LinkSetValue (List ℕ))) (number : ℕ) (new : LinkSetValue (List ℕ))
-    → AreSets owner p sets
-    → new.width ≡ p.width → All (λ e. StandsIn p owner number e.target) new.links → length new.links ≤ MOST_LINKS
-    → AreSets owner p (set sets number new)
-sets-set owner p sets number new are width standing few =
-    let links = λ (s : LinkSetValue (List ℕ)). s.links in
-    let slots = map links sets in
-    let changed = map-set links sets number new in
-    let Stand : ℕ → SlotLinks → Type 0 = λ k. All (λ e. StandsIn p owner k e.target) in
-    let Few : SlotLinks → Type 0 = λ l. length l ≤ MOST_LINKS in
-    let at : (P : ℕ → SlotLinks → Type 0) → P number new.links → ((k : ℕ) → P k (get_or slots k [])) → (k : ℕ)
-        → P k (get_or (map links (set sets number new)) k []) = λ P here old k.
-    rw changed (elim (cases_eq k number) [
-      | inl is ↦
-          elim (cases_lt number (length slots)) [
-            | inl within ↦ rw (is, get_or-set_same slots number new.links [] within) here
-            | inr past ↦
-                let none : get_or slots k [] ≡ [] = get_or_past slots k [] (omega arith) in
-                let none' : get_or (set slots number new.links) k []
-                    ≡ [] = get_or_past (set slots number new.links) k [] (omega (arith, length-set slots number new.links)) in
-                rw none' (rw none at (old k))
-          ]
-      | inr ne ↦ rw (get_or-set_other slots number k new.links [] ne) (old k)
-    ]) in
-    record {
-      valid = record {
-        limits = are.valid.limits;
-        owner = are.valid.owner;
-        count = ap length changed ∙ length-set slots number new.links ∙ are.valid.count;
-        standing = at Stand standing are.valid.standing;
-        few = at (λ _. Few) few are.valid.few;
-      };
-      widths = All-set (λ s. s.width ≡ p.width) sets number new width are.widths;
-    }
-
 -- the sets without links, as a table begins
-abbrev pub empty_sets : SettingsValue → ℕ → List (LinkSetValue (List ℕ))
-empty_sets p n = replicate n (record { width = p.width; links = [] })
+abbrev pub empty_sets : ℕ → ℕ → List (LinkSetValue (List ℕ))
+empty_sets width n = replicate n (record { width = width; links = [] })
 
-pub empty_sets-more : (p : SettingsValue) (n : ℕ) (sets more : List (LinkSetValue (List ℕ))) (new : LinkSetValue (List ℕ))
-    → sets ≡ empty_sets p n
-    → new ≡ record { width = p.width; links = [] } → more ≡ sets ++ new ∷ [] → more ≡ empty_sets p (n + 1)
-empty_sets-more p n sets more new so_far is grown =
-    let none : LinkSetValue (List ℕ) = record { width = p.width; links = [] } in
-    grown ∙ ap (λ s. s ++ new ∷ []) so_far ∙ ap (λ s. empty_sets p n ++ s ∷ []) is ∙ replicate-append-replicate n 1 none
+pub empty_sets-more : (width n : ℕ) (sets more : List (LinkSetValue (List ℕ))) (new : LinkSetValue (List ℕ))
+    → sets ≡ empty_sets width n
+    → new ≡ record { width = width; links = [] } → more ≡ sets ++ new ∷ [] → more ≡ empty_sets width (n + 1)
+empty_sets-more width n sets more new so_far is grown =
+    let none : LinkSetValue (List ℕ) = record { width = width; links = [] } in
+    grown ∙ ap (λ s. s ++ new ∷ []) so_far ∙ ap (λ s. empty_sets width n ++ s ∷ []) is ∙ replicate-append-replicate n 1 none
 
-empty_slots : (p : SettingsValue) (n : ℕ) → map (λ s. s.links) (empty_sets p n) ≡ replicate n []
-empty_slots p zero = refl
-empty_slots p (suc n) = ap (λ l. [] ∷ l) (empty_slots p n)
+empty_slots : (width n : ℕ) → map (λ s. s.links) (empty_sets width n) ≡ replicate n []
+empty_slots width zero = refl
+empty_slots width (suc n) = ap (λ l. [] ∷ l) (empty_slots width n)
 
-pub empty_is : (p : SettingsValue) (owner : List ℕ) → table_of owner p (empty_sets p (p.base * p.digits)) ≡ empty_table p owner
+pub empty_is : (p : SettingsValue) (owner : List ℕ) → table_of owner p (empty_sets p.width (p.base * p.digits)) ≡ empty_table p owner
 empty_is p owner =
     let with : List SlotLinks → TableValue = λ slots. record { owner = owner; settings = p; slots = slots } in
-    ap with (empty_slots p (p.base * p.digits))
+    ap with (empty_slots p.width (p.base * p.digits))
 
 no_links : (n k : ℕ) → get_or {A = SlotLinks} (replicate n []) k [] ≡ []
 no_links n k =
@@ -120,17 +76,20 @@ no_links n k =
     ]
 
 pub empty_sets-are : (p : SettingsValue) (owner : List ℕ) → AreWithinLimits p → IsName p owner
-    → AreSets owner p (empty_sets p (p.base * p.digits))
+    → AreSets owner p (empty_sets p.width (p.base * p.digits))
 empty_sets-are p owner limits is_name =
     let count = p.base * p.digits in
-    let slots = empty_slots p count in
+    let slots = empty_slots p.width count in
     record {
       valid = record {
         limits = limits;
         owner = is_name;
         count = ap length slots ∙ length-replicate count [];
         standing = λ number. rw (slots, no_links count number) (All-nil (λ e. StandsIn p owner number e.target));
-        few = λ number. rw (slots, no_links count number) (omega arith);
+        sets = λ number. rw (slots, no_links count number) (record {
+          ascending = λ i j d before within. absurd (omega arith);
+          within_width = omega arith;
+        });
       };
       widths = All-replicate (λ s. s.width ≡ p.width) count (record { width = p.width; links = [] }) refl;
     }

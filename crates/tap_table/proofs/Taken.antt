@@ -14,6 +14,10 @@ pub taken_later : (base : ℕ) (p : ℕ → Bool) (left less digit : ℕ) → le
     → first_from base p left digit ≡ first_from base p less (next_digit base digit)
 taken_later base p left less digit is h = rw (is, h) refl
 
+pub taken_now : (base : ℕ) (p : ℕ → Bool) (left less digit : ℕ) → left ≡ suc less → p digit ≡ true
+    → first_from base p left digit ≡ digit
+taken_now base p left less digit is h = rw (is, h) refl
+
 -- a digit is one of those that are tried: as many as are left, cyclically from this one on
 abbrev IsTried : ℕ → ℕ → ℕ → ℕ → Type 0
 IsTried base target left digit = (digit ≤ target) × (target < digit + left) ⊎ (target + base < digit + left)
@@ -121,13 +125,13 @@ pub root_exactly : (t : TableValue) (level : ℕ) (object : List ℕ) → IsTabl
 root_exactly t level object valid is_name inside =
     let len = length-drop level object in
     let both = stays t valid (drop level object) level (omega (arith, len, is_name.len))
-        (All-drop (λ d. d < t.settings.base) level object is_name.below) in
+    (All-drop (λ d. d < t.settings.base) level object is_name.below) in
     let At : ℕ → ℕ → Type 0 = λ n d. taken_digit t n d ≡ get_or t.owner n 0 in (
       λ root at from to.
           let k_is : level + (at - level) ≡ at = omega arith in
           let own = both.0 root (at - level) (omega (arith, len)) in
           let here : At (level + (at - level)) (get_or object (level + (at - level)) 0) =
-              subst (At (level + (at - level))) (get_or-drop level object (at - level) 0) own in
+          subst (At (level + (at - level))) (get_or-drop level object (at - level) 0) own in
           let AtLevel : ℕ → Type 0 = λ n. At n (get_or object n 0) in
           subst AtLevel k_is here,
       λ all. both.1 (λ k within. subst (At (level + k)) (sym (get_or-drop level object k 0))

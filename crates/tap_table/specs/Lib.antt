@@ -1,4 +1,6 @@
 pub mod Table
+pub mod Sets
+pub mod Row
 pub mod Place
 pub mod Next
 pub mod Ties

@@ -3,19 +3,15 @@ use Rattle.std.specs.Prelude.{◌≡◌, ◌==◌, ◌&&◌, ℕ, ◌*◌, ◌�
 use Rattle.std.specs.List.{list_any, range_with_len}
 use Rattle.std.specs.List.Sorted.{IsPermutation}
 use Rattle.std.specs.Cmp.Lexicographic.{pointwise}
-use Rattle.std.specs.declared.cmp.Ordering.TheVariants.{Less}
 use Rattle.tap_name.specs.declared.slot.Slot.{Slot}
 use Rattle.tap_name.specs.Settings.{SettingsValue}
 use Rattle.tap_name.specs.Slot.{slot_at, Fits}
 use Rattle.tap_name.specs.Root.{Among}
+pub use Rattle.tap_name.specs.Order.{IsBelow}
 use Rattle.tap_link.specs.declared.kind.Kind.TheVariants.{Settled}
 use Rattle.tap_register.specs.declared.registers.Entry.{Entry}
-use Rattle.tap_table.specs.Table.{SlotLinks, TableValue, name_cmp, place_of, slot_numbered}
+use Rattle.tap_table.specs.Table.{SlotLinks, TableValue, place_of, slot_numbered}
 use Rattle.tap_table.specs.Ties.{TiesValue}
-
--- one name stands before another, digit by digit
-abbrev pub IsBelow : List ℕ → List ℕ → Type 0
-IsBelow a b = name_cmp a b ≡ Less
 
 -- this is the slot
 abbrev pub is_slot : Slot → Option Slot → Bool

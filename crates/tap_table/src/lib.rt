@@ -4,6 +4,8 @@
 mod memory;
 mod next;
 mod rest;
+mod row;
+mod sets;
 mod table;
 #[cfg(test)]
 mod tests;
@@ -12,6 +14,7 @@ mod ties;
 
 pub use memory::NoMemory;
 pub use next::Next;
+pub use row::Row;
 pub use table::Table;
 pub use tie::Tie;
 pub use ties::Ties;

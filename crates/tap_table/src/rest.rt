@@ -1,13 +1,10 @@
-ghost use Rattle.std.specs.Prelude.{◌≡◌, ◌≢◌, ◌&&◌, ◌++◌, ◌∷◌, [], nat_eq, length, true, All, AllPairs, IfOk, OnOk, if◌then◌else◌};
-ghost use Rattle.std.specs.Option.{is_none};
-ghost use Rattle.tap_link.specs.declared.kind.Kind.TheVariants.{Settled};
-ghost use Rattle.tap_link.specs.LinkSet.{with_link};
+ghost use Rattle.std.specs.Prelude.{◌≡◌, ◌≢◌, ◌&&◌, ◌++◌, ◌∷◌, [], nat_eq, length, All, AllPairs, IfOk, OnOk};
 ghost use Rattle.tap_name.specs.Name.{IsName};
 ghost use Rattle.tap_name.specs.Slot.{slot_at};
 ghost use Rattle.std.specs.List.{list_any};
 ghost use Rattle.std.specs.Cmp.Lexicographic.{pointwise};
 ghost use Rattle.tap_table.specs.Members.{IsBelow, first_fitting, holders_at_rest, holds, is_slot, table_at_rest};
-ghost use Rattle.tap_table.specs.Table.{name_cmp, links_near, has_room_near, kind_in, with_links};
+ghost use Rattle.tap_table.specs.Table.{IsTable, offered};
 
 use crate::memory::NoMemory;
 use crate::table::Table;
@@ -25,7 +22,8 @@ pub(crate) fn table_over(
     requires owner { IsName settings.now owner }
     requires names { All (IsName settings.now) names.now }
     requires ascending { AllPairs IsBelow names.now }
-    ensures { IfOk result (λ table. table ≡ table_at_rest settings.now owner names.now) }
+    ensures value { IfOk result (λ table. table ≡ table_at_rest settings.now owner names.now) }
+    ensures valid { IfOk result IsTable }
 {
     let mut table = Table::new(alloc, owner, settings)?;
     for name in names {
@@ -38,10 +36,7 @@ pub(crate) fn table_over(
 fn settle_on(table: &mut Table, name: Name) -> Result<(), NoMemory>
     requires { IsName table.old.settings name }
     ensures owner { OnOk result (name ≡ table.old.owner → table.new ≡ table.old) }
-    ensures other { OnOk result (name ≢ table.old.owner → table.new
-        ≡ (if is_none (kind_in table.old name) && has_room_near table.old name
-        then with_links table.old name (with_link name_cmp (links_near table.old name) name Settled)
-        else table.old)) }
+    ensures other { OnOk result (name ≢ table.old.owner → table.new ≡ offered table.old name) }
 {
     if name != table.owner() {
         table.offer(name)?;

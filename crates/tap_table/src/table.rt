@@ -1,21 +1,19 @@
-ghost use Rattle.std.specs.Prelude.{◌≡◌, ◌==◌, ◌≢◌, ◌≤◌, ◌<◌, ◌↔◌, ◌+◌, ◌*◌, ◌&&◌, length, map, drop, slice_get, slice_index, true, Ok, Some, IsOk, IfOk};
-ghost use Rattle.std.specs.Bool.{OnTrue, OnFalse};
+ghost use Rattle.std.specs.Prelude.{◌≡◌, ◌==◌, ℕ, List, ◌≢◌, ◌≤◌, ◌<◌, ◌↔◌, ◌+◌, ◌*◌, ◌&&◌, length, map, drop, slice_get, slice_index, Some, IsOk, IsSome, IsTrue, IfOk, OnOk, OnErr};
 ghost use Rattle.std.specs.Option.{is_none};
-ghost use Rattle.tap_link.specs.LinkSet.{has_room, kind_of, with_link, with_kind, without, is_pinned, is_settled, is_settled_or_leaving, least_settled, released_as, after_release};
+ghost use Rattle.tap_link.specs.LinkSet.{is_pinned, is_settled, is_settled_or_leaving, least_settled, released_as};
 ghost use Rattle.tap_name.specs.Name.{IsName};
-ghost use Rattle.tap_table.specs.Next.{TakesOwnFrom, can_take, hop_to, next_from, primary_at, taken_digit};
-ghost use Rattle.tap_table.specs.Table.{IsTable, name_cmp, empty_table, place_of, slot_number, links_at, links_near, has_room_near, kind_in, with_links, rows};
+ghost use Rattle.tap_table.specs.Next.{HopsTo, IsHop, TakesOwnFrom, can_take, hop_to, next_from, primary_at, taken_digit};
+ghost use Rattle.tap_table.specs.Table.{IsTable, empty_table, forgotten, has_room_near, kind_in, links_at, links_near, marked, near, offered, pinned, place_of, released, removed, rows, set_at, slot_number};
+ghost use Rattle.tap_table.specs.Row.{row_of};
 
 use crate::memory::NoMemory;
 use crate::next::Next;
+use crate::row::Row;
+use crate::sets::Sets;
 use std::alloc::Global;
 use std::marker::Model;
 use tap_link::{Cease, Forget, Kind, LinkSet, Release, Released};
 use tap_name::{Name, Settings, Slot, next_cyclic};
-
-// No slot has more links than this many. No memory holds so many, and the links of all slots are
-// counted in 64 bits.
-const MOST_LINKS: usize = 1 << 54;
 
 /// The links of a node, its owner, to other nodes.
 ///
@@ -29,7 +27,7 @@ const MOST_LINKS: usize = 1 << 54;
 pub struct Table {
     owner: Name,
     settings: Settings,
-    sets: Vec<LinkSet<Name>>,
+    sets: Sets,
 }
 
 impl Model for Table {
@@ -37,9 +35,9 @@ impl Model for Table {
 
     ghost Value = { TableValue };
 
-    ghost view = { λ t. table_of t.owner t.settings t.sets.items };
+    ghost view = { λ t. table_of t.owner t.settings t.sets };
 
-    ghost invariant = { λ t. AreSets t.owner t.settings t.sets.items };
+    ghost invariant = { λ t. AreSets t.owner t.settings t.sets };
 }
 
 // Where a link stands: the number of its slot, and its place in the slot's set.
@@ -55,17 +53,14 @@ impl Table {
     /// The table of an owner, without links. The owner is a name of the settings.
     pub fn new(alloc: Global, owner: Name, settings: &Settings) -> Result<Table, NoMemory>
         requires { IsName settings.now owner }
-        ensures { IfOk result (λ table. table ≡ empty_table settings.now owner) }
+        ensures value { IfOk result (λ table. table ≡ empty_table settings.now owner) }
+        ensures valid { IfOk result IsTable }
     {
         let slots = settings.base() as usize * settings.digits() as usize;
-        let mut sets = Vec::with_capacity(alloc, slots)?;
-        for _slot in 0..slots {
-            sets.push(LinkSet::new(alloc, settings.width()))?;
-        }
         Ok(Table {
             owner,
             settings: *settings,
-            sets,
+            sets: Sets::new(alloc, slots, settings.width())?,
         })
     }
 
@@ -77,16 +72,19 @@ impl Table {
         self.owner
     }
 
+    /// The settings of the names in it.
+    pub fn settings(&self) -> Settings
+        ensures value { result ≡ self.now.settings }
+        ensures valid { IsTable self.now }
+    {
+        self.settings
+    }
+
     /// How many links there are, of all kinds.
     pub fn len(&self) -> usize
         ensures { result ≡ length (rows self.now) }
     {
-        let sets = self.sets.as_slice();
-        let mut links = 0;
-        for set in sets {
-            links += set.len();
-        }
-        links
+        self.sets.links()
     }
 
     /// Whether there is no link.
@@ -96,17 +94,32 @@ impl Table {
         self.len() == 0
     }
 
+    /// A link by its place, from 0, in ascending order of slot, then target.
+    ///
+    /// It walks over the slots up to the link's: `slot` gives the links of one slot at once.
+    pub fn row_at(&self, i: usize) -> Row
+        requires { i < length (rows self.now) }
+        ensures { slice_get (rows self.now) i ≡ Some (row_of result) }
+    {
+        let place = self.place_of_link(i);
+        let base = self.settings.base() as usize;
+        let set = &self.sets.as_slice()[place.number];
+        Row {
+            slot: Slot {
+                level: (place.number / base) as u8,
+                digit: (place.number % base) as u8,
+            },
+            target: set.target_at(place.link),
+            kind: set.kind_at(place.link),
+        }
+    }
+
     /// The slot of a link by its place, from 0, in ascending order of slot, then target.
     pub fn slot_at(&self, i: usize) -> Slot
         requires { i < length (rows self.now) }
         ensures { slice_get (map (λ r. r.slot) (rows self.now)) i ≡ Some result }
     {
-        let place = self.place_of_link(i);
-        let base = self.settings.base() as usize;
-        Slot {
-            level: (place.number / base) as u8,
-            digit: (place.number % base) as u8,
-        }
+        self.row_at(i).slot
     }
 
     /// The target of a link by its place, from 0, in ascending order of slot, then target.
@@ -114,8 +127,7 @@ impl Table {
         requires { i < length (rows self.now) }
         ensures { slice_get (map (λ r. r.entry.target) (rows self.now)) i ≡ Some result }
     {
-        let place = self.place_of_link(i);
-        self.sets[place.number].target_at(place.link)
+        self.row_at(i).target
     }
 
     /// The kind of a link by its place, from 0, in ascending order of slot, then target.
@@ -123,8 +135,7 @@ impl Table {
         requires { i < length (rows self.now) }
         ensures { slice_get (map (λ r. r.entry.kind) (rows self.now)) i ≡ Some result }
     {
-        let place = self.place_of_link(i);
-        self.sets[place.number].kind_at(place.link)
+        self.row_at(i).kind
     }
 
     // The place of a link in its slot, from its place among all links.
@@ -148,10 +159,21 @@ impl Table {
     pub fn slot(&self, slot: Slot) -> &LinkSet<Name>
         requires level { slot.level < self.now.settings.digits }
         requires digit { slot.digit < self.now.settings.base }
-        ensures { result.now ≡ record { width = self.now.settings.width; links = links_at self.now slot } }
+        ensures { result.now ≡ set_at self.now slot }
     {
         let number = slot.level as usize * self.settings.base() as usize + slot.digit as usize;
-        &self.sets[number]
+        &self.sets.as_slice()[number]
+    }
+
+    /// The links of the slot in which a name stands. The name is one of the settings, and not the
+    /// owner.
+    pub fn near(&self, name: &Name) -> &LinkSet<Name>
+        requires name { IsName self.now.settings name.now }
+        requires other { name.now ≢ self.now.owner }
+        ensures { result.now ≡ near self.now name.now }
+    {
+        let number = self.number_of(name);
+        &self.sets.as_slice()[number]
     }
 
     /// The least target in a slot that is settled and not leaving, `None` exactly where there is
@@ -169,50 +191,51 @@ impl Table {
         ensures { result ≡ kind_in self.now target }
     {
         let number = self.number_of(&target);
-        self.sets.get(number)?.kind_of(target)
+        self.sets.as_slice().get(number)?.kind_of(target)
     }
 
     /// Pins a target that the table has no link to, and answers whether it had none.
     ///
-    /// Where the target's slot has fewer than four links, it needs no memory, and where it has 2^54 links,
-    /// the answer is `NoMemory`. A table that is refused memory stays as it was. The target is a name of
-    /// the settings, and not the owner.
+    /// `NoMemory` comes only where a link would be added to four links or more; where a slot has 2^54
+    /// links, it comes in any case. A table that is refused memory stays as it was. The target is a name
+    /// of the settings, and not the owner.
     pub fn pin(&mut self, target: Name) -> Result<bool, NoMemory>
         requires name { IsName self.old.settings target }
         requires other { target ≢ self.old.owner }
         ensures answer { IfOk result (λ added. added ≡ is_none (kind_in self.old target)) }
-        ensures pinned { result ≡ Ok true → self.new ≡ with_links self.old target
-            (with_link name_cmp (links_near self.old target) target Kind.Pin) }
-        ensures same { ¬ (result ≡ Ok true) → self.new ≡ self.old }
+        ensures after { OnOk result (self.new ≡ pinned self.old target) }
+        ensures same { OnErr result (self.new ≡ self.old) }
         ensures inline { length (links_near self.old target) < 4 → IsOk result }
+        ensures linked { IsSome (kind_in self.old target) → IsOk result }
         ensures owner { self.new.owner ≡ self.old.owner }
         ensures settings { self.new.settings ≡ self.old.settings }
     {
         let number = self.number_of(&target);
-        pin_in(&mut self.sets[number], target)
+        self.sets.pin(number, target)
     }
 
     /// Settles on a target that the table has no link to where its slot has room for a settled link,
     /// and answers whether it did. There is room where fewer links of the slot are settled and not
     /// leaving than the width of the settings.
     ///
-    /// Where the target's slot has fewer than four links, it needs no memory, and where it has 2^54 links,
-    /// the answer is `NoMemory`. A table that is refused memory stays as it was. The target is a name of
-    /// the settings, and not the owner.
+    /// `NoMemory` comes only where a link would be added to four links or more; where a slot has 2^54
+    /// links, it comes in any case. A table that is refused memory stays as it was. The target is a name
+    /// of the settings, and not the owner.
     pub fn offer(&mut self, target: Name) -> Result<bool, NoMemory>
         requires name { IsName self.old.settings target }
         requires other { target ≢ self.old.owner }
         ensures answer { IfOk result (λ added. added
             ≡ (is_none (kind_in self.old target) && has_room_near self.old target)) }
-        ensures settled { result ≡ Ok true → self.new ≡ with_links self.old target
-            (with_link name_cmp (links_near self.old target) target Kind.Settled) }
-        ensures same { ¬ (result ≡ Ok true) → self.new ≡ self.old }
+        ensures after { OnOk result (self.new ≡ offered self.old target) }
+        ensures same { OnErr result (self.new ≡ self.old) }
         ensures inline { length (links_near self.old target) < 4 → IsOk result }
+        ensures linked { IsSome (kind_in self.old target) → IsOk result }
+        ensures full { ¬ (IsTrue (has_room_near self.old target)) → IsOk result }
         ensures owner { self.new.owner ≡ self.old.owner }
         ensures settings { self.new.settings ≡ self.old.settings }
     {
         let number = self.number_of(&target);
-        offer_in(&mut self.sets[number], target)
+        self.sets.offer(number, target)
     }
 
     /// Takes the release of a node: a pin on it becomes a settled link where its slot has room for
@@ -223,13 +246,13 @@ impl Table {
         requires other { by.from ≢ self.old.owner }
         ensures answer { result
             ≡ released_as (is_pinned (kind_in self.old by.from)) (has_room_near self.old by.from) }
-        ensures after { self.new ≡ with_links self.old by.from
-            (after_release name_cmp (links_near self.old by.from) by.from result) }
+        ensures after { self.new ≡ released self.old by.from }
+        ensures nothing { result ≡ Released.Nothing → self.new ≡ self.old }
         ensures owner { self.new.owner ≡ self.old.owner }
         ensures settings { self.new.settings ≡ self.old.settings }
     {
         let number = self.number_of(&by.from);
-        self.sets[number].release(by)
+        self.sets.release(number, by)
     }
 
     /// Ends the pin on a node that gave up joining: true exactly where it was pinned. The sender is a
@@ -238,14 +261,12 @@ impl Table {
         requires name { IsName self.old.settings by.from }
         requires other { by.from ≢ self.old.owner }
         ensures answer { result ≡ is_pinned (kind_in self.old by.from) }
-        ensures forgotten { OnTrue result (self.new ≡ with_links self.old by.from
-            (without name_cmp (links_near self.old by.from) by.from)) }
-        ensures same { OnFalse result (self.new ≡ self.old) }
+        ensures after { self.new ≡ forgotten self.old by.from }
         ensures owner { self.new.owner ≡ self.old.owner }
         ensures settings { self.new.settings ≡ self.old.settings }
     {
         let number = self.number_of(&by.from);
-        self.sets[number].forget(by)
+        self.sets.forget(number, by)
     }
 
     /// Marks the link to a target as leaving: true exactly where it was settled and not leaving. The
@@ -254,14 +275,12 @@ impl Table {
         requires name { IsName self.old.settings target }
         requires other { target ≢ self.old.owner }
         ensures answer { result ≡ is_settled (kind_in self.old target) }
-        ensures marked { OnTrue result (self.new ≡ with_links self.old target
-            (with_kind name_cmp (links_near self.old target) target Kind.Leaving)) }
-        ensures same { OnFalse result (self.new ≡ self.old) }
+        ensures after { self.new ≡ marked self.old target }
         ensures owner { self.new.owner ≡ self.old.owner }
         ensures settings { self.new.settings ≡ self.old.settings }
     {
         let number = self.number_of(&target);
-        self.sets[number].mark_leaving(target)
+        self.sets.mark_leaving(number, target)
     }
 
     /// Takes out the link to a target that is settled or leaving: true exactly where it was. The
@@ -270,14 +289,12 @@ impl Table {
         requires name { IsName self.old.settings target }
         requires other { target ≢ self.old.owner }
         ensures answer { result ≡ is_settled_or_leaving (kind_in self.old target) }
-        ensures removed { OnTrue result (self.new ≡ with_links self.old target
-            (without name_cmp (links_near self.old target) target)) }
-        ensures same { OnFalse result (self.new ≡ self.old) }
+        ensures after { self.new ≡ removed self.old target }
         ensures owner { self.new.owner ≡ self.old.owner }
         ensures settings { self.new.settings ≡ self.old.settings }
     {
         let number = self.number_of(&target);
-        self.sets[number].remove_settled(target)
+        self.sets.remove_settled(number, target)
     }
 
     /// Ends all links, with the owner of the table. It takes no memory.
@@ -291,9 +308,7 @@ impl Table {
             settings: _,
             sets,
         } = self;
-        for set in sets {
-            set.cease(by);
-        }
+        sets.cease(by);
     }
 
     /// Where a message towards an object goes next, from a level on: 0 at its first node.
@@ -302,6 +317,9 @@ impl Table {
     /// owner's own, or whose slot has a primary, is taken: where it is the owner's own, the next level
     /// follows, and else the message hops to the primary, which goes on at the next level. `Root`
     /// exactly where the owner's own digit is taken at each level from this one on.
+    ///
+    /// The node of a hop is settled in the table and not leaving, and shares one digit less with the
+    /// owner than the hop's level says, which is above the level given.
     ///
     /// The object has as many digits as a name, all below the base, and the level is at most their
     /// number.
@@ -312,6 +330,9 @@ impl Table {
         requires level { level ≤ self.now.settings.digits }
         ensures value { result ≡ next_from self.now level (drop level object.now) }
         ensures root { (result ≡ Next.Root) ↔ TakesOwnFrom self.now level object.now }
+        ensures hop { (to : List ℕ) (next : ℕ) →
+            ((result ≡ Next.Hop to next) ↔ HopsTo self.now level object.now to next) }
+        ensures node { (to : List ℕ) (next : ℕ) → result ≡ Next.Hop to next → IsHop self.now level to next }
     {
         self.next_from(object, level)
     }
@@ -406,37 +427,4 @@ fn digit_or_zero(name: &Name, at: usize) -> u8
     ensures is_digit { result < 16 }
 {
     if at < name.len() { name.digit(at) } else { 0 }
-}
-
-// Pins a target in a link set, as the set does, where it has few enough links.
-fn pin_in(set: &mut LinkSet<Name>, target: Name) -> Result<bool, NoMemory>
-    requires { length set.old.links ≤ MOST_LINKS }
-    ensures answer { IfOk result (λ added. added ≡ is_none (kind_of name_cmp set.old.links target)) }
-    ensures pinned { result ≡ Ok true
-        → set.new ≡ record set.old { links = with_link name_cmp set.old.links target Kind.Pin } }
-    ensures same { ¬ (result ≡ Ok true) → set.new ≡ set.old }
-    ensures inline { length set.old.links < 4 → IsOk result }
-    ensures few { length set.new.links ≤ MOST_LINKS }
-{
-    if set.len() >= MOST_LINKS {
-        return Err(NoMemory);
-    }
-    Ok(set.pin(target)?)
-}
-
-// Offers a target to a link set, as the set does, where it has few enough links.
-fn offer_in(set: &mut LinkSet<Name>, target: Name) -> Result<bool, NoMemory>
-    requires { length set.old.links ≤ MOST_LINKS }
-    ensures answer { IfOk result (λ added. added
-        ≡ (is_none (kind_of name_cmp set.old.links target) && has_room set.old)) }
-    ensures settled { result ≡ Ok true
-        → set.new ≡ record set.old { links = with_link name_cmp set.old.links target Kind.Settled } }
-    ensures same { ¬ (result ≡ Ok true) → set.new ≡ set.old }
-    ensures inline { length set.old.links < 4 → IsOk result }
-    ensures few { length set.new.links ≤ MOST_LINKS }
-{
-    if set.len() >= MOST_LINKS {
-        return Err(NoMemory);
-    }
-    Ok(set.offer(target)?)
 }

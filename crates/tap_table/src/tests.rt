@@ -1,8 +1,34 @@
-use crate::{Next, Table, Tie, Ties};
+ghost use Rattle.std.specs.Prelude.{◌≡◌};
+
+use crate::{Next, Row, Table, Tie, Ties};
 use std::test::Fail;
 use tap_link::{Cease, Forget, Kind, Release, Released};
 use tap_name::{List, Settings, Slot, read_name};
 use tap_register::Stamp;
+
+// Pins the name of a text, unless it is the owner's.
+fn pin(table: &mut Table, settings: &Settings, text: &[u8]) -> Result<bool, Fail>
+    requires { table.old.settings ≡ settings.now }
+    ensures { table.new.settings ≡ table.old.settings }
+{
+    let target = read_name(settings, text)?;
+    if target == table.owner() {
+        return Ok(false);
+    }
+    Ok(table.pin(target)?)
+}
+
+// Takes the word of the name of a text that it has a link to the owner, unless it is the owner's.
+fn hear(ties: &mut Ties, settings: &Settings, text: &[u8]) -> Result<bool, Fail>
+    requires { ties.old.table.settings ≡ settings.now }
+    ensures { ties.new.table.settings ≡ ties.old.table.settings }
+{
+    let holder = read_name(settings, text)?;
+    if holder == ties.table().owner() {
+        return Ok(false);
+    }
+    Ok(ties.held(holder, 1, true)?)
+}
 
 #[test]
 fn each_link_stands_in_its_slot(rt: HostRuntime) -> Result<(), Fail> {
@@ -22,6 +48,16 @@ fn each_link_stands_in_its_slot(rt: HostRuntime) -> Result<(), Fail> {
     assert_eq!(rt; table.target_at(0), far);
     assert_eq!(rt; table.kind_at(0), Kind::Settled);
     assert_eq!(rt; table.slot_at(1), Slot { level: 2, digit: 3 });
+    assert_eq!(rt;
+        table.row_at(0),
+        Row {
+            slot: Slot { level: 0, digit: 3 },
+            target: far,
+            kind: Kind::Settled
+        }
+    );
+    assert_eq!(rt; table.near(&near).len(), 1);
+    assert_eq!(rt; table.settings().base(), 4);
     Ok(())
 }
 
@@ -101,7 +137,10 @@ fn ties_keep_the_newest_word_of_each_holder(rt: HostRuntime) -> Result<(), Fail>
     let settings = Settings::new(4, 3, 1).ok_or("settings")?;
     let first = read_name(&settings, b"300")?;
     let second = read_name(&settings, b"311")?;
-    let mut ties = Ties::new(rt.alloc(), read_name(&settings, b"012")?, &settings)?;
+    let owner = read_name(&settings, b"012")?;
+    assert!(rt; first != owner);
+    assert!(rt; second != owner);
+    let mut ties = Ties::new(rt.alloc(), owner, &settings)?;
     assert!(rt; ties.held(second, 1, true)?);
     assert!(rt; ties.held(first, 1, true)?);
     assert!(rt; ties.held(second, 2, false)?);
@@ -110,6 +149,23 @@ fn ties_keep_the_newest_word_of_each_holder(rt: HostRuntime) -> Result<(), Fail>
     assert!(rt; 0 < ties.holder_count());
     assert_eq!(rt; ties.holder_at(0), first);
     assert_eq!(rt; ties.table().len(), 0);
+    assert_eq!(rt; ties.holders().len(), 2);
+    Ok(())
+}
+
+// The first four links of a slot need no memory, nor do the first four holders of a vector.
+#[test]
+fn slots_and_holders_go_past_four(rt: HostRuntime) -> Result<(), Fail> {
+    let settings = Settings::new(4, 3, 1).ok_or("settings")?;
+    let owner = read_name(&settings, b"012")?;
+    let mut table = Table::new(rt.alloc(), owner, &settings)?;
+    let mut ties = Ties::new(rt.alloc(), owner, &settings)?;
+    for text in [b"300", b"333", b"310", b"320", b"301"] {
+        assert!(rt; pin(&mut table, &settings, text)?);
+        assert!(rt; hear(&mut ties, &settings, text)?);
+    }
+    assert_eq!(rt; table.slot(Slot { level: 0, digit: 3 }).len(), 5);
+    assert_eq!(rt; ties.holder_count(), 5);
     Ok(())
 }
 

@@ -1,12 +1,9 @@
-ghost use Rattle.std.specs.Prelude.{◌≡◌, ◌≢◌, ◌+◌, ◌<◌, ◌&&◌, [], length, count_by, map, filter, slice_get, true, false, Ok, Some, None, All, Contains, IsOk, IfOk, OnOk, OnErr, if◌then◌else◌};
-ghost use Rattle.std.specs.Bool.{OnTrue, OnFalse};
-ghost use Rattle.std.specs.Option.{is_none};
-ghost use Rattle.tap_link.specs.declared.kind.Kind.TheVariants.{Pin, Settled, Leaving};
-ghost use Rattle.tap_link.specs.LinkSet.{with_link, with_kind, without, is_pinned, is_settled, is_settled_or_leaving, released_as, after_release};
+ghost use Rattle.std.specs.Prelude.{◌≡◌, ◌≢◌, ◌<◌, ◌&&◌, [], length, count_by, map, filter, slice_get, Some, None, All, Contains, IsOk, IsSome, IsTrue, IfOk, OnOk, OnErr};
+ghost use Rattle.tap_link.specs.LinkSet.{is_pinned, is_settled, is_settled_or_leaving};
 ghost use Rattle.tap_name.specs.Name.{IsName};
-ghost use Rattle.tap_register.specs.Registers.{entry_of, supersedes, written};
-ghost use Rattle.tap_table.specs.Table.{name_cmp, empty_table, links_near, has_room_near, kind_in, with_links};
-ghost use Rattle.tap_table.specs.Ties.{holders_on, is_dropped, tie_where};
+ghost use Rattle.tap_register.specs.Registers.{entry_of, is_newer};
+ghost use Rattle.tap_table.specs.Table.{empty_table, has_room_near, kind_in, links_near, name_cmp};
+ghost use Rattle.tap_table.specs.Ties.{AreTies, forgotten, held_word, holders_on, marked, offer_tells, offered, pin_tells, pinned, release_tells, released, removed, stamp_after};
 
 use crate::memory::NoMemory;
 use crate::rest::{holders_over, table_over};
@@ -37,6 +34,10 @@ impl Model for Ties {
     ghost Value = { TiesValue };
 
     ghost view = { λ t. record { table = t.table; holders = t.holders } };
+
+    ghost use Rattle.tap_table.specs.Ties.{AreTies};
+
+    ghost invariant = { λ t. AreTies (record { table = t.table; holders = t.holders }) };
 }
 
 impl Ties {
@@ -46,8 +47,9 @@ impl Ties {
     /// No links and no holders. The owner is a name of the settings.
     pub fn new(alloc: Global, owner: Name, settings: &Settings) -> Result<Ties, NoMemory>
         requires { IsName settings.now owner }
-        ensures { IfOk result (λ ties. ties
+        ensures value { IfOk result (λ ties. ties
             ≡ record { table = empty_table settings.now owner; holders = [] }) }
+        ensures valid { IfOk result AreTies }
     {
         Ok(Ties {
             table: Table::new(alloc, owner, settings)?,
@@ -84,9 +86,19 @@ impl Ties {
 
     /// The table.
     pub fn table(&self) -> &Table
-        ensures { result.now ≡ self.now.table }
+        ensures value { result.now ≡ self.now.table }
+        ensures valid { AreTies self.now }
     {
         &self.table
+    }
+
+    /// The newest word of each node that has ever said that it has a link to the owner, or has it no
+    /// more, in ascending order of these nodes.
+    pub fn holders(&self) -> &[Entry<Name, bool>]
+        ensures value { result.now ≡ self.now.holders }
+        ensures valid { AreTies self.now }
+    {
+        self.holders.as_slice()
     }
 
     /// How many holders have a link to the owner.
@@ -106,25 +118,19 @@ impl Ties {
 
     /// Pins a target as the table does, and gives the word for it exactly where it was added.
     ///
-    /// Where the target's slot has fewer than four links, it needs no memory. Where memory is refused,
+    /// `NoMemory` comes only where a link would be added to four links or more. Where memory is refused,
     /// all stays as it was. The target is a name of the settings, and not the owner.
     pub fn pin(&mut self, stamp: &mut Stamp, target: Name) -> Result<Option<Tie>, NoMemory>
         requires name { IsName self.old.table.settings target }
         requires other { target ≢ self.old.table.owner }
         requires number { stamp.old < u32.MAX }
-        ensures answer { IfOk result (λ tie. tie
-            ≡ tie_where (is_none (kind_in self.old.table target)) target (stamp.old + 1) true) }
-        ensures after { OnOk result (self.new ≡ record self.old {
-          table = if is_none (kind_in self.old.table target)
-              then with_links self.old.table target
-              (with_link name_cmp (links_near self.old.table target) target Pin)
-              else self.old.table;
-        }) }
-        ensures stamped { OnOk result (stamp.new
-            ≡ (if is_none (kind_in self.old.table target) then stamp.old + 1 else stamp.old)) }
+        ensures answer { IfOk result (λ tie. tie ≡ pin_tells self.old stamp.old target) }
+        ensures after { OnOk result (self.new ≡ pinned self.old target) }
+        ensures stamped { OnOk result (stamp.new ≡ stamp_after stamp.old (pin_tells self.old stamp.old target)) }
         ensures same { OnErr result (self.new ≡ self.old) }
         ensures same_stamp { OnErr result (stamp.new ≡ stamp.old) }
         ensures inline { length (links_near self.old.table target) < 4 → IsOk result }
+        ensures linked { IsSome (kind_in self.old.table target) → IsOk result }
         ensures owner { self.new.table.owner ≡ self.old.table.owner }
         ensures settings { self.new.table.settings ≡ self.old.table.settings }
     {
@@ -140,27 +146,20 @@ impl Ties {
 
     /// Offers a target to the table, and gives the word for it exactly where it was added.
     ///
-    /// Where the target's slot has fewer than four links, it needs no memory. Where memory is refused,
+    /// `NoMemory` comes only where a link would be added to four links or more. Where memory is refused,
     /// all stays as it was. The target is a name of the settings, and not the owner.
     pub fn offer(&mut self, stamp: &mut Stamp, target: Name) -> Result<Option<Tie>, NoMemory>
         requires name { IsName self.old.table.settings target }
         requires other { target ≢ self.old.table.owner }
         requires number { stamp.old < u32.MAX }
-        ensures answer { IfOk result (λ tie. tie
-            ≡ tie_where (is_none (kind_in self.old.table target) && has_room_near self.old.table target)
-            target (stamp.old + 1) true) }
-        ensures after { OnOk result (self.new ≡ record self.old {
-          table = if is_none (kind_in self.old.table target) && has_room_near self.old.table target
-              then with_links self.old.table target
-              (with_link name_cmp (links_near self.old.table target) target Settled)
-              else self.old.table;
-        }) }
-        ensures stamped { OnOk result (stamp.new
-            ≡ (if is_none (kind_in self.old.table target) && has_room_near self.old.table target
-            then stamp.old + 1 else stamp.old)) }
+        ensures answer { IfOk result (λ tie. tie ≡ offer_tells self.old stamp.old target) }
+        ensures after { OnOk result (self.new ≡ offered self.old target) }
+        ensures stamped { OnOk result (stamp.new ≡ stamp_after stamp.old (offer_tells self.old stamp.old target)) }
         ensures same { OnErr result (self.new ≡ self.old) }
         ensures same_stamp { OnErr result (stamp.new ≡ stamp.old) }
         ensures inline { length (links_near self.old.table target) < 4 → IsOk result }
+        ensures linked { IsSome (kind_in self.old.table target) → IsOk result }
+        ensures full { ¬ (IsTrue (has_room_near self.old.table target)) → IsOk result }
         ensures owner { self.new.table.owner ≡ self.old.table.owner }
         ensures settings { self.new.table.settings ≡ self.old.table.settings }
     {
@@ -180,17 +179,9 @@ impl Ties {
         requires name { IsName self.old.table.settings by.from }
         requires other { by.from ≢ self.old.table.owner }
         requires number { stamp.old < u32.MAX }
-        ensures answer { let t = self.old.table in let became
-            = released_as (is_pinned (kind_in t by.from)) (has_room_near t by.from) in
-            result ≡ tie_where (is_dropped became) by.from (stamp.old + 1) false }
-        ensures after { let t = self.old.table in let became
-            = released_as (is_pinned (kind_in t by.from)) (has_room_near t by.from) in
-            self.new ≡ record self.old {
-              table = with_links t by.from (after_release name_cmp (links_near t by.from) by.from became);
-            } }
-        ensures stamped { let t = self.old.table in let became
-            = released_as (is_pinned (kind_in t by.from)) (has_room_near t by.from) in
-            stamp.new ≡ (if is_dropped became then stamp.old + 1 else stamp.old) }
+        ensures answer { result ≡ release_tells self.old stamp.old by.from }
+        ensures after { self.new ≡ released self.old by.from }
+        ensures stamped { stamp.new ≡ stamp_after stamp.old result }
         ensures owner { self.new.table.owner ≡ self.old.table.owner }
         ensures settings { self.new.table.settings ≡ self.old.table.settings }
     {
@@ -207,15 +198,16 @@ impl Ties {
 
     /// Takes the word of a holder, that it has a link to the owner or has it no more, and answers
     /// whether the word is newer than all of this holder that were taken. An older one changes
-    /// nothing, nor does one for which memory is refused.
+    /// nothing, nor does one for which memory is refused, which only the first word of a holder can be.
+    /// The holder is a name of the settings, and not the owner.
     pub fn held(&mut self, holder: Name, version: u32, on: bool) -> Result<bool, NoMemory>
-        ensures answer { IfOk result (λ newer. newer
-            ≡ supersedes version (entry_of name_cmp self.old.holders holder)) }
-        ensures kept { result ≡ Ok true → self.new ≡ record self.old {
-          holders = written name_cmp self.old.holders
-              (record { key = holder; version = version; value = on });
-        } }
-        ensures same { ¬ (result ≡ Ok true) → self.new ≡ self.old }
+        requires name { IsName self.old.table.settings holder }
+        requires other { holder ≢ self.old.table.owner }
+        ensures answer { IfOk result (λ newer. newer ≡ is_newer name_cmp self.old.holders holder version) }
+        ensures after { OnOk result (self.new ≡ held_word self.old holder version on) }
+        ensures same { OnErr result (self.new ≡ self.old) }
+        ensures new_holder { OnErr result (entry_of name_cmp self.old.holders holder ≡ None) }
+        ensures table { self.new.table ≡ self.old.table }
     {
         Ok(self.holders.apply(holder, version, on)?)
     }
@@ -226,11 +218,7 @@ impl Ties {
         requires name { IsName self.old.table.settings target }
         requires other { target ≢ self.old.table.owner }
         ensures answer { result ≡ is_settled (kind_in self.old.table target) }
-        ensures marked { OnTrue result (self.new ≡ record self.old {
-          table = with_links self.old.table target
-              (with_kind name_cmp (links_near self.old.table target) target Leaving);
-        }) }
-        ensures same { OnFalse result (self.new ≡ self.old) }
+        ensures after { self.new ≡ marked self.old target }
         ensures owner { self.new.table.owner ≡ self.old.table.owner }
         ensures settings { self.new.table.settings ≡ self.old.table.settings }
     {
@@ -243,11 +231,7 @@ impl Ties {
         requires name { IsName self.old.table.settings target }
         requires other { target ≢ self.old.table.owner }
         ensures answer { result ≡ is_settled_or_leaving (kind_in self.old.table target) }
-        ensures removed { OnTrue result (self.new ≡ record self.old {
-          table = with_links self.old.table target
-              (without name_cmp (links_near self.old.table target) target);
-        }) }
-        ensures same { OnFalse result (self.new ≡ self.old) }
+        ensures after { self.new ≡ removed self.old target }
         ensures owner { self.new.table.owner ≡ self.old.table.owner }
         ensures settings { self.new.table.settings ≡ self.old.table.settings }
     {
@@ -260,11 +244,7 @@ impl Ties {
         requires name { IsName self.old.table.settings by.from }
         requires other { by.from ≢ self.old.table.owner }
         ensures answer { result ≡ is_pinned (kind_in self.old.table by.from) }
-        ensures forgotten { OnTrue result (self.new ≡ record self.old {
-          table = with_links self.old.table by.from
-              (without name_cmp (links_near self.old.table by.from) by.from);
-        }) }
-        ensures same { OnFalse result (self.new ≡ self.old) }
+        ensures after { self.new ≡ forgotten self.old by.from }
         ensures owner { self.new.table.owner ≡ self.old.table.owner }
         ensures settings { self.new.table.settings ≡ self.old.table.settings }
     {

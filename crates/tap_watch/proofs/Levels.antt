@@ -5,7 +5,8 @@ use Rattle.std.proofs.lemmas.Bool.Decides.{nat_tests}
 use Rattle.std.proofs.lemmas.List.{get_or_append_left, get_or-append_right, get_or_default}
 use Rattle.std.proofs.lemmas.List.Elements.{Contains-append_left, Contains-append_right, Contains-append_cases}
 use Rattle.tap_name.specs.declared.slot.Slot.{Slot}
-use Rattle.tap_watch.specs.Watch.{Precedes, IsAscending}
+use Rattle.tap_name.specs.Slot.{Precedes}
+use Rattle.tap_watch.specs.Watch.{IsAscending}
 use Rattle.tap_name.proofs.Slots.{same_slot}
 use Rattle.tap_watch.specs.Level.{level_slots, levels_slots}
 
@@ -21,7 +22,7 @@ ascends-append xs ys ax ay across i j d lt within =
         | inl low ↦
             rw (get_or_append_left xs ys d i low, get_or-append_right xs ys n j d refl high)
             (across (get_or xs i d) (get_or ys (j - n) d) (i, low, at_default xs i d low)
-                (j - n, omega arith, at_default ys (j - n) d (omega arith)))
+            (j - n, omega arith, at_default ys (j - n) d (omega arith)))
         | inr over ↦
             rw (get_or-append_right xs ys n i d refl over, get_or-append_right xs ys n j d refl high)
             (ay (i - n) (j - n) d (omega arith) (omega arith))
@@ -40,11 +41,11 @@ pub record IsIn (at_level own bound : ℕ) (s : Slot) : Type 0 where
 abbrev at : ℕ → ℕ → Slot
 at level digit = record { level = level; digit = digit }
 
-single_is : (x s : Slot) → Contains (x ∷ []) s → x ≡ s
+pub single_is : (x s : Slot) → Contains (x ∷ []) s → x ≡ s
 single_is x s (zero, lt, e) = e
 single_is x s (suc k, lt, e) = absurd (omega arith)
 
-single : (x s : Slot) → x ≡ s → Contains (x ∷ []) s
+pub single : (x s : Slot) → x ≡ s → Contains (x ∷ []) s
 single x s e = (0, omega arith, e)
 
 pub from_level : (level own bound : ℕ) (s : Slot) → Contains (level_slots level own bound) s → IsIn level own bound s
@@ -62,8 +63,12 @@ from_level level own (suc bound) s here =
                 record { level = before.level; digit = omega (arith, before.digit); other = before.other }
             | inr right ↦
                 let is = single_is x s right in
-                subst (IsIn level own (suc bound)) is (record { level = refl; digit = omega arith; other =
-                    λ e. absurd (grind (arith, nat_tests)) })
+                subst (IsIn level own (suc bound)) is (record {
+                  level = refl;
+                  digit = omega arith;
+                  other =
+                      λ e. absurd (grind (arith, nat_tests));
+                })
           ]
     ]
 
@@ -89,8 +94,11 @@ level_len_below level own zero le = refl
 level_len_below level own (suc bound) le =
     elim (cases_Bool (eqb bound own)) [
       | inl own_digit ↦ let e = eqb-true bound own own_digit in absurd (omega arith)
-      | inr another ↦ rw another (omega (arith, length-append (level_slots level own bound) (at level bound ∷ []),
-          level_len_below level own bound (omega arith)))
+      | inr another ↦ rw another (omega (
+        arith,
+        length-append (level_slots level own bound) (at level bound ∷ []),
+        level_len_below level own bound (omega arith),
+      ))
     ]
 
 level_len : (level own bound : ℕ) → own < bound → length (level_slots level own bound) + 1 ≡ bound
@@ -100,8 +108,11 @@ level_len level own (suc bound) lt =
       | inl own_digit ↦ let e = eqb-true bound own own_digit in rw own_digit (omega (arith, level_len_below level own bound (omega arith)))
       | inr another ↦
           let e = eqb-false bound own another in
-          rw another (omega (arith, length-append (level_slots level own bound) (at level bound ∷ []),
-              level_len level own bound (omega arith)))
+          rw another (omega (
+            arith,
+            length-append (level_slots level own bound) (at level bound ∷ []),
+            level_len level own bound (omega arith),
+          ))
     ]
 
 one_ascends : (x : Slot) → IsAscending (x ∷ [])
@@ -150,8 +161,12 @@ to_levels base joiner (suc level) s h =
       | inr top ↦
           let e : s.level ≡ level = omega (arith, h.level) in
           Contains-append_right (levels_slots base joiner level) (level_slots level own base) s
-          (to_level level own base s (record { level = e; digit = h.digit; other =
-              λ same. h.other (same ∙ sym (ap (slice_index joiner) e)) }))
+          (to_level level own base s (record {
+            level = e;
+            digit = h.digit;
+            other =
+                λ same. h.other (same ∙ sym (ap (slice_index joiner) e));
+          }))
     ]
 
 pub levels_ascend : (base : ℕ) (joiner : List ℕ) (levels : ℕ) → IsAscending (levels_slots base joiner levels)
@@ -159,7 +174,7 @@ levels_ascend base joiner zero = λ i j d lt within. absurd (omega arith)
 levels_ascend base joiner (suc level) =
     let own = slice_index joiner level in
     ascends-append (levels_slots base joiner level) (level_slots level own base) (levels_ascend base joiner level)
-        (level_ascends level own base) (λ s t left right.
+    (level_ascends level own base) (λ s t left right.
     let before = from_levels base joiner level s left in
     let is = from_level level own base t right in
     record { level = omega (arith, before.level, is.level); digit = λ e. absurd (omega (arith, before.level, is.level)) })

@@ -1,7 +1,6 @@
 -- searching and striking in ascending slots
 use Rattle.std.proofs.Common.{◌≡◌, ℕ, zero, suc, ◌<◌, ◌≤◌, true, false, List, [], ◌∷◌, length, get_or, slice_get, remove, Some, IsNone, Result, Ok, Err, Contains, refl, sym, ap, subst, inl, inr, arith}
-use Rattle.std.specs.Ordering.{nat_cmp, ordering_index, ordering_then}
-use Rattle.std.specs.declared.cmp.Ordering.{Ordering}
+use Rattle.std.specs.Ordering.{ordering_index}
 use Rattle.std.specs.declared.cmp.Ordering.TheVariants.{Equal}
 use Rattle.std.specs.List.Sorted.{IsBinarySearchResult, IsNonDecreasingBy}
 use Rattle.std.specs.Result.{result_ok}
@@ -10,11 +9,8 @@ use Rattle.std.proofs.lemmas.Option.{get_or_from_slice_get, slice_get_past}
 use Rattle.std.proofs.lemmas.Bool.Decides.{nat_tests}
 use Rattle.tap_name.specs.declared.slot.Slot.{Slot}
 use Rattle.tap_name.proofs.Slots.{same_slot}
-use Rattle.tap_watch.specs.Watch.{Precedes, IsAscending, is_other, without}
-
--- how slots compare
-abbrev pub slot_cmp : Slot → Slot → Ordering
-slot_cmp a b = ordering_then (nat_cmp a.level b.level) (nat_cmp a.digit b.digit)
+use Rattle.tap_name.specs.Slot.{Precedes, slot_cmp}
+use Rattle.tap_watch.specs.Watch.{IsAscending, is_other, without}
 
 -- what compares with a slot rises along ascending slots
 rising : (a b x : Slot) → Precedes a b → ordering_index (slot_cmp a x) ≤ ordering_index (slot_cmp b x)
@@ -48,10 +44,10 @@ other_is s x h = grind (arith, nat_tests, h.level, h.digit)
 other_is_behind : (s x : Slot) → Precedes x s → is_other x s ≡ true
 other_is_behind s x h = grind (arith, nat_tests, h.level, h.digit)
 
-itself : (x : Slot) → is_other x x ≡ false
+pub itself : (x : Slot) → is_other x x ≡ false
 itself x = grind (arith, nat_tests)
 
-tests_agree : (s x : Slot) → is_other x s ≡ false → (s.level ≡ x.level) × (s.digit ≡ x.digit)
+pub tests_agree : (s x : Slot) → is_other x s ≡ false → (s.level ≡ x.level) × (s.digit ≡ x.digit)
 tests_agree s x h = (grind (arith, nat_tests), grind (arith, nat_tests))
 
 -- nothing goes where the slot isn't there
@@ -80,8 +76,8 @@ without_at (s ∷ xs) x zero ascending here =
     let same : s ≡ x = cc in
     let e = itself x in
     subst (λ (y : Slot). without x (y ∷ xs) ≡ xs) (sym same)
-        (rw e (behind_stay x xs (λ k d lt. subst (λ (y : Slot). Precedes y (get_or xs k d)) same
-            (ascending 0 (suc k) d (omega arith) (omega arith)))))
+    (rw e (behind_stay x xs (λ k d lt. subst (λ (y : Slot). Precedes y (get_or xs k d)) same
+    (ascending 0 (suc k) d (omega arith) (omega arith)))))
 without_at (s ∷ xs) x (suc i) ascending here =
     elim (cases_lt i (length xs)) [
       | inl within ↦

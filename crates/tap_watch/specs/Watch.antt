@@ -1,12 +1,8 @@
 -- a watch is an ascending list of distinct slots
-use Rattle.std.specs.Prelude.{◌≡◌, ◌≢◌, ◌==◌, ℕ, ◌<◌, ◌≤◌, Bool, ◌&&◌, not, List, filter, slice_index, AllPairs}
+use Rattle.std.specs.Prelude.{◌≢◌, ◌==◌, ℕ, ◌<◌, ◌≤◌, Bool, ◌&&◌, not, List, [], ◌∷◌, ◌++◌, filter, slice_index, All, AllPairs}
 use Rattle.tap_name.specs.declared.slot.Slot.{Slot}
 use Rattle.tap_name.specs.Settings.{SettingsValue}
-
--- a stands before b: by level, then digit
-pub record Precedes (a b : Slot) : Type 0 where
-  pub level : a.level ≤ b.level
-  pub digit : a.level ≡ b.level → a.digit < b.digit
+pub use Rattle.tap_name.specs.Slot.{Precedes}
 
 -- each slot stands before each later one
 abbrev pub IsAscending : List Slot → Type 0
@@ -20,8 +16,17 @@ is_other slot s = not (s.level == slot.level && s.digit == slot.digit)
 abbrev pub without : Slot → List Slot → List Slot
 without slot slots = filter (is_other slot) slots
 
+-- the slots with one more behind them
+abbrev pub with_last : List Slot → Slot → List Slot
+with_last slots slot = slots ++ slot ∷ []
+
 -- a slot of a level up to the prefix, with a digit below the base that isn't the joiner's at that level
 pub record IsWatched (p : SettingsValue) (joiner : List ℕ) (prefix : ℕ) (s : Slot) : Type 0 where
   pub level : s.level ≤ prefix
   pub digit : s.digit < p.base
   pub other : s.digit ≢ slice_index joiner s.level
+
+-- the form of a watch: the slots ascend, and each is one of the joiner's levels up to the prefix
+pub record IsWatch (p : SettingsValue) (joiner : List ℕ) (prefix : ℕ) (slots : List Slot) : Type 0 where
+  pub ascending : IsAscending slots
+  pub watched : All (IsWatched p joiner prefix) slots

@@ -1,8 +1,9 @@
-ghost use Rattle.std.specs.Prelude.{◌≡◌, ◌↔◌, ◌+◌, ◌-◌, ◌*◌, ◌<◌, [], ◌∷◌, ◌++◌, length, IsTrue, IfOk, IfSome, IsNone, OnOk, OnErr, All, Contains, slice_get, Some};
+ghost use Rattle.std.specs.Prelude.{◌≡◌, ◌↔◌, ◌+◌, ◌-◌, ◌*◌, ◌<◌, [], ◌++◌, length, IsTrue, IfOk, IfSome, IsNone, OnOk, OnErr, All, Contains, slice_get, Some};
 ghost use Rattle.tap_name.specs.declared.slot.Slot.{Slot};
 ghost use Rattle.tap_name.specs.Name.{IsName};
-ghost use Rattle.tap_watch.specs.Watch.{Precedes, IsAscending, IsWatched, without};
-ghost use Rattle.tap_watch.specs.Level.{level_slots};
+ghost use Rattle.tap_name.specs.Slot.{Precedes};
+ghost use Rattle.tap_watch.specs.Watch.{IsAscending, IsWatched, with_last, without};
+ghost use Rattle.tap_watch.specs.Level.{full_slots, level_slots};
 
 use crate::memory::NoMemory;
 use std::alloc::Global;
@@ -50,7 +51,8 @@ impl Watch {
     ) -> Result<Watch, NoMemory>
         requires is_name { IsName settings.now joiner.now }
         requires within { prefix < settings.now.digits }
-        ensures slots { IfOk result (λ w. (s : Slot) → Contains w s ↔ IsWatched settings.now joiner.now prefix s) }
+        ensures slots { IfOk result (λ w. w ≡ full_slots settings.now joiner.now prefix) }
+        ensures watched { IfOk result (λ w. (s : Slot) → Contains w s ↔ IsWatched settings.now joiner.now prefix s) }
         ensures len { IfOk result (λ w. length w ≡ (prefix + 1) * (settings.now.base - 1)) }
     {
         let base = settings.base();
@@ -126,7 +128,7 @@ impl Watch {
     /// Adds a slot that stands behind all others. A refused call changes nothing.
     pub fn push_last(&mut self, slot: Slot) -> Result<(), NoMemory>
         requires { All (λ s. Precedes s slot) self.old }
-        ensures ok { OnOk result (self.new ≡ self.old ++ slot ∷ []) }
+        ensures ok { OnOk result (self.new ≡ with_last self.old slot) }
         ensures err { OnErr result (self.new ≡ self.old) }
     {
         self.slots.push(slot)?;

@@ -16,5 +16,5 @@ loop-name-preserved c =
           (sym has ∙ w.if-not-contains.true) (rw w.once-is w.in_ok-push.ensures.items)
       | else-not-contains w ↦
           rw w.once-is (once_same here.once.items names here.name-index name (omega arith) c.name-item.is here.invariant
-              (sym has ∙ w.if-not-contains.false))
+          (sym has ∙ w.if-not-contains.false))
     ]

@@ -10,11 +10,11 @@ loop-item-preserved c =
     elim c.match-acknowledged_by.branch [
       | in-Some+in_ok-push w ↦
           gathered_more (acknowledged_by c.args.arrived.now) c.args.records.now here.item-index c.item-item.result w.in-Some.frame
-              here.frames.items _
+          here.frames.items _
           (omega arith) c.item-item.is here.invariant (sym c.acknowledged_by.ensures ∙ w.in-Some.is)
-              (rw w.frames-is w.in_ok-push.ensures.items)
+          (rw w.frames-is w.in_ok-push.ensures.items)
       | in_default w ↦
           rw w.frames-is (gathered_same (acknowledged_by c.args.arrived.now) c.args.records.now here.item-index c.item-item.result
-              here.frames.items
+          here.frames.items
           (omega arith) c.item-item.is here.invariant (sym c.acknowledged_by.ensures ∙ w.in_default.is))
     ]

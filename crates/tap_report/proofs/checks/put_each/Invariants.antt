@@ -4,5 +4,4 @@ use Rattle.tap_report.proofs.checks.put_each.Given as goal
 
 abbrev pub invariant-loop-item : goal.invariant-loop-item
 invariant-loop-item g l =
-    Reports l.fn.mode (take l.item-index l.records) (g.K.Sink.held l.fn.sink) (g.K.Sink.held l.sink)
-    (g.K.Sink.faults l.fn.sink) (g.K.Sink.faults l.sink) l.reporter
+    Reports l.fn.mode (take l.item-index l.records) (g.K.Sink.state l.fn.sink) (g.K.Sink.state l.sink) l.reporter

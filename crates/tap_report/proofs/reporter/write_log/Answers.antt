@@ -1,10 +1,9 @@
-use Rattle.std.proofs.Common.{◌≡◌, take, None, refl, ap, sym, ◌∙◌}
+use Rattle.std.proofs.Common.{◌≡◌, take, None, refl, ap, sym, rules, ◌∙◌}
 use Rattle.std.proofs.lemmas.List.{take_all}
 use Rattle.tap_report.specs.Summary.{ending, numbers_of}
 use Rattle.tap_report.specs.Tally.{tally_after}
 use Rattle.tap_report.specs.Text.{ArePrintable, settings_after, settings_of, texts_after}
-use Rattle.tap_report.specs.declared.written.Written.TheVariants.{All}
-use Rattle.tap_report.proofs.AddsLemmas.{◌⨾◌, AddsText-then, AddsText-whole}
+use Rattle.tap_report.proofs.WritesLemmas.{◌⨾◌, WritesText-none, WritesText-then}
 use Rattle.tap_report.proofs.TallyLemmas.{tally_of-push, IsWithin-after}
 use Rattle.tap_report.proofs.TextLemmas.{ArePrintable-at, settings_of-push, take_next, texts_after-push}
 use Rattle.tap_report.proofs.reporter.write_log.Goals as goal
@@ -15,6 +14,14 @@ add_record-requires g c =
     let each : ArePrintable None records = rw c.as_slice-records.ensures c.requires.each in
     rw c.loop-item.invariant.settings
     (ArePrintable-at None records c.loop-item.item-index c.item-item.result each c.loop-item-test.true c.item-item.is)
+
+pub loop-item-init : goal.loop-item-init
+loop-item-init g c = record {
+  text = WritesText-none _ _;
+  settings = refl;
+  tally = c.new-tally.ensures;
+  within = search rules;
+}
 
 pub loop-item-preserved : goal.loop-item-preserved
 loop-item-preserved g c =
@@ -39,7 +46,5 @@ returns g c =
     let mode = c.args.mode in
     let all : take c.loop-item.item-index records ≡ records = take_all c.loop-item.item-index records c.loop-item-test.false in
     let ends = rw (was.settings, was.tally) at c.add_ending.ensures in
-    rw (← c.as_slice-records.ensures)
-    (AddsText-whole All c.pass_on.result refl (rw all at
-        (AddsText-then {text = texts_after mode None first} {more = ending mode (settings_of first) (numbers_of first)} was.text ends))
-            c.pass_on.ensures.adds c.pass_on.ensures.after)
+    rw (← c.as_slice-records.ensures) (rw all at
+    (WritesText-then {text = texts_after mode None first} {more = ending mode (settings_of first) (numbers_of first)} was.text ends))

@@ -1,5 +1,5 @@
-use Rattle.std.proofs.Common.{◌≡◌, [], take, None}
-use Rattle.tap_report.specs.Outgoing.{AddsText}
+use Rattle.std.proofs.Common.{◌≡◌, take, None}
+use Rattle.tap_report.specs.Written.{WritesText}
 use Rattle.tap_report.specs.Tally.{IsWithin, tally_of}
 use Rattle.tap_report.specs.Text.{settings_of, texts_after}
 use Rattle.tap_report.specs.declared.written.Written.TheVariants.{All}
@@ -8,8 +8,7 @@ use Rattle.tap_report.proofs.reporter.write_log.Given as goal
 abbrev pub invariant-loop-item : goal.invariant-loop-item
 invariant-loop-item g l = record {
   text :
-      AddsText (g.K.Sink.held l.fn.sink) (g.K.Sink.held l.sink) (g.K.Sink.faults l.fn.sink) (g.K.Sink.faults l.sink)
-      (record { bytes = []; so_far = All }) l.text (texts_after l.mode None (take l.item-index l.records));
+      WritesText (g.K.Sink.state l.fn.sink) (g.K.Sink.state l.sink) (texts_after l.mode None (take l.item-index l.records)) All l.written;
   settings : l.settings ≡ settings_of (take l.item-index l.records);
   tally : l.tally ≡ tally_of (take l.item-index l.records);
   within : IsWithin l.item-index l.tally;

@@ -27,9 +27,9 @@ returns-in-Err-clause-value c = not_text _ c.in-Err.ensures.cases.0
 pub returns-in-Ok-table_from_str-clause-value : goal.returns-in-Ok-table_from_str-clause-value
 returns-in-Ok-table_from_str-clause-value c =
     rw (text c.args.bytes.now (Some (table_view c.in-Ok-table_from_str.table)) c.in-Ok.ensures.cases.1
-        (rw (← c.in-Ok.ensures.cases.0) c.in-Ok-table_from_str.ensures.ok)) c.read_table.ensures.value
+    (rw (← c.in-Ok.ensures.cases.0) c.in-Ok-table_from_str.ensures.ok)) c.read_table.ensures.value
 
 pub returns-else-is_memory-clause-value : goal.returns-else-is_memory-clause-value
 returns-else-is_memory-clause-value c =
     text c.args.bytes.now None c.in-Ok.ensures.cases.1 (rw (← c.in-Ok.ensures.cases.0)
-        (c.in-Err-table_from_str.ensures.refused (λ e. search (rules, c.is_memory.ensures.1 e))))
+    (c.in-Err-table_from_str.ensures.refused (λ e. search (rules, c.is_memory.ensures.1 e))))

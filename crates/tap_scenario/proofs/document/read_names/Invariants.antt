@@ -7,4 +7,4 @@ use Rattle.tap_scenario.proofs.document.read_names.Given as goal
 abbrev pub invariant-loop-value : goal.invariant-loop-value
 invariant-loop-value l =
     names_before l.names.items (names_of l.settings (texts_of (items_view (drop l.value-index l.strings))))
-        ≡ names_of l.settings (texts_of (items_view l.strings))
+    ≡ names_of l.settings (texts_of (items_view l.strings))

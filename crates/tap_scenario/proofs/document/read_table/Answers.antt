@@ -6,5 +6,5 @@ use Rattle.tap_scenario.proofs.document.read_table.Goals as goal
 pub of-requires : goal.of-requires
 of-requires c =
     IsScript-parts (table_view c.args.table.now) c.in_ok-settings.settings c.in_ok-frames.frames c.in_ok-members.members c.in_ok-steps.steps
-        (sym c.in_ok-settings.ensures) (sym c.in_ok-frames.ensures)
+    (sym c.in_ok-settings.ensures) (sym c.in_ok-frames.ensures)
     c.in_ok-members.ensures c.in_ok-steps.ensures

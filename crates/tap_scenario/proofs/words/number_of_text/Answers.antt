@@ -11,16 +11,16 @@ pub returns-in-Err-clause-value : goal.returns-in-Err-clause-value
 returns-in-Err-clause-value c =
     sym (number_below-none _ _ (λ n below is.
     let read : None ≡ Some n = ap result_ok (sym c.in-Err.is
-        ∙ parse-decimal 64 n c.args.text.now c.parse.result (omega (arith, c.ranges.most.fits))
-        (omega (arith, c.ranges.most.fits)) is c.parse.ensures.value.0) in cc))
+    ∙ parse-decimal 64 n c.args.text.now c.parse.result (omega (arith, c.ranges.most.fits))
+    (omega (arith, c.ranges.most.fits)) is c.parse.ensures.value.0) in cc))
 
 pub returns-else-eq-clause-value : goal.returns-else-eq-clause-value
 returns-else-eq-clause-value c =
     sym (number_below-none _ _ (λ n below is.
     let same : c.in-Ok.number ≡ n =
     ap (λ o. unwrap_or o 0) (ap result_ok (sym c.in-Ok.is
-        ∙ parse-decimal 64 n c.args.text.now c.parse.result (omega (arith, c.ranges.most.fits))
-        (omega (arith, c.ranges.most.fits)) is c.parse.ensures.value.0)) in
+    ∙ parse-decimal 64 n c.args.text.now c.parse.result (omega (arith, c.ranges.most.fits))
+    (omega (arith, c.ranges.most.fits)) is c.parse.ensures.value.0)) in
     let text : c.format.result.now ≡ c.args.text.now = c.format.ensures.text ∙ ap decimal same ∙ sym is in
     let equal : bytes_eq c.format.result.now c.args.text.now ≡ true = (bytes_eq-Decides c.format.result.now c.args.text.now).1 text in
     false≢true (sym c.if-eq.false ∙ c.eq.ensures ∙ equal)))
@@ -30,13 +30,13 @@ returns-then-number-most-clause-value c =
     let text : c.format.result.now ≡ c.args.text.now =
     (bytes_eq-Decides c.format.result.now c.args.text.now).0 (sym c.eq.ensures ∙ c.if-eq.true) in
     sym (number_below-decimal _ c.in-Ok.number c.args.text.now (omega arith) (omega (arith, c.ranges.most.fits))
-        (sym text ∙ c.format.ensures.text))
+    (sym text ∙ c.format.ensures.text))
 
 pub returns-else-number-most-clause-value : goal.returns-else-number-most-clause-value
 returns-else-number-most-clause-value c =
     sym (number_below-none _ _ (λ n below is.
     let same : c.in-Ok.number ≡ n =
     ap (λ o. unwrap_or o 0) (ap result_ok (sym c.in-Ok.is
-        ∙ parse-decimal 64 n c.args.text.now c.parse.result (omega (arith, c.ranges.most.fits))
-        (omega (arith, c.ranges.most.fits)) is c.parse.ensures.value.0)) in
+    ∙ parse-decimal 64 n c.args.text.now c.parse.result (omega (arith, c.ranges.most.fits))
+    (omega (arith, c.ranges.most.fits)) is c.parse.ensures.value.0)) in
     omega arith))

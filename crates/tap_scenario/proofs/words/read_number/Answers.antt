@@ -8,4 +8,4 @@ use Rattle.tap_scenario.proofs.words.read_number.Goals as goal
 pub returns-in-Err-clause-value : goal.returns-in-Err-clause-value
 returns-in-Err-clause-value c =
     sym (number_below-none _ _ (λ n below is. c.in-Err.ensures.cases.0
-        (subst IsUtf8 (sym is) (IsUtf8-from_ascii _ (IsAscii-decimal n (omega (arith, c.ranges.most.fits)))))))
+    (subst IsUtf8 (sym is) (IsUtf8-from_ascii _ (IsAscii-decimal n (omega (arith, c.ranges.most.fits)))))))

@@ -12,13 +12,13 @@ returns-in_err-first-clause-value c =
 pub loop-name-init : goal.loop-name-init
 loop-name-init c =
     first_is_nearest c.args.settings.now c.args.object.now c.args.names.now c.in_ok-first.first.now c.in_ok-first.others.now
-        (sym c.as_slice.ensures ∙ c.in_ok-first.ensures.cases.0)
+    (sym c.as_slice.ensures ∙ c.in_ok-first.ensures.cases.0)
 
 pub is_nearer-requires-clause-a : goal.is_nearer-requires-clause-a
 is_nearer-requires-clause-a c =
     c.requires.names c.name-item.result
     (item_among c.args.names.now c.in_ok-first.first.now c.in_ok-first.others.now c.loop-name.name-index c.name-item.result
-        (sym c.as_slice.ensures ∙ c.in_ok-first.ensures.cases.0) c.loop-name-test.true c.name-item.is)
+    (sym c.as_slice.ensures ∙ c.in_ok-first.ensures.cases.0) c.loop-name-test.true c.name-item.is)
 
 pub is_nearer-requires-clause-b : goal.is_nearer-requires-clause-b
 is_nearer-requires-clause-b c = c.requires.names c.loop-name.nearest.now c.loop-name.invariant.among
@@ -36,16 +36,16 @@ loop-name-preserved c =
     elim c.if-is_nearer.branch [
       | then-is_nearer w ↦
           rw w.nearest-is (nearest_changes p object names first others i item nearest c.requires.names c.requires.object
-              (sym c.as_slice.ensures ∙ c.in_ok-first.ensures.cases.0)
+          (sym c.as_slice.ensures ∙ c.in_ok-first.ensures.cases.0)
           c.loop-name-test.true c.name-item.is c.loop-name.invariant w.if-is_nearer.ensures.nearer)
       | else-is_nearer w ↦
           rw w.nearest-is (nearest_stays p object names first others i item nearest c.loop-name-test.true c.name-item.is
-              c.loop-name.invariant w.if-is_nearer.ensures.other)
+          c.loop-name.invariant w.if-is_nearer.ensures.other)
     ]
 
 pub returns-clause-value : goal.returns-clause-value
 returns-clause-value c =
     sym (nearest_seen_is_root c.args.settings.now c.args.object.now c.args.names.now c.in_ok-first.first.now c.in_ok-first.others.now
-        c.loop-name.name-index c.loop-name.nearest.now
+    c.loop-name.name-index c.loop-name.nearest.now
     c.requires.names c.requires.object (sym c.as_slice.ensures ∙ c.in_ok-first.ensures.cases.0) c.loop-name-test.false
-        c.loop-name.invariant)
+    c.loop-name.invariant)

@@ -1,6 +1,8 @@
-use Rattle.std.proofs.Common.{◌≡◌, ◌+◌, take, filter, sym, ap, ◌∙◌, subst, Ok, List, ℕ, Bool}
+use Rattle.std.proofs.Common.{◌≡◌, ◌+◌, take, filter, sym, ap, ◌∙◌, subst, true, List, ℕ, Bool}
 use Rattle.tap_register.specs.declared.registers.Entry.{Entry}
-use Rattle.tap_register.specs.Registers.{entry_of, supersedes}
+use Rattle.std.proofs.lemmas.Cmp.{nat_list_cmp_total}
+use Rattle.tap_register.specs.Registers.{entry_of, is_newer, supersedes}
+use Rattle.tap_register.proofs.Applied.{applied-newer}
 use Rattle.tap_table.specs.Members.{holders_at_rest, holds}
 use Rattle.tap_table.specs.Table.{name_cmp}
 use Rattle.tap_table.proofs.Holding.{above_holders, holder-more, holder-skip, no_word}
@@ -21,11 +23,11 @@ loop-member-preserved c =
           let front = filter (holds p owner names) (take i names) in
           let over = above_holders p owner names i name c.requires.ascending c.loop-member-test.true c.member-item.is in
           let absent = ap (λ l. entry_of name_cmp l name) c.loop-member.invariant ∙ no_word name front over in
-          let newer = w.in_ok-apply.ensures.answer ∙ ap (supersedes 0) absent in
-          let grown = w.in_ok-apply.ensures.kept (ap Ok newer) in
+          let newer : is_newer name_cmp c.loop-member.holders name 0 ≡ true = ap (supersedes 0) absent in
+          let grown = w.in_ok-apply.ensures.after ∙ applied-newer name_cmp nat_list_cmp_total c.loop-member.holders name 0 true newer in
           subst Done (sym w.holders-is)
           (holder-more p owner names i name c.loop-member.holders w.apply.new.self c.loop-member-test.true c.member-item.is
-              c.requires.ascending has
+          c.requires.ascending has
           c.loop-member.invariant grown)
       | else-holds w ↦
           let skip = holder-skip p owner names i name c.loop-member-test.true c.member-item.is (sym c.holds.ensures ∙ w.if-holds.false) in

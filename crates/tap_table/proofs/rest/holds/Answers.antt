@@ -7,4 +7,4 @@ pub returns-in-None : goal.returns-in-None
 returns-in-None c =
     let same = c.in-None.ensures.none.0 refl in
     sym (ap (holds c.args.settings.now c.args.owner.now c.args.names.now) same
-        ∙ not_held_by_itself c.args.settings.now c.args.owner.now c.args.names.now)
+    ∙ not_held_by_itself c.args.settings.now c.args.owner.now c.args.names.now)

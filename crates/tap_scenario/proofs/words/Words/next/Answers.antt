@@ -6,7 +6,7 @@ use Rattle.tap_scenario.proofs.words.Words.next.Goals as goal
 pub returns-in-Some : goal.returns-in-Some
 returns-in-Some c =
     rw (← c.self.view_is, c.in_ok-text.was, take_rest) (words-at_space c.in_ok-text.text.now c.in-Some.at
-        (sym c.first_space.ensures ∙ c.in-Some.is))
+    (sym c.first_space.ensures ∙ c.in-Some.is))
 
 pub returns-in-None : goal.returns-in-None
 returns-in-None c =

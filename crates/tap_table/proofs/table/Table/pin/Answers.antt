@@ -1,82 +1,31 @@
-use Rattle.std.proofs.Common.{arith}
-use Rattle.tap_link.specs.declared.kind.Kind.TheVariants.{Pin}
-use Rattle.tap_link.specs.LinkSet.{with_link}
+use Rattle.tap_link.specs.LinkSet.{pinned}
 use Rattle.tap_table.specs.Table.{name_cmp}
-use Rattle.tap_table.proofs.Changes.{IsSetOf, changed, kept-with_link, kind, number_within, few, near}
+use Rattle.tap_table.proofs.Kept.{IsTable-pinned, width-pinned}
+use Rattle.tap_table.proofs.SetChanges.{IsNear, is_table, sets_after_result, table_after_result, within_sets}
 use Rattle.tap_table.proofs.table.Table.pin.Goals as goal
+use Rattle.tap_table.proofs.table.Table.pin.Goals.{After-number_of-number}
 
-pub index_mut-requires : goal.index_mut-requires
-index_mut-requires c =
-    let within =
-    number_within c.self.inside.owner c.self.inside.settings c.self.inside.sets.items c.args.target c.number_of-number.result
-    c.self.invariant (rw (← c.self.view_is) at c.requires.name) (rw (← c.self.view_is) at c.requires.other)
-        (rw (← c.self.view_is) at c.number_of-number.ensures) in omega (arith, within, c.self.inside.sets.ok)
-
-pub pin_in-requires : goal.pin_in-requires
-pin_in-requires c =
-    let sets = c.self.inside.sets.items in
-    let number = c.number_of-number.result in
-    let is : IsSetOf c.self.inside.owner c.self.inside.settings sets c.args.target number c.index_mut.result.now = record {
+is_near : (c : After-number_of-number)
+    → IsNear c.self.inside.owner c.self.inside.settings c.self.inside.sets c.args.self.now c.args.target c.number_of-number.result
+is_near c =
+    record {
+      view = c.self.view_is;
       are = c.self.invariant;
-      is_name = rw (← c.self.view_is) at c.requires.name;
-      other = rw (← c.self.view_is) at c.requires.other;
-      place = rw (← c.self.view_is) at c.number_of-number.ensures;
-      here = c.index_mut.ensures.value;
-    } in
-    few c.self.inside.owner c.self.inside.settings sets c.args.target number c.index_mut.result.now is
+      is_name = c.requires.name;
+      other = c.requires.other;
+      place = c.number_of-number.ensures;
+    }
+
+pub pin-requires : goal.pin-requires
+pin-requires c = within_sets (is_near (goal.at.pin-requires c).After-number_of-number)
 
 pub invariant_of-self : goal.invariant_of-self
 invariant_of-self c =
-    let sets = c.self.inside.sets.items in
-    let number = c.number_of-number.result in
-    let is : IsSetOf c.self.inside.owner c.self.inside.settings sets c.args.target number c.index_mut.result.now = record {
-      are = c.self.invariant;
-      is_name = rw (← c.self.view_is) at c.requires.name;
-      other = rw (← c.self.view_is) at c.requires.other;
-      place = rw (← c.self.view_is) at c.number_of-number.ensures;
-      here = c.index_mut.ensures.value;
-    } in
-    kept-with_link c.self.inside.owner c.self.inside.settings sets c.args.target number c.index_mut.result.now is c.pin_in.new.set Pin
-        c.pin_in.result c.pin_in.ensures.pinned c.pin_in.ensures.same c.pin_in.ensures.few
+    let is = is_near (goal.at.invariant_of-self c).After-number_of-number in
+    sets_after_result is (λ s. pinned name_cmp s c.args.target) c.pin.new.self c.pin.result c.pin.ensures.after c.pin.ensures.same (λ s. width-pinned s c.args.target)
+    (IsTable-pinned c.args.self.now c.args.target (is_table is) c.requires.name c.requires.other)
 
-pub returns-clause-answer : goal.returns-clause-answer
-returns-clause-answer c =
-    let sets = c.self.inside.sets.items in
-    let number = c.number_of-number.result in
-    let is : IsSetOf c.self.inside.owner c.self.inside.settings sets c.args.target number c.index_mut.result.now = record {
-      are = c.self.invariant;
-      is_name = rw (← c.self.view_is) at c.requires.name;
-      other = rw (← c.self.view_is) at c.requires.other;
-      place = rw (← c.self.view_is) at c.number_of-number.ensures;
-      here = c.index_mut.ensures.value;
-    } in
-    rw (← c.self.view_is, ← kind c.self.inside.owner c.self.inside.settings sets c.args.target number c.index_mut.result.now is)
-        c.pin_in.ensures.answer
-
-pub returns-clause-pinned : goal.returns-clause-pinned
-returns-clause-pinned c added =
-    let sets = c.self.inside.sets.items in
-    let number = c.number_of-number.result in
-    let is : IsSetOf c.self.inside.owner c.self.inside.settings sets c.args.target number c.index_mut.result.now = record {
-      are = c.self.invariant;
-      is_name = rw (← c.self.view_is) at c.requires.name;
-      other = rw (← c.self.view_is) at c.requires.other;
-      place = rw (← c.self.view_is) at c.number_of-number.ensures;
-      here = c.index_mut.ensures.value;
-    } in
-    rw (← c.self.view_is) (changed c.self.inside.owner c.self.inside.settings sets c.args.target number c.index_mut.result.now is
-        c.pin_in.new.set (λ l. with_link name_cmp l c.args.target Pin) (c.pin_in.ensures.pinned added))
-
-pub returns-clause-inline : goal.returns-clause-inline
-returns-clause-inline c =
-    let sets = c.self.inside.sets.items in
-    let number = c.number_of-number.result in
-    let is : IsSetOf c.self.inside.owner c.self.inside.settings sets c.args.target number c.index_mut.result.now = record {
-      are = c.self.invariant;
-      is_name = rw (← c.self.view_is) at c.requires.name;
-      other = rw (← c.self.view_is) at c.requires.other;
-      place = rw (← c.self.view_is) at c.number_of-number.ensures;
-      here = c.index_mut.ensures.value;
-    } in
-    rw (← c.self.view_is, ← near c.self.inside.owner c.self.inside.settings sets c.args.target number c.index_mut.result.now is)
-        c.pin_in.ensures.inline
+pub returns-clause-after : goal.returns-clause-after
+returns-clause-after c =
+    table_after_result (is_near (goal.at.returns-clause-after c).After-number_of-number) (λ s. pinned name_cmp s c.args.target) c.pin.new.self c.pin.result
+    c.pin.ensures.after

@@ -6,11 +6,11 @@ pub returns-then-link-links : goal.returns-then-link-links
 returns-then-link-links c =
     let t = c.args.self.now in
     let sets = c.as_slice-sets.result.now in
-    let are = slots_are t c.self.inside.owner c.self.inside.settings c.self.inside.sets.items sets c.self.view_is
-        c.as_slice-sets.ensures.value in
+    let are = slots_are t c.self.inside.owner c.self.inside.settings c.self.inside.sets sets c.self.view_is
+    c.as_slice-sets.ensures in
     let len = slots_len t sets are in
     let here = ap length (slot_is t sets c.loop-number.number c.index-sets-number.result are c.loop-number-test.true c.index-sets-number.is)
-        in
+    in
     place_found t c.args.i c.loop-number.number c.loop-number.link (omega (arith, len, c.loop-number-test.true))
     (omega (arith, here, c.len-links.ensures.count, c.if-link-links.true)) c.loop-number.invariant
 
@@ -18,11 +18,11 @@ pub loop-number-preserved : goal.loop-number-preserved
 loop-number-preserved c =
     let t = c.args.self.now in
     let sets = c.as_slice-sets.result.now in
-    let are = slots_are t c.self.inside.owner c.self.inside.settings c.self.inside.sets.items sets c.self.view_is
-        c.as_slice-sets.ensures.value in
+    let are = slots_are t c.self.inside.owner c.self.inside.settings c.self.inside.sets sets c.self.view_is
+    c.as_slice-sets.ensures in
     let len = slots_len t sets are in
     let here = ap length (slot_is t sets c.loop-number.number c.index-sets-number.result are c.loop-number-test.true c.index-sets-number.is)
-        in
+    in
     place_later t c.args.i c.loop-number.number c.loop-number.link _ (omega (arith, len, c.loop-number-test.true))
     (omega (arith, here, c.len-links.ensures.count, c.if-link-links.false)) c.loop-number.invariant
 
@@ -30,8 +30,8 @@ pub unreachable-requires : goal.unreachable-requires
 unreachable-requires c =
     let t = c.args.self.now in
     let sets = c.as_slice-sets.result.now in
-    let are = slots_are t c.self.inside.owner c.self.inside.settings c.self.inside.sets.items sets c.self.view_is
-        c.as_slice-sets.ensures.value in
+    let are = slots_are t c.self.inside.owner c.self.inside.settings c.self.inside.sets sets c.self.view_is
+    c.as_slice-sets.ensures in
     let len = slots_len t sets are in
     absurd (place_within t c.args.i c.loop-number.number c.loop-number.link c.requires c.loop-number.invariant
-        (omega (arith, len, c.loop-number-test.false)))
+    (omega (arith, len, c.loop-number-test.false)))

@@ -1,54 +1,36 @@
-use Rattle.std.proofs.Common.{arith}
-use Rattle.tap_link.specs.LinkSet.{after_release}
+use Rattle.std.proofs.Common.{refl}
+use Rattle.tap_link.specs.LinkSet.{released}
 use Rattle.tap_table.specs.Table.{name_cmp}
-use Rattle.tap_table.proofs.Changes.{IsSetOf, changed, kept-after_release, kind, number_within, room}
+use Rattle.tap_table.proofs.Kept.{IsTable-released}
+use Rattle.tap_table.proofs.SetChanges.{IsNear, is_table, near_is, sets_after, table_after, within_sets}
 use Rattle.tap_table.proofs.table.Table.release.Goals as goal
+use Rattle.tap_table.proofs.table.Table.release.Goals.{After-number_of-number}
 
-pub index_mut-requires : goal.index_mut-requires
-index_mut-requires c =
-    let within =
-    number_within c.self.inside.owner c.self.inside.settings c.self.inside.sets.items c.args.by.from c.number_of-number.result
-    c.self.invariant (rw (← c.self.view_is) at c.requires.name) (rw (← c.self.view_is) at c.requires.other)
-        (rw (← c.self.view_is) at c.number_of-number.ensures) in omega (arith, within, c.self.inside.sets.ok)
+is_near : (c : After-number_of-number)
+    → IsNear c.self.inside.owner c.self.inside.settings c.self.inside.sets c.args.self.now c.args.by.from c.number_of-number.result
+is_near c =
+    record {
+      view = c.self.view_is;
+      are = c.self.invariant;
+      is_name = c.requires.name;
+      other = c.requires.other;
+      place = c.number_of-number.ensures;
+    }
+
+pub release-requires : goal.release-requires
+release-requires c = within_sets (is_near (goal.at.release-requires c).After-number_of-number)
 
 pub invariant_of-self : goal.invariant_of-self
 invariant_of-self c =
-    let sets = c.self.inside.sets.items in
-    let number = c.number_of-number.result in
-    let is : IsSetOf c.self.inside.owner c.self.inside.settings sets c.args.by.from number c.index_mut.result.now = record {
-      are = c.self.invariant;
-      is_name = rw (← c.self.view_is) at c.requires.name;
-      other = rw (← c.self.view_is) at c.requires.other;
-      place = rw (← c.self.view_is) at c.number_of-number.ensures;
-      here = c.index_mut.ensures.value;
-    } in
-    kept-after_release c.self.inside.owner c.self.inside.settings sets c.args.by.from number c.index_mut.result.now is c.release.new.self
-        c.release.result c.release.ensures.after
+    let is = is_near (goal.at.invariant_of-self c).After-number_of-number in
+    sets_after is (λ s. released name_cmp s c.args.by.from) c.release.new.self c.release.ensures.after (λ _. refl)
+    (IsTable-released c.args.self.now c.args.by.from (is_table is) c.requires.name c.requires.other)
 
 pub returns-clause-answer : goal.returns-clause-answer
 returns-clause-answer c =
-    let sets = c.self.inside.sets.items in
-    let number = c.number_of-number.result in
-    let is : IsSetOf c.self.inside.owner c.self.inside.settings sets c.args.by.from number c.index_mut.result.now = record {
-      are = c.self.invariant;
-      is_name = rw (← c.self.view_is) at c.requires.name;
-      other = rw (← c.self.view_is) at c.requires.other;
-      place = rw (← c.self.view_is) at c.number_of-number.ensures;
-      here = c.index_mut.ensures.value;
-    } in
-    rw (← c.self.view_is, ← kind c.self.inside.owner c.self.inside.settings sets c.args.by.from number c.index_mut.result.now is,
-        ← room c.self.inside.owner c.self.inside.settings sets c.args.by.from number c.index_mut.result.now is) c.release.ensures.answer
+    rw (near_is (is_near (goal.at.returns-clause-answer c).After-number_of-number)) at c.release.ensures.answer
 
 pub returns-clause-after : goal.returns-clause-after
 returns-clause-after c =
-    let sets = c.self.inside.sets.items in
-    let number = c.number_of-number.result in
-    let is : IsSetOf c.self.inside.owner c.self.inside.settings sets c.args.by.from number c.index_mut.result.now = record {
-      are = c.self.invariant;
-      is_name = rw (← c.self.view_is) at c.requires.name;
-      other = rw (← c.self.view_is) at c.requires.other;
-      place = rw (← c.self.view_is) at c.number_of-number.ensures;
-      here = c.index_mut.ensures.value;
-    } in
-    rw (← c.self.view_is) (changed c.self.inside.owner c.self.inside.settings sets c.args.by.from number c.index_mut.result.now is
-        c.release.new.self (λ l. after_release name_cmp l c.args.by.from c.release.result) c.release.ensures.after)
+    table_after (is_near (goal.at.returns-clause-after c).After-number_of-number) (λ s. released name_cmp s c.args.by.from) c.release.new.self
+    c.release.ensures.after

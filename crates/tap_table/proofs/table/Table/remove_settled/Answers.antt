@@ -1,55 +1,35 @@
-use Rattle.std.proofs.Common.{arith}
-use Rattle.tap_link.specs.LinkSet.{without}
+use Rattle.tap_link.specs.LinkSet.{removed}
 use Rattle.tap_table.specs.Table.{name_cmp}
-use Rattle.tap_table.proofs.Changes.{IsSetOf, changed, on_true, kept-without, kind, number_within}
+use Rattle.tap_table.proofs.Kept.{IsTable-removed, width-removed}
+use Rattle.tap_table.proofs.SetChanges.{IsNear, is_table, near_is, sets_after, table_after, within_sets}
 use Rattle.tap_table.proofs.table.Table.remove_settled.Goals as goal
+use Rattle.tap_table.proofs.table.Table.remove_settled.Goals.{After-number_of-number}
 
-pub index_mut-requires : goal.index_mut-requires
-index_mut-requires c =
-    let within =
-    number_within c.self.inside.owner c.self.inside.settings c.self.inside.sets.items c.args.target c.number_of-number.result
-    c.self.invariant (rw (← c.self.view_is) at c.requires.name) (rw (← c.self.view_is) at c.requires.other)
-        (rw (← c.self.view_is) at c.number_of-number.ensures) in omega (arith, within, c.self.inside.sets.ok)
+is_near : (c : After-number_of-number)
+    → IsNear c.self.inside.owner c.self.inside.settings c.self.inside.sets c.args.self.now c.args.target c.number_of-number.result
+is_near c =
+    record {
+      view = c.self.view_is;
+      are = c.self.invariant;
+      is_name = c.requires.name;
+      other = c.requires.other;
+      place = c.number_of-number.ensures;
+    }
+
+pub remove_settled-requires : goal.remove_settled-requires
+remove_settled-requires c = within_sets (is_near (goal.at.remove_settled-requires c).After-number_of-number)
 
 pub invariant_of-self : goal.invariant_of-self
 invariant_of-self c =
-    let sets = c.self.inside.sets.items in
-    let number = c.number_of-number.result in
-    let is : IsSetOf c.self.inside.owner c.self.inside.settings sets c.args.target number c.index_mut.result.now = record {
-      are = c.self.invariant;
-      is_name = rw (← c.self.view_is) at c.requires.name;
-      other = rw (← c.self.view_is) at c.requires.other;
-      place = rw (← c.self.view_is) at c.number_of-number.ensures;
-      here = c.index_mut.ensures.value;
-    } in
-    kept-without c.self.inside.owner c.self.inside.settings sets c.args.target number c.index_mut.result.now is c.remove_settled.new.self
-        c.remove_settled.result c.remove_settled.ensures.removed c.remove_settled.ensures.same
+    let is = is_near (goal.at.invariant_of-self c).After-number_of-number in
+    sets_after is (λ s. removed name_cmp s c.args.target) c.remove_settled.new.self c.remove_settled.ensures.after (λ s. width-removed s c.args.target)
+    (IsTable-removed c.args.self.now c.args.target (is_table is) c.requires.name c.requires.other)
 
 pub returns-clause-answer : goal.returns-clause-answer
 returns-clause-answer c =
-    let sets = c.self.inside.sets.items in
-    let number = c.number_of-number.result in
-    let is : IsSetOf c.self.inside.owner c.self.inside.settings sets c.args.target number c.index_mut.result.now = record {
-      are = c.self.invariant;
-      is_name = rw (← c.self.view_is) at c.requires.name;
-      other = rw (← c.self.view_is) at c.requires.other;
-      place = rw (← c.self.view_is) at c.number_of-number.ensures;
-      here = c.index_mut.ensures.value;
-    } in
-    rw (← c.self.view_is, ← kind c.self.inside.owner c.self.inside.settings sets c.args.target number c.index_mut.result.now is)
-        c.remove_settled.ensures.answer
+    rw (near_is (is_near (goal.at.returns-clause-answer c).After-number_of-number)) at c.remove_settled.ensures.answer
 
-pub returns-clause-removed : goal.returns-clause-removed
-returns-clause-removed c =
-    let sets = c.self.inside.sets.items in
-    let number = c.number_of-number.result in
-    let is : IsSetOf c.self.inside.owner c.self.inside.settings sets c.args.target number c.index_mut.result.now = record {
-      are = c.self.invariant;
-      is_name = rw (← c.self.view_is) at c.requires.name;
-      other = rw (← c.self.view_is) at c.requires.other;
-      place = rw (← c.self.view_is) at c.number_of-number.ensures;
-      here = c.index_mut.ensures.value;
-    } in
-    rw (← c.self.view_is) (on_true c.remove_settled.result _ _
-        (changed c.self.inside.owner c.self.inside.settings sets c.args.target number c.index_mut.result.now is c.remove_settled.new.self
-            (λ l. without name_cmp l c.args.target)) c.remove_settled.ensures.removed)
+pub returns-clause-after : goal.returns-clause-after
+returns-clause-after c =
+    table_after (is_near (goal.at.returns-clause-after c).After-number_of-number) (λ s. removed name_cmp s c.args.target) c.remove_settled.new.self
+    c.remove_settled.ensures.after

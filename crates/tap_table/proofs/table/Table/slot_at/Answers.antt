@@ -1,12 +1,8 @@
-use Rattle.std.proofs.Common.{◌≡◌, get_or, []}
-use Rattle.tap_table.proofs.Rows.{field_at, got}
+use Rattle.std.proofs.Common.{◌∙◌, ap}
+use Rattle.std.specs.Option.{option_map}
+use Rattle.std.proofs.lemmas.Option.{slice_get-map}
+use Rattle.tap_table.specs.Table.{Row, rows}
 use Rattle.tap_table.proofs.table.Table.slot_at.Goals as goal
 
 pub returns : goal.returns
-returns c =
-    let t = c.args.self.now in
-    let place = c.place_of_link-place.result in
-    let e = got (get_or t.slots place.number []) place.link c.place_of_link-place.ensures.link in
-    let field = field_at (λ r. r.slot) t c.args.i place e.0 c.place_of_link-place.ensures e.1 in
-    let base : c.base-base.result ≡ t.settings.base = rw (← c.self.view_is) c.base-base.ensures.value in
-    rw base field
+returns c = slice_get-map (λ (r : Row). r.slot) (rows c.args.self.now) c.args.i ∙ ap (option_map (λ (r : Row). r.slot)) c.row_at.ensures

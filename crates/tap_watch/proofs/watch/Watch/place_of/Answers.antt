@@ -7,4 +7,4 @@ pub returns-clause-none : goal.returns-clause-none
 returns-clause-none c none here =
     let found = rw c.deref.ensures.value at c.binary_search.ensures.position in
     absent c.args.self.now c.args.slot c.binary_search.result (subst IsAscending c.self.view_is c.self.invariant)
-        (rw (← c.self.view_is) found) (rw (← c.ok.ensures.value) none) here
+    (rw (← c.self.view_is) found) (rw (← c.ok.ensures.value) none) here

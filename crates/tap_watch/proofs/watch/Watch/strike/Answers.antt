@@ -1,6 +1,7 @@
 use Rattle.std.proofs.Common.{subst, sym, refl}
 use Rattle.std.proofs.lemmas.List.Quantifiers.{all_pairs_remove}
-use Rattle.tap_watch.specs.Watch.{Precedes, IsAscending}
+use Rattle.tap_name.specs.Slot.{Precedes}
+use Rattle.tap_watch.specs.Watch.{IsAscending}
 use Rattle.tap_watch.proofs.Order.{without_at, without_absent, is_there, is_within}
 use Rattle.tap_watch.proofs.watch.Watch.strike.Goals as goal
 
@@ -17,7 +18,7 @@ pub returns-in-Some-clause-left : goal.returns-in-Some-clause-left
 returns-in-Some-clause-left c =
     let ascending = subst IsAscending c.self.view_is c.self.invariant in
     rw (c.remove.ensures.items, c.self.view_is) (sym (without_at c.args.self.now c.args.slot c.in-Some.place ascending
-        c.in-Some.ensures.some))
+    c.in-Some.ensures.some))
 
 pub returns-in-None-clause-left : goal.returns-in-None-clause-left
 returns-in-None-clause-left c = sym (without_absent c.args.self.now c.args.slot (c.in-None.ensures.none refl))

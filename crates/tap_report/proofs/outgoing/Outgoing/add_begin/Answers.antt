@@ -1,7 +1,0 @@
-use Rattle.tap_report.proofs.AddsLemmas.{◌⨾◌}
-use Rattle.tap_report.proofs.outgoing.Outgoing.add_begin.Goals as goal
-
-pub returns : goal.returns
-returns g c =
-    rw c.base.ensures.value at c.add_numbered.ensures ⨾ rw c.digits.ensures.value at c.add_numbered-2.ensures
-    ⨾ rw c.width.ensures.value at c.add_numbered-3.ensures ⨾ c.add_numbered-4.ensures

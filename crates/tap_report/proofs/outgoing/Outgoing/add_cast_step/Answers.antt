@@ -1,7 +1,0 @@
-use Rattle.tap_report.proofs.AddsLemmas.{◌⨾◌}
-use Rattle.tap_report.proofs.outgoing.Outgoing.add_cast_step.Goals as goal
-
-pub returns : goal.returns
-returns g c =
-    c.add.ensures ⨾ rw c.as_slice.ensures.value at c.add-2.ensures ⨾ c.add-3.ensures ⨾ c.add_prefix.ensures
-    ⨾ c.add-4.ensures ⨾ c.add_name.ensures

@@ -1,5 +1,0 @@
-use Rattle.tap_report.proofs.AddsLemmas.{◌⨾◌}
-use Rattle.tap_report.proofs.outgoing.Outgoing.add_head.Goals as goal
-
-pub returns : goal.returns
-returns g c = rw (← c.in-Ok.ensures.value) (c.add_kind.ensures ⨾ c.add_named.ensures ⨾ c.add_named-in-Ok.ensures)

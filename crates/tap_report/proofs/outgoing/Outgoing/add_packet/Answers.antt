@@ -1,6 +1,0 @@
-use Rattle.tap_report.proofs.AddsLemmas.{◌⨾◌}
-use Rattle.tap_report.proofs.outgoing.Outgoing.add_packet.Goals as goal
-
-pub returns : goal.returns
-returns g c =
-    c.add_numbered.ensures ⨾ rw c.packet_word.ensures at c.add_numbered-2.ensures

@@ -1,6 +1,0 @@
-use Rattle.tap_report.proofs.AddsLemmas.{◌⨾◌}
-use Rattle.tap_report.proofs.outgoing.Outgoing.add_reached.Goals as goal
-
-pub returns : goal.returns
-returns g c =
-    c.add_numbered.ensures ⨾ c.add_named.ensures

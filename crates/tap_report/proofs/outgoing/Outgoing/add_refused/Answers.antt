@@ -1,6 +1,0 @@
-use Rattle.tap_report.proofs.AddsLemmas.{◌⨾◌}
-use Rattle.tap_report.proofs.outgoing.Outgoing.add_refused.Goals as goal
-
-pub returns : goal.returns
-returns g c =
-    c.add_numbered.ensures ⨾ rw c.code_of.ensures at c.add_numbered-2.ensures ⨾ c.add.ensures ⨾ c.add_words.ensures

@@ -1,6 +1,0 @@
-use Rattle.tap_report.proofs.AddsLemmas.{◌⨾◌}
-use Rattle.tap_report.proofs.outgoing.Outgoing.add_table.Goals as goal
-
-pub returns : goal.returns
-returns g c =
-    c.add_named.ensures ⨾ c.add.ensures ⨾ rw c.node_word.ensures at c.add-2.ensures ⨾ c.add_numbered.ensures

@@ -1,6 +1,0 @@
-use Rattle.tap_report.proofs.AddsLemmas.{◌⨾◌}
-use Rattle.tap_report.proofs.outgoing.Outgoing.add_two_named.Goals as goal
-
-pub returns : goal.returns
-returns g c =
-    c.add.ensures ⨾ c.add_name.ensures ⨾ c.add-2.ensures ⨾ c.add_name-2.ensures

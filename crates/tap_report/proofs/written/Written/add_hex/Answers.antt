@@ -1,0 +1,23 @@
+use Rattle.std.proofs.Common.{arith, refl}
+use Rattle.hex.specs.Hex.{encode_with}
+use Rattle.tap_report.proofs.TextLemmas.{encode_lower-piece}
+use Rattle.tap_report.proofs.WritesLemmas.{◌⨾◌, WritesText-none}
+use Rattle.tap_report.proofs.written.Written.add_hex.Goals as goal
+
+pub loop-done-init : goal.loop-done-init
+unfolding encode_with
+loop-done-init g c = record {
+  within = omega arith;
+  room = refl;
+  text = WritesText-none _ _;
+}
+
+pub loop-done-preserved : goal.loop-done-preserved
+loop-done-preserved g c =
+    let was = c.loop-done.invariant in
+    record {
+      within = omega (arith, c.min-end.ensures);
+      room = omega (arith, c.add_hex_piece.auto.room, was.room);
+      text = rw (encode_lower-piece c.args.bytes.now c.loop-done.done c.min-end.result (omega (arith, c.min-end.ensures)))
+          (was.text ⨾ c.add_hex_piece.ensures);
+    }

@@ -1,0 +1,25 @@
+-- The link sets of the slots of a table, by the slots' numbers, and how many links they have.
+use Rattle.std.specs.Prelude.{◌≡◌, ℕ, ◌≤◌, List, [], length, sum_by, All}
+use Rattle.std.specs.List.{slice_index_or}
+use Rattle.tap_link.specs.LinkSet.{LinkSetValue}
+
+-- No slot has more links than this many, and no table more slots: then the links of all slots are counted in 64 bits.
+abbrev pub most_links : ℕ
+most_links = 18014398509481984
+
+abbrev pub most_slots : ℕ
+most_slots = 640
+
+-- the set of a number
+abbrev pub set_in : List (LinkSetValue (List ℕ)) → ℕ → LinkSetValue (List ℕ)
+set_in sets number = slice_index_or sets number (record { width = 0; links = [] })
+
+-- how many links all sets have
+abbrev pub all_links : List (LinkSetValue (List ℕ)) → ℕ
+all_links sets = sum_by (λ s. length s.links) sets
+
+-- so many links the sets have, and no more than can be counted
+pub record AreCounted (sets : List (LinkSetValue (List ℕ))) (links : ℕ) : Type 0 where
+  pub slots : length sets ≤ most_slots
+  pub few : All (λ s. length s.links ≤ most_links) sets
+  pub count : links ≡ all_links sets

@@ -1,0 +1,198 @@
+ghost use Rattle.std.specs.Prelude.{◌≡◌, ◌<◌, ◌≤◌, ◌&&◌, [], length, replicate, slice_set, IsOk, IsSome, IsTrue, IfOk, OnOk, OnErr};
+ghost use Rattle.std.specs.Option.{is_none};
+ghost use Rattle.tap_link.specs.LinkSet.{forgotten, has_room, is_pinned, is_settled, is_settled_or_leaving, kind_of, marked, offered, pinned, released, released_as, removed};
+ghost use Rattle.tap_table.specs.Sets.{all_links, most_links, most_slots, set_in};
+ghost use Rattle.tap_table.specs.Table.{name_cmp};
+
+use crate::memory::NoMemory;
+use std::alloc::Global;
+use std::marker::Model;
+use tap_link::{Cease, Forget, LinkSet, Release, Released};
+use tap_name::Name;
+
+// No slot has more links than this many. No memory holds so many, and the links of all slots are
+// counted in 64 bits.
+const MOST_LINKS: usize = 1 << 54;
+
+// The link sets of the slots of a table by the slots' numbers, and how many links they have in all.
+#[derive(Drop)]
+pub(crate) struct Sets {
+    sets: Vec<LinkSet<Name>>,
+    links: usize,
+}
+
+impl Model for Sets {
+    ghost use Rattle.std.specs.Prelude.{List, ℕ};
+    ghost use Rattle.tap_link.specs.LinkSet.{LinkSetValue};
+    ghost use Rattle.tap_table.specs.Sets.{AreCounted};
+
+    ghost Value = { List (LinkSetValue (List ℕ)) };
+
+    ghost view = { λ s. s.sets.items };
+
+    ghost invariant = { λ s. AreCounted s.sets.items s.links };
+}
+
+impl Sets {
+    // So many sets without links, each of this width.
+    pub(crate) fn new(alloc: Global, slots: usize, width: u8) -> Result<Sets, NoMemory>
+        requires { slots ≤ most_slots }
+        ensures { IfOk result (λ sets. sets ≡ replicate slots (record { width = width; links = [] })) }
+    {
+        let mut sets = Vec::with_capacity(alloc, slots)?;
+        for _slot in 0..slots {
+            sets.push(LinkSet::new(alloc, width))?;
+        }
+        Ok(Sets { sets, links: 0 })
+    }
+
+    // How many links all sets have.
+    pub(crate) fn links(&self) -> usize
+        ensures { result ≡ all_links self.now }
+    {
+        self.links
+    }
+
+    // All sets, by their numbers.
+    pub(crate) fn as_slice(&self) -> &[LinkSet<Name>]
+        ensures { result.now ≡ self.now }
+    {
+        self.sets.as_slice()
+    }
+
+    pub(crate) fn pin(&mut self, number: usize, target: Name) -> Result<bool, NoMemory>
+        requires { number < length self.old }
+        ensures answer { IfOk result (λ added. added ≡ is_none (kind_of name_cmp (set_in self.old number).links target)) }
+        ensures after { OnOk result (self.new
+            ≡ slice_set self.old number (pinned name_cmp (set_in self.old number) target)) }
+        ensures same { OnErr result (self.new ≡ self.old) }
+        ensures inline { length (set_in self.old number).links < 4 → IsOk result }
+        ensures linked { IsSome (kind_of name_cmp (set_in self.old number).links target) → IsOk result }
+    {
+        let set = &mut self.sets[number];
+        let before = set.len();
+        let added = pin_in(set, target)?;
+        let now = set.len();
+        self.links = self.links - before + now;
+        Ok(added)
+    }
+
+    pub(crate) fn offer(&mut self, number: usize, target: Name) -> Result<bool, NoMemory>
+        requires { number < length self.old }
+        ensures answer { IfOk result (λ added. added
+            ≡ (is_none (kind_of name_cmp (set_in self.old number).links target) && has_room (set_in self.old number))) }
+        ensures after { OnOk result (self.new
+            ≡ slice_set self.old number (offered name_cmp (set_in self.old number) target)) }
+        ensures same { OnErr result (self.new ≡ self.old) }
+        ensures inline { length (set_in self.old number).links < 4 → IsOk result }
+        ensures linked { IsSome (kind_of name_cmp (set_in self.old number).links target) → IsOk result }
+        ensures full { ¬ (IsTrue (has_room (set_in self.old number))) → IsOk result }
+    {
+        let set = &mut self.sets[number];
+        let before = set.len();
+        let added = offer_in(set, target)?;
+        let now = set.len();
+        self.links = self.links - before + now;
+        Ok(added)
+    }
+
+    pub(crate) fn release(&mut self, number: usize, by: Release<Name>) -> Released
+        requires { number < length self.old }
+        ensures answer { let set = set_in self.old number in
+            result ≡ released_as (is_pinned (kind_of name_cmp set.links by.from)) (has_room set) }
+        ensures after { self.new
+            ≡ slice_set self.old number (released name_cmp (set_in self.old number) by.from) }
+    {
+        let set = &mut self.sets[number];
+        let before = set.len();
+        let answer = set.release(by);
+        let now = set.len();
+        self.links = self.links - before + now;
+        answer
+    }
+
+    pub(crate) fn forget(&mut self, number: usize, by: Forget<Name>) -> bool
+        requires { number < length self.old }
+        ensures answer { result ≡ is_pinned (kind_of name_cmp (set_in self.old number).links by.from) }
+        ensures after { self.new
+            ≡ slice_set self.old number (forgotten name_cmp (set_in self.old number) by.from) }
+    {
+        let set = &mut self.sets[number];
+        let before = set.len();
+        let answer = set.forget(by);
+        let now = set.len();
+        self.links = self.links - before + now;
+        answer
+    }
+
+    pub(crate) fn mark_leaving(&mut self, number: usize, target: Name) -> bool
+        requires { number < length self.old }
+        ensures answer { result ≡ is_settled (kind_of name_cmp (set_in self.old number).links target) }
+        ensures after { self.new
+            ≡ slice_set self.old number (marked name_cmp (set_in self.old number) target) }
+    {
+        self.sets[number].mark_leaving(target)
+    }
+
+    pub(crate) fn remove_settled(&mut self, number: usize, target: Name) -> bool
+        requires { number < length self.old }
+        ensures answer { result ≡ is_settled_or_leaving (kind_of name_cmp (set_in self.old number).links target) }
+        ensures after { self.new
+            ≡ slice_set self.old number (removed name_cmp (set_in self.old number) target) }
+    {
+        let set = &mut self.sets[number];
+        let before = set.len();
+        let answer = set.remove_settled(target);
+        let now = set.len();
+        self.links = self.links - before + now;
+        answer
+    }
+
+    // Ends all links. It consumes the sets, so there is no value of which an `ensures` could speak.
+    pub(crate) fn cease(self, by: &Cease<Name>) {
+        let Sets { sets, links: _ } = self;
+        for set in sets {
+            set.cease(by);
+        }
+    }
+}
+
+// Pins a target in a link set, as the set does, where it has few enough links.
+fn pin_in(set: &mut LinkSet<Name>, target: Name) -> Result<bool, NoMemory>
+    requires { length set.old.links ≤ most_links }
+    ensures answer { IfOk result (λ added. added ≡ is_none (kind_of name_cmp set.old.links target)) }
+    ensures after { OnOk result (set.new ≡ pinned name_cmp set.old target) }
+    ensures same { OnErr result (set.new ≡ set.old) }
+    ensures inline { length set.old.links < 4 → IsOk result }
+    ensures linked { IsSome (kind_of name_cmp set.old.links target) → IsOk result }
+    ensures few { length set.new.links ≤ most_links }
+{
+    if set.len() < MOST_LINKS {
+        return Ok(set.pin(target)?);
+    }
+    match set.kind_of(target) {
+        Some(_) => Ok(false),
+        None => Err(NoMemory),
+    }
+}
+
+// Offers a target to a link set, as the set does, where it has few enough links.
+fn offer_in(set: &mut LinkSet<Name>, target: Name) -> Result<bool, NoMemory>
+    requires { length set.old.links ≤ most_links }
+    ensures answer { IfOk result (λ added. added
+        ≡ (is_none (kind_of name_cmp set.old.links target) && has_room set.old)) }
+    ensures after { OnOk result (set.new ≡ offered name_cmp set.old target) }
+    ensures same { OnErr result (set.new ≡ set.old) }
+    ensures inline { length set.old.links < 4 → IsOk result }
+    ensures linked { IsSome (kind_of name_cmp set.old.links target) → IsOk result }
+    ensures full { ¬ (IsTrue (has_room set.old)) → IsOk result }
+    ensures few { length set.new.links ≤ most_links }
+{
+    if set.len() < MOST_LINKS {
+        return Ok(set.offer(target)?);
+    }
+    if set.kind_of(target).is_some() || !set.has_room() {
+        return Ok(false);
+    }
+    Err(NoMemory)
+}
