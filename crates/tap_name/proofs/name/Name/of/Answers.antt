@@ -23,4 +23,5 @@ written digits front same few all =
     }
 
 pub invariant_of-result : goal.invariant_of-result
-invariant_of-result c = written c.args.digits.now c.copy_from_slice.new.self c.copy_from_slice.ensures.after c.requires.few c.requires.digits
+invariant_of-result c =
+    written c.args.digits.now c.copy_from_slice.new.self c.copy_from_slice.ensures.after c.requires.few c.requires.digits
