@@ -71,7 +71,7 @@ filter_every test (x ∷ xs) pass =
     rw (All-head (λ name. test name ≡ true) x xs pass)
     (ap (λ l. x ∷ l) (filter_every test xs (All-tail (λ name. test name ≡ true) x xs pass)))
 
--- where the names after one that passes pass too, fewer than n pass exactly where the nth from the end doesn't
+-- if the names after one that passes pass too, fewer than n pass exactly where the nth from the end doesn't
 few_pass : (test : List ℕ → Bool) (n : ℕ) (names : List (List ℕ)) (d : List ℕ)
     → AllPairs (λ x y. test x ≡ true → test y ≡ true) names → 1 ≤ n → n ≤ length names
     → nat_lt (length (filter test names)) n ≡ not (test (get_or names (length names - n) d))
@@ -94,7 +94,9 @@ few_pass test n (x ∷ xs) d onward some within =
                 rw (first, fails) (grind (arith, nat_tests))
             | inr more ↦
                 let next : length (x ∷ xs) - n ≡ suc (length xs - n) = omega arith in
-                let rest = few_pass test n xs d (λ i j e before inside. onward (suc i) (suc j) e (omega arith) (omega arith)) some (omega arith) in
+                let later : AllPairs (λ x y. test x ≡ true → test y ≡ true) xs =
+                λ i j e before inside. onward (suc i) (suc j) e (omega arith) (omega arith) in
+                let rest = few_pass test n xs d later some (omega arith) in
                 rw next rest
           ])
     ]
@@ -194,10 +196,10 @@ module _ (p : SettingsValue) (owner : List ℕ) (names : List (List ℕ)) (is_ow
         ap (λ n. get_or (take at names) (n - p.width) d) len ∙ get_or-take at names (at - p.width) d (omega arith) in
         held_if_few ∙ back ∙ ap (λ name. not (shares_more name)) place ∙ grind (arith, nat_tests)
 
-is_less : (o : Ordering) → is_lt o ≡ true → o ≡ Less
-is_less Less is = refl
-is_less Equal is = cc
-is_less Greater is = cc
+less_if_lt : (o : Ordering) → is_lt o ≡ true → o ≡ Less
+less_if_lt Less is = refl
+less_if_lt Equal is = cc
+less_if_lt Greater is = cc
 
 -- ascending names are parted by whether they are below one
 pub parted_below : (owner : List ℕ) (names : List (List ℕ)) → AllPairs IsBelow names
@@ -205,7 +207,7 @@ pub parted_below : (owner : List ℕ) (names : List (List ℕ)) → AllPairs IsB
 parted_below owner names ascending i j d upto inside passes =
     elim (cases_lt i j) [
       | inl before ↦
-          let below = is_less (name_cmp (get_or names j d) owner) passes in
+          let below = less_if_lt (name_cmp (get_or names j d) owner) passes in
           ap is_lt (below-trans (get_or names i d) (get_or names j d) owner (ascending i j d before inside) below)
       | inr after ↦
           let same : i ≡ j = omega arith in
@@ -222,7 +224,7 @@ stands_at_part owner names below ascending contains parted =
       | inl before ↦
           let passes : is_lt (name_cmp owner owner) ≡ true =
           subst (λ name. is_lt (name_cmp name owner) ≡ true) is (parted.0 at owner (omega arith) before) in
-          absurd (below-itself owner (is_less (name_cmp owner owner) passes))
+          absurd (below-itself owner (less_if_lt (name_cmp owner owner) passes))
       | inr upto ↦ elim (cases_lt below at) [
         | inl after ↦
             let less : IsBelow (get_or names below owner) owner =

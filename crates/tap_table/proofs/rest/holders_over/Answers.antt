@@ -20,11 +20,12 @@ loop-member-preserved c =
     let name = c.member-item.result in
     let P : List ℕ → Type 0 = IsName p in
     let is_name = subst P (sym c.member-item.is) (c.requires.names i name c.loop-member-test.true) in
-    let exactly = held_exactly_where p owner names c.least_shared-least.result c.least_shared-least.ensures name is_name in
+    let held = held_exactly_where p owner names c.least_shared-least.result c.least_shared-least.ensures name is_name
+    ∙ sym c.is_holder.ensures in
     let Done : List (Entry (List ℕ) Bool) → Type 0 = λ l. l ≡ holders_at_rest p owner names (take (i + 1) names) in
     elim c.if-is_holder.branch [
       | then-is_holder+in_ok-apply w ↦
-          let has = exactly ∙ sym c.is_holder.ensures ∙ w.if-is_holder.true in
+          let has = held ∙ w.if-is_holder.true in
           let front = filter (holds p owner names) (take i names) in
           let over = above_holders p owner names i name c.requires.ascending c.loop-member-test.true c.member-item.is in
           let absent = ap (λ l. entry_of name_cmp l name) c.loop-member.invariant ∙ no_word name front over in
@@ -35,6 +36,6 @@ loop-member-preserved c =
           c.requires.ascending has
           c.loop-member.invariant grown)
       | else-is_holder w ↦
-          let skip = holder-skip p owner names i name c.loop-member-test.true c.member-item.is (exactly ∙ sym c.is_holder.ensures ∙ w.if-is_holder.false) in
+          let skip = holder-skip p owner names i name c.loop-member-test.true c.member-item.is (held ∙ w.if-is_holder.false) in
           subst Done (sym w.holders-is) (c.loop-member.invariant ∙ skip)
     ]
