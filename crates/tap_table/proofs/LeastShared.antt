@@ -5,8 +5,6 @@ use Rattle.std.specs.List.{list_any}
 use Rattle.std.specs.List.Sorted.{IsPartitionPoint, IsPartitionedBy}
 use Rattle.std.specs.Cmp.Lexicographic.{pointwise}
 use Rattle.std.specs.Ordering.{is_lt}
-use Rattle.std.specs.declared.cmp.Ordering.{Ordering}
-use Rattle.std.specs.declared.cmp.Ordering.TheVariants.{Less, Equal, Greater}
 use Rattle.std.proofs.Math.Seq.{split_at}
 use Rattle.std.proofs.lemmas.Bool.{cases_Bool, cases_lt, true≢false}
 use Rattle.std.proofs.lemmas.Bool.Decides.{nat_tests}
@@ -22,6 +20,7 @@ use Rattle.tap_name.proofs.Names.{same_tests}
 use Rattle.tap_name.proofs.Near.{near_in_slot, same_slot_where_near}
 use Rattle.tap_name.proofs.Orders.{below-digits, below-itself, below-trans}
 use Rattle.tap_name.proofs.Prefixes.{lcp-digits, lcp-sym, lcp-triangle}
+use Rattle.tap_register.proofs.Orderings.{is_less}
 use Rattle.tap_table.specs.Members.{IsBelow, holds, is_slot}
 use Rattle.tap_table.specs.Table.{name_cmp, place_of}
 use Rattle.tap_table.proofs.Fitting.{slot_of_other}
@@ -196,18 +195,13 @@ module _ (p : SettingsValue) (owner : List ℕ) (names : List (List ℕ)) (is_ow
         ap (λ n. get_or (take at names) (n - p.width) d) len ∙ get_or-take at names (at - p.width) d (omega arith) in
         held_if_few ∙ back ∙ ap (λ name. not (shares_more name)) place ∙ grind (arith, nat_tests)
 
-less_if_lt : (o : Ordering) → is_lt o ≡ true → o ≡ Less
-less_if_lt Less is = refl
-less_if_lt Equal is = cc
-less_if_lt Greater is = cc
-
 -- ascending names are parted by whether they are below one
 pub parted_below : (owner : List ℕ) (names : List (List ℕ)) → AllPairs IsBelow names
     → IsPartitionedBy (λ name. is_lt (name_cmp name owner)) names
 parted_below owner names ascending i j d upto inside passes =
     elim (cases_lt i j) [
       | inl before ↦
-          let below = less_if_lt (name_cmp (get_or names j d) owner) passes in
+          let below = is_less (name_cmp (get_or names j d) owner) passes in
           ap is_lt (below-trans (get_or names i d) (get_or names j d) owner (ascending i j d before inside) below)
       | inr after ↦
           let same : i ≡ j = omega arith in
@@ -224,7 +218,7 @@ stands_at_part owner names below ascending contains parted =
       | inl before ↦
           let passes : is_lt (name_cmp owner owner) ≡ true =
           subst (λ name. is_lt (name_cmp name owner) ≡ true) is (parted.0 at owner (omega arith) before) in
-          absurd (below-itself owner (less_if_lt (name_cmp owner owner) passes))
+          absurd (below-itself owner (is_less (name_cmp owner owner) passes))
       | inr upto ↦ elim (cases_lt below at) [
         | inl after ↦
             let less : IsBelow (get_or names below owner) owner =
