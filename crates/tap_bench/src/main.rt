@@ -5,10 +5,12 @@
 #![tactic(auto)]
 
 mod frames;
+mod members;
 mod tables;
 
 use anyhow::{Context, Result, anyhow, bail};
 use frames::{hello, release, settings};
+use members::{holders_at_rest, members};
 use std::rt::Clock;
 use std::time::Instant;
 use tables::{bytes_of_table, full, lens, next_hops, object, primaries};
@@ -44,6 +46,9 @@ const TABLE_CALLS: [(&str, TableCall); 3] = [
     ("next-hop", TableCall::NextHop),
     ("primary", TableCall::Primary),
 ];
+
+// The call that makes the ties of each member at rest.
+const AT_REST: &str = "at-rest";
 
 // The bytes of the frame that a call reads or writes.
 fn bytes_of(rt: &impl AllocGlobal, call: FrameCall) -> Result<Vec<u8>> {
@@ -129,6 +134,22 @@ fn time_table(
     Ok(())
 }
 
+// Times the making of the ties of all members at rest.
+fn time_at_rest(rt: &(impl AllocGlobal + Print + Clock), count: u32) -> Result<()> {
+    let members = members(rt.alloc())?;
+    let mut holders = 0usize;
+    let start = Instant::now(rt)?;
+    for _turn in 0..count {
+        holders = holders_at_rest(rt.alloc(), &members)?;
+    }
+    let each = start.elapsed(rt)?.as_nanos() / u128::from(count.max(1));
+    println!(rt;
+        "{AT_REST}: {each} ns a call, {} members have {holders} holders",
+        members.len()
+    )?;
+    Ok(())
+}
+
 // Makes each call once.
 fn call_each(rt: &(impl AllocGlobal + Print)) -> Result<()> {
     for (name, call) in FRAME_CALLS {
@@ -136,7 +157,14 @@ fn call_each(rt: &(impl AllocGlobal + Print)) -> Result<()> {
         let through = repeat(rt, call, bytes.as_slice(), 1)?;
         println!(rt; "{name}: {through} bytes")?;
     }
-    call_each_on_a_table(rt)
+    call_each_on_a_table(rt)?;
+    let members = members(rt.alloc())?;
+    let holders = holders_at_rest(rt.alloc(), &members)?;
+    println!(rt;
+        "{AT_REST}: {} members have {holders} holders",
+        members.len()
+    )?;
+    Ok(())
 }
 
 // Makes each call on a table so many times that all slots are asked.
@@ -160,6 +188,9 @@ fn time(rt: &(impl AllocGlobal + Print + Clock), wanted: &str, count: u32) -> Re
         if name == wanted {
             return time_table(rt, name, call, count);
         }
+    }
+    if wanted == AT_REST {
+        return time_at_rest(rt, count);
     }
     bail!("no such call: without words all calls are printed")
 }
