@@ -161,7 +161,7 @@ module _ (p : SettingsValue) (owner : List ℕ) (names : List (List ℕ)) (is_ow
         rw before (differs (get_or names i d) owner
         (λ same. below-itself owner (subst (λ name. IsBelow name owner) same (below_owner i d (omega arith)))))
 
-    -- the owner has a place among the links if fewer names before it share more digits with it
+    -- the owner has a place among the links exactly if fewer names before it than the width share more digits with it
     held_if_few : holds p owner names other ≡ nat_lt (length (filter shares_more (take at names))) p.width
     held_if_few =
         let front = filter shares_more (take at names) in
@@ -178,6 +178,7 @@ module _ (p : SettingsValue) (owner : List ℕ) (names : List (List ℕ)) (is_ow
         ∙ any_among_first is_owner_test p.width front owner (filter shares_more others)
         (All-filter shares_more (λ name. is_owner_test name ≡ false) (take at names) none_is_owner) ((bytes_eq-Decides owner owner).1 refl)
 
+    -- if fewer names stand before the owner than the width, each other name's table has a link to it
     pub held_near_first : at < p.width → holds p owner names other ≡ true
     held_near_first near =
         let len = length-take-le at names (omega arith) in
@@ -186,6 +187,7 @@ module _ (p : SettingsValue) (owner : List ℕ) (names : List (List ℕ)) (is_ow
         let few : length (filter shares_more (take at names)) < p.width = omega arith in
         held_if_few ∙ grind (arith, nat_tests)
 
+    -- else another name's table has one exactly if it shares as many digits as the name `width` places before the owner
     pub held_past_first : 1 ≤ p.width → p.width ≤ at → (d : List ℕ)
         → holds p owner names other ≡ nat_le (lcp (get_or names (at - p.width) d) owner) (lcp other owner)
     held_past_first some past d =
@@ -208,7 +210,7 @@ parted_below owner names ascending i j d upto inside passes =
           subst (λ k. is_lt (name_cmp (get_or names k d) owner) ≡ true) (sym same) passes
     ]
 
--- and where they are parted, that one stands
+-- and that one, if it is among them, stands where they are parted
 pub stands_at_part : (owner : List ℕ) (names : List (List ℕ)) (below : ℕ) → AllPairs IsBelow names → Contains names owner
     → IsPartitionPoint (λ name. is_lt (name_cmp name owner) ≡ true) (λ name. is_lt (name_cmp name owner) ≡ false) names below
     → (below < length names) × (get_or names below owner ≡ owner)
