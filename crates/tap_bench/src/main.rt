@@ -11,7 +11,7 @@ use anyhow::{Context, Result, anyhow, bail};
 use frames::{hello, release, settings};
 use std::rt::Clock;
 use std::time::Instant;
-use tables::{bytes_of_table, full, next_hops, object, primaries};
+use tables::{bytes_of_table, full, lens, next_hops, object, primaries};
 use tap_name::Settings;
 use tap_wire::{decode, encode};
 
@@ -27,6 +27,7 @@ enum FrameCall {
 // A call on a table.
 #[derive(Clone, Copy, Debug, PartialEq, Eq)]
 enum TableCall {
+    Len,
     NextHop,
     Primary,
 }
@@ -38,7 +39,8 @@ const FRAME_CALLS: [(&str, FrameCall); 4] = [
     ("encode-release", FrameCall::EncodeRelease),
 ];
 
-const TABLE_CALLS: [(&str, TableCall); 2] = [
+const TABLE_CALLS: [(&str, TableCall); 3] = [
+    ("len", TableCall::Len),
     ("next-hop", TableCall::NextHop),
     ("primary", TableCall::Primary),
 ];
@@ -89,6 +91,7 @@ fn repeat(rt: &impl AllocGlobal, call: FrameCall, bytes: &[u8], count: u32) -> R
 fn look_up(rt: &impl AllocGlobal, call: TableCall, count: u32) -> Result<u32> {
     let table = full(rt.alloc())?;
     match call {
+        TableCall::Len => Ok(lens(&table, count)),
         TableCall::NextHop => Ok(next_hops(&table, &object()?, count)),
         TableCall::Primary => Ok(primaries(&table, count)),
     }

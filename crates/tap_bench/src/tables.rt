@@ -47,6 +47,17 @@ pub(crate) fn full(alloc: Global) -> Result<Table>
     Ok(table)
 }
 
+/// Asks how many links there are, so many times, and says how often there were some.
+pub(crate) fn lens(table: &Table, count: u32) -> u32 {
+    let mut found = 0u32;
+    for _turn in 0..count {
+        if !table.is_empty() {
+            found = found.saturating_add(1);
+        }
+    }
+    found
+}
+
 /// Asks for the primary of one slot after the other, so many times, and says how often there was one.
 pub(crate) fn primaries(table: &Table, count: u32) -> u32
     requires { table.now.settings ≡ measured }

@@ -141,14 +141,26 @@ impl Name {
         if digits.len() != settings.digits() as usize {
             return Err(NameFault::BadLength(digits.len()));
         }
-        let mut name = Name::empty();
         for (at, digit) in digits.iter().enumerate() {
             if *digit >= settings.base() {
                 return Err(NameFault::BadDigit(at));
             }
-            name.push(*digit);
         }
-        Ok(name)
+        Ok(Name::of(digits))
+    }
+
+    // The name of these digits.
+    fn of(digits: &[u8]) -> Name
+        requires few { length digits.now ≤ 40 }
+        requires digits { All (λ d. d < 16) digits.now }
+        ensures { result ≡ digits.now }
+    {
+        let mut places = [0; 40];
+        places[..digits.len()].copy_from_slice(digits);
+        Name {
+            places,
+            len: digits.len() as u8,
+        }
     }
 }
 

@@ -1,6 +1,6 @@
 -- The texts of items and of records with one more, and what each record must meet.
 use Rattle.std.proofs.Common.{◌≡◌, ◌<◌, ◌≤◌, ℕ, zero, suc, ◌+◌, ◌-◌, List, [], ◌∷◌, ◌++◌, length, take, get_or, Option, None, refl, sym, ap, ◌∙◌, subst, arith, append_assoc, append-nil, take-add}
-use Rattle.std.specs.Prelude.{fold, Bool, true, false, if◌then◌else◌}
+use Rattle.std.specs.Prelude.{fold, true, false, if◌then◌else◌}
 use Rattle.std.specs.Prelude.{◌/◌, ◌%◌, slice_index, slice_range}
 use Rattle.std.specs.List.{flat_map}
 use Rattle.std.proofs.lemmas.List.{take_more, get_or_default}

@@ -1,5 +1,5 @@
 -- Texts that are written one after another.
-use Rattle.std.proofs.Common.{◌≡◌, ◌≤◌, ℕ, List, [], ◌++◌, refl, sym, ◌∙◌, subst, arith}
+use Rattle.std.proofs.Common.{◌≡◌, ℕ, List, [], ◌++◌, refl, sym, ◌∙◌, subst, arith}
 use Rattle.std.proofs.KnownBytes.{Appends-nil, Appends-trans}
 use Rattle.tap_io.specs.Sink.{SinkState}
 use Rattle.tap_io.proofs.Following.{Follows-refl, Follows-trans}

@@ -1,4 +1,3 @@
-ghost use Rattle.std.specs.Prelude.{◌≡◌};
 ghost use Rattle.tap_report.specs.Written.{WritesText};
 ghost use Rattle.tap_report.specs.Starts.{begin_line, member_line, member_lines, step_line};
 ghost use Rattle.tap_report.specs.Text.{members_in};

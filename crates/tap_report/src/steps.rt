@@ -1,4 +1,4 @@
-ghost use Rattle.std.specs.Prelude.{◌≡◌, ◌++◌, codes};
+ghost use Rattle.std.specs.Prelude.{◌++◌, codes};
 ghost use Rattle.tap_scenario.specs.Step.{text_of_prefix, text_of_step};
 ghost use Rattle.tap_scenario.specs.Wording.{text_after};
 ghost use Rattle.tap_scenario.specs.declared.wording.WordsAfter.TheVariants.{Cast, Names};

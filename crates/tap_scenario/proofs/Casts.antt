@@ -1,6 +1,5 @@
 -- the word and the prefix of a cast, and their texts
 use Rattle.std.proofs.Common.{◌≡◌, ◌↔◌, ◌==◌, ◌&&◌, ℕ, ◌<◌, ◌≤◌, nat_le, true, false, bytes_eq, arith, List, [], ◌∷◌, length, codes, Some, Ok, refl, ap, sym, subst, ◌∙◌, inl, inr}
-use Rattle.std.specs.List.{list_all}
 use Rattle.std.proofs.lemmas.Bool.{cases_Bool, and_parts, leb-true, le-leb}
 use Rattle.std.proofs.lemmas.Bool.Decides.{nat_tests}
 use Rattle.std.proofs.lemmas.List.{length-map}

@@ -1,12 +1,9 @@
 -- what is read is within its limits
-use Rattle.std.proofs.Common.{◌≡◌, ◌∙◌, ◌&&◌, not, ℕ, suc, ◌+◌, ◌≤◌, nat_le, true, false, IsTrue, bytes_eq, pos, negsuc, arith, List, [], ◌∷◌, length, All, if◌then◌else◌, Option, None, Some, Result, Ok, Err, refl, ap, sym, inl, inr}
-use Rattle.std.specs.List.{list_any}
-use Rattle.std.specs.Option.{ok_or, option_and_then, is_some}
-use Rattle.std.proofs.lemmas.Bool.{cases_Bool, and_parts, or_parts, leb-true, not-true}
+use Rattle.std.proofs.Common.{◌≡◌, ◌∙◌, ◌&&◌, ℕ, suc, ◌+◌, ◌≤◌, nat_le, false, IsTrue, pos, negsuc, arith, List, [], ◌∷◌, length, All, if◌then◌else◌, Option, None, Some, Result, Ok, Err, refl, ap, inl, inr}
+use Rattle.std.specs.Option.{option_and_then, is_some}
+use Rattle.std.proofs.lemmas.Bool.{cases_Bool, and_parts, leb-true}
 use Rattle.std.proofs.lemmas.Bool.Decides.{nat_tests}
 use Rattle.std.proofs.lemmas.List.Elements.{All-nil, All-cons}
-use Rattle.std.proofs.lemmas.List.Kept.{AllPairs-cons}
-use Rattle.std.proofs.lemmas.Slice.Eq.{bytes_eq-Decides}
 use Rattle.toml.specs.Data.{Data, string, integer, float, boolean, datetime, array, table, Members as Table}
 use Rattle.tap_name.specs.Settings.{SettingsValue, AreWithinLimits}
 use Rattle.tap_name.specs.Name.{IsName, name_of_word}

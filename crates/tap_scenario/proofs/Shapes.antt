@@ -1,13 +1,12 @@
 -- what stands behind the first word of a step, and its words
-use Rattle.std.proofs.Common.{◌≡◌, ℕ, ◌^◌, ◌<◌, ◌≤◌, true, bytes_eq, List, [], ◌∷◌, decimal, Option, None, Some, option_map, refl, ap, inl, inr}
-use Rattle.std.specs.Option.{option_zip, option_and_then}
+use Rattle.std.proofs.Common.{◌≡◌, ℕ, ◌^◌, ◌<◌, ◌≤◌, true, bytes_eq, List, [], ◌∷◌, decimal, Some, refl, ap, inl, inr}
 use Rattle.std.proofs.lemmas.Bool.{cases_Bool}
 use Rattle.std.proofs.lemmas.Slice.Eq.{bytes_eq-Decides}
 use Rattle.tap_name.specs.Settings.{SettingsValue}
 use Rattle.tap_name.specs.Name.{IsName, name_of_word, text_of_name}
 use Rattle.tap_scenario.specs.Step.{number_below, one_name, two_names, one_number, two_numbers, only}
 use Rattle.tap_name.proofs.Texts.{name_of_word-back, name_of_word-text}
-use Rattle.tap_scenario.proofs.Options.{option_map-back, option_zip-back}
+use Rattle.tap_scenario.proofs.Options.{option_zip-back}
 use Rattle.tap_scenario.proofs.Numbers.{number_below-decimal, number_below-back}
 
 pub only-back : {A : Type 0} (step other : A) (others : List (List ℕ)) → only step others ≡ Some other → (others ≡ []) × (step ≡ other)

@@ -1,6 +1,6 @@
 -- a step and its text
 use Rattle.std.proofs.Common.{◌≡◌, ◌==◌, ◌&&◌, ◌↔◌, ℕ, ◌^◌, ◌<◌, ◌≤◌, Bool, true, false, not, bytes_eq, arith, List, [], ◌∷◌, append_assoc, codes, decimal, None, Some, option_map, if◌then◌else◌, refl, ap, sym, subst, ◌∙◌, inl, inr}
-use Rattle.std.specs.List.{join_with_byte, list_all, find}
+use Rattle.std.specs.List.{join_with_byte, list_all}
 use Rattle.std.specs.Option.{option_zip}
 use Rattle.std.proofs.lemmas.Bool.{cases_Bool, and_parts, eqb-true, eq-eqb, not-true}
 use Rattle.std.proofs.lemmas.List.Sums.{AllPass-from_list_all}

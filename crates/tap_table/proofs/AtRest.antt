@@ -16,7 +16,7 @@ use Rattle.tap_table.specs.Table.{IsTable, StandsIn, TableValue, name_cmp, place
 use Rattle.tap_table.specs.Ties.{AreTies}
 use Rattle.tap_table.proofs.Fitting.{no_slot_of_itself, slot_of_other}
 use Rattle.tap_table.proofs.Grown.{all_settled}
-use Rattle.tap_table.proofs.Holding.{not_held_by_itself}
+use Rattle.tap_table.proofs.Holding.{not_held_by_itself, word_of}
 use Rattle.tap_table.proofs.Least.{AllPairs-take, is_slot-to}
 
 -- what ascends as names does so as targets of links and as keys of words
@@ -70,7 +70,8 @@ module _ (p : SettingsValue) (owner : List ℕ) (names : List (List ℕ)) (limit
       let few = length-take p.width fitting_names in
       let count = all_settled (targets number) in
       record {
-        ascending = AllPairs-of_map IsBelow (λ target. record { target = target; kind = Settled }) (λ e. e.target) (λ name. refl) (targets number) pairs;
+        ascending = AllPairs-of_map IsBelow (λ target. record { target = target; kind = Settled }) (λ e. e.target) (λ name. refl)
+            (targets number) pairs;
         within_width = omega arith;
       }
 
@@ -117,10 +118,10 @@ module _ (p : SettingsValue) (owner : List ℕ) (names : List (List ℕ)) (limit
       let holding = filter (holds p owner names) names in
       record {
         table = IsTable-at_rest;
-        ascending = AllPairs-of_map IsBelow (λ member. record { key = member; version = 0; value = true }) (λ e. e.key) (λ name. refl) holding
+        ascending = AllPairs-of_map IsBelow word_of (λ e. e.key) (λ name. refl) holding
             (AllPairs-filter IsBelow (holds p owner names) names ascending);
-        names = All-map (λ e. IsName p e.key) (λ member. record { key = member; version = 0; value = true }) holding (All-filter (holds p owner names) (IsName p) names are_names);
-        others = All-map (λ e. e.key ≢ owner) (λ member. record { key = member; version = 0; value = true }) holding
+        names = All-map (λ e. IsName p e.key) word_of holding (All-filter (holds p owner names) (IsName p) names are_names);
+        others = All-map (λ e. e.key ≢ owner) word_of holding
             (All-filtered (holds p owner names) (IsName p) (λ name. name ≢ owner) names are_names
             (λ name is_name held same.
             let wrong : true ≡ false = sym held ∙ ap (holds p owner names) same ∙ not_held_by_itself p owner names in cc));

@@ -1,10 +1,9 @@
 -- Slot by slot in the order of the names that fit, the links of a table ascend by name, and each of them is there.
-use Rattle.std.proofs.Common.{◌≡◌, ◌⊎◌, inl, inr, ℕ, ◌+◌, ◌-◌, ◌*◌, ◌<◌, ◌≤◌, nat_lt, false, Some, List, [], length, get_or, slice_get, map, All, AllPairs, arith, ap, sym, refl, subst, ◌∙◌}
+use Rattle.std.proofs.Common.{◌≡◌, inl, inr, ℕ, ◌+◌, ◌-◌, ◌*◌, ◌<◌, ◌≤◌, nat_lt, false, Some, List, length, get_or, slice_get, All, AllPairs, arith, ap, sym, refl, subst, ◌∙◌}
 use Rattle.std.specs.List.{range_with_len}
-use Rattle.std.specs.declared.cmp.Ordering.TheVariants.{Less}
 use Rattle.std.proofs.lemmas.Bool.{cases_Bool, cases_lt, cases_order, lt-ltb, le-ltb, ltb-false, ltb-true}
 use Rattle.std.proofs.lemmas.List.FromFn.{get_or-map-range_with_len, get_or-range_with_len, length-map-range_with_len, length-range_with_len}
-use Rattle.std.proofs.lemmas.Option.{get_or_from_slice_get, slice_get-get_or, slice_get_within}
+use Rattle.std.proofs.lemmas.Option.{slice_get-get_or}
 use Rattle.tap_name.specs.declared.slot.Slot.{Slot}
 use Rattle.tap_name.specs.Name.{IsName}
 use Rattle.tap_name.specs.Order.{IsBelow}
@@ -18,10 +17,9 @@ use Rattle.tap_link.specs.Entry.{Entry}
 use Rattle.tap_link.specs.LinkSet.{IsAscending}
 use Rattle.tap_table.specs.declared.slot_range.SlotRange.{SlotRange}
 use Rattle.tap_table.specs.ByName.{by_name, range_by_name, slots_by_name, slots_in}
-use Rattle.tap_table.specs.Table.{IsTable, TableValue, kind_in, links_at, links_near, name_cmp, place_of, slot_number, slot_numbered}
+use Rattle.tap_table.specs.Table.{IsTable, TableValue, kind_in, links_at, links_near, name_cmp, place_of, slot_number}
 use Rattle.tap_table.proofs.Flat.{All-flat_map, AllPairs-flat_map, got-flat_map}
 use Rattle.tap_table.proofs.Found.{kind_of_target, link_found, link_to, linked_is_name, linked_is_other, slot_is_own, target_is_name}
-use Rattle.tap_table.proofs.Near.{number_near}
 use Rattle.tap_table.proofs.Slots.{number_back, place_inside}
 
 -- a name is below another that shares some digits with it and has a greater one there

@@ -188,7 +188,8 @@ module _ (p : SettingsValue) (owner : List ℕ) (names : List (List ℕ)) (i : �
 
   more_after : HasSettled p owner (take i names) old → IsName p owner → IsName p name → i < length names → name ≡ get_or names i name
       → name ≢ owner
-      → nat_lt (length targets) p.width ≡ true → new.slots ≡ set old.slots (slot_number old.settings.base (place_of old.owner name)) (settled_links (targets ++ name ∷ []))
+      → nat_lt (length targets) p.width ≡ true
+      → new.slots ≡ set old.slots (slot_number old.settings.base (place_of old.owner name)) (settled_links (targets ++ name ∷ []))
       → new.owner ≡ old.owner → new.settings ≡ old.settings
       → HasSettled p owner (take (i + 1) names) new
   more_after has is_owner is_name within is other room grown same_owner same_settings =

@@ -6,7 +6,7 @@ use Rattle.std.specs.Ordering.{is_eq}
 use Rattle.std.proofs.lemmas.Bool.{cases_Bool}
 use Rattle.std.proofs.lemmas.List.Sorted.{All-permutation}
 use Rattle.tap_name.specs.Name.{IsName}
-use Rattle.tap_name.specs.Names.{Among, AreDistinct, has_name}
+use Rattle.tap_name.specs.Names.{Among, AreDistinct}
 use Rattle.tap_name.specs.Order.{AreAscending, IsBelow, sorted}
 use Rattle.tap_name.specs.Settings.{AreWithinLimits, SettingsValue}
 use Rattle.tap_name.proofs.Membership.{has_name-Decides}
@@ -17,14 +17,14 @@ use Rattle.tap_link.specs.declared.kind.Kind.TheVariants.{Settled}
 use Rattle.tap_link.specs.LinkSet.{kind_of}
 use Rattle.tap_table.specs.Members.{AreAtRest, IsTableAtRest, first_fitting, holders_at_rest, holds, settled_links, table_at_rest, ties_at_rest}
 use Rattle.tap_register.specs.declared.registers.Entry.{Entry}
-use Rattle.tap_table.specs.Table.{IsTable, TableValue, kind_in, links_near, name_cmp, place_of, slot_number, slot_numbered}
+use Rattle.tap_table.specs.Table.{IsTable, TableValue, kind_in, links_near, name_cmp, place_of, slot_number}
 use Rattle.tap_table.specs.Ties.{AreTies, TiesValue, is_on}
 use Rattle.tap_table.proofs.AtRest.{AreTies-at_rest, IsTable-at_rest, links_at_rest}
 use Rattle.tap_table.proofs.Found.{owner_unlinked}
 use Rattle.tap_table.proofs.Holders.{on}
 use Rattle.tap_table.proofs.Holding.{not_held_by_itself, word_of}
 use Rattle.tap_table.proofs.HoldersFound.{on_exactly}
-use Rattle.tap_table.proofs.Near.{number_near, tied_itself, tied_names}
+use Rattle.tap_table.proofs.Near.{tied_itself, tied_names}
 use Rattle.tap_table.proofs.Slots.{number_back, place_inside, target_inside}
 
 -- what is at rest over the members is a function of them
@@ -47,7 +47,8 @@ ties_are_at_rest p owner members ties rest =
     ap with_table table ∙ ap (λ h. record { table = table_at_rest p owner (sorted members); holders = h }) holders
 
 -- settled links have these targets, and no others
-among_settled : (targets : List (List ℕ)) (name : List ℕ) → Among name targets → kind_of name_cmp (settled_links targets) name ≡ Some Settled
+among_settled : (targets : List (List ℕ)) (name : List ℕ) → Among name targets
+    → kind_of name_cmp (settled_links targets) name ≡ Some Settled
 among_settled [] name among = absurd among
 among_settled (x ∷ xs) name (inl same) = rw (same, tied_itself x) refl
 among_settled (x ∷ xs) name (inr later) =
@@ -56,7 +57,8 @@ among_settled (x ∷ xs) name (inr later) =
       | inr apart ↦ rw apart (among_settled xs name later)
     ]
 
-settled_among : (targets : List (List ℕ)) (name : List ℕ) → kind_of name_cmp (settled_links targets) name ≡ Some Settled → Among name targets
+settled_among : (targets : List (List ℕ)) (name : List ℕ) → kind_of name_cmp (settled_links targets) name ≡ Some Settled
+    → Among name targets
 settled_among [] name settled = cc
 settled_among (x ∷ xs) name settled =
     elim (cases_Bool (is_eq (name_cmp name x))) [
@@ -132,7 +134,8 @@ module _ (p : SettingsValue) (names : List (List ℕ)) (limits : AreWithinLimits
 -- the names of the members in their order are names, and ascend
 pub names_over : (p : SettingsValue) (members names : List (List ℕ)) → names ≡ sorted members → All (IsName p) members
     → All (IsName p) names
-names_over p members names sorted_are all = rw sorted_are (All-permutation (IsName p) members (sorted members) (sorted-permutation members) all)
+names_over p members names sorted_are all =
+    rw sorted_are (All-permutation (IsName p) members (sorted members) (sorted-permutation members) all)
 
 pub ascending_over : (members names : List (List ℕ)) → names ≡ sorted members → AreDistinct members → AreAscending names
 ascending_over members names sorted_are distinct = rw sorted_are (sorted-ascending members distinct)

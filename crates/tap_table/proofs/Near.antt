@@ -8,7 +8,7 @@ use Rattle.std.proofs.lemmas.Slice.Eq.{bytes_eq-Decides}
 use Rattle.tap_name.specs.declared.slot.Slot.{Slot}
 use Rattle.tap_name.specs.Name.{IsName}
 use Rattle.tap_link.specs.LinkSet.{IsLinkSet, LinkSetValue, kind_of}
-use Rattle.tap_table.specs.Table.{IsTable, SlotLinks, StandsIn, TableValue, kind_in, links_near, name_cmp, near, place_of, set_at, slot_number, slot_numbered, with_near}
+use Rattle.tap_table.specs.Table.{IsTable, SlotLinks, StandsIn, TableValue, kind_in, name_cmp, near, place_of, set_at, slot_number, slot_numbered, with_near}
 use Rattle.tap_table.proofs.Slots.{number_back, place_inside, target_inside}
 
 -- names that compare as equal are one
@@ -75,19 +75,6 @@ module _ (t : TableValue) (name : List ℕ) (valid : IsTable t) (is_name : IsNam
     -- the kind of the name is the one that the set has for it
     pub kind_here : kind_in (with_near t name new) name ≡ kind_of name_cmp new.links name
     kind_here = ap (λ l. kind_of name_cmp l name) links_here
-
-    -- where the set has the old kinds of other names, so has the table
-    pub kind_elsewhere : (other : List ℕ) → kind_of name_cmp new.links other ≡ kind_of name_cmp (links_near t name) other
-        → other ≢ name → kind_in (with_near t name new) other ≡ kind_in t other
-    kind_elsewhere other same differs =
-        elim (cases_eq (number_near t other) (number_near t name)) [
-          | inl is ↦
-              let now : links_near (with_near t name new) other ≡ new.links =
-              ap (λ n. get_or (with_near t name new).slots n []) is ∙ links_here in
-              let before : links_near t other ≡ links_near t name = ap (λ n. get_or t.slots n []) is in
-              ap (λ l. kind_of name_cmp l other) now ∙ same ∙ ap (λ l. kind_of name_cmp l other) (sym before)
-          | inr ne ↦ ap (λ l. kind_of name_cmp l other) (links_elsewhere (number_near t other) ne)
-        ]
 
     -- the set of another slot stays
     pub set_elsewhere : (slot : Slot) → slot.digit < t.settings.base → slot ≢ place_of t.owner name

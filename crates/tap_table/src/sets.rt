@@ -60,6 +60,7 @@ impl Sets {
         self.sets.as_slice()
     }
 
+    // The calls of one set, by its number. Each also keeps the count of all links.
     pub(crate) fn pin(&mut self, number: usize, target: Name) -> Result<bool, NoMemory>
         requires { number < length self.old }
         ensures answer { IfOk result (λ added. added ≡ is_none (kind_of name_cmp (set_in self.old number).links target)) }

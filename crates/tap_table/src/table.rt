@@ -226,9 +226,9 @@ impl Table {
 
     /// Pins a target that the table has no link to, and answers whether it had none.
     ///
-    /// `NoMemory` comes only where a link would be added to four links or more; where a slot has 2^54
-    /// links, it comes in any case. A table that is refused memory stays as it was. The target is a name
-    /// of the settings, and not the owner.
+    /// `NoMemory` comes only where a link would be added to four links or more, and always where it
+    /// would be added to 2^54. A table that is refused memory stays as it was. The target is a name of
+    /// the settings, and not the owner.
     pub fn pin(&mut self, target: Name) -> Result<bool, NoMemory>
         requires name { IsName self.old.settings target }
         requires other { target ≢ self.old.owner }
@@ -248,9 +248,9 @@ impl Table {
     /// and answers whether it did. There is room where fewer links of the slot are settled and not
     /// leaving than the width of the settings.
     ///
-    /// `NoMemory` comes only where a link would be added to four links or more; where a slot has 2^54
-    /// links, it comes in any case. A table that is refused memory stays as it was. The target is a name
-    /// of the settings, and not the owner.
+    /// `NoMemory` comes only where a link would be added to four links or more, and always where it
+    /// would be added to 2^54. A table that is refused memory stays as it was. The target is a name of
+    /// the settings, and not the owner.
     pub fn offer(&mut self, target: Name) -> Result<bool, NoMemory>
         requires name { IsName self.old.settings target }
         requires other { target ≢ self.old.owner }

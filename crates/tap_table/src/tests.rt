@@ -58,6 +58,8 @@ fn each_link_stands_in_its_slot(rt: HostRuntime) -> Result<(), Fail> {
     );
     assert_eq!(rt; table.near(&near).len(), 1);
     assert_eq!(rt; table.settings().base(), 4);
+    let first = table.range_by_name(5);
+    assert_eq!(rt; (first.level, first.from, first.to), (0, 1, 4));
     Ok(())
 }
 

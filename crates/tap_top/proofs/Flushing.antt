@@ -1,5 +1,5 @@
 -- What the sink behind a buffered one holds, after a text and a flush.
-use Rattle.std.proofs.Common.{◌≡◌, ℕ, List, [], length, sym, subst, ◌∙◌, arith}
+use Rattle.std.proofs.Common.{ℕ, List, [], length, sym, subst, ◌∙◌, arith}
 use Rattle.std.proofs.KnownBytes.{Appends-kept, append_known-moved}
 use Rattle.std.proofs.Math.Seq.{take-length}
 use Rattle.std.specs.Io.KnownBytes.{Appends, append_known}

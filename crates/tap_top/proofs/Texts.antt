@@ -1,6 +1,5 @@
 -- texts that are written
 use Rattle.std.proofs.Common.{◌≡◌, inl, inr, ℕ, List, refl, subst}
-use Rattle.tap_io.specs.Faults.{HasRisen}
 use Rattle.tap_io.specs.Sink.{SinkState}
 use Rattle.tap_io.specs.Source.{SourceState}
 use Rattle.tap_log.specs.declared.record.Record.{Record}

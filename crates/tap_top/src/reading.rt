@@ -1,6 +1,5 @@
 ghost use Rattle.std.specs.Prelude.{IfOk, IsErrOf};
 ghost use Rattle.tap_io.specs.Faults.{HasRisen};
-ghost use Rattle.tap_io.specs.Source.{SourceState};
 ghost use Rattle.tap_top.specs.Reading.{HasReadAll, HasReadTooMany};
 
 use std::alloc::Global;

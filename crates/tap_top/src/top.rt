@@ -1,10 +1,6 @@
 ghost use Rattle.std.specs.Prelude.{◌≡◌, ◌≢◌, ◌<◌, ◌↔◌, ◌⊎◌, [], length, vec_len, IfOk, IfErr};
-ghost use Rattle.tap_io.specs.BufferedSink.{buffered_state, state_over};
 ghost use Rattle.tap_io.specs.Faults.{HasRisen};
-ghost use Rattle.tap_io.specs.Sink.{SinkState};
-ghost use Rattle.tap_io.specs.Source.{SourceState};
 ghost use Rattle.tap_report.specs.Text.{IsPrintableLog};
-ghost use Rattle.tap_report.specs.Written.{WritesText};
 ghost use Rattle.tap_report.specs.declared.mode.Mode.TheVariants.{Long as LongMode};
 ghost use Rattle.tap_top.specs.Ending.{HasCause, HasRunAll, HasRunAs, HasRunSome, HasWritten, IsUnread, text_of_run};
 ghost use Rattle.tap_top.specs.FaultLine.{fault_line};

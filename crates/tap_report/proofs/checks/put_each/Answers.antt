@@ -1,9 +1,12 @@
 use Rattle.std.proofs.Common.{◌≡◌, take, None}
 use Rattle.std.proofs.lemmas.List.{take_all}
 use Rattle.tap_report.specs.Text.{ArePrintable, BeginsOnce}
-use Rattle.tap_report.proofs.ReportsLemmas.{Reports-next, Reports-finish, begins_next}
+use Rattle.tap_report.proofs.ReportsLemmas.{Reports-new, Reports-next, Reports-finish, begins_next}
 use Rattle.tap_report.proofs.TextLemmas.{ArePrintable-at}
 use Rattle.tap_report.proofs.checks.put_each.Goals as goal
+
+pub loop-item-init : goal.loop-item-init
+loop-item-init g c = rw c.new-reporter.ensures (Reports-new c.args.mode (g.K.Sink.state c.args.sink.now))
 
 pub put-requires-clause-begins : goal.put-requires-clause-begins
 put-requires-clause-begins g c =

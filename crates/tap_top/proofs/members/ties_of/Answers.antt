@@ -11,4 +11,4 @@ loop-member-preserved c = λ name.
     kept_more c.args.settings.now c.args.members.now c.args.members.now c.loop-member.member-index c.member-item.result name
     c.in_ok-at_rest.at_rest
     (get (slice_cmp nat_cmp) c.loop-member.ties name) (get (slice_cmp nat_cmp) c.insert.new.self name) within item
-    c.in_ok-at_rest.ensures (c.in_ok-insert.ensures.updates.0 name) (c.loop-member.invariant name)
+    c.in_ok-at_rest.ensures.rest (c.in_ok-insert.ensures.updates.0 name) (c.loop-member.invariant name)

@@ -28,11 +28,11 @@ loop-place-preserved g c =
           (omega arith) c.at.ensures c.loop-place.invariant.settings;
       reports = λ mode first reports.
           Reports-next c.args.log.now.records c.loop-place.place c.at.result.now (omega arith)
-              (item_at c.args.log.now.records c.loop-place.place c.at.result.now c.at.ensures)
-              (c.loop-place.invariant.reports mode first reports) c.put.ensures;
+          (item_at c.args.log.now.records c.loop-place.place c.at.result.now c.at.ensures)
+          (c.loop-place.invariant.reports mode first reports) c.put.ensures;
     }
 
 pub returns : goal.returns
 returns g c = λ mode first reports.
     Reports-all mode c.args.log.now.records c.loop-place.place first (g.K.Sink.state c.loop-place.sink) c.loop-place.reporter
-        (omega arith) (c.loop-place.invariant.reports mode first reports)
+    (omega arith) (c.loop-place.invariant.reports mode first reports)

@@ -34,8 +34,8 @@ loop-place-preserved g c = record {
   run = c.in_ok-add_group.ensures.ok;
   reports = c.put_from-in-loop-place.ensures c.args.reporter.now.mode (g.K.Sink.state c.args.sink.now)
       (Reports-front c.args.reporter.now.mode c.loop-place.log.records c.add_group.new.log.records c.len-from.result
-          (g.K.Sink.state c.args.sink.now) (g.K.Sink.state c.loop-place.sink) c.loop-place.reporter c.len-from.ensures
-          c.in_ok-add_group.ensures.grows c.loop-place.invariant.reports);
+      (g.K.Sink.state c.args.sink.now) (g.K.Sink.state c.loop-place.sink) c.loop-place.reporter c.len-from.ensures
+      c.in_ok-add_group.ensures.grows c.loop-place.invariant.reports);
 }
 
 pub returns-in_err-push-2-clause-part : goal.returns-in_err-push-2-clause-part
@@ -84,10 +84,10 @@ returns-clause-printable g c =
 pub returns-clause-reports : goal.returns-clause-reports
 returns-clause-reports g c =
     c.put_from-2.ensures c.args.reporter.now.mode (g.K.Sink.state c.args.sink.now)
-        (Reports-front c.args.reporter.now.mode c.loop-place.log.records c.push-2.new.self.records c.len-from-2.result
-            (g.K.Sink.state c.args.sink.now) (g.K.Sink.state c.loop-place.sink) c.loop-place.reporter c.len-from-2.ensures
-            (front-push c.loop-place.log.records c.push-2.new.self.records (Finished c.step_count-count.result) c.in_ok-push-2.ensures.ok)
-            c.loop-place.invariant.reports)
+    (Reports-front c.args.reporter.now.mode c.loop-place.log.records c.push-2.new.self.records c.len-from-2.result
+    (g.K.Sink.state c.args.sink.now) (g.K.Sink.state c.loop-place.sink) c.loop-place.reporter c.len-from-2.ensures
+    (front-push c.loop-place.log.records c.push-2.new.self.records (Finished c.step_count-count.result) c.in_ok-push-2.ensures.ok)
+    c.loop-place.invariant.reports)
 
 pub returns-in_err-members-clause-reports : goal.returns-in_err-members-clause-reports
 returns-in_err-members-clause-reports g c =
@@ -101,4 +101,4 @@ pub returns-in_err-push-clause-reports : goal.returns-in_err-push-clause-reports
 returns-in_err-push-clause-reports g c =
     let records_of : LogValue → List Record = λ log. log.records in
     rw (ap records_of c.in_err-push.ensures.err, c.requires.empty)
-        (Reports-fresh (g.K.Sink.state c.args.sink.now) c.args.reporter.now c.requires.fresh)
+    (Reports-fresh (g.K.Sink.state c.args.sink.now) c.args.reporter.now c.requires.fresh)

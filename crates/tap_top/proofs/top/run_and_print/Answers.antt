@@ -2,13 +2,11 @@ use Rattle.std.proofs.Common.{◌≡◌, [], ◌++◌, ℕ, List, refl, ap, sym,
 use Rattle.tap_io.specs.BufferedSink.{buffered_state, state_over}
 use Rattle.tap_report.specs.Reporter.{ReporterValue}
 use Rattle.tap_report.specs.Text.{text_of_log}
-use Rattle.tap_report.specs.Written.{WritesText}
 use Rattle.tap_report.specs.declared.mode.Mode.{Mode}
 use Rattle.tap_report.specs.declared.mode.Mode.TheVariants.{Long}
-use Rattle.tap_report.specs.declared.written.Written.TheVariants.{All}
 use Rattle.tap_report.proofs.ReportsLemmas.{Reports-finish}
 use Rattle.tap_report.proofs.WritesLemmas.{WritesText-then}
-use Rattle.tap_top.specs.Ending.{HasWritten, text_of_run, with_writing}
+use Rattle.tap_top.specs.Ending.{text_of_run}
 use Rattle.tap_top.specs.FaultLine.{fault_line}
 use Rattle.tap_top.proofs.Texts.{HasWritten-from_text, WritesText-same}
 use Rattle.tap_top.proofs.top.run_and_print.Goals as goal
@@ -25,8 +23,8 @@ returns-clause-written g c =
     let text : Mode → List ℕ = λ mode. text_of_log mode log ++ fault_line before in
     let printed =
     WritesText-same (text c.new-reporter.result.mode) (text_of_run Long log before)
-        (ap (λ kept. text (mode_of kept)) c.new-reporter.ensures)
-        (WritesText-then (Reports-finish c.run_scenario.ensures.reports c.finish-finished.ensures) c.write_fault_line-so_far.ensures) in
+    (ap (λ kept. text (mode_of kept)) c.new-reporter.ensures)
+    (WritesText-then (Reports-finish c.run_scenario.ensures.reports c.finish-finished.ensures) c.write_fault_line-so_far.ensures) in
     let passed_on = c.flush_after-written.ensures.written first name (text_of_run Long log before) (rw (← start) printed) in
     let written = HasWritten-from_text first _ (text_of_run Long log before) before c.flush_after-written.result passed_on in
     let kept : c.into_inner.result.ghost_name ≡ name =

@@ -1,4 +1,3 @@
-use Rattle.std.proofs.Common.{refl}
 use Rattle.tap_report.proofs.WritesLemmas.{◌⨾◌, WritesText-none}
 use Rattle.tap_report.proofs.written.Written.add_words_after.Goals as goal
 

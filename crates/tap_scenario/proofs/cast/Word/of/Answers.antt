@@ -1,4 +1,4 @@
-use Rattle.std.proofs.Common.{◌≡◌, sym, ◌∙◌}
+use Rattle.std.proofs.Common.{sym, ◌∙◌}
 use Rattle.std.proofs.lemmas.Bool.{true≢false}
 use Rattle.tap_name.proofs.Words.{is_word-Decides}
 use Rattle.tap_scenario.proofs.cast.Word.of.Goals as goal

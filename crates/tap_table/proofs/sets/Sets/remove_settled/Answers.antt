@@ -6,7 +6,8 @@ pub overflow_add-self : goal.overflow_add-self
 overflow_add-self c =
     let within = rw (← c.self.view_is) at c.requires in
     let old = c.index_mut-set.result.now in
-    let few = few_removed c.self.inside.sets.items c.self.inside.links c.args.number old c.self.invariant within c.index_mut-set.ensures.value
+    let few = few_removed c.self.inside.sets.items c.self.inside.links c.args.number old c.self.invariant within
+    c.index_mut-set.ensures.value
     c.args.target c.remove_settled-answer.new.self c.len-before.ensures.valid c.remove_settled-answer.ensures.after in
     let fits = fits_after c.self.inside.sets.items c.self.inside.links c.args.number old c.self.invariant within
     c.index_mut-set.ensures.value c.remove_settled-answer.new.self c.len-before.result c.len-now.result c.len-before.ensures.count
@@ -17,7 +18,8 @@ pub invariant_of-self : goal.invariant_of-self
 invariant_of-self c =
     let within = rw (← c.self.view_is) at c.requires in
     let old = c.index_mut-set.result.now in
-    let few = few_removed c.self.inside.sets.items c.self.inside.links c.args.number old c.self.invariant within c.index_mut-set.ensures.value
+    let few = few_removed c.self.inside.sets.items c.self.inside.links c.args.number old c.self.invariant within
+    c.index_mut-set.ensures.value
     c.args.target c.remove_settled-answer.new.self c.len-before.ensures.valid c.remove_settled-answer.ensures.after in
     counted_after c.self.inside.sets.items c.self.inside.links c.args.number old c.self.invariant within
     c.index_mut-set.ensures.value c.remove_settled-answer.new.self c.len-before.result c.len-now.result c.len-before.ensures.count

@@ -22,7 +22,8 @@ forget-requires c = within_sets (is_near (goal.at.forget-requires c).After-numbe
 pub invariant_of-self : goal.invariant_of-self
 invariant_of-self c =
     let is = is_near (goal.at.invariant_of-self c).After-number_of-number in
-    sets_after is (λ s. forgotten name_cmp s c.args.by.from) c.forget.new.self c.forget.ensures.after (λ s. width-forgotten s c.args.by.from)
+    sets_after is (λ s. forgotten name_cmp s c.args.by.from) c.forget.new.self c.forget.ensures.after
+    (λ s. width-forgotten s c.args.by.from)
     (IsTable-forgotten c.args.self.now c.args.by.from (is_table is) c.requires.name c.requires.other)
 
 pub returns-clause-answer : goal.returns-clause-answer
@@ -31,5 +32,5 @@ returns-clause-answer c =
 
 pub returns-clause-after : goal.returns-clause-after
 returns-clause-after c =
-    table_after (is_near (goal.at.returns-clause-after c).After-number_of-number) (λ s. forgotten name_cmp s c.args.by.from) c.forget.new.self
-    c.forget.ensures.after
+    table_after (is_near (goal.at.returns-clause-after c).After-number_of-number) (λ s. forgotten name_cmp s c.args.by.from)
+    c.forget.new.self c.forget.ensures.after

@@ -22,7 +22,8 @@ mark_leaving-requires c = within_sets (is_near (goal.at.mark_leaving-requires c)
 pub invariant_of-self : goal.invariant_of-self
 invariant_of-self c =
     let is = is_near (goal.at.invariant_of-self c).After-number_of-number in
-    sets_after is (λ s. marked name_cmp s c.args.target) c.mark_leaving.new.self c.mark_leaving.ensures.after (λ s. width-marked s c.args.target)
+    sets_after is (λ s. marked name_cmp s c.args.target) c.mark_leaving.new.self c.mark_leaving.ensures.after
+    (λ s. width-marked s c.args.target)
     (IsTable-marked c.args.self.now c.args.target (is_table is) c.requires.name c.requires.other)
 
 pub returns-clause-answer : goal.returns-clause-answer
@@ -31,5 +32,5 @@ returns-clause-answer c =
 
 pub returns-clause-after : goal.returns-clause-after
 returns-clause-after c =
-    table_after (is_near (goal.at.returns-clause-after c).After-number_of-number) (λ s. marked name_cmp s c.args.target) c.mark_leaving.new.self
-    c.mark_leaving.ensures.after
+    table_after (is_near (goal.at.returns-clause-after c).After-number_of-number) (λ s. marked name_cmp s c.args.target)
+    c.mark_leaving.new.self c.mark_leaving.ensures.after

@@ -22,7 +22,8 @@ offer-requires c = within_sets (is_near (goal.at.offer-requires c).After-number_
 pub invariant_of-self : goal.invariant_of-self
 invariant_of-self c =
     let is = is_near (goal.at.invariant_of-self c).After-number_of-number in
-    sets_after_result is (λ s. offered name_cmp s c.args.target) c.offer.new.self c.offer.result c.offer.ensures.after c.offer.ensures.same (λ s. width-offered s c.args.target)
+    sets_after_result is (λ s. offered name_cmp s c.args.target) c.offer.new.self c.offer.result c.offer.ensures.after
+    c.offer.ensures.same (λ s. width-offered s c.args.target)
     (IsTable-offered c.args.self.now c.args.target (is_table is) c.requires.name c.requires.other)
 
 pub returns-clause-answer : goal.returns-clause-answer
@@ -31,5 +32,5 @@ returns-clause-answer c =
 
 pub returns-clause-after : goal.returns-clause-after
 returns-clause-after c =
-    table_after_result (is_near (goal.at.returns-clause-after c).After-number_of-number) (λ s. offered name_cmp s c.args.target) c.offer.new.self c.offer.result
-    c.offer.ensures.after
+    table_after_result (is_near (goal.at.returns-clause-after c).After-number_of-number) (λ s. offered name_cmp s c.args.target)
+    c.offer.new.self c.offer.result c.offer.ensures.after

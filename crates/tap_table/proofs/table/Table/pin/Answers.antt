@@ -22,10 +22,11 @@ pin-requires c = within_sets (is_near (goal.at.pin-requires c).After-number_of-n
 pub invariant_of-self : goal.invariant_of-self
 invariant_of-self c =
     let is = is_near (goal.at.invariant_of-self c).After-number_of-number in
-    sets_after_result is (λ s. pinned name_cmp s c.args.target) c.pin.new.self c.pin.result c.pin.ensures.after c.pin.ensures.same (λ s. width-pinned s c.args.target)
+    sets_after_result is (λ s. pinned name_cmp s c.args.target) c.pin.new.self c.pin.result c.pin.ensures.after
+    c.pin.ensures.same (λ s. width-pinned s c.args.target)
     (IsTable-pinned c.args.self.now c.args.target (is_table is) c.requires.name c.requires.other)
 
 pub returns-clause-after : goal.returns-clause-after
 returns-clause-after c =
-    table_after_result (is_near (goal.at.returns-clause-after c).After-number_of-number) (λ s. pinned name_cmp s c.args.target) c.pin.new.self c.pin.result
-    c.pin.ensures.after
+    table_after_result (is_near (goal.at.returns-clause-after c).After-number_of-number) (λ s. pinned name_cmp s c.args.target)
+    c.pin.new.self c.pin.result c.pin.ensures.after

@@ -32,5 +32,5 @@ returns-clause-answer c =
 
 pub returns-clause-after : goal.returns-clause-after
 returns-clause-after c =
-    table_after (is_near (goal.at.returns-clause-after c).After-number_of-number) (λ s. released name_cmp s c.args.by.from) c.release.new.self
-    c.release.ensures.after
+    table_after (is_near (goal.at.returns-clause-after c).After-number_of-number) (λ s. released name_cmp s c.args.by.from)
+    c.release.new.self c.release.ensures.after

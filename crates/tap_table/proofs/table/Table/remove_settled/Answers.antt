@@ -22,7 +22,8 @@ remove_settled-requires c = within_sets (is_near (goal.at.remove_settled-require
 pub invariant_of-self : goal.invariant_of-self
 invariant_of-self c =
     let is = is_near (goal.at.invariant_of-self c).After-number_of-number in
-    sets_after is (λ s. removed name_cmp s c.args.target) c.remove_settled.new.self c.remove_settled.ensures.after (λ s. width-removed s c.args.target)
+    sets_after is (λ s. removed name_cmp s c.args.target) c.remove_settled.new.self c.remove_settled.ensures.after
+    (λ s. width-removed s c.args.target)
     (IsTable-removed c.args.self.now c.args.target (is_table is) c.requires.name c.requires.other)
 
 pub returns-clause-answer : goal.returns-clause-answer
@@ -31,5 +32,5 @@ returns-clause-answer c =
 
 pub returns-clause-after : goal.returns-clause-after
 returns-clause-after c =
-    table_after (is_near (goal.at.returns-clause-after c).After-number_of-number) (λ s. removed name_cmp s c.args.target) c.remove_settled.new.self
-    c.remove_settled.ensures.after
+    table_after (is_near (goal.at.returns-clause-after c).After-number_of-number) (λ s. removed name_cmp s c.args.target)
+    c.remove_settled.new.self c.remove_settled.ensures.after

@@ -1,4 +1,4 @@
-use Rattle.std.proofs.Common.{◌∙◌, ap}
+use Rattle.std.proofs.Common.{◌∙◌}
 use Rattle.tap_table.proofs.Held.{RestOver, ascending_over, names_over, rest_over, ties_over, valid_over}
 use Rattle.tap_table.proofs.ties.Ties.at_rest.Goals as goal
 use Rattle.tap_table.proofs.ties.Ties.at_rest.Goals.{In_ok-holders_over}
