@@ -1,5 +1,5 @@
 -- The notices of a departure, and whom the leaving node awaits.
-use Rattle.std.proofs.Common.{◌≡◌, ◌≢◌, ◌↔◌, ℕ, Bool, true, false, not, Some, List, [], ◌∷◌, map, filter, slice_get, arith, ap, sym, refl, ◌∙◌, inl, inr}
+use Rattle.std.proofs.Common.{◌≡◌, ◌≢◌, ◌↔◌, ℕ, ◌+◌, zero, suc, Bool, true, false, not, Some, List, [], ◌∷◌, length, map, filter, slice_get, arith, ap, sym, refl, ◌∙◌, inl, inr}
 use Rattle.std.specs.Prelude.{bytes_eq}
 use Rattle.std.specs.Option.{option_map}
 use Rattle.std.proofs.lemmas.Bool.{cases_Bool}
@@ -11,9 +11,10 @@ use Rattle.tap_name.specs.Names.{Among}
 use Rattle.tap_name.specs.Order.{AreAscending, IsBelow}
 use Rattle.tap_name.proofs.Names.{among-filter, among-filter_from}
 use Rattle.tap_register.specs.declared.registers.Entry.{Entry}
+use Rattle.tap_table.specs.declared.tie.Tie.{Tie}
 use Rattle.tap_table.specs.Table.{TableValue}
 use Rattle.tap_table.specs.Ties.{AreTies, TiesValue, holders_on}
-use Rattle.tap_depart.specs.Leaving.{LeavingValue, left_by, names_but, notice_for, started}
+use Rattle.tap_depart.specs.Leaving.{LeavingValue, left_by, names_but, notice_for, off_ties, started}
 
 abbrev Word : Type 0
 Word = Entry (List ℕ) Bool
@@ -77,3 +78,22 @@ unawaited_changes_nothing leaving holder absent =
 pub awaited-ascending : (leaving : LeavingValue) (holder : List ℕ) → AreAscending leaving.awaited
     → AreAscending (left_by leaving holder).awaited
 awaited-ascending leaving holder ascending = AllPairs-filter IsBelow (λ n. not (bytes_eq n holder)) leaving.awaited ascending
+
+-- as it finishes, each of the nodes is told once that there is no link any more, with the next numbers
+pub length-off_ties : (last : ℕ) (names : List (List ℕ)) → length (off_ties last names) ≡ length names
+length-off_ties last [] = refl
+length-off_ties last (name ∷ names) = ap (λ n. suc n) (length-off_ties (last + 1) names)
+
+pub off_tie_at : (last : ℕ) (names : List (List ℕ)) (i : ℕ) (name : List ℕ) → slice_get names i ≡ Some name
+    → slice_get (off_ties last names) i ≡ Some (record { to = name; version = last + i + 1; on = false })
+off_tie_at last [] i name got = cc
+off_tie_at last (n ∷ names) zero name got =
+    let same : n ≡ name = cc in
+    let to : List ℕ → Tie = λ x. record { to = x; version = last + 1; on = false } in
+    let of_version : ℕ → Tie = λ v. record { to = name; version = v; on = false } in
+    let version : last + 1 ≡ last + 0 + 1 = omega arith in
+    ap (λ x. Some (to x)) same ∙ ap (λ v. Some (of_version v)) version
+off_tie_at last (n ∷ names) (suc i) name got =
+    let of_version : ℕ → Tie = λ v. record { to = name; version = v; on = false } in
+    let version : last + 1 + i + 1 ≡ last + suc i + 1 = omega arith in
+    off_tie_at (last + 1) names i name got ∙ ap (λ v. Some (of_version v)) version

@@ -1,4 +1,4 @@
--- The links of a table by name are no more than its rows.
+-- The targets of a table by name: they ascend, are all that have a link, and are no more than the rows.
 use Rattle.std.proofs.Common.{◌≡◌, ℕ, ◌≤◌, zero, suc, true, Some, List, [], ◌∷◌, length, map, slice_get, All, arith, ap, sym, refl, ◌∙◌, inl, inr}
 use Rattle.std.specs.Prelude.{bytes_eq}
 use Rattle.std.specs.Set.{is_member}
@@ -17,7 +17,8 @@ use Rattle.tap_link.specs.declared.kind.Kind.TheVariants.{Settled}
 use Rattle.tap_link.specs.Entry.{Entry}
 use Rattle.tap_table.specs.ByName.{by_name}
 use Rattle.tap_table.specs.Table.{IsTable, Row, SlotLinks, TableValue, kind_in, rows}
-use Rattle.tap_table.proofs.ByName.{by_name-ascending, by_name_is_found}
+use Rattle.tap_table.proofs.ByName.{by_name-ascending, by_name_is_found, found_by_name}
+use Rattle.tap_table.proofs.Found.{link_to}
 use Rattle.tap_table.proofs.Listed.{found_has_row}
 use Rattle.tap_depart.specs.Leaving.{targets_by_name, targets_of}
 
@@ -53,6 +54,13 @@ among_row (r ∷ all) zero row got =
     inl (ap (λ (x : Row). x.entry.target) (sym same))
 among_row (r ∷ all) (suc i) row got = inr (among_row all i row got)
 
+among_link : (links : SlotLinks) (i : ℕ) (e : Entry (List ℕ)) → slice_get links i ≡ Some e → Among e.target (targets_of links)
+among_link [] i e got = cc
+among_link (f ∷ links) zero e got =
+    let same : f ≡ e = cc in
+    inl (ap (λ (x : Entry (List ℕ)). x.target) (sym same))
+among_link (f ∷ links) (suc i) e got = inr (among_link links i e got)
+
 module _ (t : TableValue) where
   -- a target of links that look-ups find has a kind
   pub found_target : (links : SlotLinks) (name : List ℕ) → All (λ e. kind_in t e.target ≡ Some e.kind) links
@@ -64,6 +72,14 @@ module _ (t : TableValue) where
       found_target links name (All-tail (λ f. kind_in t f.target ≡ Some f.kind) e links found) later
 
   module _ (valid : IsTable t) where
+    -- the targets by name are all names that have a link
+    pub target_is_linked : (name : List ℕ) → Among name (targets_by_name t) → (kind : Kind) × (kind_in t name ≡ Some kind)
+    target_is_linked name among = found_target (by_name t) name (by_name_is_found t valid) among
+
+    pub linked_is_target : (name : List ℕ) (kind : Kind) → kind_in t name ≡ Some kind → Among name (targets_by_name t)
+    linked_is_target name kind found =
+        let link = found_by_name t valid name kind found in among_link (by_name t) link.0 (link_to name kind) link.1
+
     -- the targets by name ascend
     pub targets-ascending : AreAscending (targets_by_name t)
     targets-ascending i j d before within =

@@ -105,8 +105,8 @@ impl Leaving {
     /// it has no link to them any more, with the next numbers of its stamp, and the holders that are on,
     /// ascending, which are told that it is gone.
     ///
-    /// All links end with the node. It has ended too where memory is refused. Its stamp has a number left
-    /// for each link.
+    /// All links end with the node. It has ended too where memory is refused, when its stamp may have given
+    /// some of the numbers. The stamp has a number left for each link.
     pub fn finish(
         self,
         alloc: Global,
