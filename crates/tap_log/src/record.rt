@@ -71,7 +71,7 @@ pub enum LinkWord {
 /// A link of a table, as it is told.
 ///
 /// Rule: docs/FORMATS.md, "The printed text".
-#[derive(Clone, Copy, Debug)]
+#[derive(Clone, Copy, Debug, PartialEq, Eq)]
 pub struct LinkLine {
     /// Its slot.
     pub slot: Slot,
@@ -84,7 +84,7 @@ pub struct LinkLine {
 /// An object and a server of it: a pointer that a node holds, or what is published.
 ///
 /// Rule: docs/FORMATS.md, "The printed text".
-#[derive(Clone, Copy, Debug)]
+#[derive(Clone, Copy, Debug, PartialEq, Eq)]
 pub struct Pair {
     /// The object.
     pub object: Name,
@@ -95,7 +95,7 @@ pub struct Pair {
 /// One thing that a run did.
 ///
 /// Rule: docs/FORMATS.md, "The printed text".
-#[derive(Debug, Drop)]
+#[derive(Debug, PartialEq, Drop)]
 pub enum Record {
     /// The run begins, with these members as core nodes. It may send so many frames.
     Begin {

@@ -636,6 +636,20 @@ fn parts_of_logs(rt: HostRuntime) -> Result<(), Fail> {
     check_parts(&run, &rt, 2, &[1], 1)
 }
 
+fn sent(alloc: Global, bytes: &[u8]) -> Result<Record, Fail> {
+    let bytes = Bytes::copy_of(alloc, bytes)?;
+    Ok(Record::Sent { number: 7, bytes })
+}
+
+#[test]
+fn records_are_compared(rt: HostRuntime) -> Result<(), Fail> {
+    assert_eq!(rt; sent(rt.alloc(), b"ab")?, sent(rt.alloc(), b"ab")?);
+    assert!(rt; sent(rt.alloc(), b"ab")? != sent(rt.alloc(), b"ac")?);
+    assert!(rt; sent(rt.alloc(), b"ab")? != Record::Taken { number: 7 });
+    assert!(rt; Record::Taken { number: 7 } != Record::Taken { number: 8 });
+    Ok(())
+}
+
 #[test]
 fn what_is_asked_of_a_log(rt: HostRuntime) -> Result<(), Fail> {
     let mut run = begun(rt.alloc(), 2, 2, "00 01")?;

@@ -95,3 +95,16 @@ impl<T: Copy> List<T> {
         self.items.as_slice()
     }
 }
+
+// Two lists are equal where they have equal items, place by place.
+impl<T: Copy + PartialEq> PartialEq for List<T> {
+    ghost use Rattle.std.specs.Cmp.Lexicographic.{lists_per, pointwise};
+
+    ghost eq = { pointwise T.eq };
+
+    ghost laws = { lists_per T.laws };
+
+    fn eq(&self, other: &List<T>) -> bool {
+        self.as_slice() == other.as_slice()
+    }
+}

@@ -149,8 +149,10 @@ impl Name {
         Ok(Name::of(digits))
     }
 
-    // The name of these digits.
-    fn of(digits: &[u8]) -> Name
+    /// The name of these digits, at most 40 and each below 16, whatever the settings.
+    ///
+    /// Rule: docs/PROTOCOL.md, "Names".
+    pub fn of(digits: &[u8]) -> Name
         requires few { length digits.now ≤ 40 }
         requires digits { All (λ d. d < 16) digits.now }
         ensures { result ≡ digits.now }

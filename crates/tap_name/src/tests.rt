@@ -31,6 +31,7 @@ fn reads_names(rt: HostRuntime) -> Result<(), Fail> {
         );
     }
     assert_eq!(rt; Name::from_digits(&settings, &[2, 3, 0]), Ok(name));
+    assert_eq!(rt; Name::of(&[2, 3, 0]), name);
     assert_eq!(rt;
         Name::from_digits(&settings, &[2, 4, 5]),
         Err(NameFault::BadDigit(1))

@@ -86,7 +86,8 @@ links_go_on p count i before place next bytes front l total lt behind h so_far =
     ap (λ k. with_front (front ++ l ∷ []) (links_at p (count - (i + 1)) (Some l.name) k bytes)) behind ∙ sym one ∙ so_far
 
 -- a link that was read, by another spelling of its name
-pub link_named : (name same : List ℕ) (settled : Bool) (read : Result Offered Broken) → read ≡ Ok (record { name = name; settled = settled })
+pub link_named : (name same : List ℕ) (settled : Bool) (read : Result Offered Broken)
+    → read ≡ Ok (record { name = name; settled = settled })
     → name ≡ same → read ≡ Ok (record { name = same; settled = settled })
 link_named name same settled read e is = e ∙ ap (λ (n : List ℕ). Ok (record { name = n; settled = settled })) is
 

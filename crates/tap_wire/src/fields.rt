@@ -87,10 +87,10 @@ pub(crate) fn name_of(settings: &Settings, digits: &[u8]) -> Name
     requires { IsName settings.now digits.now }
     ensures { result ≡ digits.now }
 {
-    match Name::from_digits(settings, digits) {
-        Ok(name) => name,
-        Err(_) => unreachable!(),
-    }
+    // Its digits are few enough, and below the base, which is at most 16.
+    let base = settings.base();
+    prove!(base <= 16);
+    Name::of(digits)
 }
 
 // A name, each of its digits below the base.

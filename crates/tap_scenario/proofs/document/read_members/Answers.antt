@@ -18,12 +18,12 @@ returns-then-is_empty c =
     let empty = c.is_empty.ensures in
     elim c.then-is_empty.branch [
       | then-is_empty-via-then-is_empty w ↦
-          let none : (nat_le 1 (length values) && nat_le (length values) most_members) ≡ false = let e = w.if-is_empty.true in
-          grind (arith, nat_tests) in
+          let none : (nat_le 1 (length values) && nat_le (length values) most_members) ≡ false =
+          let e = w.if-is_empty.true in grind (arith, nat_tests) in
           members_of-count c.args.settings.now (table_view c.args.table.now) values is strings none
       | then-is_empty-via-else-is_empty+then-strings-gt-MOST_MEMBERS w ↦
-          let many : (nat_le 1 (length values) && nat_le (length values) most_members) ≡ false = let e = w.if-strings-gt-MOST_MEMBERS.true in
-          grind (arith, nat_tests) in
+          let many : (nat_le 1 (length values) && nat_le (length values) most_members) ≡ false =
+          let e = w.if-strings-gt-MOST_MEMBERS.true in grind (arith, nat_tests) in
           members_of-count c.args.settings.now (table_view c.args.table.now) values is strings many
     ]
 

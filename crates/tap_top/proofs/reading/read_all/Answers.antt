@@ -10,7 +10,13 @@ returns-then-n-len-clause-too_long g c = λ _.
     let piece = take c.in-Got.n c.read.new.into in
     record {
       bytes = c.loop-bytes.bytes.items ++ piece;
-      count = omega (arith, got.within, length-append c.loop-bytes.bytes.items piece, length-take-le c.in-Got.n c.read.new.into got.within, length-take c.min-wanted.result c.loop-bytes.piece);
+      count = omega (
+        arith,
+        got.within,
+        length-append c.loop-bytes.bytes.items piece,
+        length-take-le c.in-Got.n c.read.new.into got.within,
+        length-take c.min-wanted.result c.loop-bytes.piece,
+      );
       consumes = Consumes-trans _ _ _ _ _ so_far.consumes got.bytes;
       faults = got.faults ∙ so_far.faults;
     }

@@ -1,4 +1,4 @@
-use Rattle.std.proofs.Common.{◌<◌, ◌∙◌, All, arith, sym}
+use Rattle.std.proofs.Common.{◌<◌, ◌∙◌, arith, sym}
 use Rattle.std.proofs.lemmas.List.{take_all}
 use Rattle.std.proofs.lemmas.List.Elements.{All-from_get_or}
 use Rattle.tap_name.proofs.Read.{bad_at, at_end, is_name}

@@ -1,4 +1,4 @@
-use Rattle.std.proofs.Common.{◌≡◌, ◌<◌, ◌≤◌, ◌++◌, ◌-◌, ◌∙◌, ℕ, List, length, drop, All, replicate, arith, ap, length-append}
+use Rattle.std.proofs.Common.{◌≡◌, ◌<◌, ◌≤◌, ◌++◌, ◌∙◌, ℕ, List, length, drop, All, replicate, arith, ap, length-append}
 use Rattle.std.proofs.lemmas.List.{take_at, drop_at, drop-replicate, length-replicate, length-drop}
 use Rattle.std.proofs.lemmas.List.Elements.{All-same}
 use Rattle.tap_name.specs.Padded.{IsPadded}
@@ -23,4 +23,5 @@ written digits front same few all =
     }
 
 pub invariant_of-result : goal.invariant_of-result
-invariant_of-result c = written c.args.digits.now c.copy_from_slice.new.self c.copy_from_slice.ensures.after c.requires.few c.requires.digits
+invariant_of-result c =
+    written c.args.digits.now c.copy_from_slice.new.self c.copy_from_slice.ensures.after c.requires.few c.requires.digits
