@@ -19,8 +19,10 @@ module _ (t : TableValue) (from to : ℕ) (range : SlotRange) where
   no_digit [] without = refl
   no_digit (digit ∷ digits) without = rw without (no_digit digits without)
 
+  -- at one of the levels, the range tells what its slots tell
   pub all_told : is_level from to range.level ≡ true → in_range (targets_between t from to) range ≡ in_range (slot_targets t) range
   all_told = all_digits (range_with_len range.from (range.to - range.from))
 
+  -- at another, nothing
   pub none_told : is_level from to range.level ≡ false → in_range (targets_between t from to) range ≡ []
   none_told = no_digit (range_with_len range.from (range.to - range.from))
