@@ -12,6 +12,7 @@ use tap_table::{NoMemory, Table};
 /// What a copy of a cast makes a node do.
 ///
 /// Rule: docs/PROTOCOL.md, "Casts".
+#[derive(Debug, PartialEq)]
 pub enum CastTurn {
     /// Nothing: the node has cast it at this level or a lesser one.
     Already,

@@ -1,7 +1,11 @@
-use crate::{Leaving, Notice, told_leave};
+ghost use Rattle.std.specs.Prelude.{◌≡◌, ◌≢◌, true, OnOk};
+ghost use Rattle.tap_name.specs.Name.{IsName};
+ghost use Rattle.tap_table.specs.Ties.{held_word};
+
+use crate::{Leaving, NoMemory, Notice, told_leave};
 use std::test::Fail;
 use tap_link::{Cease, Kind};
-use tap_name::{Settings, read_name};
+use tap_name::{Name, Settings, read_name};
 use tap_register::Stamp;
 use tap_table::{Tie, Ties};
 
@@ -78,5 +82,28 @@ fn the_replacement_fills_the_slot(rt: HostRuntime) -> Result<(), Fail> {
     assert_eq!(rt; told, Some(tie));
     assert_eq!(rt; ties.table().kind_of(leaver), Some(Kind::Leaving));
     assert_eq!(rt; ties.table().kind_of(near), Some(Kind::Settled));
+    Ok(())
+}
+
+// Takes the word of a holder of a leaving node that it has a link to it.
+fn hear(leaving: &mut Leaving, holder: Name) -> Result<bool, NoMemory>
+    requires name { IsName leaving.old.ties.table.settings holder }
+    requires other { holder ≢ leaving.old.ties.table.owner }
+    ensures { OnOk result (leaving.new ≡ record leaving.old { ties = held_word leaving.old.ties holder 1 true }) }
+{
+    leaving.ties_mut().held(holder, 1, true)
+}
+
+#[test]
+fn the_ties_of_a_leaving_node_change(rt: HostRuntime) -> Result<(), Fail> {
+    let settings = Settings::new(4, 3, 1).ok_or("settings")?;
+    let leaver = read_name(&settings, b"100")?;
+    let holder = read_name(&settings, b"000")?;
+    assert!(rt; holder != leaver);
+    let ties = Ties::new(rt.alloc(), leaver, &settings)?;
+    let mut leaving = Leaving::start(rt.alloc(), ties).ok().ok_or("memory")?;
+    assert!(rt; hear(&mut leaving, holder)?);
+    assert_eq!(rt; leaving.ties().holder_count(), 1);
+    assert_eq!(rt; leaving.notice_count(), 0);
     Ok(())
 }
