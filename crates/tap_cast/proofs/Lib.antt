@@ -1,0 +1,8 @@
+pub mod Steps
+pub mod Stepping
+pub mod Levels
+pub mod Pins
+pub mod KeptLevels
+pub mod Casting
+pub mod Thinned
+pub mod Ascending

@@ -1,0 +1,4 @@
+pub mod Replacement
+pub mod Leaving
+pub mod Told
+pub mod Lending

@@ -1,0 +1,188 @@
+ghost use Rattle.std.specs.Prelude.{◌≡◌, ◌==◌, ◌+◌, ◌<◌, ◌≤◌, map, length, slice_get, Some, IfOk, IfErr};
+ghost use Rattle.tap_table.specs.Table.{rows};
+ghost use Rattle.tap_table.specs.Ties.{holders_on};
+ghost use Rattle.tap_depart.specs.Leaving.{left_by, notice_for, off_ties, started, targets_by_name};
+
+use crate::notice::Notice;
+use crate::replacement::replacement_for;
+use crate::targets::targets_by_name;
+use std::alloc::Global;
+use std::marker::Model;
+use tap_link::Cease;
+use tap_name::{List, Name};
+use tap_register::Stamp;
+use tap_table::{NoMemory, Table, Tie, Ties};
+
+/// A node that leaves in order: its ties, the notices for its holders, and the holders that haven't
+/// answered theirs.
+///
+/// The notices are those of the start, whatever happens to the ties afterwards.
+///
+/// Rule: docs/PROTOCOL.md, "Departure".
+#[derive(Drop)]
+pub struct Leaving {
+    ties: Ties,
+    notices: Vec<Notice>,
+    awaited: Vec<Name>,
+}
+
+impl Model for Leaving {
+    ghost use Rattle.tap_depart.specs.Leaving.{LeavingValue};
+
+    ghost Value = { LeavingValue };
+
+    ghost view = { λ l. record { ties = l.ties; notices = l.notices.items; awaited = l.awaited.items } };
+}
+
+impl Leaving {
+    ghost use Rattle.std.specs.Borrow.{sem};
+    ghost use Rattle.tap_depart.specs.Lending.{LendsTies};
+
+    /// Starts the departure of a node: it awaits each holder that is on, and has a notice for each of
+    /// them. Where memory is refused, the ties come back as they were.
+    pub fn start(alloc: Global, ties: Ties) -> Result<Leaving, Ties>
+        ensures value { IfOk result (λ leaving. leaving ≡ started ties) }
+        ensures back { IfErr result (λ back. back ≡ ties) }
+    {
+        match start_lists(alloc, &ties) {
+            Ok((notices, awaited)) => Ok(Leaving {
+                ties,
+                notices,
+                awaited,
+            }),
+            Err(NoMemory) => Err(ties),
+        }
+    }
+
+    /// How many notices there are: one for each holder that was on at the start.
+    pub fn notice_count(&self) -> usize
+        ensures { result ≡ length self.now.notices }
+    {
+        self.notices.len()
+    }
+
+    /// A notice by its place in ascending order of the holders, from 0.
+    pub fn notice_at(&self, i: usize) -> Notice
+        requires { i < length self.now.notices }
+        ensures { slice_get self.now.notices i ≡ Some result }
+    {
+        self.notices[i]
+    }
+
+    /// Takes the answer of a holder, and answers whether no holder is awaited after it. A holder that
+    /// isn't awaited changes nothing.
+    pub fn left(&mut self, holder: Name) -> bool
+        ensures answer { result ≡ (length (left_by self.old holder).awaited == 0) }
+        ensures after { self.new ≡ left_by self.old holder }
+    {
+        self.awaited.retain(|name| *name != holder);
+        self.awaited.is_empty()
+    }
+
+    /// How many holders are awaited.
+    pub fn awaited(&self) -> usize
+        ensures { result ≡ length self.now.awaited }
+    {
+        self.awaited.len()
+    }
+
+    /// The ties.
+    pub fn ties(&self) -> &Ties
+        ensures { result.now ≡ self.now.ties }
+    {
+        &self.ties
+    }
+
+    /// The ties, to be changed. The notices and the awaited holders stay.
+    pub fn ties_mut(&mut self) -> &mut Ties
+        ensures* lends { sem 𝓛 (LendsTies self.entry result) }
+        ensures value { result.now ≡ self.old.ties }
+    {
+        &mut self.ties
+    }
+
+    /// Ends the node, once no holder is awaited: the words for the targets of its links, ascending, that
+    /// it has no link to them any more, with the next numbers of its stamp, and the holders that are on,
+    /// ascending, which are told that it is gone.
+    ///
+    /// All links end with the node. It has ended too where memory is refused, when its stamp may have given
+    /// some of the numbers. The stamp has a number left for each link.
+    pub fn finish(
+        self,
+        alloc: Global,
+        stamp: &mut Stamp,
+        by: &Cease<Name>,
+    ) -> Result<(List<Tie>, List<Name>), NoMemory>
+        requires awaits { length self.awaited ≡ 0 }
+        requires owner { by.now.owner ≡ self.ties.table.owner }
+        requires numbers { stamp.old + length (rows self.ties.table) ≤ u32.MAX }
+        ensures links { IfOk result (λ sent. sent.0 ≡ off_ties stamp.old (targets_by_name self.ties.table)) }
+        ensures gone { IfOk result (λ sent. sent.1 ≡ holders_on self.ties) }
+        ensures stamped { IfOk result (λ sent. stamp.new ≡ stamp.old + length (targets_by_name self.ties.table)) }
+    {
+        let targets = targets_by_name(alloc, self.ties.table())?;
+        let links = off_ties(alloc, stamp, targets.as_slice())?;
+        let holders = holders_on(alloc, &self.ties)?;
+        let Leaving {
+            ties,
+            notices: _,
+            awaited: _,
+        } = self;
+        ties.cease(by);
+        Ok((List::from_vec(links), List::from_vec(holders)))
+    }
+}
+
+// The notices for the holders that are on, and these holders.
+fn start_lists(alloc: Global, ties: &Ties) -> Result<(Vec<Notice>, Vec<Name>), NoMemory>
+    ensures notices { IfOk result (λ lists. lists.0.items ≡ map (notice_for ties.now.table) (holders_on ties.now)) }
+    ensures awaited { IfOk result (λ lists. lists.1.items ≡ holders_on ties.now) }
+{
+    let holders = holders_on(alloc, ties)?;
+    let notices = notices_for(alloc, ties.table(), holders.as_slice())?;
+    Ok((notices, holders))
+}
+
+// The holders that are on, ascending.
+fn holders_on(alloc: Global, ties: &Ties) -> Result<Vec<Name>, NoMemory>
+    ensures { IfOk result (λ names. names.items ≡ holders_on ties.now) }
+{
+    Ok(
+        ties.holders()
+            .iter()
+            .filter(|holder| holder.value)
+            .map(|holder| holder.key)
+            .collect(alloc)?,
+    )
+}
+
+// A notice for each of these holders.
+fn notices_for(alloc: Global, table: &Table, holders: &[Name]) -> Result<Vec<Notice>, NoMemory>
+    ensures { IfOk result (λ notices. notices.items ≡ map (notice_for table.now) holders.now) }
+{
+    let mut notices = Vec::new(alloc);
+    for holder in holders {
+        notices.push(Notice {
+            to: *holder,
+            replacement: replacement_for(table, holder),
+        })?;
+    }
+    Ok(notices)
+}
+
+// The words for these targets that there is no link to them any more.
+fn off_ties(alloc: Global, stamp: &mut Stamp, targets: &[Name]) -> Result<Vec<Tie>, NoMemory>
+    requires { stamp.old + length targets.now ≤ u32.MAX }
+    ensures value { IfOk result (λ ties. ties.items ≡ off_ties stamp.old targets.now) }
+    ensures stamped { IfOk result (λ ties. stamp.new ≡ stamp.old + length targets.now) }
+{
+    let mut ties = Vec::new(alloc);
+    for target in targets {
+        ties.push(Tie {
+            to: *target,
+            version: stamp.next(),
+            on: false,
+        })?;
+    }
+    Ok(ties)
+}
