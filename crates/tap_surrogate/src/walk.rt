@@ -1,4 +1,4 @@
-ghost use Rattle.std.specs.Prelude.{◌≡◌, ◌<◌, IfOk, IfSome, MatchOption, Some, ◌∷◌, [], map, filter};
+ghost use Rattle.std.specs.Prelude.{◌≡◌, ◌<◌, IfOk, IfSome, MatchOption, Some, ◌∷◌, [], map, filter, slice_index};
 ghost use Rattle.tap_name.specs.Name.{IsName};
 ghost use Rattle.tap_name.specs.Root.{first_of};
 ghost use Rattle.tap_surrogate.specs.Nodes.{IsCore, IsLeast, IsLeastLink, core_links};
@@ -98,9 +98,10 @@ impl Walk {
         let Some(table) = tables.table_of(self.node) else {
             unreachable!()
         };
-        for level in self.level..tables.settings().digits() {
+        for level in self.level..table.settings().digits() {
+            let own = self.node.digit(level as usize);
             let wanted = self.object.digit(level as usize);
-            if let Some(to) = hop_at(tables, table, level, wanted) {
+            if let Some(to) = hop_at(tables, table, level, own, wanted) {
                 return Some(Walk {
                     node: to,
                     level: level + 1,
@@ -138,23 +139,27 @@ pub fn walk_path<T: Tables>(
     }
 }
 
-// The hop of a walk at a level, from the node whose table this is; `None` where the walk stays.
-fn hop_at<T: Tables>(tables: &T, table: &Table, level: u8, wanted: u8) -> Option<Name>
+// The hop of a walk at a level, from the node whose table and own digit this is; `None` where the walk stays.
+fn hop_at<T: Tables>(tables: &T, table: &Table, level: u8, own: u8, wanted: u8) -> Option<Name>
     requires table { (T.nodes tables.now).table_of table.now.owner ≡ Some table.now }
     requires settings { table.now.settings ≡ T.parameters tables.now }
     requires level { level < (T.parameters tables.now).digits }
+    requires own { own ≡ slice_index table.now.owner level }
     requires wanted { wanted < (T.parameters tables.now).base }
     ensures core { IfSome result (IsCore (T.nodes tables.now)) }
     ensures least { IfSome result (IsLeastLink (T.nodes tables.now) table.now.owner) }
     ensures value { let base = (T.parameters tables.now).base in
         result ≡ hop base (core_links (T.nodes tables.now)) table.now.owner level wanted }
 {
-    let base = tables.settings().base();
-    let own = table.owner().digit(level as usize);
+    let base = table.settings().base();
     let mut digit = wanted;
     while digit != own {
-        if let Some(to) = first_core(tables, table.slot(Slot { level, digit })) {
-            return Some(to);
+        // Most slots have no link.
+        let links = table.slot(Slot { level, digit });
+        if !links.is_empty() {
+            if let Some(to) = first_core(tables, links) {
+                return Some(to);
+            }
         }
         digit = next_cyclic(base, digit);
     }

@@ -1,19 +1,16 @@
 -- the ties of members by their names, as a loop makes them
 use Rattle.std.proofs.Common.{◌≡◌, ◌↔◌, inl, inr, ◌⊎◌, ℕ, ◌+◌, ◌<◌, Bool, cond, true, List, [], ◌∷◌, ◌++◌, length, take, get_or, Option, None, Some, refl, ap, sym, subst, ◌∙◌}
-use Rattle.std.specs.Prelude.{bytes_eq, is_some, IsSomeAnd}
+use Rattle.std.specs.Prelude.{is_some, IsSomeAnd}
 use Rattle.std.specs.Option.{option_map}
-use Rattle.std.specs.Ordering.{nat_cmp, is_eq}
-use Rattle.std.specs.Cmp.Lexicographic.{slice_cmp}
 use Rattle.std.proofs.lemmas.Bool.{cases_Bool}
 use Rattle.std.proofs.lemmas.List.{take_more}
 use Rattle.std.proofs.lemmas.Slice.Eq.{bytes_eq-Decides}
-use Rattle.std.proofs.lemmas.Map.Text.{is_eq-slice_cmp}
 use Rattle.tap_name.specs.Settings.{SettingsValue}
 use Rattle.tap_name.specs.Root.{Among}
 use Rattle.tap_table.specs.Members.{AreAtRest, IsTableAtRest}
 use Rattle.tap_table.specs.Ties.{TiesValue}
 use Rattle.tap_surrogate.specs.Nodes.{IsTableOf}
-use Rattle.tap_top.specs.Members.{AreTiesOf, HaveOwnTables, IsKept}
+use Rattle.tap_top.specs.Members.{AreTiesOf, HaveOwnTables, IsKept, name_eq}
 
 among_front : (name : List ℕ) (names : List (List ℕ)) (last : List ℕ) → Among name names → Among name (names ++ last ∷ [])
 among_front name [] last among = absurd among
@@ -49,7 +46,7 @@ kept_new p members owners owner name ties same rest =
 pub kept_more : (p : SettingsValue) (members owners : List (List ℕ)) (i : ℕ) (owner name : List ℕ) (ties : TiesValue)
     (old new : Option TiesValue)
     → i < length owners → owner ≡ get_or owners i owner → AreAtRest p owner members ties
-    → new ≡ cond (is_eq (slice_cmp nat_cmp owner name)) (Some ties) old → IsKept p members (take i owners) name old
+    → new ≡ cond (name_eq owner name) (Some ties) old → IsKept p members (take i owners) name old
     → IsKept p members (take (i + 1) owners) name new
 kept_more p members owners i owner name ties old new within is rest grown so_far =
     let front = take i owners in
@@ -57,14 +54,13 @@ kept_more p members owners i owner name ties old new within is rest grown so_far
     let Over : List (List ℕ) → Type 0 = λ names. IsKept p members names name new in
     let Is : Option TiesValue → Type 0 = IsKept p members (front ++ owner ∷ []) name in
     let given : Bool → Option TiesValue = λ b. cond b (Some ties) old in
-    let test = is_eq-slice_cmp owner name in
-    subst Over (sym more) (elim (cases_Bool (bytes_eq owner name)) [
+    subst Over (sym more) (elim (cases_Bool (name_eq owner name)) [
       | inl e ↦
-          subst Is (sym (grown ∙ ap given (test ∙ e))) (kept_new p members front owner name ties
+          subst Is (sym (grown ∙ ap given e)) (kept_new p members front owner name ties
           (sym ((bytes_eq-Decides owner name).0 e)) rest)
       | inr e ↦
           let other : name ≡ owner → ⊥ = λ same. let yes = (bytes_eq-Decides owner name).1 (sym same) in absurd (cc) in
-          subst Is (sym (grown ∙ ap given (test ∙ e))) (kept_as_before p members front owner name old other so_far)
+          subst Is (sym (grown ∙ ap given e)) (kept_as_before p members front owner name old other so_far)
     ])
 
 -- who is kept is a member

@@ -1,10 +1,15 @@
 -- the ties of members, by their names
-use Rattle.std.specs.Prelude.{◌≡◌, ℕ, List, Option, Some, MatchOption}
+use Rattle.std.specs.Prelude.{◌≡◌, ℕ, Bool, List, Option, Some, MatchOption, nat_eq}
+use Rattle.std.specs.Cmp.Lexicographic.{pointwise}
 use Rattle.tap_name.specs.Settings.{SettingsValue}
 use Rattle.tap_name.specs.Root.{Among}
 use Rattle.tap_table.specs.Members.{AreAtRest}
 use Rattle.tap_table.specs.Ties.{TiesValue}
 use Rattle.tap_surrogate.specs.Nodes.{IsTableOf}
+
+-- whether two names are one
+abbrev pub name_eq : List ℕ → List ℕ → Bool
+name_eq = pointwise nat_eq
 
 -- the table under each name is that name's
 abbrev pub HaveOwnTables : SettingsValue → (List ℕ → Option TiesValue) → Type 0

@@ -1,14 +1,12 @@
 ghost use Rattle.std.specs.Prelude.{IfOk, All};
-ghost use Rattle.std.specs.Cmp.Lexicographic.{slice_cmp};
-ghost use Rattle.std.specs.Ordering.{nat_cmp};
-ghost use Rattle.std.specs.BTreeMap.{get};
+ghost use Rattle.std.specs.HashMap.{get};
 ghost use Rattle.tap_name.specs.Name.{IsName};
 ghost use Rattle.tap_name.specs.Distinct.{AreDistinct};
-ghost use Rattle.tap_top.specs.Members.{AreTiesOf, HaveOwnTables};
+ghost use Rattle.tap_top.specs.Members.{AreTiesOf, HaveOwnTables, name_eq};
 
 use crate::memory::NoMemory;
 use std::alloc::Global;
-use std::collections::BTreeMap;
+use std::collections::HashMap;
 use tap_name::{List, Name, Settings};
 use tap_surrogate::Tables;
 use tap_table::{Table, Ties};
@@ -17,8 +15,8 @@ use tap_table::{Table, Ties};
 #[derive(Drop)]
 pub(crate) struct Members {
     settings: Settings,
-    ties: BTreeMap<Name, Ties>,
-    ghost valid: { HaveOwnTables settings (get (slice_cmp nat_cmp) ties) },
+    ties: HashMap<Name, Ties>,
+    ghost valid: { HaveOwnTables settings (get name_eq ties) },
 }
 
 impl Tables for Members {
@@ -64,12 +62,12 @@ fn ties_of(
     alloc: Global,
     settings: &Settings,
     members: &List<Name>,
-) -> Result<BTreeMap<Name, Ties>, NoMemory>
+) -> Result<HashMap<Name, Ties>, NoMemory>
     requires names { All (IsName settings.now) members.now }
     requires distinct { AreDistinct members.now }
-    ensures { IfOk result (λ ties. AreTiesOf settings.now members.now members.now (get (slice_cmp nat_cmp) ties)) }
+    ensures { IfOk result (λ ties. AreTiesOf settings.now members.now members.now (get name_eq ties)) }
 {
-    let mut ties = BTreeMap::new(alloc);
+    let mut ties = HashMap::new(alloc);
     for member in members.as_slice() {
         let at_rest = Ties::at_rest(alloc, *member, settings, members)?;
         ties.insert(*member, at_rest)?;
