@@ -1,0 +1,4 @@
+pub mod Hellos
+pub mod NewKinds
+pub mod Greetings
+pub mod Words

@@ -1,0 +1,10 @@
+use Rattle.std.proofs.Common.{◌≡◌, ◌+◌, ◌++◌, length}
+use Rattle.tap_depart.specs.Leaving.{off_ties, targets_by_name, targets_of}
+use Rattle.tap_depart.proofs.Stepping.{links_from}
+use Rattle.tap_join.proofs.off.off_ties.Given as goal
+
+abbrev pub invariant-loop-i : goal.invariant-loop-i
+invariant-loop-i l =
+    let left = targets_of (links_from l.table l.i) in
+    (l.stamp + length left ≡ l.fn.stamp + length (targets_by_name l.table))
+    × (l.words.items ++ off_ties l.stamp left ≡ off_ties l.fn.stamp (targets_by_name l.table))

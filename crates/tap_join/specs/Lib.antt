@@ -1,0 +1,4 @@
+pub mod Hello
+pub mod Joining
+pub mod Seek
+pub mod Lending
