@@ -23,3 +23,7 @@ pub mod AtRest
 pub mod Held
 pub mod Flat
 pub mod ByName
+pub mod Steps
+pub mod Stepping
+pub mod LinksByName
+pub mod Targets

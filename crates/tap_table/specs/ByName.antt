@@ -28,3 +28,11 @@ slots_by_name p owner = flat_map (λ i. slots_in (range_by_name p owner i)) (ran
 -- the links of a table, slot by slot in this order: they ascend by name
 abbrev pub by_name : TableValue → SlotLinks
 by_name t = flat_map (links_at t) (slots_by_name t.settings t.owner)
+
+-- the targets of these links
+abbrev pub targets_of : SlotLinks → List (List ℕ)
+targets_of links = map (λ e. e.target) links
+
+-- the targets of a table, ascending
+abbrev pub targets_by_name : TableValue → List (List ℕ)
+targets_by_name t = targets_of (by_name t)

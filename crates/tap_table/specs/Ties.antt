@@ -1,5 +1,5 @@
 -- The links of a node in both directions, and the words for the nodes that it has links to.
-use Rattle.std.specs.Prelude.{◌≢◌, ℕ, ◌+◌, ◌&&◌, Bool, true, false, not, if◌then◌else◌, List, map, filter, All, Option, None, Some}
+use Rattle.std.specs.Prelude.{◌≢◌, ℕ, ◌+◌, ◌&&◌, Bool, true, false, not, if◌then◌else◌, List, [], ◌∷◌, map, filter, All, Option, None, Some}
 use Rattle.std.specs.Option.{is_none}
 use Rattle.tap_name.specs.Name.{IsName}
 use Rattle.tap_register.specs.declared.registers.Entry.{Entry}
@@ -78,3 +78,8 @@ release_tells ties stamp name =
 abbrev pub stamp_after : ℕ → Option Tie → ℕ
 stamp_after stamp None = stamp
 stamp_after stamp (Some tie) = tie.version
+
+-- the words for these nodes that there is no link any more, with the numbers after this one
+abbrev pub off_ties : ℕ → List (List ℕ) → List Tie
+off_ties last [] = []
+off_ties last (name ∷ names) = record { to = name; version = last + 1; on = false } ∷ off_ties (last + 1) names

@@ -3,6 +3,7 @@
 
 mod memory;
 mod next;
+mod off;
 mod rest;
 mod row;
 mod sets;

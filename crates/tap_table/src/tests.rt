@@ -127,8 +127,21 @@ fn ties_give_the_words_for_their_targets(rt: HostRuntime) -> Result<(), Fail> {
             on: true
         })
     );
-    assert!(rt; ties.forget(Forget { from: target }));
+    assert!(rt; ties.table().len() == 1);
     assert!(rt; stamp.last() == 2);
+    let off = ties.off_ties(rt.alloc(), &mut stamp)?;
+    assert_eq!(rt; off.len(), 1);
+    assert!(rt; 0 < off.len());
+    assert_eq!(rt;
+        off.at(0),
+        Tie {
+            to: target,
+            version: 3,
+            on: false
+        }
+    );
+    assert!(rt; ties.forget(Forget { from: target }));
+    assert!(rt; stamp.last() == 3);
     assert_eq!(rt; ties.release(&mut stamp, Release { from: target }), None);
     ties.cease(&Cease { owner });
     Ok(())
@@ -150,6 +163,7 @@ fn ties_keep_the_newest_word_of_each_holder(rt: HostRuntime) -> Result<(), Fail>
     assert_eq!(rt; ties.holder_count(), 1);
     assert!(rt; 0 < ties.holder_count());
     assert_eq!(rt; ties.holder_at(0), first);
+    assert_eq!(rt; ties.holders_on(rt.alloc())?.len(), 1);
     assert_eq!(rt; ties.table().len(), 0);
     assert_eq!(rt; ties.holders().len(), 2);
     Ok(())

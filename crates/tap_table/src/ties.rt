@@ -1,11 +1,13 @@
-ghost use Rattle.std.specs.Prelude.{◌≡◌, ◌≢◌, ◌<◌, ◌&&◌, [], length, count_by, map, filter, slice_get, Some, None, All, Contains, IsOk, IsSome, IsTrue, IfOk, OnOk, OnErr};
+ghost use Rattle.std.specs.Prelude.{◌≡◌, ◌≢◌, ◌+◌, ◌<◌, ◌≤◌, ◌&&◌, [], length, count_by, map, filter, slice_get, Some, None, All, Contains, IsOk, IsSome, IsTrue, IfOk, OnOk, OnErr};
 ghost use Rattle.tap_link.specs.LinkSet.{is_pinned, is_settled, is_settled_or_leaving};
 ghost use Rattle.tap_name.specs.Name.{IsName};
 ghost use Rattle.tap_register.specs.Registers.{entry_of, is_newer};
-ghost use Rattle.tap_table.specs.Table.{empty_table, has_room_near, kind_in, links_near, name_cmp};
-ghost use Rattle.tap_table.specs.Ties.{AreTies, forgotten, held_word, holders_on, marked, offer_tells, offered, pin_tells, pinned, release_tells, released, removed, stamp_after};
+ghost use Rattle.tap_table.specs.ByName.{targets_by_name};
+ghost use Rattle.tap_table.specs.Table.{empty_table, has_room_near, kind_in, links_near, name_cmp, rows};
+ghost use Rattle.tap_table.specs.Ties.{AreTies, forgotten, held_word, holders_on, marked, off_ties, offer_tells, offered, pin_tells, pinned, release_tells, released, removed, stamp_after};
 
 use crate::memory::NoMemory;
+use crate::off::off_ties;
 use crate::rest::{holders_over, sorted_names, table_over};
 use crate::table::Table;
 use crate::tie::Tie;
@@ -116,6 +118,28 @@ impl Ties {
         ensures { slice_get (holders_on self.now) i ≡ Some result }
     {
         holder_on(self.holders.as_slice(), i)
+    }
+
+    /// The holders that have a link to the owner, ascending: `holder_at` of each place, in one pass.
+    pub fn holders_on(&self, alloc: Global) -> Result<List<Name>, NoMemory>
+        ensures { IfOk result (λ names. names ≡ holders_on self.now) }
+    {
+        let names = names_on(alloc, self.holders.as_slice())?;
+        Ok(List::from_vec(names))
+    }
+
+    /// The words for the targets of all links, ascending, that the owner has no link to them any more,
+    /// with the next numbers of its stamp. The links stay: they end with the owner.
+    ///
+    /// Where memory is refused, the stamp may have given some of the numbers. It has a number left for
+    /// each link.
+    pub fn off_ties(&self, alloc: Global, stamp: &mut Stamp) -> Result<List<Tie>, NoMemory>
+        requires numbers { stamp.old + length (rows self.now.table) ≤ u32.MAX }
+        ensures words { IfOk result (λ words. words ≡ off_ties stamp.old (targets_by_name self.now.table)) }
+        ensures stamped { IfOk result (λ words. stamp.new ≡ stamp.old + length (targets_by_name self.now.table)) }
+    {
+        let words = off_ties(alloc, stamp, &self.table)?;
+        Ok(List::from_vec(words))
     }
 
     /// Pins a target as the table does, and gives the word for it exactly where it was added.
@@ -269,6 +293,19 @@ fn count_on(holders: &[Entry<Name, bool>]) -> usize
     ensures { result ≡ count_by (λ e. e.value) holders.now }
 {
     holders.iter().filter(|holder| holder.value).count()
+}
+
+// The holders that have a link.
+fn names_on(alloc: Global, holders: &[Entry<Name, bool>]) -> Result<Vec<Name>, NoMemory>
+    ensures { IfOk result (λ names. names.items ≡ map (λ e. e.key) (filter (λ e. e.value) holders.now)) }
+{
+    Ok(
+        holders
+            .iter()
+            .filter(|holder| holder.value)
+            .map(|holder| holder.key)
+            .collect(alloc)?,
+    )
 }
 
 // A holder that has a link, by its place among these.
