@@ -74,3 +74,19 @@ last_after x (y ∷ ys) = last_after y ys
 pub last_is : {X : Type 0} (xs : List X) → slice_get xs (length xs - 1) ≡ last_or None xs
 last_is [] = refl
 last_is (x ∷ xs) = let e : length (x ∷ xs) - 1 ≡ length xs = omega arith in ap (slice_get (x ∷ xs)) e ∙ last_after x xs
+
+-- ---- the first item that gives something
+
+none_given : {Y : Type 0} (given : Option Y) (others : List Y) → cons_option given others ≡ [] → (given ≡ None) × (others ≡ [])
+none_given None others none = (refl, none)
+none_given (Some y) others none = absurd (cc)
+
+pub first_given : {X Y : Type 0} (h : X → Option Y) (xs : List X) (i : ℕ) (x : X) (y : Y) → i < length xs → x ≡ get_or xs i x
+    → filter_map h (take i xs) ≡ [] → h x ≡ Some y → slice_get (filter_map h xs) 0 ≡ Some y
+first_given h [] i x y within is none gives = absurd (omega arith)
+first_given h (first ∷ xs) zero x y within is none gives =
+    ap (λ o. slice_get (cons_option o (filter_map h xs)) 0) (ap h (sym is) ∙ gives)
+first_given h (first ∷ xs) (suc i) x y within is none gives =
+    let none_here = none_given (h first) (filter_map h (take i xs)) none in
+    ap (λ o. slice_get (cons_option o (filter_map h xs)) 0) none_here.0
+    ∙ first_given h xs i x y (omega arith) is none_here.1 gives

@@ -1,24 +1,26 @@
--- What one more record at the end of a log changes.
-use Rattle.std.proofs.Common.{◌≡◌, ◌≢◌, ℕ, ◌+◌, Bool, true, false, List, [], ◌∷◌, ◌++◌, length, filter, not, nat_eq, Option, None, Some, refl, ap, sym, ◌∙◌, append_assoc, append-nil, length-append, subst, cond}
-use Rattle.std.specs.Prelude.{fold, ◌||◌, if◌then◌else◌}
+-- What one more record at the end of a log changes in what its records tell.
+use Rattle.std.proofs.Common.{◌≡◌, ◌≢◌, ℕ, ◌+◌, Bool, false, List, [], ◌∷◌, ◌++◌, length, Option, None, Some, refl, ap, sym, ◌∙◌, arith, append_assoc, append-nil, length-append, subst}
+use Rattle.std.specs.Prelude.{◌&&◌, if◌then◌else◌, fold, is_some, slice_get}
 use Rattle.std.specs.List.{filter_map, cons_option}
-use Rattle.std.specs.Cmp.Lexicographic.{pointwise}
-use Rattle.std.proofs.lemmas.List.Elements.{filter_map-append, filter-append}
-use Rattle.std.proofs.lemmas.List.Folds.{list_any-append}
+use Rattle.std.proofs.lemmas.List.Elements.{filter_map-append}
 use Rattle.std.proofs.lemmas.List.Sums.{fold-append}
-use Rattle.tap_name.specs.Settings.{SettingsValue}
-use Rattle.tap_scenario.specs.declared.step.Step.{Step}
-use Rattle.tap_log.specs.declared.record.Pair.{Pair}
 use Rattle.tap_log.specs.declared.record.Record.{Record}
-use Rattle.tap_log.specs.declared.record.Record.TheVariants.{Begin, Carrier, Core, Gone}
-use Rattle.tap_log.specs.Kinds.{accepts, begins_group, is_carried, members_in, step_of, sent_number, taken_number, packet_number, ended_number, core_name, gone_name, abandoned_name, published_pair, withdrawn_pair, join_name, depart_name}
-use Rattle.tap_log.specs.Moments.{EachFrom, EachRecord, last_of, outstanding, steps_of, under_way, numbers_less}
-use Rattle.tap_log.specs.Core.{abandoned_of, accepted_in, accepted_step, accepted_steps, ceased_of, core_of, departures_of, gone_of, has_name, joined_of, joins_of, members_of, names_less}
-use Rattle.tap_log.specs.Published.{has_pair, unwithdrawn_pair, unwithdrawn_pairs, pairs_less, published_of, same_pair, without_servers}
-use Rattle.tap_log.specs.Counts.{join_count, names_of, sent_count, with_name}
-use Rattle.tap_log.specs.Laws.{IsNew, OneMoreRecord, accepted_behind, accepted_by, at_most_one}
-use Rattle.tap_log.proofs.Acknowledging.{awaiting-arrived, awaiting-push, told}
-use Rattle.tap_log.proofs.Less.{filter-swaps, filter-twice, less_by-more, less_by-none, not_or}
+use Rattle.tap_log.specs.declared.record.Record.TheVariants.{Begin, Carrier}
+use Rattle.tap_log.specs.Kinds.{asked_ticket, begun_cast, is_carried, packet_number, sent_number, step_of}
+use Rattle.tap_log.specs.Log.{EachFrom, EachRecord, begun_steps, last_of}
+use Rattle.tap_log.specs.Counts.{cast_count, resends_after, resent_count, resent_from, sent_count, ticket_count}
+use Rattle.tap_log.specs.Frames.{bytes_of, sent_bytes}
+use Rattle.tap_log.specs.Laws.{OneMoreRecord, at_most_one}
+use Rattle.tap_log.specs.Laws.{first_of_both, is_resending}
+
+-- what the records tell, with one more
+pub filter_map-push : {Y : Type 0} (h : Record → Option Y) (log : List Record) (item : Record)
+    → filter_map h (log ++ item ∷ []) ≡ filter_map h log ++ at_most_one (h item)
+filter_map-push h log item = filter_map-append h log (item ∷ [])
+
+pub filter_map-same : {Y : Type 0} (h : Record → Option Y) (log : List Record) (item : Record) → h item ≡ None
+    → filter_map h (log ++ item ∷ []) ≡ filter_map h log
+filter_map-same h log item none = filter_map-push h log item ∙ ap (λ o. filter_map h log ++ at_most_one o) none ∙ append-nil (filter_map h log)
 
 pub last_of-push : (log : List Record) (item : Record) → last_of (log ++ item ∷ []) ≡ Some item
 last_of-push [] item = refl
@@ -37,11 +39,7 @@ pub EachRecord-push : (P : List Record → Record → Type 0) (log : List Record
     → EachRecord P (log ++ item ∷ [])
 EachRecord-push P log item each p = EachFrom-push P [] log item each p
 
-pub one_before : {X : Type 0} (one : Option X) (xs ys : List X) → cons_option one (xs ++ ys) ≡ cons_option one xs ++ ys
-one_before None xs ys = refl
-one_before (Some x) xs ys = refl
-
--- ---- the beginning
+-- ---- whether the log is carried
 
 pub carried_alone : (item : Record) → is_carried (item ∷ []) ≡ false
 unfolding is_carried
@@ -69,287 +67,75 @@ is_carried-push [] item other = carried_alone item ∙ sym carried_none
 is_carried-push (first ∷ []) item other = carried_second first item other ∙ sym (carried_alone first)
 is_carried-push (first ∷ next ∷ items) item other = carried_third first next (items ++ item ∷ []) items
 
-members_of-push : (log : List Record) (item : Record) → members_in item ≡ [] → members_of (log ++ item ∷ []) ≡ members_of log
-members_of-push [] item none = none
-members_of-push (first ∷ items) item none = refl
-
 -- ---- steps
 
-pub steps_of-push : (log : List Record) (item : Record) → steps_of (log ++ item ∷ []) ≡ steps_of log ++ at_most_one (step_of item)
-steps_of-push = told step_of
-
--- ---- accepted steps
-
-accepted_in-push : (carried : Bool) (log : List Record) (item : Record)
-    → accepted_in carried (log ++ item ∷ []) ≡ accepted_in carried log ++ accepted_behind carried (last_of log) item
-accepted_in-push carried [] item = refl
-accepted_in-push carried (first ∷ []) item = refl
-accepted_in-push carried (first ∷ next ∷ items) item =
-    ap (λ l. cons_option (accepted_step carried (first, next)) l) (accepted_in-push carried (next ∷ items) item)
-    ∙ one_before (accepted_step carried (first, next)) (accepted_in carried (next ∷ items))
-    (accepted_behind carried (last_of (next ∷ items)) item)
-
--- a `Carrier` behind the first record accepts its step, be the log carried by it or not
-carrier_accepts : (one other : Bool) (first : Record) → accepted_step one (first, Carrier) ≡ accepted_step other (first, Carrier)
-unfolding accepted_step accepts begins_group
-carrier_accepts one other first = refl
-
-pub accepted_steps-push : (log : List Record) (item : Record)
-    → accepted_steps (log ++ item ∷ []) ≡ accepted_steps log ++ accepted_by log item
-accepted_steps-push [] Carrier = refl
-accepted_steps-push (first ∷ []) Carrier = ap at_most_one
-    (carrier_accepts (is_carried (first ∷ Carrier ∷ [])) (is_carried (first ∷ [])) first)
-accepted_steps-push (first ∷ next ∷ items) Carrier =
-    ap (λ b. accepted_in b (first ∷ next ∷ (items ++ Carrier ∷ []))) (carried_third first next (items ++ Carrier ∷ []) items)
-    ∙ accepted_in-push (is_carried (first ∷ next ∷ items)) (first ∷ next ∷ items) Carrier
-accepted_steps-push log item =
-    ap (λ b. accepted_in b (log ++ item ∷ [])) (is_carried-push log item (λ h. cc)) ∙ accepted_in-push (is_carried log) log item
-
-named-push : (h : Step → Option (List ℕ)) (log : List Record) (item : Record)
-    → filter_map h (accepted_steps (log ++ item ∷ [])) ≡ filter_map h (accepted_steps log) ++ filter_map h (accepted_by log item)
-named-push h log item =
-    ap (filter_map h) (accepted_steps-push log item) ∙ filter_map-append h (accepted_steps log) (accepted_by log item)
-
--- ---- those who take part
-
-pub core_of-first : (item : Record) → gone_name item ≡ None → core_name item ≡ None → core_of (item ∷ []) ≡ members_in item
-core_of-first item stays none =
-    ap (λ o. names_less (members_in item ++ at_most_one (core_name item)) (at_most_one o)) stays
-    ∙ ap (λ o. names_less (members_in item ++ at_most_one o) []) none
-    ∙ less_by-none (pointwise nat_eq) (members_in item ++ []) ∙ append-nil (members_in item)
-
-pub came-push : (came told new gone ended : List (List ℕ)) (all all_gone : List (List ℕ)) → all ≡ (came ++ told) ++ new
-    → all_gone ≡ gone ++ ended
-    → names_less all all_gone ≡ names_less (names_less (came ++ told) gone ++ names_less new gone) ended
-came-push came told new gone ended all all_gone is is_gone =
-    ap (λ l. names_less l all_gone) is ∙ ap (λ l. names_less ((came ++ told) ++ new) l) is_gone
-    ∙ less_by-more (pointwise nat_eq) (came ++ told) new gone ended
-
-pub core_of-push : (log : List Record) (item : Record) → members_in item ≡ []
-    → core_of (log ++ item ∷ []) ≡ names_less (core_of log ++ names_less (at_most_one (core_name item)) (gone_of log))
-    (at_most_one (gone_name item))
-core_of-push log item none =
-    came-push (members_of log) (filter_map core_name log) (at_most_one (core_name item)) (gone_of log) (at_most_one (gone_name item))
-    (members_of (log ++ item ∷ []) ++ filter_map core_name (log ++ item ∷ [])) (gone_of (log ++ item ∷ []))
-    (ap (λ l. l ++ filter_map core_name (log ++ item ∷ [])) (members_of-push log item none)
-    ∙ ap (λ l. members_of log ++ l) (told core_name log item)
-    ∙ sym (append_assoc (members_of log) (filter_map core_name log) (at_most_one (core_name item))))
-    (told gone_name log item)
-
--- the beginning gives its members
-pub core_of-begin : (settings : SettingsValue) (frames : ℕ) (members : List (List ℕ))
-    → core_of (Begin settings frames members ∷ []) ≡ members
-unfolding members_in core_name gone_name
-core_of-begin settings frames members = core_of-first (Begin settings frames members) refl refl
-
--- a record that tells of no core node changes nothing
-pub core_of-same : (log : List Record) (item : Record) → members_in item ≡ [] → core_name item ≡ None → gone_name item ≡ None
-    → core_of (log ++ item ∷ []) ≡ core_of log
-core_of-same log item none no_core stays =
-    core_of-push log item none
-    ∙ ap (λ o. names_less (core_of log ++ names_less (at_most_one o) (gone_of log)) (at_most_one (gone_name item))) no_core
-    ∙ ap (λ o. names_less (core_of log ++ []) (at_most_one o)) stays
-    ∙ less_by-none (pointwise nat_eq) (core_of log ++ []) ∙ append-nil (core_of log)
-
--- a record that makes no node core and takes none away
-abbrev pub leaves_nodes : Record → Bool
-leaves_nodes (Begin settings frames members) = false
-leaves_nodes (Core name) = false
-leaves_nodes (Gone name) = false
-leaves_nodes item = true
-
-no_members : (item : Record) → leaves_nodes item ≡ true → members_in item ≡ []
-unfolding members_in
-no_members (Begin settings frames members) is = absurd (cc)
-no_members item is = refl
-
-no_core : (item : Record) → leaves_nodes item ≡ true → core_name item ≡ None
-unfolding core_name
-no_core (Core name) is = absurd (cc)
-no_core item is = refl
-
-no_gone : (item : Record) → leaves_nodes item ≡ true → gone_name item ≡ None
-unfolding gone_name
-no_gone (Gone name) is = absurd (cc)
-no_gone item is = refl
-
-pub core_of-left : (log : List Record) (item : Record) → leaves_nodes item ≡ true → core_of (log ++ item ∷ []) ≡ core_of log
-core_of-left log item leaves = core_of-same log item (no_members item leaves) (no_core item leaves) (no_gone item leaves)
-
-pub joined_of-push : (log : List Record) (item : Record) → members_in item ≡ []
-    → joined_of (log ++ item ∷ []) ≡ names_less (joined_of log ++ names_less (filter_map join_name (accepted_by log item)) (gone_of log))
-    (at_most_one (gone_name item))
-joined_of-push log item none =
-    came-push (members_of log) (joins_of log) (filter_map join_name (accepted_by log item)) (gone_of log) (at_most_one (gone_name item))
-    (members_of (log ++ item ∷ []) ++ joins_of (log ++ item ∷ [])) (gone_of (log ++ item ∷ []))
-    (ap (λ l. l ++ joins_of (log ++ item ∷ [])) (members_of-push log item none)
-    ∙ ap (λ l. members_of log ++ l) (named-push join_name log item)
-    ∙ sym (append_assoc (members_of log) (joins_of log) (filter_map join_name (accepted_by log item))))
-    (told gone_name log item)
-
-ceased_of-push : (log : List Record) (item : Record)
-    → ceased_of (log ++ item ∷ []) ≡ filter (has_name (gone_of log ++ at_most_one (gone_name item)))
-    (abandoned_of log ++ at_most_one (abandoned_name item))
-ceased_of-push log item =
-    ap (λ l. filter (has_name l) (abandoned_of (log ++ item ∷ []))) (told gone_name log item)
-    ∙ ap (filter (has_name (gone_of log ++ at_most_one (gone_name item)))) (told abandoned_name log item)
-
--- ---- frames and packets
-
-numbers-push : (h k : Record → Option ℕ) (log : List Record) (item : Record)
-    → numbers_less (filter_map h (log ++ item ∷ [])) (filter_map k (log ++ item ∷ []))
-    ≡ numbers_less (numbers_less (filter_map h log) (filter_map k log) ++ numbers_less (at_most_one (h item)) (filter_map k log))
-    (at_most_one (k item))
-numbers-push h k log item =
-    ap (λ l. numbers_less l (filter_map k (log ++ item ∷ []))) (told h log item)
-    ∙ ap (λ l. numbers_less (filter_map h log ++ at_most_one (h item)) l) (told k log item)
-    ∙ less_by-more nat_eq (filter_map h log) (at_most_one (h item)) (filter_map k log) (at_most_one (k item))
-
-pub outstanding-push : (log : List Record) (item : Record)
-    → outstanding (log ++ item ∷ [])
-    ≡ numbers_less (outstanding log ++ numbers_less (at_most_one (sent_number item)) (filter_map taken_number log))
-    (at_most_one (taken_number item))
-outstanding-push log item = numbers-push sent_number taken_number log item
-
-pub under_way-push : (log : List Record) (item : Record)
-    → under_way (log ++ item ∷ [])
-    ≡ numbers_less (under_way log ++ numbers_less (at_most_one (packet_number item)) (filter_map ended_number log))
-    (at_most_one (ended_number item))
-under_way-push log item = numbers-push packet_number ended_number log item
-
--- ---- published pairs
-
-pub pair_cases : (a b : Bool) (pair : Pair) (pairs ended : List Pair) → has_pair ended pair ≡ b
-    → cons_option (if a || b then None else Some pair) (pairs_less pairs ended)
-    ≡ pairs_less (cons_option (if a then None else Some pair) pairs) ended
-pair_cases true b pair pairs ended is = refl
-pair_cases false true pair pairs ended is = sym (ap
-    (λ c. cond {A = List Pair} (not c) (pair ∷ pairs_less pairs ended) (pairs_less pairs ended)) is)
-pair_cases false false pair pairs ended is = sym (ap
-    (λ c. cond {A = List Pair} (not c) (pair ∷ pairs_less pairs ended) (pairs_less pairs ended)) is)
-
-pair_here : (later : List Record) (item : Record) (published : Option Pair) (pairs : List Pair)
-    → cons_option (unwithdrawn_pair published (later ++ item ∷ [])) (pairs_less pairs (at_most_one (withdrawn_pair item)))
-    ≡ pairs_less (cons_option (unwithdrawn_pair published later) pairs) (at_most_one (withdrawn_pair item))
-pair_here later item None pairs = refl
-pair_here later item (Some pair) pairs =
-    let ended = at_most_one (withdrawn_pair item) in
-    let told = ap (λ l. has_pair l pair) (told withdrawn_pair later item)
-    ∙ list_any-append (λ other. same_pair other pair) (filter_map withdrawn_pair later) ended in
-    ap (λ b. cons_option (if b then None else Some pair) (pairs_less pairs ended)) told
-    ∙ pair_cases (has_pair (filter_map withdrawn_pair later) pair) (has_pair ended pair) pair pairs ended refl
-
-alone : (published : Option Pair) → cons_option (unwithdrawn_pair published []) [] ≡ at_most_one published
-alone None = refl
-alone (Some pair) = refl
-
-unwithdrawn_pairs-push : (log : List Record) (item : Record)
-    → unwithdrawn_pairs (log ++ item ∷ [])
-    ≡ pairs_less (unwithdrawn_pairs log) (at_most_one (withdrawn_pair item)) ++ at_most_one (published_pair item)
-unwithdrawn_pairs-push [] item = alone (published_pair item)
-unwithdrawn_pairs-push (first ∷ items) item =
-    let ended = at_most_one (withdrawn_pair item) in
-    ap (cons_option (unwithdrawn_pair (published_pair first) (items ++ item ∷ []))) (unwithdrawn_pairs-push items item)
-    ∙ one_before (unwithdrawn_pair (published_pair first) (items ++ item ∷ [])) (pairs_less (unwithdrawn_pairs items) ended)
-    (at_most_one (published_pair item))
-    ∙ ap (λ l. l ++ at_most_one (published_pair item)) (pair_here items item (published_pair first) (unwithdrawn_pairs items))
-
-pub servers-more : (servers more : List (List ℕ)) (pairs : List Pair)
-    → without_servers (servers ++ more) pairs ≡ without_servers more (without_servers servers pairs)
-servers-more servers more pairs =
-    filter-twice (λ pair. not (has_name servers pair.server)) (λ pair. not (has_name more pair.server))
-    (λ pair. not (has_name (servers ++ more) pair.server))
-    (λ pair. ap not (list_any-append (λ other. pointwise nat_eq other pair.server) servers more)
-    ∙ not_or (has_name servers pair.server) (has_name more pair.server)) pairs
-
-pub published_of-push : (log : List Record) (item : Record)
-    → published_of (log ++ item ∷ []) ≡ without_servers (filter_map depart_name (accepted_by log item))
-    (pairs_less (published_of log) (at_most_one (withdrawn_pair item))
-    ++ without_servers (departures_of log) (at_most_one (published_pair item)))
-published_of-push log item =
-    let gone = departures_of log in
-    let more = filter_map depart_name (accepted_by log item) in
-    let ended = at_most_one (withdrawn_pair item) in
-    let new = at_most_one (published_pair item) in
-    ap (λ l. without_servers l (unwithdrawn_pairs (log ++ item ∷ []))) (named-push depart_name log item)
-    ∙ ap (without_servers (gone ++ more)) (unwithdrawn_pairs-push log item)
-    ∙ servers-more gone more (pairs_less (unwithdrawn_pairs log) ended ++ new)
-    ∙ ap (without_servers more) (filter-append (λ pair. not (has_name gone pair.server)) (pairs_less (unwithdrawn_pairs log) ended) new)
-    ∙ ap (λ l. without_servers more (l ++ without_servers gone new))
-    (filter-swaps (λ pair. not (has_name gone pair.server)) (λ pair. not (has_pair ended pair)) (unwithdrawn_pairs log))
+pub begun_steps-push : (log : List Record) (item : Record) → begun_steps (log ++ item ∷ []) ≡ begun_steps log ++ at_most_one (step_of item)
+begun_steps-push = filter_map-push step_of
 
 -- ---- counts
 
+counted : {Y : Type 0} (h : Record → Option Y) (log : List Record) (item : Record)
+    → length (filter_map h (log ++ item ∷ [])) ≡ length (filter_map h log) + length (at_most_one (h item))
+counted h log item = ap length (filter_map-push h log item) ∙ length-append (filter_map h log) (at_most_one (h item))
+
 pub sent_count-push : (log : List Record) (item : Record)
     → sent_count (log ++ item ∷ []) ≡ sent_count log + length (at_most_one (sent_number item))
-sent_count-push log item = ap length (told sent_number log item)
-    ∙ length-append (filter_map sent_number log) (at_most_one (sent_number item))
+sent_count-push = counted sent_number
 
-pub join_count-push : (log : List Record) (item : Record)
-    → join_count (log ++ item ∷ []) ≡ join_count log + length (filter_map join_name (accepted_by log item))
-join_count-push log item = ap length (named-push join_name log item)
-    ∙ length-append (joins_of log) (filter_map join_name (accepted_by log item))
+pub ticket_count-push : (log : List Record) (item : Record)
+    → ticket_count (log ++ item ∷ []) ≡ ticket_count log + length (at_most_one (asked_ticket item))
+ticket_count-push = counted asked_ticket
 
-pub names_of-push : (log : List Record) (item : Record) → members_in item ≡ []
-    → names_of (log ++ item ∷ []) ≡ fold with_name (names_of log) (filter_map join_name (accepted_by log item))
-names_of-push log item none =
-    let new = filter_map join_name (accepted_by log item) in
-    ap (λ l. fold with_name [] (l ++ joins_of (log ++ item ∷ []))) (members_of-push log item none)
-    ∙ ap (λ l. fold with_name [] (members_of log ++ l)) (named-push join_name log item)
-    ∙ ap (fold with_name []) (sym (append_assoc (members_of log) (joins_of log) new))
-    ∙ fold-append with_name [] (members_of log ++ joins_of log) new
+pub cast_count-push : (log : List Record) (item : Record)
+    → cast_count (log ++ item ∷ []) ≡ cast_count log + length (at_most_one (begun_cast item))
+cast_count-push = counted begun_cast
 
--- ---- the beginning alone
+-- the packets that records make once more, after other records
+pub resent_from-append : (before : Bool) (log more : List Record)
+    → resent_from before (log ++ more) ≡ resent_from before log + resent_from (fold resends_after before log) more
+resent_from-append before [] more = refl
+resent_from-append before (first ∷ items) more =
+    let one = (if before && is_some (packet_number first) then 1 else 0) in
+    let after = resends_after before first in
+    let rest = resent_from-append after items more in
+    let e : one + resent_from after (items ++ more) ≡ (one + resent_from after items) + resent_from (fold resends_after after items) more =
+    omega (arith, rest) in e
 
-all_names : (names : List (List ℕ)) → names_less (names ++ []) [] ≡ names
-all_names names = less_by-none (pointwise nat_eq) (names ++ []) ∙ append-nil names
+pub resent_count-push : (log : List Record) (item : Record)
+    → resent_count (log ++ item ∷ []) ≡ resent_count log + (if is_resending log && is_some (packet_number item) then 1 else 0)
+resent_count-push log item =
+    let one = (if is_resending log && is_some (packet_number item) then 1 else 0) in
+    let e : one + 0 ≡ one = omega arith in
+    resent_from-append false log (item ∷ []) ∙ ap (λ n. resent_count log + n) e
 
-begins_new : (settings : SettingsValue) (frames : ℕ) (members : List (List ℕ)) → IsNew members (Begin settings frames members ∷ [])
-unfolding is_carried members_in core_name gone_name published_pair withdrawn_pair sent_number taken_number
-begins_new settings frames members =
-    record {
-      accepted = refl;
-      core = all_names members;
-      joined = all_names members;
-      published = refl;
-      departing = refl;
-      names = ap (fold with_name []) (append-nil members);
-    }
+pub is_resending-push : (log : List Record) (item : Record)
+    → is_resending (log ++ item ∷ []) ≡ resends_after (is_resending log) item
+is_resending-push log item = fold-append resends_after false log (item ∷ [])
 
-begins_carried : (settings : SettingsValue) (frames : ℕ) (members : List (List ℕ))
-    → IsNew members (Begin settings frames members ∷ Carrier ∷ [])
-unfolding is_carried begins_group accepts accepted_step members_in core_name gone_name published_pair withdrawn_pair sent_number
-    taken_number
-begins_carried settings frames members =
-    record {
-      accepted = refl;
-      core = all_names members;
-      joined = all_names members;
-      published = refl;
-      departing = refl;
-      names = ap (fold with_name []) (append-nil members);
-    }
+-- ---- the bytes of frames
+
+first_added : {X : Type 0} (xs : List X) (one : Option X)
+    → slice_get (xs ++ at_most_one one) 0 ≡ first_of_both (slice_get xs 0) one
+first_added [] None = refl
+first_added [] (Some x) = refl
+first_added (x ∷ xs) one = refl
+
+pub bytes_of-push : (log : List Record) (item : Record) (number : ℕ)
+    → bytes_of (log ++ item ∷ []) number ≡ first_of_both (bytes_of log number) (sent_bytes number item)
+bytes_of-push log item number =
+    ap (λ l. slice_get l 0) (filter_map-push (sent_bytes number) log item) ∙ first_added (filter_map (sent_bytes number) log) (sent_bytes number item)
 
 -- ---- the law
 
 pub one_more_record_holds : OneMoreRecord
 one_more_record_holds =
     record {
-      begins = begins_new;
-      begins_carried = begins_carried;
       carried = is_carried-push;
-      steps = steps_of-push;
-      accepted = accepted_steps-push;
-      core = core_of-push;
-      joined = joined_of-push;
-      abandoned = told abandoned_name;
-      ceased = ceased_of-push;
-      frames = outstanding-push;
-      packets = under_way-push;
-      awaits = awaiting-push;
-      arrives = awaiting-arrived;
-      published = published_of-push;
+      steps = begun_steps-push;
       sent = sent_count-push;
-      joins = join_count-push;
-      names = names_of-push;
+      tickets = ticket_count-push;
+      casts = cast_count-push;
+      resent = resent_count-push;
+      resending = is_resending-push;
+      bytes = bytes_of-push;
     }

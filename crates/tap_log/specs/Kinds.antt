@@ -1,17 +1,16 @@
--- What the beginning of a log, single records and single steps say.
+-- What the beginning of a log and single records say.
 use Rattle.std.specs.Prelude.{ℕ, Bool, true, false, not, List, [], ◌∷◌, Option, None, Some}
 use Rattle.tap_scenario.specs.declared.step.Step.{Step}
-use Rattle.tap_scenario.specs.declared.step.Step.TheVariants.{Join, Depart}
 use Rattle.tap_log.specs.declared.record.Pair.{Pair}
 use Rattle.tap_log.specs.declared.record.Record.{Record}
-use Rattle.tap_log.specs.declared.record.Record.TheVariants.{Begin, Step as StepRecord, Sent, Taken, Core, Gone, Published, Withdrawn, Refused, Spent, Abandoned, Carrier, Packet, Arrived, Ticked, Lost}
+use Rattle.tap_log.specs.declared.record.Record.TheVariants.{Begin, Step as StepRecord, Sent, Taken, Core, Gone, Published, Withdrawn, Refused, Spent, Abandoned, Carrier, Packet, Arrived, Ticked, Lost, Asked, CastFrom}
 
 -- the members of a `Begin` record
-unfoldable pub members_in : Record → List (List ℕ)
-members_in (Begin settings frames members) = members
-members_in other = []
+unfoldable pub begin_members : Record → List (List ℕ)
+begin_members (Begin settings frames members) = members
+begin_members other = []
 
--- a log is carried where `Carrier` stands behind `Begin`
+-- a log is carried if `Carrier` stands after `Begin`
 unfoldable pub is_carried : List Record → Bool
 is_carried (Begin settings frames members ∷ Carrier ∷ items) = true
 is_carried other = false
@@ -30,7 +29,7 @@ begins_group carried (Arrived packet) = carried
 begins_group carried Ticked = carried
 begins_group carried other = false
 
--- The first record behind a step accepts it: it belongs to the step's group, and is neither `Refused` nor `Spent`.
+-- The first record after a step accepts it: it belongs to the step's group, and is neither `Refused` nor `Spent`.
 unfoldable pub accepts : Bool → Record → Bool
 accepts carried (Refused index refusal) = false
 accepts carried (Spent limit) = false
@@ -87,12 +86,12 @@ unfoldable pub withdrawn_pair : Record → Option Pair
 withdrawn_pair (Withdrawn object server) = Some (record { object = object; server = server })
 withdrawn_pair other = None
 
--- the name of the node that a step has join
-unfoldable pub join_name : Step → Option (List ℕ)
-join_name (Join name via) = Some name
-join_name other = None
+-- the number of a lookup that is asked
+unfoldable pub asked_ticket : Record → Option ℕ
+asked_ticket (Asked ticket object asker) = Some ticket
+asked_ticket other = None
 
--- the name of the node that a step has depart
-unfoldable pub depart_name : Step → Option (List ℕ)
-depart_name (Depart name) = Some name
-depart_name other = None
+-- the number of a cast that begins
+unfoldable pub begun_cast : Record → Option ℕ
+begun_cast (CastFrom cast word level name) = Some cast
+begun_cast other = None

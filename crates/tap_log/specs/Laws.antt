@@ -1,164 +1,40 @@
--- What one more record at the end of a log changes, and what one more group does.
-use Rattle.std.specs.Prelude.{◌≡◌, ◌≢◌, ℕ, ◌+◌, ◌<◌, ◌≤◌, All, Bool, false, true, if◌then◌else◌, List, [], ◌∷◌, ◌++◌, length, filter, fold, slice_get, Option, None, Some}
-use Rattle.std.specs.List.{filter_map, cons_option, last_or, range_with_len}
-use Rattle.tap_name.specs.Settings.{SettingsValue}
-use Rattle.tap_scenario.specs.declared.step.Step.{Step}
+-- What one more record at the end of a log changes in what its records tell.
+use Rattle.std.specs.Prelude.{◌≡◌, ◌≢◌, ℕ, ◌+◌, Bool, false, ◌&&◌, if◌then◌else◌, List, [], ◌∷◌, ◌++◌, length, fold, Option, is_some}
+use Rattle.std.specs.List.{cons_option}
 use Rattle.tap_log.specs.declared.record.Record.{Record}
-use Rattle.tap_log.specs.declared.record.Record.TheVariants.{Arrived, Begin, Carrier}
-use Rattle.tap_log.specs.Kinds.{begins_group, is_carried, members_in, step_of, sent_number, taken_number, packet_number, arrived_number, ended_number, core_name, gone_name, abandoned_name, published_pair, withdrawn_pair, join_name, depart_name}
-use Rattle.tap_log.specs.Moments.{acknowledged, acknowledged_by, acknowledged_by_all, awaiting, ends_before, has_number, is_moment, is_still, last_of, numbers_less, outstanding, steps_of, under_way}
-use Rattle.tap_log.specs.Core.{abandoned_of, accepted_in, accepted_step, accepted_steps, ceased_of, core_of, departures_of, gone_of, has_name, joined_of, names_less}
-use Rattle.tap_log.specs.Departing.{departing_of}
-use Rattle.tap_log.specs.Published.{unwithdrawn_pairs, pairs_less, published_of, without_servers}
-use Rattle.tap_log.specs.Frames.{asked_ticket, ticket_count}
-use Rattle.tap_log.specs.Groups.{after_beginning, beginning_of, ending_of, groups_of, is_ended, is_ending, is_lengthened, moments_of, records_of}
-use Rattle.tap_log.specs.Counts.{join_count, names_of, sent_count, with_name}
+use Rattle.tap_log.specs.declared.record.Record.TheVariants.{Carrier}
+use Rattle.tap_log.specs.Kinds.{asked_ticket, begun_cast, is_carried, packet_number, sent_number, step_of}
+use Rattle.tap_log.specs.Log.{begun_steps}
+use Rattle.tap_log.specs.Counts.{cast_count, resends_after, resent_count, sent_count, ticket_count}
+use Rattle.tap_log.specs.Frames.{bytes_of, sent_bytes}
 
 -- the one thing that there may be, as a list
 abbrev pub at_most_one : {X : Type 0} → Option X → List X
 at_most_one one = cons_option one []
 
--- the step that a record behind the last one accepts
-abbrev pub accepted_behind : Bool → Option Record → Record → List Step
-accepted_behind carried None item = []
-accepted_behind carried (Some last) item = at_most_one (accepted_step carried (last, item))
+-- the first one of two things that there may be
+abbrev pub first_of_both : {X : Type 0} → Option X → Option X → Option X
+first_of_both None other = other
+first_of_both (Some x) other = Some x
 
--- the step that one more record accepts
-abbrev pub accepted_by : List Record → Record → List Step
-accepted_by log item = accepted_behind (is_carried log) (last_of log) item
+-- the last step of a log sends packets once more
+abbrev pub is_resending : List Record → Bool
+is_resending log = fold resends_after false log
 
--- what holds of a log that has its beginning alone: the members are core and joined, and nothing has happened
-pub record IsNew (members : List (List ℕ)) (log : List Record) : Type 0 where
-  pub accepted : accepted_steps log ≡ []
-  pub core : core_of log ≡ members
-  pub joined : joined_of log ≡ members
-  pub published : published_of log ≡ []
-  pub departing : departing_of log ≡ None
-  pub names : names_of log ≡ fold with_name [] members
-
--- The beginning gives the members. Of one more record, which gives none, what it tells is added, and what it ends is taken away.
+-- One more record adds what it tells; a frame that was sent keeps its bytes.
 pub record OneMoreRecord : Type 0 where
-  pub begins : (settings : SettingsValue) (frames : ℕ) (members : List (List ℕ)) → IsNew members (Begin settings frames members ∷ [])
-  pub begins_carried : (settings : SettingsValue) (frames : ℕ) (members : List (List ℕ))
-      → IsNew members (Begin settings frames members ∷ Carrier ∷ [])
   pub carried : (log : List Record) (item : Record) → item ≢ Carrier → is_carried (log ++ item ∷ []) ≡ is_carried log
-  pub steps : (log : List Record) (item : Record) → steps_of (log ++ item ∷ []) ≡ steps_of log ++ at_most_one (step_of item)
-  pub accepted : (log : List Record) (item : Record)
-      → accepted_steps (log ++ item ∷ []) ≡ accepted_steps log ++ accepted_by log item
-  pub core : (log : List Record) (item : Record) → members_in item ≡ []
-      → core_of (log ++ item ∷ [])
-      ≡ names_less (core_of log ++ names_less (at_most_one (core_name item)) (gone_of log)) (at_most_one (gone_name item))
-  pub joined : (log : List Record) (item : Record) → members_in item ≡ []
-      → joined_of (log ++ item ∷ [])
-      ≡ names_less (joined_of log ++ names_less (filter_map join_name (accepted_by log item)) (gone_of log)) (at_most_one (gone_name item))
-  pub abandoned : (log : List Record) (item : Record)
-      → abandoned_of (log ++ item ∷ []) ≡ abandoned_of log ++ at_most_one (abandoned_name item)
-  pub ceased : (log : List Record) (item : Record)
-      → ceased_of (log ++ item ∷ [])
-      ≡ filter (has_name (gone_of log ++ at_most_one (gone_name item))) (abandoned_of log ++ at_most_one (abandoned_name item))
-  pub frames : (log : List Record) (item : Record)
-      → outstanding (log ++ item ∷ [])
-      ≡ numbers_less (outstanding log ++ numbers_less (at_most_one (sent_number item)) (filter_map taken_number log))
-      (at_most_one (taken_number item))
-  pub packets : (log : List Record) (item : Record)
-      → under_way (log ++ item ∷ [])
-      ≡ numbers_less (under_way log ++ numbers_less (at_most_one (packet_number item)) (filter_map ended_number log))
-      (at_most_one (ended_number item))
-  pub awaits : (log : List Record) (item : Record) → arrived_number item ≡ None
-      → awaiting (log ++ item ∷ [])
-      ≡ numbers_less (awaiting log ++ numbers_less (at_most_one (sent_number item)) (acknowledged log))
-      (at_most_one (acknowledged_by (filter_map arrived_number log) item))
-  pub arrives : (log : List Record) (packet : ℕ)
-      → awaiting (log ++ Arrived packet ∷ []) ≡ numbers_less (awaiting log) (acknowledged_by_all (packet ∷ []) log)
-  pub published : (log : List Record) (item : Record)
-      → published_of (log ++ item ∷ []) ≡ without_servers (filter_map depart_name (accepted_by log item))
-      (pairs_less (published_of log) (at_most_one (withdrawn_pair item))
-      ++ without_servers (departures_of log) (at_most_one (published_pair item)))
+  pub steps : (log : List Record) (item : Record) → begun_steps (log ++ item ∷ []) ≡ begun_steps log ++ at_most_one (step_of item)
   pub sent : (log : List Record) (item : Record)
       → sent_count (log ++ item ∷ []) ≡ sent_count log + length (at_most_one (sent_number item))
-  pub joins : (log : List Record) (item : Record)
-      → join_count (log ++ item ∷ []) ≡ join_count log + length (filter_map join_name (accepted_by log item))
-  pub names : (log : List Record) (item : Record) → members_in item ≡ []
-      → names_of (log ++ item ∷ []) ≡ fold with_name (names_of log) (filter_map join_name (accepted_by log item))
-
--- the records of one group, behind a log that has begun: the first one begins the group, and none behind it begins another
-pub record IsGroup (log : List Record) (first : Record) (behind : List Record) : Type 0 where
-  pub begun : 1 ≤ length log
-  pub begins : begins_group (is_carried log) first ≡ true
-  pub alone : All (λ item. begins_group (is_carried log) item ≡ false) behind
-
--- The node that is departing once a group has ended: none where no frame is then outstanding; else the one whose departure the
--- group accepts; and where it accepts none, the one that was departing before.
-abbrev pub departing_after : List Record → List Record → Option (List ℕ)
-departing_after log group =
-    (if is_still (log ++ group) then None else last_or (departing_of log) (filter_map depart_name (accepted_in (is_carried log) group)))
-
--- One more group keeps the moments that there were. Its end is the next one, and no moment is within it.
-pub record OneMoreGroup : Type 0 where
-  pub earlier : (log : List Record) (first : Record) (behind : List Record) → IsGroup log first behind
-      → (m : ℕ) → m ≤ length log → is_moment (log ++ first ∷ behind) m ≡ is_moment log m
-  pub within : (log : List Record) (first : Record) (behind : List Record) → IsGroup log first behind
-      → (m : ℕ) → length log < m → m < length (log ++ first ∷ behind) → is_moment (log ++ first ∷ behind) m ≡ false
-  pub end : (log : List Record) (first : Record) (behind : List Record) → IsGroup log first behind
-      → is_moment (log ++ first ∷ behind) (length (log ++ first ∷ behind)) ≡ true
-  pub departing : (log : List Record) (first : Record) (behind : List Record) → IsGroup log first behind
-      → departing_of (log ++ first ∷ behind) ≡ departing_after log (first ∷ behind)
-
--- the log has its beginning, and after that a group begins or nothing stands
-pub record IsOpened (log : List Record) : Type 0 where
-  pub begun : 1 ≤ length log
-  pub next : ends_before (is_carried log) (slice_get (after_beginning log) 0) ≡ true
-
--- A log is its beginning, its groups and its ending. One that has its beginning alone has no group, and one more whole group is its
--- last one; an ending leaves the groups as they were. The moments of a log without an ending are the ends of its beginning and
--- of each group.
-pub record LogInGroups : Type 0 where
-  pub whole : (log : List Record) → beginning_of log ++ (records_of (groups_of log) ++ ending_of log) ≡ log
-  pub none : (settings : SettingsValue) (frames : ℕ) (members : List (List ℕ)) → groups_of (Begin settings frames members ∷ []) ≡ []
-  pub none_carried : (settings : SettingsValue) (frames : ℕ) (members : List (List ℕ))
-      → groups_of (Begin settings frames members ∷ Carrier ∷ []) ≡ []
-  pub more : (log : List Record) (first : Record) (after : List Record) → IsGroup log first after
-      → is_ended log ≡ false → is_ended (first ∷ after) ≡ false
-      → groups_of (log ++ first ∷ after) ≡ groups_of log ++ (first ∷ after) ∷ []
-  pub ended : (log : List Record) (first : Record) (after : List Record) → 1 ≤ length log → is_ended log ≡ false
-      → is_ending (is_carried log) (first ∷ after) ≡ true
-      → is_lengthened (is_carried log) (last_of (after_beginning log)) (first ∷ after) ≡ false
-      → (groups_of (log ++ first ∷ after) ≡ groups_of log) × (ending_of (log ++ first ∷ after) ≡ first ∷ after)
-  pub moments : (log : List Record) → IsOpened log → is_ended log ≡ false
-      → (m : ℕ) → is_moment log m ≡ has_number (moments_of log) m
-
--- the steps that a group of this log accepts
-abbrev pub accepted_of : List Record → List Record → List Step
-accepted_of log group = accepted_in (is_carried log) group
-
--- Frames are numbered from 0 and tickets from 1, in their order, and no frame is taken that wasn't sent.
-pub record IsNumbered (log : List Record) : Type 0 where
-  pub sent : filter_map sent_number log ≡ range_with_len 0 (sent_count log)
-  pub taken : All (λ number. number < sent_count log) (filter_map taken_number log)
-  pub asked : filter_map asked_ticket log ≡ range_with_len 1 (ticket_count log)
-
--- the records of a group number on, and take frames that were sent before it
-pub record NumbersOn (log group : List Record) : Type 0 where
-  pub sent : filter_map sent_number group ≡ range_with_len (sent_count log) (sent_count group)
-  pub taken : All (λ number. number < sent_count log) (filter_map taken_number group)
-  pub asked : filter_map asked_ticket group ≡ range_with_len (1 + ticket_count log) (ticket_count group)
-
--- What one more group tells is added, and what it ends is taken away. Where frames are numbered on, those that it sends are
--- outstanding, and of the earlier ones those that it doesn't take.
-pub record GroupChanges : Type 0 where
-  pub core : (log : List Record) (first : Record) (after : List Record) → IsGroup log first after
-      → core_of (log ++ first ∷ after)
-      ≡ names_less (core_of log ++ names_less (filter_map core_name (first ∷ after)) (gone_of log)) (gone_of (first ∷ after))
-  pub joined : (log : List Record) (first : Record) (after : List Record) → IsGroup log first after
-      → joined_of (log ++ first ∷ after)
-      ≡ names_less (joined_of log ++ names_less (filter_map join_name (accepted_of log (first ∷ after))) (gone_of log))
-      (gone_of (first ∷ after))
-  pub names : (log : List Record) (first : Record) (after : List Record) → IsGroup log first after
-      → names_of (log ++ first ∷ after) ≡ fold with_name (names_of log) (filter_map join_name (accepted_of log (first ∷ after)))
-  pub published : (log : List Record) (first : Record) (after : List Record) → IsGroup log first after
-      → published_of (log ++ first ∷ after) ≡ without_servers (filter_map depart_name (accepted_of log (first ∷ after)))
-      (pairs_less (published_of log) (filter_map withdrawn_pair (first ∷ after))
-      ++ without_servers (departures_of log) (unwithdrawn_pairs (first ∷ after)))
-  pub frames : (log group : List Record) → IsNumbered log → NumbersOn log group
-      → outstanding (log ++ group) ≡ numbers_less (outstanding log) (filter_map taken_number group) ++ filter_map sent_number group
-  pub numbered : (log group : List Record) → IsNumbered log → NumbersOn log group → IsNumbered (log ++ group)
+  pub tickets : (log : List Record) (item : Record)
+      → ticket_count (log ++ item ∷ []) ≡ ticket_count log + length (at_most_one (asked_ticket item))
+  pub casts : (log : List Record) (item : Record)
+      → cast_count (log ++ item ∷ []) ≡ cast_count log + length (at_most_one (begun_cast item))
+  pub resent : (log : List Record) (item : Record)
+      → resent_count (log ++ item ∷ [])
+      ≡ resent_count log + (if is_resending log && is_some (packet_number item) then 1 else 0)
+  pub resending : (log : List Record) (item : Record)
+      → is_resending (log ++ item ∷ []) ≡ resends_after (is_resending log) item
+  pub bytes : (log : List Record) (item : Record) (number : ℕ)
+      → bytes_of (log ++ item ∷ []) number ≡ first_of_both (bytes_of log number) (sent_bytes number item)

@@ -1,14 +1,7 @@
 pub mod Log
 pub mod Kinds
-pub mod Steps
 pub mod Asked
-pub mod Core
-pub mod Moments
-pub mod Groups
-pub mod Departing
-pub mod Published
-pub mod Counts
 pub mod Frames
+pub mod Counts
 pub mod Reduced
-pub mod Refusals
 pub mod Laws

@@ -1,62 +1,98 @@
-ghost use Rattle.std.specs.Prelude.{◌≡◌, [], fold, IfOk};
-ghost use Rattle.tap_log.specs.Counts.{join_count, name_count, names_of, sent_count, with_name};
+ghost use Rattle.std.specs.Prelude.{◌≡◌, ◌≤◌, ◌&&◌, length, is_some, if◌then◌else◌};
+ghost use Rattle.std.specs.List.{filter_map};
+ghost use Rattle.tap_log.specs.Asked.{number_of};
+ghost use Rattle.tap_log.specs.Counts.{cast_count, resends, resends_after, resent_count, sent_count, ticket_count};
+ghost use Rattle.tap_log.specs.Kinds.{packet_number};
 
-use crate::kinds::Number;
-use crate::log::NoMemory;
-use crate::moments::numbers;
-use crate::nodes::{both, joins, members};
+use crate::kinds::{NumberKind, number_of};
 use crate::record::Record;
-use std::alloc::Global;
-use tap_name::{List, Name};
+use tap_scenario::Step;
 
-/// How many frames were sent.
-///
-/// Rule: docs/FORMATS.md, "Groups and moments".
-pub fn sent_count(alloc: Global, records: &[Record]) -> Result<usize, NoMemory>
-    ensures { IfOk result (λ count. count ≡ sent_count records.now) }
+// How many records tell a number of this kind.
+fn count_of(kind: NumberKind, records: &[Record]) -> usize
+    ensures { result ≡ length (filter_map (number_of kind) records.now) }
 {
-    Ok(numbers(alloc, Number::Sent, records)?.len())
+    records
+        .iter()
+        .filter_map(|item| number_of(kind, item))
+        .count()
 }
 
-/// How many joins were accepted.
+/// How many frames were sent. It goes over the records once.
 ///
 /// Rule: docs/FORMATS.md, "Groups and moments".
-pub fn join_count(alloc: Global, records: &[Record]) -> Result<usize, NoMemory>
-    ensures { IfOk result (λ count. count ≡ join_count records.now) }
+pub fn sent_count(records: &[Record]) -> usize
+    ensures { result ≡ sent_count records.now }
 {
-    Ok(joins(alloc, records)?.len())
+    count_of(NumberKind::Sent, records)
 }
 
-// These names, each once.
-fn each_once(alloc: Global, names: &[Name]) -> Result<Vec<Name>, NoMemory>
-    ensures { IfOk result (λ once. once.items ≡ fold with_name [] names.now) }
+/// How many lookups were asked. Their tickets count from 1.
+///
+/// Rule: docs/FORMATS.md, "The printed text".
+pub fn ticket_count(records: &[Record]) -> usize
+    ensures { result ≡ ticket_count records.now }
 {
-    let mut once = Vec::new(alloc);
-    for name in names {
-        if !once.contains(name) {
-            once.push(*name)?;
-        }
+    count_of(NumberKind::Asked, records)
+}
+
+/// How many casts began. They are numbered from 1.
+///
+/// Rule: docs/FORMATS.md, "The printed text".
+pub fn cast_count(records: &[Record]) -> usize
+    ensures { result ≡ cast_count records.now }
+{
+    count_of(NumberKind::Cast, records)
+}
+
+// Whether the step sends packets once more.
+#[tactic(auto, unfolding(crate::specs::Counts::resends))]
+fn resends(step: &Step) -> bool
+    ensures { result ≡ resends step.now }
+{
+    match step {
+        Step::Tick | Step::Repeat { .. } => true,
+        _ => false,
     }
-    Ok(once)
 }
 
-/// The names that were ever members or joined, each once. This is for tests and small logs: it takes memory, and time that
-/// grows with the square of their number.
-///
-/// Rule: docs/FORMATS.md, "Groups and moments".
-pub fn names_at(alloc: Global, records: &[Record]) -> Result<List<Name>, NoMemory>
-    ensures { IfOk result (λ names. names ≡ names_of records.now) }
+// Whether the last step sends packets once more, after one more record.
+#[tactic(auto, unfolding(crate::specs::Counts::resends_after))]
+fn resends_after(before: bool, item: &Record) -> bool
+    ensures { result ≡ resends_after before item.now }
 {
-    let joins = joins(alloc, records)?;
-    let all = both(alloc, members(records), joins.as_slice())?;
-    Ok(List::from_vec(each_once(alloc, all.as_slice())?))
+    match item {
+        Record::Step { step, .. } => resends(step),
+        _ => before,
+    }
 }
 
-/// How many names were ever members or joined.
-///
-/// Rule: docs/FORMATS.md, "Groups and moments".
-pub fn name_count(alloc: Global, records: &[Record]) -> Result<usize, NoMemory>
-    ensures { IfOk result (λ count. count ≡ name_count records.now) }
+// One more, if the record is a packet that is made once more.
+fn resent_by(before: bool, item: &Record) -> usize
+    ensures value { result ≡ (if before && is_some (packet_number item.now) then 1 else 0) }
+    ensures most { result ≤ 1 }
 {
-    Ok(names_at(alloc, records)?.len())
+    if !before {
+        return 0;
+    }
+    match number_of(NumberKind::Made, item) {
+        Some(_) => 1,
+        None => 0,
+    }
+}
+
+/// How many packets the steps `tick` and `repeat` made. Those that a settle makes anew don't count.
+///
+/// Rule: docs/FORMATS.md, "The printed text".
+pub fn resent_count(records: &[Record]) -> usize
+    ensures value { result ≡ resent_count records.now }
+    ensures most { result ≤ length records.now }
+{
+    let mut count = 0;
+    let mut resends = false;
+    for item in records {
+        count += resent_by(resends, item);
+        resends = resends_after(resends, item);
+    }
+    count
 }

@@ -1,24 +1,17 @@
 ghost use Rattle.std.specs.Prelude.{◌≡◌};
-ghost use Rattle.tap_log.specs.Kinds.{
-  is_carried,
-  step_of,
-  begins_group,
-  accepts,
-  published_pair,
-  withdrawn_pair,
-  join_name,
-  depart_name,
-};
+ghost use Rattle.tap_log.specs.Kinds.{accepts, begins_group, is_carried, published_pair, step_of, withdrawn_pair};
 ghost use Rattle.tap_log.specs.Asked.{name_of, number_of};
-ghost use Rattle.tap_log.specs.Core.{accepted_step};
+ghost use Rattle.tap_log.specs.Reduced.{is_added};
 
 use crate::record::{Pair, Record};
 use tap_name::Name;
 use tap_scenario::Step;
 
-// Whether the log is carried.
+/// Whether the log is carried: `Carrier` is its second record, after `Begin`.
+///
+/// Rule: docs/FORMATS.md, "Groups and moments".
 #[tactic(auto, unfolding(crate::specs::Kinds::is_carried))]
-pub(crate) fn is_carried(records: &[Record]) -> bool
+pub fn is_carried(records: &[Record]) -> bool
     ensures { result ≡ is_carried records.now }
 {
     match records {
@@ -27,8 +20,10 @@ pub(crate) fn is_carried(records: &[Record]) -> bool
     }
 }
 
-// The step of a `Step` record.
-pub(crate) fn step_of(item: &Record) -> Option<Step>
+/// The step of a `Step` record, `None` exactly for every other record.
+///
+/// Rule: docs/FORMATS.md, "The printed text".
+pub fn step_of(item: &Record) -> Option<Step>
     ensures { result ≡ step_of item.now }
 {
     match item {
@@ -52,7 +47,7 @@ pub fn begins_group(carried: bool, item: &Record) -> bool
     }
 }
 
-/// Whether the first record behind a start accepts it: it is of the start's group, and neither `Refused` nor `Spent`.
+/// Whether the first record after a start accepts it: it is of the start's group, and neither `Refused` nor `Spent`.
 ///
 /// Rule: docs/FORMATS.md, "Groups and moments".
 #[tactic(auto, unfolding(crate::specs::Kinds::accepts))]
@@ -65,81 +60,79 @@ pub fn accepts(carried: bool, next: &Record) -> bool
     }
 }
 
-// The step that a record begins, where the next one accepts it.
-#[tactic(auto, unfolding(crate::specs::Core::accepted_step))]
-pub(crate) fn accepted_step(carried: bool, item: &Record, next: &Record) -> Option<Step>
-    ensures { result ≡ accepted_step carried (item.now, next.now) }
-{
-    if accepts(carried, next) {
-        step_of(item)
-    } else {
-        None
-    }
-}
-
-// Which numbers of records are asked for.
+/// Which numbers of records are asked for.
+///
+/// Rule: docs/FORMATS.md, "The printed text".
 #[derive(Clone, Copy, Debug)]
-pub(crate) enum Number {
-    // Those of the frames that are sent.
+pub enum NumberKind {
+    /// Those of the frames that are sent.
     Sent,
-    // Those of the frames that are taken.
+    /// Those of the frames that are taken.
     Taken,
-    // Those of the packets that are made.
+    /// Those of the packets that are made.
     Made,
-    // Those of the packets that arrive.
+    /// Those of the packets that arrive.
     Arrived,
-    // Those of the packets that arrive or are lost.
+    /// Those of the packets that arrive or are lost.
     Ended,
-    // Those of the lookups that are asked.
+    /// Those of the lookups that are asked.
     Asked,
-    // Those of the casts that begin.
+    /// Those of the casts that begin.
     Cast,
 }
 
-// The number that a record tells.
-#[tactic(auto, unfolding(crate::specs::Kinds::sent_number, crate::specs::Kinds::taken_number, crate::specs::Kinds::packet_number, crate::specs::Kinds::arrived_number, crate::specs::Kinds::ended_number, crate::specs::Frames::asked_ticket, crate::specs::Frames::begun_cast))]
-pub(crate) fn number_of(which: Number, item: &Record) -> Option<u32>
-    ensures { result ≡ number_of which item.now }
+/// The number of this kind that a record tells, `None` exactly if it tells none.
+///
+/// Rule: docs/FORMATS.md, "The printed text".
+#[tactic(auto, unfolding(crate::specs::Kinds::sent_number, crate::specs::Kinds::taken_number, crate::specs::Kinds::packet_number, crate::specs::Kinds::arrived_number, crate::specs::Kinds::ended_number, crate::specs::Kinds::asked_ticket, crate::specs::Kinds::begun_cast))]
+pub fn number_of(kind: NumberKind, item: &Record) -> Option<u32>
+    ensures { result ≡ number_of kind item.now }
 {
-    match (which, item) {
-        (Number::Sent, Record::Sent { number, .. }) => Some(*number),
-        (Number::Taken, Record::Taken { number }) => Some(*number),
-        (Number::Made, Record::Packet { number, .. }) => Some(*number),
-        (Number::Arrived | Number::Ended, Record::Arrived { packet }) => Some(*packet),
-        (Number::Ended, Record::Lost { packet }) => Some(*packet),
-        (Number::Asked, Record::Asked { ticket, .. }) => Some(*ticket),
-        (Number::Cast, Record::CastFrom { cast, .. }) => Some(*cast),
+    match (kind, item) {
+        (NumberKind::Sent, Record::Sent { number, .. }) => Some(*number),
+        (NumberKind::Taken, Record::Taken { number }) => Some(*number),
+        (NumberKind::Made, Record::Packet { number, .. }) => Some(*number),
+        (NumberKind::Arrived | NumberKind::Ended, Record::Arrived { packet }) => Some(*packet),
+        (NumberKind::Ended, Record::Lost { packet }) => Some(*packet),
+        (NumberKind::Asked, Record::Asked { ticket, .. }) => Some(*ticket),
+        (NumberKind::Cast, Record::CastFrom { cast, .. }) => Some(*cast),
         _ => None,
     }
 }
 
-// Which names of records are asked for.
+/// Which names of records are asked for.
+///
+/// Rule: docs/FORMATS.md, "The printed text".
 #[derive(Clone, Copy, Debug)]
-pub(crate) enum Naming {
-    // Those of the nodes that become core.
+pub enum NameKind {
+    /// Those of the nodes that become core.
     Core,
-    // Those of the nodes that are gone.
+    /// Those of the nodes that are gone.
     Gone,
-    // Those of the nodes that are to give up joining.
+    /// Those of the nodes that are to give up joining.
     Abandoned,
 }
 
-// The name that a record tells.
+/// The name of this kind that a record tells, `None` exactly if it tells none.
+///
+/// Rule: docs/FORMATS.md, "The printed text".
 #[tactic(auto, unfolding(crate::specs::Kinds::core_name, crate::specs::Kinds::gone_name, crate::specs::Kinds::abandoned_name))]
-pub(crate) fn name_of(which: Naming, item: &Record) -> Option<Name>
-    ensures { result ≡ name_of which item.now }
+pub fn name_of(kind: NameKind, item: &Record) -> Option<Name>
+    ensures { result ≡ name_of kind item.now }
 {
-    match (which, item) {
-        (Naming::Core, Record::Core { name }) => Some(*name),
-        (Naming::Gone, Record::Gone { name }) => Some(*name),
-        (Naming::Abandoned, Record::Abandoned { name }) => Some(*name),
+    match (kind, item) {
+        (NameKind::Core, Record::Core { name }) => Some(*name),
+        (NameKind::Gone, Record::Gone { name }) => Some(*name),
+        (NameKind::Abandoned, Record::Abandoned { name }) => Some(*name),
         _ => None,
     }
 }
 
-// The pair that is published.
+/// The pair that a record publishes, `None` exactly if it publishes none.
+///
+/// Rule: docs/FORMATS.md, "Groups and moments".
 #[tactic(auto, unfolding(crate::specs::Kinds::published_pair))]
-pub(crate) fn published_pair(item: &Record) -> Option<Pair>
+pub fn published_pair(item: &Record) -> Option<Pair>
     ensures { result ≡ published_pair item.now }
 {
     match item {
@@ -151,9 +144,11 @@ pub(crate) fn published_pair(item: &Record) -> Option<Pair>
     }
 }
 
-// The pair that is withdrawn.
+/// The pair that a record withdraws, `None` exactly if it withdraws none.
+///
+/// Rule: docs/FORMATS.md, "Groups and moments".
 #[tactic(auto, unfolding(crate::specs::Kinds::withdrawn_pair))]
-pub(crate) fn withdrawn_pair(item: &Record) -> Option<Pair>
+pub fn withdrawn_pair(item: &Record) -> Option<Pair>
     ensures { result ≡ withdrawn_pair item.now }
 {
     match item {
@@ -165,26 +160,16 @@ pub(crate) fn withdrawn_pair(item: &Record) -> Option<Pair>
     }
 }
 
-// The name of the node that a step has join.
-#[tactic(auto, unfolding(crate::specs::Kinds::join_name))]
-pub(crate) fn join_name(step: &Step) -> Option<Name>
-    ensures { result ≡ join_name step.now }
-{
-    match step {
-        Step::Join { name, .. } => Some(*name),
-        _ => None,
-    }
-}
-
-/// The name of the node that a step has depart, `None` exactly where it is no departure.
+/// Whether a record is of packets, or tells the roots of salted names: a reduced log is a log without these.
 ///
-/// Rule: docs/FORMATS.md, "The scenario".
-#[tactic(auto, unfolding(crate::specs::Kinds::depart_name))]
-pub fn depart_name(step: &Step) -> Option<Name>
-    ensures { result ≡ depart_name step.now }
+/// Rule: docs/FORMATS.md, "Groups and moments".
+#[tactic(auto, unfolding(crate::specs::Reduced::is_added))]
+pub fn is_added(item: &Record) -> bool
+    ensures { result ≡ is_added item.now }
 {
-    match step {
-        Step::Depart { name } => Some(*name),
-        _ => None,
+    match item {
+        Record::Carrier | Record::Packet { .. } | Record::RootsOf { .. } => true,
+        Record::Arrived { .. } | Record::Ticked | Record::Lost { .. } => true,
+        _ => false,
     }
 }

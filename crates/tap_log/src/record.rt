@@ -3,7 +3,7 @@ use tap_scenario::Step;
 use tap_wire::{Bytes, WireFault};
 
 /// Why a step is refused. A refused step changes nothing, and the run goes on. Of several causes the first one in this
-/// order is told.
+/// order counts.
 ///
 /// Rule: docs/FORMATS.md, "The printed text".
 #[derive(Clone, Copy, Debug, PartialEq, Eq)]
@@ -42,7 +42,7 @@ pub enum Refusal {
     NotInPrefix,
 }
 
-/// What a node is, as its table is told.
+/// What a node is, as its table is printed.
 ///
 /// Rule: docs/FORMATS.md, "The printed text".
 #[derive(Clone, Copy, Debug, PartialEq, Eq)]
@@ -55,7 +55,7 @@ pub enum NodeWord {
     Leaving,
 }
 
-/// What a link is, as a table is told.
+/// What a link is, as a table is printed.
 ///
 /// Rule: docs/FORMATS.md, "The printed text".
 #[derive(Clone, Copy, Debug, PartialEq, Eq)]
@@ -68,7 +68,7 @@ pub enum LinkWord {
     Leaving,
 }
 
-/// A link of a table, as it is told.
+/// A link of a table, as it is printed.
 ///
 /// Rule: docs/FORMATS.md, "The printed text".
 #[derive(Clone, Copy, Debug, PartialEq, Eq)]
@@ -191,7 +191,7 @@ pub enum Record {
     },
     /// The run is carried: frames travel in packets, which may be lost and repeated.
     Carrier,
-    /// A packet is made, for this frame or, where `ack` is true, for its acknowledgement. Packets are numbered from 0.
+    /// A packet is made, for this frame or, if `ack` is true, for its acknowledgement. Packets are numbered from 0.
     Packet {
         number: u32,
         frame: u32,

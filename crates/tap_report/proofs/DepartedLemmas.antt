@@ -6,11 +6,14 @@ use Rattle.std.specs.List.{filter_map, last_or}
 use Rattle.std.proofs.lemmas.List.Elements.{filter_map-append}
 use Rattle.tap_log.specs.declared.record.Record.{Record}
 use Rattle.tap_log.specs.declared.record.Record.TheVariants as rec
-use Rattle.tap_log.specs.Kinds.{accepts, depart_name, is_carried, members_in, step_of}
-use Rattle.tap_log.specs.Core.{accepted_step, accepted_steps, departures_of, members_of}
-use Rattle.tap_log.specs.Laws.{accepted_behind, at_most_one}
-use Rattle.tap_log.specs.Moments.{last_of}
-use Rattle.tap_log.proofs.Growing.{accepted_steps-push, last_of-push}
+use Rattle.tap_log.specs.Kinds.{accepts, begin_members, is_carried, step_of}
+use Rattle.tap_history.specs.Steps.{depart_name}
+use Rattle.tap_history.specs.Core.{accepted_step, accepted_steps, departures_of, members_of}
+use Rattle.tap_history.specs.Laws.{accepted_next}
+use Rattle.tap_log.specs.Laws.{at_most_one}
+use Rattle.tap_log.specs.Log.{last_of}
+use Rattle.tap_history.proofs.Growing.{accepted_steps-push}
+use Rattle.tap_log.proofs.Growing.{last_of-push}
 use Rattle.tap_report.specs.Summary.{departed_after, is_departed, last_departure}
 use Rattle.tap_report.specs.Tally.{accepted_after, asked_by, asked_last, departures_after, departures_known, members_after, opening_after, opening_of, opens_carried}
 use Rattle.tap_report.specs.declared.opening.Opening.TheVariants.{Carried, Plain}
@@ -49,7 +52,7 @@ later_members first (next ∷ items) members item = ap (λ o. members_after o me
 pub members-push : (log : List Record) (item : Record)
     → length (members_of (log ++ item ∷ [])) ≡ members_after (opening_of log) (length (members_of log)) item
 members-push [] item = refl
-members-push (first ∷ items) item = sym (later_members first items (length (members_in first)) item)
+members-push (first ∷ items) item = sym (later_members first items (length (begin_members first)) item)
 
 -- ---- the departure that was accepted last
 
@@ -64,7 +67,7 @@ none_either true = refl
 none_either false = refl
 
 departs_one : (carried : Bool) (last : Option Record) (item : Record)
-    → filter_map depart_name (accepted_behind carried last item) ≡ at_most_one (if accepts carried item then asked_last last else None)
+    → filter_map depart_name (accepted_next carried last item) ≡ at_most_one (if accepts carried item then asked_last last else None)
 unfolding accepted_step
 departs_one carried None item = none_either (accepts carried item)
 departs_one carried (Some last) item = asks_one (accepts carried item) last
@@ -86,7 +89,7 @@ last_departure-push log item =
     let carried = is_carried log in
     let asked = asked_last (last_of log) in
     ap (λ l. last_or None (filter_map depart_name l)) (accepted_steps-push log item)
-    ∙ ap (last_or None) (filter_map-append depart_name (accepted_steps log) (accepted_behind carried (last_of log) item))
+    ∙ ap (last_or None) (filter_map-append depart_name (accepted_steps log) (accepted_next carried (last_of log) item))
     ∙ ap (λ l. last_or None (departures_of log ++ l)) (departs_one carried (last_of log) item)
     ∙ last_more None (if accepts carried item then asked else None) (departures_of log)
     ∙ where_accepted (accepts carried item) asked (last_departure log)

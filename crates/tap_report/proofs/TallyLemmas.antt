@@ -6,14 +6,14 @@ use Rattle.std.proofs.lemmas.List.Sums.{fold-append}
 use Rattle.tap_log.specs.declared.record.Record.{Record}
 use Rattle.tap_log.specs.Kinds.{core_name, sent_number}
 use Rattle.tap_log.specs.Laws.{at_most_one}
-use Rattle.tap_log.proofs.Acknowledging.{told}
+use Rattle.tap_log.proofs.Growing.{filter_map-push}
 use Rattle.tap_report.specs.Summary.{hops_in, is_answered, is_gone}
 use Rattle.tap_report.specs.Tally.{IsWithin, accepted_after, departures_after, departures_known, is_core, is_sent, opening_after, opens_carried, tally_after, tally_of}
 use Rattle.tap_report.specs.declared.opening.Opening.TheVariants.{Nothing}
 use Rattle.tap_report.specs.declared.tally.Tally.{Tally}
 use Rattle.tap_report.proofs.DepartedLemmas.{departures-push, members-push, opening_tells}
 
-counts_one : {Y : Type 0} (told : Option Y) → length (at_most_one told) ≡ cond (is_some told) 1 0
+counts_one : {Y : Type 0} (one : Option Y) → length (at_most_one one) ≡ cond (is_some one) 1 0
 counts_one None = refl
 counts_one (Some y) = refl
 
@@ -21,7 +21,7 @@ counts_one (Some y) = refl
 told_count-push : {Y : Type 0} (h : Record → Option Y) (log : List Record) (item : Record)
     → length (filter_map h (log ++ item ∷ [])) ≡ length (filter_map h log) + cond (is_some (h item)) 1 0
 told_count-push h log item =
-    ap length (told h log item) ∙ length-append (filter_map h log) (at_most_one (h item))
+    ap length (filter_map-push h log item) ∙ length-append (filter_map h log) (at_most_one (h item))
     ∙ ap (λ n. length (filter_map h log) + n) (counts_one (h item))
 
 known-push : (log : List Record) (item : Record)

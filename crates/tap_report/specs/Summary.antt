@@ -6,7 +6,7 @@ use Rattle.tap_name.specs.Settings.{SettingsValue}
 use Rattle.tap_log.specs.declared.record.Record.{Record}
 use Rattle.tap_log.specs.declared.record.Record.TheVariants as rec
 use Rattle.tap_log.specs.Kinds.{core_name}
-use Rattle.tap_log.specs.Core.{departures_of, members_of}
+use Rattle.tap_history.specs.Core.{departures_of, members_of}
 use Rattle.tap_log.specs.Counts.{sent_count}
 use Rattle.tap_report.specs.Shapes.{number_after, line}
 use Rattle.tap_report.specs.declared.mode.Mode.{Mode}

@@ -4,10 +4,11 @@ use Rattle.std.specs.Prelude.{ℕ, ◌+◌, ◌-◌, ◌≤◌, max, List, lengt
 use Rattle.std.specs.Option.{option_or}
 use Rattle.tap_log.specs.declared.record.Record.{Record}
 use Rattle.tap_log.specs.declared.record.Record.TheVariants as rec
-use Rattle.tap_log.specs.Kinds.{accepts, core_name, depart_name, members_in, sent_number}
-use Rattle.tap_log.specs.Core.{members_of}
+use Rattle.tap_log.specs.Kinds.{accepts, begin_members, core_name, sent_number}
+use Rattle.tap_history.specs.Steps.{depart_name}
+use Rattle.tap_history.specs.Core.{members_of}
 use Rattle.tap_log.specs.Counts.{sent_count}
-use Rattle.tap_log.specs.Moments.{last_of}
+use Rattle.tap_log.specs.Log.{last_of}
 use Rattle.tap_report.specs.Summary.{Numbers, answered_count, core_count, departed_count, hops_in, is_answered, is_gone, last_departure, most_hops}
 use Rattle.tap_report.specs.declared.departures.Departures.{Departures}
 use Rattle.tap_report.specs.declared.opening.Opening.{Opening}
@@ -36,7 +37,7 @@ opens_carried opening = false
 
 -- the number of members, with one record more: that of the first record stays
 abbrev pub members_after : Opening → ℕ → Record → ℕ
-members_after Nothing members item = length (members_in item)
+members_after Nothing members item = length (begin_members item)
 members_after opening members item = members
 
 -- ---- departures

@@ -2,7 +2,8 @@ ghost use Rattle.std.specs.Prelude.{◌≡◌, ◌<◌, []};
 ghost use Rattle.tap_report.specs.Summary.{is_gone};
 ghost use Rattle.tap_report.specs.Tally.{accepted_after, asked_by, departures_after, departures_known};
 
-use tap_log::{Record, accepts, depart_name};
+use tap_history::depart_name;
+use tap_log::{Record, accepts};
 use tap_name::Name;
 
 // What is known of departures after some records.

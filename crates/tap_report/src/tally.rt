@@ -1,5 +1,5 @@
 ghost use Rattle.std.specs.Prelude.{◌≡◌, ◌-◌, length, []};
-ghost use Rattle.tap_log.specs.Kinds.{members_in};
+ghost use Rattle.tap_log.specs.Kinds.{begin_members};
 ghost use Rattle.tap_report.specs.Summary.{hops_in, is_answered};
 ghost use Rattle.tap_report.specs.Tally.{IsWithin, is_core, is_sent, members_after, numbers_in, tally_after, tally_of};
 
@@ -73,15 +73,15 @@ fn members_with(opening: Opening, members: usize, item: &Record) -> usize
     ensures { result ≡ members_after opening members item.now }
 {
     match opening {
-        Opening::Nothing => members_in(item),
+        Opening::Nothing => begin_members(item),
         _ => members,
     }
 }
 
 // How many members a record tells.
-#[tactic(auto, unfolding(tap_log::specs::Kinds::members_in))]
-fn members_in(item: &Record) -> usize
-    ensures { result ≡ length (members_in item.now) }
+#[tactic(auto, unfolding(tap_log::specs::Kinds::begin_members))]
+fn begin_members(item: &Record) -> usize
+    ensures { result ≡ length (begin_members item.now) }
 {
     match item {
         Record::Begin { members, .. } => members.len(),

@@ -29,7 +29,7 @@ walked 123 from 000 path 000 230 233 root 233 hops 2
 done 1
 ";
 
-/// The text of that scenario with another line at a place, or as it is where the place is behind the last line.
+/// The text of that scenario with another line at a place, or as it is if the place is after the last line.
 pub(crate) fn with_line(alloc: Global, place: usize, line: &str) -> Result<String, AllocError> {
     let mut text = String::new(alloc);
     for (i, own) in LINES.iter().enumerate() {

@@ -17,10 +17,13 @@ use Rattle.tap_log.specs.declared.record.Record.{Record}
 use Rattle.tap_log.specs.declared.record.Record.TheVariants.{Begin, Step as StepRecord, Walked, RootOf, TableOf, Refused, Finished}
 use Rattle.tap_log.specs.declared.record.Refusal.TheVariants.{NoSuchNode}
 use Rattle.tap_log.specs.declared.record.NodeWord.TheVariants.{Core as CoreWord}
-use Rattle.tap_log.specs.Core.{core_of}
-use Rattle.tap_log.proofs.Instants.{moment-begun, moment-within}
-use Rattle.tap_log.specs.Moments.{EachFrom, EachRecord, is_moment, last_of, step_of, steps_of}
-use Rattle.tap_log.proofs.Growing.{EachRecord-push, core_of-begin, core_of-left, last_of-push, leaves_nodes, steps_of-push}
+use Rattle.tap_history.specs.Core.{core_of}
+use Rattle.tap_history.proofs.Instants.{moment-begun, moment-within}
+use Rattle.tap_log.specs.Log.{EachFrom, EachRecord, begun_steps, last_of}
+use Rattle.tap_history.specs.Moments.{is_moment}
+use Rattle.tap_log.specs.Kinds.{step_of}
+use Rattle.tap_log.proofs.Growing.{EachRecord-push, begun_steps-push, last_of-push}
+use Rattle.tap_history.proofs.Growing.{core_of-begin, core_of-left, leaves_nodes}
 use Rattle.tap_report.specs.Text.{IsBegin, IsPrintable, IsPrintableLog, settings_of}
 use Rattle.tap_report.proofs.TextLemmas.{settings_of-push}
 use Rattle.tap_report.proofs.ReportsLemmas.{IsPrintableLog-first, IsPrintableLog-push}
@@ -196,7 +199,7 @@ has_begun s nodes first is =
 
 -- how many steps were begun
 steps_begun : (s : ScenarioValue) (nodes : Nodes) (log : List Record) (count : ℕ) → HasRun s nodes log count → count ≤ length s.steps
-    → length (steps_of log) ≡ count
+    → length (begun_steps log) ≡ count
 steps_begun s nodes log count run within =
     let len = length-take count s.steps in ap length run.steps ∙ omega arith
 
@@ -225,9 +228,9 @@ has_run_more s nodes log count index step answer script rest run this within ind
     (last_of-push log (StepRecord index step)) answered in
     let core_new : core_of new ≡ s.members =
     core_of-left mid answer says.leaves ∙ core_mid in
-    let steps_mid : steps_of mid ≡ steps_of log ++ step ∷ [] = steps_of-push log (StepRecord index step) in
-    let no_more : steps_of new ≡ steps_of mid = steps_of-push mid answer ∙ ap (λ o. steps_of mid ++ cons_option o []) says.no_step
-    ∙ append-nil (steps_of mid) in
+    let steps_mid : begun_steps mid ≡ begun_steps log ++ step ∷ [] = begun_steps-push log (StepRecord index step) in
+    let no_more : begun_steps new ≡ begun_steps mid = begun_steps-push mid answer ∙ ap (λ o. begun_steps mid ++ cons_option o []) says.no_step
+    ∙ append-nil (begun_steps mid) in
     let Ends : Option Record → Type 0 = λ last. IsTrue (ends_group last) in
     let settings_mid : settings_of mid ≡ Some s.settings = settings_of-push log (StepRecord index step) ∙ run.settings in
     let Prints : Option SettingsValue → Type 0 = λ settings. IsPrintable settings answer in
@@ -296,7 +299,7 @@ whole_run s nodes log last script rest run is =
     let new = log ++ end ∷ [] in
     let begun = steps_begun s nodes log (length s.steps) run (omega arith) in
     let core_new : core_of new ≡ s.members = core_of-left log end refl ∙ run.core in
-    let steps_new : steps_of new ≡ s.steps = steps_of-push log end ∙ append-nil (steps_of log) ∙ run.steps
+    let steps_new : begun_steps new ≡ s.steps = begun_steps-push log end ∙ append-nil (begun_steps log) ∙ run.steps
     ∙ take_all (length s.steps) s.steps (omega arith) in
     let IsWholeAt : Option Record → Type 0 = λ o. IsTrue (is_whole o) in
     let keeps = EachRecord-push (KeepsCore s.members) log end run.keeps_core core_new in

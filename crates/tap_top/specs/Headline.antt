@@ -5,7 +5,9 @@ use Rattle.tap_name.specs.Root.{Among, root}
 use Rattle.tap_scenario.specs.Scenario.{ScenarioValue}
 use Rattle.tap_log.specs.declared.record.Record.{Record}
 use Rattle.tap_log.specs.declared.record.Record.TheVariants.{Begin, Walked, RootOf, Finished}
-use Rattle.tap_log.specs.Moments.{EachRecord, core_of, is_moment, last_of, steps_of}
+use Rattle.tap_log.specs.Log.{EachRecord, begun_steps, last_of}
+use Rattle.tap_history.specs.Core.{core_of}
+use Rattle.tap_history.specs.Moments.{is_moment}
 use Rattle.tap_surrogate.specs.Nodes.{Nodes, core_links}
 use Rattle.tap_surrogate.specs.HoleFree.{IsHoleFree}
 use Rattle.tap_surrogate.specs.Members.{AreMembersAtRest}
@@ -24,7 +26,7 @@ FindsRoot p before other = Unit {0}
 pub record IsLogOf (s : ScenarioValue) (log : List Record) : Type 0 where
   pub begins : (rest : List Record) × (log ≡ Begin s.settings s.frames s.members ∷ rest)
   -- the steps that were begun are the script's first ones
-  pub steps : steps_of log ≡ take (length (steps_of log)) s.steps
+  pub steps : begun_steps log ≡ take (length (begun_steps log)) s.steps
   -- Over the members at rest: the log is lawful, at every moment no core node's table has a hole that another core node could
   -- fill, and every walk finds the one root.
   pub nodes : Nodes
@@ -36,5 +38,5 @@ pub record IsLogOf (s : ScenarioValue) (log : List Record) : Type 0 where
 -- every step of the script was run
 pub record IsWholeLogOf (s : ScenarioValue) (log : List Record) : Type 0 where
   pub run : IsLogOf s log
-  pub steps : steps_of log ≡ s.steps
+  pub steps : begun_steps log ≡ s.steps
   pub finished : last_of log ≡ Some (Finished (length s.steps))

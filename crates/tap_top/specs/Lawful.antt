@@ -8,7 +8,8 @@ use Rattle.tap_log.specs.declared.record.Record.{Record}
 use Rattle.tap_log.specs.declared.record.Record.TheVariants.{Begin, Step as StepRecord, Walked, RootOf, TableOf, Refused, Finished}
 use Rattle.tap_log.specs.declared.record.Refusal.TheVariants.{NoSuchNode}
 use Rattle.tap_log.specs.declared.record.NodeWord.TheVariants.{Core as CoreWord}
-use Rattle.tap_log.specs.Moments.{EachRecord, core_of, last_of, steps_of}
+use Rattle.tap_log.specs.Log.{EachRecord, begun_steps, last_of}
+use Rattle.tap_history.specs.Core.{core_of}
 use Rattle.tap_surrogate.specs.Nodes.{Nodes, core_links}
 use Rattle.tap_surrogate.specs.Walk.{walk}
 use Rattle.tap_table.specs.Table.{TableValue}
@@ -50,8 +51,8 @@ is_whole (Some other) = true
 -- step right before it; the last one has the number of all steps.
 abbrev pub MayStand : SettingsValue → Nodes → List Record → Record → Type 0
 MayStand p nodes before (Begin settings frames members) = before ≡ []
-MayStand p nodes before (StepRecord index step) = IsTrue (ends_group (last_of before)) × (index ≡ length (steps_of before) + 1)
-MayStand p nodes before (Finished steps) = IsTrue (ends_group (last_of before)) × (steps ≡ length (steps_of before))
+MayStand p nodes before (StepRecord index step) = IsTrue (ends_group (last_of before)) × (index ≡ length (begun_steps before) + 1)
+MayStand p nodes before (Finished steps) = IsTrue (ends_group (last_of before)) × (steps ≡ length (begun_steps before))
 MayStand p nodes before answer =
     (index : ℕ) × (step : Step) × (last_of before ≡ Some (StepRecord index step)) × Answers p nodes (core_of before) index step answer
 

@@ -3,7 +3,8 @@ use Rattle.std.specs.Prelude.{◌≡◌, ℕ, ◌+◌, ◌*◌, List, [], ◌∷
 use Rattle.tap_scenario.specs.Scenario.{ScenarioValue}
 use Rattle.tap_log.specs.declared.record.Record.{Record}
 use Rattle.tap_log.specs.declared.record.Record.TheVariants.{Begin}
-use Rattle.tap_log.specs.Moments.{EachRecord, core_of, last_of, steps_of}
+use Rattle.tap_log.specs.Log.{EachRecord, begun_steps, last_of}
+use Rattle.tap_history.specs.Core.{core_of}
 use Rattle.tap_report.specs.Text.{IsPrintableLog, settings_of}
 use Rattle.tap_surrogate.specs.Nodes.{Nodes}
 use Rattle.tap_top.specs.Lawful.{MayStand, ends_group}
@@ -17,7 +18,7 @@ KeepsCore members before item = core_of (before ++ item ∷ []) ≡ members
 pub record HasRun (s : ScenarioValue) (nodes : Nodes) (log : List Record) (count : ℕ) : Type 0 where
   pub begins : (rest : List Record) × (log ≡ Begin s.settings s.frames s.members ∷ rest)
   pub between : IsTrue (ends_group (last_of log))
-  pub steps : steps_of log ≡ take count s.steps
+  pub steps : begun_steps log ≡ take count s.steps
   pub core : core_of log ≡ s.members
   pub settings : settings_of log ≡ Some s.settings
   pub each : EachRecord (MayStand s.settings nodes) log

@@ -1,8 +1,7 @@
 use Rattle.std.proofs.Common.{◌∙◌, [], ap, sym, arith}
 use Rattle.std.specs.Prelude.{option_copied}
 use Rattle.tap_log.specs.Frames.{sent_bytes}
-use Rattle.tap_log.proofs.Gathering.{gathered_same}
-use Rattle.tap_log.proofs.Searching.{first_given}
+use Rattle.tap_log.proofs.Gathering.{first_given, gathered_same}
 use Rattle.tap_log.proofs.frames.bytes_of.Goals as goal
 
 pub returns-in-Some : goal.returns-in-Some

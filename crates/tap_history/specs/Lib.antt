@@ -1,0 +1,10 @@
+pub mod Steps
+pub mod Core
+pub mod Moments
+pub mod Groups
+pub mod Departing
+pub mod Published
+pub mod Names
+pub mod Flights
+pub mod Refusals
+pub mod Laws

@@ -1,5 +1,0 @@
-use Rattle.tap_log.proofs.OneMoreGroup.{one_more_group_holds}
-use Rattle.tap_log.proofs.law.one_more_group.Goals as goal
-
-pub returns : goal.returns
-returns c = one_more_group_holds
