@@ -41,6 +41,17 @@ const FRAME_CALLS: [(&str, FrameCall); 4] = [
     ("encode-release", FrameCall::EncodeRelease),
 ];
 
+impl TableCall {
+    // What the calls find, all together.
+    fn finds(self) -> &'static str {
+        match self {
+            TableCall::Len => "links",
+            TableCall::NextHop => "next hops",
+            TableCall::Primary => "primaries",
+        }
+    }
+}
+
 const TABLE_CALLS: [(&str, TableCall); 3] = [
     ("len", TableCall::Len),
     ("next-hop", TableCall::NextHop),
@@ -92,8 +103,8 @@ fn repeat(rt: &impl AllocGlobal, call: FrameCall, bytes: &[u8], count: u32) -> R
     }
 }
 
-// Makes a call on a full table so many times, and says how often it found a node.
-fn look_up(rt: &impl AllocGlobal, call: TableCall, count: u32) -> Result<u32> {
+// Makes a call on a full table so many times, and says how many links, next hops or primaries it found in all.
+fn look_up(rt: &impl AllocGlobal, call: TableCall, count: u32) -> Result<u64> {
     let table = full(rt.alloc())?;
     match call {
         TableCall::Len => Ok(lens(&table, count)),
@@ -130,7 +141,8 @@ fn time_table(
     let found = look_up(rt, call, count)?;
     let picoseconds = start.elapsed(rt)?.as_nanos().saturating_mul(1000);
     let each = picoseconds / u128::from(count.max(1));
-    println!(rt; "{name}: {each} ps a call, {found} of {count} found a node")?;
+    let finds = call.finds();
+    println!(rt; "{name}: {each} ps a call, {count} calls found {found} {finds}")?;
     Ok(())
 }
 
@@ -171,7 +183,8 @@ fn call_each(rt: &(impl AllocGlobal + Print)) -> Result<()> {
 fn call_each_on_a_table(rt: &(impl AllocGlobal + Print)) -> Result<()> {
     for (name, call) in TABLE_CALLS {
         let found = look_up(rt, call, 128)?;
-        println!(rt; "{name}: {found} of 128 found a node")?;
+        let finds = call.finds();
+        println!(rt; "{name}: 128 calls found {found} {finds}")?;
     }
     println!(rt; "the link sets of a table: {} bytes", bytes_of_table())?;
     Ok(())

@@ -47,22 +47,20 @@ pub(crate) fn full(alloc: Global) -> Result<Table>
     Ok(table)
 }
 
-/// Asks how many links there are, so many times, and says how often there were some.
-pub(crate) fn lens(table: &Table, count: u32) -> u32 {
-    let mut found = 0u32;
+/// Asks how many links there are, so many times, and adds up the answers.
+pub(crate) fn lens(table: &Table, count: u32) -> u64 {
+    let mut links = 0u64;
     for _turn in 0..count {
-        if !table.is_empty() {
-            found = found.saturating_add(1);
-        }
+        links = links.saturating_add(table.len() as u64);
     }
-    found
+    links
 }
 
 /// Asks for the primary of one slot after the other, so many times, and says how often there was one.
-pub(crate) fn primaries(table: &Table, count: u32) -> u32
+pub(crate) fn primaries(table: &Table, count: u32) -> u64
     requires { table.now.settings ≡ measured }
 {
-    let mut found = 0u32;
+    let mut found = 0u64;
     for turn in 0..count {
         let slot = Slot {
             level: (turn / 16 % 8) as u8,
@@ -77,11 +75,11 @@ pub(crate) fn primaries(table: &Table, count: u32) -> u32
 
 /// Asks for the next hop towards an object from one level after the other, so many times, and says how often there was
 /// one. The object shares all digits but the last one with the owner, so a call goes through up to eight levels.
-pub(crate) fn next_hops(table: &Table, object: &Name, count: u32) -> u32
+pub(crate) fn next_hops(table: &Table, object: &Name, count: u32) -> u64
     requires table { table.now.settings ≡ measured }
     requires object { IsName measured object.now }
 {
-    let mut found = 0u32;
+    let mut found = 0u64;
     for turn in 0..count {
         let level = (turn % 8) as usize;
         if let Next::Hop { .. } = table.next_hop(object, level) {

@@ -6,7 +6,7 @@ use Rattle.std.specs.Io.KnownBytes.{Keeps}
 abbrev pub greatest_count : ℕ
 greatest_count = 2 ^ 64 - 1
 
--- one more, or the same where the count stands still
+-- one more, or the same if the count stands still
 abbrev pub counted : ℕ → ℕ
 counted n = min (n + 1) greatest_count
 
@@ -14,7 +14,7 @@ counted n = min (n + 1) greatest_count
 abbrev pub HasRisen : ℕ → ℕ → Type 0
 HasRisen before now = now ≤ before → now ≡ greatest_count
 
--- The bytes are as they were, where they are told, and a fault was counted.
+-- The bytes are as they were, if they are told, and a fault was counted.
 pub record Fails (old new : Option (List ℕ)) (before now : ℕ) : Type 0 where
   pub kept : Keeps old new
   pub risen : HasRisen before now

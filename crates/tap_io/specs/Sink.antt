@@ -10,7 +10,7 @@ pub record SinkBehind : Type 0 where
   pub name : ℕ
   pub held : Option (List ℕ)
 
--- The bytes that a sink holds, which are `None` where it doesn't tell them; how many faults there were; and the sinks behind
+-- The bytes that a sink holds, which are `None` if it doesn't tell them; how many faults there were; and the sinks behind
 -- it, the nearest one first. By these a caller that lent a sink knows it after it was written to.
 pub record SinkState : Type 0 where
   pub held : Option (List ℕ)

@@ -5,7 +5,7 @@ use Rattle.tap_io.specs.Faults.{Fails, counted}
 use Rattle.tap_io.specs.declared.source.Got.{Got}
 use Rattle.tap_io.specs.declared.source.Got.TheVariants.{Got as GotBytes, End, Failed}
 
--- the bytes that are left, which are `None` where the source doesn't tell them, and how many faults there were
+-- the bytes that are left, which are `None` if the source doesn't tell them, and how many faults there were
 pub record SourceState : Type 0 where
   pub left : Option (List ℕ)
   pub faults : ℕ

@@ -5,6 +5,8 @@ ghost use Rattle.tap_io.specs.Sink.{Writes};
 use crate::sink::{Sink, Took};
 
 /// What a flush answers.
+///
+/// Rule: docs/DECISIONS.md, "Sources and sinks".
 #[derive(Clone, Copy, Debug, PartialEq, Eq)]
 pub enum Flushed {
     /// No byte waits.
@@ -29,6 +31,8 @@ pub struct BufferedSink<'a, K> {
 
 impl<'a, K: Sink> BufferedSink<'a, K> {
     /// Nothing waits. The room is the capacity of this vector, whose items are dropped.
+    ///
+    /// Rule: docs/DECISIONS.md, "Sources and sinks".
     pub fn new(inner: &'a mut K, mut room: Vec<u8>) -> BufferedSink<'a, K>
         ensures same_reference { result.inner.ghost_name ≡ inner.entry.ghost_name }
         ensures value { result.inner.now ≡ inner.old }
@@ -43,6 +47,8 @@ impl<'a, K: Sink> BufferedSink<'a, K> {
 
     /// Passes on the bytes that wait. After `All` none waits; after `Failed` the sink behind it holds a first part of them,
     /// and the rest waits. Nothing is written after a failure.
+    ///
+    /// Rule: docs/DECISIONS.md, "Sources and sinks".
     pub fn flush(&mut self) -> Flushed
         ensures same_reference { self.new.inner.ghost_name ≡ self.old.inner.ghost_name }
         ensures flushes { Flushes (K.state self.old.inner.now) (K.state self.new.inner.now)
@@ -60,6 +66,8 @@ impl<'a, K: Sink> BufferedSink<'a, K> {
     }
 
     /// The sink behind it. Bytes that still wait are lost.
+    ///
+    /// Rule: docs/DECISIONS.md, "Sources and sinks".
     pub fn into_inner(self) -> &'a mut K
         ensures same_reference { result.ghost_name ≡ self.entry.inner.ghost_name }
         ensures value { result.now ≡ self.entry.inner.now }
@@ -88,7 +96,7 @@ impl<'a, K: Sink> BufferedSink<'a, K> {
 impl<K: Sink> Sink for BufferedSink<'_, K> {
     ghost state = { buffered_state K.state };
 
-    /// Takes all bytes, where they are no more than the room, and fails only where a flush does.
+    /// Takes all bytes, if they are no more than the room, and fails only if a flush does.
     fn write(&mut self, bytes: &[u8]) -> Took {
         if bytes.len() > self.waiting.capacity() - self.waiting.len() {
             return self.write_after_flush(bytes);

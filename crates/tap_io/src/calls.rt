@@ -41,7 +41,7 @@ impl Calls {
         self.fails.iter().any(|n| u64::from(*n) == number)
     }
 
-    // Counts a call, and a fault where it failed.
+    // Counts a call, and a fault if it failed.
     pub(crate) fn count(&mut self, failed: bool)
         ensures after { self.new ≡ after_call self.old failed }
         ensures later { self.old.faults ≤ self.new.faults }

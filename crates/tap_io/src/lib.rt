@@ -1,7 +1,7 @@
-//! Bytes in and bytes out, in pieces, where each call may fail.
+//! Bytes in and bytes out, in pieces; each call may fail.
 //!
 //! A [`Source`] gives bytes and a [`Sink`] takes them. Each counts its faults, so that a caller can
-//! prove that it reports a fault only where there was one. [`MemorySource`] and [`MemorySink`] hold
+//! prove that it reports a fault only if there was one. [`MemorySource`] and [`MemorySink`] hold
 //! their bytes in memory and fail at the calls that they are told to; [`StdSource`] and [`StdSink`]
 //! stand over a reader and a writer of the standard library. [`BufferedSink`] gathers what it is given, so that the sink
 //! behind it gets few and large pieces.

@@ -8,8 +8,10 @@ use crate::sink::{Sink, Took};
 use std::alloc::Global;
 use std::marker::Model;
 
-/// A sink in memory, which takes bytes in pieces, fails at the calls that are named, and fails where
-/// it is full.
+/// A sink in memory, which takes bytes in pieces, fails at the calls that are named, and fails if it is
+/// full.
+///
+/// Rule: docs/DECISIONS.md, "Sources and sinks".
 #[derive(Debug, Drop)]
 pub struct MemorySink {
     bytes: Vec<u8>,
@@ -38,7 +40,9 @@ impl MemorySink {
     /// An empty sink with memory for `room` bytes. A write takes at most `piece` of them, which is at
     /// least 1. The writes whose numbers, counted from 1, are in `fails` are to fail.
     ///
-    /// Answers `NoMemory` only where that memory was refused.
+    /// Answers `NoMemory` only if that memory was refused.
+    ///
+    /// Rule: docs/DECISIONS.md, "Sources and sinks".
     pub fn new(
         alloc: Global,
         piece: usize,
@@ -57,6 +61,8 @@ impl MemorySink {
     }
 
     /// The bytes that are held.
+    ///
+    /// Rule: docs/DECISIONS.md, "Sources and sinks".
     pub fn bytes(&self) -> &[u8]
         ensures { result.now ≡ self.now.held }
     {
@@ -67,8 +73,8 @@ impl MemorySink {
 impl Sink for MemorySink {
     ghost state = { sink_state };
 
-    /// Fails exactly where the number of this call, counted from 1, is among those that are to fail,
-    /// or where the sink is full. Else it takes as many bytes as the least of the piece, the number of
+    /// Fails exactly if the number of this call, counted from 1, is among those that are to fail,
+    /// or if the sink is full. Else it takes as many bytes as the least of the piece, the number of
     /// bytes given and the room that is left. It takes no memory.
     fn write(&mut self, bytes: &[u8]) -> Took
         requires { 0 < length bytes.now }

@@ -8,7 +8,9 @@ use crate::source::{Got, Source};
 use std::alloc::Global;
 use std::marker::Model;
 
-/// Bytes in memory that come in pieces, and fail at the calls that are named.
+/// Bytes in memory that come in pieces. The reads that are named fail.
+///
+/// Rule: docs/DECISIONS.md, "Sources and sinks".
 #[derive(Debug, Drop)]
 pub struct MemorySource {
     bytes: Vec<u8>,
@@ -36,7 +38,9 @@ impl MemorySource {
     /// A source of a copy of these bytes. A read gives at most `piece` of them, which is at least 1.
     /// The reads whose numbers, counted from 1, are in `fails` are to fail.
     ///
-    /// Answers `NoMemory` only where memory for the copies was refused.
+    /// Answers `NoMemory` only if memory for the copies was refused.
+    ///
+    /// Rule: docs/DECISIONS.md, "Sources and sinks".
     pub fn new(
         alloc: Global,
         bytes: &[u8],
@@ -58,9 +62,9 @@ impl MemorySource {
 impl Source for MemorySource {
     ghost state = { source_state };
 
-    /// Fails exactly where the number of this call, counted from 1, is among those that are to fail.
+    /// Fails exactly if the number of this call, counted from 1, is among those that are to fail.
     /// Else it gives as many bytes as the least of the piece, the length of the buffer and the number
-    /// of bytes left, or answers the end where none are left.
+    /// of bytes left, or answers the end if none are left.
     fn read(&mut self, into: &mut [u8]) -> Got
         requires { 0 < length into.old }
         ensures answer { result ≡ read_answer self.old (length into.old) }

@@ -2,6 +2,8 @@ ghost use Rattle.std.specs.Prelude.{◌<◌, length};
 ghost use Rattle.tap_io.specs.Source.{Reads, SourceState};
 
 /// What a read answers.
+///
+/// Rule: docs/DECISIONS.md, "Sources and sinks".
 #[derive(Clone, Copy, Debug, PartialEq, Eq)]
 pub enum Got {
     /// So many bytes came, at least 1. They stand at the front of the buffer.
@@ -18,15 +20,15 @@ pub enum Got {
 ///
 /// Rule: docs/DECISIONS.md, "Sources and sinks".
 pub trait Source {
-    /// The bytes that are left, or `None` where the source doesn't tell them, and how many faults there were. That
+    /// The bytes that are left, or `None` if the source doesn't tell them, and how many faults there were. That
     /// count never falls, and stands still at the greatest `u64`.
     ghost state: { Self → SourceState };
 
     /// Reads at least one byte, and no more than the buffer holds, into the front of the buffer,
     /// which isn't empty.
     ///
-    /// Where the source tells its bytes, those that come are the next ones, and the answer is `End`
-    /// exactly where none are left and the call doesn't fail. A read fails only where the count of
+    /// If the source tells its bytes, those that come are the next ones, and the answer is `End`
+    /// exactly if none are left and the call doesn't fail. A read fails only if the count of
     /// faults rises in this call, and then the bytes stay; else that count stays. What the buffer holds
     /// after the bytes that came is left open.
     fn read(&mut self, into: &mut [u8]) -> Got

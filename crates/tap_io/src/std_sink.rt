@@ -29,6 +29,8 @@ impl<W: Write> Model for StdSink<W> {
 
 impl<W: Write> StdSink<W> {
     /// A sink over this writer, with no faults. Hand in a `&mut` to keep the writer.
+    ///
+    /// Rule: docs/DECISIONS.md, "Sources and sinks".
     pub fn new(inner: W) -> StdSink<W>
         ensures { result ≡ record { inner = inner; faults = 0 } }
     {

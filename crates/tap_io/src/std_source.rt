@@ -28,6 +28,8 @@ impl<R: Read> Model for StdSource<R> {
 
 impl<R: Read> StdSource<R> {
     /// A source over this reader, with no faults. Hand in a `&mut` to keep the reader.
+    ///
+    /// Rule: docs/DECISIONS.md, "Sources and sinks".
     pub fn new(inner: R) -> StdSource<R>
         ensures { result ≡ record { inner = inner; faults = 0 } }
     {

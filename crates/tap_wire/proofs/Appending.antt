@@ -35,7 +35,7 @@ pub piece_fits : {X A : Type 0} (f : X → List ℕ) (xs : List X) (i : ℕ) (x 
 piece_fits f xs i x d out within is room =
     omega (arith, ap (λ (z : List ℕ). length z) (next_piece f xs i x d within is), length-append (f x) (flat_map f (drop (i + 1) xs)), room)
 
--- and behind this piece room for the others
+-- and after this piece room for the others
 pub others_fit : {X A : Type 0} (f : X → List ℕ) (xs : List X) (i : ℕ) (x d : X) (now next : Vec ℕ A) → i < length xs → x ≡ get_or xs i d
     → HasRoom now (flat_map f (drop i xs)) → Appends now next (f x) → HasRoom next (flat_map f (drop (i + 1) xs))
 others_fit f xs i x d now next within is room more =

@@ -256,11 +256,11 @@ head_whole p bytes o frame limits all opened read =
 
 -- ---- want of memory
 
--- a fault alone is told from a fault as an answer
+-- equal answers have equal faults
 pub only_fault : (x y : WireFault) → ◌≡◌ {A = Result Frame WireFault} (Err x) (Err y) → x ≡ y
 only_fault x y e = cc
 
--- the frame whose body is read has a list where its kind has one
+-- the frame whose body is read has a list if its kind has one
 listed : (p : SettingsValue) (bytes : List ℕ) (o : Opening) (read : Result Body Broken) → AreWithinLimits p → All (λ b. b < 256) bytes
     → opening_of p bytes ≡ Ok o → body_at p o.kind (body_start p) bytes ≡ read → IsOk read → IsTrue (has_list o.kind)
     → WantsMemory (frame_of p bytes)

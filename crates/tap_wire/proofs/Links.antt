@@ -1,10 +1,10 @@
--- the links of a Hello, one behind the other, and flags
+-- the links of a Hello, one after the other, and flags
 use Rattle.std.proofs.Common.{◌≡◌, ◌≤◌, ◌++◌, ◌+◌, ◌*◌, ℕ, zero, suc, Bool, true, false, nat_le, eqb, List, [], ◌∷◌, length, drop, get_or, slice_index, All, Option, None, Some, Result, Ok, arith, refl, ap, sym, subst, ◌∙◌, append_assoc}
 use Rattle.std.specs.List.{flat_map, AllPairs}
-use Rattle.std.specs.Ordering.{nat_cmp, is_lt}
+use Rattle.std.specs.Ordering.{nat_cmp, is_lt, is_some_and}
 use Rattle.std.specs.declared.cmp.Ordering.{Ordering}
 use Rattle.std.specs.declared.cmp.Ordering.TheVariants.{Less, Equal, Greater}
-use Rattle.std.specs.Cmp.Lexicographic.{slice_cmp, nat_list_cmp_total}
+use Rattle.std.specs.Cmp.Lexicographic.{slice_cmp, slice_partial_cmp, lists_agrees, nat_list_cmp_total}
 use Rattle.std.proofs.lemmas.Bool.{eqb-true, eqb-false, leb-true}
 use Rattle.std.proofs.lemmas.List.Concat.{flat_map-cons}
 use Rattle.std.proofs.lemmas.List.Elements.{All-cons, All-nil}
@@ -13,7 +13,7 @@ use Rattle.tap_name.specs.Settings.{SettingsValue}
 use Rattle.tap_name.specs.Name.{IsName}
 use Rattle.tap_name.specs.declared.slot.Offered.{Offered}
 use Rattle.tap_wire.specs.declared.fault.Broken.{Broken}
-use Rattle.tap_wire.specs.Fields.{◌>>=◌, field, flag_at, name_at, is_next_name, link_at, links_at}
+use Rattle.tap_wire.specs.Fields.{◌>>=◌, field, flag_at, name_at, is_next_name, hello_link_at, hello_links_at}
 use Rattle.tap_wire.specs.Spelling.{flag, link_bytes}
 use Rattle.tap_wire.proofs.Steps.{bind_ok, bind_is, field_ok, field_is, ok_is}
 use Rattle.tap_wire.proofs.Pieces.{byte_is, past_byte, byte_taken, name_is, past_name, name_taken}
@@ -39,12 +39,16 @@ flag_taken place bytes on e =
 abbrev pub name_cmp : List ℕ → List ℕ → Ordering
 name_cmp a b = slice_cmp nat_cmp a b
 
+-- the operator `<` of two names is that order
+pub is_less : (a b : List ℕ) → is_some_and is_lt (slice_partial_cmp (λ x y. Some (nat_cmp x y)) a b) ≡ is_lt (slice_cmp nat_cmp a b)
+is_less a b = ap (is_some_and is_lt) (lists_agrees (λ x y. refl) a b)
+
 less_from : (o : Ordering) → is_lt o ≡ true → o ≡ Less
 less_from Less h = refl
 less_from Equal h = absurd cc
 less_from Greater h = absurd cc
 
--- each link has a name, which may stand behind the name before
+-- each link has a name, which may follow the name before
 abbrev pub Follow : SettingsValue → Option (List ℕ) → List Offered → Type 0
 Follow p before [] = Unit {0}
 Follow p before (l ∷ ls) = IsName p l.name × (is_next_name before l.name ≡ true) × Follow p (Some l.name) ls
@@ -53,7 +57,7 @@ Follow p before (l ∷ ls) = IsName p l.name × (is_next_name before l.name ≡ 
 
 link_is : (p : SettingsValue) (before : Option (List ℕ)) (place : ℕ) (bytes rest : List ℕ) (l : Offered) → IsName p l.name
     → is_next_name before l.name ≡ true
-    → drop place bytes ≡ l.name ++ (flag l.settled ∷ rest) → link_at p before place bytes ≡ Ok l
+    → drop place bytes ≡ l.name ++ (flag l.settled ∷ rest) → hello_link_at p before place bytes ≡ Ok l
 link_is p before place bytes rest l is rises here =
     let after = past_name p bytes place l.name (flag l.settled ∷ rest) is here in
     let settled = flag_is (place + p.digits) bytes l.settled (byte_is bytes (place + p.digits) (flag l.settled) rest after) in
@@ -67,8 +71,8 @@ link_is p before place bytes rest l is rises here =
     (bind_is (flag_at (place + p.digits) bytes) (λ settled. last l.name settled) l.settled (Ok l) settled refl))
 
 pub links_again : (p : SettingsValue) (ls : List Offered) (before : Option (List ℕ)) (place : ℕ) (bytes rest : List ℕ) → Follow p before ls
-    → drop place bytes ≡ flat_map link_bytes ls ++ rest → links_at p (length ls) before place bytes ≡ Ok ls
-unfolding links_at
+    → drop place bytes ≡ flat_map link_bytes ls ++ rest → hello_links_at p (length ls) before place bytes ≡ Ok ls
+unfolding hello_links_at
 links_again p [] before place bytes rest follow here = refl
 links_again p (l ∷ ls) before place bytes rest follow here =
     let after = flat_map link_bytes ls ++ rest in
@@ -77,10 +81,10 @@ links_again p (l ∷ ls) before place bytes rest follow here =
     ∙ append_assoc l.name (flag l.settled ∷ []) after in
     let second = past_name p bytes place l.name (flag l.settled ∷ after) follow.0 split in
     let third = past_byte bytes (place + p.digits) (flag l.settled) after second in
-    bind_is (link_at p before place bytes) (λ link. links_at p (length ls) (Some link.name) (place + p.digits + 1) bytes >>=
+    bind_is (hello_link_at p before place bytes) (λ link. hello_links_at p (length ls) (Some link.name) (place + p.digits + 1) bytes >>=
     λ links. Ok (link ∷ links)) l (Ok (l ∷ ls))
     (link_is p before place bytes after l follow.0 follow.1 split)
-    (bind_is (links_at p (length ls) (Some l.name) (place + p.digits + 1) bytes) (λ links. Ok (l ∷ links)) ls (Ok (l ∷ ls))
+    (bind_is (hello_links_at p (length ls) (Some l.name) (place + p.digits + 1) bytes) (λ links. Ok (l ∷ links)) ls (Ok (l ∷ ls))
     (links_again p ls (Some l.name) (place + p.digits + 1) bytes rest follow.2 third) refl)
 
 -- ---- what is read was written
@@ -98,7 +102,7 @@ record TakesOne (p : SettingsValue) (before : Option (List ℕ)) (place : ℕ) (
   pub rises : is_next_name before l.name ≡ true
 
 link_taken : (p : SettingsValue) (before : Option (List ℕ)) (place : ℕ) (bytes : List ℕ) (l : Offered) → place + p.digits + 1 ≤ length bytes
-    → link_at p before place bytes ≡ Ok l → TakesOne p before place bytes l
+    → hello_link_at p before place bytes ≡ Ok l → TakesOne p before place bytes l
 link_taken p before place bytes l room e =
     let last : List ℕ → Bool → Result Offered Broken = λ name settled. Ok (record { name = name; settled = settled }) in
     let a = bind_ok (name_at p place bytes) (λ name. field (is_next_name before name) place name >>=
@@ -124,8 +128,8 @@ link_taken p before place bytes l room e =
 
 pub links_taken : (p : SettingsValue) (count : ℕ) (before : Option (List ℕ)) (place : ℕ) (bytes : List ℕ) (ls : List Offered)
     → place + (p.digits + 1) * count ≤ length bytes
-    → links_at p count before place bytes ≡ Ok ls → Takes p count before place bytes ls
-unfolding links_at
+    → hello_links_at p count before place bytes ≡ Ok ls → Takes p count before place bytes ls
+unfolding hello_links_at
 links_taken p zero before place bytes ls room e =
     let none : [] ≡ ls = ok_is [] ls e in
     let same : place ≡ place + (p.digits + 1) * 0 = grind arith in
@@ -133,10 +137,10 @@ links_taken p zero before place bytes ls room e =
 links_taken p (suc count) before place bytes ls room e =
     let size = (p.digits + 1) * count in
     let product : (p.digits + 1) * suc count ≡ size + (p.digits + 1) = grind arith in
-    let a = bind_ok (link_at p before place bytes) (λ link. links_at p count (Some link.name) (place + p.digits + 1) bytes >>=
+    let a = bind_ok (hello_link_at p before place bytes) (λ link. hello_links_at p count (Some link.name) (place + p.digits + 1) bytes >>=
     λ links. Ok (link ∷ links)) ls e in
     let l = a.0 in
-    let b = bind_ok (links_at p count (Some l.name) (place + p.digits + 1) bytes) (λ links. Ok (l ∷ links)) ls a.2 in
+    let b = bind_ok (hello_links_at p count (Some l.name) (place + p.digits + 1) bytes) (λ links. Ok (l ∷ links)) ls a.2 in
     let one = link_taken p before place bytes l (omega (arith, product)) a.1 in
     let more = links_taken p count (Some l.name) (place + p.digits + 1) bytes b.0 (omega (arith, product)) b.1 in
     let after = drop (place + (p.digits + 1) * suc count) bytes in
@@ -157,36 +161,36 @@ pub follow_names : (p : SettingsValue) (before : Option (List ℕ)) (ls : List O
 follow_names p before [] follow = All-nil (λ l. IsName p l.name)
 follow_names p before (l ∷ ls) follow = All-cons (λ l. IsName p l.name) l ls follow.0 (follow_names p (Some l.name) ls follow.2)
 
-follow_behind : (p : SettingsValue) (b : List ℕ) (ls : List Offered) → Follow p (Some b) ls → All (λ l. name_cmp b l.name ≡ Less) ls
-follow_behind p b [] follow = All-nil (λ l. name_cmp b l.name ≡ Less)
-follow_behind p b (l ∷ ls) follow =
+all_follow : (p : SettingsValue) (b : List ℕ) (ls : List Offered) → Follow p (Some b) ls → All (λ l. name_cmp b l.name ≡ Less) ls
+all_follow p b [] follow = All-nil (λ l. name_cmp b l.name ≡ Less)
+all_follow p b (l ∷ ls) follow =
     let here = less_from (name_cmp b l.name) follow.1 in
-    let behind = follow_behind p l.name ls follow.2 in
-    All-cons (λ l. name_cmp b l.name ≡ Less) l ls here (λ k d h. nat_list_cmp_total.trans b l.name (get_or ls k d).name here (behind k d h))
+    let after = all_follow p l.name ls follow.2 in
+    All-cons (λ l. name_cmp b l.name ≡ Less) l ls here (λ k d h. nat_list_cmp_total.trans b l.name (get_or ls k d).name here (after k d h))
 
 pub follow_ascends : (p : SettingsValue) (before : Option (List ℕ)) (ls : List Offered) → Follow p before ls
     → AllPairs (λ a b. name_cmp a.name b.name ≡ Less) ls
 follow_ascends p before [] follow = λ i j d lt within. absurd (omega arith)
 follow_ascends p before (l ∷ ls) follow =
-    AllPairs-cons (λ a b. name_cmp a.name b.name ≡ Less) l ls (follow_behind p l.name ls follow.2)
+    AllPairs-cons (λ a b. name_cmp a.name b.name ≡ Less) l ls (all_follow p l.name ls follow.2)
     (follow_ascends p (Some l.name) ls follow.2)
 
--- the first of these links stands behind the one before
-abbrev FirstBehind : Option (List ℕ) → List Offered → Type 0
-FirstBehind None ls = Unit {0}
-FirstBehind (Some b) ls = All (λ l. name_cmp b l.name ≡ Less) ls
+-- the first of these links follows the one before
+abbrev FirstFollows : Option (List ℕ) → List Offered → Type 0
+FirstFollows None ls = Unit {0}
+FirstFollows (Some b) ls = All (λ l. name_cmp b l.name ≡ Less) ls
 
-first_name : (before : Option (List ℕ)) (l : Offered) (ls : List Offered) → FirstBehind before (l ∷ ls) → is_next_name before l.name ≡ true
-first_name None l ls behind = refl
-first_name (Some b) l ls behind = ap is_lt (behind 0 l (omega arith))
+first_name : (before : Option (List ℕ)) (l : Offered) (ls : List Offered) → FirstFollows before (l ∷ ls) → is_next_name before l.name ≡ true
+first_name None l ls after = refl
+first_name (Some b) l ls after = ap is_lt (after 0 l (omega arith))
 
-pub follow_from : (p : SettingsValue) (before : Option (List ℕ)) (ls : List Offered) → FirstBehind before ls → All (λ l. IsName p l.name) ls
+pub follow_from : (p : SettingsValue) (before : Option (List ℕ)) (ls : List Offered) → FirstFollows before ls → All (λ l. IsName p l.name) ls
     → AllPairs (λ a b. name_cmp a.name b.name ≡ Less) ls
     → Follow p before ls
-follow_from p before [] behind names ascending = tt
-follow_from p before (l ∷ ls) behind names ascending = (
+follow_from p before [] after names ascending = tt
+follow_from p before (l ∷ ls) after names ascending = (
   names 0 l (omega arith),
-  first_name before l ls behind,
+  first_name before l ls after,
   follow_from p (Some l.name) ls (λ k d h. ascending 0 (suc k) d (omega arith) (omega arith)) (λ k d h. names (suc k) d (omega arith))
       (λ i j d lt within. ascending (suc i) (suc j) d (omega arith) (omega arith)),
 )

@@ -16,7 +16,7 @@ use Rattle.tap_wire.specs.declared.frame.Body.{Body}
 use Rattle.tap_wire.specs.declared.frame.Body.TheVariants.{Tell, Hello}
 use Rattle.tap_wire.specs.declared.kind.Kind.TheVariants as kinds
 use Rattle.tap_wire.specs.declared.fault.Broken.{Broken}
-use Rattle.tap_wire.specs.Fields.{◌>>=◌, field, number_at, session_at, flag_at, name_at, slots_at, links_at}
+use Rattle.tap_wire.specs.Fields.{◌>>=◌, field, number_at, session_at, flag_at, name_at, slots_at, hello_links_at}
 use Rattle.tap_wire.specs.Reading.{prefix_at, level_above_at, tell_at, hello_at}
 use Rattle.tap_wire.specs.Spelling.{flag, slot_bytes, link_bytes, body_bytes, IsTell, AreLinks}
 use Rattle.tap_wire.proofs.Steps.{bind_ok, bind_is, field_ok, field_is, ok_is}
@@ -216,11 +216,11 @@ hello_again p start bytes session core ls least are fits here =
     let follow = links.follow_from p None ls tt are.names are.ascending in
     let e0 = session_is start bytes session (number_is bytes start 4 session (flag core ∷ W) fits h0) least in
     let e1 = flag_is (start + 4) bytes core (byte_is bytes (start + 4) (flag core) W h1) in
-    let e2 : links_at p ((length bytes - (start + 5)) / (p.digits + 1)) None (start + 5) bytes ≡ Ok ls =
-    ap (λ k. links_at p k None (start + 5) bytes) count
+    let e2 : hello_links_at p ((length bytes - (start + 5)) / (p.digits + 1)) None (start + 5) bytes ≡ Ok ls =
+    ap (λ k. hello_links_at p k None (start + 5) bytes) count
     ∙ links.links_again p ls None (start + 5) bytes [] follow (ends bytes W (start + 5) h2) in
     let whole : Result Body Broken = Ok (Hello session core ls) in
-    let next : Result (List Offered) Broken = links_at p ((length bytes - (start + 5)) / (p.digits + 1)) None (start + 5) bytes in
+    let next : Result (List Offered) Broken = hello_links_at p ((length bytes - (start + 5)) / (p.digits + 1)) None (start + 5) bytes in
     let made : ℕ → Bool → List Offered → Result Body Broken = λ session core ls. Ok (Hello session core ls) in
     bind_is (session_at start bytes) (λ session. flag_at (start + 4) bytes >>= λ core. next >>= λ ls. made session core ls) session whole e0
     (bind_is (flag_at (start + 4) bytes) (λ core. next >>= λ ls. made session core ls) core whole e1
@@ -234,7 +234,7 @@ hello_taken p start bytes body all room even few e =
     let size = p.digits + 1 in
     let left = length bytes - (start + 5) in
     let count = left / size in
-    let next : Result (List Offered) Broken = links_at p count None (start + 5) bytes in
+    let next : Result (List Offered) Broken = hello_links_at p count None (start + 5) bytes in
     let made : ℕ → Bool → List Offered → Result Body Broken = λ session core ls. Ok (Hello session core ls) in
     let a = bind_ok (session_at start bytes) (λ session. flag_at (start + 4) bytes >>= λ core. next >>= λ ls. made session core ls) body e
     in

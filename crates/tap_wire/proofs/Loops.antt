@@ -7,7 +7,7 @@ use Rattle.tap_name.specs.declared.slot.Slot.{Slot}
 use Rattle.tap_name.specs.declared.slot.Offered.{Offered}
 use Rattle.tap_watch.specs.Watch.{IsAscending}
 use Rattle.tap_wire.specs.declared.fault.Broken.{Broken}
-use Rattle.tap_wire.specs.Fields.{◌>>=◌, slot_at, slots_at, link_at, links_at}
+use Rattle.tap_wire.specs.Fields.{◌>>=◌, slot_at, slots_at, hello_link_at, hello_links_at}
 use Rattle.tap_wire.proofs.Slots.{slots_taken, follow_ascends}
 
 -- what was read before, and what is still read
@@ -71,19 +71,19 @@ slots_ascend p prefix start bytes ss within e =
 
 pub links_go_on : (p : SettingsValue) (count i : ℕ) (before : Option (List ℕ)) (place next : ℕ) (bytes : List ℕ) (front : List Offered)
     (l : Offered) (total : Result (List Offered) Broken) → i < count
-    → next ≡ place + p.digits + 1 → link_at p before place bytes ≡ Ok l
-    → with_front front (links_at p (count - i) before place bytes) ≡ total
-    → with_front (front ++ l ∷ []) (links_at p (count - (i + 1)) (Some l.name) next bytes) ≡ total
-unfolding links_at
-links_go_on p count i before place next bytes front l total lt behind h so_far =
+    → next ≡ place + p.digits + 1 → hello_link_at p before place bytes ≡ Ok l
+    → with_front front (hello_links_at p (count - i) before place bytes) ≡ total
+    → with_front (front ++ l ∷ []) (hello_links_at p (count - (i + 1)) (Some l.name) next bytes) ≡ total
+unfolding hello_links_at
+links_go_on p count i before place next bytes front l total lt step h so_far =
     let k : count - i ≡ suc (count - (i + 1)) = omega arith in
-    let one : with_front front (links_at p (count - i) before place bytes)
-    ≡ with_front (front ++ l ∷ []) (links_at p (count - (i + 1)) (Some l.name) (place + p.digits + 1) bytes) =
-    ap (λ n. with_front front (links_at p n before place bytes)) k
-    ∙ ap (λ r. with_front front (r >>= λ link. links_at p (count - (i + 1)) (Some link.name) (place + p.digits + 1) bytes >>=
+    let one : with_front front (hello_links_at p (count - i) before place bytes)
+    ≡ with_front (front ++ l ∷ []) (hello_links_at p (count - (i + 1)) (Some l.name) (place + p.digits + 1) bytes) =
+    ap (λ n. with_front front (hello_links_at p n before place bytes)) k
+    ∙ ap (λ r. with_front front (r >>= λ link. hello_links_at p (count - (i + 1)) (Some link.name) (place + p.digits + 1) bytes >>=
     λ links. Ok (link ∷ links))) h
-    ∙ regroup front l (links_at p (count - (i + 1)) (Some l.name) (place + p.digits + 1) bytes) in
-    ap (λ k. with_front (front ++ l ∷ []) (links_at p (count - (i + 1)) (Some l.name) k bytes)) behind ∙ sym one ∙ so_far
+    ∙ regroup front l (hello_links_at p (count - (i + 1)) (Some l.name) (place + p.digits + 1) bytes) in
+    ap (λ k. with_front (front ++ l ∷ []) (hello_links_at p (count - (i + 1)) (Some l.name) k bytes)) step ∙ sym one ∙ so_far
 
 -- a link that was read, by another spelling of its name
 pub link_named : (name same : List ℕ) (settled : Bool) (read : Result Offered Broken)
@@ -93,27 +93,28 @@ link_named name same settled read e is = e ∙ ap (λ (n : List ℕ). Ok (record
 
 pub links_end : (p : SettingsValue) (count i : ℕ) (before : Option (List ℕ)) (place : ℕ) (bytes : List ℕ) (front : List Offered)
     (b : Broken) (total : Result (List Offered) Broken) → i < count
-    → link_at p before place bytes ≡ Err b → with_front front (links_at p (count - i) before place bytes) ≡ total → total ≡ Err b
-unfolding links_at
+    → hello_link_at p before place bytes ≡ Err b → with_front front (hello_links_at p (count - i) before place bytes) ≡ total
+    → total ≡ Err b
+unfolding hello_links_at
 links_end p count i before place bytes front b total lt h so_far =
     let k : count - i ≡ suc (count - (i + 1)) = omega arith in
-    let one : with_front front (links_at p (count - i) before place bytes) ≡ Err b =
-    ap (λ n. with_front front (links_at p n before place bytes)) k
-    ∙ ap (λ r. with_front front (r >>= λ link. links_at p (count - (i + 1)) (Some link.name) (place + p.digits + 1) bytes >>=
+    let one : with_front front (hello_links_at p (count - i) before place bytes) ≡ Err b =
+    ap (λ n. with_front front (hello_links_at p n before place bytes)) k
+    ∙ ap (λ r. with_front front (r >>= λ link. hello_links_at p (count - (i + 1)) (Some link.name) (place + p.digits + 1) bytes >>=
     λ links. Ok (link ∷ links))) h in
     sym so_far ∙ one
 
 pub links_done : (p : SettingsValue) (count i : ℕ) (before : Option (List ℕ)) (place : ℕ) (bytes : List ℕ) (front : List Offered)
     (total : Result (List Offered) Broken) → count ≤ i
-    → with_front front (links_at p (count - i) before place bytes) ≡ total → total ≡ Ok front
-unfolding links_at
+    → with_front front (hello_links_at p (count - i) before place bytes) ≡ total → total ≡ Ok front
+unfolding hello_links_at
 links_done p count i before place bytes front total le so_far =
     let k : count - i ≡ 0 = omega arith in
-    let one : with_front front (links_at p (count - i) before place bytes) ≡ Ok front =
-    ap (λ n. with_front front (links_at p n before place bytes)) k ∙ ap (λ (ls : List Offered). Ok ls) (append-nil front) in
+    let one : with_front front (hello_links_at p (count - i) before place bytes) ≡ Ok front =
+    ap (λ n. with_front front (hello_links_at p n before place bytes)) k ∙ ap (λ (ls : List Offered). Ok ls) (append-nil front) in
     sym so_far ∙ one
 
--- one more link of so many bytes fits where all of them do
+-- one more link of so many bytes fits if all of them do
 pub one_more_fits : (size count i : ℕ) → i < count → i * size + size ≤ size * count
 one_more_fits size count i lt = grind arith
 
@@ -121,7 +122,7 @@ one_more_fits size count i lt = grind arith
 pub parts_fit : (left size : ℕ) → size * (left / size) ≤ left
 parts_fit left size = let whole = div-add-mod left size in omega (arith, whole)
 
--- ---- where memory was refused
+-- ---- if memory was refused
 
 -- nothing was read before, and the rest is still read
 pub from_the_start : {X : Type 0} (read : Result (List X) Broken) → with_front [] read ≡ read

@@ -14,7 +14,7 @@ use Rattle.tap_wire.specs.Fields.{number_at, digits_at, digits_unless}
 use Rattle.tap_wire.proofs.Numbers.{are_small, writes_back}
 use Rattle.tap_wire.proofs.Steps.{digits_ok}
 
--- ---- behind a piece
+-- ---- after a piece
 
 pub past : (bytes : List ℕ) (place width : ℕ) (piece rest : List ℕ) → length piece ≡ width → drop place bytes ≡ piece ++ rest
     → drop (place + width) bytes ≡ rest

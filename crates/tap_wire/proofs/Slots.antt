@@ -1,4 +1,4 @@
--- the slots of a Tell, one behind the other
+-- the slots of a Tell, one after the other
 use Rattle.std.proofs.Common.{◌≡◌, ◌<◌, ◌≤◌, ◌++◌, ◌+◌, ◌*◌, ℕ, zero, suc, true, List, [], ◌∷◌, length, drop, get_or, slice_index, All, Option, None, Some, Ok, arith, refl, ap, sym, subst, ◌∙◌, append_assoc}
 use Rattle.std.specs.List.{flat_map}
 use Rattle.std.proofs.lemmas.Bool.Decides.{nat_tests}
@@ -13,7 +13,7 @@ use Rattle.tap_wire.specs.Spelling.{slot_bytes}
 use Rattle.tap_wire.proofs.Steps.{bind_ok, bind_is, field_ok, ok_is}
 use Rattle.tap_wire.proofs.Pieces.{byte_is, past_byte, byte_taken, moved}
 
--- each slot may stand behind the one before it
+-- each slot may follow the one before it
 abbrev pub Follow : ℕ → ℕ → Option Slot → List Slot → Type 0
 Follow base prefix before [] = Unit {0}
 Follow base prefix before (s ∷ ss) =
@@ -149,41 +149,41 @@ follow_digits base prefix before [] follow = All-nil (λ s. s.digit < base)
 follow_digits base prefix before (s ∷ ss) follow =
     All-cons (λ s. s.digit < base) s ss (next_digit base before s.level s.digit follow.1) (follow_digits base prefix (Some s) ss follow.2)
 
-follow_behind : (base prefix : ℕ) (b : Slot) (ss : List Slot) → Follow base prefix (Some b) ss → All (Precedes b) ss
-follow_behind base prefix b [] follow = All-nil (Precedes b)
-follow_behind base prefix b (s ∷ ss) follow =
+all_follow : (base prefix : ℕ) (b : Slot) (ss : List Slot) → Follow base prefix (Some b) ss → All (Precedes b) ss
+all_follow base prefix b [] follow = All-nil (Precedes b)
+all_follow base prefix b (s ∷ ss) follow =
     let here : Precedes b s = record { level = next_rises prefix b s.level follow.0; digit = next_rises_on base b s.level s.digit follow.1 }
     in
-    let behind = follow_behind base prefix s ss follow.2 in
-    All-cons (Precedes b) s ss here (λ k d h. Precedes-trans b s (get_or ss k d) here (behind k d h))
+    let after = all_follow base prefix s ss follow.2 in
+    All-cons (Precedes b) s ss here (λ k d h. Precedes-trans b s (get_or ss k d) here (after k d h))
 
 pub follow_ascends : (base prefix : ℕ) (before : Option Slot) (ss : List Slot) → Follow base prefix before ss → IsAscending ss
 follow_ascends base prefix before [] follow = λ i j d lt within. absurd (omega arith)
 follow_ascends base prefix before (s ∷ ss) follow =
-    AllPairs-cons Precedes s ss (follow_behind base prefix s ss follow.2) (follow_ascends base prefix (Some s) ss follow.2)
+    AllPairs-cons Precedes s ss (all_follow base prefix s ss follow.2) (follow_ascends base prefix (Some s) ss follow.2)
 
--- the first of these slots stands behind the one before
-abbrev FirstBehind : Option Slot → List Slot → Type 0
-FirstBehind None ss = Unit {0}
-FirstBehind (Some b) ss = All (Precedes b) ss
+-- the first of these slots follows the one before
+abbrev FirstFollows : Option Slot → List Slot → Type 0
+FirstFollows None ss = Unit {0}
+FirstFollows (Some b) ss = All (Precedes b) ss
 
-first_level : (prefix : ℕ) (before : Option Slot) (s : Slot) (ss : List Slot) → FirstBehind before (s ∷ ss) → s.level ≤ prefix
+first_level : (prefix : ℕ) (before : Option Slot) (s : Slot) (ss : List Slot) → FirstFollows before (s ∷ ss) → s.level ≤ prefix
     → is_next_level prefix before s.level ≡ true
-first_level prefix None s ss behind low = grind (arith, nat_tests)
-first_level prefix (Some b) s ss behind low = let h = behind 0 s (omega arith) in grind (arith, nat_tests, h.level)
+first_level prefix None s ss after low = grind (arith, nat_tests)
+first_level prefix (Some b) s ss after low = let h = after 0 s (omega arith) in grind (arith, nat_tests, h.level)
 
-first_digit : (base : ℕ) (before : Option Slot) (s : Slot) (ss : List Slot) → FirstBehind before (s ∷ ss) → s.digit < base
+first_digit : (base : ℕ) (before : Option Slot) (s : Slot) (ss : List Slot) → FirstFollows before (s ∷ ss) → s.digit < base
     → is_next_digit base before s.level s.digit ≡ true
-first_digit base None s ss behind low = grind (arith, nat_tests)
-first_digit base (Some b) s ss behind low = let h = behind 0 s (omega arith) in grind (arith, nat_tests, h.level, h.digit)
+first_digit base None s ss after low = grind (arith, nat_tests)
+first_digit base (Some b) s ss after low = let h = after 0 s (omega arith) in grind (arith, nat_tests, h.level, h.digit)
 
-pub follow_from : (base prefix : ℕ) (before : Option Slot) (ss : List Slot) → FirstBehind before ss → All (λ s. s.level ≤ prefix) ss
+pub follow_from : (base prefix : ℕ) (before : Option Slot) (ss : List Slot) → FirstFollows before ss → All (λ s. s.level ≤ prefix) ss
     → All (λ s. s.digit < base) ss → IsAscending ss
     → Follow base prefix before ss
-follow_from base prefix before [] behind levels digits ascending = tt
-follow_from base prefix before (s ∷ ss) behind levels digits ascending = (
-  first_level prefix before s ss behind (levels 0 s (omega arith)),
-  first_digit base before s ss behind (digits 0 s (omega arith)),
+follow_from base prefix before [] after levels digits ascending = tt
+follow_from base prefix before (s ∷ ss) after levels digits ascending = (
+  first_level prefix before s ss after (levels 0 s (omega arith)),
+  first_digit base before s ss after (digits 0 s (omega arith)),
   follow_from base prefix (Some s) ss (λ k d h. ascending 0 (suc k) d (omega arith) (omega arith)) (λ k d h. levels (suc k) d (omega arith))
       (λ k d h. digits (suc k) d (omega arith))
       (λ i j d lt within. ascending (suc i) (suc j) d (omega arith) (omega arith)),

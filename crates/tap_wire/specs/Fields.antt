@@ -20,7 +20,7 @@ abbrev pub ◌>>=◌ : {X Y E : Type 0} → Result X E → (X → Result Y E) �
 abbrev pub broken : {X : Type 0} → ℕ → Result X Broken
 broken place = Err (record { at = place })
 
--- the field at this place has this value, where the value keeps the field's rule
+-- the field at this place has this value, if the value keeps the field's rule
 abbrev pub field : {X : Type 0} → Bool → ℕ → X → Result X Broken
 field holds place value = if holds then Ok value else broken place
 
@@ -44,12 +44,12 @@ level_at p place bytes = field (is_level p (slice_index bytes place)) place (sli
 abbrev pub flag_at : ℕ → List ℕ → Result Bool Broken
 flag_at place bytes = field (nat_le (slice_index bytes place) 1) place (slice_index bytes place == 1)
 
--- the digits, where none is bad
+-- the digits, if none is bad
 abbrev pub digits_unless : {E : Type 0} → (ℕ → E) → List ℕ → Option ℕ → Result (List ℕ) E
 digits_unless bad digits None = Ok digits
 digits_unless bad digits (Some at) = Err (bad at)
 
--- a name is so many digits below the base; where one isn't, the fault carries its place
+-- a name is so many digits below the base; if one isn't, the fault carries its place
 abbrev pub digits_at : {E : Type 0} → (ℕ → E) → SettingsValue → ℕ → List ℕ → Result (List ℕ) E
 digits_at bad p place bytes =
     let digits = take p.digits (drop place bytes)
@@ -59,7 +59,7 @@ digits_at bad p place bytes =
 abbrev pub name_at : SettingsValue → ℕ → List ℕ → Result (List ℕ) Broken
 name_at p place bytes = digits_at (λ at. record { at = at }) p place bytes
 
--- a flag that is 1 exactly where bytes follow it, and then a name
+-- a flag that is 1 exactly if bytes follow it, and then a name
 abbrev pub optional_at : SettingsValue → ℕ → List ℕ → Result (Option (List ℕ)) Broken
 optional_at p place bytes =
     if length bytes == place + 1
@@ -71,7 +71,7 @@ abbrev pub is_next_level : ℕ → Option Slot → ℕ → Bool
 is_next_level prefix None level = nat_le level prefix
 is_next_level prefix (Some before) level = nat_le level prefix && nat_le before.level level
 
--- its digit is below the base, and at the level of the slot before above that one's digit
+-- its digit is below the base, and above that of the slot before if that one has the same level
 abbrev pub is_next_digit : ℕ → Option Slot → ℕ → ℕ → Bool
 is_next_digit base None level digit = nat_lt digit base
 is_next_digit base (Some before) level digit = nat_lt digit base && (not (level == before.level) || nat_lt before.digit digit)
@@ -84,7 +84,7 @@ slot_at p prefix before place bytes =
     field (is_next_level prefix before level) place level >>= λ level.
     field (is_next_digit p.base before level digit) (place + 1) (record { level = level; digit = digit })
 
--- so many slots behind the one before
+-- so many slots that follow the one before
 unfoldable pub slots_at : SettingsValue → ℕ → ℕ → Option Slot → ℕ → List ℕ → Result (List Slot) Broken
 slots_at p prefix zero before place bytes = Ok []
 slots_at p prefix (suc count) before place bytes =
@@ -98,19 +98,19 @@ is_next_name None name = true
 is_next_name (Some before) name = is_lt (slice_cmp nat_cmp before name)
 
 -- a link has two fields, its name and whether it is settled
-abbrev pub link_at : SettingsValue → Option (List ℕ) → ℕ → List ℕ → Result Offered Broken
-link_at p before place bytes =
+abbrev pub hello_link_at : SettingsValue → Option (List ℕ) → ℕ → List ℕ → Result Offered Broken
+hello_link_at p before place bytes =
     name_at p place bytes >>= λ name.
     field (is_next_name before name) place name >>= λ name.
     flag_at (place + p.digits) bytes >>= λ settled.
     Ok (record { name = name; settled = settled })
 
--- so many links behind the name before
-unfoldable pub links_at : SettingsValue → ℕ → Option (List ℕ) → ℕ → List ℕ → Result (List Offered) Broken
-links_at p zero before place bytes = Ok []
-links_at p (suc count) before place bytes =
-    link_at p before place bytes >>= λ link.
-    links_at p count (Some link.name) (place + p.digits + 1) bytes >>= λ links.
+-- so many links that follow the name before
+unfoldable pub hello_links_at : SettingsValue → ℕ → Option (List ℕ) → ℕ → List ℕ → Result (List Offered) Broken
+hello_links_at p zero before place bytes = Ok []
+hello_links_at p (suc count) before place bytes =
+    hello_link_at p before place bytes >>= λ link.
+    hello_links_at p count (Some link.name) (place + p.digits + 1) bytes >>= λ links.
     Ok (link ∷ links)
 
 -- a word is the rest of the bytes, all lower-case letters and digits

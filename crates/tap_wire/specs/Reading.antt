@@ -17,9 +17,9 @@ use Rattle.tap_wire.specs.declared.opening.Opening.{Opening}
 use Rattle.tap_wire.specs.Fault.{fault_of_head, fault_of_body}
 use Rattle.tap_wire.specs.Kind.{code_of, kind_of, kind_of_code, has_list}
 use Rattle.tap_wire.specs.Layout.{is_long, version_of, head_len, body_start, slot_len, link_len, is_length}
-use Rattle.tap_wire.specs.Fields.{◌>>=◌, field, number_at, session_at, level_at, flag_at, digits_at, name_at, optional_at, slots_at, links_at, word_at}
+use Rattle.tap_wire.specs.Fields.{◌>>=◌, field, number_at, session_at, level_at, flag_at, digits_at, name_at, optional_at, slots_at, hello_links_at, word_at}
 
--- the two names, where the bytes are as many as they should be
+-- the two names, if the bytes are as many as they should be
 abbrev pub names_at : SettingsValue → Kind → List ℕ → Result Opening HeadFault
 names_at p kind bytes =
     digits_at BadDigit p (head_len p) bytes >>= λ sender.
@@ -35,7 +35,7 @@ sized p kind len bytes =
     else if nat_lt (body_start p + len) (length bytes) then Err (Trailing (length bytes - (body_start p + len)))
     else names_at p kind bytes
 
--- the rest of the head of a frame of this kind, where its code is one
+-- the rest of the head of a frame of this kind, if its code is one
 abbrev pub of_kind : SettingsValue → Option Kind → List ℕ → Result Opening HeadFault
 of_kind p None bytes = Err (BadKind (slice_index bytes 1))
 of_kind p (Some kind) bytes = sized p kind (number_at 2 2 bytes) bytes
@@ -87,7 +87,7 @@ unfoldable pub hello_at : SettingsValue → ℕ → List ℕ → Result Body Bro
 hello_at p start bytes =
     session_at start bytes >>= λ session.
     flag_at (start + 4) bytes >>= λ core.
-    links_at p ((length bytes - (start + 5)) / link_len p) None (start + 5) bytes >>= λ links.
+    hello_links_at p ((length bytes - (start + 5)) / link_len p) None (start + 5) bytes >>= λ links.
     Ok (Hello session core links)
 
 -- a Link: the version, and whether there is a link
@@ -112,11 +112,11 @@ find_at p start bytes =
     level_at p (start + 4 + 2 * p.digits) bytes >>= λ level.
     Ok (Find (number_at 4 start bytes) object asker level)
 
--- an Answer: the ticket, and a server where one is found
+-- an Answer: the ticket, and a server if one is found
 abbrev pub answer_at : SettingsValue → ℕ → List ℕ → Result Body Broken
 answer_at p start bytes = optional_at p (start + 4) bytes >>= λ server. Ok (Answer (number_at 4 start bytes) server)
 
--- a Leave: a replacement where one is given
+-- a Leave: a replacement if one is given
 abbrev pub leave_at : SettingsValue → ℕ → List ℕ → Result Body Broken
 leave_at p start bytes = optional_at p start bytes >>= λ replacement. Ok (Leave replacement)
 
@@ -160,7 +160,7 @@ frame_of p bytes =
     in_frame (λ b. fault_of_body (faults.Field b)) (body_at p opening.kind (body_start p) bytes) >>= λ body.
     Ok (record { from = opening.sender; to = opening.receiver; body = body })
 
--- memory is wanted for the lists of frames alone, and for none of a refusal
+-- memory is wanted for a frame with a list alone, and never for a refusal
 abbrev pub WantsMemory : Result Frame WireFault → Type 0
 WantsMemory read = IsOkAnd read (λ frame. IsTrue (has_list (kind_of frame.body)))
 

@@ -32,7 +32,7 @@ slot_bytes slot = slot.level ∷ slot.digit ∷ []
 abbrev pub link_bytes : Offered → List ℕ
 link_bytes link = link.name ++ flag link.settled ∷ []
 
--- a flag, and the name where there is one
+-- a flag, and the name if there is one
 abbrev pub optional_bytes : Option (List ℕ) → List ℕ
 optional_bytes None = 0 ∷ []
 optional_bytes (Some name) = 1 ∷ name

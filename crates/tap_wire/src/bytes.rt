@@ -21,7 +21,9 @@ impl Model for Bytes {
 }
 
 impl Bytes {
-    /// A list with the same bytes.
+    /// A list with the same bytes. It wants memory for them.
+    ///
+    /// Rule: docs/FORMATS.md, "Frames".
     pub fn copy_of(alloc: Global, bytes: &[u8]) -> Result<Bytes, NoMemory>
         ensures { IfOk result (λ b. b ≡ bytes.now) }
     {
@@ -31,6 +33,8 @@ impl Bytes {
     }
 
     /// The bytes, lent.
+    ///
+    /// Rule: docs/FORMATS.md, "Frames".
     pub fn as_slice(&self) -> &[u8]
         ensures { result.now ≡ self.now }
     {
@@ -38,6 +42,8 @@ impl Bytes {
     }
 
     /// The list of a vector's bytes. It takes no memory.
+    ///
+    /// Rule: docs/FORMATS.md, "Frames".
     pub fn from_vec(bytes: Vec<u8>) -> Bytes
         ensures { result ≡ bytes.items }
     {
@@ -45,6 +51,8 @@ impl Bytes {
     }
 
     /// The vector of the bytes. It takes no memory.
+    ///
+    /// Rule: docs/FORMATS.md, "Frames".
     pub fn into_vec(self) -> Vec<u8>
         ensures { result.items ≡ self }
     {

@@ -31,7 +31,7 @@ fn head_name_at(settings: &Settings, bytes: &[u8], place: usize) -> Result<Name,
     }
 }
 
-// The two names behind the head.
+// The two names after the head.
 fn names_at(settings: &Settings, kind: Kind, bytes: &[u8]) -> Result<Opening, HeadFault>
     requires { body_start settings.now ≤ length bytes.now }
     ensures { result ≡ names_at settings.now kind bytes.now }
@@ -126,9 +126,9 @@ pub fn decode(alloc: Global, settings: &Settings, bytes: &[u8]) -> Result<Frame,
     ensures exact { result ≢ Err WireFault.NoMemory → result ≡ frame_of settings.now bytes.now }
     // Want of memory comes in place of a frame with a list alone.
     ensures memory { result ≡ Err WireFault.NoMemory → WantsMemory (frame_of settings.now bytes.now) }
-    // What is read is spelled so, and keeps the rules.
+    // The bytes are the spelling of what is read, which keeps the rules.
     ensures found { IfOk result (λ frame. IsFrame settings.now frame × (bytes.now ≡ spelling settings.now frame)) }
-    // What is spelled so is read.
+    // A frame that the bytes are the spelling of is read.
     ensures only { (frame : Frame) → IsFrame settings.now frame → IsTyped frame.body → bytes.now ≡ spelling settings.now frame
         → result ≢ Err WireFault.NoMemory → result ≡ Ok frame }
 {

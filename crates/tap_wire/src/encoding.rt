@@ -52,7 +52,7 @@ pub fn encode(alloc: Global, settings: &Settings, frame: &Frame) -> Result<Bytes
     Ok(Bytes::from_vec(out))
 }
 
-/// Adds the one spelling of a frame whose fields keep their rules at the end of bytes. Where memory is refused they stay as
+/// Adds the one spelling of a frame whose fields keep their rules at the end of bytes. If memory is refused they stay as
 /// they were.
 ///
 /// Rule: docs/FORMATS.md, "Frames".
@@ -68,7 +68,7 @@ pub fn encode_into(out: &mut Vec<u8>, settings: &Settings, frame: &Frame) -> Res
 }
 
 /// Adds the one spelling of a Tell at the end of bytes, its watch list lent: so Tells to many receivers share one list, and
-/// none of them copies it. Where memory is refused the bytes stay as they were.
+/// none of them copies it. If memory is refused the bytes stay as they were.
 ///
 /// Rule: docs/FORMATS.md, "Frames".
 pub fn encode_tell_into(

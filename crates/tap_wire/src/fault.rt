@@ -5,13 +5,13 @@ ghost use Rattle.tap_wire.specs.Fault.{fault_of_head, fault_of_body};
 
 use std::alloc::{AllocError, AllocFailed};
 
-/// Why bytes are no frame, as far as its head and its two names tell: the first refusal, in the order of the variants
-/// but for `Short`, which also comes behind `BadCount`.
+/// Why bytes are no frame, by its head and its two names alone: the first refusal, in the order of the variants but for
+/// `Short`, which also comes after `BadCount`.
 ///
 /// Rule: docs/FORMATS.md, "Frames".
 #[derive(Clone, Copy, Debug, PartialEq, Eq)]
 pub enum HeadFault {
-    /// So many bytes are missing: of the head, or, where the head is right, of the whole frame.
+    /// So many bytes are missing: of the head, or, if the head is right, of the whole frame.
     Short(usize),
     /// The first byte, which is another version than that of these settings.
     BadVersion(u8),
@@ -19,7 +19,7 @@ pub enum HeadFault {
     BadKind(u8),
     /// The length of the body that the head states, which no body of this kind has.
     BadLength(u16),
-    /// The number of digits that the head states, where it isn't that of these settings.
+    /// The number of digits that the head states, if it isn't that of these settings.
     BadCount(u8),
     /// So many bytes follow the frame.
     Trailing(usize),
@@ -27,13 +27,13 @@ pub enum HeadFault {
     BadDigit(usize),
 }
 
-/// Why bytes are no frame: the first refusal, in the order of the variants but for `Short`, which also comes behind
-/// `BadCount`; or want of memory, which may come in place of any answer.
+/// Why bytes are no frame: the first refusal, in the order of the variants but for `Short`, which also comes after
+/// `BadCount`. Want of memory comes in place of a frame with slots, links or letters alone, and never of a refusal.
 ///
 /// Rule: docs/FORMATS.md, "Frames".
 #[derive(Clone, Copy, Debug, PartialEq, Eq)]
 pub enum WireFault {
-    /// So many bytes are missing: of the head, or, where the head is right, of the whole frame.
+    /// So many bytes are missing: of the head, or, if the head is right, of the whole frame.
     Short(usize),
     /// The first byte, which is another version than that of these settings.
     BadVersion(u8),
@@ -41,7 +41,7 @@ pub enum WireFault {
     BadKind(u8),
     /// The length of the body that the head states, which no body of this kind has.
     BadLength(u16),
-    /// The number of digits that the head states, where it isn't that of these settings.
+    /// The number of digits that the head states, if it isn't that of these settings.
     BadCount(u8),
     /// So many bytes follow the frame.
     Trailing(usize),

@@ -105,7 +105,7 @@ pub(crate) fn name_at(settings: &Settings, bytes: &[u8], place: usize) -> Result
     }
 }
 
-// A flag that is 1 exactly where bytes follow it, and then a name.
+// A flag that is 1 exactly if bytes follow it, and then a name.
 pub(crate) fn optional_at(
     settings: &Settings,
     bytes: &[u8],

@@ -3,7 +3,7 @@ ghost use Rattle.std.specs.Option.{option_copied};
 ghost use Rattle.tap_name.specs.Name.{IsName};
 ghost use Rattle.tap_name.specs.declared.slot.Slot.{Slot};
 ghost use Rattle.tap_name.specs.declared.slot.Offered.{Offered};
-ghost use Rattle.tap_wire.specs.Fields.{slot_at, slots_at, link_at, links_at, word_at, is_next_level, is_next_digit, is_next_name};
+ghost use Rattle.tap_wire.specs.Fields.{slot_at, slots_at, hello_link_at, hello_links_at, word_at, is_next_level, is_next_digit, is_next_name};
 ghost use Rattle.tap_wire.specs.Layout.{slot_len, link_len};
 ghost use Rattle.tap_wire.specs.Reading.{Fails, Gives};
 
@@ -12,11 +12,10 @@ use crate::fault::{BodyFault, Broken};
 use crate::fields::{bad_digit, digits_at, flag_at, name_of};
 use crate::layout::{SLOT_LEN, link_len};
 use std::alloc::Global;
-use std::cmp::Ordering;
 use tap_name::{List, Offered, Settings, Slot, are_word_bytes};
 use tap_watch::Watch;
 
-// Whether a slot of this level may stand behind the one before.
+// Whether a slot of this level may follow the one before.
 fn is_next_level(prefix: u8, before: Option<Slot>, level: u8) -> bool
     ensures { result ≡ is_next_level prefix before level }
 {
@@ -26,7 +25,7 @@ fn is_next_level(prefix: u8, before: Option<Slot>, level: u8) -> bool
     }
 }
 
-// Whether a slot of this digit may stand behind the one before, where its level may.
+// Whether a slot of this digit may follow the one before, if its level may.
 fn is_next_digit(base: u8, before: Option<Slot>, level: u8, digit: u8) -> bool
     ensures { result ≡ is_next_digit base before level digit }
 {
@@ -36,7 +35,7 @@ fn is_next_digit(base: u8, before: Option<Slot>, level: u8, digit: u8) -> bool
     }
 }
 
-// A slot behind the one before.
+// A slot that follows the one before.
 fn slot_at(
     settings: &Settings,
     bytes: &[u8],
@@ -58,7 +57,7 @@ fn slot_at(
     Ok(Slot { level, digit })
 }
 
-// Why slots aren't read where memory was refused: the first field that breaks its rule, and else want of memory.
+// Why slots aren't read if memory was refused: the first field that breaks its rule, and else want of memory.
 fn slots_fault(
     settings: &Settings,
     bytes: &[u8],
@@ -108,19 +107,20 @@ pub(crate) fn watch_at(
     Ok(Watch::from_vec(slots))
 }
 
-// Whether a link of a name with these digits may stand behind the name before.
+// Whether a name with these digits may follow the name before.
 #[inline(always)]
+#[tactic(auto, using(crate::proofs::Links::is_less))]
 fn is_next_name(before: Option<&[u8]>, digits: &[u8]) -> bool
     ensures { result ≡ is_next_name (option_copied before.entry) digits.now }
 {
     match before {
         None => true,
-        Some(before) => before.cmp(digits) == Ordering::Less,
+        Some(before) => before < digits,
     }
 }
 
-// Whether the link at a place, behind the name before, is settled. Its name isn't made here, but its digits are found to be
-// one.
+// Whether the link at a place, which follows the name before, is settled. Its name isn't made here, but its digits are
+// found to be one.
 #[inline(always)]
 fn settled_at(
     settings: &Settings,
@@ -129,10 +129,10 @@ fn settled_at(
     before: Option<&[u8]>,
 ) -> Result<bool, Broken>
     requires { place + settings.now.digits + 1 ≤ length bytes.now }
-    ensures ok { IfOk result (λ settled. link_at settings.now (option_copied before.entry) place bytes.now
+    ensures ok { IfOk result (λ settled. hello_link_at settings.now (option_copied before.entry) place bytes.now
         ≡ Ok (record { name = take settings.now.digits (drop place bytes.now); settled = settled })) }
     ensures name { OnOk result (IsName settings.now (take settings.now.digits (drop place bytes.now))) }
-    ensures err { IfErr result (λ broken. link_at settings.now (option_copied before.entry) place bytes.now ≡ Err broken) }
+    ensures err { IfErr result (λ broken. hello_link_at settings.now (option_copied before.entry) place bytes.now ≡ Err broken) }
 {
     let digits = digits_at(settings, bytes, place);
     if let Some(at) = bad_digit(settings, digits) {
@@ -144,10 +144,10 @@ fn settled_at(
     flag_at(bytes, place + settings.digits() as usize)
 }
 
-// Why links aren't read where memory was refused: the first field that breaks its rule, and else want of memory.
+// Why links aren't read if memory was refused: the first field that breaks its rule, and else want of memory.
 fn links_fault(settings: &Settings, bytes: &[u8], start: usize, count: usize) -> BodyFault
     requires { start + link_len settings.now * count ≤ length bytes.now }
-    ensures { Fails result (links_at settings.now count None start bytes.now) }
+    ensures { Fails result (hello_links_at settings.now count None start bytes.now) }
 {
     let size = link_len(settings);
     let mut before = None;
@@ -163,14 +163,14 @@ fn links_fault(settings: &Settings, bytes: &[u8], start: usize, count: usize) ->
 }
 
 // The links that are left.
-pub(crate) fn links_at(
+pub(crate) fn hello_links_at(
     alloc: Global,
     settings: &Settings,
     bytes: &[u8],
     start: usize,
 ) -> Result<List<Offered>, BodyFault>
     requires { start ≤ length bytes.now }
-    ensures { Gives result (links_at settings.now ((length bytes.now - start) / link_len settings.now) None start bytes.now) }
+    ensures { Gives result (hello_links_at settings.now ((length bytes.now - start) / link_len settings.now) None start bytes.now) }
 {
     let size = link_len(settings);
     let count = (bytes.len() - start) / size;

@@ -1,6 +1,8 @@
 use std::alloc::{AllocError, AllocFailed};
 
 /// Memory was refused.
+///
+/// Rule: docs/FORMATS.md, "Frames".
 #[derive(Clone, Copy, Debug, PartialEq, Eq)]
 pub struct NoMemory;
 

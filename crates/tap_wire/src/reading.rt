@@ -7,7 +7,7 @@ use crate::fault::{BodyFault, Broken};
 use crate::fields::{flag_at, level_at, name_at, optional_at, session_at, u16_at, u32_at};
 use crate::frame::Body;
 use crate::kind::Kind;
-use crate::lists::{links_at, watch_at, word_at};
+use crate::lists::{hello_links_at, watch_at, word_at};
 use std::alloc::Global;
 use tap_name::Settings;
 
@@ -85,7 +85,7 @@ fn hello_at(
 {
     let session = session_at(bytes, start)?;
     let core = flag_at(bytes, start + 4)?;
-    let links = links_at(alloc, settings, bytes, start + 5)?;
+    let links = hello_links_at(alloc, settings, bytes, start + 5)?;
     Ok(Body::Hello {
         session,
         core,
@@ -93,7 +93,7 @@ fn hello_at(
     })
 }
 
-fn link_at(bytes: &[u8], start: usize) -> Result<Body, Broken>
+fn link_body_at(bytes: &[u8], start: usize) -> Result<Body, Broken>
     requires { start + 5 ≤ length bytes.now }
     ensures { result ≡ link_body_at start bytes.now }
 {
@@ -209,7 +209,7 @@ pub(crate) fn body_at(
         },
         Kind::Done => Body::Done,
         Kind::Release => Body::Release,
-        Kind::Link => link_at(bytes, start)?,
+        Kind::Link => link_body_at(bytes, start)?,
         Kind::Lay => lay_at(settings, bytes, start)?,
         Kind::Find => find_at(settings, bytes, start)?,
         Kind::Answer => answer_at(settings, bytes, start)?,

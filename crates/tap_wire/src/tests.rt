@@ -1,6 +1,6 @@
 use crate::{
-    Body, Bytes, MOST_LINKS, TellFields, WireFault, decode, decode_head, encode, encode_into,
-    encode_tell_into,
+    Body, Bytes, MOST_LETTERS, MOST_LINKS, TellFields, WireFault, decode, decode_head, encode,
+    encode_into, encode_tell_into,
 };
 use std::alloc::{AllocError, Global};
 use std::process::Abort;
@@ -29,16 +29,38 @@ fn refuses_damaged_frames(rt: HostRuntime) -> Result<(), Fail> {
     for (bytes, fault) in cases.iter() {
         assert_eq!(rt; decode(rt.alloc(), &settings, bytes).err(), Some(*fault));
     }
-    let long = Settings::new(2, 9, 1).ok_or("settings")?;
-    let mut seek = [0; 32];
-    seek[0] = 2;
-    seek[1] = 1;
-    seek[3] = 9;
-    seek[4] = 8;
-    assert_eq!(rt;
-        decode(rt.alloc(), &long, &seek).err(),
-        Some(WireFault::BadCount(8))
-    );
+    Ok(())
+}
+
+// A head of the second version that states eight digits in place of nine.
+#[test]
+fn refuses_another_number_of_digits(rt: HostRuntime) -> Result<(), Fail> {
+    let settings = Settings::new(2, 9, 1).ok_or("settings")?;
+    let bytes = [2, 1, 0, 9, 8];
+    let fault = decode(rt.alloc(), &settings, &bytes).err();
+    assert_eq!(rt; fault, Some(WireFault::BadCount(8)));
+    Ok(())
+}
+
+// A head may state as many links or letters as there may be, whose bytes are then missing, and no more.
+#[test]
+fn refuses_a_link_or_letter_too_many(rt: HostRuntime) -> Result<(), Fail> {
+    let settings = Settings::new(2, 2, 1).ok_or("settings")?;
+    let cases = [
+        (
+            [1, 3, 3, 2, 0, 1, 0, 0],
+            WireFault::Short(5 + 3 * MOST_LINKS),
+        ),
+        ([1, 3, 3, 5, 0, 1, 0, 0], WireFault::BadLength(773)),
+        (
+            [1, 16, 0, 43, 0, 1, 0, 0],
+            WireFault::Short(11 + MOST_LETTERS),
+        ),
+        ([1, 16, 0, 44, 0, 1, 0, 0], WireFault::BadLength(44)),
+    ];
+    for (bytes, fault) in cases.iter() {
+        assert_eq!(rt; decode(rt.alloc(), &settings, bytes).err(), Some(*fault));
+    }
     Ok(())
 }
 
@@ -106,7 +128,7 @@ fn check_frame(
     Ok(())
 }
 
-// Reads a frame and spells it again behind a byte.
+// Reads a frame and spells it again after a byte, which stays.
 fn check_appended(
     rt: &impl Abort,
     alloc: Global,
@@ -116,6 +138,7 @@ fn check_appended(
     let frame = decode(alloc, settings, bytes).map_err(|_| "a frame")?;
     let mut out = vec![in alloc; 9]?;
     encode_into(&mut out, settings, &frame).map_err(|_| "memory")?;
+    assert_eq!(rt; out[0], 9);
     assert_eq!(rt; &out[1..], bytes);
     Ok(())
 }
@@ -140,7 +163,7 @@ const TWO_TELLS: [u8; 40] = [
 ];
 
 #[test]
-fn tells_many_of_one_watch_list(rt: HostRuntime) -> Result<(), Fail> {
+fn spells_many_tells_of_one_watch_list(rt: HostRuntime) -> Result<(), Fail> {
     let settings = Settings::new(2, 2, 1).ok_or("settings")?;
     let joiner = read_name(&settings, b"01").map_err(|_| "a name")?;
     let from = read_name(&settings, b"00").map_err(|_| "a name")?;
@@ -160,12 +183,18 @@ fn tells_many_of_one_watch_list(rt: HostRuntime) -> Result<(), Fail> {
         encode_tell_into(&mut out, &settings, &from, &to, &fields, &watch).map_err(|_| "memory")?;
     }
     assert_eq!(rt; out.as_slice(), TWO_TELLS.as_slice());
-    let frame = decode(rt.alloc(), &settings, &out[..20]).map_err(|_| "a frame")?;
-    let is_told = match &frame.body {
+    Ok(())
+}
+
+#[test]
+fn reads_the_watch_list_of_a_tell(rt: HostRuntime) -> Result<(), Fail> {
+    let settings = Settings::new(2, 2, 1).ok_or("settings")?;
+    let frame = decode(rt.alloc(), &settings, &TWO_TELLS[..20]).map_err(|_| "a frame")?;
+    let is_watched = match &frame.body {
         Body::Tell { watch, .. } => watch.has(Slot { level: 0, digit: 1 }),
         _ => false,
     };
-    assert!(rt; is_told);
+    assert!(rt; is_watched);
     Ok(())
 }
 
@@ -176,6 +205,5 @@ fn takes_bytes_and_gives_them_back(rt: HostRuntime) -> Result<(), Fail> {
     let same = bytes.into_vec();
     assert_eq!(rt; copy.as_slice(), [1, 2, 3].as_slice());
     assert_eq!(rt; same.as_slice(), [1, 2, 3].as_slice());
-    assert_eq!(rt; MOST_LINKS, 255);
     Ok(())
 }

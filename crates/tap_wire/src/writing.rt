@@ -59,7 +59,7 @@ pub(crate) fn put_name(out: &mut Vec<u8>, name: &Name)
     put_bytes(out, name.as_slice());
 }
 
-// A flag, and the name where there is one.
+// A flag, and the name if there is one.
 fn put_optional(out: &mut Vec<u8>, name: &Option<Name>)
     requires { HasRoom out.old (optional_bytes name.now) }
     ensures { Appends out.old out.new (optional_bytes name.now) }

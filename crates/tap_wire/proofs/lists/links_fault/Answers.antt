@@ -1,7 +1,7 @@
 use Rattle.std.proofs.Common.{◌≡◌, ◌∙◌, ◌+◌, ◌*◌, ◌-◌, ◌++◌, ◌∷◌, [], None, arith, sym, ap}
 use Rattle.std.specs.Option.{option_copied}
 use Rattle.tap_name.specs.declared.slot.Offered.{Offered}
-use Rattle.tap_wire.specs.Fields.{links_at}
+use Rattle.tap_wire.specs.Fields.{hello_links_at}
 use Rattle.tap_wire.proofs.Loops.{links_go_on, links_end, links_done, one_more_fits, from_the_start, is_read, link_named}
 use Rattle.tap_wire.proofs.lists.links_fault.Goals as goal
 
@@ -21,8 +21,8 @@ loop-init c =
     record {
       reads = (
         [],
-        from_the_start (links_at c.args.settings.now (count - 0) None c.args.start c.args.bytes.now)
-            ∙ ap (λ n. links_at c.args.settings.now n None c.args.start c.args.bytes.now) (omega arith),
+        from_the_start (hello_links_at c.args.settings.now (count - 0) None c.args.start c.args.bytes.now)
+            ∙ ap (λ n. hello_links_at c.args.settings.now n None c.args.start c.args.bytes.now) (omega arith),
       );
       at = omega arith;
     }
@@ -38,7 +38,7 @@ loop-preserved c =
         front ++ link ∷ [],
         links_go_on p c.args.count c.loop.counter (option_copied c.loop.before) c.loop.place
             (c.loop.place + c.link_len-size.result) c.args.bytes.now front link
-            (links_at p c.args.count None c.args.start c.args.bytes.now) c.loop-test.true next
+            (hello_links_at p c.args.count None c.args.start c.args.bytes.now) c.loop-test.true next
             (link_named _ _ c.in_default.field-0 _ c.in_default.ensures.ok (sym c.digits_at.ensures)) c.loop.invariant.reads.1,
       );
       at = grind (arith, c.loop.invariant.at);
@@ -49,12 +49,12 @@ returns-in-Err c =
     let p = c.args.settings.now in
     links_end p c.args.count c.loop.counter (option_copied c.loop.before) c.loop.place c.args.bytes.now c.loop.invariant.reads.0
     c.in-Err.broken
-    (links_at p c.args.count None c.args.start c.args.bytes.now) c.loop-test.true c.in-Err.ensures.err c.loop.invariant.reads.1
+    (hello_links_at p c.args.count None c.args.start c.args.bytes.now) c.loop-test.true c.in-Err.ensures.err c.loop.invariant.reads.1
 
 pub returns : goal.returns
 returns c =
     let p = c.args.settings.now in
     let front = c.loop.invariant.reads.0 in
-    let read = links_at p c.args.count None c.args.start c.args.bytes.now in
+    let read = hello_links_at p c.args.count None c.args.start c.args.bytes.now in
     is_read read front (links_done p c.args.count c.loop.counter (option_copied c.loop.before) c.loop.place c.args.bytes.now front read
     c.loop-test.false c.loop.invariant.reads.1)

@@ -2,9 +2,9 @@ use Rattle.std.proofs.Common.{◌≡◌, ◌∙◌, ◌+◌, ◌/◌, ◌-◌, N
 use Rattle.std.specs.Option.{option_copied}
 use Rattle.std.proofs.lemmas.Result.{err_from_is_err_and}
 use Rattle.tap_name.specs.declared.slot.Offered.{Offered}
-use Rattle.tap_wire.specs.Fields.{links_at}
+use Rattle.tap_wire.specs.Fields.{hello_links_at}
 use Rattle.tap_wire.proofs.Loops.{links_go_on, links_end, links_done, link_named}
-use Rattle.tap_wire.proofs.lists.links_at.Goals as goal
+use Rattle.tap_wire.proofs.lists.hello_links_at.Goals as goal
 
 pub returns-in_err-settled : goal.returns-in_err-settled
 returns-in_err-settled c =
@@ -13,9 +13,9 @@ returns-in_err-settled c =
     let count = (length bytes - c.args.start) / c.link_len-size.result in
     let made = err_from_is_err_and c.from_residual.result c.from_residual.ensures.1 in
     rw (made.1, made.2)
-    (ap (λ size. links_at p ((length bytes - c.args.start) / size) None c.args.start bytes) (sym c.link_len-size.ensures.value)
+    (ap (λ size. hello_links_at p ((length bytes - c.args.start) / size) None c.args.start bytes) (sym c.link_len-size.ensures.value)
     ∙ links_end p count c.loop.counter (option_copied c.loop.before) c.loop.place bytes c.loop.links.items c.in_err-settled.field-0.0
-    (links_at p count None c.args.start bytes) c.loop-test.true c.in_err-settled.ensures.err c.loop.invariant.reads)
+    (hello_links_at p count None c.args.start bytes) c.loop-test.true c.in_err-settled.ensures.err c.loop.invariant.reads)
 
 pub loop-preserved : goal.loop-preserved
 loop-preserved c =
@@ -27,7 +27,7 @@ loop-preserved c =
     record {
       reads = rw (c.push_reserved.ensures.items, c.name_of-name.ensures)
           (links_go_on p count c.loop.counter (option_copied c.loop.before) c.loop.place (c.loop.place + c.link_len-size.result) bytes
-          c.loop.links.items link (links_at p count None c.args.start bytes) c.loop-test.true next
+          c.loop.links.items link (hello_links_at p count None c.args.start bytes) c.loop-test.true next
           (link_named _ _ c.in_ok-settled.settled _ c.in_ok-settled.ensures.ok (sym c.digits_at-digits.ensures)) c.loop.invariant.reads);
       at = omega (arith, c.loop.invariant.at);
       len = omega (arith, c.push_reserved.ensures.len, c.loop.invariant.len);
@@ -39,7 +39,7 @@ returns c =
     let p = c.args.settings.now in
     let bytes = c.args.bytes.now in
     let count = (length bytes - c.args.start) / c.link_len-size.result in
-    ap (λ size. links_at p ((length bytes - c.args.start) / size) None c.args.start bytes) (sym c.link_len-size.ensures.value)
+    ap (λ size. hello_links_at p ((length bytes - c.args.start) / size) None c.args.start bytes) (sym c.link_len-size.ensures.value)
     ∙ links_done p count c.loop.counter (option_copied c.loop.before) c.loop.place bytes c.loop.links.items
-    (links_at p count None c.args.start bytes) c.loop-test.false c.loop.invariant.reads
+    (hello_links_at p count None c.args.start bytes) c.loop-test.false c.loop.invariant.reads
     ∙ ap Ok (sym c.from_vec.ensures)
