@@ -8,7 +8,6 @@ use crate::replacement::replacement_for;
 use crate::targets::targets_by_name;
 use std::alloc::Global;
 use std::marker::Model;
-use tap_link::Cease;
 use tap_name::{List, Name};
 use tap_register::Stamp;
 use tap_table::{NoMemory, Table, Tie, Ties};
@@ -21,6 +20,7 @@ use tap_table::{NoMemory, Table, Tie, Ties};
 /// Rule: docs/PROTOCOL.md, "Departure".
 #[derive(Drop)]
 pub struct Leaving {
+    alloc: Global,
     ties: Ties,
     notices: Vec<Notice>,
     awaited: Vec<Name>,
@@ -46,6 +46,7 @@ impl Leaving {
     {
         match start_lists(alloc, &ties) {
             Ok((notices, awaited)) => Ok(Leaving {
+                alloc,
                 ties,
                 notices,
                 awaited,
@@ -107,28 +108,16 @@ impl Leaving {
     ///
     /// All links end with the node. It has ended too where memory is refused, when its stamp may have given
     /// some of the numbers. The stamp has a number left for each link.
-    pub fn finish(
-        self,
-        alloc: Global,
-        stamp: &mut Stamp,
-        by: &Cease<Name>,
-    ) -> Result<(List<Tie>, List<Name>), NoMemory>
+    pub fn finish(self, stamp: &mut Stamp) -> Result<(List<Tie>, List<Name>), NoMemory>
         requires awaits { length self.awaited ≡ 0 }
-        requires owner { by.now.owner ≡ self.ties.table.owner }
         requires numbers { stamp.old + length (rows self.ties.table) ≤ u32.MAX }
         ensures links { IfOk result (λ sent. sent.0 ≡ off_ties stamp.old (targets_by_name self.ties.table)) }
         ensures gone { IfOk result (λ sent. sent.1 ≡ holders_on self.ties) }
         ensures stamped { IfOk result (λ sent. stamp.new ≡ stamp.old + length (targets_by_name self.ties.table)) }
     {
-        let targets = targets_by_name(alloc, self.ties.table())?;
-        let links = off_ties(alloc, stamp, targets.as_slice())?;
-        let holders = holders_on(alloc, &self.ties)?;
-        let Leaving {
-            ties,
-            notices: _,
-            awaited: _,
-        } = self;
-        ties.cease(by);
+        let targets = targets_by_name(self.alloc, self.ties.table())?;
+        let links = off_ties(self.alloc, stamp, targets.as_slice())?;
+        let holders = holders_on(self.alloc, &self.ties)?;
         Ok((List::from_vec(links), List::from_vec(holders)))
     }
 }
