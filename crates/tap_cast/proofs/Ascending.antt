@@ -10,15 +10,12 @@ use Rattle.tap_name.specs.Order.{AreAscending, IsBelow}
 use Rattle.tap_link.specs.declared.kind.Kind.TheVariants.{Pin}
 use Rattle.tap_link.specs.Entry.{Entry}
 use Rattle.tap_link.specs.LinkSet.{is_pinned, is_settled, least_settled}
-use Rattle.tap_table.specs.ByName.{by_name, slots_by_name}
+use Rattle.tap_table.specs.ByName.{slots_by_name, targets_of}
 use Rattle.tap_table.specs.Table.{IsTable, SlotLinks, TableValue, links_at}
-use Rattle.tap_table.proofs.ByName.{by_name-ascending}
+use Rattle.tap_table.proofs.Targets.{targets-ascending}
 use Rattle.tap_cast.specs.declared.target.CastTarget.{CastTarget}
 use Rattle.tap_cast.specs.Targets.{cast_targets, is_level, pins_of, primary_or_pins, slot_targets, target_at, targets_between}
 use Rattle.tap_cast.proofs.Thinned.{AllPairs-thinned, pairs-first, pairs-nil, pairs-rest}
-
-abbrev names_of : SlotLinks → List (List ℕ)
-names_of links = map (λ (e : Entry (List ℕ)). e.target) links
 
 abbrev told_names : List CastTarget → List (List ℕ)
 told_names targets = map (λ (target : CastTarget). target.to) targets
@@ -33,31 +30,31 @@ names_at level [] = refl
 names_at level (name ∷ names) = ap (λ l. name ∷ l) (names_at level names)
 
 module _ (P : List ℕ → Type 0) where
-  all_pins : (links : SlotLinks) → All P (names_of links) → All P (pins_of links)
+  all_pins : (links : SlotLinks) → All P (targets_of links) → All P (pins_of links)
   all_pins [] all = All-nil P
   all_pins (e ∷ links) all =
-      let rest = all_pins links (All-tail P e.target (names_of links) all) in
+      let rest = all_pins links (All-tail P e.target (targets_of links) all) in
       elim (cases_Bool (is_pinned (Some e.kind))) [
-        | inl pinned ↦ rw pinned (All-cons P e.target (pins_of links) (All-head P e.target (names_of links) all) rest)
+        | inl pinned ↦ rw pinned (All-cons P e.target (pins_of links) (All-head P e.target (targets_of links) all) rest)
         | inr other ↦ rw other rest
       ]
 
-  of_primary : (links : SlotLinks) (first : List ℕ) → least_settled links ≡ Some first → All P (names_of links) → P first
+  of_primary : (links : SlotLinks) (first : List ℕ) → least_settled links ≡ Some first → All P (targets_of links) → P first
   of_primary [] first is all = cc
   of_primary (e ∷ links) first is all =
       elim (cases_Bool (is_settled (Some e.kind))) [
         | inl settled ↦
             let found : Some e.target ≡ Some first = rw settled at is in
             let same : e.target ≡ first = cc in
-            subst P same (All-head P e.target (names_of links) all)
-        | inr other ↦ of_primary links first (rw other at is) (All-tail P e.target (names_of links) all)
+            subst P same (All-head P e.target (targets_of links) all)
+        | inr other ↦ of_primary links first (rw other at is) (All-tail P e.target (targets_of links) all)
       ]
 
-pins_ascend : (links : SlotLinks) → AreAscending (names_of links) → AreAscending (pins_of links)
+pins_ascend : (links : SlotLinks) → AreAscending (targets_of links) → AreAscending (pins_of links)
 pins_ascend [] up = pairs-nil IsBelow
 pins_ascend (e ∷ links) up =
-    let rest = pins_ascend links (pairs-rest IsBelow e.target (names_of links) up) in
-    let above = all_pins (IsBelow e.target) links (pairs-first IsBelow e.target (names_of links) up) in
+    let rest = pins_ascend links (pairs-rest IsBelow e.target (targets_of links) up) in
+    let above = all_pins (IsBelow e.target) links (pairs-first IsBelow e.target (targets_of links) up) in
     elim (cases_Bool (is_pinned (Some e.kind))) [
       | inl pinned ↦ rw pinned (AllPairs-cons IsBelow e.target (pins_of links) above rest)
       | inr other ↦ rw other rest
@@ -75,7 +72,7 @@ module _ (t : TableValue) (from to : ℕ) where
   told_of slot = names_at (slot.level + 1) (primary_or_pins (least_settled (links_at t slot)) (links_at t slot))
 
   -- what a slot tells is some of its links, in their order
-  all_told_in : (slot : Slot) (P : List ℕ → Type 0) → All P (names_of (links_at t slot)) → All P (told_in slot)
+  all_told_in : (slot : Slot) (P : List ℕ → Type 0) → All P (targets_of (links_at t slot)) → All P (told_in slot)
   all_told_in slot P all =
       elim (cases_Bool (is_level from to slot.level)) [
         | inl between ↦ rw between (subst (All P) (sym (told_of slot)) (by_primary (least_settled (links_at t slot)) refl))
@@ -86,7 +83,7 @@ module _ (t : TableValue) (from to : ℕ) where
       by_primary None is = all_pins P (links_at t slot) all
       by_primary (Some first) is = All-cons P first [] (of_primary P (links_at t slot) first is all) (All-nil P)
 
-  told_in_ascends : (slot : Slot) → AreAscending (names_of (links_at t slot)) → AreAscending (told_in slot)
+  told_in_ascends : (slot : Slot) → AreAscending (targets_of (links_at t slot)) → AreAscending (told_in slot)
   told_in_ascends slot up =
       elim (cases_Bool (is_level from to slot.level)) [
         | inl between ↦ rw between (subst AreAscending (sym (told_of slot)) (by_primary (least_settled (links_at t slot))))
@@ -98,15 +95,6 @@ module _ (t : TableValue) (from to : ℕ) where
       by_primary (Some first) = one_ascends first
 
   module _ (valid : IsTable t) where
-    links_ascend : AreAscending (names_of (by_name t))
-    links_ascend i j d before within =
-        let links = by_name t in
-        let len = length-map links (λ (e : Entry (List ℕ)). e.target) in
-        let e : Entry (List ℕ) = record { target = d; kind = Pin } in
-        let at_i = get_or-map (λ (f : Entry (List ℕ)). f.target) links i e d (omega arith) in
-        let at_j = get_or-map (λ (f : Entry (List ℕ)). f.target) links j e d (omega arith) in
-        rw (at_i, at_j) (by_name-ascending t valid i j e before (omega arith))
-
     -- so the targets ascend, and no node is told twice
     pub targets_ascend : AreAscending (told_names (cast_targets t from to))
     targets_ascend =
@@ -114,5 +102,5 @@ module _ (t : TableValue) (from to : ℕ) where
         let links = map-flat_map (λ (e : Entry (List ℕ)). e.target) (links_at t) slots in
         let targets = map-flat_map (λ (target : CastTarget). target.to) (targets_between t from to) slots in
         subst AreAscending (sym targets)
-        (AllPairs-thinned (λ slot. names_of (links_at t slot)) told_in all_told_in IsBelow told_in_ascends slots
-        (subst AreAscending links links_ascend))
+        (AllPairs-thinned (λ slot. targets_of (links_at t slot)) told_in all_told_in IsBelow told_in_ascends slots
+        (subst AreAscending links (targets-ascending t valid)))

@@ -150,14 +150,14 @@ module _ (t : TableValue) (valid : IsTable t) (from to : ℕ) where
         let passes : is_level from to slot.level ≡ true = ap (is_level from to) (sym level_is) ∙ between in
         got-flat_map (targets_between t from to) (slots_by_name t.settings t.owner) visited.0 slot j target visited.1 (rw passes got)
 
-    -- where there is a link, at one of these levels, the primary of its slot is told
+    -- if there is a link, at one of these levels, the primary of its slot is told
     pub primary_told : (first : List ℕ) → primary_near t name ≡ Some first
         → (k : ℕ) × (slice_get (cast_targets t from to) k ≡ Some (target_at (lcp t.owner name + 1) first))
     primary_told first is =
         slot_told 0 (target_at (lcp t.owner name + 1) first)
         (rw is (ap (λ l. Some (target_at (l + 1) first)) (sym level_is)))
 
-    -- and where the slot has none, the link itself, if it is a pin
+    -- and if the slot has none, the link itself, if it is a pin
     pub pin_told : primary_near t name ≡ None → kind ≡ Pin
         → (k : ℕ) × (slice_get (cast_targets t from to) k ≡ Some (target_at (lcp t.owner name + 1) name))
     pin_told none pin =

@@ -4,7 +4,7 @@ use Rattle.std.specs.List.{flat_map, range_with_len}
 use Rattle.tap_table.specs.declared.slot_range.SlotRange.{SlotRange}
 use Rattle.tap_table.specs.Table.{TableValue}
 use Rattle.tap_cast.specs.Targets.{is_level, slot_targets, targets_between}
-use Rattle.tap_cast.proofs.Stepping.{in_range, slot_of_range}
+use Rattle.tap_table.proofs.Stepping.{in_range, slot_of_range}
 
 module _ (t : TableValue) (from to : ℕ) (range : SlotRange) where
   all_digits : (digits : List ℕ) → is_level from to range.level ≡ true

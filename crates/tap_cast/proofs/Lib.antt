@@ -1,5 +1,3 @@
-pub mod Steps
-pub mod Stepping
 pub mod Levels
 pub mod Pins
 pub mod KeptLevels

@@ -1,4 +1,4 @@
--- What is related in order in a flat list stays so where each of its parts is thinned.
+-- What is related in order in a flat list stays so if each of its parts is thinned.
 use Rattle.std.proofs.Common.{suc, List, [], ◌∷◌, ◌++◌, All, AllPairs, arith}
 use Rattle.std.specs.List.{flat_map}
 use Rattle.std.proofs.lemmas.List.Elements.{All-append, All-cons, All-head, All-nil, All-tail, All-weaker}
@@ -10,9 +10,9 @@ module _ {X : Type 0} where
   front P [] ys all = All-nil P
   front P (x ∷ xs) ys all = All-cons P x xs (All-head P x (xs ++ ys) all) (front P xs ys (All-tail P x (xs ++ ys) all))
 
-  behind : (P : X → Type 0) (xs ys : List X) → All P (xs ++ ys) → All P ys
-  behind P [] ys all = all
-  behind P (x ∷ xs) ys all = behind P xs ys (All-tail P x (xs ++ ys) all)
+  after : (P : X → Type 0) (xs ys : List X) → All P (xs ++ ys) → All P ys
+  after P [] ys all = all
+  after P (x ∷ xs) ys all = behind P xs ys (All-tail P x (xs ++ ys) all)
 
   module _ (R : X → X → Type 0) where
     pub pairs-first : (x : X) (xs : List X) → AllPairs R (x ∷ xs) → All (R x) xs
@@ -29,14 +29,14 @@ module _ {X : Type 0} where
     pairs-front (x ∷ xs) ys pairs =
         AllPairs-cons R x xs (front (R x) xs ys (pairs-first x (xs ++ ys) pairs)) (pairs-front xs ys (pairs-rest x (xs ++ ys) pairs))
 
-    pairs-behind : (xs ys : List X) → AllPairs R (xs ++ ys) → AllPairs R ys
-    pairs-behind [] ys pairs = pairs
-    pairs-behind (x ∷ xs) ys pairs = pairs-behind xs ys (pairs-rest x (xs ++ ys) pairs)
+    pairs-after : (xs ys : List X) → AllPairs R (xs ++ ys) → AllPairs R ys
+    pairs-after [] ys pairs = pairs
+    pairs-after (x ∷ xs) ys pairs = pairs-after xs ys (pairs-rest x (xs ++ ys) pairs)
 
     pairs-across : (xs ys : List X) → AllPairs R (xs ++ ys) → All (λ x. All (R x) ys) xs
     pairs-across [] ys pairs = All-nil (λ x. All (R x) ys)
     pairs-across (x ∷ xs) ys pairs =
-        All-cons (λ z. All (R z) ys) x xs (behind (R x) xs ys (pairs-first x (xs ++ ys) pairs))
+        All-cons (λ z. All (R z) ys) x xs (after (R x) xs ys (pairs-first x (xs ++ ys) pairs))
         (pairs-across xs ys (pairs-rest x (xs ++ ys) pairs))
 
 -- each part of g is thinned from that of f: what holds of all of the one holds of all of the other, and so do pairs
@@ -45,7 +45,7 @@ module _ {A X : Type 0} (f g : A → List X) (all : (a : A) (P : X → Type 0) �
   All-thinned P [] whole = All-nil P
   All-thinned P (a ∷ parts) whole =
       All-append P (g a) (flat_map g parts) (all a P (front P (f a) (flat_map f parts) whole))
-      (All-thinned P parts (behind P (f a) (flat_map f parts) whole))
+      (All-thinned P parts (after P (f a) (flat_map f parts) whole))
 
   pub AllPairs-thinned : (R : X → X → Type 0) → ((a : A) → AllPairs R (f a) → AllPairs R (g a)) → (parts : List A)
       → AllPairs R (flat_map f parts) → AllPairs R (flat_map g parts)
@@ -53,7 +53,7 @@ module _ {A X : Type 0} (f g : A → List X) (all : (a : A) (P : X → Type 0) �
   AllPairs-thinned R pairs (a ∷ parts) whole =
       let across = pairs-across R (f a) (flat_map f parts) whole in
       AllPairs-append R (g a) (flat_map g parts) (pairs a (pairs-front R (f a) (flat_map f parts) whole))
-      (AllPairs-thinned R pairs parts (pairs-behind R (f a) (flat_map f parts) whole))
+      (AllPairs-thinned R pairs parts (pairs-after R (f a) (flat_map f parts) whole))
       (all a (λ x. All (R x) (flat_map g parts))
       (All-weaker (λ x. All (R x) (flat_map f parts)) (λ x. All (R x) (flat_map g parts)) (λ x later. All-thinned (R x) parts later)
       (f a) across))

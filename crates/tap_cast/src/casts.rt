@@ -32,6 +32,7 @@ pub enum CastTurn {
 /// Rule: docs/PROTOCOL.md, "Casts".
 #[derive(Drop)]
 pub struct Casts {
+    alloc: Global,
     levels: BTreeMap<u32, u8>,
 }
 
@@ -49,11 +50,12 @@ impl Casts {
         ensures { result ≡ [] }
     {
         Casts {
+            alloc,
             levels: BTreeMap::new(alloc),
         }
     }
 
-    /// The level that is kept of a cast, `None` exactly where no copy of it was met.
+    /// The level that is kept of a cast, `None` exactly if no copy of it was met.
     pub fn level_of(&self, cast: u32) -> Option<u8>
         ensures { result ≡ level_kept self.now cast }
     {
@@ -61,18 +63,12 @@ impl Casts {
     }
 
     /// Takes a copy of a cast at a level, which is at most the number of digits, and answers what the
-    /// node does: `Already` exactly where a level of at most this one is kept.
+    /// node does: `Already` exactly if a level of at most this one is kept.
     ///
     /// Else the level is kept, and the cast goes on over the levels from this one up to the one that
-    /// was kept before, or to the last where none was: in each slot of these levels to the primary, or if
-    /// there is none to all pins. Where memory is refused, nothing changes.
-    pub fn cast(
-        &mut self,
-        alloc: Global,
-        cast: u32,
-        level: u8,
-        table: &Table,
-    ) -> Result<CastTurn, NoMemory>
+    /// was kept before, or to the last if none was: in each slot of these levels to the primary, or if
+    /// there is none to all pins. If memory is refused, nothing changes.
+    pub fn cast(&mut self, cast: u32, level: u8, table: &Table) -> Result<CastTurn, NoMemory>
         requires { level ≤ table.now.settings.digits }
         ensures turn { IfOk result (λ turn. turn ≡ turn_of self.old table.now cast level) }
         ensures after { OnOk result (self.new ≡ with_cast self.old cast level) }
@@ -82,7 +78,7 @@ impl Casts {
         if is_kept(kept, level) {
             return Ok(CastTurn::Already);
         }
-        let targets = cast_targets(alloc, table, level, sent_from(table, kept))?;
+        let targets = cast_targets(self.alloc, table, level, sent_from(table, kept))?;
         self.levels.insert(cast, level)?;
         Ok(CastTurn::Now {
             first: kept.is_none(),

@@ -24,10 +24,10 @@ fn a_cast_goes_on_over_the_levels_that_are_left(rt: HostRuntime) -> Result<(), F
     assert!(rt; table.offer(far)?);
     assert!(rt; table.pin(near)?);
     let mut casts = Casts::new(rt.alloc());
-    let (_, pins) = cast_now(casts.cast(rt.alloc(), 7, 1, &table)?).ok_or("already")?;
+    let (_, pins) = cast_now(casts.cast(7, 1, &table)?).ok_or("already")?;
     assert!(rt; 0 < pins.len());
     assert_eq!(rt; pins.at(0), CastTarget { to: near, level: 2 });
-    let (first, primaries) = cast_now(casts.cast(rt.alloc(), 7, 0, &table)?).ok_or("already")?;
+    let (first, primaries) = cast_now(casts.cast(7, 0, &table)?).ok_or("already")?;
     assert!(rt; !first);
     assert!(rt; 0 < primaries.len());
     assert_eq!(rt; primaries.at(0), CastTarget { to: far, level: 1 });

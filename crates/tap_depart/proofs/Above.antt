@@ -1,5 +1,5 @@
 -- The first settled link above a level, slot by slot.
-use Rattle.std.proofs.Common.{◌≡◌, ℕ, ◌+◌, ◌*◌, ◌<◌, ◌≤◌, nat_lt, true, false, Option, None, Some, List, [], ◌∷◌, ◌++◌, All, is_some, arith, ap, refl, ◌∙◌, inl, inr}
+use Rattle.std.proofs.Common.{◌≡◌, ℕ, ◌+◌, ◌*◌, ◌<◌, ◌≤◌, nat_lt, true, false, Option, None, Some, List, [], ◌∷◌, ◌++◌, All, is_some, arith, ap, sym, refl, ◌∙◌, inl, inr}
 use Rattle.std.specs.List.{find}
 use Rattle.std.specs.Option.{option_map, option_or}
 use Rattle.std.proofs.lemmas.Bool.{cases_Bool, le-ltb, lt-ltb}
@@ -12,7 +12,8 @@ use Rattle.tap_table.specs.declared.slot_range.SlotRange.{SlotRange}
 use Rattle.tap_table.specs.ByName.{range_by_name}
 use Rattle.tap_table.specs.Table.{IsTable, SlotLinks, TableValue, links_at}
 use Rattle.tap_depart.specs.Replacement.{first_above, is_settled_above}
-use Rattle.tap_depart.proofs.Stepping.{from_digit, links_from, links_from-first, links_in, links_in-first, range_at_level, slot_at_level, slot_of_range}
+use Rattle.tap_table.proofs.LinksByName.{links_from, links_in, range_at_level, slot_at_level}
+use Rattle.tap_table.proofs.Stepping.{from_digit, in_range-first, in_ranges-first, slot_of_range}
 
 module _ {A : Type 0} where
   pub some_first : (found other : Option A) → is_some found ≡ true → option_or found other ≡ found
@@ -61,25 +62,41 @@ module _ (t : TableValue) (valid : IsTable t) (level : ℕ) where
   abbrev first : SlotLinks → Option (List ℕ)
   first = first_above t.owner level
 
-  -- of a range above the level, it is the primary of the first slot, or else one of the others
-  pub first_in_slots : (range : SlotRange) (digit : ℕ) → range.to ≤ t.settings.base → level < range.level → digit < range.to
-      → first (links_in t (from_digit range digit))
-      ≡ option_or (least_settled (links_at t (slot_of_range range digit))) (first (links_in t (from_digit range (digit + 1))))
-  first_in_slots range digit end higher inside =
-      let slot = slot_of_range range digit in
-      let rest = links_in t (from_digit range (digit + 1)) in
-      let here = above t.owner level range.level (links_at t slot) (lt-ltb level range.level higher)
-      (slot_at_level t valid slot (omega (arith, inside, end))) in
-      ap first (links_in-first t range digit inside) ∙ first_above-append t.owner level (links_at t slot) rest
-      ∙ ap (λ found. option_or found (first rest)) here
+  -- of a range above the level, it is the primary of the first slot, if there is one, or else one of the others
+  module _ (range : SlotRange) (digit : ℕ) (end : range.to ≤ t.settings.base) (higher : level < range.level) (inside : digit < range.to)
+      (found : Option (List ℕ)) (is : found ≡ least_settled (links_at t (slot_of_range range digit))) where
+    abbrev rest : Option (List ℕ)
+    rest = first (links_in t (from_digit range (digit + 1)))
 
-  -- of all ranges from one on, it is that of the first range, or else that of the others
-  pub first_in_ranges : (i : ℕ) → i < 2 * t.settings.digits
-      → first (links_from t i)
-      ≡ option_or (first (links_in t (range_by_name t.settings t.owner i))) (first (links_from t (i + 1)))
-  first_in_ranges i inside =
-      ap first (links_from-first t i inside)
-      ∙ first_above-append t.owner level (links_in t (range_by_name t.settings t.owner i)) (links_from t (i + 1))
+    first_in_slots : first (links_in t (from_digit range digit)) ≡ option_or found rest
+    first_in_slots =
+        let slot = slot_of_range range digit in
+        let here = above t.owner level range.level (links_at t slot) (lt-ltb level range.level higher)
+        (slot_at_level t valid slot (omega (arith, inside, end))) in
+        ap first (in_range-first (links_at t) range digit inside)
+        ∙ first_above-append t.owner level (links_at t slot) (links_in t (from_digit range (digit + 1)))
+        ∙ ap (λ primary. option_or primary rest) (here ∙ sym is)
+
+    pub first_is_primary : is_some found ≡ true → first (links_in t (from_digit range digit)) ≡ found
+    first_is_primary some = first_in_slots ∙ some_first found rest some
+
+    pub first_is_later : is_some found ≡ false → first (links_in t (from_digit range digit)) ≡ rest
+    first_is_later none = first_in_slots ∙ none_first found rest none
+
+  -- of all ranges from one on, it is that of the first range, if there is one, or else that of the others
+  module _ (i : ℕ) (inside : i < 2 * t.settings.digits) (range : SlotRange) (is : range ≡ range_by_name t.settings t.owner i) where
+    first_in_ranges : first (links_from t i) ≡ option_or (first (links_in t range)) (first (links_from t (i + 1)))
+    first_in_ranges =
+        let later = links_from t (i + 1) in
+        ap first (in_ranges-first (links_at t) t.settings t.owner i inside)
+        ∙ first_above-append t.owner level (links_in t (range_by_name t.settings t.owner i)) later
+        ∙ ap (λ r. option_or (first (links_in t r)) (first later)) (sym is)
+
+    pub first_of_range : is_some (first (links_in t range)) ≡ true → first (links_from t i) ≡ first (links_in t range)
+    first_of_range some = first_in_ranges ∙ some_first (first (links_in t range)) (first (links_from t (i + 1))) some
+
+    pub first_of_others : is_some (first (links_in t range)) ≡ false → first (links_from t i) ≡ first (links_from t (i + 1))
+    first_of_others none = first_in_ranges ∙ none_first (first (links_in t range)) (first (links_from t (i + 1))) none
 
   -- a range that isn't above the level has none
   pub none_in_range : (range : SlotRange) → range.to ≤ t.settings.base → range.level ≤ level → first (links_in t range) ≡ None

@@ -5,16 +5,21 @@ use Rattle.std.specs.Option.{option_map}
 use Rattle.std.proofs.lemmas.Bool.{cases_Bool}
 use Rattle.std.proofs.lemmas.List.{get_or-map, length-map}
 use Rattle.std.proofs.lemmas.List.Kept.{AllPairs-filter}
-use Rattle.std.proofs.lemmas.Option.{slice_get-map}
+use Rattle.std.proofs.lemmas.Option.{get_or_from_slice_get, slice_get-map, slice_get_within}
 use Rattle.std.proofs.lemmas.Slice.Eq.{bytes_eq-Decides}
 use Rattle.tap_name.specs.Names.{Among}
 use Rattle.tap_name.specs.Order.{AreAscending, IsBelow}
-use Rattle.tap_name.proofs.Names.{among-filter, among-filter_from}
+use Rattle.tap_name.proofs.Names.{among-filter, among-filter_from, among_item}
+use Rattle.tap_link.specs.declared.kind.Kind.{Kind}
+use Rattle.tap_link.specs.Entry.{Entry as Link}
 use Rattle.tap_register.specs.declared.registers.Entry.{Entry}
 use Rattle.tap_table.specs.declared.tie.Tie.{Tie}
-use Rattle.tap_table.specs.Table.{TableValue}
-use Rattle.tap_table.specs.Ties.{AreTies, TiesValue, holders_on}
-use Rattle.tap_depart.specs.Leaving.{LeavingValue, left_by, names_but, notice_for, off_ties, started}
+use Rattle.tap_table.specs.ByName.{by_name, targets_by_name}
+use Rattle.tap_table.specs.Table.{IsTable, TableValue, kind_in}
+use Rattle.tap_table.specs.Ties.{AreTies, TiesValue, holders_on, off_ties}
+use Rattle.tap_table.proofs.ByName.{found_by_name}
+use Rattle.tap_table.proofs.Targets.{target_is_linked}
+use Rattle.tap_depart.specs.Leaving.{LeavingValue, left_by, names_but, notice_for, started}
 
 abbrev Word : Type 0
 Word = Entry (List ℕ) Bool
@@ -97,3 +102,51 @@ off_tie_at last (n ∷ names) (suc i) name got =
     let of_version : ℕ → Tie = λ v. record { to = name; version = v; on = false } in
     let version : last + 1 + i + 1 ≡ last + suc i + 1 = omega arith in
     off_tie_at (last + 1) names i name got ∙ ap (λ v. Some (of_version v)) version
+
+target_let_go : (last : ℕ) (names : List (List ℕ)) (i : ℕ) (tie : Tie) → slice_get (off_ties last names) i ≡ Some tie
+    → slice_get names i ≡ Some tie.to
+target_let_go last [] i tie got = cc
+target_let_go last (name ∷ names) zero tie got =
+    let same : record { to = name; version = last + 1; on = false } ≡ tie = cc in
+    ap (λ (t : Tie). Some t.to) same
+target_let_go last (name ∷ names) (suc i) tie got = target_let_go (last + 1) names i tie got
+
+-- so each node that has a link has its one word as the node finishes, and no other node has one
+module _ (t : TableValue) (valid : IsTable t) (last : ℕ) where
+  pub linked_is_let_go : (name : List ℕ) (kind : Kind) → kind_in t name ≡ Some kind
+      → (i : ℕ) × (slice_get (off_ties last (targets_by_name t)) i ≡ Some (record { to = name; version = last + i + 1; on = false }))
+  linked_is_let_go name kind found =
+      let link = found_by_name t valid name kind found in
+      let target : Link (List ℕ) → List ℕ = λ e. e.target in
+      let got : slice_get (targets_by_name t) link.0 ≡ Some name =
+      slice_get-map target (by_name t) link.0 ∙ ap (option_map target) link.1 in
+      (link.0, off_tie_at last (targets_by_name t) link.0 name got)
+
+  pub let_go_is_linked : (i : ℕ) (tie : Tie) → slice_get (off_ties last (targets_by_name t)) i ≡ Some tie
+      → (kind : Kind) × (kind_in t tie.to ≡ Some kind)
+  let_go_is_linked i tie got =
+      let names = targets_by_name t in
+      let target = target_let_go last names i tie got in
+      let within = slice_get_within names i tie.to target in
+      let read = get_or_from_slice_get names i tie.to tie.to target in
+      target_is_linked t valid tie.to (among_item names i tie.to within (sym read))
+
+-- The departure is finished exactly at the last answer: after it nobody is awaited exactly if only its holder was.
+no_others : (names : List (List ℕ)) (holder : List ℕ) → ((name : List ℕ) → Among name names → name ≡ holder) → names_but names holder ≡ []
+no_others [] holder only = refl
+no_others (name ∷ names) holder only =
+    let tied : bytes_eq name holder ≡ true = (bytes_eq-Decides name holder).1 (only name (inl refl)) in
+    rw tied (no_others names holder (λ other later. only other (inr later)))
+
+pub finished_exactly : (leaving : LeavingValue) (holder : List ℕ)
+    → ((left_by leaving holder).awaited ≡ []) ↔ ((name : List ℕ) → Among name leaving.awaited → name ≡ holder)
+finished_exactly leaving holder =
+    let alone : (left_by leaving holder).awaited ≡ [] → (name : List ℕ) → Among name leaving.awaited → name ≡ holder = λ none name among.
+    elim (cases_Bool (bytes_eq name holder)) [
+      | inl tied ↦ (bytes_eq-Decides name holder).0 tied
+      | inr untied ↦
+          let differs : name ≢ holder = λ same. let tied = (bytes_eq-Decides name holder).1 same in
+          let wrong : true ≡ false = sym tied ∙ untied in cc in
+          let still : Among name [] = rw none at ((still_awaited leaving holder name).1 (among, differs)) in absurd still
+    ] in
+    (alone, λ only. no_others leaving.awaited holder only)

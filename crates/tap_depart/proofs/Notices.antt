@@ -1,6 +1,7 @@
 -- What the notice of a leaving node makes of the ties of a holder.
-use Rattle.std.proofs.Common.{◌≡◌, ◌≢◌, ℕ, Bool, true, false, is_some, Option, None, Some, List, [], get_or, ap, sym, refl, subst, ◌∙◌, inl, inr}
+use Rattle.std.proofs.Common.{◌≡◌, ◌≢◌, ℕ, ◌+◌, ◌&&◌, Bool, true, false, is_some, Option, None, Some, List, [], get_or, ap, sym, refl, subst, ◌∙◌, inl, inr}
 use Rattle.std.specs.Prelude.{◌||◌, bytes_eq}
+use Rattle.std.specs.Option.{is_none}
 use Rattle.std.specs.Ordering.{is_eq}
 use Rattle.std.proofs.lemmas.Bool.{cases_Bool}
 use Rattle.std.proofs.lemmas.Slice.Eq.{bytes_eq-Decides}
@@ -8,16 +9,18 @@ use Rattle.tap_name.specs.declared.slot.Slot.{Slot}
 use Rattle.tap_name.specs.Name.{IsName}
 use Rattle.tap_name.specs.Slot.{slot_at}
 use Rattle.tap_link.specs.declared.kind.Kind.{Kind}
-use Rattle.tap_link.specs.declared.kind.Kind.TheVariants.{Leaving, Settled}
+use Rattle.tap_link.specs.declared.kind.Kind.TheVariants.{Leaving, Pin, Settled}
 use Rattle.tap_link.specs.LinkSet.{least_settled}
 use Rattle.tap_link.proofs.TargetKinds.{kind_marked, kind_offered}
 use Rattle.tap_table.specs.Table.{TableValue, has_room_near, kind_in, name_cmp, place_of, slot_number}
-use Rattle.tap_table.specs.Ties.{AreTies, TiesValue, marked, offered}
+use Rattle.tap_table.specs.declared.tie.Tie.{Tie}
+use Rattle.tap_table.specs.Ties.{AreTies, TiesValue, marked, offer_tells, offered, tie_where}
 use Rattle.tap_table.proofs.Fitting.{slot_of_other}
 use Rattle.tap_table.proofs.LookUps.{by_rule, kind_in-marked, kind_in-offered, of_itself, of_others}
+use Rattle.tap_table.proofs.Near.{tied_names}
 use Rattle.tap_table.proofs.Primaries.{full_has_primary, primary_near, primary_near-offered}
 use Rattle.tap_table.proofs.TiesKept.{AreTies-marked, AreTies-offered}
-use Rattle.tap_depart.specs.Told.{has_settled_near, offered_if, taken_in, told}
+use Rattle.tap_depart.specs.Told.{has_settled_near, offer_tells_if, offered_if, taken_in, told, told_tells}
 
 neither : (a b : Bool) → (a || b) ≡ false → (a ≡ false) × (b ≡ false)
 neither true b is = cc
@@ -54,6 +57,51 @@ unlinked_stays : (name other : List ℕ) → by_rule name other kind_marked None
 unlinked_stays name other =
     elim (cases_Bool (is_eq (name_cmp other name))) [ inl tied ↦ rw tied refl | inr apart ↦ rw apart refl ]
 
+unlinked_kind : (name other : List ℕ) (found : Option Kind) → by_rule name other kind_marked found ≡ None → found ≡ None
+unlinked_kind name other None is = refl
+unlinked_kind name other (Some kind) is =
+    elim (cases_Bool (is_eq (name_cmp other name))) [
+      | inl tied ↦ let wrong : kind_marked (Some kind) ≡ None = rw tied at is in absurd (never_unlinked kind wrong)
+      | inr apart ↦ let wrong : Some kind ≡ None = rw apart at is in cc
+    ]
+  where
+    never_unlinked : (kind : Kind) → kind_marked (Some kind) ≡ None → ⊥
+    never_unlinked Pin is = cc
+    never_unlinked Settled is = cc
+    never_unlinked Leaving is = cc
+
+-- the word for a node that there is a link to it, with the number after this one
+abbrev link_word : ℕ → List ℕ → Tie
+link_word last name = record { to = name; version = last + 1; on = true }
+
+-- an offer gives its word if there was no link and there is room, and makes a link of no other name
+offer_given : (found : Option Kind) (room : Bool) (last : ℕ) (name : List ℕ) (tie : Tie)
+    → tie_where (is_none found && room) name (last + 1) true ≡ Some tie → (found ≡ None) × (room ≡ true) × (tie ≡ link_word last name)
+offer_given None true last name tie is = let same : link_word last name ≡ tie = cc in (refl, refl, sym same)
+offer_given None false last name tie is = cc
+offer_given (Some kind) room last name tie is = cc
+
+offered_new : (name other : List ℕ) (room : Bool) (kind : Kind) → by_rule name other (kind_offered room) None ≡ Some kind
+    → (other ≡ name) × (room ≡ true)
+offered_new name other room kind is =
+    elim (cases_Bool (is_eq (name_cmp other name))) [
+      | inl tied ↦ (tied_names other name tied, has_room room (rw tied at is))
+      | inr apart ↦ let wrong : None ≡ Some kind = rw apart at is in cc
+    ]
+  where
+    has_room : (room : Bool) → kind_offered room None ≡ Some kind → room ≡ true
+    has_room true is = refl
+    has_room false is = cc
+
+-- the word of a holder for the replacement that it took, with the number after the stamp's last: it had no link to it, and has a
+-- settled one now
+pub record IsWordFor (ties after : TiesValue) (replacement : Option (List ℕ)) (last : ℕ) (tie : Tie) : Type 0 where
+  pub given : replacement ≡ Some tie.to
+  pub version : tie.version ≡ last + 1
+  pub on : tie.on ≡ true
+  pub was : kind_in ties.table tie.to ≡ None
+  pub now : kind_in after.table tie.to ≡ Some Settled
+
 module _ (ties : TiesValue) (leaver : List ℕ) (replacement : Option (List ℕ)) (are : AreTies ties)
     (is_name : IsName ties.table.settings leaver) (apart : leaver ≢ ties.table.owner)
     (given : (name : List ℕ) → replacement ≡ Some name → IsName ties.table.settings name) where
@@ -63,15 +111,21 @@ module _ (ties : TiesValue) (leaver : List ℕ) (replacement : Option (List ℕ)
   after_are : AreTies after
   after_are = AreTies-marked ties leaver are is_name apart
 
-  -- either nothing is offered, or the replacement that is taken
+  -- either nothing is offered, or the replacement that is taken, which is told accordingly
+  tells_cases : (P : TiesValue → Option Tie → Type 0) (last : ℕ) → P after None
+      → ((name : List ℕ) → taken_in after leaver replacement ≡ Some name → P (offered after name) (offer_tells after last name))
+      → P (told ties leaver replacement) (told_tells ties last leaver replacement)
+  tells_cases P last here there = by_taken (taken_in after leaver replacement) refl
+    where
+      by_taken : (taken : Option (List ℕ)) → taken_in after leaver replacement ≡ taken
+          → P (told ties leaver replacement) (told_tells ties last leaver replacement)
+      by_taken None is = subst (λ found. P (offered_if after found) (offer_tells_if after last found)) (sym is) here
+      by_taken (Some name) is = subst (λ found. P (offered_if after found) (offer_tells_if after last found)) (sym is) (there name is)
+
   told_cases : (P : TiesValue → Type 0) → P after
       → ((name : List ℕ) → taken_in after leaver replacement ≡ Some name → P (offered after name))
       → P (told ties leaver replacement)
-  told_cases P here there = by_taken (taken_in after leaver replacement) refl
-    where
-      by_taken : (taken : Option (List ℕ)) → taken_in after leaver replacement ≡ taken → P (told ties leaver replacement)
-      by_taken None is = subst (λ found. P (offered_if after found)) (sym is) here
-      by_taken (Some name) is = subst (λ found. P (offered_if after found)) (sym is) (there name is)
+  told_cases P here there = tells_cases (λ t word. P t) 0 here there
 
   -- what ties keep is kept; owner, settings and holders stay
   pub AreTies-told : AreTies (told ties leaver replacement)
@@ -132,12 +186,53 @@ module _ (ties : TiesValue) (leaver : List ℕ) (replacement : Option (List ℕ)
       ∙ of_others name other (kind_offered room) (kind_in after.table other) (λ same. not_given (parts.0 ∙ ap Some (sym same)))
       ∙ before)
 
-  -- where another link of the slot is settled and not leaving, the mark is all
+  -- if another link of the slot is settled and not leaving, the mark is all
   pub marked_alone : has_settled_near after leaver ≡ true → told ties leaver replacement ≡ after
   marked_alone settled =
       told_cases (λ t. t ≡ after) refl (λ name taken.
       let parts = taken_parts after leaver replacement name taken in
       let wrong : true ≡ false = sym settled ∙ parts.1 in cc)
+
+  -- a name that has no link after the mark had none before
+  unlinked_before : (other : List ℕ) → kind_in after.table other ≡ None → kind_in ties.table other ≡ None
+  unlinked_before other none = unlinked_kind leaver other (kind_in ties.table other) (sym (marked_kind other) ∙ none)
+
+  module _ (last : ℕ) where
+    -- who is told that there is a link to it is the replacement: it had none, and has a settled one now
+    pub told_is_new : (tie : Tie) → told_tells ties last leaver replacement ≡ Some tie
+        → IsWordFor ties (told ties leaver replacement) replacement last tie
+    told_is_new tie =
+        tells_cases (λ t word. word ≡ Some tie → IsWordFor ties t replacement last tie) last (λ is. cc) (λ name taken is.
+        let room = has_room_near after.table name in
+        let given = offer_given (kind_in after.table name) room last name tie is in
+        let to : name ≡ tie.to = sym (ap (λ (w : Tie). w.to) given.2) in
+        let parts = taken_parts after leaver replacement name taken in
+        let now = offered_kind name name taken ∙ of_itself name (kind_offered room) (kind_in after.table name) in
+        record {
+          given = parts.0 ∙ ap Some to;
+          version = ap (λ (w : Tie). w.version) given.2;
+          on = ap (λ (w : Tie). w.on) given.2;
+          was = ap (kind_in ties.table) (sym to) ∙ unlinked_before name given.0;
+          now = ap (kind_in (offered after name).table) (sym to) ∙ now ∙ rw (given.0, given.1) refl;
+        })
+
+    -- and a node that is newly linked is told
+    pub new_is_told : (other : List ℕ) (kind : Kind) → kind_in ties.table other ≡ None
+        → kind_in (told ties leaver replacement).table other ≡ Some kind
+        → told_tells ties last leaver replacement ≡ Some (record { to = other; version = last + 1; on = true })
+    new_is_told other kind was =
+        let unmarked : kind_in after.table other ≡ None =
+        marked_kind other ∙ ap (by_rule leaver other kind_marked) was ∙ unlinked_stays leaver other in
+        tells_cases
+        (λ t word. kind_in t.table other ≡ Some kind → word ≡ Some (record { to = other; version = last + 1; on = true }))
+        last
+        (λ is. let wrong : None ≡ Some kind = sym unmarked ∙ is in cc)
+        (λ name taken is. let room = has_room_near after.table name in
+        let ruled : by_rule name other (kind_offered room) None ≡ Some kind =
+        ap (by_rule name other (kind_offered room)) (sym unmarked) ∙ sym (offered_kind name other taken) ∙ is in
+        let new = offered_new name other room kind ruled in
+        let absent : kind_in after.table name ≡ None = ap (kind_in after.table) (sym new.0) ∙ unmarked in
+        rw (absent, new.1) (ap (λ n. Some (link_word last n)) (sym new.0)))
 
   module _ (name : List ℕ) (is_given : replacement ≡ Some name) (other : name ≢ ties.table.owner)
       (fits : slot_at ties.table.owner name ≡ slot_at ties.table.owner leaver) (unlinked : kind_in ties.table name ≡ None) where

@@ -1,6 +1,6 @@
 -- The replacement for a holder: what it is, and when there is one.
-use Rattle.std.proofs.Common.{◌≡◌, ◌≢◌, ℕ, ◌<◌, nat_lt, zero, suc, true, Some, List, [], ◌∷◌, All, slice_get, arith, ap, sym, refl, subst, ◌∙◌, inl, inr}
-use Rattle.std.proofs.lemmas.Bool.{and_parts, cases_Bool, lt-ltb, ltb-true}
+use Rattle.std.proofs.Common.{◌≡◌, ◌≢◌, ◌↔◌, ℕ, ◌<◌, ◌≤◌, nat_lt, zero, suc, true, None, Some, List, [], ◌∷◌, All, slice_get, arith, ap, sym, refl, subst, ◌∙◌, inl, inr}
+use Rattle.std.proofs.lemmas.Bool.{and_parts, cases_Bool, cases_lt, lt-ltb, ltb-true}
 use Rattle.std.proofs.lemmas.List.Elements.{All-head, All-tail}
 use Rattle.std.proofs.lemmas.Option.{get_or_from_slice_get, slice_get_within}
 use Rattle.tap_name.specs.Name.{IsName}
@@ -8,7 +8,7 @@ use Rattle.tap_name.specs.Order.{IsBelow}
 use Rattle.tap_name.specs.Prefix.{lcp}
 use Rattle.tap_name.specs.Slot.{slot_at}
 use Rattle.tap_name.proofs.Near.{near_where_same_slot, same_slot_where_near}
-use Rattle.tap_name.proofs.Orders.{below-itself, below-one_way}
+use Rattle.tap_name.proofs.Orders.{below-cases, below-itself, below-one_way}
 use Rattle.tap_name.proofs.Prefixes.{lcp-sym}
 use Rattle.tap_link.specs.declared.kind.Kind.{Kind}
 use Rattle.tap_link.specs.declared.kind.Kind.TheVariants.{Leaving, Pin, Settled}
@@ -51,7 +51,7 @@ module _ (owner : List ℕ) (level : ℕ) where
         | inr fails ↦ found_link P links name (All-tail P e links all) (rw fails at is)
       ]
 
-  -- where there is such a link, one is found
+  -- if there is such a link, one is found
   given_where : (links : SlotLinks) (i : ℕ) (e : Entry (List ℕ)) → slice_get links i ≡ Some e → passes e
       → (name : List ℕ) × (first_above owner level links ≡ Some name)
   given_where [] i e got held = cc
@@ -111,12 +111,37 @@ module _ (t : TableValue) (valid : IsTable t) (level : ℕ) where
             (settled_passes other higher);
       }
 
-  -- where there is a settled link at the levels above, one is given
+  -- if there is a settled link at the levels above, one is given
   pub given_above : (name : List ℕ) → kind_in t name ≡ Some Settled → level < lcp t.owner name
       → (least : List ℕ) × (least_above t level ≡ Some least)
   given_above name settled higher =
       let link = found_by_name t valid name Settled settled in
       given_where t.owner level (by_name t) link.0 (link_to name Settled) link.1 (settled_passes name higher)
+
+  -- and what is such a link is given: there is but one
+  pub given_exactly : (name : List ℕ) → (least_above t level ≡ Some name) ↔ IsLeastAbove t level name
+  given_exactly name = (
+    least_above_is name,
+    λ least. let found = given_above name least.settled least.higher in
+        let given = least_above_is found.0 found.1 in
+        let same : found.0 ≡ name = elim (below-cases found.0 name) [
+          | inl is ↦ is
+          | inr apart ↦ elim apart [
+            | inl lower ↦ absurd (least.least found.0 given.settled given.higher lower)
+            | inr higher ↦ absurd (given.least name least.settled least.higher higher)
+          ]
+        ] in
+        found.1 ∙ ap Some same,
+  )
+
+  -- if nothing is given, no settled link is at the levels above
+  pub none_given : least_above t level ≡ None → (name : List ℕ) → kind_in t name ≡ Some Settled → lcp t.owner name ≤ level
+  none_given none name settled =
+      elim (cases_lt level (lcp t.owner name)) [
+        | inl higher ↦
+            let found = given_above name settled higher in let wrong : None ≡ Some found.0 = sym none ∙ found.1 in cc
+        | inr low ↦ low
+      ]
 
 -- A replacement: a settled link of the leaving node, that stands in the leaving node's slot at the holder.
 pub record IsReplacement (t : TableValue) (holder name : List ℕ) : Type 0 where
@@ -144,6 +169,10 @@ module _ (t : TableValue) (valid : IsTable t) (holder : List ℕ) (is_holder : I
         nearer = near;
         slot = (same_slot_where_near holder t.owner name (is_holder.len ∙ sym valid.owner.len) near).1;
       }
+
+  -- it is the least settled link from one level above on, exactly
+  pub replacement_exactly : (name : List ℕ) → (replacement_for t holder ≡ Some name) ↔ IsLeastAbove t (lcp holder t.owner) name
+  replacement_exactly = given_exactly t valid (lcp holder t.owner)
 
   -- where another node fits the leaving node's slot at the holder, and the leaving node has a settled link at the level of
   -- that node, a replacement is given

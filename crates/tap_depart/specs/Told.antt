@@ -25,7 +25,7 @@ abbrev pub offer_tells_if : TiesValue → ℕ → Option (List ℕ) → Option T
 offer_tells_if ties stamp None = None
 offer_tells_if ties stamp (Some name) = offer_tells ties stamp name
 
--- the ties after the notice: the link to the leaver is marked, and the replacement is offered where it is wanted
+-- the ties after the notice: the link to the leaver is marked, and the replacement is offered if it is wanted
 abbrev pub told : TiesValue → List ℕ → Option (List ℕ) → TiesValue
 told ties leaver replacement = let after = marked ties leaver in offered_if after (taken_in after leaver replacement)
 

@@ -1,14 +1,13 @@
 ghost use Rattle.std.specs.Prelude.{◌≡◌, ◌==◌, ◌+◌, ◌<◌, ◌≤◌, map, length, slice_get, Some, IfOk, IfErr};
+ghost use Rattle.tap_table.specs.ByName.{targets_by_name};
 ghost use Rattle.tap_table.specs.Table.{rows};
-ghost use Rattle.tap_table.specs.Ties.{holders_on};
-ghost use Rattle.tap_depart.specs.Leaving.{left_by, notice_for, off_ties, started, targets_by_name};
+ghost use Rattle.tap_table.specs.Ties.{holders_on, off_ties};
+ghost use Rattle.tap_depart.specs.Leaving.{left_by, notice_for, started};
 
 use crate::notice::Notice;
 use crate::replacement::replacement_for;
-use crate::targets::targets_by_name;
 use std::alloc::Global;
 use std::marker::Model;
-use tap_link::Cease;
 use tap_name::{List, Name};
 use tap_register::Stamp;
 use tap_table::{NoMemory, Table, Tie, Ties};
@@ -21,6 +20,7 @@ use tap_table::{NoMemory, Table, Tie, Ties};
 /// Rule: docs/PROTOCOL.md, "Departure".
 #[derive(Drop)]
 pub struct Leaving {
+    alloc: Global,
     ties: Ties,
     notices: Vec<Notice>,
     awaited: Vec<Name>,
@@ -39,13 +39,14 @@ impl Leaving {
     ghost use Rattle.tap_depart.specs.Lending.{LendsTies};
 
     /// Starts the departure of a node: it awaits each holder that is on, and has a notice for each of
-    /// them. Where memory is refused, the ties come back as they were.
+    /// them. If memory is refused, the ties come back as they were.
     pub fn start(alloc: Global, ties: Ties) -> Result<Leaving, Ties>
         ensures value { IfOk result (λ leaving. leaving ≡ started ties) }
         ensures back { IfErr result (λ back. back ≡ ties) }
     {
         match start_lists(alloc, &ties) {
             Ok((notices, awaited)) => Ok(Leaving {
+                alloc,
                 ties,
                 notices,
                 awaited,
@@ -103,33 +104,20 @@ impl Leaving {
 
     /// Ends the node, once no holder is awaited: the words for the targets of its links, ascending, that
     /// it has no link to them any more, with the next numbers of its stamp, and the holders that are on,
-    /// ascending, which are told that it is gone.
+    /// ascending, each of which is sent a Gone.
     ///
-    /// All links end with the node. It has ended too where memory is refused, when its stamp may have given
+    /// All links end with the node. It has ended too if memory is refused, when its stamp may have given
     /// some of the numbers. The stamp has a number left for each link.
-    pub fn finish(
-        self,
-        alloc: Global,
-        stamp: &mut Stamp,
-        by: &Cease<Name>,
-    ) -> Result<(List<Tie>, List<Name>), NoMemory>
+    pub fn finish(self, stamp: &mut Stamp) -> Result<(List<Tie>, List<Name>), NoMemory>
         requires awaits { length self.awaited ≡ 0 }
-        requires owner { by.now.owner ≡ self.ties.table.owner }
         requires numbers { stamp.old + length (rows self.ties.table) ≤ u32.MAX }
         ensures links { IfOk result (λ sent. sent.0 ≡ off_ties stamp.old (targets_by_name self.ties.table)) }
         ensures gone { IfOk result (λ sent. sent.1 ≡ holders_on self.ties) }
         ensures stamped { IfOk result (λ sent. stamp.new ≡ stamp.old + length (targets_by_name self.ties.table)) }
     {
-        let targets = targets_by_name(alloc, self.ties.table())?;
-        let links = off_ties(alloc, stamp, targets.as_slice())?;
-        let holders = holders_on(alloc, &self.ties)?;
-        let Leaving {
-            ties,
-            notices: _,
-            awaited: _,
-        } = self;
-        ties.cease(by);
-        Ok((List::from_vec(links), List::from_vec(holders)))
+        let links = self.ties.off_ties(self.alloc, stamp)?;
+        let holders = self.ties.holders_on(self.alloc)?;
+        Ok((links, holders))
     }
 }
 
@@ -138,22 +126,9 @@ fn start_lists(alloc: Global, ties: &Ties) -> Result<(Vec<Notice>, Vec<Name>), N
     ensures notices { IfOk result (λ lists. lists.0.items ≡ map (notice_for ties.now.table) (holders_on ties.now)) }
     ensures awaited { IfOk result (λ lists. lists.1.items ≡ holders_on ties.now) }
 {
-    let holders = holders_on(alloc, ties)?;
+    let holders = ties.holders_on(alloc)?;
     let notices = notices_for(alloc, ties.table(), holders.as_slice())?;
-    Ok((notices, holders))
-}
-
-// The holders that are on, ascending.
-fn holders_on(alloc: Global, ties: &Ties) -> Result<Vec<Name>, NoMemory>
-    ensures { IfOk result (λ names. names.items ≡ holders_on ties.now) }
-{
-    Ok(
-        ties.holders()
-            .iter()
-            .filter(|holder| holder.value)
-            .map(|holder| holder.key)
-            .collect(alloc)?,
-    )
+    Ok((notices, holders.into_vec()))
 }
 
 // A notice for each of these holders.
@@ -168,21 +143,4 @@ fn notices_for(alloc: Global, table: &Table, holders: &[Name]) -> Result<Vec<Not
         })?;
     }
     Ok(notices)
-}
-
-// The words for these targets that there is no link to them any more.
-fn off_ties(alloc: Global, stamp: &mut Stamp, targets: &[Name]) -> Result<Vec<Tie>, NoMemory>
-    requires { stamp.old + length targets.now ≤ u32.MAX }
-    ensures value { IfOk result (λ ties. ties.items ≡ off_ties stamp.old targets.now) }
-    ensures stamped { IfOk result (λ ties. stamp.new ≡ stamp.old + length targets.now) }
-{
-    let mut ties = Vec::new(alloc);
-    for target in targets {
-        ties.push(Tie {
-            to: *target,
-            version: stamp.next(),
-            on: false,
-        })?;
-    }
-    Ok(ties)
 }

@@ -7,7 +7,7 @@ use tap_name::Name;
 pub struct Notice {
     /// The holder.
     pub to: Name,
-    /// A node that fits the leaving node's slot at the holder, `None` where the leaving node has no
+    /// A node that fits the leaving node's slot at the holder, `None` if the leaving node has no
     /// settled link to one.
     pub replacement: Option<Name>,
 }

@@ -4,7 +4,7 @@ ghost use Rattle.tap_table.specs.Ties.{held_word};
 
 use crate::{Leaving, NoMemory, Notice, told_leave};
 use std::test::Fail;
-use tap_link::{Cease, Kind};
+use tap_link::Kind;
 use tap_name::{Name, Settings, read_name};
 use tap_register::Stamp;
 use tap_table::{Tie, Ties};
@@ -44,10 +44,7 @@ fn each_holder_is_noticed_and_awaited(rt: HostRuntime) -> Result<(), Fail> {
     assert_eq!(rt; leaving.awaited(), 0);
     assert!(rt; stamp.last() == 2);
     assert!(rt; leaving.ties().table().len() == 2);
-    let by = Cease {
-        owner: leaving.ties().table().owner(),
-    };
-    let (links, gone) = leaving.finish(rt.alloc(), &mut stamp, &by)?;
+    let (links, gone) = leaving.finish(&mut stamp)?;
     assert!(rt; 1 < links.len());
     let last = Tie {
         to: near,

@@ -8,9 +8,9 @@ use tap_register::Stamp;
 use tap_table::{NoMemory, Tie, Ties};
 
 /// Takes the notice of a leaving node at one of its holders, and gives the word for the replacement
-/// exactly where a link to it was added.
+/// exactly if a link to it was added.
 ///
-/// The settled link to the leaver is marked as leaving. Where the leaver's slot then has no settled
+/// The settled link to the leaver is marked as leaving. If the leaver's slot then has no settled
 /// link that isn't leaving, and a replacement is given, the holder offers itself the replacement,
 /// unless it is that node.
 ///

@@ -1,5 +1,5 @@
 -- Whom a joining node has greeted.
-use Rattle.std.proofs.Common.{◌≡◌, ℕ, true, List, [], ◌∷◌, ◌++◌, refl, inl, inr}
+use Rattle.std.proofs.Common.{◌≡◌, ◌≢◌, ℕ, true, false, List, [], ◌∷◌, ◌++◌, sym, refl, inl, inr}
 use Rattle.std.specs.Prelude.{bytes_eq}
 use Rattle.std.proofs.lemmas.Bool.{cases_Bool}
 use Rattle.std.proofs.lemmas.Slice.Eq.{bytes_eq-Decides}
@@ -19,6 +19,12 @@ has_more (other ∷ names) others name is =
       | inr apart ↦ let later : has_name names name ≡ true = rw apart at is in rw apart (has_more names others name later)
     ]
 
+has_others : (names : List (List ℕ)) (name other : List ℕ) → bytes_eq name other ≡ false
+    → has_name (names ++ name ∷ []) other ≡ has_name names other
+has_others [] name other untied = rw untied refl
+has_others (n ∷ names) name other untied =
+    elim (cases_Bool (bytes_eq n other)) [ inl tied ↦ rw tied refl | inr apart ↦ rw apart (has_others names name other untied) ]
+
 module _ (joining : JoiningValue) (joiner : List ℕ) where
   -- after a greeting the joiner is among those that were greeted, and all others that were still are
   pub is_greeted : has_name (with_greeted joining joiner).greeted joiner ≡ true
@@ -31,6 +37,19 @@ module _ (joining : JoiningValue) (joiner : List ℕ) where
       elim (cases_Bool (has_name joining.greeted joiner)) [
         | inl is ↦ rw is was
         | inr absent ↦ rw absent (has_more joining.greeted (joiner ∷ []) other was)
+      ]
+
+  -- nobody else is
+  pub others_greeted : (other : List ℕ) → other ≢ joiner
+      → has_name (with_greeted joining joiner).greeted other ≡ has_name joining.greeted other
+  others_greeted other differs =
+      let untied : bytes_eq joiner other ≡ false = elim (cases_Bool (bytes_eq joiner other)) [
+        | inl tied ↦ absurd (differs (sym ((bytes_eq-Decides joiner other).0 tied)))
+        | inr is ↦ is
+      ] in
+      elim (cases_Bool (has_name joining.greeted joiner)) [
+        | inl is ↦ rw is refl
+        | inr absent ↦ rw absent (has_others joining.greeted joiner other untied)
       ]
 
   -- a second greeting changes nothing

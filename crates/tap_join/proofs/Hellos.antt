@@ -1,5 +1,5 @@
 -- What a Hello makes of the ties of a joining node.
-use Rattle.std.proofs.Common.{◌≡◌, ◌≢◌, ◌⊎◌, ℕ, zero, suc, Bool, true, false, if◌then◌else◌, Some, List, [], ◌∷◌, slice_get, All, ap, sym, refl, ◌∙◌, inl, inr}
+use Rattle.std.proofs.Common.{◌≡◌, ◌≢◌, ◌⊎◌, ℕ, zero, suc, Bool, true, false, if◌then◌else◌, Option, None, Some, List, [], ◌∷◌, slice_get, All, ap, sym, refl, ◌∙◌, inl, inr}
 use Rattle.std.proofs.lemmas.Bool.{cases_Bool}
 use Rattle.std.proofs.lemmas.List.Elements.{All-cons, All-head, All-nil, All-tail}
 use Rattle.std.proofs.lemmas.Slice.Eq.{bytes_eq-Decides}
@@ -10,18 +10,21 @@ use Rattle.tap_link.specs.declared.kind.Kind.{Kind}
 use Rattle.tap_link.specs.declared.kind.Kind.TheVariants.{Pin, Settled}
 use Rattle.tap_link.proofs.TargetKinds.{kind_offered, kind_pinned}
 use Rattle.tap_table.specs.Table.{has_room_near, kind_in}
-use Rattle.tap_table.specs.Ties.{AreTies, TiesValue, offered, pinned}
+use Rattle.tap_table.specs.declared.tie.Tie.{Tie}
+use Rattle.tap_table.specs.Ties.{AreTies, TiesValue, offer_tells, offered, pin_tells, pinned}
 use Rattle.tap_table.proofs.LookUps.{by_rule, kind_in-offered, kind_in-pinned, of_itself}
 use Rattle.tap_table.proofs.Primaries.{full_has_primary, primary_near}
 use Rattle.tap_table.proofs.TiesKept.{AreTies-offered, AreTies-pinned}
-use Rattle.tap_join.specs.Hello.{after_hello, after_links, hello_names, is_own, with_offered}
+use Rattle.tap_join.specs.Hello.{after_hello, after_links, hello_names, is_own, offered_tells, with_offered}
 use Rattle.tap_join.proofs.NewKinds.{full_after_offer, full_after_pin, kept_by_rule, offered_has, offered_rule_new, pinned_has, pinned_rule_new}
 
--- a name of a Hello is the node's own, or offered, or pinned
-pub with_offered_cases : (P : TiesValue → Type 0) (ties : TiesValue) (link : Offered) → (link.name ≡ ties.table.owner → P ties)
-    → (link.name ≢ ties.table.owner → link.settled ≡ true → P (offered ties link.name))
-    → (link.name ≢ ties.table.owner → link.settled ≡ false → P (pinned ties link.name)) → P (with_offered ties link)
-with_offered_cases P ties link own as_core as_joining =
+-- a name of a Hello is the node's own, or offered, or pinned, and its node is told accordingly
+pub offered_cases : (P : TiesValue → Option Tie → Type 0) (ties : TiesValue) (last : ℕ) (link : Offered)
+    → (link.name ≡ ties.table.owner → P ties None)
+    → (link.name ≢ ties.table.owner → link.settled ≡ true → P (offered ties link.name) (offer_tells ties last link.name))
+    → (link.name ≢ ties.table.owner → link.settled ≡ false → P (pinned ties link.name) (pin_tells ties last link.name))
+    → P (with_offered ties link) (offered_tells ties last link)
+offered_cases P ties last link own as_core as_joining =
     elim (cases_Bool (is_own ties link)) [
       | inl tied ↦ rw tied (own ((bytes_eq-Decides link.name ties.table.owner).0 tied))
       | inr untied ↦
@@ -32,6 +35,11 @@ with_offered_cases P ties link own as_core as_joining =
             | inr joining ↦ rw (untied, joining) (as_joining apart joining)
           ]
     ]
+
+with_offered_cases : (P : TiesValue → Type 0) (ties : TiesValue) (link : Offered) → (link.name ≡ ties.table.owner → P ties)
+    → (link.name ≢ ties.table.owner → link.settled ≡ true → P (offered ties link.name))
+    → (link.name ≢ ties.table.owner → link.settled ≡ false → P (pinned ties link.name)) → P (with_offered ties link)
+with_offered_cases P ties link own as_core as_joining = offered_cases (λ t word. P t) ties 0 link own as_core as_joining
 
 -- what each name of a list keeps, all of them keep
 module _ (Good : Offered → Type 0) (P : TiesValue → Type 0)
@@ -83,16 +91,16 @@ module _ (p : SettingsValue) (owner : List ℕ) where
   IsNamed link = IsName p link.name
 
   module _ (ties : TiesValue) (link : Offered) (is_name : IsNamed link) (are : AreOf ties) where
-    named : IsName ties.table.settings link.name
+    pub named : IsName ties.table.settings link.name
     named = rw are.1 is_name
 
-    of_one : AreOf (with_offered ties link)
+    pub of_one : AreOf (with_offered ties link)
     of_one =
         with_offered_cases AreOf ties link (λ own. are)
         (λ apart core. (AreTies-offered ties link.name are.0 named apart, are.1, are.2))
         (λ apart joining. (AreTies-pinned ties link.name are.0 named apart, are.1, are.2))
 
-    kind_stays : (other : List ℕ) (kind : Kind) → kind_in ties.table other ≡ Some kind
+    pub kind_stays : (other : List ℕ) (kind : Kind) → kind_in ties.table other ≡ Some kind
         → kind_in (with_offered ties link).table other ≡ Some kind
     kind_stays other kind is =
         with_offered_cases (λ t. kind_in t.table other ≡ Some kind) ties link (λ own. is)
@@ -203,7 +211,7 @@ module _ (p : SettingsValue) (owner : List ℕ) where
 
   module _ (ties : TiesValue) (are : AreOf ties) (from : List ℕ) (core : Bool) (links : List Offered)
       (sender : IsName p from) (names : All IsNamed links) where
-    all_named : All IsNamed (hello_names from core links)
+    pub all_named : All IsNamed (hello_names from core links)
     all_named = All-cons IsNamed (record { name = from; settled = core }) links sender names
 
     -- after a Hello: what ties keep is kept, each link stays, and its sender and its links are served
@@ -213,6 +221,13 @@ module _ (p : SettingsValue) (owner : List ℕ) where
     pub hello_links_stay : (other : List ℕ) (kind : Kind) → kind_in ties.table other ≡ Some kind
         → kind_in (after_hello ties from core links).table other ≡ Some kind
     hello_links_stay = links_stay (hello_names from core links) ties all_named are
+
+    -- a link after it was there before, or is a new one to the sender or to a name of its list, of the kind that the flag gives
+    pub hello_new_links : (other : List ℕ) (kind : Kind) → kind_in (after_hello ties from core links).table other ≡ Some kind
+        → (kind_in ties.table other ≡ Some kind)
+        ⊎ ((i : ℕ) × (link : Offered) × (slice_get (hello_names from core links) i ≡ Some link) × (other ≡ link.name)
+        × (kind ≡ kind_given link))
+    hello_new_links = new_links (hello_names from core links) ties all_named are
 
     pub hello_serves : All (λ link. link.name ≢ owner → IsServed (after_hello ties from core links) link) (hello_names from core links)
     hello_serves = all_served (hello_names from core links) ties all_named are

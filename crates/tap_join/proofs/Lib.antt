@@ -2,3 +2,5 @@ pub mod Hellos
 pub mod NewKinds
 pub mod Greetings
 pub mod Words
+pub mod Seeking
+pub mod Told

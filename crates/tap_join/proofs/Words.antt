@@ -1,19 +1,14 @@
--- The words of a Hello and of an end, one step at a time.
-use Rattle.std.proofs.Common.{◌≡◌, ℕ, ◌+◌, ◌*◌, ◌<◌, ◌≤◌, Bool, true, false, Option, None, Some, List, [], ◌∷◌, ◌++◌, drop, length, slice_get, arith, ap, refl, ◌∙◌, inl, inr}
+-- The words of a Hello, one name at a time.
+use Rattle.std.proofs.Common.{◌≡◌, ℕ, ◌+◌, ◌≤◌, Bool, true, false, Option, None, Some, List, [], ◌∷◌, ◌++◌, drop, length, slice_get, arith, ap, refl, ◌∙◌, inl, inr}
 use Rattle.std.specs.Prelude.{◌&&◌}
 use Rattle.std.specs.Option.{is_none}
 use Rattle.std.proofs.lemmas.Bool.{cases_Bool}
-use Rattle.std.proofs.lemmas.List.{length-append, map-append}
+use Rattle.std.proofs.lemmas.List.{length-append}
 use Rattle.tap_name.specs.declared.slot.Offered.{Offered}
-use Rattle.tap_depart.proofs.Steps.{added, drop_got}
-use Rattle.tap_depart.proofs.Stepping.{from_digit, links_from, links_from-first, links_in, links_in-first, slot_of_range}
-use Rattle.tap_depart.specs.Leaving.{off_ties, targets_of}
-use Rattle.tap_link.specs.Entry.{Entry}
-use Rattle.tap_table.specs.declared.slot_range.SlotRange.{SlotRange}
 use Rattle.tap_table.specs.declared.tie.Tie.{Tie}
-use Rattle.tap_table.specs.ByName.{range_by_name}
-use Rattle.tap_table.specs.Table.{TableValue, has_room_near, kind_in, links_at}
+use Rattle.tap_table.specs.Table.{has_room_near, kind_in}
 use Rattle.tap_table.specs.Ties.{TiesValue, stamp_after, tie_where}
+use Rattle.tap_table.proofs.Steps.{added, drop_got}
 use Rattle.tap_join.specs.Hello.{after_links, is_own, links_tell, offered_tells, with_offered, words_of}
 
 -- the stamp after a word stands one further, and without one where it stood
@@ -46,43 +41,6 @@ module _ (ties : TiesValue) (last : ℕ) (links : List Offered) (i : ℕ) (link 
       let first = words_of (offered_tells ties last link) in
       let tell : ℕ → List Tie = λ n. first ++ links_tell (with_offered ties link) n (drop (i + 1) links) in
       ap (links_tell ties last) (drop_got links i link got) ∙ ap tell (stamp_counts ties last link)
-
--- the words for some nodes and then for others
-pub off_ties-append : (last : ℕ) (names others : List (List ℕ))
-    → off_ties last (names ++ others) ≡ off_ties last names ++ off_ties (last + length names) others
-off_ties-append last [] others = let same : last ≡ last + 0 = omega arith in ap (λ n. off_ties n others) same
-off_ties-append last (name ∷ names) others =
-    let same : last + 1 + length names ≡ last + length (name ∷ names) = omega arith in
-    let word : Tie = record { to = name; version = last + 1; on = false } in
-    ap (λ l. word ∷ l) (off_ties-append (last + 1) names others ∙ ap (λ n. off_ties (last + 1) names ++ off_ties n others) same)
-
--- the targets of a table by name, from one slot of a range on and from one range on
-module _ (t : TableValue) where
-  pub targets_in_slots : (range : SlotRange) (digit : ℕ) → digit < range.to
-      → targets_of (links_in t (from_digit range digit))
-      ≡ targets_of (links_at t (slot_of_range range digit)) ++ targets_of (links_in t (from_digit range (digit + 1)))
-  targets_in_slots range digit inside =
-      let here = links_at t (slot_of_range range digit) in
-      ap targets_of (links_in-first t range digit inside)
-      ∙ map-append (λ (e : Entry (List ℕ)). e.target) here (links_in t (from_digit range (digit + 1)))
-
-  pub targets_in_ranges : (i : ℕ) → i < 2 * t.settings.digits
-      → targets_of (links_from t i)
-      ≡ targets_of (links_in t (range_by_name t.settings t.owner i)) ++ targets_of (links_from t (i + 1))
-  targets_in_ranges i inside =
-      let here = links_in t (range_by_name t.settings t.owner i) in
-      ap targets_of (links_from-first t i inside) ∙ map-append (λ (e : Entry (List ℕ)). e.target) here (links_from t (i + 1))
-
--- of the nodes that are left some get their words, with the next numbers, and then the rest
-module _ (last : ℕ) (front rest left : List (List ℕ)) (parts : left ≡ front ++ rest) where
-  pub words_left : (done all : List Tie) → done ++ off_ties last left ≡ all
-      → (done ++ off_ties last front) ++ off_ties (last + length front) rest ≡ all
-  words_left done all was =
-      added done (off_ties last front) (off_ties (last + length front) rest) (off_ties last left) all
-      (ap (off_ties last) parts ∙ off_ties-append last front rest) was
-
-  pub numbers_left : (all : ℕ) → last + length left ≡ all → last + length front + length rest ≡ all
-  numbers_left all was = let len = ap length parts ∙ length-append front rest in omega (arith, len, was)
 
 -- after one name of a Hello more: what is told, and where the stamp stands
 module _ (ties : TiesValue) (last : ℕ) (links : List Offered) (i : ℕ) (link : Offered) (got : slice_get links i ≡ Some link) where

@@ -14,7 +14,7 @@ abbrev pub with_offered : TiesValue → Offered → TiesValue
 with_offered ties link =
     if is_own ties link then ties else (if link.settled then offered ties link.name else pinned ties link.name)
 
--- and the word for its node, where a link was added
+-- and the word for its node, if a link was added
 abbrev pub offered_tells : TiesValue → ℕ → Offered → Option Tie
 offered_tells ties last link =
     if is_own ties link then None else (if link.settled then offer_tells ties last link.name else pin_tells ties last link.name)

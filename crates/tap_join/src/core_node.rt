@@ -49,7 +49,7 @@ impl Core {
         &mut self.ties
     }
 
-    /// What the node does with a joining node that seeks its place: it sends it on exactly where the
+    /// What the node does with a joining node that seeks its place: it sends it on exactly if the
     /// seeker's slot has a primary, to that one. Else it is the surrogate, with the number of digits that
     /// the two share. The seeker is a name of the settings, and not the owner.
     ///

@@ -19,6 +19,8 @@ pub(crate) fn take_links(
     ensures after { OnOk result (ties.new ≡ after_links ties.old links.now) }
     ensures told { OnOk result (told.new.items ≡ told.old.items ++ links_tell ties.old stamp.old links.now) }
     ensures stamped { OnOk result (stamp.new ≡ stamp.old + length (links_tell ties.old stamp.old links.now)) }
+    ensures owner { ties.new.table.owner ≡ ties.old.table.owner }
+    ensures settings { ties.new.table.settings ≡ ties.old.table.settings }
 {
     for link in links {
         take_link(ties, stamp, link, told)?;
@@ -38,7 +40,8 @@ pub(crate) fn take_link(
     ensures after { OnOk result (ties.new ≡ with_offered ties.old link.now) }
     ensures told { OnOk result (told.new.items ≡ told.old.items ++ words_of (offered_tells ties.old stamp.old link.now)) }
     ensures stamped { OnOk result (stamp.new ≡ stamp.old + length (words_of (offered_tells ties.old stamp.old link.now))) }
-    ensures settings { OnOk result (ties.new.table.settings ≡ ties.old.table.settings) }
+    ensures owner { ties.new.table.owner ≡ ties.old.table.owner }
+    ensures settings { ties.new.table.settings ≡ ties.old.table.settings }
 {
     if let Some(tie) = link_to(ties, stamp, link)? {
         told.push(tie)?;
@@ -53,7 +56,8 @@ fn link_to(ties: &mut Ties, stamp: &mut Stamp, link: &Offered) -> Result<Option<
     ensures answer { IfOk result (λ tie. tie ≡ offered_tells ties.old stamp.old link.now) }
     ensures after { OnOk result (ties.new ≡ with_offered ties.old link.now) }
     ensures stamped { OnOk result (stamp.new ≡ stamp_after stamp.old (offered_tells ties.old stamp.old link.now)) }
-    ensures settings { OnOk result (ties.new.table.settings ≡ ties.old.table.settings) }
+    ensures owner { ties.new.table.owner ≡ ties.old.table.owner }
+    ensures settings { ties.new.table.settings ≡ ties.old.table.settings }
 {
     if link.name == ties.table().owner() {
         return Ok(None);

@@ -1,15 +1,14 @@
 ghost use Rattle.std.specs.Prelude.{◌≡◌, ◌+◌, ◌<◌, ◌≤◌, true, not, length, All, IfOk, OnOk, OnErr};
 ghost use Rattle.tap_name.specs.Name.{IsName};
 ghost use Rattle.tap_name.specs.Names.{has_name};
+ghost use Rattle.tap_table.specs.ByName.{targets_by_name};
 ghost use Rattle.tap_table.specs.Table.{rows};
-ghost use Rattle.tap_table.specs.Ties.{holders_on};
-ghost use Rattle.tap_depart.specs.Leaving.{off_ties, targets_by_name};
+ghost use Rattle.tap_table.specs.Ties.{holders_on, off_ties};
 ghost use Rattle.tap_join.specs.Hello.{after_hello, hello_tells};
 ghost use Rattle.tap_join.specs.Joining.{given_up, started, with_greeted};
 
 use crate::core_node::Core;
 use crate::hello::{take_link, take_links};
-use crate::off::{holders_on, off_ties};
 use std::alloc::Global;
 use std::marker::Model;
 use tap_link::Cease;
@@ -109,6 +108,8 @@ impl Joining {
         ensures after { OnOk result (self.new
             ≡ record self.old { ties = after_hello self.old.ties from core links.now }) }
         ensures stamped { IfOk result (λ told. stamp.new ≡ stamp.old + length told) }
+        ensures owner { self.new.ties.table.owner ≡ self.old.ties.table.owner }
+        ensures settings { self.new.ties.table.settings ≡ self.old.ties.table.settings }
     {
         let sender = Offered {
             name: from,
@@ -145,7 +146,7 @@ impl Joining {
     /// ascending, that it has no link to them any more, with the next numbers of its stamp, and the holders
     /// that are on, ascending, each of which is sent a Forget.
     ///
-    /// All links end with the node. It has ended too where memory is refused, when its stamp may have
+    /// All links end with the node. It has ended too if memory is refused, when its stamp may have
     /// given some of the numbers. The stamp has a number left for each link.
     ///
     /// Rule: docs/PROTOCOL.md, "Joining".
@@ -161,8 +162,8 @@ impl Joining {
         ensures forget { IfOk result (λ sent. sent.1 ≡ holders_on self.ties) }
         ensures stamped { IfOk result (λ sent. stamp.new ≡ stamp.old + length (targets_by_name self.ties.table)) }
     {
-        let links = off_ties(self.alloc, stamp, self.ties.table())?;
-        let holders = holders_on(self.alloc, &self.ties)?;
+        let links = self.ties.off_ties(self.alloc, stamp)?;
+        let holders = self.ties.holders_on(self.alloc)?;
         let Joining {
             alloc: _,
             ties,
@@ -170,6 +171,6 @@ impl Joining {
             abandoned: _,
         } = self;
         ties.cease(&by);
-        Ok((List::from_vec(links), List::from_vec(holders)))
+        Ok((links, holders))
     }
 }

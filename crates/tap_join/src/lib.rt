@@ -5,7 +5,6 @@
 mod core_node;
 mod hello;
 mod joining;
-mod off;
 mod sought;
 #[cfg(test)]
 mod tests;

@@ -1,6 +1,6 @@
 use Rattle.std.proofs.Common.{◌≡◌, ◌++◌}
 use Rattle.tap_cast.specs.Targets.{cast_targets, targets_between}
-use Rattle.tap_cast.proofs.Stepping.{in_ranges}
+use Rattle.tap_table.proofs.Stepping.{in_ranges}
 use Rattle.tap_cast.proofs.targets.cast_targets.Given as goal
 
 abbrev pub invariant-loop-i : goal.invariant-loop-i

@@ -1,6 +1,7 @@
 use Rattle.std.proofs.Common.{◌≡◌, ℕ, ◌<◌}
 use Rattle.tap_depart.specs.Replacement.{first_above}
-use Rattle.tap_depart.proofs.Stepping.{from_digit, links_in}
+use Rattle.tap_table.proofs.LinksByName.{links_in}
+use Rattle.tap_table.proofs.Stepping.{from_digit}
 use Rattle.tap_depart.proofs.replacement.first_primary.Given as goal
 
 abbrev pub invariant-loop-digit : goal.invariant-loop-digit

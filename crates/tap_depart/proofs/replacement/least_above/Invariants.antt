@@ -1,6 +1,6 @@
 use Rattle.std.proofs.Common.{◌≡◌}
 use Rattle.tap_depart.specs.Replacement.{first_above, least_above}
-use Rattle.tap_depart.proofs.Stepping.{links_from}
+use Rattle.tap_table.proofs.LinksByName.{links_from}
 use Rattle.tap_depart.proofs.replacement.least_above.Given as goal
 
 abbrev pub invariant-loop-i : goal.invariant-loop-i

@@ -21,4 +21,5 @@ loop-link-preserved c =
       ap (λ t. after_links t (drop (i + 1) links)) taken.after ∙ sym (after_next ties stamp links i link got) ∙ c.loop-link.invariant.2,
       rw (taken.told, taken.after, taken.stamped) told,
       rw (taken.after, taken.stamped) stamps,
+      taken.owner ∙ c.loop-link.invariant.5,
     )

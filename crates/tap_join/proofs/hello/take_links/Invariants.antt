@@ -11,3 +11,4 @@ invariant-loop-link l =
     × (after_links l.ties (drop l.link-index l.links) ≡ after_links l.fn.ties l.links)
     × (l.told.items ++ left ≡ l.fn.told.items ++ all)
     × (l.stamp + length left ≡ l.fn.stamp + length all)
+    × (l.ties.table.owner ≡ l.fn.ties.table.owner)
