@@ -15,7 +15,7 @@ use Rattle.tap_scenario.specs.Step.{step_of_text, can_run}
 use Rattle.tap_scenario.specs.Fault.{◌>>=◌, cons_result}
 use Rattle.tap_scenario.specs.Value.{whole_number, array_of_strings, strings_up_to, members_of_texts}
 
--- what the value under a key is read as, where it is as it has to be
+-- what the value under a key is read as, if it is as it has to be
 abbrev pub read_at : {A : Type 0} → Key → (Data → Option A) → Table → Result A Fault
 read_at key reading table = ok_or (option_and_then reading (value_at key table)) (BadValue key)
 
@@ -27,7 +27,7 @@ settings_of table =
     read_at Width (whole_number 1 4) table >>= (λ width.
     let settings : SettingsValue = record { base = base; digits = digits; width = width } in Ok settings)))
 
--- the limit of frames where the text gives none, by the number of digits
+-- the limit of frames if the text gives none, by the number of digits
 abbrev pub default_frames : ℕ → ℕ
 default_frames digits = if nat_le digits 8 then 200000 else 100000
 
@@ -71,7 +71,7 @@ script_of table =
     steps_of settings table >>= (λ steps.
     let script : ScenarioValue = record { settings = settings; frames = frames; members = members; steps = steps } in Ok script))))
 
--- this answer, where no key is wrong
+-- this answer, if no key is wrong
 abbrev pub unless_wrong : Option Key → Result ScenarioValue Fault → Result ScenarioValue Fault
 unless_wrong (Some key) answer = Err (BadKey key)
 unless_wrong None answer = answer
@@ -80,7 +80,7 @@ unless_wrong None answer = answer
 abbrev pub scenario_of_table : Table → Result ScenarioValue Fault
 scenario_of_table table = unless_wrong (wrong_key table) (script_of table)
 
--- the scenario of a text's table, where the text is TOML
+-- the scenario of a text's table, if the text is TOML
 abbrev pub scenario_of_document : Option Table → Result ScenarioValue Fault
 scenario_of_document None = Err NotToml
 scenario_of_document (Some table) = scenario_of_table table

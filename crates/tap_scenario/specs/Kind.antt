@@ -47,7 +47,7 @@ link_of_pair Find = codes "from"
 link_of_pair Walk = codes "from"
 link_of_pair RootSet = codes "from"
 
--- the kind that a first word tells
+-- the kind whose steps begin with a word
 abbrev pub kind_of_word : List ℕ → Option Kind
 kind_of_word word = find (λ kind. bytes_eq word (text_of_kind kind)) kinds
 

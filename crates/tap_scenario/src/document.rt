@@ -144,7 +144,7 @@ fn read_frames(settings: &Settings, table: &Table) -> Result<u32, Fault>
     }
 }
 
-// The names that the strings among these are, where each of them is one.
+// The names that the strings among these are, if each of them is one.
 fn read_names(
     alloc: Global,
     settings: &Settings,
@@ -184,7 +184,7 @@ fn read_members(
     Ok(names)
 }
 
-// The step of the string of this number, counted from 1, where it is one that a run takes.
+// The step of the string of this number, counted from 1, if it is one that a run takes.
 fn numbered_step(settings: &Settings, number: usize, text: &[u8]) -> Result<Step, Fault>
     requires { number ≤ MOST_STEPS }
     ensures { result ≡ numbered_step settings.now number text.now }
@@ -240,8 +240,9 @@ fn read_table(alloc: Global, table: &Table) -> Result<Scenario, ReadRefusal>
 ///
 /// The text is TOML with the keys `base` (2 to 16), `digits` (1 to 40), `width` (1 to 4), `members` (an array of 1 to
 /// 64 strings, distinct names) and `steps` (an array of at most 10,000 strings, each the text of a step). A key
-/// `frames` may stand beside them: 1 to 500,000, and 200,000 where it is absent; where `digits` is above 8, 1 to
-/// 100,000, and 100,000 where it is absent. What is wrong is told in the order of [`Fault`]'s variants.
+/// `frames` may stand beside them: 1 to 500,000, and 200,000 if it is absent; if `digits` is above 8, 1 to
+/// 100,000, and 100,000 if it is absent. Of several faults the answer is the first one in the order of [`Fault`]'s
+/// variants.
 ///
 /// Rule: docs/FORMATS.md, "The scenario".
 pub fn read(alloc: Global, bytes: &[u8]) -> Result<Scenario, ReadRefusal>

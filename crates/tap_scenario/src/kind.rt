@@ -34,7 +34,7 @@ pub(crate) enum PlaceKind {
     Repeat,
 }
 
-// What the first word of a step tells.
+// The kinds of step that the first word tells apart.
 #[derive(Clone, Copy)]
 pub(crate) enum Kind {
     Name(NameKind),
@@ -192,7 +192,7 @@ impl Kind {
         }
     }
 
-    // The kind that a first word tells.
+    // The kind whose steps begin with this word.
     pub(crate) fn of(word: &[u8]) -> Option<Kind>
         ensures { result ≡ kind_of_word word.now }
     {
