@@ -59,6 +59,8 @@ pub enum Fault {
 }
 
 /// Why no scenario was read.
+///
+/// Rule: docs/FORMATS.md, "Why a text is refused".
 #[derive(Clone, Copy, Debug, PartialEq, Eq)]
 pub enum ReadRefusal {
     /// The text is no scenario; this is the first thing that is wrong with it.

@@ -56,19 +56,19 @@ pub(crate) const TO: &str = "to";
 
 pub(crate) const FROM: &str = "from";
 
-// All first words.
+// All first words, those that long scenarios have most first.
 const KINDS: [Kind; 19] = [
-    Kind::Name(NameKind::Leave),
+    Kind::Pair(PairKind::Walk),
+    Kind::Pair(PairKind::Find),
+    Kind::Pair(PairKind::Publish),
+    Kind::Pair(PairKind::Join),
+    Kind::Pair(PairKind::Withdraw),
+    Kind::Pair(PairKind::RootSet),
     Kind::Name(NameKind::Root),
     Kind::Name(NameKind::Table),
+    Kind::Name(NameKind::Leave),
     Kind::Name(NameKind::Pointers),
     Kind::Name(NameKind::Abandon),
-    Kind::Pair(PairKind::Join),
-    Kind::Pair(PairKind::Publish),
-    Kind::Pair(PairKind::Withdraw),
-    Kind::Pair(PairKind::Find),
-    Kind::Pair(PairKind::Walk),
-    Kind::Pair(PairKind::RootSet),
     Kind::Place(PlaceKind::Deliver),
     Kind::Place(PlaceKind::Lose),
     Kind::Place(PlaceKind::Repeat),
