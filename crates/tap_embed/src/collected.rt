@@ -23,7 +23,7 @@ impl Collected {
     }
 }
 
-// It tells nothing of its bytes, and a write fails where memory for them is refused.
+// It tells nothing of its bytes, and a write fails if memory for them is refused.
 impl Sink for Collected {
     ghost use Rattle.std.specs.Prelude.{[], None};
 

@@ -28,7 +28,7 @@ carried_stays : (items : List Record) → fold opening_after Carried items ≡ C
 carried_stays [] = refl
 carried_stays (item ∷ items) = carried_stays items
 
--- the opening tells whether the log is carried
+-- the opening says whether the log is carried
 pub opening_tells : (log : List Record) → opens_carried (opening_of log) ≡ is_carried log
 unfolding is_carried
 opening_tells [] = refl

@@ -8,13 +8,13 @@ use Rattle.tap_log.specs.declared.record.Record.{Record}
 use Rattle.tap_log.specs.declared.record.Record.TheVariants.{Begin}
 use Rattle.tap_report.specs.Summary.{ending}
 use Rattle.tap_report.specs.Tally.{numbers_in, tally_after}
-use Rattle.tap_report.specs.Text.{IsBegin, IsPrintable, IsPrintableLog, BeginsOnce, text_of_record, text_of_log, settings_after, settings_of}
+use Rattle.tap_report.specs.Text.{IsBegin, IsPrintable, IsPrintableLog, BeginsOnce, text_of_record, text_of_log, settings_after, settings_so_far}
 use Rattle.tap_report.specs.Written.{WritesText}
 use Rattle.tap_report.specs.Reporter.{ReporterValue, Puts, Finishes, PutsEach, PutsWriteTheText, Reports, new_reporter}
 use Rattle.tap_report.specs.declared.mode.Mode.{Mode}
 use Rattle.tap_report.specs.declared.written.Written.{Written}
 use Rattle.tap_report.specs.declared.written.Written.TheVariants.{All as AllWritten}
-use Rattle.tap_report.proofs.TextLemmas.{texts_after-push, settings_of-push, take_next, ArePrintable-push}
+use Rattle.tap_report.proofs.TextLemmas.{texts_after-push, settings_so_far-push, take_next, ArePrintable-push}
 use Rattle.tap_report.proofs.TallyLemmas.{tally_of-push}
 use Rattle.tap_report.proofs.WritesLemmas.{WritesText-then, WritesText-none}
 
@@ -32,7 +32,7 @@ Reports-put {mode = mode} {records = records} {mid = mid} {new = new} {before = 
     (subst (λ m. WritesText mid new (text_of_record m before.settings item) before.so_far written) r.same_mode p.text) in
     rw p.reporter (record {
       same_mode = r.same_mode;
-      settings = ap (λ s. settings_after s item) r.settings ∙ sym (settings_of-push records item);
+      settings = ap (λ s. settings_after s item) r.settings ∙ sym (settings_so_far-push records item);
       count = ap (λ n. n + 1) r.count ∙ sym (length-append records (item ∷ []));
       tally = ap (λ t. tally_after t item) r.tally ∙ sym (tally_of-push records item);
       text = rw (texts_after-push mode None records item) (WritesText-then r.text text);
@@ -44,7 +44,7 @@ pub Reports-finish : {mode : Mode} {records : List Record} {old mid new : SinkSt
     → WritesText old new (text_of_log mode records) AllWritten written
 Reports-finish {mode = mode} {records = records} {mid = mid} {new = new} {before = before} {written = written} r f =
     let last =
-    subst (λ t. WritesText mid new (ending mode (settings_of records) (numbers_in t)) before.so_far written) r.tally
+    subst (λ t. WritesText mid new (ending mode (settings_so_far records) (numbers_in t)) before.so_far written) r.tally
     (subst (λ s. WritesText mid new (ending mode s (numbers_in before.tally)) before.so_far written) r.settings
     (subst (λ m. WritesText mid new (ending m before.settings (numbers_in before.tally)) before.so_far written) r.same_mode f.text)) in
     WritesText-then r.text last
@@ -70,7 +70,7 @@ always_begun [] settings = refl
 always_begun (item ∷ items) settings =
     let h = still_begun settings item in rw h.1 (always_begun items h.0)
 
--- The next record of a log is a `Begin` exactly where none was put before.
+-- The next record of a log is a `Begin` exactly if none was put before.
 pub begins_next : (records : List Record) (i : ℕ) (item : Record) (settings : Option SettingsValue) → BeginsOnce records
     → i < length records
     → item ≡ get_or records i item → settings ≡ fold settings_after None (take i records) → IsBegin item ↔ IsNone settings
@@ -100,7 +100,7 @@ BeginsOnce-push (first ∷ rest) item some other begins = (begins.0, All-push (�
 
 -- a log with one record more
 pub IsPrintableLog-push : (records : List Record) (item : Record) → 0 < length records → ¬ IsBegin item
-    → IsPrintable (settings_of records) item
+    → IsPrintable (settings_so_far records) item
     → IsPrintableLog records → IsPrintableLog (records ++ item ∷ [])
 IsPrintableLog-push records item some other printable log = record {
   begins = BeginsOnce-push records item some other log.begins;

@@ -17,7 +17,7 @@ counts_one : {Y : Type 0} (one : Option Y) → length (at_most_one one) ≡ cond
 counts_one None = refl
 counts_one (Some y) = refl
 
--- how many records tell something, with one record more
+-- how many records say something, with one record more
 told_count-push : {Y : Type 0} (h : Record → Option Y) (log : List Record) (item : Record)
     → length (filter_map h (log ++ item ∷ [])) ≡ length (filter_map h log) + cond (is_some (h item)) 1 0
 told_count-push h log item =

@@ -12,7 +12,7 @@ use Rattle.tap_log.specs.declared.record.Record.{Record}
 use Rattle.tap_log.specs.declared.record.Record.TheVariants.{Begin}
 use Rattle.tap_report.specs.Shapes.{line}
 use Rattle.tap_report.specs.Lookups.{node_at}
-use Rattle.tap_report.specs.Text.{IsBegin, IsPrintable, ArePrintable, further_lines, is_printed, line_of, text_of_record, texts_after, settings_after, settings_of}
+use Rattle.tap_report.specs.Text.{IsBegin, IsPrintable, ArePrintable, further_lines, is_printed, line_of, text_of_record, texts_after, settings_after, settings_so_far}
 use Rattle.tap_report.specs.declared.mode.Mode.{Mode}
 
 -- a record that is printed has its lines
@@ -29,9 +29,9 @@ no_lines_of_record mode settings item printed = ap (λ b. if b then line (line_o
 pub take_next : {X : Type 0} (xs : List X) (i : ℕ) (x : X) → i < length xs → x ≡ get_or xs i x → take (i + 1) xs ≡ take i xs ++ x ∷ []
 take_next xs i x inside is = take_more xs i x inside ∙ ap (λ y. take i xs ++ y ∷ []) (sym is)
 
-pub settings_of-push : (records : List Record) (item : Record)
-    → settings_of (records ++ item ∷ []) ≡ settings_after (settings_of records) item
-settings_of-push records item = fold-append settings_after None records (item ∷ [])
+pub settings_so_far-push : (records : List Record) (item : Record)
+    → settings_so_far (records ++ item ∷ []) ≡ settings_after (settings_so_far records) item
+settings_so_far-push records item = fold-append settings_after None records (item ∷ [])
 
 -- only a beginning changes the settings
 pub same_settings : (settings : Option SettingsValue) (item : Record) → ¬ IsBegin item → settings_after settings item ≡ settings

@@ -4,7 +4,7 @@ use Rattle.tap_log.specs.declared.record.Record.{Record}
 use Rattle.tap_log.specs.declared.record.Record.TheVariants.{Walked, RootOf, Asked, Answered, Published, Withdrawn, RootsOf}
 use Rattle.tap_report.specs.Shapes.{name_after, object_from, number_after, spaced_names}
 
--- whether a record tells of a walk, a root, or where an object is
+-- whether a record is of a walk, a root, or a server of an object
 abbrev pub is_lookup : Record → Bool
 is_lookup (Walked object path) = true
 is_lookup (RootOf object root) = true

@@ -5,7 +5,7 @@ use Rattle.tap_io.specs.Sink.{SinkState}
 use Rattle.tap_log.specs.declared.record.Record.{Record}
 use Rattle.tap_report.specs.Summary.{ending}
 use Rattle.tap_report.specs.Tally.{numbers_in, tally_after, tally_of}
-use Rattle.tap_report.specs.Text.{text_of_record, texts_after, text_of_log, settings_of}
+use Rattle.tap_report.specs.Text.{text_of_record, texts_after, text_of_log, settings_so_far}
 pub use Rattle.tap_report.specs.Text.{settings_after}
 use Rattle.tap_report.specs.Written.{WritesText}
 use Rattle.tap_report.specs.declared.mode.Mode.{Mode}
@@ -64,10 +64,10 @@ PutsWriteTheText =
     → PutsEach records (new_reporter mode) before old mid → Finishes before after mid new written
     → WritesText old new (text_of_log mode records) All written
 
--- Where a reporter and a sink stand after the puts of some records, from a new reporter on. A loop over records keeps this.
+-- How far a reporter and a sink are after the puts of some records, from a new reporter on. A loop over records keeps this.
 pub record Reports (mode : Mode) (records : List Record) (old new : SinkState) (reporter : ReporterValue) : Type 0 where
   pub same_mode : reporter.mode ≡ mode
-  pub settings : reporter.settings ≡ settings_of records
+  pub settings : reporter.settings ≡ settings_so_far records
   pub count : reporter.records ≡ length records
   pub tally : reporter.tally ≡ tally_of records
   pub text : WritesText old new (texts_after mode None records) All reporter.so_far

@@ -19,7 +19,7 @@ two_names_after word first link second = word ++ text_of_name first ++ link ++ t
 abbrev pub two_numbers_after : List ℕ → ℕ → List ℕ → ℕ → List ℕ
 two_numbers_after word first link second = word ++ decimal first ++ link ++ decimal second
 
--- an object, and the node where it is
+-- an object, and the node that has it
 abbrev pub object_at : List ℕ → List ℕ → List ℕ → List ℕ
 object_at word object node = two_names_after word object (codes " at ") node
 

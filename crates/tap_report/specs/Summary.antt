@@ -40,7 +40,7 @@ departed_after before (item ∷ items) = cond (is_departed before item) 1 0 + de
 abbrev pub departed_count : List Record → ℕ
 departed_count log = departed_after [] log
 
--- the nodes that are left: the members and the `Core` records, less the `Gone` of departed nodes; 0 where that would be less
+-- the nodes that are left: the members and the `Core` records, less the `Gone` of departed nodes; 0 if that would be less
 abbrev pub nodes_left : List Record → ℕ
 nodes_left log = length (members_of log) + core_count log - departed_count log
 
@@ -51,7 +51,7 @@ abbrev pub hops_in : Record → ℕ
 hops_in (rec.Walked object path) = length path - 1
 hops_in item = 0
 
--- the most hops of a walk; 0 where there is none
+-- the most hops of a walk; 0 if there is none
 abbrev pub most_hops : List Record → ℕ
 most_hops log = fold (λ most item. max most (hops_in item)) 0 log
 
@@ -83,7 +83,7 @@ summary_text n =
     line (number_after (codes "nodes ") n.nodes) ++ line (number_after (codes "frames ") n.frames)
     ++ line (number_after (codes "hops ") n.hops) ++ line (number_after (codes "answered ") n.answered)
 
--- what stands after the last record: in the mode Summary the summary, where there is a `Begin`
+-- what stands after the last record: in the mode Summary the summary, if there is a `Begin`
 abbrev pub ending : Mode → Option SettingsValue → Numbers → List ℕ
 ending Summary (Some settings) n = summary_text n
 ending mode settings n = []

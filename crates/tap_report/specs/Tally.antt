@@ -47,7 +47,7 @@ abbrev pub asked_by : Record → Option (List ℕ)
 asked_by (rec.Step index step) = depart_name step
 asked_by item = None
 
--- the departure that the last record asks for, where there is one
+-- the departure that the last record asks for, if there is one
 abbrev pub asked_last : Option Record → Option (List ℕ)
 asked_last None = None
 asked_last (Some item) = asked_by item

@@ -161,9 +161,9 @@ begun_settings (Closed cast) = None
 abbrev pub settings_after : Option SettingsValue → Record → Option SettingsValue
 settings_after settings item = option_or (begun_settings item) settings
 
--- the settings of the `Begin` of a log
-abbrev pub settings_of : List Record → Option SettingsValue
-settings_of records = fold settings_after None records
+-- the settings with which a record after these is printed: those of the last `Begin`
+abbrev pub settings_so_far : List Record → Option SettingsValue
+settings_so_far records = fold settings_after None records
 
 -- the texts of records one after another, after a `Begin` with these settings
 abbrev pub texts_after : Mode → Option SettingsValue → List Record → List ℕ
@@ -172,7 +172,7 @@ texts_after mode settings (item ∷ items) = text_of_record mode settings item +
 
 -- the text of a log: those of its records, and in the mode Summary its summary
 abbrev pub text_of_log : Mode → List Record → List ℕ
-text_of_log mode records = texts_after mode None records ++ ending mode (settings_of records) (numbers_of records)
+text_of_log mode records = texts_after mode None records ++ ending mode (settings_so_far records) (numbers_of records)
 
 -- What a record must meet to be printed, after a `Begin` with these settings: the head of a frame is read, a walk went
 -- through some node, the digits of slots are below the base, and want of memory isn't a fault.

@@ -60,7 +60,7 @@ impl Written {
         }
     }
 
-    // Adds the word of the kind with this code, where there is one.
+    // Adds the word of the kind with this code, if there is one.
     fn add_kind<K: Sink>(&mut self, sink: &mut K, code: u8)
         ensures { WritesText (K.state sink.old) (K.state sink.new)
             (word_of_kind code) self.old self.new }

@@ -11,6 +11,7 @@ mod lines;
 mod lookups;
 mod mode;
 mod opening;
+mod piece;
 mod refusals;
 mod reporter;
 mod shapes;

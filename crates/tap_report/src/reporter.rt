@@ -12,6 +12,8 @@ use tap_log::{Log, Record};
 use tap_name::Settings;
 
 /// How many records may be put to one reporter, which counts them.
+///
+/// Rule: docs/PROTOCOL.md, "Limits".
 pub const MOST_RECORDS: u32 = 4_000_000_000;
 
 /// Writes the text of a run, record by record.
@@ -66,7 +68,7 @@ impl Reporter {
     /// were put. The path of a walk isn't empty, the digit of each slot is below the base, the head of a frame is read
     /// with the settings of the `Begin`, and want of memory isn't the fault of a damaged copy.
     ///
-    /// The first `Failed` comes only where the sink counted a fault in this call, and some first bytes of the text are
+    /// The first `Failed` comes only if the sink counted a fault in this call, and some first bytes of the text are
     /// then written. After it each call answers `Failed` and writes nothing. A record that isn't written counts as put.
     pub fn put<K: Sink>(&mut self, item: &Record, sink: &mut K) -> Written
         requires begins { IsBegin item.now ↔ IsNone self.old.settings }
@@ -82,8 +84,8 @@ impl Reporter {
         self.so_far
     }
 
-    /// Ends the text. In the mode Summary the summary follows the last record, where a `Begin` was put, and in the
-    /// other modes nothing does. The answer tells whether all was written.
+    /// Ends the text. In the mode Summary the summary follows the last record, if a `Begin` was put, and in the
+    /// other modes nothing does. The answer says whether all was written.
     pub fn finish<K: Sink>(&mut self, sink: &mut K) -> Written
         ensures { Finishes self.old self.new (K.state sink.old) (K.state sink.new) result }
     {
@@ -106,7 +108,7 @@ fn settings_with(settings: Option<Settings>, item: &Record) -> Option<Settings>
 /// Writes the text of a log, as the puts of its records and a finish do. Takes no memory.
 ///
 /// The log is empty, or its first record is its only `Begin`. Each record is as [`Reporter::put`] wants it. `Failed`
-/// comes only where the sink counted a fault in this call, and some first bytes of the text are then written.
+/// comes only if the sink counted a fault in this call, and some first bytes of the text are then written.
 ///
 /// Rule: docs/FORMATS.md, "The printed text".
 pub fn write_log<K: Sink>(mode: Mode, log: &Log, sink: &mut K) -> Written
@@ -128,6 +130,8 @@ pub fn write_log<K: Sink>(mode: Mode, log: &Log, sink: &mut K) -> Written
 }
 
 /// A law that runs nothing: the puts of a log's records to a new reporter, and then a finish, write the text of the log.
+///
+/// Rule: docs/FORMATS.md, "The printed text".
 pub fn puts_write_the_text()
     ensures { PutsWriteTheText }
 {}

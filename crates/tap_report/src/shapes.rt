@@ -1,15 +1,16 @@
-ghost use Rattle.std.specs.Prelude.{◌≡◌, ◌<◌, ◌≤◌, ◌∷◌, [], ◌++◌, All, codes, length};
+ghost use Rattle.std.specs.Prelude.{◌<◌, ◌≤◌, ◌∷◌, [], ◌++◌, All, codes, length};
 ghost use Rattle.tap_name.specs.Digits.{text_of_digit};
 ghost use Rattle.tap_name.specs.Name.{text_of_name};
 ghost use Rattle.tap_report.specs.Written.{WritesText};
 ghost use Rattle.tap_report.specs.Shapes.{name_after, object_at, object_from, spaced_names, two_names_after, two_numbers_after};
 
+use crate::piece::{Piece, push_digits, push_word};
 use crate::written::Written;
 use itoa::{Buffer, Integer};
 use tap_io::Sink;
-use tap_name::Name;
+use tap_name::{Name, text_of_digit};
 
-// The shapes of lines.
+// The shapes of lines. A word has at most 24 bytes, so that it is written at once with a name or number after it.
 impl Written {
     // Ends a line.
     pub(crate) fn end_line<K: Sink>(&mut self, sink: &mut K)
@@ -24,24 +25,7 @@ impl Written {
         ensures { WritesText (K.state sink.old) (K.state sink.new)
             (text_of_digit digit ∷ []) self.old self.new }
     {
-        self.add(sink, &[text_of(digit)]);
-    }
-
-    // Adds a number, in decimal.
-    pub(crate) fn add_number<K: Sink, I: Integer>(&mut self, sink: &mut K, number: I)
-        ensures { WritesText (K.state sink.old) (K.state sink.new)
-            (I.text number) self.old self.new }
-    {
-        let mut digits = Buffer::new();
-        self.add(sink, digits.format(number).as_bytes());
-    }
-
-    // Adds a name, in printed digits.
-    pub(crate) fn add_name<K: Sink>(&mut self, sink: &mut K, name: &Name)
-        ensures { WritesText (K.state sink.old) (K.state sink.new)
-            (text_of_name name.now) self.old self.new }
-    {
-        self.add_digits(sink, name.as_slice());
+        self.add(sink, &[text_of_digit(digit)]);
     }
 
     // Adds at most 40 digits as they are printed.
@@ -51,20 +35,21 @@ impl Written {
         ensures { WritesText (K.state sink.old) (K.state sink.new)
             (text_of_name digits.now) self.old self.new }
     {
-        let mut text = [0; 40];
-        for at in 0..digits.len() {
-            text[at] = text_of(digits[at]);
-        }
-        self.add(sink, &text[..digits.len()]);
+        let mut piece = Piece::new();
+        push_digits(&mut piece, digits);
+        self.add(sink, piece.as_slice());
     }
 
     // Adds a word and a name.
     pub(crate) fn add_name_after<K: Sink>(&mut self, sink: &mut K, word: &[u8], name: &Name)
+        requires { length word.now ≤ 24 }
         ensures { WritesText (K.state sink.old) (K.state sink.new)
             (name_after word.now name.now) self.old self.new }
     {
-        self.add(sink, word);
-        self.add_name(sink, name);
+        let mut piece = Piece::new();
+        push_word(&mut piece, word);
+        push_digits(&mut piece, name.as_slice());
+        self.add(sink, piece.as_slice());
     }
 
     // Adds a word and a number.
@@ -74,11 +59,15 @@ impl Written {
         word: &[u8],
         number: I,
     )
+        requires { length word.now ≤ 24 }
         ensures { WritesText (K.state sink.old) (K.state sink.new)
             (word.now ++ I.text number) self.old self.new }
     {
-        self.add(sink, word);
-        self.add_number(sink, number);
+        let mut digits = Buffer::new();
+        let mut piece = Piece::new();
+        push_word(&mut piece, word);
+        push_word(&mut piece, digits.format(number).as_bytes());
+        self.add(sink, piece.as_slice());
     }
 
     // Adds a word and a name, and then another word and name.
@@ -90,13 +79,17 @@ impl Written {
         link: &[u8],
         second: &Name,
     )
+        requires few { length word.now ≤ 24 }
+        requires few_between { length link.now ≤ 24 }
         ensures { WritesText (K.state sink.old) (K.state sink.new)
             (two_names_after word.now first.now link.now second.now) self.old self.new }
     {
-        self.add(sink, word);
-        self.add_name(sink, first);
-        self.add(sink, link);
-        self.add_name(sink, second);
+        let mut piece = Piece::new();
+        push_word(&mut piece, word);
+        push_digits(&mut piece, first.as_slice());
+        push_word(&mut piece, link);
+        push_digits(&mut piece, second.as_slice());
+        self.add(sink, piece.as_slice());
     }
 
     // Adds a word and a number, and then another word and number.
@@ -108,17 +101,18 @@ impl Written {
         link: &[u8],
         second: u32,
     )
+        requires few { length word.now ≤ 24 }
+        requires few_between { length link.now ≤ 24 }
         ensures { WritesText (K.state sink.old) (K.state sink.new)
             (two_numbers_after word.now first link.now second) self.old self.new }
     {
-        self.add(sink, word);
-        self.add_number(sink, first);
-        self.add(sink, link);
-        self.add_number(sink, second);
+        self.add_number_after(sink, word, first);
+        self.add_number_after(sink, link, second);
     }
 
-    // Adds a word, an object and the node where it is.
+    // Adds a word, an object and the node that has it.
     pub(crate) fn add_at<K: Sink>(&mut self, sink: &mut K, word: &[u8], object: &Name, node: &Name)
+        requires { length word.now ≤ 24 }
         ensures { WritesText (K.state sink.old) (K.state sink.new)
             (object_at word.now object.now node.now) self.old self.new }
     {
@@ -133,6 +127,7 @@ impl Written {
         object: &Name,
         asker: &Name,
     )
+        requires { length word.now ≤ 24 }
         ensures { WritesText (K.state sink.old) (K.state sink.new)
             (object_from word.now object.now asker.now) self.old self.new }
     {
@@ -148,12 +143,4 @@ impl Written {
             self.add_name_after(sink, b" ", name);
         }
     }
-}
-
-// The byte that a digit is printed as.
-pub(crate) fn text_of(digit: u8) -> u8
-    requires { digit < 16 }
-    ensures { result ≡ text_of_digit digit }
-{
-    if digit < 10 { b'0' + digit } else { 87 + digit }
 }

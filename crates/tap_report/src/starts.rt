@@ -37,7 +37,7 @@ impl Written {
         }
     }
 
-    // Adds the lines of members, where the mode has them.
+    // Adds the lines of members, if the mode has them.
     pub(crate) fn add_members_in<K: Sink>(&mut self, sink: &mut K, mode: Mode, members: &[Name])
         ensures { WritesText (K.state sink.old) (K.state sink.new)
             (members_in mode members.now) self.old self.new }

@@ -30,8 +30,7 @@ impl Written {
             WordsAfter::Word(word) => self.add_word(sink, word),
             WordsAfter::WordAndNumber(word, number) => {
                 self.add_word(sink, word);
-                self.add(sink, b" ");
-                self.add_number(sink, *number);
+                self.add_number_after(sink, b" ", *number);
             }
             WordsAfter::Name(name) => self.add_name_after(sink, b" ", name),
             WordsAfter::Names(first, link, second) => self.add_pair_of_names(
@@ -43,8 +42,7 @@ impl Written {
             }
             WordsAfter::ThreeNumbers(first, second, third) => {
                 self.add_two_numbers_after(sink, b" ", *first, b" ", *second);
-                self.add(sink, b" ");
-                self.add_number(sink, *third);
+                self.add_number_after(sink, b" ", *third);
             }
             WordsAfter::Cast(word, to, prefix, from, asker) => {
                 self.add_cast_words(sink, word, to, prefix, from, asker)
@@ -58,10 +56,8 @@ impl Written {
             (text_after (Names first.now link.entry second.now)) self.old self.new }
     {
         self.add_name_after(sink, b" ", first);
-        self.add(sink, b" ");
-        self.add(sink, link.as_bytes());
-        self.add(sink, b" ");
-        self.add_name(sink, second);
+        self.add_word(sink, link);
+        self.add_name_after(sink, b" ", second);
     }
 
     // Adds what stands after the first word of a cast.
@@ -79,14 +75,11 @@ impl Written {
     {
         self.add(sink, b" ");
         self.add(sink, word.as_slice());
-        self.add(sink, b" ");
-        self.add(sink, to.as_bytes());
+        self.add_word(sink, to);
         self.add(sink, b" ");
         self.add_prefix(sink, prefix);
-        self.add(sink, b" ");
-        self.add(sink, from.as_bytes());
-        self.add(sink, b" ");
-        self.add_name(sink, asker);
+        self.add_word(sink, from);
+        self.add_name_after(sink, b" ", asker);
     }
 
     // Adds a word with a space before it.

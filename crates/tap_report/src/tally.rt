@@ -78,7 +78,7 @@ fn members_with(opening: Opening, members: usize, item: &Record) -> usize
     }
 }
 
-// How many members a record tells.
+// How many members a record names.
 #[tactic(auto, unfolding(tap_log::specs::Kinds::begin_members))]
 fn begin_members(item: &Record) -> usize
     ensures { result ≡ length (begin_members item.now) }

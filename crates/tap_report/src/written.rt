@@ -13,9 +13,11 @@ pub enum Written {
     Failed,
 }
 
-/// Writes a text, if all before it was written, as `so_far` tells. With `All` the sink counted no fault in this call. The
-/// first `Failed` comes only where it counted one, and some first bytes of the text are then written. If `so_far` is
+/// Writes a text, if all before it was written, as `so_far` says. With `All` the sink counted no fault in this call. The
+/// first `Failed` comes only if it counted one, and some first bytes of the text are then written. If `so_far` is
 /// `Failed`, nothing is written, and the answer is `Failed`.
+///
+/// Rule: docs/FORMATS.md, "The printed text".
 pub fn write_text<K: Sink>(sink: &mut K, so_far: Written, text: &[u8]) -> Written
     ensures { WritesText (K.state sink.old) (K.state sink.new) text.now so_far result }
 {
@@ -25,7 +27,7 @@ pub fn write_text<K: Sink>(sink: &mut K, so_far: Written, text: &[u8]) -> Writte
     }
 }
 
-// Writes all of a text, or a first part where a write fails.
+// Writes all of a text, or a first part if a write fails.
 fn write_all<K: Sink>(sink: &mut K, text: &[u8]) -> Written
     ensures { WritesText (K.state sink.old) (K.state sink.new) text.now Written.All result }
 {

@@ -8,25 +8,25 @@ use Rattle.tap_name.specs.Names.{are_distinct}
 use Rattle.tap_name.specs.Settings.{SettingsValue}
 use Rattle.tap_scenario.specs.declared.fault.Key.TheVariants.{Members}
 use Rattle.tap_scenario.specs.declared.fault.Fault.TheVariants.{BadValue}
-use Rattle.tap_scenario.specs.Document.{read_at, members_of}
+use Rattle.tap_scenario.specs.Document.{read_at, members_of_table}
 use Rattle.tap_scenario.specs.Scenario.{most_members}
 use Rattle.tap_scenario.specs.Value.{are_strings, texts_of, array_of_strings, names_of, distinct_names}
 use Rattle.tap_scenario.proofs.Arrays.{length-texts_of}
 
 -- there are not as many as members can be
-pub members_of-count : (p : SettingsValue) (table : Table) (values : List Value)
+pub members_of_table-count : (p : SettingsValue) (table : Table) (values : List Value)
     → read_at Members array_of_strings table ≡ Ok (texts_of (items_view values)) → are_strings (items_view values) ≡ true
-    → (nat_le 1 (length values) && nat_le (length values) most_members) ≡ false → members_of p table ≡ Err (BadValue Members)
-members_of-count p table values is strings count =
+    → (nat_le 1 (length values) && nat_le (length values) most_members) ≡ false → members_of_table p table ≡ Err (BadValue Members)
+members_of_table-count p table values is strings count =
     let len = length-texts_of values strings in rw (is, len, count) refl
 
 -- there are as many, and each is a name
-pub members_of-names : (p : SettingsValue) (table : Table) (values : List Value) (names : List (List ℕ))
+pub members_of_table-names : (p : SettingsValue) (table : Table) (values : List Value) (names : List (List ℕ))
     → read_at Members array_of_strings table ≡ Ok (texts_of (items_view values)) → are_strings (items_view values) ≡ true
     → (nat_le 1 (length values) && nat_le (length values) most_members) ≡ true
     → ok_or (names_of p (texts_of (items_view values))) (BadValue Members) ≡ Ok names → are_distinct names ≡ true
-    → members_of p table ≡ Ok names
-members_of-names p table values names is strings count read distinct =
+    → members_of_table p table ≡ Ok names
+members_of_table-names p table values names is strings count read distinct =
     let len = length-texts_of values strings in rw (is, len, count) (go (names_of p (texts_of (items_view values))) read)
   where
     go : (o : Option (List (List ℕ))) → ok_or o (BadValue Members) ≡ Ok names

@@ -13,7 +13,7 @@ use Rattle.tap_scenario.specs.declared.fault.Key.TheVariants.{Base, Digits, Widt
 use Rattle.tap_scenario.specs.declared.fault.Fault.{Fault}
 use Rattle.tap_scenario.specs.declared.fault.Fault.TheVariants.{BadValue, BadStep}
 use Rattle.tap_scenario.specs.declared.step.Step.{Step}
-use Rattle.tap_scenario.specs.Document.{read_at, settings_of, default_frames, frames_of, members_of, if_runs, numbered_step, steps_from, steps_of}
+use Rattle.tap_scenario.specs.Document.{read_at, settings_of_table, default_frames, frames_of_table, members_of_table, if_runs, numbered_step, steps_from, steps_of_table}
 use Rattle.tap_scenario.specs.Key.{value_at}
 use Rattle.tap_scenario.specs.Scenario.{IsScript, most_frames, most_members, most_steps}
 use Rattle.tap_scenario.specs.Step.{IsStep, step_of_text, can_run}
@@ -52,8 +52,8 @@ number_at-limits key low high t n e =
     let value = and_then-back (whole_number low high) (value_at key t) n (ok_or-Ok _ (BadValue key) n e) in
     whole_number-limits low high value.0 n value.2
 
-settings_of-limits : (t : Table) (p : SettingsValue) → settings_of t ≡ Ok p → AreWithinLimits p
-settings_of-limits t p e =
+settings_of_table-limits : (t : Table) (p : SettingsValue) → settings_of_table t ≡ Ok p → AreWithinLimits p
+settings_of_table-limits t p e =
     let base = then-Ok (read_at Base (whole_number 2 16) t) _ p e in
     let digits = then-Ok (read_at Digits (whole_number 1 40) t) _ p base.2 in
     let width = then-Ok (read_at Width (whole_number 1 4) t) _ p digits.2 in
@@ -67,8 +67,8 @@ settings_of-limits t p e =
 default_frames-limits : (digits : ℕ) → (1 ≤ default_frames digits) × (default_frames digits ≤ most_frames digits)
 default_frames-limits digits = (grind (arith, nat_tests), grind (arith, nat_tests))
 
-frames_of-limits : (p : SettingsValue) (t : Table) (n : ℕ) → frames_of p t ≡ Ok n → (1 ≤ n) × (n ≤ most_frames p.digits)
-frames_of-limits p t n e =
+frames_of_table-limits : (p : SettingsValue) (t : Table) (n : ℕ) → frames_of_table p t ≡ Ok n → (1 ≤ n) × (n ≤ most_frames p.digits)
+frames_of_table-limits p t n e =
     elim (cases_Bool (is_some (value_at Frames t))) [
       | inl there ↦ number_at-limits Frames 1 (most_frames p.digits) t n (rw there at e)
       | inr absent ↦
@@ -125,8 +125,9 @@ members_of_texts-limits p texts names small e =
           ]
     ]
 
-members_of-limits : (p : SettingsValue) (t : Table) (names : List (List ℕ)) → p.base ≤ 16 → members_of p t ≡ Ok names → AreMembers p names
-members_of-limits p t names small e =
+members_of_table-limits : (p : SettingsValue) (t : Table) (names : List (List ℕ)) → p.base ≤ 16 → members_of_table p t ≡ Ok names
+    → AreMembers p names
+members_of_table-limits p t names small e =
     let texts = then-Ok (read_at Members array_of_strings t) _ names e in
     members_of_texts-limits p texts.0 names small (ok_or-Ok _ (BadValue Members) names texts.2)
 
@@ -177,9 +178,9 @@ strings_up_to-few most value texts e =
           rw (← same) (leb-true (length found.0) most few)
     ]
 
-steps_of-limits : (p : SettingsValue) (t : Table) (steps : List Step) → p.base ≤ 16 → steps_of p t ≡ Ok steps
+steps_of_table-limits : (p : SettingsValue) (t : Table) (steps : List Step) → p.base ≤ 16 → steps_of_table p t ≡ Ok steps
     → (length steps ≤ most_steps) × All (IsRunning p) steps
-steps_of-limits p t steps small e =
+steps_of_table-limits p t steps small e =
     let texts = then-Ok (read_at Steps (strings_up_to most_steps) t) _ steps e in
     let told = ok_or-Ok (option_and_then (strings_up_to most_steps) (value_at Steps t)) (BadValue Steps) texts.0 texts.1 in
     let value = and_then-back (strings_up_to most_steps) (value_at Steps t) texts.0 told in
@@ -188,14 +189,14 @@ steps_of-limits p t steps small e =
     (omega arith, read.1)
 
 -- the parts that a table gives are a script's
-pub IsScript-parts : (t : Table) (p : SettingsValue) (frames : ℕ) (members : List (List ℕ)) (steps : List Step) → settings_of t ≡ Ok p
-    → frames_of p t ≡ Ok frames → members_of p t ≡ Ok members → steps_of p t ≡ Ok steps
+pub IsScript-parts : (t : Table) (p : SettingsValue) (frames : ℕ) (members : List (List ℕ)) (steps : List Step) → settings_of_table t ≡ Ok p
+    → frames_of_table p t ≡ Ok frames → members_of_table p t ≡ Ok members → steps_of_table p t ≡ Ok steps
     → IsScript (record { settings = p; frames = frames; members = members; steps = steps })
 IsScript-parts t p frames members steps is_p is_frames is_members is_steps =
-    let settings = settings_of-limits t p is_p in
-    let count = frames_of-limits p t frames is_frames in
-    let names = members_of-limits p t members settings.base_to is_members in
-    let read = steps_of-limits p t steps settings.base_to is_steps in
+    let settings = settings_of_table-limits t p is_p in
+    let count = frames_of_table-limits p t frames is_frames in
+    let names = members_of_table-limits p t members settings.base_to is_members in
+    let read = steps_of_table-limits p t steps settings.base_to is_steps in
     record {
       settings = settings;
       frames_from = count.0;

@@ -1,4 +1,4 @@
--- what stands behind the first word of a step, and its words
+-- what stands after the first word of a step, and its words
 use Rattle.std.proofs.Common.{◌≡◌, ℕ, ◌^◌, ◌<◌, ◌≤◌, true, bytes_eq, List, [], ◌∷◌, decimal, Some, refl, ap, inl, inr}
 use Rattle.std.proofs.lemmas.Bool.{cases_Bool}
 use Rattle.std.proofs.lemmas.Slice.Eq.{bytes_eq-Decides}

@@ -18,7 +18,7 @@ words-at_space text at found =
       | inr none ↦ let other : None ≡ Some at = rw none at found in absurd (cc)
     ]
 
--- where there is no space, the text is the one word
+-- if there is no space, the text is the one word
 pub words-no_space : (text : List ℕ) → position (λ byte. byte == 32) text ≡ None → words text ≡ text ∷ []
 words-no_space text none =
     elim (cases_Bool (nat_lt (position_or_len (λ byte. byte == 32) text) (length text))) [

@@ -354,7 +354,7 @@ step_of_words-back p carrier (word ∷ others) step small read =
           (same_first word (text_of_kind told.0) others others same refl ∙ is.0, is.1)
     ]
 
--- a text is read as a step only where it is that step's text, and the step is one of these settings
+-- a text is read as a step only if it is that step's text, and the step is one of these settings
 pub step_of_text-back : (p : SettingsValue) (carrier : Bool) (text : List ℕ) (step : Step) → p.base ≤ 16
     → step_of_text p carrier text ≡ Some step → (text ≡ text_of_step step) × IsStep p carrier step
 step_of_text-back p carrier text step small read =

@@ -15,30 +15,30 @@ use Rattle.tap_scenario.specs.Step.{step_of_text, can_run}
 use Rattle.tap_scenario.specs.Fault.{◌>>=◌, cons_result}
 use Rattle.tap_scenario.specs.Value.{whole_number, array_of_strings, strings_up_to, members_of_texts}
 
--- what the value under a key is read as, where it is as it has to be
+-- what the value under a key is read as, if it is as it has to be
 abbrev pub read_at : {A : Type 0} → Key → (Data → Option A) → Table → Result A Fault
 read_at key reading table = ok_or (option_and_then reading (value_at key table)) (BadValue key)
 
 -- the settings that a table gives, or the first fault
-abbrev pub settings_of : Table → Result SettingsValue Fault
-settings_of table =
+abbrev pub settings_of_table : Table → Result SettingsValue Fault
+settings_of_table table =
     read_at Base (whole_number 2 16) table >>= (λ base.
     read_at Digits (whole_number 1 40) table >>= (λ digits.
     read_at Width (whole_number 1 4) table >>= (λ width.
     let settings : SettingsValue = record { base = base; digits = digits; width = width } in Ok settings)))
 
--- the limit of frames where the text gives none, by the number of digits
+-- the limit of frames if the text gives none, by the number of digits
 abbrev pub default_frames : ℕ → ℕ
 default_frames digits = if nat_le digits 8 then 200000 else 100000
 
 -- how many frames may be sent: as the table says, or else the default
-abbrev pub frames_of : SettingsValue → Table → Result ℕ Fault
-frames_of p table =
+abbrev pub frames_of_table : SettingsValue → Table → Result ℕ Fault
+frames_of_table p table =
     if is_some (value_at Frames table) then read_at Frames (whole_number 1 (most_frames p.digits)) table else Ok (default_frames p.digits)
 
 -- the members that a table gives
-abbrev pub members_of : SettingsValue → Table → Result (List (List ℕ)) Fault
-members_of p table = read_at Members array_of_strings table >>= (λ texts. ok_or (members_of_texts p texts) (BadValue Members))
+abbrev pub members_of_table : SettingsValue → Table → Result (List (List ℕ)) Fault
+members_of_table p table = read_at Members array_of_strings table >>= (λ texts. ok_or (members_of_texts p texts) (BadValue Members))
 
 -- a step that a run takes
 abbrev pub if_runs : Step → Option Step
@@ -59,19 +59,19 @@ steps_from p number [] = Ok []
 steps_from p number (text ∷ others) = cons_result (numbered_step p number text) (steps_from p (number + 1) others)
 
 -- the steps that a table gives, counted from 1
-abbrev pub steps_of : SettingsValue → Table → Result (List Step) Fault
-steps_of p table = read_at Steps (strings_up_to most_steps) table >>= steps_from p 1
+abbrev pub steps_of_table : SettingsValue → Table → Result (List Step) Fault
+steps_of_table p table = read_at Steps (strings_up_to most_steps) table >>= steps_from p 1
 
 -- the scenario of a table whose keys are right
 abbrev pub script_of : Table → Result ScenarioValue Fault
 script_of table =
-    settings_of table >>= (λ settings.
-    frames_of settings table >>= (λ frames.
-    members_of settings table >>= (λ members.
-    steps_of settings table >>= (λ steps.
+    settings_of_table table >>= (λ settings.
+    frames_of_table settings table >>= (λ frames.
+    members_of_table settings table >>= (λ members.
+    steps_of_table settings table >>= (λ steps.
     let script : ScenarioValue = record { settings = settings; frames = frames; members = members; steps = steps } in Ok script))))
 
--- this answer, where no key is wrong
+-- this answer, if no key is wrong
 abbrev pub unless_wrong : Option Key → Result ScenarioValue Fault → Result ScenarioValue Fault
 unless_wrong (Some key) answer = Err (BadKey key)
 unless_wrong None answer = answer
@@ -80,7 +80,7 @@ unless_wrong None answer = answer
 abbrev pub scenario_of_table : Table → Result ScenarioValue Fault
 scenario_of_table table = unless_wrong (wrong_key table) (script_of table)
 
--- the scenario of a text's table, where the text is TOML
+-- the scenario of a text's table, if the text is TOML
 abbrev pub scenario_of_document : Option Table → Result ScenarioValue Fault
 scenario_of_document None = Err NotToml
 scenario_of_document (Some table) = scenario_of_table table

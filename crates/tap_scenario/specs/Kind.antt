@@ -8,11 +8,11 @@ use Rattle.tap_scenario.specs.declared.kind.PlaceKind.TheVariants.{Deliver, Lose
 use Rattle.tap_scenario.specs.declared.kind.Kind.{Kind}
 use Rattle.tap_scenario.specs.declared.kind.Kind.TheVariants.{Name, Pair, Place, Settle, Garble, Cut, Tick, Cast}
 
--- all first words of steps
+-- all first words of steps, those that long scenarios have most first
 abbrev pub kinds : List Kind
 kinds =
-    Name Leave ∷ Name Root ∷ Name Table ∷ Name Pointers ∷ Name Abandon
-    ∷ Pair Join ∷ Pair Publish ∷ Pair Withdraw ∷ Pair Find ∷ Pair Walk ∷ Pair RootSet
+    Pair Walk ∷ Pair Find ∷ Pair Publish ∷ Pair Join ∷ Pair Withdraw ∷ Pair RootSet
+    ∷ Name Root ∷ Name Table ∷ Name Leave ∷ Name Pointers ∷ Name Abandon
     ∷ Place Deliver ∷ Place Lose ∷ Place Repeat
     ∷ Settle ∷ Garble ∷ Cut ∷ Tick ∷ Cast ∷ []
 
@@ -47,7 +47,7 @@ link_of_pair Find = codes "from"
 link_of_pair Walk = codes "from"
 link_of_pair RootSet = codes "from"
 
--- the kind that a first word tells
+-- the kind whose steps begin with a word
 abbrev pub kind_of_word : List ℕ → Option Kind
 kind_of_word word = find (λ kind. bytes_eq word (text_of_kind kind)) kinds
 

@@ -121,7 +121,7 @@ abbrev pub two_numbers : ℕ → ℕ → List (List ℕ) → Option (ℕ × ℕ)
 two_numbers limit more (word ∷ others) = option_zip (number_below limit word) (one_number more others)
 two_numbers limit more [] = None
 
--- this, where no word is left
+-- this, if no word is left
 abbrev pub only : {A : Type 0} → A → List (List ℕ) → Option A
 only step [] = Some step
 only step _ = None
@@ -173,7 +173,7 @@ step_of_place placed.Deliver = Deliver
 step_of_place placed.Lose = Lose
 step_of_place placed.Repeat = Repeat
 
--- the step of a kind with these words behind its first one
+-- the step of a kind with these words after its first one
 abbrev pub step_of_kind : SettingsValue → Kind → List (List ℕ) → Option Step
 step_of_kind p (shape.Name kind) others = option_map (step_of_name kind) (one_name p others)
 step_of_kind p (shape.Pair kind) others = option_map (λ names. step_of_pair kind names.0 names.1) (two_names p (link_of_pair kind) others)
@@ -184,7 +184,7 @@ step_of_kind p shape.Cut others = option_map (λ numbers. Cut numbers.0 numbers.
 step_of_kind p shape.Tick others = only Tick others
 step_of_kind p shape.Cast others = cast_of_words p others
 
--- the step of these words: the first one tells its kind, which has to be there
+-- the step of these words: the first one gives its kind, which has to be there
 abbrev pub step_of_words : SettingsValue → Bool → List (List ℕ) → Option Step
 step_of_words p carrier [] = None
 step_of_words p carrier (word ∷ others) =

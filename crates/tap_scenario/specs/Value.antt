@@ -32,7 +32,7 @@ array_of_strings _ = None
 abbrev pub strings_up_to : ℕ → Data → Option (List (List ℕ))
 strings_up_to most value = option_and_then (λ texts. if nat_le (length texts) most then Some texts else None) (array_of_strings value)
 
--- one more at the front, where both are there
+-- one more at the front, if both are there
 abbrev pub cons_both : {A : Type 0} → Option A → Option (List A) → Option (List A)
 cons_both (Some first) (Some others) = Some (first ∷ others)
 cons_both _ _ = None

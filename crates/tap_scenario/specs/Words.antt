@@ -2,11 +2,11 @@
 use Rattle.std.specs.Prelude.{ℕ, ◌==◌, List, [], Option, None, Some}
 use Rattle.std.specs.List.{slice_split}
 
--- what stands before, between and behind the spaces of a text
+-- what stands before, between and after the spaces of a text
 abbrev pub words : List ℕ → List (List ℕ)
 words text = slice_split (λ byte. byte == 32) text
 
--- the words of the part of a text that is left, where one is
+-- the words of the part of a text that is left, if one is
 abbrev pub words_left : Option (List ℕ) → List (List ℕ)
 words_left None = []
 words_left (Some text) = words text

@@ -59,7 +59,7 @@ impl Word {
         }
     }
 
-    /// The word of these bytes, `None` exactly where they aren't 1 to 32 lower-case letters and digits.
+    /// The word of these bytes, `None` exactly if they aren't 1 to 32 lower-case letters and digits.
     ///
     /// Rule: docs/FORMATS.md, "The scenario".
     pub fn of(bytes: &[u8]) -> Option<Word>
@@ -120,7 +120,7 @@ impl Model for Prefix {
 }
 
 impl Prefix {
-    /// The prefix of these digits, `None` exactly where they are more than a name of the settings has, or one of them
+    /// The prefix of these digits, `None` exactly if they are more than a name of the settings has, or one of them
     /// isn't below the base.
     ///
     /// Rule: docs/FORMATS.md, "The scenario".
@@ -157,7 +157,7 @@ impl Prefix {
         })
     }
 
-    /// The prefix that a text spells, one byte for each digit as in a name, and `*` for no digit. `None` exactly where
+    /// The prefix that a text spells, one byte for each digit as in a name, and `*` for no digit. `None` exactly if
     /// the text is neither that nor 1 to as many digits below the base as a name of the settings has.
     ///
     /// Rule: docs/FORMATS.md, "The scenario".

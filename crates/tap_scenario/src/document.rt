@@ -1,7 +1,7 @@
 ghost use Rattle.std.specs.Prelude.{◌≡◌, ◌+◌, ◌<◌, ◌≤◌, length, IsTrue, IfOk, OnOk, MatchResult, Ok, Err};
 ghost use Rattle.std.specs.Option.{ok_or};
 ghost use Rattle.toml.specs.View.{table_view, items_view};
-ghost use Rattle.tap_scenario.specs.Document.{read_at, settings_of, frames_of, members_of, numbered_step, with_step, steps_from, steps_of, script_of, scenario_of_table, scenario_of};
+ghost use Rattle.tap_scenario.specs.Document.{read_at, settings_of_table, frames_of_table, members_of_table, numbered_step, with_step, steps_from, steps_of_table, script_of, scenario_of_table, scenario_of};
 ghost use Rattle.tap_scenario.specs.Key.{missing_key, is_known, has_known_keys, wrong_key};
 ghost use Rattle.tap_scenario.specs.Scenario.{IsScript};
 ghost use Rattle.tap_scenario.specs.ReadRefusal.{AnswersUnlessMemory, TellsFault};
@@ -121,7 +121,7 @@ fn few_strings_at(table: &Table, key: Key, most: usize) -> Result<&[Value], Faul
 
 // The settings that a table gives.
 fn read_settings(table: &Table) -> Result<Settings, Fault>
-    ensures { result ≡ settings_of (table_view table.now) }
+    ensures { result ≡ settings_of_table (table_view table.now) }
 {
     let base = number_at(table, Key::Base, 2, 16)?;
     let digits = number_at(table, Key::Digits, 1, 40)?;
@@ -131,7 +131,7 @@ fn read_settings(table: &Table) -> Result<Settings, Fault>
 
 // The limit of frames that a table gives, or else the default.
 fn read_frames(settings: &Settings, table: &Table) -> Result<u32, Fault>
-    ensures { result ≡ frames_of settings.now (table_view table.now) }
+    ensures { result ≡ frames_of_table settings.now (table_view table.now) }
 {
     let (most, default) = if settings.digits() <= 8 {
         (500_000, 200_000)
@@ -144,7 +144,7 @@ fn read_frames(settings: &Settings, table: &Table) -> Result<u32, Fault>
     }
 }
 
-// The names that the strings among these are, where each of them is one.
+// The names that the strings among these are, if each of them is one.
 fn read_names(
     alloc: Global,
     settings: &Settings,
@@ -171,7 +171,7 @@ fn read_members(
     settings: &Settings,
     table: &Table,
 ) -> Result<List<Name>, ReadRefusal>
-    ensures { AnswersUnlessMemory (members_of settings.now (table_view table.now)) result }
+    ensures { AnswersUnlessMemory (members_of_table settings.now (table_view table.now)) result }
 {
     let strings = strings_at(table, Key::Members)?;
     if strings.is_empty() || strings.len() > MOST_MEMBERS {
@@ -184,7 +184,7 @@ fn read_members(
     Ok(names)
 }
 
-// The step of the string of this number, counted from 1, where it is one that a run takes.
+// The step of the string of this number, counted from 1, if it is one that a run takes.
 fn numbered_step(settings: &Settings, number: usize, text: &[u8]) -> Result<Step, Fault>
     requires { number ≤ MOST_STEPS }
     ensures { result ≡ numbered_step settings.now number text.now }
@@ -209,7 +209,7 @@ fn add_step(settings: &Settings, steps: &mut Vec<Step>, text: &[u8]) -> Result<(
 
 // The steps that a table gives.
 fn read_steps(alloc: Global, settings: &Settings, table: &Table) -> Result<List<Step>, ReadRefusal>
-    ensures { AnswersUnlessMemory (steps_of settings.now (table_view table.now)) result }
+    ensures { AnswersUnlessMemory (steps_of_table settings.now (table_view table.now)) result }
 {
     let strings = few_strings_at(table, Key::Steps, MOST_STEPS)?;
     let mut steps = Vec::with_capacity(alloc, strings.len())?;
@@ -240,8 +240,9 @@ fn read_table(alloc: Global, table: &Table) -> Result<Scenario, ReadRefusal>
 ///
 /// The text is TOML with the keys `base` (2 to 16), `digits` (1 to 40), `width` (1 to 4), `members` (an array of 1 to
 /// 64 strings, distinct names) and `steps` (an array of at most 10,000 strings, each the text of a step). A key
-/// `frames` may stand beside them: 1 to 500,000, and 200,000 where it is absent; where `digits` is above 8, 1 to
-/// 100,000, and 100,000 where it is absent. What is wrong is told in the order of [`Fault`]'s variants.
+/// `frames` may stand beside them: 1 to 500,000, and 200,000 if it is absent; if `digits` is above 8, 1 to
+/// 100,000, and 100,000 if it is absent. Of several faults the answer is the first one in the order of [`Fault`]'s
+/// variants.
 ///
 /// Rule: docs/FORMATS.md, "The scenario".
 pub fn read(alloc: Global, bytes: &[u8]) -> Result<Scenario, ReadRefusal>

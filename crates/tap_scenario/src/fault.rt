@@ -50,7 +50,7 @@ pub enum Fault {
     NotUtf8,
     /// The text isn't TOML.
     NotToml,
-    /// The first key that is missing, or `Unknown` where none is missing and another key is there.
+    /// The first key that is missing, or `Unknown` if none is missing and another key is there.
     BadKey(Key),
     /// The first key whose value isn't as it has to be. Of the steps this asks for an array of at most 10,000 strings.
     BadValue(Key),
@@ -59,6 +59,8 @@ pub enum Fault {
 }
 
 /// Why no scenario was read.
+///
+/// Rule: docs/FORMATS.md, "Why a text is refused".
 #[derive(Clone, Copy, Debug, PartialEq, Eq)]
 pub enum ReadRefusal {
     /// The text is no scenario; this is the first thing that is wrong with it.

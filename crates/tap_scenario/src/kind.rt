@@ -34,7 +34,7 @@ pub(crate) enum PlaceKind {
     Repeat,
 }
 
-// What the first word of a step tells.
+// The kinds of step that the first word tells apart.
 #[derive(Clone, Copy)]
 pub(crate) enum Kind {
     Name(NameKind),
@@ -56,19 +56,19 @@ pub(crate) const TO: &str = "to";
 
 pub(crate) const FROM: &str = "from";
 
-// All first words.
+// All first words, those that long scenarios have most first.
 const KINDS: [Kind; 19] = [
-    Kind::Name(NameKind::Leave),
+    Kind::Pair(PairKind::Walk),
+    Kind::Pair(PairKind::Find),
+    Kind::Pair(PairKind::Publish),
+    Kind::Pair(PairKind::Join),
+    Kind::Pair(PairKind::Withdraw),
+    Kind::Pair(PairKind::RootSet),
     Kind::Name(NameKind::Root),
     Kind::Name(NameKind::Table),
+    Kind::Name(NameKind::Leave),
     Kind::Name(NameKind::Pointers),
     Kind::Name(NameKind::Abandon),
-    Kind::Pair(PairKind::Join),
-    Kind::Pair(PairKind::Publish),
-    Kind::Pair(PairKind::Withdraw),
-    Kind::Pair(PairKind::Find),
-    Kind::Pair(PairKind::Walk),
-    Kind::Pair(PairKind::RootSet),
     Kind::Place(PlaceKind::Deliver),
     Kind::Place(PlaceKind::Lose),
     Kind::Place(PlaceKind::Repeat),
@@ -192,7 +192,7 @@ impl Kind {
         }
     }
 
-    // The kind that a first word tells.
+    // The kind whose steps begin with this word.
     pub(crate) fn of(word: &[u8]) -> Option<Kind>
         ensures { result ≡ kind_of_word word.now }
     {

@@ -8,7 +8,7 @@ use tap_name::{List, Name, Settings};
 /// What a run is made from: the settings, the limit of frames, the members at the start, and the steps.
 ///
 /// It has 1 to 64 distinct members and at most 10,000 steps, whose names are all names of the settings. A run may send
-/// 1 to 500,000 frames, or 1 to 100,000 where names have more than eight digits.
+/// 1 to 500,000 frames, or 1 to 100,000 if names have more than eight digits.
 ///
 /// Rule: docs/FORMATS.md, "The scenario".
 #[derive(Debug, Drop)]
@@ -34,7 +34,7 @@ impl Scenario {
     ///
     /// Condition: the parts are within the limits of a scenario. There are 1 to 64 members, distinct names of the
     /// settings, and at most 10,000 steps; each is one of these settings, in a scenario that isn't carried, and one that a
-    /// run takes. The frames are 1 to 500,000, or 1 to 100,000 where names have more than eight digits.
+    /// run takes. The frames are 1 to 500,000, or 1 to 100,000 if names have more than eight digits.
     pub fn of(settings: &Settings, frames: u32, members: List<Name>, steps: List<Step>) -> Scenario
         requires { IsScript (record { settings = settings.now; frames = frames; members = members; steps = steps }) }
         ensures { result ≡ record { settings = settings.now; frames = frames; members = members; steps = steps } }

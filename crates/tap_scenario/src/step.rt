@@ -54,7 +54,7 @@ pub enum Step {
         /// The node where the walk starts.
         asker: Name,
     },
-    /// Tells the root of an object.
+    /// Prints the root of an object.
     Root {
         /// The object.
         object: Name,
@@ -70,15 +70,15 @@ pub enum Step {
     SettleNewest,
     /// Has frames taken in a mixed order, until none is outstanding.
     SettleMixed {
-        /// Where the mixing starts.
+        /// The number from which the mixing starts.
         seed: u64,
     },
-    /// Tells the links of a node's table.
+    /// Prints the links of a node's table.
     Table {
         /// The node.
         name: Name,
     },
-    /// Tells the object pointers that a node holds.
+    /// Prints the object pointers that a node holds.
     Pointers {
         /// The node.
         name: Name,
@@ -116,7 +116,7 @@ pub enum Step {
         /// The place of the packet among those under way, from 0.
         place: u32,
     },
-    /// Tells the roots of the four salted names of an object.
+    /// Prints the roots of the four salted names of an object.
     RootSet {
         /// The object.
         object: Name,
@@ -148,7 +148,7 @@ impl Step {
     }
 }
 
-// The step of the words behind `settle`.
+// The step of the words after `settle`.
 fn read_settle(mut words: Words<'_>) -> Option<Step>
     ensures { result ≡ settle_of_words words.entry }
 {
@@ -165,7 +165,7 @@ fn read_settle(mut words: Words<'_>) -> Option<Step>
     }
 }
 
-// The step of the words behind `garble`.
+// The step of the words after `garble`.
 fn read_garble(mut words: Words<'_>) -> Option<Step>
     ensures { result ≡ garble_of_words words.entry }
 {
@@ -178,7 +178,7 @@ fn read_garble(mut words: Words<'_>) -> Option<Step>
     })
 }
 
-// The step of the words behind `cast`.
+// The step of the words after `cast`.
 fn read_cast(settings: &Settings, mut words: Words<'_>) -> Option<Step>
     ensures { result ≡ cast_of_words settings.now words.entry }
 {
@@ -200,7 +200,7 @@ fn read_cast(settings: &Settings, mut words: Words<'_>) -> Option<Step>
     })
 }
 
-// The step of a kind with these words behind its first one.
+// The step of a kind with these words after its first one.
 fn step_of_kind(settings: &Settings, kind: Kind, words: Words<'_>) -> Option<Step>
     ensures { result ≡ step_of_kind settings.now kind words.entry }
 {
@@ -231,7 +231,7 @@ fn step_of_kind(settings: &Settings, kind: Kind, words: Words<'_>) -> Option<Ste
     }
 }
 
-// The step that these words are: the first one tells its kind, which has to be there.
+// The step that these words are: the first one gives its kind, which has to be there.
 fn step_of_words(settings: &Settings, carrier: bool, mut words: Words<'_>) -> Option<Step>
     ensures { result ≡ step_of_words settings.now carrier words.entry }
 {
@@ -243,16 +243,16 @@ fn step_of_words(settings: &Settings, carrier: bool, mut words: Words<'_>) -> Op
     }
 }
 
-/// The step that a text is, where it is one: its words have one space between them and nothing before or behind, its
+/// The step that a text is, if it is one: its words have one space between them and nothing before or after them, its
 /// names are names of the settings, and its numbers are decimal, with no sign and no leading zero. The steps `tick`,
 /// `lose` and `repeat` are there in a carried scenario only, `garble` and `cut` in any other only, and `rootset` only
-/// where names have 40 digits in base 16.
+/// if names have 40 digits in base 16.
 ///
 /// Rule: docs/FORMATS.md, "The scenario".
 pub fn read_step(settings: &Settings, carrier: bool, text: &[u8]) -> Option<Step>
     ensures value { result ≡ step_of_text settings.now carrier text.now }
 
-    // A text is read as a step exactly where it is that step's one text, and the step is one of these settings.
+    // A text is read as a step exactly if it is that step's one text, and the step is one of these settings.
     ensures exact { (step : Step)
         → ((result ≡ Some step) ↔ ((text.now ≡ text_of_step step) × IsStep settings.now carrier step)) }
 {

@@ -565,7 +565,7 @@ const DIGITS: [char; 16] = [
     '0', '1', '2', '3', '4', '5', '6', '7', '8', '9', 'a', 'b', 'c', 'd', 'e', 'f',
 ];
 
-// A scenario's text with the 64 names of two digits that are below 40 in base 16, and these behind them.
+// A scenario's text with the 64 names of two digits that are below 40 in base 16, and these after them.
 fn text_of_members(alloc: Global, more: &str) -> Result<String, AllocError> {
     let mut text = String::from_str(
         alloc,

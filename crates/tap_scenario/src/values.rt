@@ -15,7 +15,7 @@ pub(crate) fn value_at(table: &Table, key: Key) -> Option<&Value>
     table.get(key.text())
 }
 
-// The number that a value is, where it is whole and within these limits.
+// The number that a value is, if it is whole and within these limits.
 pub(crate) fn whole_number(value: &Value, low: u32, high: u32) -> Option<u32>
     ensures value { result ≡ whole_number low high (view value.now) }
     ensures from { IfSome result (λ number. low ≤ number) }

@@ -29,7 +29,7 @@ fn first_space(text: &[u8]) -> Option<usize>
     text.iter().position(|byte| *byte == b' ')
 }
 
-// The number that a text writes, where it is at most so much. The text is parsed, and has to be what the number prints
+// The number that a text writes, if it is at most so much. The text is parsed, and has to be what the number prints
 // as.
 fn number_of_text(text: &str, most: u64) -> Option<u64>
     ensures value { result ≡ number_below (most + 1) text.now }
@@ -48,7 +48,7 @@ fn number_of_text(text: &str, most: u64) -> Option<u64>
     }
 }
 
-// The number that a word writes, where it is at most so much.
+// The number that a word writes, if it is at most so much.
 pub(crate) fn read_number(word: &[u8], most: u64) -> Option<u64>
     ensures value { result ≡ number_below (most + 1) word.now }
     ensures to { IfSome result (λ number. number ≤ most) }
@@ -84,7 +84,7 @@ impl<'a> Words<'a> {
         }
     }
 
-    // The name that the words are, where they are one name.
+    // The name that the words are, if they are one name.
     pub(crate) fn one_name(mut self, settings: &Settings) -> Option<Name>
         ensures { result ≡ one_name settings.now self.entry }
     {
@@ -95,7 +95,7 @@ impl<'a> Words<'a> {
         read_name(settings, name).ok()
     }
 
-    // The names that the words are, where they are two names with this word between them.
+    // The names that the words are, if they are two names with this word between them.
     pub(crate) fn two_names(mut self, settings: &Settings, link: &[u8]) -> Option<(Name, Name)>
         ensures { result ≡ two_names settings.now link.now self.entry }
     {
@@ -110,7 +110,7 @@ impl<'a> Words<'a> {
         Some((first, second))
     }
 
-    // The number that the words are, where they are one number of at most so much.
+    // The number that the words are, if they are one number of at most so much.
     pub(crate) fn one_number(mut self, most: u64) -> Option<u64>
         ensures value { result ≡ one_number (most + 1) self.entry }
         ensures to { IfSome result (λ number. number ≤ most) }
@@ -122,7 +122,7 @@ impl<'a> Words<'a> {
         read_number(word, most)
     }
 
-    // The numbers that the words are, where they are two numbers of at most so much.
+    // The numbers that the words are, if they are two numbers of at most so much.
     pub(crate) fn two_numbers(mut self, most: u64, more: u64) -> Option<(u64, u64)>
         ensures value { result ≡ two_numbers (most + 1) (more + 1) self.entry }
         ensures to { IfSome result (λ numbers. (numbers.0 ≤ most) × (numbers.1 ≤ more)) }
@@ -132,7 +132,7 @@ impl<'a> Words<'a> {
         Some((first, second))
     }
 
-    // This step, where no word is left.
+    // This step, if no word is left.
     pub(crate) fn only(mut self, step: Step) -> Option<Step>
         ensures { result ≡ only step self.entry }
     {

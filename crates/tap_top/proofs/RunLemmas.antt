@@ -24,8 +24,8 @@ use Rattle.tap_history.specs.Moments.{is_moment}
 use Rattle.tap_log.specs.Kinds.{step_of}
 use Rattle.tap_log.proofs.Growing.{EachRecord-push, begun_steps-push, last_of-push}
 use Rattle.tap_history.proofs.Growing.{core_of-begin, core_of-left, leaves_nodes}
-use Rattle.tap_report.specs.Text.{IsBegin, IsPrintable, IsPrintableLog, settings_of}
-use Rattle.tap_report.proofs.TextLemmas.{settings_of-push}
+use Rattle.tap_report.specs.Text.{IsBegin, IsPrintable, IsPrintableLog, settings_so_far}
+use Rattle.tap_report.proofs.TextLemmas.{settings_so_far-push}
 use Rattle.tap_report.proofs.ReportsLemmas.{IsPrintableLog-first, IsPrintableLog-push}
 use Rattle.tap_surrogate.specs.Nodes.{Nodes, core_links}
 use Rattle.tap_table.specs.Members.{IsTableAtRest}
@@ -55,7 +55,7 @@ begun_path : (path : List (List ℕ)) (node : List ℕ) → first_of path ≡ So
 begun_path [] node begins = cc
 begun_path (x ∷ xs) node begins = omega arith
 
--- what a record that answers a step says, where it stands right behind the step
+-- what a record that answers a step says, if it stands right after the step
 record AnswerSays (p : SettingsValue) (nodes : Nodes) (before : List Record) (answer : Record) : Type 0 where
   ends : IsTrue (ends_group (Some answer))
   no_step : step_of answer ≡ None
@@ -229,10 +229,10 @@ has_run_more s nodes log count index step answer script rest run this within ind
     let core_new : core_of new ≡ s.members =
     core_of-left mid answer says.leaves ∙ core_mid in
     let steps_mid : begun_steps mid ≡ begun_steps log ++ step ∷ [] = begun_steps-push log (StepRecord index step) in
-    let no_more : begun_steps new ≡ begun_steps mid = begun_steps-push mid answer ∙ ap (λ o. begun_steps mid ++ cons_option o []) says.no_step
-    ∙ append-nil (begun_steps mid) in
+    let no_more : begun_steps new ≡ begun_steps mid = begun_steps-push mid answer
+    ∙ ap (λ o. begun_steps mid ++ cons_option o []) says.no_step ∙ append-nil (begun_steps mid) in
     let Ends : Option Record → Type 0 = λ last. IsTrue (ends_group last) in
-    let settings_mid : settings_of mid ≡ Some s.settings = settings_of-push log (StepRecord index step) ∙ run.settings in
+    let settings_mid : settings_so_far mid ≡ Some s.settings = settings_so_far-push log (StepRecord index step) ∙ run.settings in
     let Prints : Option SettingsValue → Type 0 = λ settings. IsPrintable settings answer in
     record {
       begins = (
@@ -244,7 +244,7 @@ has_run_more s nodes log count index step answer script rest run this within ind
       steps = no_more ∙ steps_mid ∙ ap (λ l. l ++ step ∷ []) run.steps ∙ ap (λ x. take count s.steps ++ x ∷ []) (sym this_step)
           ∙ sym (take_more s.steps count step within);
       core = core_new;
-      settings = settings_of-push mid answer ∙ says.settings (settings_of mid) ∙ settings_mid;
+      settings = settings_so_far-push mid answer ∙ says.settings (settings_so_far mid) ∙ settings_mid;
       each = EachRecord-push (MayStand s.settings nodes) mid answer
           (EachRecord-push (MayStand s.settings nodes) log (StepRecord index step) run.each
           (run.between, index_is ∙ ap (λ n. n + 1) (sym begun))) says.stands;

@@ -17,7 +17,7 @@ use Rattle.tap_top.specs.Headline.{IsLogOf, IsWholeLogOf}
 use Rattle.tap_top.specs.FaultLine.{fault_line}
 use Rattle.tap_top.specs.Reading.{HasReadFault, HasReadScript, HasReadTooMany}
 
--- why no script was read; where a script was read or nothing was tried, there is no such reason
+-- why no script was read; if a script was read or nothing was tried, there is no such reason
 abbrev pub IsUnread : SourceState → SourceState → Status → Type 0
 IsUnread old new ReadFault = HasRisen old.faults new.faults
 IsUnread old new TooLong = HasReadTooMany old new
@@ -61,7 +61,7 @@ abbrev pub with_writing : Status → Written → Status
 with_writing before All = before
 with_writing before Failed = WriteFault
 
--- All text was written, and the sink counted no fault; or a write failed, which the status tells: some first bytes of the
+-- All text was written, and the sink counted no fault; or a write failed, which the status says: some first bytes of the
 -- text were written, and the sink counted a fault.
 abbrev pub HasWritten : SinkState → SinkState → List ℕ → Status → Status → Type 0
 HasWritten old new text before status =

@@ -14,7 +14,7 @@ text_of_fault (BadKey key) = codes "bad key " ++ text_of_key key
 text_of_fault (BadValue key) = codes "bad value " ++ text_of_key key
 text_of_fault (BadStep index) = codes "bad step " ++ decimal index
 
--- the line of a status: none where there is nothing to tell, or no way to tell it
+-- the line of a status: none if there is nothing to say, or no way to say it
 abbrev pub fault_line : Status → List ℕ
 fault_line Done = []
 fault_line Usage = codes "tapestry: usage: tapestry [--brief] [--make N] [--seed S]\n"

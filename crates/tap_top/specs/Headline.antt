@@ -15,7 +15,7 @@ use Rattle.tap_surrogate.specs.Laws.{LeadsToRoot}
 use Rattle.tap_top.specs.Lawful.{IsLawful}
 
 -- each walk leads from a core node to the one root of its object, in as many hops as a name has digits or fewer, and each
--- root that is told is that one
+-- root that is printed is that one
 abbrev pub FindsRoot : SettingsValue → List Record → Record → Type 0
 FindsRoot p before (Walked object path) =
     (asker : List ℕ) × Among asker (core_of before) × LeadsToRoot p (core_of before) asker object path

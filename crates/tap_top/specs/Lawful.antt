@@ -1,4 +1,4 @@
--- Lawful logs: which record may stand behind which, and what it says.
+-- Lawful logs: which record may stand after which, and what it says.
 use Rattle.std.specs.Prelude.{◌≡◌, ◌⊎◌, ℕ, ◌+◌, Bool, true, false, List, [], length, Option, None, Some, IsTrue}
 use Rattle.tap_name.specs.Settings.{SettingsValue}
 use Rattle.tap_name.specs.Root.{Among, root}
@@ -47,7 +47,7 @@ is_whole None = false
 is_whole (Some (StepRecord index step)) = false
 is_whole (Some other) = true
 
--- A record may stand behind these. `Begin` is first; a step has the next number; each other record but the last answers the
+-- A record may stand after these. `Begin` is first; a step has the next number; each other record but the last answers the
 -- step right before it; the last one has the number of all steps.
 abbrev pub MayStand : SettingsValue → Nodes → List Record → Record → Type 0
 MayStand p nodes before (Begin settings frames members) = before ≡ []

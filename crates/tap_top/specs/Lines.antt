@@ -1,4 +1,4 @@
--- the links of a table, as a log tells them
+-- the links of a table, as a log has them
 use Rattle.std.specs.Prelude.{List, map}
 use Rattle.tap_link.specs.declared.kind.Kind.{Kind}
 use Rattle.tap_link.specs.declared.kind.Kind.TheVariants.{Pin, Settled, Leaving}

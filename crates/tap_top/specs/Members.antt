@@ -15,7 +15,7 @@ name_eq = pointwise nat_eq
 abbrev pub HaveOwnTables : SettingsValue → (List ℕ → Option TiesValue) → Type 0
 HaveOwnTables p kept = (name : List ℕ) (ties : TiesValue) → kept name ≡ Some ties → IsTableOf p name ties.table
 
--- what is kept under a name: the ties at rest over the members, where it is one of these owners, and else nothing
+-- what is kept under a name: the ties at rest over the members, if it is one of these owners, and else nothing
 abbrev pub IsKept : SettingsValue → List (List ℕ) → List (List ℕ) → List ℕ → Option TiesValue → Type 0
 IsKept p members owners name kept =
     MatchOption kept (Among name owners → ⊥) (λ ties. Among name owners × AreAtRest p name members ties)

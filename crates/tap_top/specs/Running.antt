@@ -5,7 +5,7 @@ use Rattle.tap_log.specs.declared.record.Record.{Record}
 use Rattle.tap_log.specs.declared.record.Record.TheVariants.{Begin}
 use Rattle.tap_log.specs.Log.{EachRecord, begun_steps, last_of}
 use Rattle.tap_history.specs.Core.{core_of}
-use Rattle.tap_report.specs.Text.{IsPrintableLog, settings_of}
+use Rattle.tap_report.specs.Text.{IsPrintableLog, settings_so_far}
 use Rattle.tap_surrogate.specs.Nodes.{Nodes}
 use Rattle.tap_top.specs.Lawful.{MayStand, ends_group}
 use Rattle.tap_top.specs.Headline.{FindsRoot}
@@ -20,7 +20,7 @@ pub record HasRun (s : ScenarioValue) (nodes : Nodes) (log : List Record) (count
   pub between : IsTrue (ends_group (last_of log))
   pub steps : begun_steps log ≡ take count s.steps
   pub core : core_of log ≡ s.members
-  pub settings : settings_of log ≡ Some s.settings
+  pub settings : settings_so_far log ≡ Some s.settings
   pub each : EachRecord (MayStand s.settings nodes) log
   pub keeps_core : EachRecord (KeepsCore s.members) log
   pub finds_roots : EachRecord (FindsRoot s.settings) log

@@ -37,12 +37,12 @@ pub(crate) fn answer(
         Step::Walk { object, asker } => {
             walk_from(alloc, scenario, members, index, *object, *asker)
         }
-        Step::Table { name } => tell_table(alloc, scenario, members, index, *name),
+        Step::Table { name } => table_record(alloc, scenario, members, index, *name),
         _ => unreachable!(),
     }
 }
 
-// The record of a walk, or of its refusal where the asker is no member.
+// The record of a walk, or of its refusal if the asker is no member.
 fn walk_from(
     alloc: Global,
     scenario: &Scenario,
@@ -74,8 +74,8 @@ fn root_over_members(scenario: &Scenario, object: &Name) -> Name
     root_of(scenario.members(), &scenario.settings(), object).unwrap()
 }
 
-// The record of a member's table, or of its refusal where the name is no member's.
-fn tell_table(
+// The record of a member's table, or of its refusal if the name is no member's.
+fn table_record(
     alloc: Global,
     scenario: &Scenario,
     members: &Members,
@@ -98,16 +98,17 @@ fn tell_table(
     }
 }
 
-// The links of a table, as a log tells them.
+// The links of a table, as a log has them.
 fn lines_of(alloc: Global, table: &Table) -> Result<List<LinkLine>, NoMemory>
     ensures { IfOk result (λ lines. lines ≡ lines_of table.now) }
 {
     let mut lines = List::new(alloc);
     for place in 0..table.len() {
+        let row = table.row_at(place);
         lines.push(LinkLine {
-            slot: table.slot_at(place),
-            name: table.target_at(place),
-            kind: word_of(table.kind_at(place)),
+            slot: row.slot,
+            name: row.target,
+            kind: word_of(row.kind),
         })?;
     }
     Ok(lines)

@@ -44,7 +44,7 @@ impl Status {
         }
     }
 
-    // How it ends, where it would end so without a failed write.
+    // How it ends, if it would end so without a failed write.
     pub(crate) fn with_writing(self, written: Written) -> Status
         ensures { result ≡ with_writing self written }
     {
@@ -56,12 +56,14 @@ impl Status {
 }
 
 /// What the top call leaves.
+///
+/// Rule: docs/FORMATS.md, "The fault line and the exit status".
 #[derive(Debug, Drop)]
 pub struct Ended {
     /// How it ended.
     pub status: Status,
     /// How it would have ended without a failed write; never `WriteFault`.
     pub before: Status,
-    /// What the run did. It is empty where no run began.
+    /// What the run did. It is empty if no run began.
     pub log: Log,
 }

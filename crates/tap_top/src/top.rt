@@ -97,12 +97,12 @@ fn run_and_print<K: Sink>(alloc: Global, scenario: &Scenario, sink: &mut K) -> E
     }
 }
 
-/// Reads a scenario from a source, runs it, and writes the text of its log to a sink, with a fault line after it where
+/// Reads a scenario from a source, runs it, and writes the text of its log to a sink, with a fault line after it if
 /// it doesn't end with `done`. No word of a command line is known yet.
 ///
 /// The words come first, then the reading, the scenario, and then the run and the writing side by side, record by record;
 /// the fault line is last. The first read that fails ends the reading, and the first write that fails ends the writing,
-/// but not the run: the log and `before` don't depend on the sink. Where there is no run, the log is empty.
+/// but not the run: the log and `before` don't depend on the sink. If there is no run, the log is empty.
 ///
 /// Rule: docs/FORMATS.md, "The fault line and the exit status".
 pub fn run<S: Source, K: Sink>(

@@ -6,7 +6,7 @@ use std::process::ExitCode;
 use tap_io::{StdSink, StdSource};
 use tap_top::Status;
 
-// How the program ends where its arguments can't be had: for want of memory, or since one of them isn't UTF-8.
+// How the program ends if its arguments can't be had: for want of memory, or since one of them isn't UTF-8.
 fn unread(error: io::Error) -> Status {
     match error.kind() {
         io::ErrorKind::OutOfMemory => Status::NoMemory,
@@ -14,7 +14,7 @@ fn unread(error: io::Error) -> Status {
     }
 }
 
-// The words after the program's name, or how the program ends where they can't be had. It writes nothing then.
+// The words after the program's name, or how the program ends if they can't be had. It writes nothing then.
 fn words_of(rt: &HostRuntime) -> Result<Vec<String>, Status> {
     let mut words = Vec::new(rt.alloc());
     let arguments = std::env::args(rt).map_err(unread)?;

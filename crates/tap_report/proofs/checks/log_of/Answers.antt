@@ -1,7 +1,7 @@
 use Rattle.std.proofs.Common.{arith, length-append, ◌∷◌, [], ◌∙◌}
-use Rattle.tap_report.specs.Text.{settings_of}
+use Rattle.tap_report.specs.Text.{settings_so_far}
 use Rattle.tap_report.proofs.ReportsLemmas.{IsPrintableLog-push}
-use Rattle.tap_report.proofs.TextLemmas.{same_settings, settings_of-push}
+use Rattle.tap_report.proofs.TextLemmas.{same_settings, settings_so_far-push}
 use Rattle.tap_report.proofs.checks.log_of.Goals as goal
 
 pub loop-item-preserved : goal.loop-item-preserved
@@ -13,5 +13,5 @@ loop-item-preserved g c =
     rw c.in_ok-push-2.ensures.ok (record {
       printable = IsPrintableLog-push records item was.begun other (rw was.settings c.check_follows.ensures.printable) was.printable;
       begun = omega (arith, length-append records (item ∷ []));
-      settings = settings_of-push records item ∙ same_settings (settings_of records) item other ∙ was.settings;
+      settings = settings_so_far-push records item ∙ same_settings (settings_so_far records) item other ∙ was.settings;
     })

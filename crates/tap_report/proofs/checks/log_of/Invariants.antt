@@ -1,10 +1,10 @@
 use Rattle.std.proofs.Common.{◌≡◌, ◌<◌, length, Some}
-use Rattle.tap_report.specs.Text.{IsPrintableLog, settings_of}
+use Rattle.tap_report.specs.Text.{IsPrintableLog, settings_so_far}
 use Rattle.tap_report.proofs.checks.log_of.Given as goal
 
 abbrev pub invariant-loop-item : goal.invariant-loop-item
 invariant-loop-item g l = record {
   printable : IsPrintableLog l.log.records;
   begun : 0 < length l.log.records;
-  settings : settings_of l.log.records ≡ Some l.settings;
+  settings : settings_so_far l.log.records ≡ Some l.settings;
 }

@@ -2,10 +2,10 @@ use Rattle.std.proofs.Common.{◌≡◌, take, None, refl, ap, sym, rules, ◌�
 use Rattle.std.proofs.lemmas.List.{take_all}
 use Rattle.tap_report.specs.Summary.{ending, numbers_of}
 use Rattle.tap_report.specs.Tally.{tally_after}
-use Rattle.tap_report.specs.Text.{ArePrintable, settings_after, settings_of, texts_after}
+use Rattle.tap_report.specs.Text.{ArePrintable, settings_after, settings_so_far, texts_after}
 use Rattle.tap_report.proofs.WritesLemmas.{◌⨾◌, WritesText-none, WritesText-then}
 use Rattle.tap_report.proofs.TallyLemmas.{tally_of-push, IsWithin-after}
-use Rattle.tap_report.proofs.TextLemmas.{ArePrintable-at, settings_of-push, take_next, texts_after-push}
+use Rattle.tap_report.proofs.TextLemmas.{ArePrintable-at, settings_so_far-push, take_next, texts_after-push}
 use Rattle.tap_report.proofs.reporter.write_log.Goals as goal
 
 pub add_record-requires : goal.add_record-requires
@@ -33,7 +33,7 @@ loop-item-preserved g c =
     let next = take_next records i item c.loop-item-test.true c.item-item.is in
     rw (next, c.settings_with-settings.ensures, c.with-tally.ensures) (record {
       text = rw (texts_after-push c.args.mode None first item) (was.text ⨾ rw was.settings at c.add_record.ensures);
-      settings = ap (λ s. settings_after s item) was.settings ∙ sym (settings_of-push first item);
+      settings = ap (λ s. settings_after s item) was.settings ∙ sym (settings_so_far-push first item);
       tally = ap (λ t. tally_after t item) was.tally ∙ sym (tally_of-push first item);
       within = IsWithin-after i c.loop-item.tally item was.within;
     })
@@ -47,4 +47,4 @@ returns g c =
     let all : take c.loop-item.item-index records ≡ records = take_all c.loop-item.item-index records c.loop-item-test.false in
     let ends = rw (was.settings, was.tally) at c.add_ending.ensures in
     rw (← c.as_slice-records.ensures) (rw all at
-    (WritesText-then {text = texts_after mode None first} {more = ending mode (settings_of first) (numbers_of first)} was.text ends))
+    (WritesText-then {text = texts_after mode None first} {more = ending mode (settings_so_far first) (numbers_of first)} was.text ends))

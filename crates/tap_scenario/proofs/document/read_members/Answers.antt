@@ -5,7 +5,7 @@ use Rattle.tap_scenario.specs.declared.fault.Key.TheVariants.{Members}
 use Rattle.tap_scenario.specs.Document.{read_at}
 use Rattle.tap_scenario.specs.Scenario.{most_members}
 use Rattle.tap_scenario.specs.Value.{are_strings, texts_of, array_of_strings}
-use Rattle.tap_scenario.proofs.Members.{members_of-count, members_of-names}
+use Rattle.tap_scenario.proofs.Members.{members_of_table-count, members_of_table-names}
 use Rattle.tap_scenario.proofs.document.read_members.Goals as goal
 use Rattle.tap_scenario.proofs.document.read_members.Goals.{then-is_empty-via-then-is_empty, then-is_empty-via-else-is_empty+then-strings-gt-MOST_MEMBERS}
 
@@ -20,11 +20,11 @@ returns-then-is_empty c =
       | then-is_empty-via-then-is_empty w ↦
           let none : (nat_le 1 (length values) && nat_le (length values) most_members) ≡ false =
           let e = w.if-is_empty.true in grind (arith, nat_tests) in
-          members_of-count c.args.settings.now (table_view c.args.table.now) values is strings none
+          members_of_table-count c.args.settings.now (table_view c.args.table.now) values is strings none
       | then-is_empty-via-else-is_empty+then-strings-gt-MOST_MEMBERS w ↦
           let many : (nat_le 1 (length values) && nat_le (length values) most_members) ≡ false =
           let e = w.if-strings-gt-MOST_MEMBERS.true in grind (arith, nat_tests) in
-          members_of-count c.args.settings.now (table_view c.args.table.now) values is strings many
+          members_of_table-count c.args.settings.now (table_view c.args.table.now) values is strings many
     ]
 
 pub returns : goal.returns
@@ -35,5 +35,5 @@ returns c =
     let strings : are_strings (items_view values) ≡ true = c.in_ok-strings.ensures.strings in
     let count : (nat_le 1 (length values) && nat_le (length values) most_members) ≡ true = let e = c.if-is_empty.false in
     let f = c.is_empty.ensures in grind (arith, nat_tests) in
-    members_of-names c.args.settings.now (table_view c.args.table.now) values c.in_ok-names.names is strings count c.in_ok-names.ensures
-    (search rules)
+    members_of_table-names c.args.settings.now (table_view c.args.table.now) values c.in_ok-names.names is strings count
+    c.in_ok-names.ensures (search rules)

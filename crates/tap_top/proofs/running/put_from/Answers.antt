@@ -2,7 +2,7 @@ use Rattle.std.proofs.Common.{arith, ap, ◌∙◌, ◌+◌, ℕ, Option}
 use Rattle.tap_name.specs.Settings.{SettingsValue}
 use Rattle.tap_report.specs.Reporter.{ReporterValue}
 use Rattle.tap_report.proofs.ReportsLemmas.{Reports-next, begins_next}
-use Rattle.tap_report.proofs.PiecewiseLemmas.{IsPrintable-at, Reports-all, item_at, settings_of-next}
+use Rattle.tap_report.proofs.PiecewiseLemmas.{IsPrintable-at, Reports-all, item_at, settings_so_far-next}
 use Rattle.tap_top.proofs.running.put_from.Goals as goal
 
 pub put-requires-clause-begins : goal.put-requires-clause-begins
@@ -20,11 +20,11 @@ put-requires-clause-printable g c =
 pub loop-place-preserved : goal.loop-place-preserved
 loop-place-preserved g c =
     let records_of : ReporterValue → ℕ = λ kept. kept.records in
-    let settings_of : ReporterValue → Option SettingsValue = λ kept. kept.settings in
+    let kept_settings : ReporterValue → Option SettingsValue = λ kept. kept.settings in
     record {
       put = ap records_of c.put.ensures.reporter ∙ ap (λ n. n + 1) c.loop-place.invariant.put;
-      settings = ap settings_of c.put.ensures.reporter
-          ∙ settings_of-next c.args.log.now.records c.loop-place.place c.at.result.now c.loop-place.reporter.settings
+      settings = ap kept_settings c.put.ensures.reporter
+          ∙ settings_so_far-next c.args.log.now.records c.loop-place.place c.at.result.now c.loop-place.reporter.settings
           (omega arith) c.at.ensures c.loop-place.invariant.settings;
       reports = λ mode first reports.
           Reports-next c.args.log.now.records c.loop-place.place c.at.result.now (omega arith)
