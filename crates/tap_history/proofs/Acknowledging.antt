@@ -1,8 +1,7 @@
 -- Which frames await their acknowledgement after one more record.
-use Rattle.std.proofs.Common.{◌≡◌, ℕ, Bool, true, false, List, [], ◌∷◌, ◌++◌, not, nat_eq, Option, None, Some, refl, ap, sym, ◌∙◌, append-nil}
+use Rattle.std.proofs.Common.{◌≡◌, ℕ, Bool, true, false, List, [], ◌∷◌, ◌++◌, not, nat_eq, None, Some, refl, ap, sym, ◌∙◌}
 use Rattle.std.specs.Prelude.{◌&&◌, ◌||◌, if◌then◌else◌}
 use Rattle.std.specs.List.{filter_map, cons_option}
-use Rattle.std.proofs.lemmas.List.Elements.{filter_map-append}
 use Rattle.std.proofs.lemmas.List.Folds.{list_any-append}
 use Rattle.tap_log.specs.declared.record.Record.{Record}
 use Rattle.tap_log.specs.declared.record.Record.TheVariants.{Arrived, Packet}
@@ -51,29 +50,38 @@ and-or : (a x y : Bool) → (a && (x || y)) ≡ ((a && x) || (a && y))
 and-or true x y = refl
 and-or false x y = refl
 
--- a frame is acknowledged by the packets and one more if it is by the packets or by that one
-acknowledged-or : (packets : List ℕ) (packet number : ℕ) (log : List Record)
-    → has_number (acknowledged_by_all (packets ++ packet ∷ []) log) number
-    ≡ (has_number (acknowledged_by_all packets log) number || has_number (acknowledged_by_all (packet ∷ []) log) number)
+-- a frame is acknowledged by the packets and more of them if it is by the first ones or by the others
+acknowledged-or : (packets more : List ℕ) (number : ℕ) (log : List Record)
+    → has_number (acknowledged_by_all (packets ++ more) log) number
+    ≡ (has_number (acknowledged_by_all packets log) number || has_number (acknowledged_by_all more log) number)
 unfolding acknowledged_by
-acknowledged-or packets packet number [] = refl
-acknowledged-or packets packet number (Packet made frame ack ∷ log) =
-    let one = packet ∷ [] in
+acknowledged-or packets more number [] = refl
+acknowledged-or packets more number (Packet made frame ack ∷ log) =
     let before = ack && has_number packets made in
-    let now = ack && has_number one made in
+    let now = ack && has_number more made in
     let test = nat_eq frame number in
-    let both : (ack && has_number (packets ++ one) made) ≡ (before || now) =
-    ap (λ b. ack && b) (list_any-append (λ other. nat_eq other made) packets one)
-    ∙ and-or ack (has_number packets made) (has_number one made) in
-    any-picked (ack && has_number (packets ++ one) made) frame number (acknowledged_by_all (packets ++ one) log)
-    ∙ ap (λ b. picked b test (has_number (acknowledged_by_all (packets ++ one) log) number)) both
-    ∙ ap (picked (before || now) test) (acknowledged-or packets packet number log)
-    ∙ picked-or before now test (has_number (acknowledged_by_all packets log) number) (has_number (acknowledged_by_all one log) number)
-    ∙ ap (λ b. b || picked now test (has_number (acknowledged_by_all one log) number))
+    let both : (ack && has_number (packets ++ more) made) ≡ (before || now) =
+    ap (λ b. ack && b) (list_any-append (λ other. nat_eq other made) packets more)
+    ∙ and-or ack (has_number packets made) (has_number more made) in
+    any-picked (ack && has_number (packets ++ more) made) frame number (acknowledged_by_all (packets ++ more) log)
+    ∙ ap (λ b. picked b test (has_number (acknowledged_by_all (packets ++ more) log) number)) both
+    ∙ ap (picked (before || now) test) (acknowledged-or packets more number log)
+    ∙ picked-or before now test (has_number (acknowledged_by_all packets log) number) (has_number (acknowledged_by_all more log) number)
+    ∙ ap (λ b. b || picked now test (has_number (acknowledged_by_all more log) number))
     (sym (any-picked before frame number (acknowledged_by_all packets log)))
     ∙ ap (λ b. has_number (acknowledged_by_all packets (Packet made frame ack ∷ log)) number || b)
-    (sym (any-picked now frame number (acknowledged_by_all one log)))
-acknowledged-or packets packet number (item ∷ log) = acknowledged-or packets packet number log
+    (sym (any-picked now frame number (acknowledged_by_all more log)))
+acknowledged-or packets more number (item ∷ log) = acknowledged-or packets more number log
+
+-- of the frames that aren't acknowledged by the first packets, those that aren't by the others
+pub unacknowledged-twice : (packets more frames : List ℕ) (log : List Record)
+    → numbers_less frames (acknowledged_by_all (packets ++ more) log)
+    ≡ numbers_less (numbers_less frames (acknowledged_by_all packets log)) (acknowledged_by_all more log)
+unacknowledged-twice packets more frames log =
+    filter-twice (λ n. not (has_number (acknowledged_by_all packets log) n)) (λ n. not (has_number (acknowledged_by_all more log) n))
+    (λ n. not (has_number (acknowledged_by_all (packets ++ more) log) n))
+    (λ n. ap not (acknowledged-or packets more n log)
+    ∙ not_or (has_number (acknowledged_by_all packets log) n) (has_number (acknowledged_by_all more log) n)) frames
 
 sent-arrived : (packet : ℕ) → sent_number (Arrived packet) ≡ None
 unfolding sent_number
@@ -100,8 +108,4 @@ awaiting-arrived log packet =
     ∙ ap (λ sent. numbers_less sent (acknowledged_by_all (packets ++ one) all)) (filter_map-same sent_number log item (sent-arrived packet))
     ∙ ap (numbers_less (filter_map sent_number log)) (filter_map-same (acknowledged_by (packets ++ one)) log item
     (acknowledged-arrived (packets ++ one) packet))
-    ∙ filter-twice (λ n. not (has_number (acknowledged_by_all packets log) n)) (λ n. not (has_number (acknowledged_by_all one log) n))
-    (λ n. not (has_number (acknowledged_by_all (packets ++ one) log) n))
-    (λ n. ap not (acknowledged-or packets packet n log)
-    ∙ not_or (has_number (acknowledged_by_all packets log) n) (has_number (acknowledged_by_all one log) n))
-    (filter_map sent_number log)
+    ∙ unacknowledged-twice packets one (filter_map sent_number log) log

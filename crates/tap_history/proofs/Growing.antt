@@ -1,6 +1,6 @@
 -- What one more record at the end of a log changes.
-use Rattle.std.proofs.Common.{◌≡◌, ◌≢◌, ℕ, ◌+◌, Bool, true, false, List, [], ◌∷◌, ◌++◌, length, filter, not, nat_eq, Option, None, Some, refl, ap, sym, ◌∙◌, append_assoc, append-nil, length-append, subst, cond}
-use Rattle.std.specs.Prelude.{fold, ◌||◌, if◌then◌else◌}
+use Rattle.std.proofs.Common.{◌≡◌, ℕ, ◌+◌, Bool, true, false, List, [], ◌∷◌, ◌++◌, length, filter, not, nat_eq, Option, None, Some, refl, ap, sym, ◌∙◌, append_assoc, append-nil, length-append, cond}
+use Rattle.std.specs.Prelude.{option_and_then, slice_get, fold, ◌||◌, if◌then◌else◌}
 use Rattle.std.specs.List.{filter_map, cons_option}
 use Rattle.std.specs.Cmp.Lexicographic.{pointwise}
 use Rattle.std.proofs.lemmas.List.Elements.{filter_map-append, filter-append}
@@ -11,19 +11,20 @@ use Rattle.tap_scenario.specs.declared.step.Step.{Step}
 use Rattle.tap_log.specs.declared.record.Pair.{Pair}
 use Rattle.tap_log.specs.declared.record.Record.{Record}
 use Rattle.tap_log.specs.declared.record.Record.TheVariants.{Begin, Carrier, Core, Gone}
-use Rattle.tap_log.specs.Kinds.{abandoned_name, accepts, begin_members, begins_group, core_name, ended_number, gone_name, is_carried, packet_number, published_pair, sent_number, step_of, taken_number, withdrawn_pair}
+use Rattle.tap_log.specs.Kinds.{abandoned_name, accepts, begin_members, begins_group, core_name, ended_number, gone_name, is_carried, packet_number, published_pair, sent_number, taken_number, withdrawn_pair}
 use Rattle.tap_history.specs.Steps.{depart_name, join_name}
-use Rattle.tap_log.specs.Log.{EachFrom, EachRecord, begun_steps, last_of}
+use Rattle.tap_log.specs.Log.{last_of}
 use Rattle.tap_history.specs.Moments.{numbers_less, outstanding, under_way}
-use Rattle.tap_history.specs.Core.{abandoned_of, accepted_in, accepted_step, accepted_steps, ceased_of, core_of, departures_of, gone_of, joined_of, joins_of, members_of}
+use Rattle.tap_history.specs.Core.{abandoned_of, accepted_in, accepted_step, accepted_steps, ceased_of, core_of, departures_of, gone_of, present_of, joins_of, members_of}
 use Rattle.tap_name.specs.Names.{has_name, names_without}
 use Rattle.tap_history.specs.Published.{has_pair, pairs_less, published_of, same_pair, unwithdrawn_pair, unwithdrawn_pairs, without_servers}
 use Rattle.tap_history.specs.Names.{join_count, names_of, with_name}
-use Rattle.tap_log.specs.Counts.{sent_count}
-use Rattle.tap_history.specs.Laws.{IsNew, RecordChanges, accepted_by, accepted_next}
-use Rattle.tap_log.specs.Laws.{at_most_one}
+use Rattle.tap_history.specs.RecordLaws.{IsNew, RecordChanges, accepted_by, accepted_next}
+use Rattle.tap_log.specs.Laws.{at_most_one, first_of_both}
+use Rattle.tap_log.specs.Frames.{bytes_of, sent_bytes}
+use Rattle.tap_log.proofs.Growing.{bytes_of-push, filter_map-push}
+use Rattle.tap_history.specs.Flights.{bytes_at}
 use Rattle.tap_history.proofs.Acknowledging.{awaiting-arrived, awaiting-push}
-use Rattle.tap_log.proofs.Growing.{filter_map-push}
 use Rattle.tap_history.proofs.Less.{filter-swaps, filter-twice, less_by-more, less_by-none, not_or}
 
 pub one_before : {X : Type 0} (one : Option X) (xs ys : List X) → cons_option one (xs ++ ys) ≡ cons_option one xs ++ ys
@@ -134,10 +135,10 @@ no_gone item is = refl
 pub core_of-left : (log : List Record) (item : Record) → leaves_nodes item ≡ true → core_of (log ++ item ∷ []) ≡ core_of log
 core_of-left log item leaves = core_of-same log item (no_members item leaves) (no_core item leaves) (no_gone item leaves)
 
-pub joined_of-push : (log : List Record) (item : Record) → begin_members item ≡ []
-    → joined_of (log ++ item ∷ []) ≡ names_without (joined_of log ++ names_without (filter_map join_name (accepted_by log item)) (gone_of log))
+pub present_of-push : (log : List Record) (item : Record) → begin_members item ≡ []
+    → present_of (log ++ item ∷ []) ≡ names_without (present_of log ++ names_without (filter_map join_name (accepted_by log item)) (gone_of log))
     (at_most_one (gone_name item))
-joined_of-push log item none =
+present_of-push log item none =
     came-push (members_of log) (joins_of log) (filter_map join_name (accepted_by log item)) (gone_of log) (at_most_one (gone_name item))
     (members_of (log ++ item ∷ []) ++ joins_of (log ++ item ∷ [])) (gone_of (log ++ item ∷ []))
     (ap (λ l. l ++ joins_of (log ++ item ∷ [])) (members_of-push log item none)
@@ -168,6 +169,18 @@ pub outstanding-push : (log : List Record) (item : Record)
     ≡ numbers_less (outstanding log ++ numbers_less (at_most_one (sent_number item)) (filter_map taken_number log))
     (at_most_one (taken_number item))
 outstanding-push log item = numbers-push sent_number taken_number log item
+
+and_then-same : {X Y : Type 0} (h k : X → Option Y) (one : Option X) → ((x : X) → h x ≡ k x)
+    → option_and_then h one ≡ option_and_then k one
+and_then-same h k None same = refl
+and_then-same h k (Some x) same = same x
+
+-- the bytes of a frame at a place, if the frames there and the bytes of each are those
+pub bytes_at-by : (log : List Record) (frames : List ℕ) (bytes : ℕ → Option (List ℕ)) (place : ℕ) → outstanding log ≡ frames
+    → ((number : ℕ) → bytes_of log number ≡ bytes number)
+    → bytes_at log place ≡ option_and_then bytes (slice_get frames place)
+bytes_at-by log frames bytes place is each =
+    ap (λ l. option_and_then (bytes_of log) (slice_get l place)) is ∙ and_then-same (bytes_of log) bytes (slice_get frames place) each
 
 pub under_way-push : (log : List Record) (item : Record)
     → under_way (log ++ item ∷ [])
@@ -263,7 +276,7 @@ begins_new settings frames members =
     record {
       accepted = refl;
       core = all_names members;
-      joined = all_names members;
+      present = all_names members;
       published = refl;
       departing = refl;
       names = ap (fold with_name []) (append-nil members);
@@ -277,7 +290,7 @@ begins_carried settings frames members =
     record {
       accepted = refl;
       core = all_names members;
-      joined = all_names members;
+      present = all_names members;
       published = refl;
       departing = refl;
       names = ap (fold with_name []) (append-nil members);
@@ -292,10 +305,12 @@ record_changes_hold =
       begins_carried = begins_carried;
       accepted = accepted_steps-push;
       core = core_of-push;
-      joined = joined_of-push;
+      present = present_of-push;
       abandoned = filter_map-push abandoned_name;
       ceased = ceased_of-push;
       frames = outstanding-push;
+      places = λ log item place. bytes_at-by (log ++ item ∷ []) _ (λ number. first_of_both (bytes_of log number) (sent_bytes number item))
+          place (outstanding-push log item) (λ number. bytes_of-push log item number);
       packets = under_way-push;
       awaits = awaiting-push;
       arrives = awaiting-arrived;

@@ -7,5 +7,6 @@ pub mod Acknowledging
 pub mod Stepwise
 pub mod Parts
 pub mod Searching
+pub mod Numbering
 pub mod Telling
 pub mod Ends

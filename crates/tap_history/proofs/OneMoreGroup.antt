@@ -16,7 +16,7 @@ use Rattle.tap_history.specs.Steps.{depart_name}
 use Rattle.tap_history.specs.Moments.{beginning, ends_before, is_moment, is_still}
 use Rattle.tap_history.specs.Core.{accepted_in, accepted_step}
 use Rattle.tap_history.specs.Departing.{departing_of, is_still_moment, last_still, still_moments}
-use Rattle.tap_history.specs.Laws.{IsGroup, OneMoreGroup, departing_after}
+use Rattle.tap_history.specs.GroupLaws.{IsGroup, OneMoreGroup, departing_after}
 use Rattle.tap_log.proofs.Growing.{carried_alone, carried_none, carried_third}
 use Rattle.tap_history.proofs.Growing.{one_before}
 use Rattle.tap_history.proofs.Stepwise.{last_passes, last_stays, passing_more}

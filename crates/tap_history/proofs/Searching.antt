@@ -1,15 +1,13 @@
 -- What a loop over records finds first: an ending, the end of a group.
-use Rattle.std.proofs.Common.{◌≡◌, ℕ, zero, suc, ◌+◌, ◌-◌, ◌<◌, ◌≤◌, Bool, true, false, List, [], ◌∷◌, length, take, drop, get_or, All, Option, None, Some, refl, ap, sym, subst, ◌∙◌, arith, length-append}
+use Rattle.std.proofs.Common.{◌≡◌, ℕ, zero, suc, ◌+◌, ◌-◌, ◌<◌, ◌≤◌, Bool, true, false, List, [], ◌∷◌, length, take, drop, get_or, All, ap, sym, subst, ◌∙◌, arith, length-append}
 use Rattle.std.specs.Prelude.{slice_get, if◌then◌else◌}
-use Rattle.std.specs.List.{filter_map, cons_option}
 use Rattle.std.proofs.Math.Seq.{drop-length, take-append_seam}
 use Rattle.std.proofs.lemmas.List.{drop_more, take-append-drop, take_more}
 use Rattle.std.proofs.lemmas.List.Elements.{All-push}
 use Rattle.tap_log.specs.declared.record.Record.{Record}
 use Rattle.tap_log.specs.Kinds.{begins_group}
 use Rattle.tap_history.specs.Moments.{ends_before}
-use Rattle.tap_history.specs.Groups.{ending_among}
-use Rattle.tap_history.specs.Groups.{is_ending, parted, without_ending}
+use Rattle.tap_history.specs.Groups.{ending_among, is_ending, parted, without_ending}
 use Rattle.tap_history.proofs.Parts.{parted-group, without_ending-whole}
 
 -- ---- the ending

@@ -1,7 +1,6 @@
 -- Which nodes take part at a moment of a log. A set of names is a list of them.
-use Rattle.std.specs.Prelude.{ℕ, Bool, not, if◌then◌else◌, List, [], ◌∷◌, ◌++◌, drop, filter, Option, None, nat_eq}
-use Rattle.std.specs.List.{filter_map, list_any, zip}
-use Rattle.std.specs.Cmp.Lexicographic.{pointwise}
+use Rattle.std.specs.Prelude.{ℕ, Bool, not, if◌then◌else◌, List, [], ◌∷◌, ◌++◌, drop, filter, Option, None}
+use Rattle.std.specs.List.{filter_map, zip}
 use Rattle.tap_scenario.specs.declared.step.Step.{Step}
 use Rattle.tap_log.specs.declared.record.Record.{Record}
 use Rattle.tap_log.specs.Kinds.{abandoned_name, accepts, begin_members, core_name, gone_name, is_carried, step_of}
@@ -46,9 +45,9 @@ gone_of log = filter_map gone_name log
 abbrev pub core_of : List Record → List (List ℕ)
 core_of log = names_without (members_of log ++ filter_map core_name log) (gone_of log)
 
--- the nodes that are there: the members and the names of accepted joins, less the names of `Gone` records
-abbrev pub joined_of : List Record → List (List ℕ)
-joined_of log = names_without (members_of log ++ joins_of log) (gone_of log)
+-- the nodes that are present: the members and the names of accepted joins, less the names of `Gone` records
+abbrev pub present_of : List Record → List (List ℕ)
+present_of log = names_without (members_of log ++ joins_of log) (gone_of log)
 
 -- the nodes that are to give up joining, or have: the names of `Abandoned` records
 abbrev pub abandoned_of : List Record → List (List ℕ)

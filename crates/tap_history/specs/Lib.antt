@@ -7,4 +7,5 @@ pub mod Published
 pub mod Names
 pub mod Flights
 pub mod Refusals
-pub mod Laws
+pub mod RecordLaws
+pub mod GroupLaws

@@ -1,10 +1,9 @@
 -- The moments of a log, and what is under way at one of them. A log at a moment is the list of the records up to it.
-use Rattle.std.specs.Prelude.{ℕ, nat_eq, nat_le, Bool, true, false, not, ◌&&◌, ◌||◌, if◌then◌else◌, List, [], ◌∷◌, ◌++◌, length, take, filter, slice_get, Option, None, Some}
+use Rattle.std.specs.Prelude.{ℕ, nat_eq, nat_le, Bool, true, false, not, ◌&&◌, ◌||◌, if◌then◌else◌, List, [], ◌∷◌, length, take, filter, slice_get, Option, None, Some}
 use Rattle.std.specs.List.{filter_map, list_any}
 use Rattle.tap_log.specs.declared.record.Record.{Record}
 use Rattle.tap_log.specs.declared.record.Record.TheVariants.{Packet}
-use Rattle.tap_log.specs.Kinds.{begins_group, is_carried}
-use Rattle.tap_log.specs.Kinds.{arrived_number, ended_number, packet_number, sent_number, taken_number}
+use Rattle.tap_log.specs.Kinds.{begins_group, is_carried, arrived_number, ended_number, packet_number, sent_number, taken_number}
 
 -- how many records a log begins with: `Begin`, and `Carrier` if it is carried
 abbrev pub beginning : List Record → ℕ

@@ -12,10 +12,10 @@ join_count log = length (joins_of log)
 abbrev pub with_name : List (List ℕ) → List ℕ → List (List ℕ)
 with_name names name = (if has_name names name then names else names ++ name ∷ [])
 
--- the names that were ever members or joined, each once
+-- the names that were ever present, each once
 abbrev pub names_of : List Record → List (List ℕ)
 names_of log = fold with_name [] (members_of log ++ joins_of log)
 
--- how many names were ever members or joined
+-- how many names were ever present
 abbrev pub name_count : List Record → ℕ
 name_count log = length (names_of log)

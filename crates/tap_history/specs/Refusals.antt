@@ -12,7 +12,7 @@ use Rattle.tap_log.specs.declared.record.Refusal.{Refusal}
 use Rattle.tap_log.specs.declared.record.Refusal.TheVariants.{NoSuchNode, NotCore, Departing, NotAtRest, NameTaken, TooManyNodes, LastNode, AlreadyPublished, NotPublished, NoSuchFlight, NoSuchByte, Readable, NotJoining, AlreadyAbandoned, TooManyPackets, NotInPrefix}
 use Rattle.tap_history.specs.Steps.{abandon_name, asked_node, depart_name, flight_place, join_name, publish_pair, suits_departure, suits_joining, withdraw_pair}
 use Rattle.tap_history.specs.Moments.{awaiting, outstanding}
-use Rattle.tap_history.specs.Core.{abandoned_of, core_of, joined_of}
+use Rattle.tap_history.specs.Core.{abandoned_of, core_of, present_of}
 use Rattle.tap_name.specs.Names.{has_name}
 use Rattle.tap_history.specs.Departing.{departing_of}
 use Rattle.tap_history.specs.Published.{has_pair, published_of}
@@ -35,13 +35,13 @@ begin_settings other = None
 
 -- ---- the node that is asked
 
--- 1: no member and no node that joined has the name, or it is gone
+-- 1: no node of this name is present
 unfoldable pub refuses_no_such_node : List Record → Step → Option Refusal
-refuses_no_such_node log step = refused_if (is_and (asked_node step) (λ name. not (has_name (joined_of log) name))) NoSuchNode
+refuses_no_such_node log step = refused_if (is_and (asked_node step) (λ name. not (has_name (present_of log) name))) NoSuchNode
 
--- a node that is there and not core is joining
+-- a node that is present and not core is joining
 abbrev pub is_joining : List Record → List ℕ → Bool
-is_joining log name = has_name (joined_of log) name && not (has_name (core_of log) name)
+is_joining log name = has_name (present_of log) name && not (has_name (core_of log) name)
 
 -- 2: the node is joining
 unfoldable pub refuses_not_core : List Record → Step → Option Refusal
@@ -65,11 +65,11 @@ refuses_not_at_rest log step =
 
 -- ---- joins
 
--- 5: the new name was ever a member's, or joined
+-- 5: a node of the new name was ever present
 unfoldable pub refuses_name_taken : List Record → Step → Option Refusal
 refuses_name_taken log step = refused_if (is_and (join_name step) (has_name (names_of log))) NameTaken
 
--- 6: 256 names were ever members', or joined
+-- 6: 256 names were ever present
 unfoldable pub refuses_too_many_nodes : List Record → Step → Option Refusal
 refuses_too_many_nodes log step = refused_if (is_and (join_name step) (λ name. nat_le 256 (name_count log))) TooManyNodes
 

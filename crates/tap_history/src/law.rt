@@ -1,7 +1,8 @@
-ghost use Rattle.tap_history.specs.Laws.{GroupChanges, LogInGroups, OneMoreGroup, RecordChanges};
+ghost use Rattle.tap_history.specs.RecordLaws.{RecordChanges};
+ghost use Rattle.tap_history.specs.GroupLaws.{GroupChanges, LogInGroups, OneMoreGroup};
 
 /// What holds of a log with its beginning alone; and what one more record changes in the steps that were accepted, in the
-/// nodes that are core, joined, abandoned or ceased, in the frames that are outstanding and those that await their
+/// nodes that are core, present, abandoned or ceased, in the frames that are outstanding and those that await their
 /// acknowledgement, in the packets under way, in the published pairs, and in the counts of joins and names.
 ///
 /// It does nothing: its contract is the law.
@@ -30,8 +31,9 @@ pub fn log_in_groups()
     ensures { LogInGroups }
 {}
 
-/// What one more group of records changes in who is core and joined, in the names that were ever there, in the pairs that
-/// are published, and in the frames that are outstanding, if frames are numbered from 0 and tickets from 1.
+/// What one more group of records changes in who is core and present, who gave up, the names that were ever there, and the
+/// pairs that are published. If frames are numbered from 0 and tickets from 1, also in the frames that are outstanding and
+/// their places; and if packets are numbered from 0, in the packets under way and the frames that await their acknowledgement.
 ///
 /// It does nothing: its contract is the law.
 ///

@@ -28,7 +28,7 @@ fn each_once(alloc: Global, names: &[Name]) -> Result<Vec<Name>, NoMemory>
     Ok(once)
 }
 
-/// The names that were ever members or joined, each once. This is for tests and small logs: it takes memory, and time that
+/// The names that were ever present, each once: of members, and of accepted joins. This is for tests and small logs: it takes memory, and time that
 /// grows with the square of their number.
 ///
 /// Rule: docs/FORMATS.md, "Groups and moments".
@@ -40,7 +40,7 @@ pub fn names_at(alloc: Global, records: &[Record]) -> Result<List<Name>, NoMemor
     Ok(List::from_vec(each_once(alloc, all.as_slice())?))
 }
 
-/// How many names were ever members or joined.
+/// How many names were ever present.
 ///
 /// Rule: docs/FORMATS.md, "Groups and moments".
 pub fn name_count(alloc: Global, records: &[Record]) -> Result<usize, NoMemory>

@@ -2,7 +2,7 @@ ghost use Rattle.std.specs.Prelude.{◌≡◌, ◌++◌, filter, IfOk};
 ghost use Rattle.std.specs.List.{filter_map, last_or};
 ghost use Rattle.tap_history.specs.Steps.{depart_name, join_name};
 ghost use Rattle.tap_log.specs.Asked.{name_of};
-ghost use Rattle.tap_history.specs.Core.{abandoned_of, accepted_in, accepted_step, ceased_of, core_of, departures_of, joined_of, joins_of, members_of};
+ghost use Rattle.tap_history.specs.Core.{abandoned_of, accepted_in, accepted_step, ceased_of, core_of, departures_of, present_of, joins_of, members_of};
 ghost use Rattle.tap_name.specs.Names.{has_name, names_without};
 
 use crate::steps::{depart_name, join_name};
@@ -167,12 +167,12 @@ pub fn core_at(alloc: Global, records: &[Record]) -> Result<List<Name>, NoMemory
     Ok(List::from_vec(names_without(alloc, came.as_slice(), gone.as_slice())?))
 }
 
-/// The nodes that are there at the end of the records: the members and those whose join was accepted, less those that
+/// The nodes that are present at the end of the records: the members and those whose join was accepted, less those that
 /// are gone. This is for tests and small logs, as `core_at`.
 ///
 /// Rule: docs/FORMATS.md, "Groups and moments".
-pub fn joined_at(alloc: Global, records: &[Record]) -> Result<List<Name>, NoMemory>
-    ensures { IfOk result (λ names. names ≡ joined_of records.now) }
+pub fn present_at(alloc: Global, records: &[Record]) -> Result<List<Name>, NoMemory>
+    ensures { IfOk result (λ names. names ≡ present_of records.now) }
 {
     let joins = joins(alloc, records)?;
     let there = both(alloc, members(records), joins.as_slice())?;

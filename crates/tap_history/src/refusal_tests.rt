@@ -1,6 +1,6 @@
 // The causes of refusals, each at least once, and steps that none refuses.
-use crate::tests::{Typed, begun, name_of};
 use crate::first_refusal;
+use crate::typed::{Typed, begun, name_of};
 use std::process::Abort;
 use std::test::Fail;
 use tap_log::{Bytes, Log, Record, Refusal};
@@ -19,7 +19,7 @@ fn check(run: &Typed, rt: &impl Abort, text: &str, want: Option<Refusal>) -> Res
 }
 
 #[test]
-fn of_names_and_pairs(rt: HostRuntime) -> Result<(), Fail> {
+fn names_and_pairs_that_there_are_none_of_are_refused(rt: HostRuntime) -> Result<(), Fail> {
     let mut run = begun(rt.alloc(), 2, 2, "00 01")?;
     check(&run, &rt, "walk 11 from 10", Some(Refusal::NoSuchNode))?;
     check(&run, &rt, "join 01 via 00", Some(Refusal::NameTaken))?;
@@ -40,7 +40,7 @@ fn of_names_and_pairs(rt: HostRuntime) -> Result<(), Fail> {
 }
 
 #[test]
-fn while_a_node_joins(rt: HostRuntime) -> Result<(), Fail> {
+fn a_joining_node_is_no_server_and_nobody_leaves_meanwhile(rt: HostRuntime) -> Result<(), Fail> {
     let mut run = begun(rt.alloc(), 2, 2, "00 01")?;
     run.add("step join 10 via 00; sent 0")?;
     check(&run, &rt, "leave 00", Some(Refusal::NotAtRest(1)))?;
@@ -54,7 +54,7 @@ fn while_a_node_joins(rt: HostRuntime) -> Result<(), Fail> {
 }
 
 #[test]
-fn of_frames(rt: HostRuntime) -> Result<(), Fail> {
+fn a_damaged_copy_is_refused_if_it_is_short_or_readable(rt: HostRuntime) -> Result<(), Fail> {
     let mut run = begun(rt.alloc(), 2, 2, "00 01")?;
     run.add("step join 10 via 00; sent 0")?;
     // That a node is core: version 1, kind 6, no body, from 00 to 10.
@@ -71,7 +71,7 @@ fn of_frames(rt: HostRuntime) -> Result<(), Fail> {
 }
 
 #[test]
-fn of_departures(rt: HostRuntime) -> Result<(), Fail> {
+fn the_one_core_node_stays_and_one_node_leaves_at_a_time(rt: HostRuntime) -> Result<(), Fail> {
     let mut run = begun(rt.alloc(), 2, 2, "00")?;
     check(&run, &rt, "leave 00", Some(Refusal::LastNode))?;
     let mut run = begun(rt.alloc(), 2, 2, "00 01")?;
@@ -101,7 +101,7 @@ fn many_names(settings: &Settings, names: &mut List<Name>) -> Result<(), Fail> {
 }
 
 #[test]
-fn of_too_many_nodes(rt: HostRuntime) -> Result<(), Fail> {
+fn a_name_after_256_is_one_too_many(rt: HostRuntime) -> Result<(), Fail> {
     let mut run = begun(rt.alloc(), 16, 3, "000")?;
     let settings = run.settings;
     let mut members = List::new(rt.alloc());
@@ -129,7 +129,7 @@ fn add_packets(run: &mut Typed, count: u32) -> Result<(), Fail> {
 }
 
 #[test]
-fn of_too_many_packets(rt: HostRuntime) -> Result<(), Fail> {
+fn a_packet_made_again_after_100000_is_one_too_many(rt: HostRuntime) -> Result<(), Fail> {
     let mut run = begun(rt.alloc(), 2, 2, "00 01")?;
     run.add("carrier; step join 10 via 00; sent 0; packet 0 data 0; step repeat 0")?;
     add_packets(&mut run, 99_999)?;

@@ -8,7 +8,7 @@ use crate::departing::departing_at;
 use crate::flights::{bytes_at, flight_count};
 use crate::moments::{awaiting, outstanding};
 use crate::names::{name_count, names_at};
-use crate::nodes::{abandoned_at, core_at, joined_at};
+use crate::nodes::{abandoned_at, core_at, present_at};
 use crate::published::{published_at, same_pair};
 use crate::steps::{
     abandon_name, asked_node, depart_name, flight_place, join_name, publish_pair, suits_departure, suits_joining,
@@ -38,27 +38,27 @@ fn begin_settings(records: &[Record]) -> Option<Settings>
     }
 }
 
-// 1: no member and no node that joined has the name, or it is gone.
+// 1: no node of this name is present.
 #[tactic(auto, unfolding(crate::specs::Refusals::refuses_no_such_node))]
 fn no_such_node(alloc: Global, records: &[Record], step: &Step) -> Result<Option<Refusal>, NoMemory>
     ensures { IfOk result (λ refusal. refusal ≡ refuses_no_such_node records.now step.now) }
 {
     match asked_node(step) {
         Some(name) => {
-            let joined = joined_at(alloc, records)?;
-            Ok(refused_if(!joined.as_slice().contains(&name), Refusal::NoSuchNode))
+            let present = present_at(alloc, records)?;
+            Ok(refused_if(!present.as_slice().contains(&name), Refusal::NoSuchNode))
         }
         None => Ok(None),
     }
 }
 
-// Whether a node is there and not core.
+// Whether a node is present and not core.
 fn is_joining(alloc: Global, records: &[Record], name: &Name) -> Result<bool, NoMemory>
     ensures { IfOk result (λ joining. joining ≡ is_joining records.now name.now) }
 {
-    let joined = joined_at(alloc, records)?;
+    let present = present_at(alloc, records)?;
     let core = core_at(alloc, records)?;
-    Ok(joined.as_slice().contains(name) && !core.as_slice().contains(name))
+    Ok(present.as_slice().contains(name) && !core.as_slice().contains(name))
 }
 
 // 2: the node is joining.
@@ -101,7 +101,7 @@ fn not_at_rest(alloc: Global, records: &[Record], step: &Step) -> Result<Option<
     }
 }
 
-// 5: the new name was ever a member's, or joined.
+// 5: a node of the new name was ever present.
 #[tactic(auto, unfolding(crate::specs::Refusals::refuses_name_taken))]
 fn name_taken(alloc: Global, records: &[Record], step: &Step) -> Result<Option<Refusal>, NoMemory>
     ensures { IfOk result (λ refusal. refusal ≡ refuses_name_taken records.now step.now) }
@@ -115,7 +115,7 @@ fn name_taken(alloc: Global, records: &[Record], step: &Step) -> Result<Option<R
     }
 }
 
-// 6: 256 names were ever members', or joined.
+// 6: 256 names were ever present.
 #[tactic(auto, unfolding(crate::specs::Refusals::refuses_too_many_nodes))]
 fn too_many_nodes(
     alloc: Global,

@@ -1,17 +1,16 @@
--- What one more record at the end of a log changes in what its records tell.
-use Rattle.std.proofs.Common.{◌≡◌, ◌≢◌, ℕ, ◌+◌, Bool, false, List, [], ◌∷◌, ◌++◌, length, Option, None, Some, refl, ap, sym, ◌∙◌, arith, append_assoc, append-nil, length-append, subst}
+-- What more records at the end of a log change in what its records tell.
+use Rattle.std.proofs.Common.{◌≡◌, ◌≢◌, ℕ, ◌+◌, Bool, false, List, [], ◌∷◌, ◌++◌, length, Option, None, Some, refl, ap, sym, ◌∙◌, arith, append_assoc, append-nil, length-append, subst, add-zero}
 use Rattle.std.specs.Prelude.{◌&&◌, if◌then◌else◌, fold, is_some, slice_get}
-use Rattle.std.specs.List.{filter_map, cons_option}
+use Rattle.std.specs.List.{filter_map}
 use Rattle.std.proofs.lemmas.List.Elements.{filter_map-append}
 use Rattle.std.proofs.lemmas.List.Sums.{fold-append}
 use Rattle.tap_log.specs.declared.record.Record.{Record}
 use Rattle.tap_log.specs.declared.record.Record.TheVariants.{Begin, Carrier}
 use Rattle.tap_log.specs.Kinds.{asked_ticket, begun_cast, is_carried, packet_number, sent_number, step_of}
 use Rattle.tap_log.specs.Log.{EachFrom, EachRecord, begun_steps, last_of}
-use Rattle.tap_log.specs.Counts.{cast_count, resends_after, resent_count, resent_from, sent_count, ticket_count}
+use Rattle.tap_log.specs.Counts.{cast_count, packet_count, resends_after, resent_count, resent_from, sent_count, ticket_count}
 use Rattle.tap_log.specs.Frames.{bytes_of, sent_bytes}
-use Rattle.tap_log.specs.Laws.{OneMoreRecord, at_most_one}
-use Rattle.tap_log.specs.Laws.{first_of_both, is_resending}
+use Rattle.tap_log.specs.Laws.{MoreRecords, OneMoreRecord, at_most_one, first_of_both, is_resending}
 
 -- what the records tell, with one more
 pub filter_map-push : {Y : Type 0} (h : Record → Option Y) (log : List Record) (item : Record)
@@ -74,68 +73,92 @@ begun_steps-push = filter_map-push step_of
 
 -- ---- counts
 
-counted : {Y : Type 0} (h : Record → Option Y) (log : List Record) (item : Record)
-    → length (filter_map h (log ++ item ∷ [])) ≡ length (filter_map h log) + length (at_most_one (h item))
-counted h log item = ap length (filter_map-push h log item) ∙ length-append (filter_map h log) (at_most_one (h item))
+counted : {Y : Type 0} (h : Record → Option Y) (log more : List Record)
+    → length (filter_map h (log ++ more)) ≡ length (filter_map h log) + length (filter_map h more)
+counted h log more = ap length (filter_map-append h log more) ∙ length-append (filter_map h log) (filter_map h more)
 
-pub sent_count-push : (log : List Record) (item : Record)
-    → sent_count (log ++ item ∷ []) ≡ sent_count log + length (at_most_one (sent_number item))
-sent_count-push = counted sent_number
+pub sent_count-append : (log more : List Record) → sent_count (log ++ more) ≡ sent_count log + sent_count more
+sent_count-append = counted sent_number
 
-pub ticket_count-push : (log : List Record) (item : Record)
-    → ticket_count (log ++ item ∷ []) ≡ ticket_count log + length (at_most_one (asked_ticket item))
-ticket_count-push = counted asked_ticket
+pub packet_count-append : (log more : List Record) → packet_count (log ++ more) ≡ packet_count log + packet_count more
+packet_count-append = counted packet_number
 
-pub cast_count-push : (log : List Record) (item : Record)
-    → cast_count (log ++ item ∷ []) ≡ cast_count log + length (at_most_one (begun_cast item))
-cast_count-push = counted begun_cast
+pub ticket_count-append : (log more : List Record) → ticket_count (log ++ more) ≡ ticket_count log + ticket_count more
+ticket_count-append = counted asked_ticket
+
+pub cast_count-append : (log more : List Record) → cast_count (log ++ more) ≡ cast_count log + cast_count more
+cast_count-append = counted begun_cast
 
 -- the packets that records make once more, after other records
-pub resent_from-append : (before : Bool) (log more : List Record)
+resent_from-append : (before : Bool) (log more : List Record)
     → resent_from before (log ++ more) ≡ resent_from before log + resent_from (fold resends_after before log) more
-resent_from-append before [] more = refl
+resent_from-append before [] more = let e : resent_from before more ≡ 0 + resent_from before more = omega arith in e
 resent_from-append before (first ∷ items) more =
-    let one = (if before && is_some (packet_number first) then 1 else 0) in
+    let one : ℕ = (if before && is_some (packet_number first) then 1 else 0) in
     let after = resends_after before first in
     let rest = resent_from-append after items more in
     let e : one + resent_from after (items ++ more) ≡ (one + resent_from after items) + resent_from (fold resends_after after items) more =
-    omega (arith, rest) in e
+    omega (arith, rest) in
+    e
+
+pub resent_count-append : (log more : List Record)
+    → resent_count (log ++ more) ≡ resent_count log + resent_from (is_resending log) more
+resent_count-append log more = resent_from-append false log more
 
 pub resent_count-push : (log : List Record) (item : Record)
     → resent_count (log ++ item ∷ []) ≡ resent_count log + (if is_resending log && is_some (packet_number item) then 1 else 0)
 resent_count-push log item =
-    let one = (if is_resending log && is_some (packet_number item) then 1 else 0) in
-    let e : one + 0 ≡ one = omega arith in
-    resent_from-append false log (item ∷ []) ∙ ap (λ n. resent_count log + n) e
+    resent_count-append log (item ∷ [])
+    ∙ ap (λ n. resent_count log + n) (add-zero (if is_resending log && is_some (packet_number item) then 1 else 0))
 
-pub is_resending-push : (log : List Record) (item : Record)
-    → is_resending (log ++ item ∷ []) ≡ resends_after (is_resending log) item
-is_resending-push log item = fold-append resends_after false log (item ∷ [])
+pub is_resending-append : (log more : List Record) → is_resending (log ++ more) ≡ fold resends_after (is_resending log) more
+is_resending-append log more = fold-append resends_after false log more
 
 -- ---- the bytes of frames
 
-first_added : {X : Type 0} (xs : List X) (one : Option X)
-    → slice_get (xs ++ at_most_one one) 0 ≡ first_of_both (slice_get xs 0) one
-first_added [] None = refl
-first_added [] (Some x) = refl
-first_added (x ∷ xs) one = refl
+first_added : {X : Type 0} (xs ys : List X) → slice_get (xs ++ ys) 0 ≡ first_of_both (slice_get xs 0) (slice_get ys 0)
+first_added [] ys = refl
+first_added (x ∷ xs) ys = refl
+
+first_alone : {X : Type 0} (one : Option X) → slice_get (at_most_one one) 0 ≡ one
+first_alone None = refl
+first_alone (Some x) = refl
+
+pub bytes_of-append : (log more : List Record) (number : ℕ)
+    → bytes_of (log ++ more) number ≡ first_of_both (bytes_of log number) (bytes_of more number)
+bytes_of-append log more number =
+    ap (λ l. slice_get l 0) (filter_map-append (sent_bytes number) log more)
+    ∙ first_added (filter_map (sent_bytes number) log) (filter_map (sent_bytes number) more)
 
 pub bytes_of-push : (log : List Record) (item : Record) (number : ℕ)
     → bytes_of (log ++ item ∷ []) number ≡ first_of_both (bytes_of log number) (sent_bytes number item)
 bytes_of-push log item number =
-    ap (λ l. slice_get l 0) (filter_map-push (sent_bytes number) log item) ∙ first_added (filter_map (sent_bytes number) log) (sent_bytes number item)
+    bytes_of-append log (item ∷ []) number ∙ ap (first_of_both (bytes_of log number)) (first_alone (sent_bytes number item))
 
--- ---- the law
+-- ---- the laws
 
 pub one_more_record_holds : OneMoreRecord
 one_more_record_holds =
     record {
       carried = is_carried-push;
       steps = begun_steps-push;
-      sent = sent_count-push;
-      tickets = ticket_count-push;
-      casts = cast_count-push;
+      sent = λ log item. sent_count-append log (item ∷ []);
+      packets = λ log item. packet_count-append log (item ∷ []);
+      tickets = λ log item. ticket_count-append log (item ∷ []);
+      casts = λ log item. cast_count-append log (item ∷ []);
       resent = resent_count-push;
-      resending = is_resending-push;
+      resending = λ log item. is_resending-append log (item ∷ []);
       bytes = bytes_of-push;
+    }
+
+pub more_records_hold : MoreRecords
+more_records_hold =
+    record {
+      sent = sent_count-append;
+      packets = packet_count-append;
+      tickets = ticket_count-append;
+      casts = cast_count-append;
+      resent = resent_count-append;
+      resending = is_resending-append;
+      bytes = bytes_of-append;
     }

@@ -11,6 +11,10 @@ use Rattle.tap_log.specs.Kinds.{asked_ticket, begun_cast, packet_number, sent_nu
 abbrev pub sent_count : List Record → ℕ
 sent_count log = length (filter_map sent_number log)
 
+-- how many packets were made
+abbrev pub packet_count : List Record → ℕ
+packet_count log = length (filter_map packet_number log)
+
 -- how many lookups were asked
 abbrev pub ticket_count : List Record → ℕ
 ticket_count log = length (filter_map asked_ticket log)

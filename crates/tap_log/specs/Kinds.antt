@@ -50,6 +50,11 @@ unfoldable pub packet_number : Record → Option ℕ
 packet_number (Packet number frame ack) = Some number
 packet_number other = None
 
+-- the frame that a packet carries or acknowledges
+unfoldable pub packet_frame : Record → Option ℕ
+packet_frame (Packet number frame ack) = Some frame
+packet_frame other = None
+
 -- the number of the packet that arrives
 unfoldable pub arrived_number : Record → Option ℕ
 arrived_number (Arrived packet) = Some packet

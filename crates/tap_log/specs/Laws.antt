@@ -1,11 +1,11 @@
--- What one more record at the end of a log changes in what its records tell.
-use Rattle.std.specs.Prelude.{◌≡◌, ◌≢◌, ℕ, ◌+◌, Bool, false, ◌&&◌, if◌then◌else◌, List, [], ◌∷◌, ◌++◌, length, fold, Option, is_some}
+-- What more records at the end of a log change in what its records tell.
+use Rattle.std.specs.Prelude.{◌≡◌, ◌≢◌, ℕ, ◌+◌, Bool, false, ◌&&◌, if◌then◌else◌, List, [], ◌∷◌, ◌++◌, length, fold, Option, None, Some, is_some}
 use Rattle.std.specs.List.{cons_option}
 use Rattle.tap_log.specs.declared.record.Record.{Record}
 use Rattle.tap_log.specs.declared.record.Record.TheVariants.{Carrier}
 use Rattle.tap_log.specs.Kinds.{asked_ticket, begun_cast, is_carried, packet_number, sent_number, step_of}
 use Rattle.tap_log.specs.Log.{begun_steps}
-use Rattle.tap_log.specs.Counts.{cast_count, resends_after, resent_count, sent_count, ticket_count}
+use Rattle.tap_log.specs.Counts.{cast_count, packet_count, resends_after, resent_count, resent_from, sent_count, ticket_count}
 use Rattle.tap_log.specs.Frames.{bytes_of, sent_bytes}
 
 -- the one thing that there may be, as a list
@@ -27,6 +27,8 @@ pub record OneMoreRecord : Type 0 where
   pub steps : (log : List Record) (item : Record) → begun_steps (log ++ item ∷ []) ≡ begun_steps log ++ at_most_one (step_of item)
   pub sent : (log : List Record) (item : Record)
       → sent_count (log ++ item ∷ []) ≡ sent_count log + length (at_most_one (sent_number item))
+  pub packets : (log : List Record) (item : Record)
+      → packet_count (log ++ item ∷ []) ≡ packet_count log + length (at_most_one (packet_number item))
   pub tickets : (log : List Record) (item : Record)
       → ticket_count (log ++ item ∷ []) ≡ ticket_count log + length (at_most_one (asked_ticket item))
   pub casts : (log : List Record) (item : Record)
@@ -38,3 +40,14 @@ pub record OneMoreRecord : Type 0 where
       → is_resending (log ++ item ∷ []) ≡ resends_after (is_resending log) item
   pub bytes : (log : List Record) (item : Record) (number : ℕ)
       → bytes_of (log ++ item ∷ []) number ≡ first_of_both (bytes_of log number) (sent_bytes number item)
+
+-- More records, as those of one group, add what they tell: their counts, and the bytes of frames that weren't sent before.
+pub record MoreRecords : Type 0 where
+  pub sent : (log more : List Record) → sent_count (log ++ more) ≡ sent_count log + sent_count more
+  pub packets : (log more : List Record) → packet_count (log ++ more) ≡ packet_count log + packet_count more
+  pub tickets : (log more : List Record) → ticket_count (log ++ more) ≡ ticket_count log + ticket_count more
+  pub casts : (log more : List Record) → cast_count (log ++ more) ≡ cast_count log + cast_count more
+  pub resent : (log more : List Record) → resent_count (log ++ more) ≡ resent_count log + resent_from (is_resending log) more
+  pub resending : (log more : List Record) → is_resending (log ++ more) ≡ fold resends_after (is_resending log) more
+  pub bytes : (log more : List Record) (number : ℕ)
+      → bytes_of (log ++ more) number ≡ first_of_both (bytes_of log number) (bytes_of more number)

@@ -1,7 +1,7 @@
 ghost use Rattle.std.specs.Prelude.{◌≡◌, ◌≤◌, ◌&&◌, length, is_some, if◌then◌else◌};
 ghost use Rattle.std.specs.List.{filter_map};
 ghost use Rattle.tap_log.specs.Asked.{number_of};
-ghost use Rattle.tap_log.specs.Counts.{cast_count, resends, resends_after, resent_count, sent_count, ticket_count};
+ghost use Rattle.tap_log.specs.Counts.{cast_count, packet_count, resends, resends_after, resent_count, sent_count, ticket_count};
 ghost use Rattle.tap_log.specs.Kinds.{packet_number};
 
 use crate::kinds::{NumberKind, number_of};
@@ -25,6 +25,15 @@ pub fn sent_count(records: &[Record]) -> usize
     ensures { result ≡ sent_count records.now }
 {
     count_of(NumberKind::Sent, records)
+}
+
+/// How many packets were made. They are numbered from 0.
+///
+/// Rule: docs/FORMATS.md, "The printed text".
+pub fn packet_count(records: &[Record]) -> usize
+    ensures { result ≡ packet_count records.now }
+{
+    count_of(NumberKind::Made, records)
 }
 
 /// How many lookups were asked. Their tickets count from 1.

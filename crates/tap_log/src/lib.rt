@@ -10,13 +10,13 @@ mod record;
 #[cfg(test)]
 mod tests;
 
-pub use counts::{cast_count, resent_count, sent_count, ticket_count};
+pub use counts::{cast_count, packet_count, resent_count, sent_count, ticket_count};
 pub use frames::bytes_of;
 pub use kinds::{
     NameKind, NumberKind, accepts, begins_group, is_added, is_carried, name_of, number_of,
     published_pair, step_of, withdrawn_pair,
 };
-pub use law::one_more_record;
+pub use law::{more_records, one_more_record};
 pub use log::{Log, NoMemory};
 pub use record::{LinkLine, LinkWord, NodeWord, Pair, Record, Refusal};
 pub use tap_wire::Bytes;

@@ -8,7 +8,7 @@ use tap_wire::{Bytes, WireFault};
 /// Rule: docs/FORMATS.md, "The printed text".
 #[derive(Clone, Copy, Debug, PartialEq, Eq)]
 pub enum Refusal {
-    /// The name is no member's, and no node of this name joined; or it is gone.
+    /// No node of this name is present.
     NoSuchNode,
     /// The node is still joining.
     NotCore,
@@ -16,9 +16,9 @@ pub enum Refusal {
     Departing(Name),
     /// So many frames are outstanding.
     NotAtRest(u32),
-    /// The new name was ever a member's, or joined.
+    /// A node of the new name was ever present.
     NameTaken,
-    /// 256 names were ever members', or joined.
+    /// 256 names were ever present.
     TooManyNodes,
     /// The node is the one core node.
     LastNode,

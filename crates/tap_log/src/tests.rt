@@ -1,6 +1,6 @@
 use crate::{
     Bytes, Log, NameKind, NoMemory, NumberKind, Pair, Record, Refusal, accepts, begins_group,
-    bytes_of, cast_count, is_added, is_carried, name_of, number_of, published_pair, resent_count,
+    bytes_of, cast_count, is_added, is_carried, name_of, number_of, packet_count, published_pair, resent_count,
     sent_count, step_of, ticket_count, withdrawn_pair,
 };
 use std::alloc::Global;
@@ -109,6 +109,7 @@ fn a_log_tells_its_counts_and_its_bytes(rt: HostRuntime) -> Result<(), Fail> {
     assert_eq!(rt; bytes_of(records, 7), Some(b"ab".as_slice()));
     assert_eq!(rt; bytes_of(records, 1), None);
     assert_eq!(rt; sent_count(records), 1);
+    assert_eq!(rt; packet_count(records), 2);
     assert_eq!(rt; ticket_count(records), 1);
     assert_eq!(rt; cast_count(records), 1);
     assert_eq!(rt; resent_count(records), 1);

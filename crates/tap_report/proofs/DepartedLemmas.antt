@@ -9,7 +9,7 @@ use Rattle.tap_log.specs.declared.record.Record.TheVariants as rec
 use Rattle.tap_log.specs.Kinds.{accepts, begin_members, is_carried, step_of}
 use Rattle.tap_history.specs.Steps.{depart_name}
 use Rattle.tap_history.specs.Core.{accepted_step, accepted_steps, departures_of, members_of}
-use Rattle.tap_history.specs.Laws.{accepted_next}
+use Rattle.tap_history.specs.RecordLaws.{accepted_next}
 use Rattle.tap_log.specs.Laws.{at_most_one}
 use Rattle.tap_log.specs.Log.{last_of}
 use Rattle.tap_history.proofs.Growing.{accepted_steps-push}

@@ -1,81 +1,24 @@
--- What one more record at the end of a log changes, and what one more group does.
-use Rattle.std.specs.Prelude.{◌≡◌, ◌≢◌, ℕ, ◌+◌, ◌<◌, ◌≤◌, All, Bool, false, true, if◌then◌else◌, List, [], ◌∷◌, ◌++◌, length, filter, fold, slice_get, Option, None, Some}
-use Rattle.std.specs.List.{filter_map, cons_option, last_or, range_with_len}
+-- What one more group at the end of a log changes.
+use Rattle.std.specs.Prelude.{◌≡◌, ℕ, ◌+◌, ◌<◌, ◌≤◌, All, false, true, if◌then◌else◌, List, [], ◌∷◌, ◌++◌, length, filter, fold, option_and_then, slice_get, Option, None}
+use Rattle.std.specs.List.{filter_map, last_or, range_with_len}
 use Rattle.tap_name.specs.Settings.{SettingsValue}
 use Rattle.tap_scenario.specs.declared.step.Step.{Step}
 use Rattle.tap_log.specs.declared.record.Record.{Record}
-use Rattle.tap_log.specs.declared.record.Record.TheVariants.{Arrived, Begin, Carrier}
-use Rattle.tap_log.specs.Kinds.{abandoned_name, arrived_number, asked_ticket, begin_members, begins_group, core_name, ended_number, gone_name, is_carried, packet_number, published_pair, sent_number, step_of, taken_number, withdrawn_pair}
+use Rattle.tap_log.specs.declared.record.Record.TheVariants.{Begin, Carrier}
+use Rattle.tap_log.specs.Kinds.{arrived_number, asked_ticket, begins_group, core_name, ended_number, is_carried, packet_number, packet_frame, sent_number, taken_number, withdrawn_pair}
 use Rattle.tap_history.specs.Steps.{depart_name, join_name}
-use Rattle.tap_history.specs.Moments.{acknowledged, acknowledged_by, acknowledged_by_all, awaiting, ends_before, has_number, is_moment, is_still, numbers_less, outstanding, under_way}
-use Rattle.tap_log.specs.Laws.{at_most_one}
-use Rattle.tap_log.specs.Log.{begun_steps, last_of}
-use Rattle.tap_history.specs.Core.{abandoned_of, accepted_in, accepted_step, accepted_steps, ceased_of, core_of, departures_of, gone_of, joined_of}
+use Rattle.tap_history.specs.Moments.{acknowledged_by_all, awaiting, ends_before, has_number, is_moment, is_still, numbers_less, outstanding, under_way}
+use Rattle.tap_log.specs.Log.{last_of}
+use Rattle.tap_history.specs.Core.{abandoned_of, accepted_in, ceased_of, core_of, departures_of, gone_of, present_of}
 use Rattle.tap_name.specs.Names.{has_name, names_without}
 use Rattle.tap_history.specs.Departing.{departing_of}
 use Rattle.tap_history.specs.Published.{pairs_less, published_of, unwithdrawn_pairs, without_servers}
-use Rattle.tap_log.specs.Counts.{sent_count, ticket_count}
+use Rattle.tap_log.specs.Counts.{packet_count, sent_count, ticket_count}
 use Rattle.tap_history.specs.Groups.{after_beginning, beginning_of, ending_of, groups_of, is_ended, is_ending, is_lengthened, moments_of, records_of}
-use Rattle.tap_history.specs.Names.{join_count, names_of, with_name}
-
--- the step that one more record accepts, after this last one
-abbrev pub accepted_next : Bool → Option Record → Record → List Step
-accepted_next carried None item = []
-accepted_next carried (Some last) item = at_most_one (accepted_step carried (last, item))
-
--- the step that one more record accepts
-abbrev pub accepted_by : List Record → Record → List Step
-accepted_by log item = accepted_next (is_carried log) (last_of log) item
-
--- what holds of a log that has its beginning alone: the members are core and joined, and nothing has happened
-pub record IsNew (members : List (List ℕ)) (log : List Record) : Type 0 where
-  pub accepted : accepted_steps log ≡ []
-  pub core : core_of log ≡ members
-  pub joined : joined_of log ≡ members
-  pub published : published_of log ≡ []
-  pub departing : departing_of log ≡ None
-  pub names : names_of log ≡ fold with_name [] members
-
--- The beginning gives the members. Of one more record, which gives none, what it tells is added, and what it ends is taken away.
-pub record RecordChanges : Type 0 where
-  pub begins : (settings : SettingsValue) (frames : ℕ) (members : List (List ℕ)) → IsNew members (Begin settings frames members ∷ [])
-  pub begins_carried : (settings : SettingsValue) (frames : ℕ) (members : List (List ℕ))
-      → IsNew members (Begin settings frames members ∷ Carrier ∷ [])
-  pub accepted : (log : List Record) (item : Record)
-      → accepted_steps (log ++ item ∷ []) ≡ accepted_steps log ++ accepted_by log item
-  pub core : (log : List Record) (item : Record) → begin_members item ≡ []
-      → core_of (log ++ item ∷ [])
-      ≡ names_without (core_of log ++ names_without (at_most_one (core_name item)) (gone_of log)) (at_most_one (gone_name item))
-  pub joined : (log : List Record) (item : Record) → begin_members item ≡ []
-      → joined_of (log ++ item ∷ [])
-      ≡ names_without (joined_of log ++ names_without (filter_map join_name (accepted_by log item)) (gone_of log)) (at_most_one (gone_name item))
-  pub abandoned : (log : List Record) (item : Record)
-      → abandoned_of (log ++ item ∷ []) ≡ abandoned_of log ++ at_most_one (abandoned_name item)
-  pub ceased : (log : List Record) (item : Record)
-      → ceased_of (log ++ item ∷ [])
-      ≡ filter (has_name (gone_of log ++ at_most_one (gone_name item))) (abandoned_of log ++ at_most_one (abandoned_name item))
-  pub frames : (log : List Record) (item : Record)
-      → outstanding (log ++ item ∷ [])
-      ≡ numbers_less (outstanding log ++ numbers_less (at_most_one (sent_number item)) (filter_map taken_number log))
-      (at_most_one (taken_number item))
-  pub packets : (log : List Record) (item : Record)
-      → under_way (log ++ item ∷ [])
-      ≡ numbers_less (under_way log ++ numbers_less (at_most_one (packet_number item)) (filter_map ended_number log))
-      (at_most_one (ended_number item))
-  pub awaits : (log : List Record) (item : Record) → arrived_number item ≡ None
-      → awaiting (log ++ item ∷ [])
-      ≡ numbers_less (awaiting log ++ numbers_less (at_most_one (sent_number item)) (acknowledged log))
-      (at_most_one (acknowledged_by (filter_map arrived_number log) item))
-  pub arrives : (log : List Record) (packet : ℕ)
-      → awaiting (log ++ Arrived packet ∷ []) ≡ numbers_less (awaiting log) (acknowledged_by_all (packet ∷ []) log)
-  pub published : (log : List Record) (item : Record)
-      → published_of (log ++ item ∷ []) ≡ without_servers (filter_map depart_name (accepted_by log item))
-      (pairs_less (published_of log) (at_most_one (withdrawn_pair item))
-      ++ without_servers (departures_of log) (at_most_one (published_pair item)))
-  pub joins : (log : List Record) (item : Record)
-      → join_count (log ++ item ∷ []) ≡ join_count log + length (filter_map join_name (accepted_by log item))
-  pub names : (log : List Record) (item : Record) → begin_members item ≡ []
-      → names_of (log ++ item ∷ []) ≡ fold with_name (names_of log) (filter_map join_name (accepted_by log item))
+use Rattle.tap_history.specs.Names.{names_of, with_name}
+use Rattle.tap_log.specs.Frames.{bytes_of}
+use Rattle.tap_log.specs.Laws.{first_of_both}
+use Rattle.tap_history.specs.Flights.{bytes_at}
 
 -- the records of one group, after a log that has begun: the first one begins the group, and no later one begins another
 pub record IsGroup (log : List Record) (first : Record) (after : List Record) : Type 0 where
@@ -139,15 +82,30 @@ pub record NumbersOn (log group : List Record) : Type 0 where
   pub taken : All (λ number. number < sent_count log) (filter_map taken_number group)
   pub asked : filter_map asked_ticket group ≡ range_with_len (1 + ticket_count log) (ticket_count group)
 
--- What one more group tells is added, and what it ends is taken away. Where frames are numbered on, those that it sends are
--- outstanding, and of the earlier ones those that it doesn't take.
+-- packets are numbered from 0, in their order; no packet arrives or is lost that wasn't made, and none is made for a frame
+-- that wasn't sent
+pub record ArePacketsNumbered (log : List Record) : Type 0 where
+  pub made : filter_map packet_number log ≡ range_with_len 0 (packet_count log)
+  pub ended : All (λ number. number < packet_count log) (filter_map ended_number log)
+  pub frames : All (λ frame. frame < sent_count log) (filter_map packet_frame log)
+
+-- the packets of a group number on; those that arrive in it, or are lost, were made before it
+pub record PacketsNumberOn (log group : List Record) : Type 0 where
+  pub made : filter_map packet_number group ≡ range_with_len (packet_count log) (packet_count group)
+  pub ended : All (λ number. number < packet_count log) (filter_map ended_number group)
+  pub frames : All (λ frame. frame < sent_count (log ++ group)) (filter_map packet_frame group)
+
+-- What one more group tells is added, and what it ends is taken away. If frames are numbered on, those that it sends are
+-- outstanding, and of the earlier ones those that it doesn't take; a frame is found by its place among these. If packets are, too,
+-- those that it makes are under way, and the frames that it sends await their acknowledgement, and of the earlier packets and
+-- frames those that it doesn't end or acknowledge.
 pub record GroupChanges : Type 0 where
   pub core : (log : List Record) (first : Record) (after : List Record) → IsGroup log first after
       → core_of (log ++ first ∷ after)
       ≡ names_without (core_of log ++ names_without (filter_map core_name (first ∷ after)) (gone_of log)) (gone_of (first ∷ after))
-  pub joined : (log : List Record) (first : Record) (after : List Record) → IsGroup log first after
-      → joined_of (log ++ first ∷ after)
-      ≡ names_without (joined_of log ++ names_without (filter_map join_name (accepted_of log (first ∷ after))) (gone_of log))
+  pub present : (log : List Record) (first : Record) (after : List Record) → IsGroup log first after
+      → present_of (log ++ first ∷ after)
+      ≡ names_without (present_of log ++ names_without (filter_map join_name (accepted_of log (first ∷ after))) (gone_of log))
       (gone_of (first ∷ after))
   pub names : (log : List Record) (first : Record) (after : List Record) → IsGroup log first after
       → names_of (log ++ first ∷ after) ≡ fold with_name (names_of log) (filter_map join_name (accepted_of log (first ∷ after)))
@@ -158,3 +116,17 @@ pub record GroupChanges : Type 0 where
   pub frames : (log group : List Record) → IsNumbered log → NumbersOn log group
       → outstanding (log ++ group) ≡ numbers_less (outstanding log) (filter_map taken_number group) ++ filter_map sent_number group
   pub numbered : (log group : List Record) → IsNumbered log → NumbersOn log group → IsNumbered (log ++ group)
+  pub places : (log group : List Record) → IsNumbered log → NumbersOn log group → (place : ℕ)
+      → bytes_at (log ++ group) place
+      ≡ option_and_then (λ number. first_of_both (bytes_of log number) (bytes_of group number))
+      (slice_get (numbers_less (outstanding log) (filter_map taken_number group) ++ filter_map sent_number group) place)
+  pub abandoned : (log group : List Record) → abandoned_of (log ++ group) ≡ abandoned_of log ++ abandoned_of group
+  pub ceased : (log group : List Record)
+      → ceased_of (log ++ group) ≡ filter (has_name (gone_of log ++ gone_of group)) (abandoned_of log ++ abandoned_of group)
+  pub packets : (log group : List Record) → ArePacketsNumbered log → PacketsNumberOn log group
+      → under_way (log ++ group) ≡ numbers_less (under_way log) (filter_map ended_number group) ++ filter_map packet_number group
+  pub awaits : (log group : List Record) → IsNumbered log → NumbersOn log group → ArePacketsNumbered log → PacketsNumberOn log group
+      → awaiting (log ++ group)
+      ≡ numbers_less (awaiting log) (acknowledged_by_all (filter_map arrived_number group) log) ++ filter_map sent_number group
+  pub packets_numbered : (log group : List Record) → ArePacketsNumbered log → PacketsNumberOn log group
+      → ArePacketsNumbered (log ++ group)
