@@ -22,7 +22,7 @@ use Rattle.tap_history.specs.Names.{join_count, names_of, with_name}
 use Rattle.tap_history.specs.RecordLaws.{IsNew, RecordChanges, accepted_by, accepted_next}
 use Rattle.tap_log.specs.Laws.{at_most_one, first_of_both}
 use Rattle.tap_log.specs.Frames.{bytes_of, sent_bytes}
-use Rattle.tap_log.proofs.Growing.{bytes_of-push, filter_map-push}
+use Rattle.tap_log.proofs.Growing.{carried_third, is_carried-push, bytes_of-push, filter_map-push}
 use Rattle.tap_history.specs.Flights.{bytes_at}
 use Rattle.tap_history.proofs.Acknowledging.{awaiting-arrived, awaiting-push}
 use Rattle.tap_history.proofs.Less.{filter-swaps, filter-twice, less_by-more, less_by-none, not_or}
@@ -145,6 +145,15 @@ present_of-push log item none =
     ∙ ap (λ l. members_of log ++ l) (named-push join_name log item)
     ∙ sym (append_assoc (members_of log) (joins_of log) (filter_map join_name (accepted_by log item))))
     (filter_map-push gone_name log item)
+
+-- a record that takes no node away, and with which nobody's join is accepted, changes nothing
+pub present_of-left : (log : List Record) (item : Record) → leaves_nodes item ≡ true → filter_map join_name (accepted_by log item) ≡ []
+    → present_of (log ++ item ∷ []) ≡ present_of log
+present_of-left log item leaves none =
+    present_of-push log item (no_members item leaves)
+    ∙ ap (λ l. names_without (present_of log ++ names_without l (gone_of log)) (at_most_one (gone_name item))) none
+    ∙ ap (λ o. names_without (present_of log ++ []) (at_most_one o)) (no_gone item leaves)
+    ∙ less_by-none (pointwise nat_eq) (present_of log ++ []) ∙ append-nil (present_of log)
 
 ceased_of-push : (log : List Record) (item : Record)
     → ceased_of (log ++ item ∷ []) ≡ filter (has_name (gone_of log ++ at_most_one (gone_name item)))

@@ -1,6 +1,7 @@
 -- Which nodes take part at a moment of a log. A set of names is a list of them.
 use Rattle.std.specs.Prelude.{ℕ, Bool, not, if◌then◌else◌, List, [], ◌∷◌, ◌++◌, drop, filter, Option, None}
 use Rattle.std.specs.List.{filter_map, zip}
+use Rattle.tap_name.specs.Names.{has_name, names_without}
 use Rattle.tap_scenario.specs.declared.step.Step.{Step}
 use Rattle.tap_log.specs.declared.record.Record.{Record}
 use Rattle.tap_log.specs.Kinds.{abandoned_name, accepts, begin_members, core_name, gone_name, is_carried, step_of}

@@ -6,6 +6,8 @@ use std::alloc::{AllocError, AllocFailed, Global};
 use std::marker::Model;
 
 /// Memory was refused.
+///
+/// Rule: docs/DECISIONS.md, "The logs of a run".
 #[derive(Clone, Copy, Debug, PartialEq, Eq)]
 pub struct NoMemory;
 
@@ -55,6 +57,8 @@ impl Model for Log {
 
 impl Log {
     /// The log with no record. It takes no memory yet.
+    ///
+    /// Rule: docs/FORMATS.md, "Groups and moments".
     pub fn new(alloc: Global) -> Log
         ensures { result ≡ record { records = []; spare = 0 } }
     {
@@ -65,6 +69,8 @@ impl Log {
     }
 
     /// The number of records.
+    ///
+    /// Rule: docs/FORMATS.md, "Groups and moments".
     pub fn len(&self) -> usize
         ensures { result ≡ length self.now.records }
     {
@@ -72,6 +78,8 @@ impl Log {
     }
 
     /// The record at a place, from 0.
+    ///
+    /// Rule: docs/FORMATS.md, "Groups and moments".
     pub fn at(&self, i: usize) -> &Record
         requires { i < length self.now.records }
         ensures { slice_get self.now.records i ≡ Some result.now }
@@ -80,6 +88,8 @@ impl Log {
     }
 
     /// The records, lent.
+    ///
+    /// Rule: docs/FORMATS.md, "Groups and moments".
     pub fn as_slice(&self) -> &[Record]
         ensures { result.now ≡ self.now.records }
     {
@@ -87,6 +97,8 @@ impl Log {
     }
 
     /// Adds a record at the end. A refused push changes nothing.
+    ///
+    /// Rule: docs/FORMATS.md, "Groups and moments".
     pub fn push(&mut self, item: Record) -> Result<(), NoMemory>
         ensures ok { OnOk result (self.new.records ≡ self.old.records ++ item ∷ []) }
         ensures spare { OnOk result (self.new.spare ≡ self.old.spare - 1) }
@@ -98,6 +110,8 @@ impl Log {
     }
 
     /// Makes room for so many more records. A refused call changes nothing.
+    ///
+    /// Rule: docs/DECISIONS.md, "The logs of a run".
     pub fn reserve(&mut self, more: usize) -> Result<(), NoMemory>
         ensures records { self.new.records ≡ self.old.records }
         ensures ok { OnOk result (self.new.spare ≡ max self.old.spare more) }
@@ -111,6 +125,8 @@ impl Log {
     }
 
     /// Adds a record for which there is room. It takes no memory.
+    ///
+    /// Rule: docs/DECISIONS.md, "The logs of a run".
     pub fn push_reserved(&mut self, item: Record)
         requires { 1 ≤ self.old.spare }
         ensures records { self.new.records ≡ self.old.records ++ item ∷ [] }
