@@ -1,8 +1,8 @@
 use Rattle.std.proofs.Common.{◌≡◌, ◌∙◌, sym, arith}
 use Rattle.tap_name.specs.Names.{has_name}
 use Rattle.tap_history.proofs.Stepwise.{once_more, once_same}
-use Rattle.tap_history.proofs.counts.each_once.Goals as goal
-use Rattle.tap_history.proofs.counts.each_once.Goals.{then-not-contains+in_ok-push, else-not-contains}
+use Rattle.tap_history.proofs.names.each_once.Goals as goal
+use Rattle.tap_history.proofs.names.each_once.Goals.{then-not-contains+in_ok-push, else-not-contains}
 
 pub loop-name-preserved : goal.loop-name-preserved
 loop-name-preserved c =
