@@ -12,7 +12,7 @@ module _ {X : Type 0} where
 
   after : (P : X → Type 0) (xs ys : List X) → All P (xs ++ ys) → All P ys
   after P [] ys all = all
-  after P (x ∷ xs) ys all = behind P xs ys (All-tail P x (xs ++ ys) all)
+  after P (x ∷ xs) ys all = after P xs ys (All-tail P x (xs ++ ys) all)
 
   module _ (R : X → X → Type 0) where
     pub pairs-first : (x : X) (xs : List X) → AllPairs R (x ∷ xs) → All (R x) xs
