@@ -1,11 +1,12 @@
 -- the links of a Hello, one after the other, and flags
-use Rattle.std.proofs.Common.{◌≡◌, ◌≤◌, ◌++◌, ◌+◌, ◌*◌, ℕ, zero, suc, Bool, true, false, nat_le, eqb, List, [], ◌∷◌, length, drop, get_or, slice_index, All, Option, None, Some, Result, Ok, arith, refl, ap, sym, subst, ◌∙◌, append_assoc}
+use Rattle.std.proofs.Common.{◌≡◌, ◌≢◌, ◌<◌, ◌≤◌, ◌++◌, ◌+◌, ◌*◌, ℕ, zero, suc, min, Bool, true, false, nat_le, nat_lt, eqb, List, [], ◌∷◌, length, drop, get_or, slice_index, All, Option, None, Some, Result, Ok, arith, refl, ap, ap₂, sym, subst, ◌∙◌, append_assoc}
 use Rattle.std.specs.List.{flat_map, AllPairs}
-use Rattle.std.specs.Ordering.{nat_cmp, is_lt, is_some_and}
+use Rattle.std.specs.Ordering.{nat_cmp, is_lt}
 use Rattle.std.specs.declared.cmp.Ordering.{Ordering}
 use Rattle.std.specs.declared.cmp.Ordering.TheVariants.{Less, Equal, Greater}
-use Rattle.std.specs.Cmp.Lexicographic.{slice_cmp, slice_partial_cmp, lists_agrees, nat_list_cmp_total}
+use Rattle.std.specs.Cmp.Lexicographic.{slice_cmp, nat_list_cmp_total}
 use Rattle.std.proofs.lemmas.Bool.{eqb-true, eqb-false, leb-true}
+use Rattle.std.proofs.lemmas.Bool.Decides.{nat_tests}
 use Rattle.std.proofs.lemmas.List.Concat.{flat_map-cons}
 use Rattle.std.proofs.lemmas.List.Elements.{All-cons, All-nil}
 use Rattle.std.proofs.lemmas.List.Kept.{AllPairs-cons}
@@ -39,9 +40,32 @@ flag_taken place bytes on e =
 abbrev pub name_cmp : List ℕ → List ℕ → Ordering
 name_cmp a b = slice_cmp nat_cmp a b
 
--- the operator `<` of two names is that order
-pub is_less : (a b : List ℕ) → is_some_and is_lt (slice_partial_cmp (λ x y. Some (nat_cmp x y)) a b) ≡ is_lt (slice_cmp nat_cmp a b)
-is_less a b = ap (is_some_and is_lt) (lists_agrees (λ x y. refl) a b)
+-- two lists compare as their rests do, where the elements before these are equal
+same_first : (x y : ℕ) (xs ys : List ℕ) → x ≡ y → name_cmp (x ∷ xs) (y ∷ ys) ≡ name_cmp xs ys
+same_first x y xs ys e = grind (arith, nat_tests)
+
+pub same_there : (xs ys : List ℕ) (i : ℕ) → i < length xs → i < length ys → slice_index xs i ≡ slice_index ys i
+    → name_cmp (drop (i + 1) xs) (drop (i + 1) ys) ≡ name_cmp (drop i xs) (drop i ys)
+same_there xs ys i h g e =
+    sym (ap₂ name_cmp (byte_taken xs i h) (byte_taken ys i g)
+    ∙ same_first (slice_index xs i) (slice_index ys i) (drop (i + 1) xs) (drop (i + 1) ys) e)
+
+-- they compare as the elements at a place do, if these differ and the rests from it on are compared
+pub other_there : (xs ys : List ℕ) (i d : ℕ) → i < length xs → i < length ys → (get_or xs i d ≢ get_or ys i d)
+    → is_lt (name_cmp (drop i xs) (drop i ys)) ≡ nat_lt (get_or xs i d) (get_or ys i d)
+other_there [] ys i d h g n = absurd (omega arith)
+other_there (x ∷ xs) [] i d h g n = absurd (omega arith)
+other_there (x ∷ xs) (y ∷ ys) zero d h g n = grind (arith, nat_tests)
+other_there (x ∷ xs) (y ∷ ys) (suc i) d h g n = other_there xs ys i d (omega arith) (omega arith) n
+
+-- they compare as their lengths do, past the end of one of them
+pub past_one : (xs ys : List ℕ) (i : ℕ) → i ≡ min (length xs) (length ys)
+    → is_lt (name_cmp (drop i xs) (drop i ys)) ≡ nat_lt (length xs) (length ys)
+past_one [] [] i e = let none : i ≡ 0 = omega arith in rw none refl
+past_one [] (y ∷ ys) i e = let none : i ≡ 0 = omega arith in rw none (grind (arith, nat_tests))
+past_one (x ∷ xs) [] i e = let none : i ≡ 0 = omega arith in rw none (grind (arith, nat_tests))
+past_one (x ∷ xs) (y ∷ ys) zero e = absurd (omega arith)
+past_one (x ∷ xs) (y ∷ ys) (suc i) e = past_one xs ys i (omega arith) ∙ grind (arith, nat_tests)
 
 less_from : (o : Ordering) → is_lt o ≡ true → o ≡ Less
 less_from Less h = refl
@@ -180,12 +204,13 @@ abbrev FirstFollows : Option (List ℕ) → List Offered → Type 0
 FirstFollows None ls = Unit {0}
 FirstFollows (Some b) ls = All (λ l. name_cmp b l.name ≡ Less) ls
 
-first_name : (before : Option (List ℕ)) (l : Offered) (ls : List Offered) → FirstFollows before (l ∷ ls) → is_next_name before l.name ≡ true
+first_name : (before : Option (List ℕ)) (l : Offered) (ls : List Offered) → FirstFollows before (l ∷ ls)
+    → is_next_name before l.name ≡ true
 first_name None l ls after = refl
 first_name (Some b) l ls after = ap is_lt (after 0 l (omega arith))
 
-pub follow_from : (p : SettingsValue) (before : Option (List ℕ)) (ls : List Offered) → FirstFollows before ls → All (λ l. IsName p l.name) ls
-    → AllPairs (λ a b. name_cmp a.name b.name ≡ Less) ls
+pub follow_from : (p : SettingsValue) (before : Option (List ℕ)) (ls : List Offered) → FirstFollows before ls
+    → All (λ l. IsName p l.name) ls → AllPairs (λ a b. name_cmp a.name b.name ≡ Less) ls
     → Follow p before ls
 follow_from p before [] after names ascending = tt
 follow_from p before (l ∷ ls) after names ascending = (

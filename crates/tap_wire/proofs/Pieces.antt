@@ -1,8 +1,11 @@
 -- pieces of bytes at their places: read where they were written, and written as they are read
-use Rattle.std.proofs.Common.{◌≡◌, ◌<◌, ◌≤◌, ◌^◌, ◌++◌, ◌+◌, ℕ, suc, Bool, cond, nat_lt, nat_le, List, [], ◌∷◌, length, take, drop, get_or, slice_index, All, Option, Some, None, Ok, arith, refl, ap, sym, subst, ◌∙◌, inl, inr}
+use Rattle.std.proofs.Common.{◌≡◌, ◌<◌, ◌≤◌, ◌^◌, ◌++◌, ◌+◌, ◌-◌, ℕ, suc, Bool, true, false, cond, nat_lt, nat_le, List, [], ◌∷◌, length, take, drop, get_or, slice_index, All, Option, Some, None, Ok, arith, refl, ap, sym, subst, ◌∙◌, inl, inr}
+use Rattle.std.specs.Bool.{OnTrue}
 use Rattle.std.specs.List.{position, position_or_len}
-use Rattle.std.proofs.lemmas.Bool.{cases_lt, lt-ltb, le-ltb, lt-leb, leb-false}
-use Rattle.std.proofs.lemmas.List.{drop-drop, drop_at, take_at, get_or-drop, take-append-drop, length-take-le, length-drop}
+use Rattle.std.specs.Ordering.{nat_cmp, ord_max}
+use Rattle.std.proofs.lemmas.Bool.Decides.{nat_tests}
+use Rattle.std.proofs.lemmas.Bool.{cases_lt, lt-ltb, le-ltb, lt-leb, leb-false, ltb-true}
+use Rattle.std.proofs.lemmas.List.{drop-drop, drop_at, take_at, take_all, get_or-drop, take-append-drop, length-take-le, length-drop}
 use Rattle.std.proofs.lemmas.List.Elements.{All-from_get_or, All-drop, All-take}
 use Rattle.std.proofs.lemmas.List.Sums.{position_or_len_is, fails_before_first}
 use Rattle.std.proofs.Math.Seq.{drop-cons}
@@ -74,6 +77,34 @@ no_bad base name below =
     (λ h. absurd (omega arith)) in
     ap (λ (n : ℕ). cond {A = Option ℕ} (nat_lt n (length name)) (Some n) None) all
     ∙ ap (λ (b : Bool). cond {A = Option ℕ} b (Some (length name)) None) (le-ltb (length name) (length name) (omega arith))
+
+-- none is bad of digits that are known to be below the base
+pub none_bad : (known : Bool) (base : ℕ) (digits : List ℕ) → known ≡ true → OnTrue known (All (λ d. d < base) digits)
+    → position (λ d. nat_le base d) digits ≡ None
+none_bad true base digits is all = no_bad base digits all
+none_bad false base digits is all = absurd cc
+
+-- the greater of two numbers is at least each
+pub greater_of : (a b : ℕ) → (a ≤ ord_max nat_cmp a b) × (b ≤ ord_max nat_cmp a b)
+greater_of a b = (grind (arith, nat_tests), grind (arith, nat_tests))
+
+-- bytes that are known to be below the base: all of them, if the greatest is
+pub below_greatest : (base greatest : ℕ) (bytes : List ℕ) (known : Bool) → known ≡ nat_lt greatest base → All (λ d. d ≤ greatest) bytes
+    → OnTrue known (All (λ d. d < base) bytes)
+below_greatest base greatest bytes true e all = let less = ltb-true greatest base (sym e) in λ k d h. omega (arith, all k d h, less)
+below_greatest base greatest bytes false e all = tt
+
+-- those from a later place on
+pub below_from : (known : Bool) (base start place : ℕ) (bytes : List ℕ) → start ≤ place
+    → OnTrue known (All (λ d. d < base) (take (length bytes - start) (drop start bytes)))
+    → OnTrue known (All (λ d. d < base) (drop place bytes))
+below_from true base start place bytes later all =
+    let P : ℕ → Type 0 = λ d. d < base in
+    let rest = take_all (length bytes - start) (drop start bytes) (omega (arith, length-drop start bytes)) in
+    let same : drop (place - start) (drop start bytes) ≡ drop place bytes =
+    drop-drop (place - start) start bytes ∙ ap (λ k. drop k bytes) (omega arith) in
+    subst (All P) same (All-drop P (place - start) (drop start bytes) (subst (All P) rest all))
+below_from false base start place bytes later all = tt
 
 all_below : (base : ℕ) (name : List ℕ) → position (λ d. nat_le base d) name ≡ None → All (λ d. d < base) name
 all_below base name none =

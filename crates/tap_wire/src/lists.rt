@@ -1,5 +1,8 @@
-ghost use Rattle.std.specs.Prelude.{◌≡◌, ◌+◌, ◌*◌, ◌-◌, ◌/◌, ◌≤◌, length, take, drop, None, Ok, Err, IfOk, OnOk, IfErr};
+ghost use Rattle.std.specs.Prelude.{◌≡◌, ◌+◌, ◌*◌, ◌-◌, ◌/◌, ◌≤◌, ◌<◌, nat_le, length, take, drop, position, All, None, Ok, Err, IfOk, OnOk, IfErr};
+ghost use Rattle.std.specs.Bool.{OnTrue};
 ghost use Rattle.std.specs.Option.{option_copied};
+ghost use Rattle.std.specs.Ordering.{nat_cmp, is_lt};
+ghost use Rattle.std.specs.Cmp.Lexicographic.{slice_cmp};
 ghost use Rattle.tap_name.specs.Name.{IsName};
 ghost use Rattle.tap_name.specs.declared.slot.Slot.{Slot};
 ghost use Rattle.tap_name.specs.declared.slot.Offered.{Offered};
@@ -80,7 +83,7 @@ fn slots_fault(
     BodyFault::NoMemory
 }
 
-// The slots that are left.
+// The slots of a Tell, from a place to the end of the bytes.
 pub(crate) fn watch_at(
     alloc: Global,
     settings: &Settings,
@@ -107,35 +110,72 @@ pub(crate) fn watch_at(
     Ok(Watch::from_vec(slots))
 }
 
+// Whether all bytes are below a bound. No byte ends the pass, so that many are compared at a time.
+fn are_below(bound: u8, bytes: &[u8]) -> bool
+    ensures { OnTrue result (All (λ b. b < bound) bytes.now) }
+{
+    let mut greatest = 0;
+    for byte in bytes {
+        greatest = greatest.max(*byte);
+    }
+    greatest < bound
+}
+
+// The place of the first digit that isn't below the base, which needs no look if all are known to be.
+#[inline(always)]
+fn bad_digit_unless(are_digits: bool, settings: &Settings, digits: &[u8]) -> Option<usize>
+    requires { OnTrue are_digits (All (λ d. d < settings.now.base) digits.now) }
+    ensures { result ≡ position (λ d. nat_le settings.now.base d) digits.now }
+{
+    if are_digits {
+        return None;
+    }
+    bad_digit(settings, digits)
+}
+
+// Whether one name comes before another: by the first digit in which they differ, or else as the shorter one.
+#[inline(always)]
+fn is_before(one: &[u8], other: &[u8]) -> bool
+    ensures { result ≡ is_lt (slice_cmp nat_cmp one.now other.now) }
+{
+    for at in 0..one.len().min(other.len()) {
+        if one[at] != other[at] {
+            return one[at] < other[at];
+        }
+    }
+    one.len() < other.len()
+}
+
 // Whether a name with these digits may follow the name before.
 #[inline(always)]
-#[tactic(auto, using(crate::proofs::Links::is_less))]
 fn is_next_name(before: Option<&[u8]>, digits: &[u8]) -> bool
     ensures { result ≡ is_next_name (option_copied before.entry) digits.now }
 {
     match before {
         None => true,
-        Some(before) => before < digits,
+        Some(before) => is_before(before, digits),
     }
 }
 
 // Whether the link at a place, which follows the name before, is settled. Its name isn't made here, but its digits are
-// found to be one.
+// found to be one. They may be known to be below the base.
 #[inline(always)]
 fn settled_at(
     settings: &Settings,
     bytes: &[u8],
     place: usize,
     before: Option<&[u8]>,
+    are_digits: bool,
 ) -> Result<bool, Broken>
-    requires { place + settings.now.digits + 1 ≤ length bytes.now }
+    requires there { place + settings.now.digits + 1 ≤ length bytes.now }
+    requires digits { OnTrue are_digits (All (λ d. d < settings.now.base) (drop place bytes.now)) }
     ensures ok { IfOk result (λ settled. hello_link_at settings.now (option_copied before.entry) place bytes.now
         ≡ Ok (record { name = take settings.now.digits (drop place bytes.now); settled = settled })) }
     ensures name { OnOk result (IsName settings.now (take settings.now.digits (drop place bytes.now))) }
     ensures err { IfErr result (λ broken. hello_link_at settings.now (option_copied before.entry) place bytes.now ≡ Err broken) }
 {
     let digits = digits_at(settings, bytes, place);
-    if let Some(at) = bad_digit(settings, digits) {
+    if let Some(at) = bad_digit_unless(are_digits, settings, digits) {
         return Err(Broken { at: place + at });
     }
     if !is_next_name(before, digits) {
@@ -153,7 +193,7 @@ fn links_fault(settings: &Settings, bytes: &[u8], start: usize, count: usize) ->
     let mut before = None;
     let mut place = start;
     for _ in 0..count {
-        if let Err(broken) = settled_at(settings, bytes, place, before) {
+        if let Err(broken) = settled_at(settings, bytes, place, before, false) {
             return BodyFault::Field(broken);
         }
         before = Some(digits_at(settings, bytes, place));
@@ -162,7 +202,7 @@ fn links_fault(settings: &Settings, bytes: &[u8], start: usize, count: usize) ->
     BodyFault::NoMemory
 }
 
-// The links that are left.
+// The links of a Hello, from a place to the end of the bytes.
 pub(crate) fn hello_links_at(
     alloc: Global,
     settings: &Settings,
@@ -178,10 +218,12 @@ pub(crate) fn hello_links_at(
         Ok(links) => links,
         Err(_) => return Err(links_fault(settings, bytes, start, count)),
     };
+    // A flag is below the base too.
+    let are_digits = are_below(settings.base(), &bytes[start..]);
     let mut before = None;
     let mut place = start;
     for _ in 0..count {
-        let settled = settled_at(settings, bytes, place, before)?;
+        let settled = settled_at(settings, bytes, place, before, are_digits)?;
         let digits = digits_at(settings, bytes, place);
         let name = name_of(settings, digits);
         links.push_reserved(Offered { name, settled });
@@ -191,7 +233,7 @@ pub(crate) fn hello_links_at(
     Ok(List::from_vec(links))
 }
 
-// The word that the rest of the bytes are.
+// The word of a Cast, from a place to the end of the bytes.
 pub(crate) fn word_at(alloc: Global, bytes: &[u8], start: usize) -> Result<Bytes, BodyFault>
     requires { start ≤ length bytes.now }
     ensures { Gives result (word_at start bytes.now) }

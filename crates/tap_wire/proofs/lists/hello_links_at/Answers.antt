@@ -1,9 +1,11 @@
-use Rattle.std.proofs.Common.{◌≡◌, ◌∙◌, ◌+◌, ◌/◌, ◌-◌, None, Ok, length, arith, ap, sym}
+use Rattle.std.proofs.Common.{◌≡◌, ◌∙◌, ◌+◌, ◌/◌, ◌-◌, ◌<◌, None, Ok, All, length, drop, arith, ap, sym, subst}
+use Rattle.std.specs.Bool.{OnTrue}
 use Rattle.std.specs.Option.{option_copied}
 use Rattle.std.proofs.lemmas.Result.{err_from_is_err_and}
 use Rattle.tap_name.specs.declared.slot.Offered.{Offered}
 use Rattle.tap_wire.specs.Fields.{hello_links_at}
 use Rattle.tap_wire.proofs.Loops.{links_go_on, links_end, links_done, link_named}
+use Rattle.tap_wire.proofs.Pieces.{below_from}
 use Rattle.tap_wire.proofs.lists.hello_links_at.Goals as goal
 
 pub returns-in_err-settled : goal.returns-in_err-settled
@@ -16,6 +18,13 @@ returns-in_err-settled c =
     (ap (λ size. hello_links_at p ((length bytes - c.args.start) / size) None c.args.start bytes) (sym c.link_len-size.ensures.value)
     ∙ links_end p count c.loop.counter (option_copied c.loop.before) c.loop.place bytes c.loop.links.items c.in_err-settled.field-0.0
     (hello_links_at p count None c.args.start bytes) c.loop-test.true c.in_err-settled.ensures.err c.loop.invariant.reads)
+
+pub settled_at-requires-clause-digits : goal.settled_at-requires-clause-digits
+settled_at-requires-clause-digits c =
+    let known = c.are_below-are_digits.result in
+    let bytes = c.args.bytes.now in
+    subst (λ base. OnTrue known (All (λ d. d < base) (drop c.loop.place bytes))) c.base.ensures.value
+    (below_from known c.base.result c.args.start c.loop.place bytes (omega (arith, c.loop.invariant.at)) c.are_below-are_digits.ensures)
 
 pub loop-preserved : goal.loop-preserved
 loop-preserved c =

@@ -12,5 +12,5 @@ pub returns-clause-name : goal.returns-clause-name
 returns-clause-name c =
     let p = c.args.settings.now in
     of_value c.flag_at.result (subst (IsName p) c.digits_at-digits.ensures
-    (are_name p c.args.bytes.now c.args.place c.digits_at-digits.result.now c.digits_at-digits.ensures (omega (arith, c.requires))
-    (sym c.bad_digit.ensures ∙ c.in_default.is)))
+    (are_name p c.args.bytes.now c.args.place c.digits_at-digits.result.now c.digits_at-digits.ensures (omega (arith, c.requires.there))
+    (sym c.bad_digit_unless.ensures ∙ c.in_default.is)))
