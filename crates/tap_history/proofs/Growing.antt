@@ -136,7 +136,8 @@ pub core_of-left : (log : List Record) (item : Record) → leaves_nodes item ≡
 core_of-left log item leaves = core_of-same log item (no_members item leaves) (no_core item leaves) (no_gone item leaves)
 
 pub present_of-push : (log : List Record) (item : Record) → begin_members item ≡ []
-    → present_of (log ++ item ∷ []) ≡ names_without (present_of log ++ names_without (filter_map join_name (accepted_by log item)) (gone_of log))
+    → present_of (log ++ item ∷ [])
+    ≡ names_without (present_of log ++ names_without (filter_map join_name (accepted_by log item)) (gone_of log))
     (at_most_one (gone_name item))
 present_of-push log item none =
     came-push (members_of log) (joins_of log) (filter_map join_name (accepted_by log item)) (gone_of log) (at_most_one (gone_name item))

@@ -13,7 +13,6 @@ use Rattle.tap_name.specs.Names.{has_name}
 use Rattle.tap_log.specs.Counts.{sent_count, ticket_count, packet_count}
 use Rattle.tap_history.specs.GroupLaws.{IsNumbered, NumbersOn, ArePacketsNumbered, PacketsNumberOn}
 use Rattle.tap_history.proofs.Less.{less_by-more}
-
 use Rattle.tap_log.specs.declared.record.Record.TheVariants.{Arrived, Lost, Packet}
 use Rattle.tap_log.specs.Frames.{bytes_of}
 use Rattle.tap_log.specs.Laws.{first_of_both}

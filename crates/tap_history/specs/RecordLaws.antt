@@ -48,7 +48,8 @@ pub record RecordChanges : Type 0 where
       ≡ names_without (core_of log ++ names_without (at_most_one (core_name item)) (gone_of log)) (at_most_one (gone_name item))
   pub present : (log : List Record) (item : Record) → begin_members item ≡ []
       → present_of (log ++ item ∷ [])
-      ≡ names_without (present_of log ++ names_without (filter_map join_name (accepted_by log item)) (gone_of log)) (at_most_one (gone_name item))
+      ≡ names_without (present_of log ++ names_without (filter_map join_name (accepted_by log item)) (gone_of log))
+      (at_most_one (gone_name item))
   pub abandoned : (log : List Record) (item : Record)
       → abandoned_of (log ++ item ∷ []) ≡ abandoned_of log ++ at_most_one (abandoned_name item)
   pub ceased : (log : List Record) (item : Record)

@@ -12,7 +12,11 @@ use tap_name::{List, Name};
 use tap_scenario::Step;
 
 // The names of one kind that the records tell.
-pub(crate) fn names(alloc: Global, kind: NameKind, records: &[Record]) -> Result<Vec<Name>, NoMemory>
+pub(crate) fn names(
+    alloc: Global,
+    kind: NameKind,
+    records: &[Record],
+) -> Result<Vec<Name>, NoMemory>
     ensures { IfOk result (λ names. names.items ≡ filter_map (name_of kind) records.now) }
 {
     let mut names = Vec::new(alloc);

@@ -11,8 +11,8 @@ use crate::names::{name_count, names_at};
 use crate::nodes::{abandoned_at, core_at, present_at};
 use crate::published::{published_at, same_pair};
 use crate::steps::{
-    abandon_name, asked_node, depart_name, flight_place, join_name, publish_pair, suits_departure, suits_joining,
-    withdraw_pair,
+    abandon_name, asked_node, depart_name, flight_place, join_name, publish_pair, suits_departure,
+    suits_joining, withdraw_pair,
 };
 use std::alloc::Global;
 use tap_log::{NoMemory, Pair, Record, Refusal, resent_count};

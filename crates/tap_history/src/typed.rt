@@ -28,7 +28,11 @@ pub(crate) fn name_of(settings: &Settings, text: &str) -> Result<Name, Fail> {
 }
 
 // The names of a text, which are parted by blanks.
-pub(crate) fn names_of(alloc: Global, settings: &Settings, texts: &str) -> Result<List<Name>, Fail> {
+pub(crate) fn names_of(
+    alloc: Global,
+    settings: &Settings,
+    texts: &str,
+) -> Result<List<Name>, Fail> {
     let mut names = List::new(alloc);
     if texts.is_empty() {
         return Ok(names);
@@ -198,7 +202,10 @@ impl Typed {
         let want = names_of(self.alloc, &self.settings, core)?;
         assert_eq!(rt; core_at(self.alloc, records)?.as_slice(), want.as_slice());
         let want = names_of(self.alloc, &self.settings, present)?;
-        assert_eq!(rt; present_at(self.alloc, records)?.as_slice(), want.as_slice());
+        assert_eq!(rt;
+            present_at(self.alloc, records)?.as_slice(),
+            want.as_slice()
+        );
         let want = names_of(self.alloc, &self.settings, departing)?;
         assert_eq!(rt;
             departing_at(self.alloc, records)?,
@@ -259,7 +266,12 @@ impl Typed {
     }
 
     // Compares the servers of the one object that is published with what they are to be.
-    pub(crate) fn check_servers(&self, rt: &impl Abort, object: &str, servers: &str) -> Result<(), Fail> {
+    pub(crate) fn check_servers(
+        &self,
+        rt: &impl Abort,
+        object: &str,
+        servers: &str,
+    ) -> Result<(), Fail> {
         let object = name_of(&self.settings, object)?;
         let want = names_of(self.alloc, &self.settings, servers)?;
         let pairs = published_at(self.alloc, self.log.as_slice())?;

@@ -19,7 +19,8 @@ filter_map-push h log item = filter_map-append h log (item ∷ [])
 
 pub filter_map-same : {Y : Type 0} (h : Record → Option Y) (log : List Record) (item : Record) → h item ≡ None
     → filter_map h (log ++ item ∷ []) ≡ filter_map h log
-filter_map-same h log item none = filter_map-push h log item ∙ ap (λ o. filter_map h log ++ at_most_one o) none ∙ append-nil (filter_map h log)
+filter_map-same h log item none =
+    filter_map-push h log item ∙ ap (λ o. filter_map h log ++ at_most_one o) none ∙ append-nil (filter_map h log)
 
 pub last_of-push : (log : List Record) (item : Record) → last_of (log ++ item ∷ []) ≡ Some item
 last_of-push [] item = refl
