@@ -4,9 +4,9 @@ use Rattle.std.proofs.lemmas.Bool.{cases_Bool, eqb-true, eq-eqb}
 use Rattle.std.specs.List.{common_prefix_len}
 use Rattle.std.proofs.lemmas.List.Sums.{common_prefix_len-le}
 
--- nothing is common behind the end of one
-pub nothing_behind : (xs ys : List ℕ) (n : ℕ) → min (length xs) (length ys) ≤ n → common_prefix_len nat_eq (drop n xs) (drop n ys) ≡ 0
-nothing_behind xs ys n h =
+-- nothing is common after the end of one
+pub nothing_after : (xs ys : List ℕ) (n : ℕ) → min (length xs) (length ys) ≤ n → common_prefix_len nat_eq (drop n xs) (drop n ys) ≡ 0
+nothing_after xs ys n h =
     let both = common_prefix_len-le nat_eq (drop n xs) (drop n ys) in omega (arith, h, both.0, both.1, length-drop n xs, length-drop n ys)
 
 -- a name that is a prefix of another of its length is that one

@@ -15,7 +15,7 @@ same_slot a b same_level same_digit =
     let at_digit : ℕ → Slot = λ n. record { level = b.level; digit = n } in
     ap at_level same_level ∙ ap at_digit same_digit
 
--- what the digits behind a longer prefix say
+-- what the digits after a longer prefix say
 prefix_more : (x y : ℕ) (xs ys : List ℕ) → nat_eq x y ≡ true
     → common_prefix_len nat_eq (x ∷ xs) (y ∷ ys) ≡ suc (common_prefix_len nat_eq xs ys)
 prefix_more x y xs ys same = rw same (omega arith)
@@ -50,7 +50,7 @@ prefix_differs (x ∷ xs) (y ∷ ys) len within same =
       | inr e ↦ eqb-false x y e (subst P (prefix_none x y xs ys e) same)
     ]
 
--- the names share a level's digits and differ behind them
+-- the names share a level's digits and differ after them
 prefix_is : (a b : List ℕ) (level : ℕ) → level < length a → level < length b → take level a ≡ take level b
     → (get_or a level 0 ≡ get_or b level 0 → ⊥)
     → common_prefix_len nat_eq a b ≡ level

@@ -10,7 +10,7 @@ use Rattle.std.proofs.lemmas.Bool.Decides.{nat_tests}
 use Rattle.std.proofs.lemmas.Cmp.{nat_cmp_total, on_total, then_total}
 use Rattle.tap_name.specs.declared.slot.Slot.{Slot}
 
--- the slot of b at a, for two names of one length: their common prefix, and the digit of b behind it
+-- the slot of b at a, for two names of one length: their common prefix, and the digit of b after it
 abbrev pub slot_at : List ℕ → List ℕ → Option Slot
 slot_at a b =
     let level = common_prefix_len nat_eq a b

@@ -4,6 +4,8 @@ use std::alloc::{AllocError, AllocFailed, Global};
 use std::marker::Model;
 
 /// Memory was refused.
+///
+/// Rule: docs/MAP.md, "How the sources are written".
 #[derive(Clone, Copy, Debug, PartialEq, Eq)]
 pub struct NoMemory;
 
@@ -20,6 +22,8 @@ impl<T: Drop> From<AllocFailed<T>> for NoMemory {
 }
 
 /// Plain values in order, which contracts see as a list.
+///
+/// Rule: docs/MAP.md, "How the sources are written".
 #[derive(Debug, Drop)]
 pub struct List<T: Copy> {
     items: Vec<T>,

@@ -1,10 +1,10 @@
 ghost use Rattle.std.specs.Prelude.{◌≡◌, ◌↔◌, ℕ, ◌+◌, ◌<◌, ◌≤◌, List, [], ◌∷◌, ◌++◌, length, slice_index, All, Some, Ok, nat_eq, IfOk};
 ghost use Rattle.std.proofs.Common.{rules};
+ghost use Rattle.std.proofs.lemmas.Slice.Eq.{bytes_eq-Decides};
 ghost use Rattle.std.specs.Cmp.{partial_equiv_from_equiv};
 ghost use Rattle.std.specs.Cmp.Lexicographic.{pointwise, slice_cmp, nat_list_eq_equiv, nat_list_cmp_total, texts_po, texts_ties};
-ghost use Rattle.std.specs.Cmp.Rules.{hashing};
 ghost use Rattle.std.specs.Ordering.{nat_cmp};
-ghost use Rattle.std.specs.Hash as fed;
+ghost use Rattle.std.specs.Hash.{same_Alike};
 ghost use Rattle.std.specs.List.{common_prefix_len};
 ghost use Rattle.tap_name.specs.Digits.{digit_of_text, text_of_digit};
 ghost use Rattle.tap_name.specs.Name.{IsName, name_of_digits, name_of_text, text_of_name};
@@ -46,6 +46,8 @@ impl Model for Name {
 }
 
 /// Why digits or a text are no name.
+///
+/// Rule: docs/PROTOCOL.md, "Names".
 #[derive(Clone, Copy, Debug, PartialEq, Eq)]
 pub enum NameFault {
     /// There are so many digits or bytes, and not as many as a name has.
@@ -99,14 +101,6 @@ impl Name {
         ensures is_digit { result < 16 }
     {
         self.places[at]
-    }
-
-    /// The digit at a place as it is printed: `0` to `9`, then `a` to `f`.
-    pub fn text_byte(&self, at: usize) -> u8
-        requires { at < length self.now }
-        ensures { result ≡ text_of_digit (slice_index self.now at) }
-    {
-        text_of_digit(self.digit(at))
     }
 
     /// The length of the longest common prefix of two names.
@@ -167,6 +161,8 @@ impl Name {
 }
 
 /// The byte that a digit is printed as: `0` to `9`, then `a` to `f`.
+///
+/// Rule: docs/PROTOCOL.md, "Names".
 pub fn text_of_digit(digit: u8) -> u8
     requires { digit < 16 }
     ensures { result ≡ text_of_digit digit }
@@ -260,11 +256,12 @@ impl Ord for Name {
 }
 
 impl Hash for Name {
-    ghost hash_input = { fed.slice fed.u8 };
+    // All digits in one write. Names of one overlay have one length, so that it isn't hashed.
+    ghost hash_input = { λ digits. digits ∷ [] };
 
-    ghost respects_eq = { Prim.search (hashing, rules) };
+    ghost respects_eq = { (same_Alike (λ digits. digits ∷ []) bytes_eq-Decides).fed };
 
     fn hash<H: Hasher>(&self, state: &mut H) {
-        self.as_slice().hash(state);
+        state.write(self.as_slice());
     }
 }

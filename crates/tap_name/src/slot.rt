@@ -19,7 +19,7 @@ use std::cmp::Ordering;
 pub struct Slot {
     /// How many digits are shared, from 0.
     pub level: u8,
-    /// The digit behind them.
+    /// The digit after them.
     pub digit: u8,
 }
 
@@ -63,7 +63,7 @@ pub struct Offered {
     pub settled: bool,
 }
 
-/// The place of `b` in the table of `a`: the length of their longest common prefix, and the digit of `b` behind it.
+/// The place of `b` in the table of `a`: the length of their longest common prefix, and the digit of `b` after it.
 /// `None` exactly where the names are equal.
 ///
 /// Rule: docs/PROTOCOL.md, "Slots and tables".

@@ -24,7 +24,7 @@ use Rattle.tap_register.proofs.Lists.{AllWithin-first, AllWithin-later, filter_f
 record IsParted {K V : Type 0} (cmp : K → K → Ordering) (entries : List (Entry K V)) (key : K) (at : ℕ) : Type 0 where
   within : at ≤ length entries
   before : AllWithin (λ e. cmp e.key key ≡ Less) entries 0 at
-  behind : AllWithin (λ e. cmp e.key key ≡ Greater) entries at (length entries)
+  after : AllWithin (λ e. cmp e.key key ≡ Greater) entries at (length entries)
       ⊎ ((at < length entries) × HoldsAt (λ e. cmp e.key key ≡ Equal) entries at)
 
 -- each key has such a number
@@ -35,7 +35,7 @@ parted cmp total [] key ascending = (
   record {
     within = omega arith;
     before = λ k d low high. absurd (omega arith);
-    behind = inl (λ k d low high. absurd (omega arith));
+    after = inl (λ k d low high. absurd (omega arith));
   },
 )
 parted cmp total (e ∷ es) key ascending =
@@ -47,7 +47,7 @@ parted cmp total (e ∷ es) key ascending =
       record {
         within = omega (arith, rest.within);
         before = AllWithin-first (λ e. cmp e.key key ≡ Less) e es at is rest.before;
-        behind = elim rest.behind [
+        after = elim rest.after [
           | inl above ↦ inl (AllWithin-later (λ e. cmp e.key key ≡ Greater) e es at above)
           | inr (within, here) ↦ inr (omega arith, here)
         ];
@@ -58,7 +58,7 @@ parted cmp total (e ∷ es) key ascending =
       record {
         within = omega arith;
         before = λ k d low high. absurd (omega arith);
-        behind = inr (omega arith, λ d. is);
+        after = inr (omega arith, λ d. is);
       },
     )
     step Greater is rest = (
@@ -66,7 +66,7 @@ parted cmp total (e ∷ es) key ascending =
       record {
         within = omega arith;
         before = λ k d low high. absurd (omega arith);
-        behind = inl (all_above is);
+        after = inl (all_above is);
       },
     )
       where
@@ -79,7 +79,7 @@ parted cmp total (e ∷ es) key ascending =
             total.antisymm there.key key ∙ ap ordering_reverse under
 
 module _ {K V : Type 0} (cmp : K → K → Ordering) (total : IsTotalOrder cmp) (entries : List (Entry K V)) (key : K) where
-  -- what stands before and behind the entry of the key
+  -- what stands before and after the entry of the key
   below_before : (at : ℕ) → IsAscending cmp entries → at < length entries → HoldsAt (λ e. cmp e.key key ≡ Equal) entries at
       → AllWithin (λ e. cmp e.key key ≡ Less) entries 0 at
   below_before at ascending within same k d low high =
@@ -87,9 +87,9 @@ module _ {K V : Type 0} (cmp : K → K → Ordering) (total : IsTotalOrder cmp) 
       let there = slice_index_or entries k d in
       sym (alike_right total here.key key there.key (same d)) ∙ ascending k at d high within
 
-  above_behind : (at : ℕ) → IsAscending cmp entries → at < length entries → HoldsAt (λ e. cmp e.key key ≡ Equal) entries at
+  above_after : (at : ℕ) → IsAscending cmp entries → at < length entries → HoldsAt (λ e. cmp e.key key ≡ Equal) entries at
       → AllWithin (λ e. cmp e.key key ≡ Greater) entries (at + 1) (length entries)
-  above_behind at ascending within same k d low high =
+  above_after at ascending within same k d low high =
       let here = slice_index_or entries at d in
       let there = slice_index_or entries k d in
       let under : cmp key there.key ≡ Less = sym (total.congr here.key key there.key (same d)) ∙ ascending at k d (omega arith) high in
@@ -99,7 +99,7 @@ module _ {K V : Type 0} (cmp : K → K → Ordering) (total : IsTotalOrder cmp) 
       → IsAt cmp entries key at
   place at ascending within same =
       let before = below_before at ascending within same in
-      let behind = above_behind at ascending within same in
+      let after = above_after at ascending within same in
       record {
         within = within;
         found = find_first (λ e. is_eq (cmp e.key key)) entries at within (λ k d low high. ap is_eq (before k d low high))
@@ -108,30 +108,30 @@ module _ {K V : Type 0} (cmp : K → K → Ordering) (total : IsTotalOrder cmp) 
             (λ k d low high. elim (cases_order k at) [
               | inl e ↦ rw e (ap is_lt (same d))
               | inr (inl lt) ↦ absurd (omega arith)
-              | inr (inr gt) ↦ ap is_lt (behind k d (omega arith) high)
+              | inr (inr gt) ↦ ap is_lt (after k d (omega arith) high)
             ]);
-        behind = filter_last (λ e. is_gt (cmp e.key key)) entries (at + 1)
+        after = filter_last (λ e. is_gt (cmp e.key key)) entries (at + 1)
             (λ k d low high. elim (cases_order k at) [
               | inl e ↦ rw e (ap is_gt (same d))
               | inr (inl lt) ↦ ap is_gt (before k d low lt)
               | inr (inr gt) ↦ absurd (omega arith)
             ])
-            (λ k d low high. ap is_gt (behind k d low high));
+            (λ k d low high. ap is_gt (after k d low high));
       }
 
   gap : (at : ℕ) → at ≤ length entries → AllWithin (λ e. cmp e.key key ≡ Less) entries 0 at
       → AllWithin (λ e. cmp e.key key ≡ Greater) entries at (length entries) → IsGap cmp entries key at
-  gap at within before behind = record {
+  gap at within before after = record {
     within = within;
     absent = find_nothing (λ e. is_eq (cmp e.key key)) entries (λ k d low high. elim (cases_order k at) [
-      | inl e ↦ ap is_eq (behind k d (omega arith) high)
+      | inl e ↦ ap is_eq (after k d (omega arith) high)
       | inr (inl lt) ↦ ap is_eq (before k d low lt)
-      | inr (inr gt) ↦ ap is_eq (behind k d (omega arith) high)
+      | inr (inr gt) ↦ ap is_eq (after k d (omega arith) high)
     ]);
     before = filter_first (λ e. is_lt (cmp e.key key)) entries at within (λ k d low high. ap is_lt (before k d low high))
-        (λ k d low high. ap is_lt (behind k d low high));
-    behind = filter_last (λ e. is_gt (cmp e.key key)) entries at (λ k d low high. ap is_gt (before k d low high))
-        (λ k d low high. ap is_gt (behind k d low high));
+        (λ k d low high. ap is_lt (after k d low high));
+    after = filter_last (λ e. is_gt (cmp e.key key)) entries at (λ k d low high. ap is_gt (before k d low high))
+        (λ k d low high. ap is_gt (after k d low high));
   }
 
   -- the comparisons with the key rise along the list
@@ -168,7 +168,7 @@ module _ {K V : Type 0} (cmp : K → K → Ordering) (total : IsTotalOrder cmp) 
   located ascending = by_part (parted cmp total entries key ascending)
     where
       by_part : (at : ℕ) × IsParted cmp entries key at → ((at : ℕ) × IsAt cmp entries key at) ⊎ ((at : ℕ) × IsGap cmp entries key at)
-      by_part (at, part) = elim part.behind [
+      by_part (at, part) = elim part.after [
         | inl above ↦ inr (at, gap at part.within part.before above)
         | inr (within, same) ↦ inl (at, place at ascending within same)
       ]

@@ -21,31 +21,31 @@ pub set-written : {K V : Type 0} (cmp : K → K → Ordering) (entries : List (E
     → set entries at entry ≡ written cmp entries entry
 set-written cmp entries entry at place =
     sym (take-append-drop at (set entries at entry)) ∙ rw
-    (take-set entries at entry, drop-set entries at entry place.within, place.before, place.behind) refl
+    (take-set entries at entry, drop-set entries at entry place.within, place.before, place.after) refl
 
 pub insert-written : {K V : Type 0} (cmp : K → K → Ordering) (entries : List (Entry K V)) (entry : Entry K V) (at : ℕ)
     → IsGap cmp entries entry.key at
     → insert entries at entry ≡ written cmp entries entry
-insert-written cmp entries entry at gap = rw (gap.before, gap.behind) refl
+insert-written cmp entries entry at gap = rw (gap.before, gap.after) refl
 
 module _ {K V : Type 0} (cmp : K → K → Ordering) (total : IsTotalOrder cmp) (entries : List (Entry K V)) (entry : Entry K V) where
   pub IsAscending-written : IsAscending cmp entries → IsAscending cmp (written cmp entries entry)
   IsAscending-written ascending =
       let before = below cmp entries entry.key in
-      let behind = above cmp entries entry.key in
+      let after = above cmp entries entry.key in
       let lower : All (λ e. cmp e.key entry.key ≡ Less) before =
       λ k d h. is_less _ (filter_passes (λ e. is_lt (cmp e.key entry.key)) entries k d h) in
-      let upper : All (λ e. cmp entry.key e.key ≡ Less) behind = λ k d h.
-      total.antisymm entry.key (slice_index_or behind k d).key
+      let upper : All (λ e. cmp entry.key e.key ≡ Less) after = λ k d h.
+      total.antisymm entry.key (slice_index_or after k d).key
       ∙ ap ordering_reverse (is_greater _ (filter_passes (λ e. is_gt (cmp e.key entry.key)) entries k d h)) in
       let R : Entry K V → Entry K V → Type 0 = λ a b. cmp a.key b.key ≡ Less in
-      let across : All (λ e. All (R e) (entry ∷ behind)) before = λ k d h.
+      let across : All (λ e. All (R e) (entry ∷ after)) before = λ k d h.
       let e = slice_index_or before k d in
-      All-cons (R e) entry behind (lower k d h) (λ j f l. total.trans e.key entry.key (slice_index_or behind j f).key (lower k d h)
+      All-cons (R e) entry after (lower k d h) (λ j f l. total.trans e.key entry.key (slice_index_or after j f).key (lower k d h)
       (upper j f l)) in
-      AllPairs-append R before (entry ∷ behind)
+      AllPairs-append R before (entry ∷ after)
       (AllPairs-filter R (λ e. is_lt (cmp e.key entry.key)) entries ascending)
-      (AllPairs-cons R entry behind upper (AllPairs-filter R (λ e. is_gt (cmp e.key entry.key)) entries ascending))
+      (AllPairs-cons R entry after upper (AllPairs-filter R (λ e. is_gt (cmp e.key entry.key)) entries ascending))
       across
 
   abbrev has_key : K → Entry K V → Bool

@@ -51,11 +51,11 @@ pub record IsAt {K V : Type 0} (cmp : K → K → Ordering) (entries : List (Ent
   pub within : at < length entries
   pub found : entry_of cmp entries key ≡ slice_get entries at
   pub before : below cmp entries key ≡ take at entries
-  pub behind : above cmp entries key ≡ drop (at + 1) entries
+  pub after : above cmp entries key ≡ drop (at + 1) entries
 
 -- the key has no entry, and this is the place where it would stand
 pub record IsGap {K V : Type 0} (cmp : K → K → Ordering) (entries : List (Entry K V)) (key : K) (at : ℕ) : Type 0 where
   pub within : at ≤ length entries
   pub absent : entry_of cmp entries key ≡ None
   pub before : below cmp entries key ≡ take at entries
-  pub behind : above cmp entries key ≡ drop at entries
+  pub after : above cmp entries key ≡ drop at entries

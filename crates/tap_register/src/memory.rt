@@ -1,6 +1,8 @@
 use std::alloc::{AllocError, AllocFailed};
 
 /// Memory was wanted and not given.
+///
+/// Rule: docs/MAP.md, "How the sources are written".
 #[derive(Clone, Copy, Debug, PartialEq, Eq)]
 pub struct NoMemory;
 

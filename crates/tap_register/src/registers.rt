@@ -30,7 +30,7 @@ pub struct Entry<K, V> {
 ///
 /// The entries lie in one sorted vector. A look-up compares the key with about log n of the n
 /// others, and takes no memory. A newer version of a key that is there is written in its place; a
-/// new key moves the entries behind it.
+/// new key moves the entries after it.
 ///
 /// Rule: docs/PROTOCOL.md, "Versions".
 #[derive(Drop)]

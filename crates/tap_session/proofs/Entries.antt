@@ -45,15 +45,15 @@ absent_below id [] below = refl
 absent_below id (e ∷ es) below = rw (ap is_eq below.0) (absent_below id es below.1)
 
 -- nothing else is held at the number of the first entry
-absent_behind : (id : ℕ) (e : ℕ × Awaited) (es : List (ℕ × Awaited)) → id ≡ e.0 → IsStrictlySortedBy nat_cmp (keys_of (e ∷ es))
+absent_after : (id : ℕ) (e : ℕ × Awaited) (es : List (ℕ × Awaited)) → id ≡ e.0 → IsStrictlySortedBy nat_cmp (keys_of (e ∷ es))
     → awaited_at id es ≡ None
 unfolding IsStrictlySortedBy
-absent_behind id e es same sorted = rw same (absent_below e.0 es sorted.0)
+absent_after id e es same sorted = rw same (absent_below e.0 es sorted.0)
 
-sorted_behind : (e : ℕ × Awaited) (es : List (ℕ × Awaited)) → IsStrictlySortedBy nat_cmp (keys_of (e ∷ es))
+sorted_after : (e : ℕ × Awaited) (es : List (ℕ × Awaited)) → IsStrictlySortedBy nat_cmp (keys_of (e ∷ es))
     → IsStrictlySortedBy nat_cmp (keys_of es)
 unfolding IsStrictlySortedBy
-sorted_behind e es sorted = sorted.1
+sorted_after e es sorted = sorted.1
 
 -- an answer to a session that waits for one takes it out
 pub after_answer-closed : (id : ℕ) (a : Awaited) (entries : List (ℕ × Awaited)) → IsStrictlySortedBy nat_cmp (keys_of entries)
@@ -61,7 +61,7 @@ pub after_answer-closed : (id : ℕ) (a : Awaited) (entries : List (ℕ × Await
     → (a.waiting == 1) ≡ true → sessions_of (remove_entry (is_at (nat_cmp id)) entries) ≡ after_answer id (sessions_of entries)
 after_answer-closed id a [] sorted found last = refl
 after_answer-closed id a (e ∷ es) sorted found last =
-    step (id == e.0) refl (after_answer-closed id a es (sorted_behind e es sorted))
+    step (id == e.0) refl (after_answer-closed id a es (sorted_after e es sorted))
   where
     step : (b : Bool) → (id == e.0) ≡ b
         → (awaited_at id es ≡ Some a → (a.waiting == 1) ≡ true
@@ -71,10 +71,10 @@ after_answer-closed id a (e ∷ es) sorted found last =
         let here : Some e.1 ≡ Some a = rw (unsigned_tied id e.0, is) at found in
         let same : e.1 ≡ a = cc in
         let gone : (e.1.waiting == 1) ≡ true = rw same last in
-        rw (unsigned_tied id e.0, is, gone) (sym (after_answer-absent id es (absent_behind id e es (eqb-true id e.0 is) sorted)))
+        rw (unsigned_tied id e.0, is, gone) (sym (after_answer-absent id es (absent_after id e es (eqb-true id e.0 is) sorted)))
     step false is rest =
-        let behind : awaited_at id es ≡ Some a = rw (unsigned_tied id e.0, is) at found in
-        rw (unsigned_tied id e.0, is) (ap (λ l. session e.0 e.1 ∷ l) (rest behind last))
+        let later : awaited_at id es ≡ Some a = rw (unsigned_tied id e.0, is) at found in
+        rw (unsigned_tied id e.0, is) (ap (λ l. session e.0 e.1 ∷ l) (rest later last))
 
 -- an answer to a session that waits for more leaves it with one less
 pub after_answer-open : (id : ℕ) (a : Awaited) (entries : List (ℕ × Awaited)) → IsStrictlySortedBy nat_cmp (keys_of entries)
@@ -82,7 +82,7 @@ pub after_answer-open : (id : ℕ) (a : Awaited) (entries : List (ℕ × Awaited
     → (a.waiting == 1) ≡ false → sessions_of (set_value (is_at (nat_cmp id)) entries (record a { waiting = a.waiting - 1 }))
     ≡ after_answer id (sessions_of entries)
 after_answer-open id a [] sorted found more = refl
-after_answer-open id a (e ∷ es) sorted found more = step (id == e.0) refl (after_answer-open id a es (sorted_behind e es sorted))
+after_answer-open id a (e ∷ es) sorted found more = step (id == e.0) refl (after_answer-open id a es (sorted_after e es sorted))
   where
     step : (b : Bool) → (id == e.0) ≡ b
         → (awaited_at id es ≡ Some a → (a.waiting == 1) ≡ false
@@ -94,11 +94,11 @@ after_answer-open id a (e ∷ es) sorted found more = step (id == e.0) refl (aft
         let same : e.1 ≡ a = cc in
         let stays : (e.1.waiting == 1) ≡ false = rw same more in
         let others : after_answer id (sessions_of es) ≡ sessions_of es =
-        after_answer-absent id es (absent_behind id e es (eqb-true id e.0 is) sorted) in
+        after_answer-absent id es (absent_after id e es (eqb-true id e.0 is) sorted) in
         rw (unsigned_tied id e.0, is, stays, others, same) refl
     step false is rest =
-        let behind : awaited_at id es ≡ Some a = rw (unsigned_tied id e.0, is) at found in
-        rw (unsigned_tied id e.0, is) (ap (λ l. session e.0 e.1 ∷ l) (rest behind more))
+        let later : awaited_at id es ≡ Some a = rw (unsigned_tied id e.0, is) at found in
+        rw (unsigned_tied id e.0, is) (ap (λ l. session e.0 e.1 ∷ l) (rest later more))
 
 -- a number above all others goes to the end
 pub insert_entry-last : (entries : List (ℕ × Awaited)) (opened : ℕ) (a : Awaited) → All (λ id. (1 ≤ id) × (id ≤ opened)) (keys_of entries)
@@ -110,18 +110,18 @@ insert_entry-last (e ∷ es) opened a given =
     rw above (ap (λ l. e ∷ l) (insert_entry-last es opened a (All-tail (λ id. (1 ≤ id) × (id ≤ opened)) e.0 (keys_of es) given)))
 
 -- the numbers ascend
-below_behind : (id : ℕ) (entries : List (ℕ × Awaited)) → AllByRecursion (λ k. nat_cmp id k ≡ Less) (keys_of entries)
+below_after : (id : ℕ) (entries : List (ℕ × Awaited)) → AllByRecursion (λ k. nat_cmp id k ≡ Less) (keys_of entries)
     → All (λ s. id < s.id) (sessions_of entries)
-below_behind id [] below = λ k d h. absurd (omega arith)
-below_behind id (e ∷ es) below =
-    All-cons (λ s. id < s.id) (session e.0 e.1) (sessions_of es) (ranked id e.0 Less (sym below.0)) (below_behind id es below.1)
+below_after id [] below = λ k d h. absurd (omega arith)
+below_after id (e ∷ es) below =
+    All-cons (λ s. id < s.id) (session e.0 e.1) (sessions_of es) (ranked id e.0 Less (sym below.0)) (below_after id es below.1)
 
 pub ascending : (entries : List (ℕ × Awaited)) → IsStrictlySortedBy nat_cmp (keys_of entries)
     → AllPairs (λ a b. a.id < b.id) (sessions_of entries)
 unfolding IsStrictlySortedBy
 ascending [] sorted = λ i j d lt h. absurd (omega arith)
 ascending (e ∷ es) sorted =
-    AllPairs-cons (λ a b. a.id < b.id) (session e.0 e.1) (sessions_of es) (below_behind e.0 es sorted.0) (ascending es sorted.1)
+    AllPairs-cons (λ a b. a.id < b.id) (session e.0 e.1) (sessions_of es) (below_after e.0 es sorted.0) (ascending es sorted.1)
 
 -- what holds of the numbers, or of what is kept, holds of the sessions
 pub All-ids : (P : ℕ → Type 0) (entries : List (ℕ × Awaited)) → All P (keys_of entries) → All (λ s. P s.id) (sessions_of entries)

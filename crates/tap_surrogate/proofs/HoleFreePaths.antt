@@ -33,7 +33,7 @@ least_is_link : (links : List (List ℕ)) → is_some (first_of links) ≡ true
 least_is_link [] h = absurd (true≢false (sym h))
 least_is_link (x ∷ xs) h = (x, refl, inl refl)
 
--- the least link of a slot is to a core node that shares the level's digits and has the slot's behind them
+-- the least link of a slot is to a core node that shares the level's digits and has the slot's after them
 record Reaches (core : List (List ℕ)) (node : List ℕ) (level digit : ℕ) (to : List ℕ) : Type 0 where
   among : Among to core
   prefix : take level node ≡ take level to

@@ -12,3 +12,4 @@ pub mod NextHops
 pub mod Chains
 pub mod SettledAtRest
 pub mod HoleFreeLinks
+pub mod EmptyLevels

@@ -13,6 +13,8 @@ use tap_name::{List, Name, Slot, next_cyclic};
 use tap_table::Table;
 
 /// One step of a walk.
+///
+/// Rule: docs/PROTOCOL.md, "Walks".
 #[derive(Clone, Copy, Debug, PartialEq, Eq)]
 pub enum Step1 {
     /// The walk has hopped to this node.
@@ -99,6 +101,10 @@ impl Walk {
             unreachable!()
         };
         for level in self.level..table.settings().digits() {
+            if !table.may_have_links_from(level as usize) {
+                // No slot of the levels that are left has a link.
+                return None;
+            }
             let own = self.node.digit(level as usize);
             let wanted = self.object.digit(level as usize);
             if let Some(to) = hop_at(tables, table, level, own, wanted) {

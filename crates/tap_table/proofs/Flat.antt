@@ -4,7 +4,7 @@ use Rattle.std.specs.List.{flat_map}
 use Rattle.std.proofs.lemmas.List.Elements.{All-append, All-head, All-nil, All-tail}
 use Rattle.std.proofs.lemmas.Option.{slice_get_within}
 use Rattle.tap_register.proofs.Lists.{AllPairs-append}
-use Rattle.tap_table.proofs.Rows.{slice_get_behind, slice_get_front}
+use Rattle.tap_table.proofs.Rows.{slice_get_after, slice_get_front}
 
 module _ {A X : Type 0} (f : A → List X) where
   pub All-flat_map : (P : X → Type 0) (xs : List A) → All (λ a. All P (f a)) xs → All P (flat_map f xs)
@@ -34,4 +34,4 @@ module _ {A X : Type 0} (f : A → List X) where
       (j, slice_get_front (f y) (flat_map f ys) j (slice_get_within (f y) j x here) ∙ here)
   got-flat_map (y ∷ ys) (suc i) a j x got inside =
       let rest = got-flat_map ys i a j x got inside in
-      (length (f y) + rest.0, slice_get_behind (f y) (flat_map f ys) (length (f y) + rest.0) rest.0 (omega arith) ∙ rest.1)
+      (length (f y) + rest.0, slice_get_after (f y) (flat_map f ys) (length (f y) + rest.0) rest.0 (omega arith) ∙ rest.1)

@@ -30,13 +30,13 @@ IsAbove name targets = All (λ target. IsBelow target name) targets
 above : (a name : List ℕ) → IsBelow a name → name_cmp name a ≡ Greater
 above a name below = nat_list_cmp_total.antisymm name a ∙ ap ordering_reverse below
 
--- it goes behind them
+-- it goes after them
 module _ (name : List ℕ) where
-  none_behind : (targets : List (List ℕ)) → IsAbove name targets → filter (λ e. is_lt (name_cmp name e.target)) (settled_links targets) ≡ []
-  none_behind [] all = refl
-  none_behind (x ∷ xs) all =
+  none_after : (targets : List (List ℕ)) → IsAbove name targets → filter (λ e. is_lt (name_cmp name e.target)) (settled_links targets) ≡ []
+  none_after [] all = refl
+  none_after (x ∷ xs) all =
       let here = above x name (All-head (λ t. IsBelow t name) x xs all) in
-      rw here (none_behind xs (All-tail (λ t. IsBelow t name) x xs all))
+      rw here (none_after xs (All-tail (λ t. IsBelow t name) x xs all))
 
   all_before : (targets : List (List ℕ)) → IsAbove name targets
       → filter (λ e. is_gt (name_cmp name e.target)) (settled_links targets) ≡ settled_links targets
@@ -46,10 +46,10 @@ module _ (name : List ℕ) where
       let first : Entry (List ℕ) = record { target = x; kind = Settled } in
       rw here (ap (λ l. first ∷ l) (all_before xs (All-tail (λ t. IsBelow t name) x xs all)))
 
-  pub with_link_behind : (targets : List (List ℕ)) → IsAbove name targets
+  pub with_link_after : (targets : List (List ℕ)) → IsAbove name targets
       → with_link name_cmp (settled_links targets) name Settled ≡ settled_links (targets ++ name ∷ [])
-  with_link_behind targets all =
-      rw (all_before targets all, none_behind targets all) (sym (map-append _ targets (name ∷ [])))
+  with_link_after targets all =
+      rw (all_before targets all, none_after targets all) (sym (map-append _ targets (name ∷ [])))
 
   pub not_linked : (targets : List (List ℕ)) → IsAbove name targets → kind_of name_cmp (settled_links targets) name ≡ None
   not_linked [] all = refl
@@ -221,8 +221,8 @@ module _ (p : SettingsValue) (owner : List ℕ) (names : List (List ℕ)) (i : �
       let over = above_fitting p owner name mine (take i names) first in
       let absent : kind_in old name ≡ None = ap (λ l. kind_of name_cmp l name) at ∙ not_linked name targets over in
       let room = has_room_is has is_owner is_name other in
-      let behind : with_link name_cmp (links_near old name) name Settled ≡ settled_links (targets ++ name ∷ []) =
-      ap (λ l. with_link name_cmp l name Settled) at ∙ with_link_behind name targets over in
+      let after : with_link name_cmp (links_near old name) name Settled ≡ settled_links (targets ++ name ∷ []) =
+      ap (λ l. with_link name_cmp l name Settled) at ∙ with_link_after name targets over in
       let added : LinkSetValue (List ℕ) =
       record { width = old.settings.width; links = with_link name_cmp (links_near old name) name Settled } in
       let result : Bool → TableValue = λ b. with_near old name (if b then added else near old name) in
@@ -232,7 +232,7 @@ module _ (p : SettingsValue) (owner : List ℕ) (names : List (List ℕ)) (i : �
         | inl e ↦
             let grown : new ≡ with_near old name added = new_is ∙ ap result (test ∙ e) in
             let slots = set old.slots (slot_number old.settings.base (place_of old.owner name)) in
-            more_after has is_owner is_name within is other e (ap (λ u. u.slots) grown ∙ ap slots behind) (ap (λ u. u.owner) grown)
+            more_after has is_owner is_name within is other e (ap (λ u. u.slots) grown ∙ ap slots after) (ap (λ u. u.owner) grown)
             (ap (λ u. u.settings) grown)
         | inr e ↦
             same_after has is_owner is_name within is other e (new_is ∙ ap result (test ∙ e) ∙ with_near_same old name)

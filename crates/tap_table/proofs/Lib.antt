@@ -27,3 +27,4 @@ pub mod Steps
 pub mod Stepping
 pub mod LinksByName
 pub mod Targets
+pub mod EmptyLevels

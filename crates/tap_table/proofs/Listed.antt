@@ -11,7 +11,7 @@ use Rattle.tap_link.specs.Entry.{Entry}
 use Rattle.tap_table.specs.Table.{IsTable, Row, SlotLinks, TableValue, kind_in, links_near, place_of, rows, rows_of, slot_numbered}
 use Rattle.tap_table.proofs.Found.{kind_of_target, link_found, link_to, linked_is_name, linked_is_other, slot_is_own}
 use Rattle.tap_table.proofs.Near.{number_near, within_slots}
-use Rattle.tap_table.proofs.Rows.{slice_get_front, slice_get_behind}
+use Rattle.tap_table.proofs.Rows.{slice_get_front, slice_get_after}
 
 -- a row of a link
 abbrev pub row_at : Row → ℕ → ℕ → Entry (List ℕ) → Type 0
@@ -47,7 +47,7 @@ row_from base n (links ∷ slots) i row got =
           (0, i, record { got = here.0; slot = slot })
       | inr later ↦
           let rest = row_from base (n + 1) slots (i - length links) row
-          (sym (slice_get_behind (rows_of base (n, links)) (rows_from base (n + 1) slots) i (i - length links) (omega arith)) ∙ got) in
+          (sym (slice_get_after (rows_of base (n, links)) (rows_from base (n + 1) slots) i (i - length links) (omega arith)) ∙ got) in
           let slot : row.slot ≡ slot_numbered base (n + suc rest.0) = rest.2.slot ∙ ap (slot_numbered base) (omega arith) in
           (suc rest.0, rest.1, record { got = rest.2.got; slot = slot })
     ]
@@ -69,8 +69,8 @@ row_to base n (links ∷ slots) (suc number) link e within got =
     let len : length (rows_of base (n, links)) ≡ length links = length-map links _ in
     let rest = row_to base (n + 1) slots number link e (omega arith) got in
     let of_slot : ℕ → Row = λ k. record { slot = slot_numbered base k; entry = e } in
-    let behind = slice_get_behind (rows_of base (n, links)) (rows_from base (n + 1) slots) (length links + rest.0) rest.0 (omega arith) in
-    (length links + rest.0, behind ∙ rest.1 ∙ ap (λ k. Some (of_slot k)) (omega arith))
+    let after = slice_get_after (rows_of base (n, links)) (rows_from base (n + 1) slots) (length links + rest.0) rest.0 (omega arith) in
+    (length links + rest.0, after ∙ rest.1 ∙ ap (λ k. Some (of_slot k)) (omega arith))
 
 module _ (t : TableValue) (valid : IsTable t) where
   -- what a row says of its target is what look-ups find

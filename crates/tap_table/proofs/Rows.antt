@@ -21,10 +21,10 @@ module _ {X : Type 0} where
   slice_get_front (x ∷ xs) ys zero within = refl
   slice_get_front (x ∷ xs) ys (suc k) within = slice_get_front xs ys k (omega arith)
 
-  pub slice_get_behind : (xs ys : List X) (k less : ℕ) → less + length xs ≡ k → slice_get (xs ++ ys) k ≡ slice_get ys less
-  slice_get_behind [] ys k less is = ap (slice_get ys) (omega arith)
-  slice_get_behind (x ∷ xs) ys zero less is = absurd (omega arith)
-  slice_get_behind (x ∷ xs) ys (suc k) less is = slice_get_behind xs ys k less (omega arith)
+  pub slice_get_after : (xs ys : List X) (k less : ℕ) → less + length xs ≡ k → slice_get (xs ++ ys) k ≡ slice_get ys less
+  slice_get_after [] ys k less is = ap (slice_get ys) (omega arith)
+  slice_get_after (x ∷ xs) ys zero less is = absurd (omega arith)
+  slice_get_after (x ∷ xs) ys (suc k) less is = slice_get_after xs ys k less (omega arith)
 
   pub got : (xs : List X) (k : ℕ) → k < length xs → (x : X) × (slice_get xs k ≡ Some x)
   got [] k within = absurd (omega arith)
@@ -86,10 +86,10 @@ pub place_later : (t : TableValue) (i n link less : ℕ) → n < length t.slots 
     → IsRest t i (n + 1) less
 place_later t i n link less within is rest =
     let links = get_or t.slots n [] in
-    let behind = slice_get_behind (rows_of t.settings.base (n, links))
+    let after = slice_get_after (rows_of t.settings.base (n, links))
     (flat_map (rows_of t.settings.base) (enumerate_from (n + 1) (drop (n + 1) t.slots))) link less
     (omega (arith, is, length-rows_of t.settings.base n links)) in
-    sym behind ∙ sym (ap (λ l. slice_get l link) (rows_more t.settings.base n t.slots within)) ∙ rest
+    sym after ∙ sym (ap (λ l. slice_get l link) (rows_more t.settings.base n t.slots within)) ∙ rest
 
 pub place_within : (t : TableValue) (i n link : ℕ) → i < length (rows t) → IsRest t i n link → length t.slots ≤ n → ⊥
 place_within t i n link within rest past =

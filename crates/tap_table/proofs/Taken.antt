@@ -53,7 +53,7 @@ leads_on : (found : Option (List ℕ)) (level : ℕ) → is_some found ≡ true 
 leads_on None level some stays = true≢false (sym some)
 leads_on (Some to) level some stays = cc
 
-other_leads_on : (t : TableValue) (level wanted : ℕ) → IsTable t → level < t.settings.digits → wanted < t.settings.base
+pub other_leads_on : (t : TableValue) (level wanted : ℕ) → IsTable t → level < t.settings.digits → wanted < t.settings.base
     → eqb (get_or t.owner level 0) (taken_digit t level wanted) ≡ false
     → is_some (primary_at t level (taken_digit t level wanted)) ≡ true
 other_leads_on t level wanted valid inside below other =
@@ -90,8 +90,8 @@ own_first t level wanted more all =
     let at : level + 0 ≡ level = omega arith in
     subst At at (all 0 (omega arith))
 
-own_behind : (t : TableValue) (level wanted : ℕ) (more : List ℕ) → OwnAt t level (wanted ∷ more) → OwnAt t (level + 1) more
-own_behind t level wanted more all k inside =
+own_after : (t : TableValue) (level wanted : ℕ) (more : List ℕ) → OwnAt t level (wanted ∷ more) → OwnAt t (level + 1) more
+own_after t level wanted more all k inside =
     let At : ℕ → Type 0 = λ n. taken_digit t n (get_or more k 0) ≡ get_or t.owner n 0 in
     let at : level + suc k ≡ (level + 1) + k = omega arith in
     subst At at (all (suc k) (omega arith))
@@ -110,7 +110,7 @@ stays t valid (wanted ∷ more) level len below =
           let same = eqb-true own taken e in
           let further : next_from t level (wanted ∷ more) ≡ next_from t (level + 1) more = rw e refl in (
             λ root. own_cons t level wanted more (sym same) (rest.0 (sym further ∙ root)),
-            λ all. further ∙ rest.1 (own_behind t level wanted more all),
+            λ all. further ∙ rest.1 (own_after t level wanted more all),
           )
       | inr e ↦
           let some = other_leads_on t level wanted valid (omega arith) digit e in

@@ -4,11 +4,11 @@ use Rattle.std.specs.List.{slice_index_or}
 use Rattle.tap_link.specs.LinkSet.{LinkSetValue}
 
 -- No slot has more links than this many, and no table more slots: then the links of all slots are counted in 64 bits.
-abbrev pub most_links : ℕ
-most_links = 18014398509481984
+abbrev pub most_links_of_slot : ℕ
+most_links_of_slot = 18014398509481984
 
-abbrev pub most_slots : ℕ
-most_slots = 640
+abbrev pub most_slots_of_table : ℕ
+most_slots_of_table = 640
 
 -- the set of a number
 abbrev pub set_in : List (LinkSetValue (List ℕ)) → ℕ → LinkSetValue (List ℕ)
@@ -18,8 +18,13 @@ set_in sets number = slice_index_or sets number (record { width = 0; links = [] 
 abbrev pub all_links : List (LinkSetValue (List ℕ)) → ℕ
 all_links sets = sum_by (λ s. length s.links) sets
 
--- so many links the sets have, and no more than can be counted
-pub record AreCounted (sets : List (LinkSetValue (List ℕ))) (links : ℕ) : Type 0 where
-  pub slots : length sets ≤ most_slots
-  pub few : All (λ s. length s.links ≤ most_links) sets
+-- from this number on no set has a link
+abbrev pub AreEmptyFrom : List (LinkSetValue (List ℕ)) → ℕ → Type 0
+AreEmptyFrom sets from = (number : ℕ) → from ≤ number → (set_in sets number).links ≡ []
+
+-- so many links the sets have, and no more than can be counted; from a number on none has any
+pub record AreCounted (sets : List (LinkSetValue (List ℕ))) (links empty_from : ℕ) : Type 0 where
+  pub slots : length sets ≤ most_slots_of_table
+  pub few : All (λ s. length s.links ≤ most_links_of_slot) sets
   pub count : links ≡ all_links sets
+  pub empty : AreEmptyFrom sets empty_from

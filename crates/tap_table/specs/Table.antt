@@ -1,5 +1,5 @@
 -- A table: one list of links for each slot.
-use Rattle.std.specs.Prelude.{◌≡◌, ℕ, ◌+◌, ◌*◌, ◌/◌, ◌%◌, Bool, List, [], length, map, replicate, slice_index, slice_set, nat_eq, All, Option}
+use Rattle.std.specs.Prelude.{◌≡◌, ℕ, ◌≤◌, ◌+◌, ◌*◌, ◌/◌, ◌%◌, Bool, List, [], length, map, replicate, slice_index, slice_set, nat_eq, All, Option}
 use Rattle.std.specs.List.{common_prefix_len, enumerate_from, flat_map, slice_index_or}
 use Rattle.tap_name.specs.declared.slot.Slot.{Slot}
 use Rattle.tap_name.specs.Name.{IsName}
@@ -27,7 +27,7 @@ slot_number base slot = slot.level * base + slot.digit
 abbrev pub slot_numbered : ℕ → ℕ → Slot
 slot_numbered base number = record { level = number / base; digit = number % base }
 
--- the slot of a name in the table of an owner: how many digits they share, and the name's digit behind them
+-- the slot of a name in the table of an owner: how many digits they share, and the name's digit after them
 abbrev pub place_of : List ℕ → List ℕ → Slot
 place_of owner name =
     let level = common_prefix_len nat_eq owner name in record { level = level; digit = slice_index name level }
@@ -47,6 +47,10 @@ set_at t slot = set_numbered t (slot_number t.settings.base slot)
 
 abbrev pub links_at : TableValue → Slot → SlotLinks
 links_at t slot = (set_at t slot).links
+
+-- no slot of this level or a deeper one has a link
+abbrev pub HasNoLinksFrom : TableValue → ℕ → Type 0
+HasNoLinksFrom t level = (slot : Slot) → level ≤ slot.level → links_at t slot ≡ []
 
 -- the link set of the slot in which a name stands, and its links
 abbrev pub near : TableValue → List ℕ → LinkSetValue (List ℕ)

@@ -1,7 +1,7 @@
 ghost use Rattle.std.specs.Prelude.{◌≡◌, ◌<◌, ◌≤◌, ◌&&◌, [], length, replicate, slice_set, IsOk, IsSome, IsTrue, IfOk, OnOk, OnErr};
 ghost use Rattle.std.specs.Option.{is_none};
 ghost use Rattle.tap_link.specs.LinkSet.{forgotten, has_room, is_pinned, is_settled, is_settled_or_leaving, kind_of, marked, offered, pinned, released, released_as, removed};
-ghost use Rattle.tap_table.specs.Sets.{all_links, most_links, most_slots, set_in};
+ghost use Rattle.tap_table.specs.Sets.{AreEmptyFrom, all_links, most_links_of_slot, most_slots_of_table, set_in};
 ghost use Rattle.tap_table.specs.Table.{name_cmp};
 
 use crate::memory::NoMemory;
@@ -12,13 +12,15 @@ use tap_name::Name;
 
 // No slot has more links than this many. No memory holds so many, and the links of all slots are
 // counted in 64 bits.
-const MOST_LINKS: usize = 1 << 54;
+const MOST_LINKS_OF_SLOT: usize = 1 << 54;
 
-// The link sets of the slots of a table by the slots' numbers, and how many links they have in all.
+// The link sets of the slots of a table by the slots' numbers, how many links they have in all, and a number from
+// which on none of them has a link: the deep levels of most tables are empty, and are passed over at once.
 #[derive(Drop)]
 pub(crate) struct Sets {
     sets: Vec<LinkSet<Name>>,
     links: usize,
+    empty_from: usize,
 }
 
 impl Model for Sets {
@@ -30,20 +32,24 @@ impl Model for Sets {
 
     ghost view = { λ s. s.sets.items };
 
-    ghost invariant = { λ s. AreCounted s.sets.items s.links };
+    ghost invariant = { λ s. AreCounted s.sets.items s.links s.empty_from };
 }
 
 impl Sets {
     // So many sets without links, each of this width.
     pub(crate) fn new(alloc: Global, slots: usize, width: u8) -> Result<Sets, NoMemory>
-        requires { slots ≤ most_slots }
+        requires { slots ≤ most_slots_of_table }
         ensures { IfOk result (λ sets. sets ≡ replicate slots (record { width = width; links = [] })) }
     {
         let mut sets = Vec::with_capacity(alloc, slots)?;
         for _slot in 0..slots {
             sets.push(LinkSet::new(alloc, width))?;
         }
-        Ok(Sets { sets, links: 0 })
+        Ok(Sets {
+            sets,
+            links: 0,
+            empty_from: 0,
+        })
     }
 
     // How many links all sets have.
@@ -51,6 +57,13 @@ impl Sets {
         ensures { result ≡ all_links self.now }
     {
         self.links
+    }
+
+    // A number from which on no set has a link: past each set to which one was ever added.
+    pub(crate) fn empty_from(&self) -> usize
+        ensures { AreEmptyFrom self.now result }
+    {
+        self.empty_from
     }
 
     // All sets, by their numbers.
@@ -75,6 +88,8 @@ impl Sets {
         let added = pin_in(set, target)?;
         let now = set.len();
         self.links = self.links - before + now;
+        let empty_from = past(self.empty_from, number);
+        self.empty_from = empty_from;
         Ok(added)
     }
 
@@ -94,6 +109,8 @@ impl Sets {
         let added = offer_in(set, target)?;
         let now = set.len();
         self.links = self.links - before + now;
+        let empty_from = past(self.empty_from, number);
+        self.empty_from = empty_from;
         Ok(added)
     }
 
@@ -151,24 +168,41 @@ impl Sets {
 
     // Ends all links. It consumes the sets, so there is no value of which an `ensures` could speak.
     pub(crate) fn cease(self, by: &Cease<Name>) {
-        let Sets { sets, links: _ } = self;
+        let Sets {
+            sets,
+            links: _,
+            empty_from: _,
+        } = self;
         for set in sets {
             set.cease(by);
         }
     }
 }
 
-// Pins a target in a link set, as the set does, where it has few enough links.
+// The number from which on no set has a link, after one was added to the set of this number.
+fn past(empty_from: usize, number: usize) -> usize
+    requires { number < most_slots_of_table }
+    ensures after { number < result }
+    ensures least { empty_from ≤ result }
+{
+    if empty_from <= number {
+        number + 1
+    } else {
+        empty_from
+    }
+}
+
+// Pins a target in a link set, as the set does, if it has few enough links.
 fn pin_in(set: &mut LinkSet<Name>, target: Name) -> Result<bool, NoMemory>
-    requires { length set.old.links ≤ most_links }
+    requires { length set.old.links ≤ most_links_of_slot }
     ensures answer { IfOk result (λ added. added ≡ is_none (kind_of name_cmp set.old.links target)) }
     ensures after { OnOk result (set.new ≡ pinned name_cmp set.old target) }
     ensures same { OnErr result (set.new ≡ set.old) }
     ensures inline { length set.old.links < 4 → IsOk result }
     ensures linked { IsSome (kind_of name_cmp set.old.links target) → IsOk result }
-    ensures few { length set.new.links ≤ most_links }
+    ensures few { length set.new.links ≤ most_links_of_slot }
 {
-    if set.len() < MOST_LINKS {
+    if set.len() < MOST_LINKS_OF_SLOT {
         return Ok(set.pin(target)?);
     }
     match set.kind_of(target) {
@@ -177,9 +211,9 @@ fn pin_in(set: &mut LinkSet<Name>, target: Name) -> Result<bool, NoMemory>
     }
 }
 
-// Offers a target to a link set, as the set does, where it has few enough links.
+// Offers a target to a link set, as the set does, if it has few enough links.
 fn offer_in(set: &mut LinkSet<Name>, target: Name) -> Result<bool, NoMemory>
-    requires { length set.old.links ≤ most_links }
+    requires { length set.old.links ≤ most_links_of_slot }
     ensures answer { IfOk result (λ added. added
         ≡ (is_none (kind_of name_cmp set.old.links target) && has_room set.old)) }
     ensures after { OnOk result (set.new ≡ offered name_cmp set.old target) }
@@ -187,9 +221,9 @@ fn offer_in(set: &mut LinkSet<Name>, target: Name) -> Result<bool, NoMemory>
     ensures inline { length set.old.links < 4 → IsOk result }
     ensures linked { IsSome (kind_of name_cmp set.old.links target) → IsOk result }
     ensures full { ¬ (IsTrue (has_room set.old)) → IsOk result }
-    ensures few { length set.new.links ≤ most_links }
+    ensures few { length set.new.links ≤ most_links_of_slot }
 {
-    if set.len() < MOST_LINKS {
+    if set.len() < MOST_LINKS_OF_SLOT {
         return Ok(set.offer(target)?);
     }
     if set.kind_of(target).is_some() || !set.has_room() {

@@ -1,4 +1,6 @@
 /// Some slots of one level: those of the digits from one on, and before another.
+///
+/// Rule: docs/PROTOCOL.md, "Slots and tables".
 #[derive(Clone, Copy, Debug, PartialEq, Eq)]
 pub struct SlotRange {
     /// The level.

@@ -1,9 +1,9 @@
-ghost use Rattle.std.specs.Prelude.{◌≡◌, ◌==◌, ℕ, List, ◌≢◌, ◌≤◌, ◌<◌, ◌↔◌, ◌+◌, ◌*◌, ◌&&◌, length, map, drop, slice_get, slice_index, Some, IsOk, IsSome, IsTrue, IfOk, OnOk, OnErr};
+ghost use Rattle.std.specs.Prelude.{◌≡◌, ◌==◌, ℕ, List, ◌≢◌, ◌≤◌, ◌<◌, ◌↔◌, ◌+◌, ◌*◌, ◌&&◌, length, map, drop, slice_get, slice_index, false, Some, IsOk, IsSome, IsTrue, IfOk, OnOk, OnErr};
 ghost use Rattle.std.specs.Option.{is_none};
 ghost use Rattle.tap_link.specs.LinkSet.{is_pinned, is_settled, is_settled_or_leaving, least_settled, released_as};
 ghost use Rattle.tap_name.specs.Name.{IsName};
 ghost use Rattle.tap_table.specs.Next.{HopsTo, IsHop, TakesOwnFrom, can_take, hop_to, next_from, primary_at, taken_digit};
-ghost use Rattle.tap_table.specs.Table.{IsTable, empty_table, forgotten, has_room_near, kind_in, links_at, links_near, marked, near, offered, pinned, place_of, released, removed, rows, set_at, slot_number};
+ghost use Rattle.tap_table.specs.Table.{HasNoLinksFrom, IsTable, empty_table, forgotten, has_room_near, kind_in, links_at, links_near, marked, near, offered, pinned, place_of, released, removed, rows, set_at, slot_number};
 ghost use Rattle.tap_table.specs.ByName.{range_by_name};
 ghost use Rattle.tap_table.specs.Row.{row_of};
 
@@ -20,7 +20,7 @@ use tap_name::{Name, Settings, Slot, next_cyclic};
 /// The links of a node, its owner, to other nodes.
 ///
 /// Each link stands in the slot of its target: the level is the number of digits that the owner and
-/// the target share, and the digit is the target's behind them. Each slot has a link set, and all
+/// the target share, and the digit is the target's after them. Each slot has a link set, and all
 /// of them are made with the table, in one allocation: a slot is found by its number, and no look-up
 /// takes memory. With base 16 and 8 digits there are 128 sets.
 ///
@@ -98,7 +98,9 @@ impl Table {
 
     /// A link by its place, from 0, in ascending order of slot, then target.
     ///
-    /// It walks over the slots up to the link's: `slot` gives the links of one slot at once.
+    /// It walks over the slots up to the link's, so that a list of all links made by it is quadratic. `slot`
+    /// gives the links of one slot at once: who goes through the slots and the links of each sees all links
+    /// in this order, in time linear in slots and links.
     pub fn row_at(&self, i: usize) -> Row
         requires { i < length (rows self.now) }
         ensures { slice_get (rows self.now) i ≡ Some (row_of result) }
@@ -117,6 +119,8 @@ impl Table {
     }
 
     /// The slot of a link by its place, from 0, in ascending order of slot, then target.
+    ///
+    /// It walks over the slots, as `row_at` does.
     pub fn slot_at(&self, i: usize) -> Slot
         requires { i < length (rows self.now) }
         ensures { slice_get (map (λ r. r.slot) (rows self.now)) i ≡ Some result }
@@ -125,6 +129,8 @@ impl Table {
     }
 
     /// The target of a link by its place, from 0, in ascending order of slot, then target.
+    ///
+    /// It walks over the slots, as `row_at` does.
     pub fn target_at(&self, i: usize) -> Name
         requires { i < length (rows self.now) }
         ensures { slice_get (map (λ r. r.entry.target) (rows self.now)) i ≡ Some result }
@@ -133,6 +139,8 @@ impl Table {
     }
 
     /// The kind of a link by its place, from 0, in ascending order of slot, then target.
+    ///
+    /// It walks over the slots, as `row_at` does.
     pub fn kind_at(&self, i: usize) -> Kind
         requires { i < length (rows self.now) }
         ensures { slice_get (map (λ r. r.entry.kind) (rows self.now)) i ≡ Some result }
@@ -206,7 +214,23 @@ impl Table {
         }
     }
 
-    /// The least target in a slot that is settled and not leaving, `None` exactly where there is
+    /// Whether a slot of this level or a deeper one may have a link: `false` only if none has. It looks
+    /// at no slot, and stays `true` if links have ended.
+    ///
+    /// Most names share few digits, so that the deep levels of a table have no link. Whoever goes over
+    /// the levels stops at the first one for which this is `false`. The level is at most the number of
+    /// digits.
+    pub fn may_have_links_from(&self, level: usize) -> bool
+        requires level { level ≤ self.now.settings.digits }
+        ensures { result ≡ false → HasNoLinksFrom self.now level }
+    {
+        let digits = self.settings.digits();
+        prove!(digits <= 40);
+        let first = level * self.settings.base() as usize;
+        first < self.sets.empty_from()
+    }
+
+    /// The least target in a slot that is settled and not leaving, `None` exactly if there is
     /// none. The slot's level is below the number of digits, and its digit below the base.
     pub fn primary(&self, slot: Slot) -> Option<Name>
         requires level { slot.level < self.now.settings.digits }
@@ -216,7 +240,7 @@ impl Table {
         self.slot(slot).primary()
     }
 
-    /// The kind of the link to a target, `None` exactly where the table has no link to it.
+    /// The kind of the link to a target, `None` exactly if the table has no link to it.
     pub fn kind_of(&self, target: Name) -> Option<Kind>
         ensures { result ≡ kind_in self.now target }
     {
@@ -226,8 +250,8 @@ impl Table {
 
     /// Pins a target that the table has no link to, and answers whether it had none.
     ///
-    /// `NoMemory` comes only where a link would be added to four links or more, and always where it
-    /// would be added to 2^54. A table that is refused memory stays as it was. The target is a name of
+    /// `NoMemory` comes only if a link would be added to four links or more, and always if it would be
+    /// added to 2^54. A table that is refused memory stays as it was. The target is a name of
     /// the settings, and not the owner.
     pub fn pin(&mut self, target: Name) -> Result<bool, NoMemory>
         requires name { IsName self.old.settings target }
@@ -244,12 +268,12 @@ impl Table {
         self.sets.pin(number, target)
     }
 
-    /// Settles on a target that the table has no link to where its slot has room for a settled link,
-    /// and answers whether it did. There is room where fewer links of the slot are settled and not
-    /// leaving than the width of the settings.
+    /// Settles on a target that the table has no link to if its slot has room for a settled link,
+    /// and answers whether it did. There is room if fewer links of the slot are settled and not leaving
+    /// than the width of the settings.
     ///
-    /// `NoMemory` comes only where a link would be added to four links or more, and always where it
-    /// would be added to 2^54. A table that is refused memory stays as it was. The target is a name of
+    /// `NoMemory` comes only if a link would be added to four links or more, and always if it would be
+    /// added to 2^54. A table that is refused memory stays as it was. The target is a name of
     /// the settings, and not the owner.
     pub fn offer(&mut self, target: Name) -> Result<bool, NoMemory>
         requires name { IsName self.old.settings target }
@@ -268,8 +292,8 @@ impl Table {
         self.sets.offer(number, target)
     }
 
-    /// Takes the release of a node: a pin on it becomes a settled link where its slot has room for
-    /// one, and is dropped otherwise. `Nothing` exactly where the sender isn't pinned. The sender is
+    /// Takes the release of a node: a pin on it becomes a settled link if its slot has room for one,
+    /// and is dropped otherwise. `Nothing` exactly if the sender isn't pinned. The sender is
     /// a name of the settings, and not the owner.
     pub fn release(&mut self, by: Release<Name>) -> Released
         requires name { IsName self.old.settings by.from }
@@ -285,7 +309,7 @@ impl Table {
         self.sets.release(number, by)
     }
 
-    /// Ends the pin on a node that gave up joining: true exactly where it was pinned. The sender is a
+    /// Ends the pin on a node that gave up joining: true exactly if it was pinned. The sender is a
     /// name of the settings, and not the owner.
     pub fn forget(&mut self, by: Forget<Name>) -> bool
         requires name { IsName self.old.settings by.from }
@@ -299,7 +323,7 @@ impl Table {
         self.sets.forget(number, by)
     }
 
-    /// Marks the link to a target as leaving: true exactly where it was settled and not leaving. The
+    /// Marks the link to a target as leaving: true exactly if it was settled and not leaving. The
     /// target is a name of the settings, and not the owner.
     pub fn mark_leaving(&mut self, target: Name) -> bool
         requires name { IsName self.old.settings target }
@@ -313,7 +337,7 @@ impl Table {
         self.sets.mark_leaving(number, target)
     }
 
-    /// Takes out the link to a target that is settled or leaving: true exactly where it was. The
+    /// Takes out the link to a target that is settled or leaving: true exactly if it was. The
     /// target is a name of the settings, and not the owner.
     pub fn remove_settled(&mut self, target: Name) -> bool
         requires name { IsName self.old.settings target }
@@ -344,9 +368,9 @@ impl Table {
     /// Where a message towards an object goes next, from a level on: 0 at its first node.
     ///
     /// At each level the digits are tried cyclically from the object's. The first one that is the
-    /// owner's own, or whose slot has a primary, is taken: where it is the owner's own, the next level
-    /// follows, and else the message hops to the primary, which goes on at the next level. `Root`
-    /// exactly where the owner's own digit is taken at each level from this one on.
+    /// owner's own, or whose slot has a primary, is taken: if it is the owner's own, the next level follows,
+    /// and else the message hops to the primary, which goes on at the next level. `Root`
+    /// exactly if the owner's own digit is taken at each level from this one on.
     ///
     /// The node of a hop is settled in the table and not leaving, and shares one digit less with the
     /// owner than the hop's level says, which is above the level given.
@@ -375,6 +399,9 @@ impl Table {
         ensures valid { IsTable self.now }
     {
         for at in level..object.len() {
+            if !self.may_have_links_from(at) {
+                return Next::Root;
+            }
             let digit = self.taken_digit(at, object.digit(at));
             if digit != self.owner.digit(at) {
                 return self.hop(at, digit);

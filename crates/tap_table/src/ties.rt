@@ -1,4 +1,4 @@
-ghost use Rattle.std.specs.Prelude.{◌≡◌, ◌≢◌, ◌+◌, ◌<◌, ◌≤◌, ◌&&◌, [], length, count_by, map, filter, slice_get, Some, None, All, Contains, IsOk, IsSome, IsTrue, IfOk, OnOk, OnErr};
+ghost use Rattle.std.specs.Prelude.{◌≡◌, ◌≢◌, ◌+◌, ◌<◌, ◌≤◌, ◌&&◌, [], length, count_by, map, filter, slice_get, Some, None, false, All, Contains, IsOk, IsSome, IsTrue, IfOk, OnOk, OnErr};
 ghost use Rattle.tap_link.specs.LinkSet.{is_pinned, is_settled, is_settled_or_leaving};
 ghost use Rattle.tap_name.specs.Name.{IsName};
 ghost use Rattle.tap_register.specs.Registers.{entry_of, is_newer};
@@ -131,8 +131,8 @@ impl Ties {
     /// The words for the targets of all links, ascending, that the owner has no link to them any more,
     /// with the next numbers of its stamp. The links stay: they end with the owner.
     ///
-    /// Where memory is refused, the stamp may have given some of the numbers. It has a number left for
-    /// each link.
+    /// If memory is refused, the stamp may have given some of the numbers. It has a number left for each
+    /// link.
     pub fn off_ties(&self, alloc: Global, stamp: &mut Stamp) -> Result<List<Tie>, NoMemory>
         requires numbers { stamp.old + length (rows self.now.table) ≤ u32.MAX }
         ensures words { IfOk result (λ words. words ≡ off_ties stamp.old (targets_by_name self.now.table)) }
@@ -142,10 +142,10 @@ impl Ties {
         Ok(List::from_vec(words))
     }
 
-    /// Pins a target as the table does, and gives the word for it exactly where it was added.
+    /// Pins a target as the table does, and gives the word for it exactly if it was added.
     ///
-    /// `NoMemory` comes only where a link would be added to four links or more. Where memory is refused,
-    /// all stays as it was. The target is a name of the settings, and not the owner.
+    /// `NoMemory` comes only if a link would be added to four links or more. If memory is refused, all
+    /// stays as it was. The target is a name of the settings, and not the owner.
     pub fn pin(&mut self, stamp: &mut Stamp, target: Name) -> Result<Option<Tie>, NoMemory>
         requires name { IsName self.old.table.settings target }
         requires other { target ≢ self.old.table.owner }
@@ -170,10 +170,10 @@ impl Ties {
         }))
     }
 
-    /// Offers a target to the table, and gives the word for it exactly where it was added.
+    /// Offers a target to the table, and gives the word for it exactly if it was added.
     ///
-    /// `NoMemory` comes only where a link would be added to four links or more. Where memory is refused,
-    /// all stays as it was. The target is a name of the settings, and not the owner.
+    /// `NoMemory` comes only if a link would be added to four links or more. If memory is refused, all
+    /// stays as it was. The target is a name of the settings, and not the owner.
     pub fn offer(&mut self, stamp: &mut Stamp, target: Name) -> Result<Option<Tie>, NoMemory>
         requires name { IsName self.old.table.settings target }
         requires other { target ≢ self.old.table.owner }
@@ -199,8 +199,9 @@ impl Ties {
         }))
     }
 
-    /// Takes the release of a node as the table does, and gives the word for it exactly where the pin
-    /// on it was dropped. The sender is a name of the settings, and not the owner.
+    /// Takes the release of a node as the table does, and gives the word for it exactly if the pin on it
+    /// was dropped; if none was, no number of the stamp is used. Without a pin on the sender nothing
+    /// changes. The sender is a name of the settings, and not the owner.
     pub fn release(&mut self, stamp: &mut Stamp, by: Release<Name>) -> Option<Tie>
         requires name { IsName self.old.table.settings by.from }
         requires other { by.from ≢ self.old.table.owner }
@@ -208,6 +209,9 @@ impl Ties {
         ensures answer { result ≡ release_tells self.old stamp.old by.from }
         ensures after { self.new ≡ released self.old by.from }
         ensures stamped { stamp.new ≡ stamp_after stamp.old result }
+        ensures same_stamp { result ≡ None → stamp.new ≡ stamp.old }
+        ensures nothing { is_pinned (kind_in self.old.table by.from) ≡ false → self.new ≡ self.old }
+        ensures holders { self.new.holders ≡ self.old.holders }
         ensures owner { self.new.table.owner ≡ self.old.table.owner }
         ensures settings { self.new.table.settings ≡ self.old.table.settings }
     {
@@ -238,7 +242,7 @@ impl Ties {
         Ok(self.holders.apply(holder, version, on)?)
     }
 
-    /// Marks the link to a target as leaving: true exactly where it was settled and not leaving. The
+    /// Marks the link to a target as leaving: true exactly if it was settled and not leaving. The
     /// target is a name of the settings, and not the owner.
     pub fn mark_leaving(&mut self, target: Name) -> bool
         requires name { IsName self.old.table.settings target }
@@ -251,7 +255,7 @@ impl Ties {
         self.table.mark_leaving(target)
     }
 
-    /// Takes out the link to a target that is settled or leaving: true exactly where it was. The
+    /// Takes out the link to a target that is settled or leaving: true exactly if it was. The
     /// target is a name of the settings, and not the owner.
     pub fn remove_settled(&mut self, target: Name) -> bool
         requires name { IsName self.old.table.settings target }
@@ -264,7 +268,7 @@ impl Ties {
         self.table.remove_settled(target)
     }
 
-    /// Ends the pin on a node that gave up joining: true exactly where it was pinned. The sender is a
+    /// Ends the pin on a node that gave up joining: true exactly if it was pinned. The sender is a
     /// name of the settings, and not the owner.
     pub fn forget(&mut self, by: Forget<Name>) -> bool
         requires name { IsName self.old.table.settings by.from }

@@ -41,8 +41,8 @@ absent xs x (Err i) ascending found none (k, lt, e) =
 other_is : (s x : Slot) → Precedes s x → is_other x s ≡ true
 other_is s x h = grind (arith, nat_tests, h.level, h.digit)
 
-other_is_behind : (s x : Slot) → Precedes x s → is_other x s ≡ true
-other_is_behind s x h = grind (arith, nat_tests, h.level, h.digit)
+other_is_after : (s x : Slot) → Precedes x s → is_other x s ≡ true
+other_is_after s x h = grind (arith, nat_tests, h.level, h.digit)
 
 pub itself : (x : Slot) → is_other x x ≡ false
 itself x = grind (arith, nat_tests)
@@ -63,11 +63,11 @@ without_absent (s ∷ xs) x none =
 tail_ascends : (s : Slot) (xs : List Slot) → IsAscending (s ∷ xs) → IsAscending xs
 tail_ascends s xs h i j d lt within = h (suc i) (suc j) d (omega arith) (omega arith)
 
-behind_stay : (x : Slot) (xs : List Slot) → ((k : ℕ) (d : Slot) → k < length xs → Precedes x (get_or xs k d)) → without x xs ≡ xs
-behind_stay x [] h = refl
-behind_stay x (s ∷ xs) h =
-    let other = other_is_behind s x (h 0 s (omega arith)) in
-    rw other (ap (λ (ys : List Slot). s ∷ ys) (behind_stay x xs (λ k d lt. h (suc k) d (omega arith))))
+later_stay : (x : Slot) (xs : List Slot) → ((k : ℕ) (d : Slot) → k < length xs → Precedes x (get_or xs k d)) → without x xs ≡ xs
+later_stay x [] h = refl
+later_stay x (s ∷ xs) h =
+    let other = other_is_after s x (h 0 s (omega arith)) in
+    rw other (ap (λ (ys : List Slot). s ∷ ys) (later_stay x xs (λ k d lt. h (suc k) d (omega arith))))
 
 -- what stands at a place is all that goes
 pub without_at : (xs : List Slot) (x : Slot) (i : ℕ) → IsAscending xs → slice_get xs i ≡ Some x → without x xs ≡ remove xs i
@@ -76,7 +76,7 @@ without_at (s ∷ xs) x zero ascending here =
     let same : s ≡ x = cc in
     let e = itself x in
     subst (λ (y : Slot). without x (y ∷ xs) ≡ xs) (sym same)
-    (rw e (behind_stay x xs (λ k d lt. subst (λ (y : Slot). Precedes y (get_or xs k d)) same
+    (rw e (later_stay x xs (λ k d lt. subst (λ (y : Slot). Precedes y (get_or xs k d)) same
     (ascending 0 (suc k) d (omega arith) (omega arith)))))
 without_at (s ∷ xs) x (suc i) ascending here =
     elim (cases_lt i (length xs)) [

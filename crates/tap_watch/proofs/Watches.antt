@@ -136,7 +136,7 @@ module _ (p : SettingsValue) (joiner : List ℕ) (prefix : ℕ) where
       → IsWatch p joiner prefix (without struck slots)
   IsWatch-without struck slots is = IsWatch-filter (is_other struck) slots is
 
-  -- and one with a watched slot more behind all others
+  -- and one with a watched slot more after all others
   pub IsWatch-with_last : (slots : List Slot) (last : Slot) → IsWatch p joiner prefix slots → All (λ s. Precedes s last) slots
       → IsWatched p joiner prefix last → IsWatch p joiner prefix (with_last slots last)
   IsWatch-with_last slots last is before watched = record {

@@ -16,7 +16,7 @@ is_other slot s = not (s.level == slot.level && s.digit == slot.digit)
 abbrev pub without : Slot → List Slot → List Slot
 without slot slots = filter (is_other slot) slots
 
--- the slots with one more behind them
+-- the slots with one more after them
 abbrev pub with_last : List Slot → Slot → List Slot
 with_last slots slot = slots ++ slot ∷ []
 

@@ -125,7 +125,7 @@ impl Watch {
         })
     }
 
-    /// Adds a slot that stands behind all others. A refused call changes nothing.
+    /// Adds a slot that stands after all others. A refused call changes nothing.
     pub fn push_last(&mut self, slot: Slot) -> Result<(), NoMemory>
         requires { All (λ s. Precedes s slot) self.old }
         ensures ok { OnOk result (self.new ≡ with_last self.old slot) }

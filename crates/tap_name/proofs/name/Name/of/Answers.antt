@@ -4,7 +4,7 @@ use Rattle.std.proofs.lemmas.List.Elements.{All-same}
 use Rattle.tap_name.specs.Padded.{IsPadded}
 use Rattle.tap_name.proofs.name.Name.of.Goals as goal
 
--- digits in the first places, and zeros behind them
+-- digits in the first places, and zeros after them
 written : (digits front : List ℕ) → front ≡ digits → length digits ≤ 40 → All (λ d. d < 16) digits
     → IsPadded 40 (λ d. d < 16) (front ++ drop (length digits) (replicate 40 0)) (length digits)
 written digits front same few all =

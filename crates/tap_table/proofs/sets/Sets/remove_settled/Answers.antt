@@ -1,26 +1,22 @@
 use Rattle.std.proofs.Common.{arith}
-use Rattle.tap_table.proofs.Counted.{counted_after, fits_after, few_removed}
+use Rattle.tap_table.proofs.Counted.{counted_fewer, fewer_removed, fits_fewer}
 use Rattle.tap_table.proofs.sets.Sets.remove_settled.Goals as goal
 
 pub overflow_add-self : goal.overflow_add-self
 overflow_add-self c =
-    let within = rw (← c.self.view_is) at c.requires in
     let old = c.index_mut-set.result.now in
-    let few = few_removed c.self.inside.sets.items c.self.inside.links c.args.number old c.self.invariant within
-    c.index_mut-set.ensures.value
-    c.args.target c.remove_settled-answer.new.self c.len-before.ensures.valid c.remove_settled-answer.ensures.after in
-    let fits = fits_after c.self.inside.sets.items c.self.inside.links c.args.number old c.self.invariant within
-    c.index_mut-set.ensures.value c.remove_settled-answer.new.self c.len-before.result c.len-now.result c.len-before.ensures.count
-    c.len-now.ensures.count few in
+    let new = c.remove_settled-answer.new.self in
+    let fewer = fewer_removed old new c.args.target c.len-before.ensures.valid c.remove_settled-answer.ensures.after in
+    let fits = fits_fewer c.self.inside.sets.items c.self.inside.links c.args.number c.self.inside.empty_from old c.self.invariant
+    (rw (← c.self.view_is) at c.requires) c.index_mut-set.ensures.value new c.len-before.result c.len-now.result
+    c.len-before.ensures.count c.len-now.ensures.count fewer in
     omega (arith, fits)
 
 pub invariant_of-self : goal.invariant_of-self
 invariant_of-self c =
-    let within = rw (← c.self.view_is) at c.requires in
     let old = c.index_mut-set.result.now in
-    let few = few_removed c.self.inside.sets.items c.self.inside.links c.args.number old c.self.invariant within
-    c.index_mut-set.ensures.value
-    c.args.target c.remove_settled-answer.new.self c.len-before.ensures.valid c.remove_settled-answer.ensures.after in
-    counted_after c.self.inside.sets.items c.self.inside.links c.args.number old c.self.invariant within
-    c.index_mut-set.ensures.value c.remove_settled-answer.new.self c.len-before.result c.len-now.result c.len-before.ensures.count
-    c.len-now.ensures.count few
+    let new = c.remove_settled-answer.new.self in
+    let fewer = fewer_removed old new c.args.target c.len-before.ensures.valid c.remove_settled-answer.ensures.after in
+    counted_fewer c.self.inside.sets.items c.self.inside.links c.args.number c.self.inside.empty_from old c.self.invariant
+    (rw (← c.self.view_is) at c.requires) c.index_mut-set.ensures.value new c.len-before.result c.len-now.result
+    c.len-before.ensures.count c.len-now.ensures.count fewer
