@@ -1,5 +1,5 @@
 -- Texts that are written one after another.
-use Rattle.std.proofs.Common.{◌≡◌, ℕ, List, [], ◌++◌, refl, sym, ◌∙◌, subst, arith}
+use Rattle.std.proofs.Common.{◌≡◌, ℕ, List, [], ◌++◌, append_assoc, refl, sym, ◌∙◌, subst, arith}
 use Rattle.std.proofs.KnownBytes.{Appends-nil, Appends-trans}
 use Rattle.tap_io.specs.Sink.{SinkState}
 use Rattle.tap_io.proofs.Following.{Follows-refl, Follows-trans}
@@ -48,7 +48,14 @@ WritesText-then {old = old} {mid = mid} {new = new} {text = text} {more = more} 
       answer = answers_then old mid new text more first second third p.answer q.answer;
     }
 
--- the same, written between the two
+-- the same of a second text that has two parts
+pub WritesText-then_two : {old mid new : SinkState} {text : List ℕ} {first second third : Written} (more others : List ℕ)
+    → WritesText old mid text first second → WritesText mid new (more ++ others) second third
+    → WritesText old new (text ++ more ++ others) first third
+WritesText-then_two {old = old} {new = new} {text = text} {first = first} {third = third} more others p q =
+    subst (λ all. WritesText old new all first third) (sym (append_assoc text more others)) (WritesText-then p q)
+
+-- two texts, one after the other, as an operator between the two
 pub ◌⨾◌ : {old mid new : SinkState} {text more : List ℕ} {first second third : Written}
     → WritesText old mid text first second → WritesText mid new more second third → WritesText old new (text ++ more) first third
 p ⨾ q = WritesText-then p q

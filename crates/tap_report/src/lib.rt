@@ -11,7 +11,6 @@ mod lines;
 mod lookups;
 mod mode;
 mod opening;
-mod piece;
 mod refusals;
 mod reporter;
 mod shapes;

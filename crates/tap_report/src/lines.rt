@@ -1,4 +1,4 @@
-ghost use Rattle.std.specs.Prelude.{◌≡◌, ◌≤◌, ◌++◌, length, true, false};
+ghost use Rattle.std.specs.Prelude.{◌≡◌, ◌++◌, true, false};
 ghost use Rattle.tap_report.specs.Lookups.{is_lookup};
 ghost use Rattle.tap_report.specs.Written.{WritesText};
 ghost use Rattle.tap_report.specs.declared.mode.Mode.TheVariants.{Summary};
@@ -186,7 +186,6 @@ impl Written {
 
     // Adds a line with one number.
     fn add_count<K: Sink, I: Integer>(&mut self, sink: &mut K, word: &[u8], count: I)
-        requires { length word.now ≤ 24 }
         ensures { WritesText (K.state sink.old) (K.state sink.new)
             (line (word.now ++ I.text count)) self.old self.new }
     {

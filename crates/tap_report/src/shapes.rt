@@ -1,16 +1,15 @@
-ghost use Rattle.std.specs.Prelude.{◌<◌, ◌≤◌, ◌∷◌, [], ◌++◌, All, codes, length};
+ghost use Rattle.std.specs.Prelude.{◌≡◌, ◌<◌, ◌≤◌, ◌+◌, ◌∷◌, [], ◌++◌, All, codes, length, take};
 ghost use Rattle.tap_name.specs.Digits.{text_of_digit};
 ghost use Rattle.tap_name.specs.Name.{text_of_name};
 ghost use Rattle.tap_report.specs.Written.{WritesText};
 ghost use Rattle.tap_report.specs.Shapes.{name_after, object_at, object_from, spaced_names, two_names_after, two_numbers_after};
 
-use crate::piece::{Piece, push_digits, push_word};
 use crate::written::Written;
 use itoa::{Buffer, Integer};
 use tap_io::Sink;
 use tap_name::{Name, text_of_digit};
 
-// The shapes of lines. A word has at most 24 bytes, so that it is written at once with a name or number after it.
+// The shapes of lines. A word before a name has at most 24 bytes, so that both are written at once.
 impl Written {
     // Ends a line.
     pub(crate) fn end_line<K: Sink>(&mut self, sink: &mut K)
@@ -28,6 +27,23 @@ impl Written {
         self.add(sink, &[text_of_digit(digit)]);
     }
 
+    // Adds a number, in decimal.
+    pub(crate) fn add_number<K: Sink, I: Integer>(&mut self, sink: &mut K, number: I)
+        ensures { WritesText (K.state sink.old) (K.state sink.new)
+            (I.text number) self.old self.new }
+    {
+        let mut digits = Buffer::new();
+        self.add(sink, digits.format(number).as_bytes());
+    }
+
+    // Adds a name, in printed digits.
+    pub(crate) fn add_name<K: Sink>(&mut self, sink: &mut K, name: &Name)
+        ensures { WritesText (K.state sink.old) (K.state sink.new)
+            (text_of_name name.now) self.old self.new }
+    {
+        self.add_digits(sink, name.as_slice());
+    }
+
     // Adds at most 40 digits as they are printed.
     pub(crate) fn add_digits<K: Sink>(&mut self, sink: &mut K, digits: &[u8])
         requires few { length digits.now ≤ 40 }
@@ -35,9 +51,8 @@ impl Written {
         ensures { WritesText (K.state sink.old) (K.state sink.new)
             (text_of_name digits.now) self.old self.new }
     {
-        let mut piece = Piece::new();
-        push_digits(&mut piece, digits);
-        self.add(sink, piece.as_slice());
+        let text = text_after(b"", digits);
+        self.add(sink, &text[..digits.len()]);
     }
 
     // Adds a word and a name.
@@ -46,10 +61,8 @@ impl Written {
         ensures { WritesText (K.state sink.old) (K.state sink.new)
             (name_after word.now name.now) self.old self.new }
     {
-        let mut piece = Piece::new();
-        push_word(&mut piece, word);
-        push_digits(&mut piece, name.as_slice());
-        self.add(sink, piece.as_slice());
+        let text = text_after(word, name.as_slice());
+        self.add(sink, &text[..word.len() + name.len()]);
     }
 
     // Adds a word and a number.
@@ -59,15 +72,11 @@ impl Written {
         word: &[u8],
         number: I,
     )
-        requires { length word.now ≤ 24 }
         ensures { WritesText (K.state sink.old) (K.state sink.new)
             (word.now ++ I.text number) self.old self.new }
     {
-        let mut digits = Buffer::new();
-        let mut piece = Piece::new();
-        push_word(&mut piece, word);
-        push_word(&mut piece, digits.format(number).as_bytes());
-        self.add(sink, piece.as_slice());
+        self.add(sink, word);
+        self.add_number(sink, number);
     }
 
     // Adds a word and a name, and then another word and name.
@@ -84,12 +93,8 @@ impl Written {
         ensures { WritesText (K.state sink.old) (K.state sink.new)
             (two_names_after word.now first.now link.now second.now) self.old self.new }
     {
-        let mut piece = Piece::new();
-        push_word(&mut piece, word);
-        push_digits(&mut piece, first.as_slice());
-        push_word(&mut piece, link);
-        push_digits(&mut piece, second.as_slice());
-        self.add(sink, piece.as_slice());
+        self.add_name_after(sink, word, first);
+        self.add_name_after(sink, link, second);
     }
 
     // Adds a word and a number, and then another word and number.
@@ -101,13 +106,13 @@ impl Written {
         link: &[u8],
         second: u32,
     )
-        requires few { length word.now ≤ 24 }
-        requires few_between { length link.now ≤ 24 }
         ensures { WritesText (K.state sink.old) (K.state sink.new)
             (two_numbers_after word.now first link.now second) self.old self.new }
     {
-        self.add_number_after(sink, word, first);
-        self.add_number_after(sink, link, second);
+        self.add(sink, word);
+        self.add_number(sink, first);
+        self.add(sink, link);
+        self.add_number(sink, second);
     }
 
     // Adds a word, an object and the node that has it.
@@ -143,4 +148,19 @@ impl Written {
             self.add_name_after(sink, b" ", name);
         }
     }
+}
+
+// A word of at most 24 bytes, and then a name's digits as they are printed, in the first places.
+fn text_after(word: &[u8], digits: &[u8]) -> [u8; 64]
+    requires few { length word.now ≤ 24 }
+    requires few_digits { length digits.now ≤ 40 }
+    requires below { All (λ digit. digit < 16) digits.now }
+    ensures { take (length word.now + length digits.now) result ≡ name_after word.now digits.now }
+{
+    let mut text = [0; 64];
+    text[..word.len()].copy_from_slice(word);
+    for at in 0..digits.len() {
+        text[word.len() + at] = text_of_digit(digits[at]);
+    }
+    text
 }

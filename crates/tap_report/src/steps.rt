@@ -30,7 +30,8 @@ impl Written {
             WordsAfter::Word(word) => self.add_word(sink, word),
             WordsAfter::WordAndNumber(word, number) => {
                 self.add_word(sink, word);
-                self.add_number_after(sink, b" ", *number);
+                self.add(sink, b" ");
+                self.add_number(sink, *number);
             }
             WordsAfter::Name(name) => self.add_name_after(sink, b" ", name),
             WordsAfter::Names(first, link, second) => self.add_pair_of_names(
@@ -42,7 +43,8 @@ impl Written {
             }
             WordsAfter::ThreeNumbers(first, second, third) => {
                 self.add_two_numbers_after(sink, b" ", *first, b" ", *second);
-                self.add_number_after(sink, b" ", *third);
+                self.add(sink, b" ");
+                self.add_number(sink, *third);
             }
             WordsAfter::Cast(word, to, prefix, from, asker) => {
                 self.add_cast_words(sink, word, to, prefix, from, asker)
@@ -56,7 +58,8 @@ impl Written {
             (text_after (Names first.now link.entry second.now)) self.old self.new }
     {
         self.add_name_after(sink, b" ", first);
-        self.add_word(sink, link);
+        self.add(sink, b" ");
+        self.add(sink, link.as_bytes());
         self.add_name_after(sink, b" ", second);
     }
 
@@ -75,11 +78,14 @@ impl Written {
     {
         self.add(sink, b" ");
         self.add(sink, word.as_slice());
-        self.add_word(sink, to);
+        self.add(sink, b" ");
+        self.add(sink, to.as_bytes());
         self.add(sink, b" ");
         self.add_prefix(sink, prefix);
-        self.add_word(sink, from);
-        self.add_name_after(sink, b" ", asker);
+        self.add(sink, b" ");
+        self.add(sink, from.as_bytes());
+        self.add(sink, b" ");
+        self.add_name(sink, asker);
     }
 
     // Adds a word with a space before it.

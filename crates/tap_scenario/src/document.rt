@@ -184,27 +184,20 @@ fn read_members(
     Ok(names)
 }
 
-// The step of the string of this number, counted from 1, if it is one that a run takes.
-fn numbered_step(settings: &Settings, number: usize, text: &[u8]) -> Result<Step, Fault>
-    requires { number ≤ MOST_STEPS }
-    ensures { result ≡ numbered_step settings.now number text.now }
-{
-    match read_step(settings, false, text) {
-        Some(step) if step.can_run() => Ok(step),
-        _ => Err(Fault::BadStep(number as u32)),
-    }
-}
-
-// Adds the step of the next string to the steps of the strings before it.
+// Adds the step of the next string, if it is one that a run takes, to the steps of the strings before it.
 fn add_step(settings: &Settings, steps: &mut Vec<Step>, text: &[u8]) -> Result<(), ReadRefusal>
     requires { length steps.now.items < MOST_STEPS }
     ensures value { let read = numbered_step settings.now (length steps.old.items + 1) text.now
         in MatchResult result (λ _. with_step steps.old.items read ≡ Ok steps.new.items) (TellsFault read) }
     ensures len { OnOk result (length steps.new.items ≡ length steps.old.items + 1) }
 {
-    let step = numbered_step(settings, steps.len() + 1, text)?;
-    steps.push(step)?;
-    Ok(())
+    match read_step(settings, false, text) {
+        Some(step) if step.can_run() => {
+            steps.push(step)?;
+            Ok(())
+        }
+        _ => Err(ReadRefusal::Fault(Fault::BadStep(steps.len() as u32 + 1))),
+    }
 }
 
 // The steps that a table gives.

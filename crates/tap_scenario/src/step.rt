@@ -201,6 +201,7 @@ fn read_cast(settings: &Settings, mut words: Words<'_>) -> Option<Step>
 }
 
 // The step of a kind with these words after its first one.
+#[inline(never)]
 fn step_of_kind(settings: &Settings, kind: Kind, words: Words<'_>) -> Option<Step>
     ensures { result ≡ step_of_kind settings.now kind words.entry }
 {
@@ -249,6 +250,7 @@ fn step_of_words(settings: &Settings, carrier: bool, mut words: Words<'_>) -> Op
 /// if names have 40 digits in base 16.
 ///
 /// Rule: docs/FORMATS.md, "The scenario".
+#[inline(never)]
 pub fn read_step(settings: &Settings, carrier: bool, text: &[u8]) -> Option<Step>
     ensures value { result ≡ step_of_text settings.now carrier text.now }
 

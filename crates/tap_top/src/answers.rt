@@ -17,6 +17,7 @@ use tap_surrogate::{Tables, root_of, walk_path};
 use tap_table::Table;
 
 // The record that answers a step.
+#[inline(never)]
 pub(crate) fn answer(
     alloc: Global,
     scenario: &Scenario,
