@@ -65,7 +65,9 @@ module _ (sets : List (LinkSetValue (List ℕ))) (links number from : ℕ) (old 
   empty_after new to further none k past =
       let out : LinkSetValue (List ℕ) = record { width = 0; links = [] } in
       elim (cases_order k number) [
-        | inl same ↦ ap (λ (s : LinkSetValue (List ℕ)). s.links) (get_or-set_at sets number k new out same within) ∙ none (omega (arith, same, past))
+        | inl same ↦
+            ap (λ (s : LinkSetValue (List ℕ)). s.links) (get_or-set_at sets number k new out same within)
+            ∙ none (omega (arith, same, past))
         | inr (inl before) ↦
             ap (λ (s : LinkSetValue (List ℕ)). s.links) (get_or-set_other sets number k new out (λ same. omega (arith, same, before)))
             ∙ are.empty k (omega (arith, further, past))
@@ -142,15 +144,15 @@ module _ (old new : LinkSetValue (List ℕ)) (name : List ℕ) (valid : IsLinkSe
       omega (arith, len, same)
 
 -- a set with room for a link more is small enough after it
-pub few_pinned : (old new : LinkSetValue (List ℕ)) (name : List ℕ) → length old.links < most_links_of_slot → new ≡ set_pinned name_cmp old name
-    → length new.links ≤ most_links_of_slot
+pub few_pinned : (old new : LinkSetValue (List ℕ)) (name : List ℕ) → length old.links < most_links_of_slot
+    → new ≡ set_pinned name_cmp old name → length new.links ≤ most_links_of_slot
 few_pinned old new name small is =
     let len = length-pinned_le name_cmp old name in
     let same = ap (λ (s : LinkSetValue (List ℕ)). length s.links) is in
     omega (arith, len, same)
 
-pub few_offered : (old new : LinkSetValue (List ℕ)) (name : List ℕ) → length old.links < most_links_of_slot → new ≡ set_offered name_cmp old name
-    → length new.links ≤ most_links_of_slot
+pub few_offered : (old new : LinkSetValue (List ℕ)) (name : List ℕ) → length old.links < most_links_of_slot
+    → new ≡ set_offered name_cmp old name → length new.links ≤ most_links_of_slot
 few_offered old new name small is =
     let len = length-offered_le name_cmp old name in
     let same = ap (λ (s : LinkSetValue (List ℕ)). length s.links) is in

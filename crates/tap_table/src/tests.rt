@@ -127,23 +127,34 @@ fn ties_give_the_words_for_their_targets(rt: HostRuntime) -> Result<(), Fail> {
             on: true
         })
     );
-    assert!(rt; ties.table().len() == 1);
+    assert!(rt; ties.forget(Forget { from: target }));
     assert!(rt; stamp.last() == 2);
+    assert_eq!(rt; ties.release(&mut stamp, Release { from: target }), None);
+    ties.cease(&Cease { owner });
+    Ok(())
+}
+
+#[test]
+fn an_end_takes_each_link_back(rt: HostRuntime) -> Result<(), Fail> {
+    let settings = Settings::new(4, 3, 1).ok_or("settings")?;
+    let owner = read_name(&settings, b"012")?;
+    let target = read_name(&settings, b"300")?;
+    assert!(rt; target != owner);
+    let mut ties = Ties::new(rt.alloc(), owner, &settings)?;
+    let mut stamp = Stamp::new();
+    assert!(rt; ties.pin(&mut stamp, target)?.is_some());
+    assert!(rt; ties.table().len() == 1);
+    assert!(rt; stamp.last() == 1);
     let off = ties.off_ties(rt.alloc(), &mut stamp)?;
-    assert_eq!(rt; off.len(), 1);
     assert!(rt; 0 < off.len());
     assert_eq!(rt;
         off.at(0),
         Tie {
             to: target,
-            version: 3,
+            version: 2,
             on: false
         }
     );
-    assert!(rt; ties.forget(Forget { from: target }));
-    assert!(rt; stamp.last() == 3);
-    assert_eq!(rt; ties.release(&mut stamp, Release { from: target }), None);
-    ties.cease(&Cease { owner });
     Ok(())
 }
 

@@ -18,5 +18,5 @@ pub invariant_of-self-2 : goal.invariant_of-self-2
 invariant_of-self-2 c =
     counted_after c.self.inside.sets.items c.self.inside.links c.args.number c.self.inside.empty_from c.index_mut-set.result.now
     c.self.invariant (rw (← c.self.view_is) at c.requires) c.index_mut-set.ensures.value c.offer_in.new.set c.len-before.result
-    c.len-now.result c.past-empty_from.result c.len-before.ensures.count c.len-now.ensures.count c.offer_in.ensures.few c.past-empty_from.ensures.after
-    c.past-empty_from.ensures.least
+    c.len-now.result c.past-empty_from.result c.len-before.ensures.count c.len-now.ensures.count c.offer_in.ensures.few
+    c.past-empty_from.ensures.after c.past-empty_from.ensures.least
