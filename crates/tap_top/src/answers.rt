@@ -105,11 +105,10 @@ fn lines_of(alloc: Global, table: &Table) -> Result<List<LinkLine>, NoMemory>
 {
     let mut lines = List::new(alloc);
     for place in 0..table.len() {
-        let row = table.row_at(place);
         lines.push(LinkLine {
-            slot: row.slot,
-            name: row.target,
-            kind: word_of(row.kind),
+            slot: table.slot_at(place),
+            name: table.target_at(place),
+            kind: word_of(table.kind_at(place)),
         })?;
     }
     Ok(lines)
