@@ -103,7 +103,7 @@ impl Covers {
             first: kept.is_none(),
             prefix,
             level,
-            before: covered_from(table, kept),
+            before: covered_from(table.settings().digits(), kept),
         };
         let offer = offer(self.alloc, table, watch, &cover)?;
         let targets = targets(self.alloc, table, &cover)?;
@@ -129,11 +129,11 @@ fn is_kept(kept: Option<u8>, level: u8) -> bool
 }
 
 // The level from which on the joiner was covered before.
-fn covered_from(table: &Table, kept: Option<u8>) -> u8
-    ensures { result ≡ covered_from table.now.settings.digits kept }
+fn covered_from(digits: u8, kept: Option<u8>) -> u8
+    ensures { result ≡ covered_from digits kept }
 {
     match kept {
         Some(kept) => kept,
-        None => table.settings().digits(),
+        None => digits,
     }
 }
