@@ -48,7 +48,7 @@ kept_exactly None level = (λ is. cc, λ (least, is, few). cc)
 kept_exactly (Some least) level =
     elim (cases_lt level least) [
       | inl below ↦
-          let test = lt-leb level least below in (
+          let test = lt-leb least level below in (
             λ is. let wrong : false ≡ true = rw test at is in cc,
             λ (other, is, few). let same : least ≡ other = cc in absurd (omega (arith, same, few, below)),
           )

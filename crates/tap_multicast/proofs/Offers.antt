@@ -1,8 +1,8 @@
 -- What a first cover offers: all pins but the joiner, and the primaries of the answered slots, in ascending order; and what
 -- is left to watch.
-use Rattle.std.proofs.Common.{◌≡◌, ◌≢◌, ◌↔◌, ◌⊎◌, ◌&&◌, ℕ, ◌<◌, true, false, not, Some, List, [], Contains, filter, map, nat_eq, slice_get, All, ap, refl, sym, ◌∙◌, inl, inr, not-true}
+use Rattle.std.proofs.Common.{◌≡◌, ◌≢◌, ◌↔◌, ◌⊎◌, ◌&&◌, ℕ, ◌<◌, true, false, not, Some, List, [], Contains, filter, map, nat_eq, slice_get, All, ap, refl, sym, ◌∙◌, inl, inr}
 use Rattle.std.specs.Cmp.Lexicographic.{pointwise}
-use Rattle.std.proofs.lemmas.Bool.{and_parts, cases_Bool, not_from_false, or_cases}
+use Rattle.std.proofs.lemmas.Bool.{and_parts, cases_Bool, not-true, not_from_false, or_cases}
 use Rattle.std.proofs.lemmas.List.Elements.{All-map}
 use Rattle.std.proofs.lemmas.Slice.Eq.{bytes_eq-Decides}
 use Rattle.tap_name.specs.declared.slot.Offered.{Offered}
@@ -110,7 +110,7 @@ module _ (t : TableValue) (valid : IsTable t) (watch : List Slot) (cover : Cover
       let test = Contains-filter (λ s. not (answers t joiner s)) watch slot in
       rw first (
         λ there. let both = test.0 there in (both.0, not-true (answers t joiner slot) both.1),
-        λ (there, open). test.1 (there, not_from_false (answers t joiner slot) open),
+        λ (there, not_answered). test.1 (there, not_from_false (answers t joiner slot) not_answered),
       )
 
 -- another cover offers nothing, and leaves the watch as it is
