@@ -7,3 +7,4 @@ pub mod Offering
 pub mod KeptLevels
 pub mod Telling
 pub mod Offers
+pub mod Regions

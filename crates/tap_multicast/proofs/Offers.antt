@@ -26,21 +26,18 @@ use Rattle.tap_multicast.specs.Offer.{answered, answers, has_slot, is_offered, l
 use Rattle.tap_multicast.specs.Targets.{is_primary}
 use Rattle.tap_multicast.proofs.Answering.{has_slot-from_Contains}
 use Rattle.tap_multicast.proofs.Linked.{picked-ascend, primary_near-stands, primary_stands}
-use Rattle.tap_multicast.proofs.Picked.{picked, picked-got}
+use Rattle.tap_multicast.proofs.Picked.{picked-got}
 use Rattle.tap_multicast.proofs.Telling.{differ, other_than, pinned_kind, primary_is}
 
 -- a link that is offered: a pin on another node than the joiner, or the primary of an answered slot, with the flag
 pub record IsOffered (t : TableValue) (watch : List Slot) (joiner : List ℕ) (link : Offered) : Type 0 where
   pub which : ((link.settled ≡ false) × (kind_in t link.name ≡ Some Pin) × (link.name ≢ joiner))
-      ⊎ ((link.settled ≡ true) × (primary_near t link.name ≡ Some link.name)
+      ⊎ ((link.settled ≡ true) × (kind_in t link.name ≡ Some Settled) × (primary_near t link.name ≡ Some link.name)
       × (has_slot (answered t joiner watch) (place_of t.owner link.name) ≡ true))
 
 module _ (t : TableValue) (valid : IsTable t) (watch : List Slot) (cover : Cover) (first : cover.first ≡ true) where
   abbrev joiner : List ℕ
   joiner = cover.joiner
-
-  all_offered : offer t watch cover ≡ picked offered_as (is_offered t watch joiner) (by_name t)
-  all_offered = rw first refl
 
   found_offered : (e : Entry (List ℕ)) → kind_in t e.target ≡ Some e.kind → is_offered t watch joiner e ≡ true
       → IsOffered t watch joiner (offered_as e)
@@ -61,14 +58,14 @@ module _ (t : TableValue) (valid : IsTable t) (watch : List Slot) (cover : Cover
               (linked_is_other t valid e.target e.kind found) is in
               let kinds : Some e.kind ≡ Some Settled = sym found ∙ stands.0 in
               let kind : e.kind ≡ Settled = cc in
-              inr (ap (λ k. is_settled (Some k)) kind, is, both.0)
+              inr (ap (λ k. is_settled (Some k)) kind, stands.0, is, both.0)
         ];
       }
 
   -- each link of the offer is one
   pub offers_are : All (IsOffered t watch joiner) (offer t watch cover)
   offers_are =
-      rw all_offered
+      rw first
       (All-map (IsOffered t watch joiner) offered_as (filter (is_offered t watch joiner) (by_name t))
       (All-filtered (is_offered t watch joiner) (λ e. kind_in t e.target ≡ Some e.kind) (λ e. IsOffered t watch joiner (offered_as e))
       (by_name t) (by_name_is_found t valid) found_offered))
@@ -76,7 +73,7 @@ module _ (t : TableValue) (valid : IsTable t) (watch : List Slot) (cover : Cover
   -- the offer ascends by name, as the links of a Hello do
   pub offer_ascends : AreAscending (map (λ link. link.name) (offer t watch cover))
   offer_ascends =
-      rw all_offered
+      rw first
       (picked-ascend offered_as (λ (link : Offered). link.name) (λ e. refl) (is_offered t watch joiner) (by_name t)
       (by_name-ascending t valid))
 
@@ -85,7 +82,7 @@ module _ (t : TableValue) (valid : IsTable t) (watch : List Slot) (cover : Cover
   link_offered name kind found offered =
       let link = found_by_name t valid name kind found in
       let got = picked-got offered_as (is_offered t watch joiner) (by_name t) link.0 (link_to name kind) link.1 offered in
-      (got.0, ap (λ links. slice_get links got.0) all_offered ∙ got.1)
+      (got.0, rw first got.1)
 
   -- each pin but the joiner is offered
   pub pin_offered : (name : List ℕ) → name ≢ joiner → kind_in t name ≡ Some Pin

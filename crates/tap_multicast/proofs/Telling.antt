@@ -6,9 +6,11 @@ use Rattle.std.proofs.lemmas.Bool.{and_from, and_parts, cases_lt, le-leb, le-ltb
 use Rattle.std.proofs.lemmas.List.Elements.{All-map}
 use Rattle.std.proofs.lemmas.Slice.Eq.{bytes_eq-Decides}
 use Rattle.tap_name.specs.Name.{IsName}
+use Rattle.tap_name.specs.Names.{AreDistinct}
 use Rattle.tap_name.specs.Order.{AreAscending}
 use Rattle.tap_name.specs.Prefix.{lcp}
 use Rattle.tap_name.proofs.Prefixes.{lcp-is}
+use Rattle.tap_name.proofs.Sorted.{distinct-from_ascending}
 use Rattle.tap_link.specs.declared.kind.Kind.{Kind}
 use Rattle.tap_link.specs.declared.kind.Kind.TheVariants.{Leaving, Pin, Settled}
 use Rattle.tap_link.specs.Entry.{Entry}
@@ -98,6 +100,9 @@ module _ (t : TableValue) (valid : IsTable t) (cover : Cover) where
   targets_ascend =
       picked-ascend (target_of t.owner) (λ (target : Target). target.to) (λ e. refl) (is_told t cover) (by_name t)
       (by_name-ascending t valid)
+
+  pub targets_distinct : AreDistinct (map (λ target. target.to) (targets t cover))
+  targets_distinct = distinct-from_ascending (map (λ target. target.to) (targets t cover)) targets_ascend
 
   -- the name is told at its level
   abbrev pub IsTold : List ℕ → Type 0

@@ -1,12 +1,11 @@
-ghost use Rattle.std.specs.Prelude.{◌≡◌, All, IfOk, OnOk};
-ghost use Rattle.tap_name.specs.Name.{IsName};
+ghost use Rattle.std.specs.Prelude.{◌≡◌, All, true};
 ghost use Rattle.tap_multicast.specs.Covers.{MayWatch};
 
 use crate::{Covered, Covers};
 use std::alloc::Global;
 use std::test::Fail;
 use tap_link::Kind;
-use tap_name::{List, Name, Offered, Settings, Slot, read_name, text_of_digit};
+use tap_name::{Name, Settings, Slot, read_name, text_of_digit};
 use tap_table::Table;
 use tap_watch::Watch;
 
@@ -189,7 +188,10 @@ fn is_of_level_0(watch: &Watch, base: u8) -> bool
     ensures { result ≡ true → All (MayWatch base 0) watch.now }
 {
     for slot in watch.as_slice() {
-        if slot.level != 0 || base <= slot.digit {
+        if slot.level != 0 {
+            return false;
+        }
+        if base <= slot.digit {
             return false;
         }
     }

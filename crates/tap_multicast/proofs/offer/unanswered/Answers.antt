@@ -1,4 +1,4 @@
-use Rattle.std.proofs.Common.{◌≡◌, ◌||◌, Bool, true, false, filter, get_or, not, is_some, take, take_all, append-nil, ap, refl, sym, ◌∙◌}
+use Rattle.std.proofs.Common.{◌≡◌, ◌||◌, Bool, true, false, filter, get_or, not, is_some, take, take_all, append-nil, arith, ap, refl, sym, ◌∙◌}
 use Rattle.std.proofs.lemmas.List.Elements.{filter_more}
 use Rattle.std.proofs.lemmas.List.Kept.{AllPairs-filter}
 use Rattle.tap_name.specs.declared.slot.Slot.{Slot}
@@ -33,9 +33,9 @@ loop-slot-preserved c =
     let more = filter_more passes watch i (record { level = 0; digit = 0 }) c.loop-slot-test.true in
     elim c.if-not-answers.branch [
       | then-not-answers+in_ok-push w ↦
-          let fails : answers t joiner slot ≡ false = sym test ∙ w.if-not-answers.false in
+          let fails : answers t joiner slot ≡ false = grind (arith, test, w.if-not-answers.true) in
           rw (w.left-is, w.in_ok-push.ensures.items, c.loop-slot.invariant, more, fails) refl
       | else-not-answers w ↦
-          let holds : answers t joiner slot ≡ true = sym test ∙ w.if-not-answers.true in
+          let holds : answers t joiner slot ≡ true = grind (arith, test, w.if-not-answers.false) in
           rw (w.left-is, c.loop-slot.invariant, more, holds) (sym (append-nil (filter passes (take i watch))))
     ]
