@@ -1,0 +1,10 @@
+pub mod Picked
+pub mod Links
+pub mod Linked
+pub mod Answering
+pub mod Told
+pub mod Offering
+pub mod KeptLevels
+pub mod Telling
+pub mod Offers
+pub mod Regions

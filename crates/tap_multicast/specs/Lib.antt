@@ -1,0 +1,4 @@
+pub mod Targets
+pub mod Offer
+pub mod Slots
+pub mod Covers
