@@ -15,7 +15,7 @@ use Rattle.tap_pointer.specs.declared.laying.Laying.{Laying}
 use Rattle.tap_pointer.specs.declared.pair.Pair.{Pair}
 use Rattle.tap_pointer.specs.declared.state.PairState.{PairState}
 use Rattle.tap_pointer.specs.Pair.{pair_cmp}
-use Rattle.tap_pointer.specs.Pointers.{PointersValue, is_held_or_laid, level_held}
+use Rattle.tap_pointer.specs.Pointers.{PointersValue, is_held_or_laid, level_held, with_laid}
 
 -- the hop of a next hop; the root has none
 abbrev pub hop_of : Next → Option Hop
@@ -84,7 +84,7 @@ layings_to_none pairs = flat_map (λ e. layings e.0 e.1.laid None) pairs
 
 -- a pair laid as wanted
 abbrev pub with_wanted : TableValue → Pair × PairState → Pair × PairState
-with_wanted t e = (e.0, record e.1 { laid = wanted_hop t e })
+with_wanted t e = (e.0, with_laid e.1 (wanted_hop t e))
 
 -- Reconciling: the Lays, with the numbers after this one, and the pointers afterwards.
 abbrev pub reconcile_lays : TableValue → ℕ → PointersValue → List Lay

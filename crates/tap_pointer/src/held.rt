@@ -1,6 +1,5 @@
-ghost use Rattle.std.specs.Prelude.{◌≡◌, length, filter};
-ghost use Rattle.std.specs.Map.{keys_of};
-ghost use Rattle.tap_pointer.specs.Pointers.{is_held};
+ghost use Rattle.std.specs.Prelude.{◌≡◌, length};
+ghost use Rattle.tap_pointer.specs.Pointers.{held_among};
 ghost use Rattle.std.specs.Iterator.{at_most};
 ghost use Rattle.std.specs.Map.Iter.{TakesFirst};
 
@@ -18,20 +17,19 @@ pub struct Held<'a> {
 }
 
 impl<'a> Model for Held<'a> {
-    ghost use Rattle.std.specs.Prelude.{List, filter};
-    ghost use Rattle.std.specs.Map.{keys_of};
+    ghost use Rattle.std.specs.Prelude.{List};
     ghost use Rattle.tap_pointer.specs.declared.pair.Pair.{Pair};
-    ghost use Rattle.tap_pointer.specs.Pointers.{is_held};
+    ghost use Rattle.tap_pointer.specs.Pointers.{held_among};
 
     ghost Value = { List Pair };
 
-    ghost view = { λ h. keys_of (filter (λ e. is_held e.1) h.entries) };
+    ghost view = { λ h. held_among h.entries };
 }
 
 impl<'a> Held<'a> {
     // Steps through the pairs that are held among these.
     pub(crate) fn new(entries: btree_map::Iter<'a, Pair, PairState>) -> Held<'a>
-        ensures { result ≡ keys_of (filter (λ e. is_held e.1) entries) }
+        ensures { result ≡ held_among entries.entry }
     {
         Held { entries }
     }
@@ -45,7 +43,7 @@ impl<'a> Iterator for Held<'a> {
     ghost remaining = { λ h. at_most (length h) };
 
     fn next(&mut self) -> Option<Pair> {
-        for (pair, state) in &mut self.entries {
+        while let Some((pair, state)) = self.entries.next() {
             if state.is_held() {
                 return Some(*pair);
             }

@@ -40,30 +40,31 @@ pub(crate) fn wanted_hop(table: &Table, pair: &Pair, state: &PairState) -> Optio
     }
 }
 
-// The hop that is told off, where a pair is laid at one hop and wanted at another.
-fn told_off(laid: Option<Hop>, wanted: Option<Hop>) -> Option<Hop>
-    ensures { result ≡ told_off laid wanted }
+// The hop that is told off, if a pair is laid at one hop and wanted at another.
+fn told_off(laid: &Option<Hop>, wanted: &Option<Hop>) -> Option<Hop>
+    ensures { result ≡ told_off laid.now wanted.now }
 {
     match (laid, wanted) {
         (Some(laid), Some(wanted)) => {
             if laid.to == wanted.to {
                 None
             } else {
-                Some(laid)
+                Some(*laid)
             }
         }
-        (laid, None) => laid,
+        (Some(laid), None) => Some(*laid),
         (None, _) => None,
     }
 }
 
 // The hop that is told on.
-fn told_on(laid: Option<Hop>, wanted: Option<Hop>) -> Option<Hop>
-    ensures { result ≡ told_on laid wanted }
+fn told_on(laid: &Option<Hop>, wanted: &Option<Hop>) -> Option<Hop>
+    ensures { result ≡ told_on laid.now wanted.now }
 {
     match (laid, wanted) {
-        (Some(laid), Some(wanted)) => { if laid == wanted { None } else { Some(wanted) } }
-        (_, wanted) => wanted,
+        (Some(laid), Some(wanted)) => { if laid == wanted { None } else { Some(*wanted) } }
+        (None, Some(wanted)) => Some(*wanted),
+        (_, None) => None,
     }
 }
 
@@ -72,12 +73,12 @@ pub(crate) fn push_layings(
     lays: &mut Vec<Lay>,
     stamp: &mut Stamp,
     pair: &Pair,
-    laid: Option<Hop>,
-    wanted: Option<Hop>,
+    laid: &Option<Hop>,
+    wanted: &Option<Hop>,
 ) -> Result<(), NoMemory>
-    requires { stamp.old + length (layings pair.now laid wanted) ≤ u32.MAX }
-    ensures added { OnOk result (lays.new.items ≡ lays.old.items ++ numbered stamp.old (layings pair.now laid wanted)) }
-    ensures stamped { OnOk result (stamp.new ≡ stamp.old + length (layings pair.now laid wanted)) }
+    requires { stamp.old + length (layings pair.now laid.now wanted.now) ≤ u32.MAX }
+    ensures added { OnOk result (lays.new.items ≡ lays.old.items ++ numbered stamp.old (layings pair.now laid.now wanted.now)) }
+    ensures stamped { OnOk result (stamp.new ≡ stamp.old + length (layings pair.now laid.now wanted.now)) }
 {
     push_laying(lays, stamp, pair, told_off(laid, wanted), false)?;
     push_laying(lays, stamp, pair, told_on(laid, wanted), true)

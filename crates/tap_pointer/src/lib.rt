@@ -5,6 +5,7 @@
 //! node's part of this.
 #![tactic(auto)]
 
+mod change;
 mod held;
 mod hop;
 mod lay;
@@ -14,6 +15,7 @@ mod pointers;
 mod state;
 #[cfg(test)]
 mod tests;
+mod walk;
 
 pub use held::Held;
 pub use hop::Hop;

@@ -1,14 +1,14 @@
 ghost use Rattle.std.specs.Prelude.{◌≡◌, ◌+◌, ◌*◌, ◌<◌, ◌≤◌, if◌then◌else◌, not, length, map, slice_get, Some, IfOk, OnOk, OnErr};
-ghost use Rattle.tap_pointer.specs.declared.pair.Pair as pair;
-ghost use Rattle.tap_pointer.specs.declared.state.Pointer as pointer;
-ghost use Rattle.tap_pointer.specs.Pointers.{IsPointers, all_withdrawn, is_news, lay_applied, least_server, no_pointers, pairs_held, own_pair, published, publishes, span, withdrawn};
+ghost use Rattle.tap_pointer.specs.Pointers.{IsPointers, all_withdrawn, is_news, lay_applied, least_server, no_pointers, own_pair, pair_of, pairs_held, pointer_at, published, publishes, span, withdrawn};
 ghost use Rattle.tap_pointer.specs.Reconcile.{AreLaid, AreLaidBut, AreNamesHeld, clear_lays, cleared, reconcile_lays, reconciled};
 
+use crate::change::{lay, publish, span_of, take, withdraw};
 use crate::held::Held;
 use crate::lay::Lay;
 use crate::laying::{push_layings, wanted_hop};
 use crate::pair::Pair;
 use crate::state::{PairState, Pointer};
+use crate::walk::{lay_all, lays_to_none, lays_to_wanted, least_server, withdraw_all};
 use std::alloc::Global;
 use std::collections::BTreeMap;
 use std::marker::Model;
@@ -31,7 +31,7 @@ pub struct Pointers {
     alloc: Global,
     owner: Name,
     pairs: BTreeMap<Pair, PairState>,
-    span: usize,
+    spanned: usize,
 }
 
 impl Model for Pointers {
@@ -42,7 +42,7 @@ impl Model for Pointers {
 
     ghost view = { λ p. record { owner = p.owner; pairs = p.pairs.entries } };
 
-    ghost invariant = { λ p. (All (IsKnown p.owner) p.pairs.entries) × (p.span ≡ span p.pairs.entries) };
+    ghost invariant = { λ p. (All (IsKnown p.owner) p.pairs.entries) × (p.spanned ≡ span p.pairs.entries) };
 }
 
 impl Pointers {
@@ -54,7 +54,7 @@ impl Pointers {
             alloc,
             owner,
             pairs: BTreeMap::new(alloc),
-            span: 0,
+            spanned: 0,
         }
     }
 
@@ -94,16 +94,9 @@ impl Pointers {
         ensures same { OnErr result (self.new ≡ self.old) }
     {
         let own = self.own(object);
-        if let Some(state) = self.pairs.get_mut(&own) {
-            let first = !state.published;
-            let was = state.is_held_or_laid();
-            state.published = true;
-            self.span = span_after(self.span, was, true);
-            return Ok(first);
-        }
-        self.pairs.insert(own, PairState::published(self.alloc))?;
-        self.span += 1;
-        Ok(true)
+        let (first, change) = publish(&mut self.pairs, self.alloc, own)?;
+        self.spanned = change.span_after(self.spanned, self.pairs.len());
+        Ok(first)
     }
 
     /// Withdraws an object, and answers whether the node published it. It takes no memory.
@@ -112,13 +105,10 @@ impl Pointers {
         ensures after { self.new ≡ withdrawn self.old object }
     {
         let own = self.own(object);
-        let Some(state) = self.pairs.get_mut(&own) else {
+        let Some((published, change)) = withdraw(&mut self.pairs, &own) else {
             return false;
         };
-        let published = state.published;
-        let was = state.is_held_or_laid();
-        state.published = false;
-        self.span = span_after(self.span, was, state.is_held_or_laid());
+        self.spanned = change.span_after(self.spanned, self.pairs.len());
         published
     }
 
@@ -126,11 +116,8 @@ impl Pointers {
     pub fn drop_all(&mut self)
         ensures { self.new ≡ all_withdrawn self.old }
     {
-        self.pairs.retain(|_, state| {
-            state.published = false;
-            true
-        });
-        self.span = span_of(&self.pairs);
+        withdraw_all(&mut self.pairs);
+        self.spanned = span_of(&self.pairs);
     }
 
     /// Takes a Lay of a pair from a sender, and answers whether its version is newer than what the sender's register has.
@@ -148,22 +135,14 @@ impl Pointers {
     ) -> Result<bool, NoMemory>
         requires from { 1 ≤ level }
         requires to { level ≤ length object }
-        ensures answer { IfOk result (λ newer. newer ≡ is_news self.old (pair.Pair object server) from version) }
-        ensures after { OnOk result (self.new ≡ lay_applied self.old (pair.Pair object server) from version (pointer.Pointer level on)) }
+        ensures answer { IfOk result (λ newer. newer ≡ is_news self.old (pair_of object server) from version) }
+        ensures after { OnOk result (self.new ≡ lay_applied self.old (pair_of object server) from version (pointer_at level on)) }
         ensures same { OnErr result (self.new ≡ self.old) }
     {
         let pair = Pair { object, server };
         let pointer = Pointer { level, on };
-        if let Some(state) = self.pairs.get_mut(&pair) {
-            let was = state.is_held_or_laid();
-            let newer = state.take(from, version, pointer)?;
-            self.span = span_after(self.span, was, state.is_held_or_laid());
-            return Ok(newer);
-        }
-        let mut state = PairState::new(self.alloc);
-        let newer = state.take(from, version, pointer)?;
-        self.pairs.insert(pair, state)?;
-        self.span = span_after(self.span, false, on);
+        let (newer, change) = take(&mut self.pairs, self.alloc, pair, from, version, pointer)?;
+        self.spanned = change.span_after(self.spanned, self.pairs.len());
         Ok(newer)
     }
 
@@ -187,16 +166,9 @@ impl Pointers {
         ensures stamped { IfOk result (λ lays. stamp.new ≡ stamp.old + length lays) }
         ensures laid { OnOk result (AreLaid table.now self.new) }
     {
-        let mut lays = Vec::new(self.alloc);
-        for (pair, state) in &self.pairs {
-            let wanted = wanted_hop(table, pair, state);
-            push_layings(&mut lays, stamp, pair, state.laid, wanted)?;
-        }
-        self.pairs.retain(|pair, state| {
-            state.laid = wanted_hop(table, pair, state);
-            true
-        });
-        self.span = span_of(&self.pairs);
+        let lays = lays_to_wanted(self.alloc, &self.pairs, table, stamp)?;
+        lay_all(&mut self.pairs, table);
+        self.spanned = span_of(&self.pairs);
         Ok(List::from_vec(lays))
     }
 
@@ -217,7 +189,7 @@ impl Pointers {
         requires owner { table.now.owner ≡ self.old.owner }
         requires names { AreNamesHeld table.now.settings self.old }
         requires numbers { stamp.old + 2 ≤ u32.MAX }
-        requires others { AreLaidBut table.now (pair.Pair object server) self.old }
+        requires others { AreLaidBut table.now (pair_of object server) self.old }
         ensures answer { IfOk result (λ lays. lays ≡ reconcile_lays table.now stamp.old self.old) }
         ensures after { OnOk result (self.new ≡ reconciled table.now self.old) }
         ensures stamped { IfOk result (λ lays. stamp.new ≡ stamp.old + length lays) }
@@ -225,12 +197,13 @@ impl Pointers {
     {
         let pair = Pair { object, server };
         let mut lays = Vec::new(self.alloc);
-        if let Some(state) = self.pairs.get_mut(&pair) {
-            let was = state.is_held_or_laid();
-            let wanted = wanted_hop(table, &pair, state);
-            push_layings(&mut lays, stamp, &pair, state.laid, wanted)?;
-            state.laid = wanted;
-            self.span = span_after(self.span, was, state.is_held_or_laid());
+        let Some(state) = self.pairs.get(&pair) else {
+            return Ok(List::from_vec(lays));
+        };
+        let wanted = wanted_hop(table, &pair, state);
+        push_layings(&mut lays, stamp, &pair, &state.laid, &wanted)?;
+        if let Some(change) = lay(&mut self.pairs, &pair, &wanted) {
+            self.spanned = change.span_after(self.spanned, self.pairs.len());
         }
         Ok(List::from_vec(lays))
     }
@@ -248,12 +221,9 @@ impl Pointers {
         ensures after { OnOk result (self.new ≡ cleared self.old) }
         ensures stamped { IfOk result (λ lays. stamp.new ≡ stamp.old + length lays) }
     {
-        let mut lays = Vec::new(self.alloc);
-        for (pair, state) in &self.pairs {
-            push_layings(&mut lays, stamp, pair, state.laid, None)?;
-        }
+        let lays = lays_to_none(self.alloc, &self.pairs, stamp)?;
         self.pairs.clear();
-        self.span = 0;
+        self.spanned = 0;
         Ok(List::from_vec(lays))
     }
 
@@ -263,19 +233,7 @@ impl Pointers {
     pub fn lookup(&self, object: Name) -> Option<Name>
         ensures { result ≡ least_server self.now object }
     {
-        let first = Pair {
-            object,
-            server: Name::of(&[]),
-        };
-        for (pair, state) in self.pairs.range(first..) {
-            if pair.object != object {
-                return None;
-            }
-            if state.is_held() {
-                return Some(pair.server);
-            }
-        }
-        None
+        least_server(&self.pairs, &object)
     }
 
     /// The pairs that are held, ascending by object, then server.
@@ -314,7 +272,7 @@ impl Pointers {
     pub fn span(&self) -> usize
         ensures { result ≡ span self.now.pairs }
     {
-        self.span
+        self.spanned
     }
 
     // A pair that is held, by its place.
@@ -324,27 +282,4 @@ impl Pointers {
     {
         self.held().nth(i).unwrap()
     }
-}
-
-// The pairs that are held or laid after a change of one of them, which was or wasn't one of these and now is or isn't.
-fn span_after(span: usize, was: bool, is: bool) -> usize
-    requires fewer { (if was then 1 else 0) ≤ span }
-    requires more { span < usize.MAX }
-    ensures { result + (if was then 1 else 0) ≡ span + (if is then 1 else 0) }
-{
-    match (was, is) {
-        (true, false) => span - 1,
-        (false, true) => span + 1,
-        _ => span,
-    }
-}
-
-// How many pairs are held or laid.
-fn span_of(pairs: &BTreeMap<Pair, PairState>) -> usize
-    ensures { result ≡ span pairs.now.entries }
-{
-    pairs
-        .values()
-        .filter(|state| state.is_held_or_laid())
-        .count()
 }

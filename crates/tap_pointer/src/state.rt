@@ -1,12 +1,14 @@
 ghost use Rattle.std.specs.Prelude.{◌≡◌, true, [], IfOk, OnOk, OnErr};
+ghost use Rattle.std.specs.List.{list_any};
 ghost use Rattle.tap_name.specs.Order.{name_cmp};
 ghost use Rattle.tap_register.specs.Registers.{is_newer};
-ghost use Rattle.tap_pointer.specs.Pointers.{is_held, is_held_or_laid, lesser, level_held, nothing_known, told, with_published};
+ghost use Rattle.tap_pointer.specs.Pointers.{change_between, is_held, is_held_or_laid, level_held, nothing_known, told, with_laid, with_published};
 
+use crate::change::Change;
 use crate::hop::Hop;
 use std::alloc::Global;
 use tap_name::Name;
-use tap_register::Registers;
+use tap_register::{Entry, Registers};
 use tap_table::NoMemory;
 
 // What the newest Lay of a sender said: whether it has laid the pair here, and at which level.
@@ -37,14 +39,29 @@ impl PairState {
         }
     }
 
-    // A pair that the node itself publishes, and nothing else is known of. This takes no memory.
-    pub(crate) fn published(alloc: Global) -> PairState
-        ensures { result ≡ with_published nothing_known true }
+    // Sets whether the node publishes the object.
+    pub(crate) fn set_published(&mut self, published: bool) -> Change
+        ensures after { self.new ≡ with_published self.old published }
+        ensures change { result ≡ change_between self.old (with_published self.old published) }
     {
-        PairState {
-            published: true,
-            registers: Registers::new(alloc),
-            laid: None,
+        let was = self.is_held_or_laid();
+        self.published = published;
+        Change {
+            was,
+            is: self.is_held_or_laid(),
+        }
+    }
+
+    // Sets where the pair is laid on to.
+    pub(crate) fn set_laid(&mut self, laid: &Option<Hop>) -> Change
+        ensures after { self.new ≡ with_laid self.old laid.now }
+        ensures change { result ≡ change_between self.old (with_laid self.old laid.now) }
+    {
+        let was = self.is_held_or_laid();
+        self.laid = *laid;
+        Change {
+            was,
+            is: self.is_held_or_laid(),
         }
     }
 
@@ -54,24 +71,29 @@ impl PairState {
         from: Name,
         version: u32,
         pointer: Pointer,
-    ) -> Result<bool, NoMemory>
-        ensures answer { IfOk result (λ newer. newer ≡ is_newer name_cmp self.old.registers from version) }
+    ) -> Result<(bool, Change), NoMemory>
+        ensures answer { IfOk result (λ r. r.0 ≡ is_newer name_cmp self.old.registers from version) }
+        ensures change { IfOk result (λ r. r.1 ≡ change_between self.old (told self.old from version pointer)) }
         ensures after { OnOk result (self.new ≡ told self.old from version pointer) }
         ensures same { OnErr result (self.new ≡ self.old) }
     {
-        Ok(self.registers.apply(from, version, pointer)?)
+        let was = self.is_held_or_laid();
+        let newer = self.registers.apply(from, version, pointer)?;
+        let change = Change {
+            was,
+            is: self.is_held_or_laid(),
+        };
+        Ok((newer, change))
     }
 
     // Whether the pair is held: the node publishes it, or the register of a sender is on.
     pub(crate) fn is_held(&self) -> bool
         ensures { result ≡ is_held self.now }
     {
-        self.published
-            || self
-                .registers
-                .as_slice()
-                .iter()
-                .any(|register| register.value.on)
+        if self.published {
+            return true;
+        }
+        is_any_on(self.registers.as_slice())
     }
 
     // Whether the pair is held or laid.
@@ -91,19 +113,17 @@ impl PairState {
         let mut least = None;
         for register in self.registers.as_slice() {
             if register.value.on {
-                least = Some(lesser(register.value.level, least));
+                let level = register.value.level;
+                least = Some(least.unwrap_or(level).min(level));
             }
         }
         least
     }
 }
 
-// The lesser of a level and another one, if there is another.
-fn lesser(level: u8, other: Option<u8>) -> u8
-    ensures { result ≡ lesser level other }
+// Whether a register is on.
+fn is_any_on(registers: &[Entry<Name, Pointer>]) -> bool
+    ensures { result ≡ list_any (λ r. r.value.on) registers.now }
 {
-    match other {
-        Some(other) => { if other < level { other } else { level } }
-        None => level,
-    }
+    registers.iter().any(|register| register.value.on)
 }
