@@ -5,7 +5,7 @@ use Rattle.std.specs.Cmp.Lexicographic.{nat_list_cmp_total}
 use Rattle.std.specs.List.{All}
 use Rattle.std.specs.List.Sorted.{IsStrictlySortedBy}
 use Rattle.std.specs.Map.{keys_of, lookup, set_value}
-use Rattle.std.specs.Option.{unwrap_or}
+use Rattle.std.specs.Option.{IfNone, IfSome, IsSome, unwrap_or}
 use Rattle.std.specs.Ordering.{is_eq, ordering_then}
 use Rattle.std.specs.declared.cmp.Ordering.{Ordering}
 use Rattle.std.specs.declared.cmp.Ordering.TheVariants.{Less, Equal, Greater}
@@ -194,3 +194,24 @@ module _ (pairs : List (Pair × PairState)) (pair : Pair) (sorted : IsStrictlySo
       subst (All (IsKnown owner)) (sym after) (known-put owner pair pairs state all known),
       omega (arith, was_one, is_one, counted, span_now, counted_now),
     )
+
+-- what laying a known pair did: the change, and the pairs afterwards
+pub record Lays (pairs new : List (Pair × PairState)) (pair : Pair) (hop : Option Hop) (change : Change) : Type 0 where
+  pub is : change ≡ change_between (state_among pairs pair) (with_laid (state_among pairs pair) hop)
+  pub after : new ≡ insert_entry pair_cmp pairs pair (with_laid (state_among pairs pair) hop)
+
+pub lays_pair : (pairs new : List (Pair × PairState)) (pair : Pair) (hop : Option Hop) (laid : Option Change) (change : Change)
+    → laid ≡ Some change
+    → IfSome laid (λ r. r ≡ change_between (state_among pairs pair) (with_laid (state_among pairs pair) hop))
+    → IfSome laid (λ r. new ≡ insert_entry pair_cmp pairs pair (with_laid (state_among pairs pair) hop))
+    → Lays pairs new pair hop change
+lays_pair pairs new pair hop laid change some is after = record {
+  is = subst (λ o. IfSome o (λ r. r ≡ change_between (state_among pairs pair) (with_laid (state_among pairs pair) hop))) some is;
+  after = subst (λ o. IfSome o (λ r. new ≡ insert_entry pair_cmp pairs pair (with_laid (state_among pairs pair) hop))) some after;
+}
+
+-- a pair that is found is changed
+pub some_if_found : (found : Option PairState) (state : PairState) (change : Option Change) → found ≡ Some state
+    → IfNone change (found ≡ None) → IsSome change
+some_if_found found state None is absent = let wrong : None ≡ Some state = sym absent ∙ is in absurd (cc)
+some_if_found found state (Some change) is absent = refl

@@ -1,5 +1,6 @@
 -- A lookup: the pairs of one object stand side by side, from where that of the empty name would stand.
-use Rattle.std.proofs.Common.{◌≡◌, ℕ, Bool, true, false, List, [], ◌∷◌, filter, Option, None, Some, refl, sym, ap, ◌∙◌, inl, inr, ⊤}
+use Rattle.std.proofs.Common.{◌≡◌, ℕ, Bool, true, false, List, [], ◌∷◌, filter, Option, None, Some, refl, sym, ap, ◌∙◌, inl, inr}
+use Rattle.std.specs.Bool.{⊤}
 use Rattle.std.specs.BTreeMap.Range.{range_contains}
 use Rattle.std.specs.Cmp.Lexicographic.{nat_list_cmp_total, texts_ties}
 use Rattle.std.specs.List.{All, AllByRecursion}
@@ -57,7 +58,7 @@ module _ (object : List ℕ) where
   least_name [] = refl
   least_name (digit ∷ name) = refl
 
-  of_is : (pair : Pair) → is_of object pair ≡ true → pair.object ≡ object
+  pub of_is : (pair : Pair) → is_of object pair ≡ true → pair.object ≡ object
   of_is pair of = name_cmp-equal pair.object object (sym (texts_ties pair.object object) ∙ of)
 
   -- a pair of the object isn't before that place

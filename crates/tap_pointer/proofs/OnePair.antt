@@ -13,13 +13,14 @@ use Rattle.std.proofs.lemmas.Map.{NonePasses, lookup-none, none_passes_from_look
 use Rattle.std.proofs.lemmas.Map.Entries.{none_below_head}
 use Rattle.std.proofs.lemmas.Map.Keys.{sorted_head, sorted_tail}
 use Rattle.tap_table.specs.Table.{TableValue}
+use Rattle.tap_pointer.specs.declared.hop.Hop.{Hop}
 use Rattle.tap_pointer.specs.declared.laying.Laying.{Laying}
 use Rattle.tap_pointer.specs.declared.pair.Pair.{Pair}
 use Rattle.tap_pointer.specs.declared.state.PairState.{PairState}
 use Rattle.tap_pointer.specs.Pair.{pair_cmp, pair_cmp-total}
-use Rattle.tap_pointer.specs.Pointers.{with_laid}
+use Rattle.tap_pointer.specs.Pointers.{state_among, with_laid}
 use Rattle.tap_pointer.specs.Reconcile.{layings, layings_to_wanted, wanted_hop, with_wanted}
-use Rattle.tap_pointer.proofs.Known.{pair_cmp-equal}
+use Rattle.tap_pointer.proofs.Known.{found_state, pair_cmp-equal}
 use Rattle.tap_pointer.proofs.Layings.{laid_already, none_if_laid, stays}
 
 module _ (t : TableValue) (pair : Pair) where
@@ -41,11 +42,15 @@ module _ (t : TableValue) (pair : Pair) where
   later_apart [] above = tt
   later_apart (e ∷ pairs) above = (ap is_eq above.0, later_apart pairs above.1)
 
-  -- nothing is known of the pair: no Lay is sent, and all stays
+  -- nothing is known of the pair: each pair is laid as wanted, so no Lay is sent, and all stays
+  pub laid_if_absent : (pairs : List (Pair × PairState)) → lookup (is_at (pair_cmp pair)) pairs ≡ None → All LaidUnless pairs
+      → All Laid pairs
+  laid_if_absent pairs absent all = others_laid pairs (none_passes_from_lookup (is_at (pair_cmp pair)) pairs absent) all
+
   pub none_if_absent : (pairs : List (Pair × PairState)) → lookup (is_at (pair_cmp pair)) pairs ≡ None → All LaidUnless pairs
       → (layings_to_wanted t pairs ≡ []) × (map (with_wanted t) pairs ≡ pairs)
   none_if_absent pairs absent all =
-      none_if_laid t pairs (others_laid pairs (none_passes_from_lookup (is_at (pair_cmp pair)) pairs absent) all)
+      none_if_laid t pairs (laid_if_absent pairs absent all)
 
   -- what reconciling does if the pair has this state
   pub record Settles (pairs : List (Pair × PairState)) (state : PairState) : Type 0 where
@@ -93,3 +98,13 @@ module _ (t : TableValue) (pair : Pair) where
             lays = ap (λ first. first ++ layings_to_wanted t pairs) (laid_already t e laid) ∙ rest.lays;
             after = ap (λ first. first ∷ map (with_wanted t) pairs) (stays t e laid) ∙ ap (λ more. e ∷ more) rest.after ∙ sym put;
           }
+
+  -- so laying the pair where it is wanted lays all as wanted
+  pub laid_as_wanted : (pairs : List (Pair × PairState)) (state : PairState) (hop : Option Hop)
+      → IsStrictlySortedBy pair_cmp (keys_of pairs) → lookup (is_at (pair_cmp pair)) pairs ≡ Some state → All LaidUnless pairs
+      → hop ≡ wanted_hop t (pair, state)
+      → insert_entry pair_cmp pairs pair (with_laid (state_among pairs pair) hop) ≡ map (with_wanted t) pairs
+  laid_as_wanted pairs state hop sorted found all is =
+      ap (λ s. insert_entry pair_cmp pairs pair (with_laid s hop)) (found_state pairs pair sorted state found)
+      ∙ ap (λ h. insert_entry pair_cmp pairs pair (with_laid state h)) is
+      ∙ sym (settles pairs state sorted found all).after

@@ -8,7 +8,9 @@ use crate::lay::Lay;
 use crate::laying::{push_layings, wanted_hop};
 use crate::pair::Pair;
 use crate::state::{PairState, Pointer};
-use crate::walk::{lay_all, lays_to_none, lays_to_wanted, least_server, withdraw_all};
+use crate::walk::{
+    held_at, held_count, lay_all, lays_to_none, lays_to_wanted, least_server, withdraw_all,
+};
 use std::alloc::Global;
 use std::collections::BTreeMap;
 use std::marker::Model;
@@ -202,9 +204,8 @@ impl Pointers {
         };
         let wanted = wanted_hop(table, &pair, state);
         push_layings(&mut lays, stamp, &pair, &state.laid, &wanted)?;
-        if let Some(change) = lay(&mut self.pairs, &pair, &wanted) {
-            self.spanned = change.span_after(self.spanned, self.pairs.len());
-        }
+        let change = lay(&mut self.pairs, &pair, &wanted).unwrap();
+        self.spanned = change.span_after(self.spanned, self.pairs.len());
         Ok(List::from_vec(lays))
     }
 
@@ -247,7 +248,7 @@ impl Pointers {
     pub fn count(&self) -> usize
         ensures { result ≡ length (pairs_held self.now) }
     {
-        self.held().count()
+        held_count(&self.pairs)
     }
 
     /// The object of a pair that is held, by its place in ascending order of pairs, from 0. It walks over the pairs up to
@@ -280,6 +281,6 @@ impl Pointers {
         requires { i < length (pairs_held self.now) }
         ensures { slice_get (pairs_held self.now) i ≡ Some result }
     {
-        self.held().nth(i).unwrap()
+        held_at(&self.pairs, i).unwrap()
     }
 }

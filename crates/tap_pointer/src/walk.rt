@@ -1,7 +1,6 @@
-ghost use Rattle.std.specs.Prelude.{◌≡◌, ◌+◌, ◌*◌, ◌≤◌, true, false, length, map, find, All, IfOk};
-ghost use Rattle.std.specs.Map.{keys_of};
+ghost use Rattle.std.specs.Prelude.{◌≡◌, ◌+◌, ◌*◌, ◌≤◌, true, false, [], length, map, slice_get, All, IfOk};
 ghost use Rattle.tap_name.specs.Name.{IsName};
-ghost use Rattle.tap_pointer.specs.Pointers.{is_held_or_laid, span, server_among, with_published};
+ghost use Rattle.tap_pointer.specs.Pointers.{held_among, is_held_or_laid, is_of, pair_of, span, server_among, with_published};
 ghost use Rattle.tap_pointer.specs.Reconcile.{layings_to_none, layings_to_wanted, numbered, with_wanted};
 
 use crate::lay::Lay;
@@ -79,16 +78,59 @@ pub(crate) fn withdraw_all(pairs: &mut BTreeMap<Pair, PairState>)
 pub(crate) fn least_server(pairs: &BTreeMap<Pair, PairState>, object: &Name) -> Option<Name>
     ensures { result ≡ server_among pairs.now.entries object.now }
 {
-    let first = Pair {
-        object: *object,
-        server: Name::of(&[]),
-    };
+    let first = first_of(object);
     for (pair, state) in pairs.range(first..) {
-        if pair.object != *object {
+        if !is_of(pair, object) {
             return None;
         }
         if state.is_held() {
             return Some(pair.server);
+        }
+    }
+    None
+}
+
+// Where the pairs of an object begin: at that of the empty name, which no server is below.
+fn first_of(object: &Name) -> Pair
+    ensures { result ≡ pair_of object.now [] }
+{
+    Pair {
+        object: *object,
+        server: Name::of(&[]),
+    }
+}
+
+// Whether a pair is one of an object.
+fn is_of(pair: &Pair, object: &Name) -> bool
+    ensures { result ≡ is_of object.now pair.now }
+{
+    pair.object == *object
+}
+
+// How many pairs are held.
+pub(crate) fn held_count(pairs: &BTreeMap<Pair, PairState>) -> usize
+    ensures { result ≡ length (held_among pairs.now.entries) }
+{
+    let mut count = 0;
+    for (_, state) in pairs {
+        if state.is_held() {
+            count += 1;
+        }
+    }
+    count
+}
+
+// A pair that is held, by its place among these.
+pub(crate) fn held_at(pairs: &BTreeMap<Pair, PairState>, i: usize) -> Option<Pair>
+    ensures { result ≡ slice_get (held_among pairs.now.entries) i }
+{
+    let mut left = i;
+    for (pair, state) in pairs {
+        if state.is_held() {
+            if left == 0 {
+                return Some(*pair);
+            }
+            left -= 1;
         }
     }
     None

@@ -11,13 +11,15 @@ retain-requires c =
     let entries = c.args.pairs.now.entries in
     callable_pairs _ _ _ (λ k v b w after called. search rules) entries
     (λ front back k v split key value key_is value_is.
-        let names = subst (All (λ e. is_held_or_laid e.1 ≡ true → IsName settings e.0.object)) split c.requires.names in
-        let levels = subst (All (λ e. All (λ r. r.value.level ≤ length e.0.object) e.1.registers)) split c.requires.levels in
-        let name : is_held_or_laid v ≡ true → IsName settings k.object =
-            All-between (λ e. is_held_or_laid e.1 ≡ true → IsName settings e.0.object) front back (k, v) names in
-        let level : All (λ r. r.value.level ≤ length k.object) v.registers =
-            All-between (λ e. All (λ r. r.value.level ≤ length e.0.object) e.1.registers) front back (k, v) levels in
-        rw (key_is, value_is) (name, level))
+    let names = subst (All (λ e. is_held_or_laid e.1 ≡ true → IsName settings e.0.object)) split c.requires.names in
+    let levels = subst (All (λ e. All (λ r. r.value.level ≤ length e.0.object) e.1.registers)) split c.requires.levels in
+    let name : is_held_or_laid v ≡ true → IsName settings k.object =
+    All-between (λ e. is_held_or_laid e.1 ≡ true → IsName settings e.0.object) front back (k, v) names in
+    let level : All (λ r. r.value.level ≤ length k.object) v.registers =
+    All-between (λ e. All (λ r. r.value.level ≤ length e.0.object) e.1.registers) front back (k, v) levels in
+    let here : is_held_or_laid value.now ≡ true → IsName settings key.now.object = rw (key_is, value_is) name in
+    let there : All (λ r. r.value.level ≤ length key.now.object) value.now.registers = rw (key_is, value_is) level in
+    search (rules, of_calls, here, there))
 
 pub returns : goal.returns
 returns c =

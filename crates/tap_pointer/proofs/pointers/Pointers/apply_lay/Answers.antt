@@ -27,8 +27,8 @@ invariant_of-self-2 c =
     let pair = pair_of c.args.object c.args.server in
     let pointer = pointer_at c.args.level c.args.on in
     let known =
-        known-told owner pair (state_among pairs pair) (known-among owner pair pairs c.self.invariant.0)
-        c.args.from c.args.version pointer c.requires.from c.requires.to in
+    known-told owner pair (state_among pairs pair) (known-among owner pair pairs c.self.invariant.0)
+    c.args.from c.args.version pointer c.requires.from c.requires.to in
     put_keeps pairs pair c.take.ensures.ordered (told (state_among pairs pair) c.args.from c.args.version pointer)
     c.in_ok-newer.change c.in_ok-newer.ensures.change c.take.new.pairs.entries c.in_ok-newer.ensures.after
     c.self.inside.spanned c.self.invariant.1

@@ -1,4 +1,4 @@
-use Rattle.std.proofs.Common.{◌≡◌, true, refl, ap}
+use Rattle.std.proofs.Common.{◌≡◌, true, sym, ap, ◌∙◌}
 use Rattle.tap_pointer.specs.Pointers.{state_among, with_published}
 use Rattle.tap_pointer.proofs.Known.{count_from, count_to, known-among, known-published, put_keeps}
 use Rattle.tap_pointer.proofs.pointers.Pointers.publish.Goals as goal
@@ -23,7 +23,7 @@ invariant_of-self-2 c =
     let pairs = c.self.inside.pairs.entries in
     let owner = c.self.inside.owner in
     let own = c.own-own.result in
-    let served : own.server ≡ owner = ap (λ p. p.server) c.own-own.ensures in
+    let served : own.server ≡ owner = ap (λ p. p.server) c.own-own.ensures ∙ sym (ap (λ v. v.owner) c.self.view_is) in
     let known = known-published owner own (state_among pairs own) (known-among owner own pairs c.self.invariant.0) served in
     put_keeps pairs own c.publish.ensures.ordered (with_published (state_among pairs own) true) c.in_ok-first.change
     c.in_ok-first.ensures.change c.publish.new.pairs.entries c.in_ok-first.ensures.after c.self.inside.spanned c.self.invariant.1

@@ -1,5 +1,9 @@
-use Rattle.std.proofs.Common.{◌≡◌, false, ap, sym, ◌∙◌}
-use Rattle.tap_pointer.specs.Pointers.{PointersValue, own_pair, state_among, with_published}
+use Rattle.std.proofs.Common.{◌≡◌, false, Some, ap, subst, sym, ◌∙◌}
+use Rattle.std.specs.BTreeMap.{insert_entry, is_at}
+use Rattle.std.specs.Map.{lookup}
+use Rattle.tap_pointer.specs.declared.pair.Pair.{Pair}
+use Rattle.tap_pointer.specs.Pair.{pair_cmp}
+use Rattle.tap_pointer.specs.Pointers.{PointersValue, own_pair, state_among, with_published, withdrawn}
 use Rattle.tap_pointer.proofs.Known.{count_from, count_to, known-among, known-withdrawn, put_keeps}
 use Rattle.tap_pointer.proofs.Laws.{withdrawn_put}
 use Rattle.tap_pointer.proofs.pointers.Pointers.withdraw.Goals as goal
@@ -32,6 +36,10 @@ invariant_of-self-2 c =
 pub returns-clause-after : goal.returns-clause-after
 returns-clause-after c =
     let p : PointersValue = record { owner = c.self.inside.owner; pairs = c.self.inside.pairs.entries } in
-    rw (← c.self.view_is)
-    (ap (λ pairs. record { owner = c.self.inside.owner; pairs = pairs }) c.in-Some.ensures.after
-    ∙ withdrawn_put p c.args.object c.withdraw.ensures.ordered c.in-Some.ensures.present)
+    let own : c.own-own.result ≡ own_pair p c.args.object =
+    c.own-own.ensures ∙ sym (ap (λ v. own_pair v c.args.object) c.self.view_is) in
+    let put = λ (own : Pair). insert_entry pair_cmp p.pairs own (with_published (state_among p.pairs own) false) in
+    let present = subst (λ own. lookup (is_at (pair_cmp own)) p.pairs ≡ Some (state_among p.pairs own)) own c.in-Some.ensures.present in
+    ap (λ pairs. record { owner = c.self.inside.owner; pairs = pairs }) (c.in-Some.ensures.after ∙ ap put own)
+    ∙ withdrawn_put p c.args.object c.withdraw.ensures.ordered present
+    ∙ ap (λ v. withdrawn v c.args.object) c.self.view_is
