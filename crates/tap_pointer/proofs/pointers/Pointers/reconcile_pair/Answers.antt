@@ -1,0 +1,139 @@
+use Rattle.std.proofs.Common.{◌≡◌, ◌++◌, true, Option, ap, subst, sym, ◌∙◌}
+use Rattle.std.specs.BTreeMap.{is_at}
+use Rattle.std.specs.List.{All}
+use Rattle.std.specs.Map.{lookup}
+use Rattle.tap_name.specs.Name.{IsName}
+use Rattle.tap_pointer.specs.declared.hop.Hop.{Hop}
+use Rattle.tap_pointer.specs.Pair.{pair_cmp}
+use Rattle.tap_pointer.specs.Pointers.{IsKnown, is_held_or_laid, pair_of, state_among, with_laid}
+use Rattle.tap_pointer.specs.Reconcile.{AreLaid, AreLaidBut, AreNamesHeld, layings, numbered, wanted_hop}
+use Rattle.tap_pointer.proofs.Known.{All-found, count_from, count_to, known-among, known-laid, lays_pair, put_keeps, some_if_found}
+use Rattle.tap_pointer.proofs.Layings.{all_laid}
+use Rattle.tap_pointer.proofs.OnePair.{laid_as_wanted, laid_if_absent, none_if_absent, settles}
+use Rattle.tap_pointer.proofs.pointers.Pointers.reconcile_pair.Goals as goal
+
+-- nothing is known of the pair
+pub returns-in_default-clause-answer : goal.returns-in_default-clause-answer
+returns-in_default-clause-answer c =
+    let t = c.args.table.now in
+    let pair = pair_of c.args.object c.args.server in
+    let pairs = c.self.inside.pairs.entries in
+    let others = subst (AreLaidBut t pair) (sym c.self.view_is) c.requires.others in
+    let none = none_if_absent t pair pairs (sym c.in_default.ensures.value) others in
+    rw (← c.self.view_is) (c.from_vec.ensures ∙ c.new-lays.ensures.items ∙ sym (ap (numbered c.args.stamp.now) none.0))
+
+pub returns-in_default-clause-after : goal.returns-in_default-clause-after
+returns-in_default-clause-after c =
+    let t = c.args.table.now in
+    let pair = pair_of c.args.object c.args.server in
+    let pairs = c.self.inside.pairs.entries in
+    let others = subst (AreLaidBut t pair) (sym c.self.view_is) c.requires.others in
+    let none = none_if_absent t pair pairs (sym c.in_default.ensures.value) others in
+    rw (← c.self.view_is) (ap (λ pairs. record { owner = c.self.inside.owner; pairs = pairs }) (sym none.1))
+
+pub returns-in_default-clause-laid : goal.returns-in_default-clause-laid
+returns-in_default-clause-laid c =
+    let t = c.args.table.now in
+    let pair = pair_of c.args.object c.args.server in
+    let pairs = c.self.inside.pairs.entries in
+    let others = subst (AreLaidBut t pair) (sym c.self.view_is) c.requires.others in
+    subst (AreLaid t) c.self.view_is (laid_if_absent t pair pairs (sym c.in_default.ensures.value) others)
+
+-- the pair is known
+pub wanted_hop-wanted-requires-clause-name : goal.wanted_hop-wanted-requires-clause-name
+wanted_hop-wanted-requires-clause-name c =
+    let settings = c.args.table.now.settings in
+    let names = subst (AreNamesHeld settings) (sym c.self.view_is) c.requires.names in
+    All-found (λ e. is_held_or_laid e.1 ≡ true → IsName settings e.0.object) (pair_of c.args.object c.args.server)
+    c.in-Some.state.now c.self.inside.pairs.entries names (sym c.in-Some.ensures.value)
+
+pub wanted_hop-wanted-requires-clause-levels : goal.wanted_hop-wanted-requires-clause-levels
+wanted_hop-wanted-requires-clause-levels c =
+    let known =
+    All-found (IsKnown c.self.inside.owner) (pair_of c.args.object c.args.server) c.in-Some.state.now
+    c.self.inside.pairs.entries c.self.invariant.0 (sym c.in-Some.ensures.value) in
+    known.levels_to
+
+pub unwrap-change-requires : goal.unwrap-change-requires
+unwrap-change-requires c =
+    let pair = pair_of c.args.object c.args.server in
+    some_if_found (lookup (is_at (pair_cmp pair)) c.self.inside.pairs.entries) c.in-Some.state.now c.lay.result
+    (sym c.in-Some.ensures.value) c.lay.ensures.absent
+
+pub span_after-self-inside-requires-clause-from : goal.span_after-self-inside-requires-clause-from
+span_after-self-inside-requires-clause-from c =
+    let pair = pair_of c.args.object c.args.server in
+    let pairs = c.self.inside.pairs.entries in
+    let hop = c.wanted_hop-wanted.result in
+    let change = c.unwrap-change.result in
+    let new = c.lay.new.pairs.entries in
+    let lays = lays_pair pairs new pair hop c.lay.result change c.unwrap-change.ensures c.lay.ensures.change c.lay.ensures.after in
+    count_from pairs pair c.lay.ensures.ordered (with_laid (state_among pairs pair) hop) change lays.is new lays.after
+    c.self.inside.spanned c.self.invariant.1
+
+pub span_after-self-inside-requires-clause-to : goal.span_after-self-inside-requires-clause-to
+span_after-self-inside-requires-clause-to c =
+    let pair = pair_of c.args.object c.args.server in
+    let pairs = c.self.inside.pairs.entries in
+    let hop = c.wanted_hop-wanted.result in
+    let change = c.unwrap-change.result in
+    let new = c.lay.new.pairs.entries in
+    let lays = lays_pair pairs new pair hop c.lay.result change c.unwrap-change.ensures c.lay.ensures.change c.lay.ensures.after in
+    count_to pairs pair c.lay.ensures.ordered (with_laid (state_among pairs pair) hop) change lays.is new lays.after
+    c.self.inside.spanned c.self.invariant.1 c.len.result c.len.ensures.len
+
+pub invariant_of-self : goal.invariant_of-self
+invariant_of-self c =
+    let pair = pair_of c.args.object c.args.server in
+    let pairs = c.self.inside.pairs.entries in
+    let owner = c.self.inside.owner in
+    let hop = c.wanted_hop-wanted.result in
+    let change = c.unwrap-change.result in
+    let new = c.lay.new.pairs.entries in
+    let lays = lays_pair pairs new pair hop c.lay.result change c.unwrap-change.ensures c.lay.ensures.change c.lay.ensures.after in
+    let known = known-laid owner pair (state_among pairs pair) (known-among owner pair pairs c.self.invariant.0) hop in
+    put_keeps pairs pair c.lay.ensures.ordered (with_laid (state_among pairs pair) hop) change lays.is new lays.after
+    c.self.inside.spanned c.self.invariant.1
+    owner c.span_after-self-inside.result c.span_after-self-inside.ensures c.self.invariant.0 known
+
+pub returns-clause-answer : goal.returns-clause-answer
+returns-clause-answer c =
+    let t = c.args.table.now in
+    let pair = pair_of c.args.object c.args.server in
+    let state = c.in-Some.state.now in
+    let stamp = c.args.stamp.now in
+    let others = subst (AreLaidBut t pair) (sym c.self.view_is) c.requires.others in
+    let settled =
+    settles t pair c.self.inside.pairs.entries state c.lay.ensures.ordered (sym c.in-Some.ensures.value) others in
+    let laying = λ (hop : Option Hop). layings pair state.laid hop in
+    rw (← c.self.view_is)
+    (c.from_vec-2.ensures ∙ c.in_ok-push_layings.ensures.added
+    ∙ ap (λ items. items ++ numbered stamp (laying c.wanted_hop-wanted.result)) c.new-lays.ensures.items
+    ∙ ap (numbered stamp) (ap laying c.wanted_hop-wanted.ensures ∙ sym settled.lays))
+
+pub returns-clause-after : goal.returns-clause-after
+returns-clause-after c =
+    let t = c.args.table.now in
+    let pair = pair_of c.args.object c.args.server in
+    let pairs = c.self.inside.pairs.entries in
+    let hop = c.wanted_hop-wanted.result in
+    let others = subst (AreLaidBut t pair) (sym c.self.view_is) c.requires.others in
+    let lays = lays_pair pairs c.lay.new.pairs.entries pair hop c.lay.result c.unwrap-change.result c.unwrap-change.ensures
+    c.lay.ensures.change c.lay.ensures.after in
+    rw (← c.self.view_is)
+    (ap (λ pairs. record { owner = c.self.inside.owner; pairs = pairs })
+    (lays.after ∙ laid_as_wanted t pair pairs c.in-Some.state.now hop c.lay.ensures.ordered (sym c.in-Some.ensures.value) others
+    c.wanted_hop-wanted.ensures))
+
+pub returns-clause-laid : goal.returns-clause-laid
+returns-clause-laid c =
+    let t = c.args.table.now in
+    let pair = pair_of c.args.object c.args.server in
+    let pairs = c.self.inside.pairs.entries in
+    let hop = c.wanted_hop-wanted.result in
+    let others = subst (AreLaidBut t pair) (sym c.self.view_is) c.requires.others in
+    let lays = lays_pair pairs c.lay.new.pairs.entries pair hop c.lay.result c.unwrap-change.result c.unwrap-change.ensures
+    c.lay.ensures.change c.lay.ensures.after in
+    let all = laid_as_wanted t pair pairs c.in-Some.state.now hop c.lay.ensures.ordered (sym c.in-Some.ensures.value) others
+    c.wanted_hop-wanted.ensures in
+    subst (All (λ e. e.1.laid ≡ wanted_hop t e)) (sym (lays.after ∙ all)) (all_laid t pairs)

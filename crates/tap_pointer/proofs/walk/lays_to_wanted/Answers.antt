@@ -1,0 +1,49 @@
+use Rattle.std.proofs.Common.{◌≡◌, ◌≤◌, ◌+◌, ◌++◌, ◌∷◌, true, length, All, arith, sym, ap, subst, ◌∙◌}
+use Rattle.std.specs.Map.Iter.{deref_pair}
+use Rattle.std.proofs.lemmas.List.Elements.{All-tail}
+use Rattle.std.proofs.lemmas.Map.Iter.{rest_more}
+use Rattle.tap_name.specs.Name.{IsName}
+use Rattle.tap_pointer.specs.Pointers.{is_held_or_laid, span}
+use Rattle.tap_pointer.specs.Reconcile.{layings, layings_to_wanted, numbered, wanted_hop}
+use Rattle.tap_pointer.proofs.Layings.{few_here, length_step, numbered_step}
+use Rattle.tap_pointer.proofs.walk.lays_to_wanted.Goals as goal
+
+pub push_layings-requires : goal.push_layings-requires
+push_layings-requires c =
+    let t = c.args.table.now in
+    let pair = c.in-Some.pair.now in
+    let state = c.in-Some.state.now in
+    let rest = c.next.new.self in
+    let left : c.loop-pair.pair-iterator ≡ (pair, state) ∷ rest =
+    rest_more deref_pair _ _ c.next.result (c.in-Some.pair, c.in-Some.state) c.in-Some.is c.next.ensures.steps in
+    let lays : length (layings pair state.laid c.wanted_hop-wanted.result) ≡ length (layings pair state.laid (wanted_hop t (pair, state))) =
+    ap (λ hop. length (layings pair state.laid hop)) c.wanted_hop-wanted.ensures in
+    let spans : span c.loop-pair.pair-iterator ≡ span ((pair, state) ∷ rest) = ap span left in
+    omega (arith, lays, spans, few_here t (pair, state) rest, c.loop-pair.invariant.2)
+
+pub loop-pair-preserved : goal.loop-pair-preserved
+loop-pair-preserved c =
+    let t = c.args.table.now in
+    let pair = c.in-Some.pair.now in
+    let state = c.in-Some.state.now in
+    let rest = c.next.new.self in
+    let lays = c.loop-pair.lays.items in
+    let stamp = c.loop-pair.stamp in
+    let here = layings pair state.laid (wanted_hop t (pair, state)) in
+    let left : c.loop-pair.pair-iterator ≡ (pair, state) ∷ rest =
+    rest_more deref_pair _ _ c.next.result (c.in-Some.pair, c.in-Some.state) c.in-Some.is c.next.ensures.steps in
+    let pushed : c.push_layings.new.lays.items ≡ lays ++ numbered stamp here =
+    c.in_ok-push_layings.ensures.added ∙ ap (λ hop. lays ++ numbered stamp (layings pair state.laid hop)) c.wanted_hop-wanted.ensures in
+    let stamped : c.push_layings.new.stamp ≡ stamp + length here =
+    c.in_ok-push_layings.ensures.stamped ∙ ap (λ hop. stamp + length (layings pair state.laid hop)) c.wanted_hop-wanted.ensures in
+    let spans : span c.loop-pair.pair-iterator ≡ span ((pair, state) ∷ rest) = ap span left in
+    rw (pushed, stamped) (
+      numbered_step lays (numbered c.args.stamp.now (layings_to_wanted t c.args.pairs.now.entries)) stamp here
+          (layings_to_wanted t rest) (ap (λ es. lays ++ numbered stamp (layings_to_wanted t es)) (sym left) ∙ c.loop-pair.invariant.0),
+      length_step lays c.args.stamp.now stamp here c.loop-pair.invariant.1,
+      omega (arith, spans, few_here t (pair, state) rest, c.loop-pair.invariant.2),
+      All-tail (λ e. is_held_or_laid e.1 ≡ true → IsName t.settings e.0.object) (pair, state) rest
+          (subst (All (λ e. is_held_or_laid e.1 ≡ true → IsName t.settings e.0.object)) left c.loop-pair.invariant.3),
+      All-tail (λ e. All (λ r. r.value.level ≤ length e.0.object) e.1.registers) (pair, state) rest
+          (subst (All (λ e. All (λ r. r.value.level ≤ length e.0.object) e.1.registers)) left c.loop-pair.invariant.4),
+    )

@@ -1,0 +1,113 @@
+-- Where each pair is to be laid on to, and the Lays that this takes.
+use Rattle.std.specs.Prelude.{◌≡◌, ℕ, ◌+◌, nat_eq, ◌&&◌, ◌==◌, Bool, true, false, if◌then◌else◌, List, [], ◌∷◌, ◌++◌, map, drop, All, Option, None, Some}
+use Rattle.std.specs.BTreeMap.{is_at}
+use Rattle.std.specs.Cmp.Lexicographic.{pointwise}
+use Rattle.std.specs.List.{flat_map}
+use Rattle.tap_name.specs.Name.{IsName}
+use Rattle.tap_name.specs.Settings.{SettingsValue}
+use Rattle.tap_table.specs.declared.next.Next.{Next}
+use Rattle.tap_table.specs.declared.next.Next.TheVariants.{Root, Hop as HopTo}
+use Rattle.tap_table.specs.Next.{next_from}
+use Rattle.tap_table.specs.Table.{TableValue}
+use Rattle.tap_pointer.specs.declared.hop.Hop.{Hop}
+use Rattle.tap_pointer.specs.declared.lay.Lay.{Lay}
+use Rattle.tap_pointer.specs.declared.laying.Laying.{Laying}
+use Rattle.tap_pointer.specs.declared.pair.Pair.{Pair}
+use Rattle.tap_pointer.specs.declared.state.PairState.{PairState}
+use Rattle.tap_pointer.specs.Pair.{pair_cmp}
+use Rattle.tap_pointer.specs.Pointers.{PointersValue, is_held_or_laid, level_held, with_laid}
+
+-- the hop of a next hop; the root has none
+abbrev pub hop_of : Next → Option Hop
+hop_of Root = None
+hop_of (HopTo to level) = Some (record { to = to; level = level })
+
+-- where an object is to be laid on to that is held at a level, or isn't held
+abbrev pub hop_from : TableValue → List ℕ → Option ℕ → Option Hop
+hop_from t object None = None
+hop_from t object (Some level) = hop_of (next_from t level (drop level object))
+
+-- where a pair is to be laid on to: at the next hop from the level at which it is held
+abbrev pub wanted_hop : TableValue → Pair × PairState → Option Hop
+wanted_hop t (pair, state) = hop_from t pair.object (level_held state)
+
+-- whether two hops are to one node, and whether they are the same
+abbrev pub is_to : Hop → Hop → Bool
+is_to a b = pointwise nat_eq a.to b.to
+
+abbrev pub is_same_hop : Hop → Hop → Bool
+is_same_hop a b = is_to a b && a.level == b.level
+
+-- the hop that is told off: the laid one, if another node is wanted or none
+abbrev pub told_off : Option Hop → Option Hop → Option Hop
+told_off None wanted = None
+told_off (Some laid) None = Some laid
+told_off (Some laid) (Some wanted) = if is_to laid wanted then None else Some laid
+
+-- the hop that is told on: the wanted one, if it isn't laid yet
+abbrev pub told_on : Option Hop → Option Hop → Option Hop
+told_on laid None = None
+told_on None (Some wanted) = Some wanted
+told_on (Some laid) (Some wanted) = if is_same_hop laid wanted then None else Some wanted
+
+-- the Lay for a hop, if there is one
+abbrev pub laying_at : Pair → Bool → Option Hop → List Laying
+laying_at pair on None = []
+laying_at pair on (Some hop) = record { pair = pair; hop = hop; on = on } ∷ []
+
+-- what one pair takes to be laid as wanted: the hop that is told off, then the one that is told on
+abbrev pub layings : Pair → Option Hop → Option Hop → List Laying
+layings pair laid wanted = laying_at pair false (told_off laid wanted) ++ laying_at pair true (told_on laid wanted)
+
+-- a Lay with this number
+abbrev pub lay_numbered : ℕ → Laying → Lay
+lay_numbered version l = record {
+  to = l.hop.to;
+  object = l.pair.object;
+  server = l.pair.server;
+  level = l.hop.level;
+  version = version;
+  on = l.on;
+}
+
+-- these Lays, with the numbers after this one
+abbrev pub numbered : ℕ → List Laying → List Lay
+numbered last [] = []
+numbered last (laying ∷ others) = lay_numbered (last + 1) laying ∷ numbered (last + 1) others
+
+-- what all pairs take, in their order, to be laid as wanted, and to be laid nowhere
+abbrev pub layings_to_wanted : TableValue → List (Pair × PairState) → List Laying
+layings_to_wanted t pairs = flat_map (λ e. layings e.0 e.1.laid (wanted_hop t e)) pairs
+
+abbrev pub layings_to_none : List (Pair × PairState) → List Laying
+layings_to_none pairs = flat_map (λ e. layings e.0 e.1.laid None) pairs
+
+-- a pair laid as wanted
+abbrev pub with_wanted : TableValue → Pair × PairState → Pair × PairState
+with_wanted t e = (e.0, with_laid e.1 (wanted_hop t e))
+
+-- Reconciling: the Lays, with the numbers after this one, and the pointers afterwards.
+abbrev pub reconcile_lays : TableValue → ℕ → PointersValue → List Lay
+reconcile_lays t last p = numbered last (layings_to_wanted t p.pairs)
+
+abbrev pub reconciled : TableValue → PointersValue → PointersValue
+reconciled t p = record p { pairs = map (with_wanted t) p.pairs }
+
+-- Clearing: the Lays, with the numbers after this one, and the pointers afterwards.
+abbrev pub clear_lays : ℕ → PointersValue → List Lay
+clear_lays last p = numbered last (layings_to_none p.pairs)
+
+abbrev pub cleared : PointersValue → PointersValue
+cleared p = record p { pairs = [] }
+
+-- each pair is laid as wanted
+abbrev pub AreLaid : TableValue → PointersValue → Type 0
+AreLaid t p = All (λ e. e.1.laid ≡ wanted_hop t e) p.pairs
+
+-- each pair but this one is
+abbrev pub AreLaidBut : TableValue → Pair → PointersValue → Type 0
+AreLaidBut t pair p = All (λ e. is_at (pair_cmp pair) e.0 ≡ false → e.1.laid ≡ wanted_hop t e) p.pairs
+
+-- the object of each pair that is held or laid is a name of the settings
+abbrev pub AreNamesHeld : SettingsValue → PointersValue → Type 0
+AreNamesHeld p pointers = All (λ e. is_held_or_laid e.1 ≡ true → IsName p e.0.object) pointers.pairs

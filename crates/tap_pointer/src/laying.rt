@@ -1,0 +1,111 @@
+ghost use Rattle.std.specs.Prelude.{◌≡◌, ◌+◌, ◌≤◌, true, ◌++◌, length, All, Some, OnOk};
+ghost use Rattle.tap_name.specs.Name.{IsName};
+ghost use Rattle.tap_pointer.specs.Pointers.{is_held_or_laid};
+ghost use Rattle.tap_pointer.specs.Reconcile.{hop_of, is_same_hop, is_to, laying_at, layings, numbered, told_off, told_on, wanted_hop};
+
+use crate::hop::Hop;
+use crate::lay::Lay;
+use crate::pair::Pair;
+use crate::state::PairState;
+use tap_register::Stamp;
+use tap_table::{Next, NoMemory, Table};
+
+// What a Lay says, but for its number: that a pair is laid on to this hop, or not any more.
+#[derive(Clone, Copy)]
+pub(crate) struct Laying {
+    pub(crate) pair: Pair,
+    pub(crate) hop: Hop,
+    pub(crate) on: bool,
+}
+
+// The hop of a next hop.
+fn hop_of(next: Next) -> Option<Hop>
+    ensures { result ≡ hop_of next }
+{
+    match next {
+        Next::Root => None,
+        Next::Hop { to, level } => Some(Hop { to, level }),
+    }
+}
+
+// Where a pair is to be laid on to.
+pub(crate) fn wanted_hop(table: &Table, pair: &Pair, state: &PairState) -> Option<Hop>
+    requires name { is_held_or_laid state.now ≡ true → IsName table.now.settings pair.now.object }
+    requires levels { All (λ r. r.value.level ≤ length pair.now.object) state.now.registers }
+    ensures { result ≡ wanted_hop table.now (pair.now, state.now) }
+{
+    match state.level_held() {
+        Some(level) => hop_of(table.next_hop(&pair.object, level as usize)),
+        None => None,
+    }
+}
+
+// The hop that is told off, if a pair is laid at one hop and wanted at another.
+fn told_off(laid: &Option<Hop>, wanted: &Option<Hop>) -> Option<Hop>
+    ensures { result ≡ told_off laid.now wanted.now }
+{
+    match (laid, wanted) {
+        (Some(laid), Some(wanted)) => {
+            if laid.to == wanted.to {
+                None
+            } else {
+                Some(*laid)
+            }
+        }
+        (Some(laid), None) => Some(*laid),
+        (None, _) => None,
+    }
+}
+
+// The hop that is told on.
+fn told_on(laid: &Option<Hop>, wanted: &Option<Hop>) -> Option<Hop>
+    ensures { result ≡ told_on laid.now wanted.now }
+{
+    match (laid, wanted) {
+        (Some(laid), Some(wanted)) => { if laid == wanted { None } else { Some(*wanted) } }
+        (None, Some(wanted)) => Some(*wanted),
+        (_, None) => None,
+    }
+}
+
+// Adds the Lays that a pair takes to be laid as wanted, with the next numbers of the stamp.
+pub(crate) fn push_layings(
+    lays: &mut Vec<Lay>,
+    stamp: &mut Stamp,
+    pair: &Pair,
+    laid: &Option<Hop>,
+    wanted: &Option<Hop>,
+) -> Result<(), NoMemory>
+    requires { stamp.old + length (layings pair.now laid.now wanted.now) ≤ u32.MAX }
+    ensures added { OnOk result (lays.new.items ≡ lays.old.items ++ numbered stamp.old (layings pair.now laid.now wanted.now)) }
+    ensures stamped { OnOk result (stamp.new ≡ stamp.old + length (layings pair.now laid.now wanted.now)) }
+{
+    push_laying(lays, stamp, pair, told_off(laid, wanted), false)?;
+    push_laying(lays, stamp, pair, told_on(laid, wanted), true)
+}
+
+// Adds the Lay for a hop, if there is one.
+fn push_laying(
+    lays: &mut Vec<Lay>,
+    stamp: &mut Stamp,
+    pair: &Pair,
+    hop: Option<Hop>,
+    on: bool,
+) -> Result<(), NoMemory>
+    requires { stamp.old + length (laying_at pair.now on hop) ≤ u32.MAX }
+    ensures added { OnOk result (lays.new.items ≡ lays.old.items ++ numbered stamp.old (laying_at pair.now on hop)) }
+    ensures stamped { OnOk result (stamp.new ≡ stamp.old + length (laying_at pair.now on hop)) }
+{
+    let Some(hop) = hop else {
+        return Ok(());
+    };
+    lays.push(Lay {
+        to: hop.to,
+        object: pair.object,
+        server: pair.server,
+        level: hop.level,
+        version: stamp.next(),
+        on,
+    })?;
+    Ok(())
+}

@@ -1,0 +1,286 @@
+ghost use Rattle.std.specs.Prelude.{◌≡◌, ◌+◌, ◌*◌, ◌<◌, ◌≤◌, if◌then◌else◌, not, length, map, slice_get, Some, IfOk, OnOk, OnErr};
+ghost use Rattle.tap_pointer.specs.Pointers.{IsPointers, all_withdrawn, is_news, lay_applied, least_server, no_pointers, own_pair, pair_of, pairs_held, pointer_at, published, publishes, span, withdrawn};
+ghost use Rattle.tap_pointer.specs.Reconcile.{AreLaid, AreLaidBut, AreNamesHeld, clear_lays, cleared, reconcile_lays, reconciled};
+
+use crate::change::{lay, publish, span_of, take, withdraw};
+use crate::held::Held;
+use crate::lay::Lay;
+use crate::laying::{push_layings, wanted_hop};
+use crate::pair::Pair;
+use crate::state::{PairState, Pointer};
+use crate::walk::{
+    held_at, held_count, lay_all, lays_to_none, lays_to_wanted, least_server, withdraw_all,
+};
+use std::alloc::Global;
+use std::collections::BTreeMap;
+use std::marker::Model;
+use tap_name::{List, Name};
+use tap_register::Stamp;
+use tap_table::{NoMemory, Table};
+
+/// What a node knows of the servers of objects: the objects that it publishes itself, the registers of the Lays that it
+/// was sent, and where it has laid each pair of an object and a server on to.
+///
+/// A pair is held if the node is its server and publishes its object, or if the register of a sender is on. Contracts see
+/// what is known of each pair, ascending by object, then server.
+///
+/// The pairs lie in an ordered map, so one pair is found, added and reconciled in time that grows with the logarithm of
+/// their number.
+///
+/// Rule: docs/PROTOCOL.md, "Pointers".
+#[derive(Drop)]
+pub struct Pointers {
+    alloc: Global,
+    owner: Name,
+    pairs: BTreeMap<Pair, PairState>,
+    spanned: usize,
+}
+
+impl Model for Pointers {
+    ghost use Rattle.std.specs.Prelude.{◌≡◌, All};
+    ghost use Rattle.tap_pointer.specs.Pointers.{IsKnown, PointersValue, span};
+
+    ghost Value = { PointersValue };
+
+    ghost view = { λ p. record { owner = p.owner; pairs = p.pairs.entries } };
+
+    ghost invariant = { λ p. (All (IsKnown p.owner) p.pairs.entries) × (p.spanned ≡ span p.pairs.entries) };
+}
+
+impl Pointers {
+    /// A node that knows of no pair. This takes no memory; later calls take it of `alloc`.
+    pub fn new(alloc: Global, owner: Name) -> Pointers
+        ensures { result ≡ no_pointers owner }
+    {
+        Pointers {
+            alloc,
+            owner,
+            pairs: BTreeMap::new(alloc),
+            spanned: 0,
+        }
+    }
+
+    /// The node.
+    pub fn owner(&self) -> Name
+        ensures value { result ≡ self.now.owner }
+        ensures valid { IsPointers self.now }
+    {
+        let _ordered = self.pairs.len();
+        self.owner
+    }
+
+    /// Whether the node publishes an object.
+    pub fn publishes(&self, object: Name) -> bool
+        ensures { result ≡ publishes self.now object }
+    {
+        match self.pairs.get(&self.own(object)) {
+            Some(state) => state.published,
+            None => false,
+        }
+    }
+
+    // The pair of an object that the node itself serves.
+    fn own(&self, object: Name) -> Pair
+        ensures { result ≡ own_pair self.now object }
+    {
+        Pair {
+            object,
+            server: self.owner,
+        }
+    }
+
+    /// Publishes an object, and answers whether the node didn't publish it before. A refused call changes nothing.
+    pub fn publish(&mut self, object: Name) -> Result<bool, NoMemory>
+        ensures answer { IfOk result (λ first. first ≡ not (publishes self.old object)) }
+        ensures after { OnOk result (self.new ≡ published self.old object) }
+        ensures same { OnErr result (self.new ≡ self.old) }
+    {
+        let own = self.own(object);
+        let (first, change) = publish(&mut self.pairs, self.alloc, own)?;
+        self.spanned = change.span_after(self.spanned, self.pairs.len());
+        Ok(first)
+    }
+
+    /// Withdraws an object, and answers whether the node published it. It takes no memory.
+    pub fn withdraw(&mut self, object: Name) -> bool
+        ensures answer { result ≡ publishes self.old object }
+        ensures after { self.new ≡ withdrawn self.old object }
+    {
+        let own = self.own(object);
+        let Some((published, change)) = withdraw(&mut self.pairs, &own) else {
+            return false;
+        };
+        self.spanned = change.span_after(self.spanned, self.pairs.len());
+        published
+    }
+
+    /// Withdraws every object. It takes no memory.
+    pub fn drop_all(&mut self)
+        ensures { self.new ≡ all_withdrawn self.old }
+    {
+        withdraw_all(&mut self.pairs);
+        self.spanned = span_of(&self.pairs);
+    }
+
+    /// Takes a Lay of a pair from a sender, and answers whether its version is newer than what the sender's register has.
+    /// An older Lay changes nothing, and a refused call changes nothing.
+    ///
+    /// The level is from 1 to the number of digits.
+    pub fn apply_lay(
+        &mut self,
+        from: Name,
+        object: Name,
+        server: Name,
+        level: u8,
+        version: u32,
+        on: bool,
+    ) -> Result<bool, NoMemory>
+        requires from { 1 ≤ level }
+        requires to { level ≤ length object }
+        ensures answer { IfOk result (λ newer. newer ≡ is_news self.old (pair_of object server) from version) }
+        ensures after { OnOk result (self.new ≡ lay_applied self.old (pair_of object server) from version (pointer_at level on)) }
+        ensures same { OnErr result (self.new ≡ self.old) }
+    {
+        let pair = Pair { object, server };
+        let pointer = Pointer { level, on };
+        let (newer, change) = take(&mut self.pairs, self.alloc, pair, from, version, pointer)?;
+        self.spanned = change.span_after(self.spanned, self.pairs.len());
+        Ok(newer)
+    }
+
+    /// Lays every pair that is held or laid as wanted, and gives the Lays that this takes, ascending by pair, with the
+    /// next numbers of the stamp.
+    ///
+    /// A pair is wanted at the next hop of its object, from the level at which it is held; a pair that isn't held, or
+    /// whose object's root the node is, is wanted nowhere. If it is laid elsewhere, the hop where it is laid is told off,
+    /// unless it is the same node, and then the wanted hop is told on.
+    ///
+    /// The table is the node's. The objects held or laid are names of its settings, and the stamp has two numbers left
+    /// for each pair that is held or laid. Once memory was refused, the pointers are used no more.
+    ///
+    /// Rule: docs/PROTOCOL.md, "Pointers".
+    pub fn reconcile(&mut self, table: &Table, stamp: &mut Stamp) -> Result<List<Lay>, NoMemory>
+        requires owner { table.now.owner ≡ self.old.owner }
+        requires names { AreNamesHeld table.now.settings self.old }
+        requires numbers { stamp.old + 2 * span self.old.pairs ≤ u32.MAX }
+        ensures answer { IfOk result (λ lays. lays ≡ reconcile_lays table.now stamp.old self.old) }
+        ensures after { OnOk result (self.new ≡ reconciled table.now self.old) }
+        ensures stamped { IfOk result (λ lays. stamp.new ≡ stamp.old + length lays) }
+        ensures laid { OnOk result (AreLaid table.now self.new) }
+    {
+        let lays = lays_to_wanted(self.alloc, &self.pairs, table, stamp)?;
+        lay_all(&mut self.pairs, table);
+        self.spanned = span_of(&self.pairs);
+        Ok(List::from_vec(lays))
+    }
+
+    /// Does what `reconcile` does, if no pair but this one needs it: each other pair is laid as wanted. It looks at this
+    /// pair alone.
+    ///
+    /// So it serves after a step that published or withdrew this pair or took a Lay of it, and changed no primary of the
+    /// table.
+    ///
+    /// Rule: docs/PROTOCOL.md, "Pointers".
+    pub fn reconcile_pair(
+        &mut self,
+        table: &Table,
+        stamp: &mut Stamp,
+        object: Name,
+        server: Name,
+    ) -> Result<List<Lay>, NoMemory>
+        requires owner { table.now.owner ≡ self.old.owner }
+        requires names { AreNamesHeld table.now.settings self.old }
+        requires numbers { stamp.old + 2 ≤ u32.MAX }
+        requires others { AreLaidBut table.now (pair_of object server) self.old }
+        ensures answer { IfOk result (λ lays. lays ≡ reconcile_lays table.now stamp.old self.old) }
+        ensures after { OnOk result (self.new ≡ reconciled table.now self.old) }
+        ensures stamped { IfOk result (λ lays. stamp.new ≡ stamp.old + length lays) }
+        ensures laid { OnOk result (AreLaid table.now self.new) }
+    {
+        let pair = Pair { object, server };
+        let mut lays = Vec::new(self.alloc);
+        let Some(state) = self.pairs.get(&pair) else {
+            return Ok(List::from_vec(lays));
+        };
+        let wanted = wanted_hop(table, &pair, state);
+        push_layings(&mut lays, stamp, &pair, &state.laid, &wanted)?;
+        let change = lay(&mut self.pairs, &pair, &wanted).unwrap();
+        self.spanned = change.span_after(self.spanned, self.pairs.len());
+        Ok(List::from_vec(lays))
+    }
+
+    /// Ends the pointers, with their node: the Lays that tell off every hop that is laid, ascending by pair, with the
+    /// next numbers of the stamp. Nothing is laid, held or published afterwards.
+    ///
+    /// The stamp has a number left for each pair that is held or laid. Once memory was refused, the pointers are used no
+    /// more.
+    ///
+    /// Rule: docs/PROTOCOL.md, "Pointers".
+    pub fn clear(&mut self, stamp: &mut Stamp) -> Result<List<Lay>, NoMemory>
+        requires numbers { stamp.old + span self.old.pairs ≤ u32.MAX }
+        ensures answer { IfOk result (λ lays. lays ≡ clear_lays stamp.old self.old) }
+        ensures after { OnOk result (self.new ≡ cleared self.old) }
+        ensures stamped { IfOk result (λ lays. stamp.new ≡ stamp.old + length lays) }
+    {
+        let lays = lays_to_none(self.alloc, &self.pairs, stamp)?;
+        self.pairs.clear();
+        self.spanned = 0;
+        Ok(List::from_vec(lays))
+    }
+
+    /// The least server held for an object, `None` exactly where no pair of the object is held.
+    ///
+    /// Rule: docs/PROTOCOL.md, "Pointers".
+    pub fn lookup(&self, object: Name) -> Option<Name>
+        ensures { result ≡ least_server self.now object }
+    {
+        least_server(&self.pairs, &object)
+    }
+
+    /// The pairs that are held, ascending by object, then server.
+    pub fn held(&self) -> Held<'_>
+        ensures { result ≡ pairs_held self.now }
+    {
+        Held::new(self.pairs.iter())
+    }
+
+    /// How many pairs are held. It walks over the pairs.
+    pub fn count(&self) -> usize
+        ensures { result ≡ length (pairs_held self.now) }
+    {
+        held_count(&self.pairs)
+    }
+
+    /// The object of a pair that is held, by its place in ascending order of pairs, from 0. It walks over the pairs up to
+    /// this one: `held` gives one after another.
+    pub fn object_at(&self, i: usize) -> Name
+        requires { i < length (pairs_held self.now) }
+        ensures { slice_get (map (λ p. p.object) (pairs_held self.now)) i ≡ Some result }
+    {
+        self.pair_at(i).object
+    }
+
+    /// The server of a pair that is held, by its place in ascending order of pairs, from 0. It walks over the pairs up to
+    /// this one: `held` gives one after another.
+    pub fn server_at(&self, i: usize) -> Name
+        requires { i < length (pairs_held self.now) }
+        ensures { slice_get (map (λ p. p.server) (pairs_held self.now)) i ≡ Some result }
+    {
+        self.pair_at(i).server
+    }
+
+    /// How many pairs are held or laid. It is kept, so this takes the same time for any number.
+    pub fn span(&self) -> usize
+        ensures { result ≡ span self.now.pairs }
+    {
+        self.spanned
+    }
+
+    // A pair that is held, by its place.
+    fn pair_at(&self, i: usize) -> Pair
+        requires { i < length (pairs_held self.now) }
+        ensures { slice_get (pairs_held self.now) i ≡ Some result }
+    {
+        held_at(&self.pairs, i).unwrap()
+    }
+}
