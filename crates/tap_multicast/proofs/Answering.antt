@@ -1,5 +1,5 @@
 -- A slot that has a primary is answered exactly if it is watched.
-use Rattle.std.proofs.Common.{◌≡◌, ◌↔◌, ℕ, ◌&&◌, zero, suc, Bool, true, false, Option, None, Some, List, [], ◌∷◌, Contains, IsTrue, is_some, arith, ap, refl, sym, ◌∙◌, inl, inr}
+use Rattle.std.proofs.Common.{◌≡◌, ◌↔◌, ℕ, ◌&&◌, zero, suc, Bool, true, false, Option, None, Some, List, [], ◌∷◌, Contains, IsTrue, is_some, arith, refl, sym, inl, inr}
 use Rattle.std.proofs.lemmas.Bool.{and_right, cases_Bool, or_right}
 use Rattle.std.proofs.lemmas.Bool.Decides.{nat_tests}
 use Rattle.std.proofs.lemmas.Map.Views.{any-filter_same, Contains-from_any}

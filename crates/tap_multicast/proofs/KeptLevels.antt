@@ -1,5 +1,5 @@
 -- The level that is kept of each joiner, after a further word of one.
-use Rattle.std.proofs.Common.{◌≡◌, ◌≢◌, ◌↔◌, ℕ, ◌<◌, ◌≤◌, true, false, if◌then◌else◌, List, Option, None, Some, [], ◌∷◌, arith, ap, refl, sym, ◌∙◌, inl, inr}
+use Rattle.std.proofs.Common.{◌≡◌, ◌≢◌, ◌↔◌, ℕ, ◌≤◌, true, false, if◌then◌else◌, List, Option, None, Some, [], ◌∷◌, arith, ap, refl, ◌∙◌, inl, inr}
 use Rattle.std.specs.BTreeMap.{insert_entry}
 use Rattle.std.specs.Ordering.{is_eq, ordering_reverse}
 use Rattle.std.specs.declared.cmp.Ordering.{Ordering}
@@ -8,7 +8,7 @@ use Rattle.std.proofs.lemmas.Bool.{cases_Bool, cases_lt, le-leb, lt-leb}
 use Rattle.std.proofs.lemmas.Cmp.{nat_list_cmp_total}
 use Rattle.tap_name.specs.declared.slot.Slot.{Slot}
 use Rattle.tap_name.specs.Order.{name_cmp}
-use Rattle.tap_name.proofs.Orders.{name_cmp-equal, name_cmp-itself}
+use Rattle.tap_name.proofs.Orders.{name_cmp-equal}
 use Rattle.tap_table.specs.Table.{TableValue}
 use Rattle.tap_table.proofs.Near.{apart_names, tied_itself}
 use Rattle.tap_multicast.specs.declared.covers.Covered.TheVariants.{Already}

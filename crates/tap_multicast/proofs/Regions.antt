@@ -1,5 +1,5 @@
 -- Where a cover reaches: its targets share the joiner's prefix, and what is offered in a watched slot fits it at the joiner.
-use Rattle.std.proofs.Common.{◌≡◌, ℕ, ◌+◌, ◌<◌, ◌≤◌, true, Option, None, Some, List, get_or, length, arith, ap, refl, sym, ◌∙◌, inl, inr}
+use Rattle.std.proofs.Common.{◌≡◌, ℕ, ◌<◌, ◌≤◌, Option, Some, List, get_or, arith, ap, refl, sym, ◌∙◌, inl, inr}
 use Rattle.std.specs.Prelude.{nat_le, nat_lt}
 use Rattle.std.proofs.lemmas.Bool.{and_parts, cases_lt, leb-true}
 use Rattle.tap_name.specs.declared.slot.Slot.{Slot}
@@ -18,7 +18,7 @@ use Rattle.tap_watch.specs.Watch.{IsWatched}
 use Rattle.tap_multicast.specs.declared.cover.Cover.{Cover}
 use Rattle.tap_multicast.specs.declared.target.Target.{Target}
 use Rattle.tap_multicast.specs.Covers.{MayCover, cover_of}
-use Rattle.tap_multicast.specs.Targets.{is_between, is_covered, is_introduced}
+use Rattle.tap_multicast.specs.Targets.{is_between}
 use Rattle.tap_multicast.proofs.Linked.{primary_stands}
 use Rattle.tap_multicast.proofs.Telling.{IsTarget}
 

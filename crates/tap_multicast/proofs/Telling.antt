@@ -1,8 +1,8 @@
 -- Whom a cover tells: each target is a pin or a primary of the levels that are covered, or an introduced pin, and all of
 -- these but the joiner are told, in ascending order.
-use Rattle.std.proofs.Common.{◌≡◌, ◌≢◌, ◌⊎◌, ◌||◌, ◌&&◌, ℕ, ◌+◌, ◌<◌, ◌≤◌, Bool, true, false, not, Option, None, Some, List, filter, map, nat_eq, slice_get, All, arith, ap, refl, sym, ◌∙◌, inl, inr}
+use Rattle.std.proofs.Common.{◌≡◌, ◌≢◌, ◌⊎◌, ◌||◌, ◌&&◌, ℕ, ◌+◌, ◌<◌, ◌≤◌, Bool, true, false, not, Option, None, Some, List, filter, map, nat_eq, slice_get, All, ap, refl, sym, ◌∙◌, inl, inr}
 use Rattle.std.specs.Cmp.Lexicographic.{pointwise}
-use Rattle.std.proofs.lemmas.Bool.{and_from, and_parts, cases_lt, le-leb, le-ltb, lt-leb, lt-ltb, not-true, not_from_false, or_cases, or_right}
+use Rattle.std.proofs.lemmas.Bool.{and_parts, cases_lt, le-leb, lt-ltb, not-true, not_from_false, or_cases, or_right}
 use Rattle.std.proofs.lemmas.List.Elements.{All-map}
 use Rattle.std.proofs.lemmas.Slice.Eq.{bytes_eq-Decides}
 use Rattle.tap_name.specs.Name.{IsName}
@@ -16,7 +16,7 @@ use Rattle.tap_link.specs.declared.kind.Kind.TheVariants.{Leaving, Pin, Settled}
 use Rattle.tap_link.specs.Entry.{Entry}
 use Rattle.tap_link.specs.LinkSet.{is_pinned, least_settled}
 use Rattle.tap_table.specs.ByName.{by_name}
-use Rattle.tap_table.specs.Table.{IsTable, TableValue, kind_in, links_at, place_of}
+use Rattle.tap_table.specs.Table.{IsTable, TableValue, kind_in, links_at}
 use Rattle.tap_table.proofs.AtRest.{All-filtered}
 use Rattle.tap_table.proofs.ByName.{by_name-ascending, by_name_is_found, found_by_name}
 use Rattle.tap_table.proofs.Found.{link_to, linked_is_other}
@@ -78,10 +78,13 @@ module _ (t : TableValue) (valid : IsTable t) (cover : Cover) where
         which = elim (or_cases (is_covered cover level && (pin || primary)) (is_introduced cover level && pin) parts.1) [
           | inl now ↦
               let both = and_parts (is_covered cover level) (pin || primary) now in
-              inl (both.0, elim (or_cases pin primary both.1) [
-                | inl pinned ↦ inl (pinned_kind e.kind pinned)
-                | inr first ↦ inr (primary_is (primary_near t e.target) e.target first)
-              ])
+              inl (
+                both.0,
+                elim (or_cases pin primary both.1) [
+                  | inl pinned ↦ inl (pinned_kind e.kind pinned)
+                  | inr first ↦ inr (primary_is (primary_near t e.target) e.target first)
+                ],
+              )
           | inr introduced ↦
               let both = and_parts (is_introduced cover level) pin introduced in
               inr (both.0, pinned_kind e.kind both.1)

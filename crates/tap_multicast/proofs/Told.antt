@@ -1,5 +1,5 @@
 -- The targets of a cover, slot by slot in the order of names: none at a level that is neither covered nor introduced.
-use Rattle.std.proofs.Common.{◌≡◌, ℕ, ◌+◌, ◌-◌, ◌<◌, ◌||◌, false, not, List, [], ◌∷◌, ◌++◌, filter, get_or, map, nat_eq, Option, ap, sym, refl, ◌∙◌}
+use Rattle.std.proofs.Common.{◌≡◌, ℕ, ◌+◌, ◌-◌, ◌<◌, ◌||◌, false, not, List, [], ◌∷◌, filter, get_or, map, nat_eq, Option, ap, sym, refl, ◌∙◌}
 use Rattle.std.specs.Cmp.Lexicographic.{pointwise}
 use Rattle.std.specs.List.{flat_map, range_with_len}
 use Rattle.std.proofs.lemmas.Bool.{and_right, or_parts}
@@ -8,7 +8,7 @@ use Rattle.tap_name.specs.Prefix.{lcp}
 use Rattle.tap_name.proofs.Prefixes.{lcp-is}
 use Rattle.tap_link.specs.Entry.{Entry}
 use Rattle.tap_link.specs.LinkSet.{least_settled}
-use Rattle.tap_table.specs.ByName.{by_name, slots_by_name}
+use Rattle.tap_table.specs.ByName.{slots_by_name}
 use Rattle.tap_table.specs.declared.slot_range.SlotRange.{SlotRange}
 use Rattle.tap_table.specs.Table.{IsTable, SlotLinks, TableValue, links_at, place_of}
 use Rattle.tap_table.proofs.ByName.{slots_inside}

@@ -41,13 +41,7 @@ impl Cover {
     }
 
     // Whether a link is told that stands in a slot of this level with this primary.
-    pub(crate) fn tells(
-        &self,
-        level: u8,
-        primary: &Option<Name>,
-        target: &Name,
-        kind: Kind,
-    ) -> bool
+    pub(crate) fn tells(&self, level: u8, primary: &Option<Name>, target: &Name, kind: Kind) -> bool
         ensures { result ≡ tells self.now level primary.now (record { target = target.now; kind = kind }) }
     {
         if self.joiner == *target {

@@ -29,7 +29,13 @@ pub(crate) fn offer(
     if cover.first {
         let ranges = 2 * table.settings().digits() as usize;
         for i in 0..ranges {
-            push_range(&mut offer, table, watch, cover.joiner, table.range_by_name(i))?;
+            push_range(
+                &mut offer,
+                table,
+                watch,
+                cover.joiner,
+                table.range_by_name(i),
+            )?;
         }
     }
     Ok(offer)
@@ -92,13 +98,7 @@ fn is_watched(watch: &Watch, slot: Slot, primary: &Option<Name>) -> bool
 }
 
 // Whether a link is offered that stands in a slot with this primary, which is answered or not.
-fn offers(
-    joiner: &Name,
-    answered: bool,
-    primary: &Option<Name>,
-    target: &Name,
-    kind: Kind,
-) -> bool
+fn offers(joiner: &Name, answered: bool, primary: &Option<Name>, target: &Name, kind: Kind) -> bool
     ensures { result ≡ offers joiner.now answered primary.now (record { target = target.now; kind = kind }) }
 {
     (is_pin(kind) && *joiner != *target) || (answered && is_primary(primary, target))
@@ -136,12 +136,7 @@ pub(crate) fn left_watch(
 }
 
 // The slots of a watch that the owner of the table doesn't answer.
-fn unanswered(
-    alloc: Global,
-    table: &Table,
-    watch: &Watch,
-    cover: &Cover,
-) -> Result<Watch, NoMemory>
+fn unanswered(alloc: Global, table: &Table, watch: &Watch, cover: &Cover) -> Result<Watch, NoMemory>
     requires joiner { IsName table.now.settings cover.now.joiner }
     requires prefix { cover.now.prefix < table.now.settings.digits }
     requires watched { All (MayWatch table.now.settings.base cover.now.prefix) watch.now }

@@ -12,11 +12,7 @@ use tap_name::{Name, Slot};
 use tap_table::{NoMemory, SlotRange, Table};
 
 // The targets of a cover, ascending by name.
-pub(crate) fn targets(
-    alloc: Global,
-    table: &Table,
-    cover: &Cover,
-) -> Result<Vec<Target>, NoMemory>
+pub(crate) fn targets(alloc: Global, table: &Table, cover: &Cover) -> Result<Vec<Target>, NoMemory>
     ensures { IfOk result (λ list. list.items ≡ targets table.now cover.now) }
 {
     let mut targets = Vec::new(alloc);

@@ -227,7 +227,11 @@ fn words_of(alloc: Global, covered: Covered) -> Result<Vec<u8>, Fail> {
             targets,
             left,
         } => {
-            text.extend_from_slice(if first { b"first: offer" } else { b"again: offer" })?;
+            text.extend_from_slice(if first {
+                b"first: offer"
+            } else {
+                b"again: offer"
+            })?;
             for link in offer.as_slice() {
                 put_name(&mut text, &link.name)?;
                 if link.settled {

@@ -1,5 +1,4 @@
-use Rattle.std.proofs.Common.{◌≡◌, ◌&&◌, true, is_some, sym, ◌∙◌}
-use Rattle.tap_multicast.specs.Offer.{has_slot}
+use Rattle.std.proofs.Common.{◌≡◌, true, is_some, sym, ◌∙◌}
 use Rattle.tap_multicast.proofs.Answering.{has_slot-is}
 use Rattle.tap_multicast.proofs.offer.is_watched.Goals as goal
 

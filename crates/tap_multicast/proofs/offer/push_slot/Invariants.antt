@@ -1,6 +1,5 @@
 use Rattle.std.proofs.Common.{◌≡◌, ◌++◌, drop}
 use Rattle.tap_multicast.specs.Offer.{offered_as, offers}
-use Rattle.tap_multicast.specs.Slots.{offered_among}
 use Rattle.tap_multicast.proofs.Picked.{picked}
 use Rattle.tap_multicast.proofs.offer.push_slot.Given as goal
 

@@ -6,7 +6,7 @@ use Rattle.tap_name.specs.Slot.{Precedes, slot_at}
 use Rattle.tap_link.specs.LinkSet.{least_settled}
 use Rattle.tap_table.specs.Members.{is_slot}
 use Rattle.tap_table.specs.Table.{links_at}
-use Rattle.tap_multicast.specs.Offer.{answers, unanswered}
+use Rattle.tap_multicast.specs.Offer.{answers}
 use Rattle.tap_multicast.proofs.offer.unanswered.Goals as goal
 use Rattle.tap_multicast.proofs.offer.unanswered.Goals.{then-not-answers+in_ok-push, else-not-answers}
 
