@@ -76,7 +76,7 @@ records_of-with item true groups = refl
 records_of-with item false [] = refl
 records_of-with item false (group ∷ groups) = refl
 
--- no record is lost where they are parted
+-- no record is lost by parting them
 pub records_of-parted : (carried : Bool) (items : List Record) → records_of (parted carried items) ≡ items
 records_of-parted carried [] = refl
 records_of-parted carried (item ∷ items) =
