@@ -16,6 +16,7 @@ use Rattle.tap_rule.specs.Sent.{IsAmong}
 use Rattle.tap_rule.specs.Steps.{AnswerStep}
 use Rattle.tap_rule.specs.Laws.{AnswerLaw, IsCarriedOut, frame_to}
 use Rattle.tap_rule.proofs.CarriedOut.{frame_law}
+use Rattle.tap_rule.proofs.OneName.{parent_told}
 
 -- a number is itself
 same_number : (n : ℕ) → (n == n) ≡ true
@@ -29,11 +30,11 @@ module _ (node : NodeState) (session : ℕ) (acted : Acted) (are : AreSessions n
   answered_step : IsCarriedOut node (answered node session) acted → AnswerStep node session acted
   answered_step carried =
       let look : (number : ℕ) → session_at acted.state number
-          ≡ (if session == number then option_and_then with_answer (session_at node session) else session_at node number) =
-          λ number. ap (λ (s : SessionsValue). session_of s.sessions number) carried.sessions
-          ∙ session_of-answered node.sessions are session number in
+      ≡ (if session == number then option_and_then with_answer (session_at node session) else session_at node number) =
+      λ number. ap (λ (s : SessionsValue). session_of s.sessions number) carried.sessions
+      ∙ session_of-answered node.sessions are session number in
       let own : session_at acted.state session ≡ option_and_then with_answer (session_at node session) =
-          look session ∙ rw (same_number session) refl in
+      look session ∙ rw (same_number session) refl in
       record {
         joins = record { status = carried.status; covers = carried.covers; greeted = carried.greeted; abandoned = carried.abandoned };
         ties = carried.ties;
@@ -47,7 +48,7 @@ module _ (node : NodeState) (session : ℕ) (acted : Acted) (are : AreSessions n
         closes = λ s is last. (
           own ∙ rw (is, last) refl,
           let among : IsAmong (answer_for s.parent) (answer_sends (answer_to (session_at node session))) = rw (is, last) (inl refl) in
-          carried.sent.named (answer_for s.parent) among
+              parent_told node s.parent acted.sent (carried.sent.named (answer_for s.parent) among),
         );
         sent = carried.sent;
       }

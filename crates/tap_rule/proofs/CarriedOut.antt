@@ -43,19 +43,41 @@ are_sent from r =
 -- a step that ends as its rule says, and one that ends with reconciling
 as_it_says : (node : NodeState) (r : Reaction) → IsCarriedOut node r (carried_out (name_of node) r)
 as_it_says node r = record {
-  status = refl; ties = refl; stamp = omega arith; sessions = refl; covers = refl; greeted = refl; abandoned = refl;
-  awaited = refl; casts = refl; cast_sessions = refl; cast_numbers = refl; sent = are_sent (name_of node) r; news = refl;
+  status = refl;
+  ties = refl;
+  stamp = omega arith;
+  sessions = refl;
+  covers = refl;
+  greeted = refl;
+  abandoned = refl;
+  awaited = refl;
+  casts = refl;
+  cast_sessions = refl;
+  cast_numbers = refl;
+  sent = are_sent (name_of node) r;
+  news = refl;
   taken = refl;
 }
 
 reconciling : (node : NodeState) (r : Reaction) → IsCarriedOut node r (carried_out (name_of node) (reconciles r))
 reconciling node r = record {
-  status = refl; ties = refl; stamp = omega arith; sessions = refl; covers = refl; greeted = refl; abandoned = refl;
-  awaited = refl; casts = refl; cast_sessions = refl; cast_numbers = refl;
-  sent = are_sent (name_of node) (reconciles r); news = refl; taken = refl;
+  status = refl;
+  ties = refl;
+  stamp = omega arith;
+  sessions = refl;
+  covers = refl;
+  greeted = refl;
+  abandoned = refl;
+  awaited = refl;
+  casts = refl;
+  cast_sessions = refl;
+  cast_numbers = refl;
+  sent = are_sent (name_of node) (reconciles r);
+  news = refl;
+  taken = refl;
 }
 
-completing : (node : NodeState) (r : Reaction) (status : Status)
+pub completing : (node : NodeState) (r : Reaction) (status : Status)
     → IsCarriedOut node r (carried_out (name_of node) (completed status r))
 completing node r Joining = reconciling node r
 completing node r Core = reconciling node r
@@ -71,7 +93,8 @@ pub unruled_law : UnruledLaw
 unfolding act
 unruled_law node frame none = step (is_strange node frame)
   where
-    step : (strange : Bool) → IsIgnored node (cond strange (refuses node) (follows node (rule_of_frame node.status node frame.from frame.body)))
+    step : (strange : Bool) → IsIgnored node
+        (cond strange (refuses node) (follows node (rule_of_frame node.status node frame.from frame.body)))
     step true = record { state = refl; sent = refl; news = refl }
     step false = rw none (record { state = refl; sent = refl; news = refl })
 

@@ -38,6 +38,7 @@ use Rattle.tap_rule.specs.JoinSteps.{CoverStep, SeekStep, SpreadStep, found_for}
 use Rattle.tap_rule.specs.Laws.{IsCarriedOut, SeekLaw, TellLaw, frame_to, tell_of}
 use Rattle.tap_rule.proofs.Among.{among-first, among-map, among-second}
 use Rattle.tap_rule.proofs.CarriedOut.{frame_law}
+use Rattle.tap_rule.proofs.OneName.{parent_told}
 use Rattle.tap_rule.proofs.JoinSteps.{IsTellFit, pin_step, tell_fits}
 
 -- who waits for nobody has no target
@@ -81,9 +82,9 @@ module _ (node : NodeState) (request : Request) (acted : Acted) where
     -- a node with the joiner pinned and covered, which waits for nobody or opens a session
     spread_as : (none : Bool) → (answers_awaited first (length targets) == 0) ≡ none
         → IsCarriedOut node (with_words (words_of (pin_word node request.joiner)) (cond none
-            (sends (with_level (with_pin node request.joiner) request) (answer_for request.parent ∷ []))
-            (sends (with_session (with_level (with_pin node request.joiner) request) request.parent request.depth
-              (answers_awaited first (length targets))) messages))) acted
+        (sends (with_level (with_pin node request.joiner) request) (answer_for request.parent ∷ []))
+        (sends (with_session (with_level (with_pin node request.joiner) request) request.parent request.depth
+        (answers_awaited first (length targets))) messages))) acted
         → Spread
     spread_as true is carried =
         let none : answers_awaited first (length targets) ≡ 0 = eqb-true (answers_awaited first (length targets)) 0 is in
@@ -93,7 +94,10 @@ module _ (node : NodeState) (request : Request) (acted : Acted) where
           links = carried.sent.links;
           covers = carried.covers;
           spreads = record {
-            alone = λ zero. (carried.sessions, carried.sent.named (answer_for request.parent) (inl refl));
+            alone = λ zero. (
+              carried.sessions,
+              parent_told node request.parent acted.sent (carried.sent.named (answer_for request.parent) (inl refl)),
+            );
             opens = λ some. absurd (some none);
             greets = λ yes. absurd (never_alone first targets none yes);
             tells = λ target among. absurd (no_targets first targets target none among);
@@ -114,12 +118,18 @@ module _ (node : NodeState) (request : Request) (acted : Acted) where
 
   module _ (ties : AreTies node.ties) (is_name : IsName (settings_of node) request.joiner) (fits : IsTellFit node request.joiner) where
     cover_as : (found : Covered) → found_for node request ≡ found
-        → IsCarriedOut node (with_words (words_of (pin_word node request.joiner)) (covers_as (with_pin node request.joiner) request found)) acted
+        → IsCarriedOut node
+            (with_words (words_of (pin_word node request.joiner)) (covers_as (with_pin node request.joiner) request found)) acted
         → CoverStep node request acted
     cover_as Already is carried = record {
       status = carried.status;
       pins = pin_step node request.joiner acted ties is_name fits.apart fits.pin carried.ties carried.sent.links;
-      covers = rw is (carried.covers, carried.sessions, carried.sent.named (answer_for request.parent) (inl refl));
+      covers =
+          rw is (
+            carried.covers,
+            carried.sessions,
+            parent_told node request.parent acted.sent (carried.sent.named (answer_for request.parent) (inl refl)),
+          );
     }
     cover_as (Now first offer targets left) is carried =
         let both = spread_as first offer targets left (answers_awaited first (length targets) == 0) refl carried in
@@ -168,13 +178,13 @@ pin_or_none (Some Settled) unsettled staying = absurd (unsettled refl)
 pin_or_none (Some Leaving) unsettled staying = absurd (true≢false staying)
 
 -- what isn't strange about a Seek at the surrogate: its joiner is another node, and is pinned if there is a link to it
-seek_fits : (node : NodeState) (from joiner : List ℕ) (prefix : ℕ) → is_strange node (frame_to node from (Seek joiner)) ≡ false
+pub seek_fits : (node : NodeState) (from joiner : List ℕ) (prefix : ℕ) → is_strange node (frame_to node from (Seek joiner)) ≡ false
     → sought node.ties.table joiner ≡ Surrogate prefix → IsTellFit node joiner
 unfolding is_strange_body
 seek_fits node from joiner prefix taken is =
     let many = is_too_many node (names_to_link from (Seek joiner)) in
     let body = or_parts (is_own node from) (is_strange_seek node joiner)
-        (or_parts (is_own node from || is_strange_seek node joiner) many taken).0 in
+    (or_parts (is_own node from || is_strange_seek node joiner) many taken).0 in
     let covered_before = is_some (level_of node joiner) in
     let parts = or_parts (is_own node joiner || covered_before) (is_leaving (link_to node joiner)) body.1 in
     let own = or_parts (is_own node joiner) covered_before parts.0 in
@@ -185,14 +195,14 @@ seek_fits node from joiner prefix taken is =
     }
 
 module _ (node : NodeState) (joiner : List ℕ) (acted : Acted) (ties : AreTies node.ties) (is_name : IsName (settings_of node) joiner)
-    where
-  seek_as : (found : Sought) → sought node.ties.table joiner ≡ found
-      → ((prefix : ℕ) → sought node.ties.table joiner ≡ Surrogate prefix → IsTellFit node joiner)
-      → IsCarriedOut node (seeks_as node joiner found) acted → SeekStep node joiner acted
-  seek_as (Forward next) is fits carried =
-      rw is (carried.ties, carried.covers, carried.sessions, carried.sent.named (message next (Seek joiner)) (inl refl))
-  seek_as (Surrogate prefix) is fits carried =
-      rw is (cover_step node (first_request node joiner prefix) acted ties is_name (fits prefix is) carried)
+  where
+    seek_as : (found : Sought) → sought node.ties.table joiner ≡ found
+        → ((prefix : ℕ) → sought node.ties.table joiner ≡ Surrogate prefix → IsTellFit node joiner)
+        → IsCarriedOut node (seeks_as node joiner found) acted → SeekStep node joiner acted
+    seek_as (Forward next) is fits carried =
+        rw is (carried.ties, carried.covers, carried.sessions, carried.sent.named (message next (Seek joiner)) (inl refl))
+    seek_as (Surrogate prefix) is fits carried =
+        rw is (cover_step node (first_request node joiner prefix) acted ties is_name (fits prefix is) carried)
 
 pub seek_law : SeekLaw
 unfolding frame_at_core

@@ -1,4 +1,4 @@
--- What Tell and Done change at a joining node.
+-- What Tell, Hello and Done change at a joining node.
 use Rattle.std.proofs.Common.{◌≡◌, ◌≢◌, ◌⊎◌, ◌||◌, ℕ, ◌+◌, nat_lt, ◌==◌, Bool, cond, List, [], ◌∷◌, ◌++◌, Option, Some, None, true, false, refl, sym, ap, ◌∙◌, inl, inr}
 use Rattle.std.proofs.lemmas.Bool.{or_parts, or_right, true≢false}
 use Rattle.std.proofs.lemmas.Slice.Eq.{bytes_eq-Decides}
@@ -24,11 +24,11 @@ use Rattle.tap_rule.specs.Event.{Acted}
 use Rattle.tap_rule.specs.Reaction.{message, pin_word, sends, with_pin, with_words}
 use Rattle.tap_rule.specs.Strange.{is_no_pin, is_own, is_strange, is_strange_body, is_strange_tell, is_too_many, most_depth, names_to_link}
 use Rattle.tap_rule.specs.FrameRules.{frame_at_joining}
-use Rattle.tap_rule.specs.Joining.{becomes_core, meets, welcomes}
+use Rattle.tap_rule.specs.Joining.{becomes_core, meets, takes_hello, welcomes}
 use Rattle.tap_rule.specs.Sending.{link_frame, message_frame}
 use Rattle.tap_rule.specs.Sent.{IsAmong}
 use Rattle.tap_rule.specs.JoinSteps.{DoneStep, MeetStep, PinStep}
-use Rattle.tap_rule.specs.Laws.{DoneLaw, IsCarriedOut, MeetLaw, frame_to, tell_of}
+use Rattle.tap_rule.specs.Laws.{DoneLaw, HelloLaw, IsCarriedOut, MeetLaw, frame_to, tell_of}
 use Rattle.tap_rule.proofs.CarriedOut.{frame_law}
 use Rattle.tap_rule.proofs.OneName.{others_stay}
 
@@ -46,7 +46,7 @@ module _ (node : NodeState) (joiner : List ℕ) (acted : Acted) (ties : AreTies 
       → PinStep node joiner acted
   pin_step are links =
       let link : (name : List ℕ) → link_to acted.state name ≡ by_rule joiner name kind_pinned (link_to node name) =
-          λ name. ap (λ (t : TiesValue). kind_in t.table name) are ∙ kind_in-pinned node.ties.table joiner ties.table is_name apart name in
+      λ name. ap (λ (t : TiesValue). kind_in t.table name) are ∙ kind_in-pinned node.ties.table joiner ties.table is_name apart name in
       record {
         holders = ap (λ (t : TiesValue). t.holders) are;
         others = λ name. others_stay joiner name kind_pinned (link_to acted.state name) (link_to node name) (link name);
@@ -67,7 +67,7 @@ unfolding is_strange_body
 tell_fits node from tell watch taken =
     let many = is_too_many node (names_to_link from (tell_of tell watch)) in
     let body = or_parts (is_own node from) (is_strange_tell node tell.joiner tell.prefix tell.depth)
-        (or_parts (is_own node from || is_strange_tell node tell.joiner tell.prefix tell.depth) many taken).0 in
+    (or_parts (is_own node from || is_strange_tell node tell.joiner tell.prefix tell.depth) many taken).0 in
     let deep = tell.depth == most_depth in
     let long = nat_lt (lcp (name_of node) tell.joiner) tell.prefix in
     let linked = is_no_pin (link_to node tell.joiner) in
@@ -89,7 +89,7 @@ module _ (node : NodeState) (from : List ℕ) (tell : TellFields) (acted : Acted
     (is_name : IsName (settings_of node) tell.joiner) (fits : IsTellFit node tell.joiner) where
   met_as : (before : Bool) → has_name node.greeted tell.joiner ≡ before
       → IsCarriedOut node (with_words (words_of (pin_word node tell.joiner)) (cond before
-          (sends (with_pin node tell.joiner) (message from (Ack tell.session) ∷ [])) (welcomes (with_pin node tell.joiner) from tell))) acted
+      (sends (with_pin node tell.joiner) (message from (Ack tell.session) ∷ [])) (welcomes (with_pin node tell.joiner) from tell))) acted
       → MeetStep node from tell acted
   met_as true is carried = record {
     status = carried.status;
@@ -106,7 +106,7 @@ module _ (node : NodeState) (from : List ℕ) (tell : TellFields) (acted : Acted
     greets = λ new. (
       carried.sessions,
       rw carried.greeted (added node.greeted tell.joiner),
-      carried.sent.named (message tell.joiner (Hello (node.sessions.opened + 1) false [])) (inl refl)
+      carried.sent.named (message tell.joiner (Hello (node.sessions.opened + 1) false [])) (inl refl),
     );
   }
 
@@ -115,6 +115,18 @@ unfolding frame_at_joining
 meet_law node from tell watch ties is_name at taken =
     met_as node from tell _ ties is_name (tell_fits node from tell watch taken) (has_name node.greeted tell.joiner) refl
     (frame_law node (frame_to node from (tell_of tell watch)) (meets node from tell) taken (rw at refl))
+
+pub hello_law : HelloLaw
+unfolding frame_at_joining
+hello_law node from session core links at taken =
+    let frame = frame_to node from (Hello session core links) in
+    let carried = frame_law node frame (takes_hello node from session core links) taken (rw at refl) in
+    record {
+      joins = record { status = carried.status; covers = carried.covers; greeted = carried.greeted; abandoned = carried.abandoned };
+      sessions = carried.sessions;
+      ties = carried.ties;
+      sent = carried.sent;
+    }
 
 pub done_law : DoneLaw
 unfolding frame_at_joining

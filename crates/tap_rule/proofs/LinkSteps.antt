@@ -1,7 +1,7 @@
 -- What Release, Forget and Link change.
-use Rattle.std.proofs.Common.{◌≡◌, ◌≢◌, ◌⊎◌, ℕ, ◌+◌, Bool, List, [], ◌∷◌, Option, Some, None, true, false, refl, sym, ap, ◌∙◌, inl, inr, if◌then◌else◌}
+use Rattle.std.proofs.Common.{◌≡◌, ◌≢◌, ◌⊎◌, ℕ, ◌+◌, Bool, List, [], ◌∷◌, Option, Some, None, true, false, refl, sym, ap, subst, ◌∙◌, inl, inr, if◌then◌else◌}
 use Rattle.std.specs.Ordering.{is_eq}
-use Rattle.std.proofs.lemmas.Bool.{cases_Bool}
+use Rattle.std.proofs.lemmas.Bool.{and_right, cases_Bool}
 use Rattle.std.proofs.lemmas.Cmp.{nat_list_cmp_total}
 use Rattle.tap_name.specs.Name.{IsName}
 use Rattle.tap_name.specs.Order.{name_cmp}
@@ -9,7 +9,7 @@ use Rattle.tap_register.proofs.Applied.{entry_of-applied}
 use Rattle.tap_link.specs.declared.kind.Kind.{Kind}
 use Rattle.tap_link.specs.declared.kind.Kind.TheVariants.{Pin}
 use Rattle.tap_link.proofs.TargetKinds.{kind_forgotten, kind_released}
-use Rattle.tap_register.specs.Registers.{entry_of, newest}
+use Rattle.tap_register.specs.Registers.{entry_of, newest, supersedes}
 use Rattle.tap_table.specs.declared.tie.Tie.{Tie}
 use Rattle.tap_table.specs.Table.{has_room_near, kind_in}
 use Rattle.tap_table.specs.Ties.{AreTies, TiesValue}
@@ -22,9 +22,9 @@ use Rattle.tap_rule.specs.Node.Status.{Joining, Core, Leaving}
 use Rattle.tap_rule.specs.Event.{Acted}
 use Rattle.tap_rule.specs.Reaction.{Message, Reaction, message, sends}
 use Rattle.tap_rule.specs.FrameRules.{frame_at_core, frame_at_joining, frame_at_leaving, rule_of_frame}
-use Rattle.tap_rule.specs.Links.{forgets, hears, hears_and_releases, is_new_link, release_answer, release_word, releases, with_word}
-use Rattle.tap_rule.specs.Sent.{IsAmong}
-use Rattle.tap_rule.specs.Steps.{ForgetStep, JoinsAlike, LinkStep, ReleaseStep, link_answer}
+use Rattle.tap_rule.specs.Links.{forgets, hears, hears_and_releases, release_answer, release_word, releases, with_word}
+use Rattle.tap_rule.specs.Sent.{AreSent, IsAmong}
+use Rattle.tap_rule.specs.Steps.{ForgetStep, LinkStep, ReleaseStep}
 use Rattle.tap_rule.specs.Laws.{ForgetLaw, IsCarriedOut, LinkLaw, ReleaseLaw, frame_to}
 use Rattle.tap_rule.proofs.CarriedOut.{frame_law}
 use Rattle.tap_rule.proofs.OneName.{not_own, others_stay}
@@ -35,8 +35,8 @@ module _ (node : NodeState) (from : List ℕ) (acted : Acted) (ties : AreTies no
   released_step carried =
       let rule : Option Kind → Option Kind = kind_released (has_room_near node.ties.table from) in
       let link : (name : List ℕ) → link_to acted.state name ≡ by_rule from name rule (link_to node name) =
-          λ name. ap (λ (t : TiesValue). kind_in t.table name) carried.ties
-          ∙ kind_in-released node.ties.table from ties.table is_name apart name in
+      λ name. ap (λ (t : TiesValue). kind_in t.table name) carried.ties
+      ∙ kind_in-released node.ties.table from ties.table is_name apart name in
       let own : link_to acted.state from ≡ rule (link_to node from) = link from ∙ of_itself from rule (link_to node from) in
       record {
         joins = record { status = carried.status; covers = carried.covers; greeted = carried.greeted; abandoned = carried.abandoned };
@@ -45,19 +45,21 @@ module _ (node : NodeState) (from : List ℕ) (acted : Acted) (ties : AreTies no
         others = λ name. others_stay from name rule (link_to acted.state name) (link_to node name) (link name);
         unpinned = λ none. own ∙ rw none refl;
         settles = λ pin room. own ∙ rw (pin, room) refl;
-        drops = λ pin full. (own ∙ rw (pin, full) refl,
+        drops = λ pin full. (
+          own ∙ rw (pin, full) refl,
           let word : Tie = record { to = from; version = node.stamp + 1; on = false } in
-          let among : IsAmong word (words_of (release_word node from)) = rw (pin, full) (inl refl) in carried.sent.links word among);
+              let among : IsAmong word (words_of (release_word node from)) = rw (pin, full) (inl refl) in carried.sent.links word among,
+        );
         sent = carried.sent;
       }
 
   forgotten_step : IsCarriedOut node (forgets node from) acted → ForgetStep node from acted
   forgotten_step carried =
       let link : (name : List ℕ) → link_to acted.state name ≡ by_rule from name kind_forgotten (link_to node name) =
-          λ name. ap (λ (t : TiesValue). kind_in t.table name) carried.ties
-          ∙ kind_in-forgotten node.ties.table from ties.table is_name apart name in
+      λ name. ap (λ (t : TiesValue). kind_in t.table name) carried.ties
+      ∙ kind_in-forgotten node.ties.table from ties.table is_name apart name in
       let own : link_to acted.state from ≡ kind_forgotten (link_to node from) =
-          link from ∙ of_itself from kind_forgotten (link_to node from) in
+      link from ∙ of_itself from kind_forgotten (link_to node from) in
       record {
         joins = record { status = carried.status; covers = carried.covers; greeted = carried.greeted; abandoned = carried.abandoned };
         sessions = carried.sessions;
@@ -104,41 +106,51 @@ module _ (node : NodeState) (holder : List ℕ) (version : ℕ) (on : Bool) (act
       ∙ entry_of-applied name_cmp nat_list_cmp_total node.ties.holders holder version on name
 
   heard_step : (messages : List Message) → IsCarriedOut node (sends (with_word node holder version on) messages) acted
-      → messages ≡ link_answer node.status (release_answer node holder version on) → LinkStep node holder version on acted
-  heard_step messages carried are =
-      record {
-        joins = record { status = carried.status; covers = carried.covers; greeted = carried.greeted; abandoned = carried.abandoned };
-        sessions = carried.sessions;
-        table = ap (λ (t : TiesValue). t.table) carried.ties;
-        others = λ name. elim (cases_Bool (is_eq (name_cmp holder name))) [
-          | inl tied ↦ inl (sym (tied_names holder name tied))
-          | inr apart ↦ inr (heard_word carried.ties name ∙ rw apart refl)
-        ];
-        word = heard_word carried.ties holder ∙ rw (tied_itself holder) refl;
-        answers = λ at new. carried.sent.named (message holder Release) (rw are (answer_due at new));
-        sent = rw (← are) carried.sent;
-      }
+      → ((node.status ≡ Core) ⊎ (node.status ≡ Leaving) → messages ≡ release_answer node holder version on)
+      → (node.status ≡ Joining → messages ≡ [])
+      → (messages ≡ release_answer node holder version on) ⊎ (messages ≡ [])
+      → LinkStep node holder version on acted
+  heard_step messages carried answered unanswered either = record {
+    joins = record { status = carried.status; covers = carried.covers; greeted = carried.greeted; abandoned = carried.abandoned };
+    sessions = carried.sessions;
+    table = ap (λ (t : TiesValue). t.table) carried.ties;
+    others = λ name. elim (cases_Bool (is_eq (name_cmp holder name))) [
+      | inl tied ↦ inl (sym (tied_names holder name tied))
+      | inr apart ↦ inr (heard_word carried.ties name ∙ rw apart refl)
+    ];
+    word = heard_word carried.ties holder ∙ rw (tied_itself holder) refl;
+    answers = λ at new is_on.
+        let due : IsAmong (message holder Release) (release_answer node holder version on) = rw (new, is_on) (inl refl) in
+        carried.sent.named (message holder Release) (subst (IsAmong (message holder Release)) (sym (answered at)) due);
+    silent = λ why. subst (λ m. AreSent (name_of node) [] m acted.sent) (none why) carried.sent;
+  }
     where
-      due : is_new_link node holder version on ≡ true → IsAmong (message holder Release) (release_answer node holder version on)
-      due new = rw new (inl refl)
+      no_answer : (supersedes version (word_of node holder) ≡ false) ⊎ (on ≡ false) → release_answer node holder version on ≡ []
+      no_answer (inl old) = rw old refl
+      no_answer (inr off) = rw (off, and_right (supersedes version (word_of node holder)) false refl) refl
 
-      answer_due : (node.status ≡ Core) ⊎ (node.status ≡ Leaving) → is_new_link node holder version on ≡ true
-          → IsAmong (message holder Release) (link_answer node.status (release_answer node holder version on))
-      answer_due (inl at) new = rw at (due new)
-      answer_due (inr at) new = rw at (due new)
+      none : (node.status ≡ Joining) ⊎ ((supersedes version (word_of node holder) ≡ false) ⊎ (on ≡ false)) → messages ≡ []
+      none (inl joining) = unanswered joining
+      none (inr why) = elim either [ inl is ↦ is ∙ no_answer why | inr is ↦ is ]
 
--- the rules of a Link
+-- no node has two statuses
+not_both : {A : Type 0} (node : NodeState) → node.status ≡ Joining → (node.status ≡ Core) ⊎ (node.status ≡ Leaving) → A
+not_both node joining (inl core) = let both : Joining ≡ Core = sym joining ∙ core in absurd cc
+not_both node joining (inr leaving) = let both : Joining ≡ Leaving = sym joining ∙ leaving in absurd cc
+
 pub link_law : LinkLaw
 unfolding frame_at_joining frame_at_core frame_at_leaving
 link_law node holder version on (inl at) taken =
     let frame = frame_to node holder (Link version on) in
-    heard_step node holder version on _ []
-    (frame_law node frame (hears node holder version on) taken (rw at refl)) (rw at refl)
+    heard_step node holder version on _ [] (frame_law node frame (hears node holder version on) taken (rw at refl))
+    (λ other. not_both node at other) (λ joining. refl) (inr refl)
 link_law node holder version on (inr (inl at)) taken =
     let frame = frame_to node holder (Link version on) in
     heard_step node holder version on _ (release_answer node holder version on)
-    (frame_law node frame (hears_and_releases node holder version on) taken (rw at refl)) (rw at refl)
+    (frame_law node frame (hears_and_releases node holder version on) taken (rw at refl))
+    (λ core. refl) (λ joining. not_both node joining (inl at)) (inl refl)
 link_law node holder version on (inr (inr at)) taken =
     let frame = frame_to node holder (Link version on) in
     heard_step node holder version on _ (release_answer node holder version on)
-    (frame_law node frame (hears_and_releases node holder version on) taken (rw at refl)) (rw at refl)
+    (frame_law node frame (hears_and_releases node holder version on) taken (rw at refl))
+    (λ leaving. refl) (λ joining. not_both node joining (inr at)) (inl refl)

@@ -1,4 +1,6 @@
 -- Answers to the sessions of joins: Heard and Ack, at a joining, core or ceased node.
+--
+-- Rule: docs/PROTOCOL.md, "Heard and Ack".
 use Rattle.std.specs.Prelude.{ℕ, ◌+◌, List, [], ◌∷◌}
 use Rattle.tap_session.specs.declared.parent.Parent.{Parent}
 use Rattle.tap_session.specs.declared.parent.Parent.TheVariants.{Root, Node}

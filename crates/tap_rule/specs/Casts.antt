@@ -1,4 +1,6 @@
 -- Casts: the start, Cast and CastAck.
+--
+-- Rule: docs/PROTOCOL.md, "Cast" and "CastAck".
 use Rattle.std.specs.Prelude.{ℕ, ◌+◌, ◌-◌, ◌||◌, Bool, true, false, if◌then◌else◌, List, [], ◌∷◌, ◌++◌, length, map}
 use Rattle.std.specs.List.{slice_index_or}
 use Rattle.tap_session.specs.declared.parent.Parent.{Parent}

@@ -1,4 +1,6 @@
 -- Joins that are given up, and what a node does that has ceased.
+--
+-- Rule: docs/PROTOCOL.md, "Giving a join up" and "Done" and "Tell" and "Link".
 use Rattle.std.specs.Prelude.{ℕ, Bool, true, if◌then◌else◌, List, [], ◌∷◌}
 use Rattle.tap_table.specs.ByName.{targets_by_name}
 use Rattle.tap_table.specs.Ties.{holders_on, off_ties}

@@ -1,4 +1,6 @@
 -- What a core node does for a joiner: Seek and Tell.
+--
+-- Rule: docs/PROTOCOL.md, "Seek" and "Tell" and "Covers of a node".
 use Rattle.std.specs.Prelude.{ℕ, ◌==◌, ◌+◌, Bool, true, if◌then◌else◌, List, [], ◌∷◌, ◌++◌, length, map}
 use Rattle.tap_name.specs.declared.slot.Offered.{Offered}
 use Rattle.tap_name.specs.declared.slot.Slot.{Slot}
@@ -51,7 +53,7 @@ spreads node request first offer targets left =
     (if waiting == 0
     then sends node (answer_for request.parent ∷ [])
     else sends (with_session node request.parent request.depth waiting)
-      (greeting request session first offer ++ map (tell_for request session left) targets))
+    (greeting request session first offer ++ map (tell_for request session left) targets))
 
 -- the node with the joiner covered at the level of the request
 abbrev pub with_level : NodeState → Request → NodeState

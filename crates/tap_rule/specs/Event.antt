@@ -1,4 +1,6 @@
 -- What may happen at a node, and what is then seen of it.
+--
+-- Rule: docs/PROTOCOL.md, "Steps of a node".
 use Rattle.std.specs.Prelude.{ℕ, Bool, List, Option}
 use Rattle.tap_wire.specs.declared.frame.Frame.{Frame}
 use Rattle.tap_rule.specs.Node.{NodeState}

@@ -4,6 +4,7 @@
 use Rattle.std.specs.Prelude.{List, ℕ, Option, None, Some}
 use Rattle.tap_wire.specs.declared.frame.Body.{Body}
 use Rattle.tap_wire.specs.declared.frame.Body.TheVariants.{Seek, Tell, Hello, Heard, Ack, Done, Release, Link, Lay, Find, Answer, Leave, Left, Gone, Forget, Cast, CastAck}
+use Rattle.tap_pointer.specs.Pointers.{pair_of}
 use Rattle.tap_rule.specs.Node.{NodeState, Status}
 use Rattle.tap_rule.specs.Node.Status.{Joining, Core, Leaving, Gone as GoneStatus, Ceased}
 use Rattle.tap_rule.specs.Reaction.{Reaction}
@@ -40,7 +41,7 @@ frame_at_core node from (Ack session) = Some (answered node session)
 frame_at_core node from Release = Some (releases node from)
 frame_at_core node from (Link version on) = Some (hears_and_releases node from version on)
 frame_at_core node from (Lay object server level version on) =
-    Some (takes_lay node from (record { object = object; server = server }) level version on)
+    Some (takes_lay node from (pair_of object server) level version on)
 frame_at_core node from (Find ticket object asker level) = Some (finds node ticket object asker level)
 frame_at_core node from (Answer ticket server) = Some (is_answered node ticket server)
 frame_at_core node from (Leave replacement) = Some (takes_leave node from replacement)
@@ -54,7 +55,7 @@ frame_at_core node from _ = None
 unfoldable pub frame_at_leaving : NodeState → List ℕ → Body → Option Reaction
 frame_at_leaving node from (Link version on) = Some (hears_and_releases node from version on)
 frame_at_leaving node from (Lay object server level version on) =
-    Some (takes_lay node from (record { object = object; server = server }) level version on)
+    Some (takes_lay node from (pair_of object server) level version on)
 frame_at_leaving node from (Find ticket object asker level) = Some (finds node ticket object asker level)
 frame_at_leaving node from (Answer ticket server) = Some (is_answered node ticket server)
 frame_at_leaving node from Left = Some (is_left node from)

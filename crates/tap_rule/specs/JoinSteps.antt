@@ -11,20 +11,22 @@ use Rattle.tap_multicast.specs.declared.covers.Covered.{Covered}
 use Rattle.tap_multicast.specs.declared.covers.Covered.TheVariants.{Already, Now}
 use Rattle.tap_multicast.specs.declared.target.Target.{Target}
 use Rattle.tap_multicast.specs.Covers.{covered, with_cover}
+use Rattle.tap_join.specs.Hello.{after_hello}
 use Rattle.tap_join.specs.declared.sought.Sought.{Sought}
 use Rattle.tap_join.specs.declared.sought.Sought.TheVariants.{Forward, Surrogate}
 use Rattle.tap_join.specs.Seek.{sought}
 use Rattle.tap_wire.specs.declared.frame.TellFields.{TellFields}
-use Rattle.tap_wire.specs.declared.frame.Body.TheVariants.{Seek, Hello, Ack, Release}
+use Rattle.tap_wire.specs.declared.frame.Body.TheVariants.{Seek, Tell, Hello, Heard, Ack, Release}
 use Rattle.tap_rule.specs.Node.{NodeState, link_to, name_of}
 use Rattle.tap_rule.specs.Node.Status.{Core}
 use Rattle.tap_rule.specs.Event.{Acted}
 use Rattle.tap_rule.specs.Event.News.{Core as CoreNews}
 use Rattle.tap_rule.specs.Reaction.{message, pin_word, to_each}
 use Rattle.tap_rule.specs.Sending.{link_frame, message_frame}
+use Rattle.tap_rule.specs.Joining.{hello_words}
 use Rattle.tap_rule.specs.Sent.{AreSent, IsAmong}
-use Rattle.tap_rule.specs.Answers.{answer_for}
-use Rattle.tap_rule.specs.Covering.{Request, answers_awaited, first_request, tell_for}
+use Rattle.tap_rule.specs.Steps.{IsParentTold, JoinsAlike}
+use Rattle.tap_rule.specs.Covering.{Request, answers_awaited, first_request}
 
 -- The node pins a joiner to which it has no link, or a pin: it has one then, no other link changes, and a new link has its word.
 pub record PinStep (node : NodeState) (joiner : List ℕ) (acted : Acted) : Type 0 where
@@ -47,6 +49,13 @@ pub record MeetStep (node : NodeState) (from : List ℕ) (tell : TellFields) (ac
       × (has_name acted.state.greeted tell.joiner ≡ true)
       × IsAmong (message_frame (name_of node) (message tell.joiner (Hello (node.sessions.opened + 1) false []))) acted.sent
 
+-- Hello, at a joining node: its ties are those after the Hello, each new link has its word, and it answers
+pub record HelloStep (node : NodeState) (from : List ℕ) (session : ℕ) (core : Bool) (links : List Offered) (acted : Acted) : Type 0 where
+  pub joins : JoinsAlike node acted.state
+  pub sessions : acted.state.sessions ≡ node.sessions
+  pub ties : acted.state.ties ≡ after_hello node.ties from core links
+  pub sent : AreSent (name_of node) (hello_words node from core links) (message from (Heard session) ∷ []) acted.sent
+
 -- Done, at a joining node whose join wasn't given up: it is core, and each holder that is on is released
 pub record DoneStep (node : NodeState) (acted : Acted) : Type 0 where
   pub status : acted.state.status ≡ Core
@@ -66,19 +75,20 @@ found_for node request =
 pub record SpreadStep (node : NodeState) (request : Request) (first : Bool) (offer : List Offered) (targets : List Target)
     (left : List Slot) (acted : Acted) : Type 0 where
   pub alone : answers_awaited first (length targets) ≡ 0
-      → (acted.state.sessions ≡ node.sessions) × IsAmong (message_frame (name_of node) (answer_for request.parent)) acted.sent
+      → (acted.state.sessions ≡ node.sessions) × IsParentTold node request.parent acted.sent
   pub opens : answers_awaited first (length targets) ≢ 0
       → acted.state.sessions ≡ opened_with node.sessions request.parent request.depth (answers_awaited first (length targets))
   pub greets : first ≡ true
       → IsAmong (message_frame (name_of node) (message request.joiner (Hello (node.sessions.opened + 1) true offer))) acted.sent
   pub tells : (target : Target) → IsAmong target targets
-      → IsAmong (message_frame (name_of node) (tell_for request (node.sessions.opened + 1) left target)) acted.sent
+      → IsAmong (message_frame (name_of node) (message target.to
+        (Tell request.joiner request.prefix target.level (node.sessions.opened + 1) (request.depth + 1) left))) acted.sent
 
 -- what a cover comes to: nothing but an answer if the joiner was covered so already, and else the level that is kept, and what spreads
 abbrev pub CoversAs : NodeState → Request → Acted → Covered → Type 0
 CoversAs node request acted Already =
     (acted.state.covers ≡ node.covers) × (acted.state.sessions ≡ node.sessions)
-    × IsAmong (message_frame (name_of node) (answer_for request.parent)) acted.sent
+    × IsParentTold node request.parent acted.sent
 CoversAs node request acted (Now first offer targets left) =
     (acted.state.covers ≡ with_cover node.covers request.joiner request.level)
     × SpreadStep node request first offer targets left acted

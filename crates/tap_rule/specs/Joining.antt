@@ -1,4 +1,6 @@
 -- What a joining node does: its start, Tell, Hello and Done.
+--
+-- Rule: docs/PROTOCOL.md, "The start of a join" and "Tell" and "Hello" and "Done".
 use Rattle.std.specs.Prelude.{ℕ, ◌+◌, Bool, false, if◌then◌else◌, List, [], ◌∷◌, ◌++◌, length}
 use Rattle.tap_name.specs.declared.slot.Offered.{Offered}
 use Rattle.tap_name.specs.Names.{has_name}

@@ -1,4 +1,6 @@
 -- Departures: the start, Leave, Left and Gone.
+--
+-- Rule: docs/PROTOCOL.md, "The start of a departure" and "Leave" and "Left" and "Gone".
 use Rattle.std.specs.Prelude.{ℕ, ◌==◌, ◌+◌, if◌then◌else◌, List, [], ◌∷◌, length, map, Option}
 use Rattle.tap_table.specs.declared.tie.Tie.{Tie}
 use Rattle.tap_table.specs.ByName.{targets_by_name}

@@ -15,6 +15,9 @@ pub mod StartRules
 pub mod Sending
 pub mod Act
 pub mod Sent
+pub mod Kept
 pub mod Steps
 pub mod JoinSteps
+pub mod EndSteps
+pub mod QuietSteps
 pub mod Laws

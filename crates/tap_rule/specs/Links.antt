@@ -1,4 +1,6 @@
 -- Links in both directions: Release, Link and Forget.
+--
+-- Rule: docs/PROTOCOL.md, "Release" and "Link" and "Forget".
 use Rattle.std.specs.Prelude.{ℕ, ◌&&◌, Bool, if◌then◌else◌, List, [], ◌∷◌, Option}
 use Rattle.tap_name.specs.Order.{name_cmp}
 use Rattle.tap_register.specs.Registers.{is_newer}

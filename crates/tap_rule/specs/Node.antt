@@ -1,4 +1,6 @@
 -- What a node keeps.
+--
+-- Rule: docs/PROTOCOL.md, "Nodes".
 use Rattle.std.specs.Prelude.{ℕ, Bool, false, List, [], Option}
 use Rattle.tap_name.specs.Order.{name_cmp}
 use Rattle.tap_name.specs.Settings.{SettingsValue}

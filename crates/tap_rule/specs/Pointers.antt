@@ -1,11 +1,13 @@
 -- Pointers and lookups: publications, Lay, Find and Answer.
+--
+-- Rule: docs/PROTOCOL.md, "Publication and withdrawal" and "Lay" and "Find" and "Answer".
 use Rattle.std.specs.Prelude.{ℕ, ◌+◌, Bool, List, [], ◌∷◌, drop, length, Option, None, Some}
 use Rattle.tap_table.specs.declared.next.Next.{Next}
 use Rattle.tap_table.specs.declared.next.Next.TheVariants.{Root, Hop}
 use Rattle.tap_table.specs.Next.{next_from}
 use Rattle.tap_pointer.specs.declared.lay.Lay.{Lay}
 use Rattle.tap_pointer.specs.declared.pair.Pair.{Pair}
-use Rattle.tap_pointer.specs.Pointers.{lay_applied, least_server, published, withdrawn}
+use Rattle.tap_pointer.specs.Pointers.{lay_applied, least_server, pointer_at, published, withdrawn}
 use Rattle.tap_pointer.specs.Reconcile.{reconcile_lays, reconciled}
 use Rattle.tap_wire.specs.declared.frame.Body.TheVariants.{Find, Answer}
 use Rattle.tap_rule.specs.Node.{NodeState, name_of}
@@ -22,7 +24,7 @@ withdraws node object = stays (record node { pointers = withdrawn node.pointers 
 -- Lay, at a core or leaving node: the register of the pair and the sender takes it
 abbrev pub takes_lay : NodeState → List ℕ → Pair → ℕ → ℕ → Bool → Reaction
 takes_lay node from pair level version on =
-    stays (record node { pointers = lay_applied node.pointers pair from version (record { level = level; on = on }) })
+    stays (record node { pointers = lay_applied node.pointers pair from version (pointer_at level on) })
 
 -- where a message to an object goes next that has come to this level
 abbrev pub next_hop : NodeState → List ℕ → ℕ → Next

@@ -1,4 +1,6 @@
 -- What a rule has a node do, before its frames are put in order.
+--
+-- Rule: docs/PROTOCOL.md, "Steps of a node".
 use Rattle.std.specs.Prelude.{ℕ, List, [], map, Option}
 use Rattle.tap_table.specs.declared.tie.Tie.{Tie}
 use Rattle.tap_table.specs.Ties.{TiesValue, pin_tells, pinned, stamp_after}

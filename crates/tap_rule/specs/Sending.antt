@@ -1,4 +1,6 @@
 -- The frames of a step, in the order in which they are sent.
+--
+-- Rule: docs/PROTOCOL.md, "Steps of a node".
 use Rattle.std.specs.Prelude.{ℕ, if◌then◌else◌, List, [], ◌∷◌, ◌++◌, map}
 use Rattle.std.specs.Ordering.{is_gt}
 use Rattle.tap_name.specs.Order.{name_cmp}

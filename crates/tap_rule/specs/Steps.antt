@@ -1,22 +1,23 @@
 -- What the steps of a node change, by look-ups: as proofs about many nodes take them.
 use Rattle.std.specs.Prelude.{◌≡◌, ◌⊎◌, ℕ, ◌+◌, ◌-◌, ◌<◌, Bool, true, false, List, [], ◌∷◌, Option, None, Some}
-use Rattle.tap_name.specs.Order.{name_cmp}
 use Rattle.tap_register.specs.declared.registers.Entry.{Entry}
-use Rattle.tap_register.specs.Registers.{is_newer, newest}
+use Rattle.tap_register.specs.Registers.{newest, supersedes}
 use Rattle.tap_link.specs.declared.kind.Kind.TheVariants.{Pin, Settled}
 use Rattle.tap_link.specs.LinkSet.{is_pinned}
+use Rattle.tap_session.specs.declared.parent.Parent.{Parent}
+use Rattle.tap_session.specs.declared.parent.Parent.TheVariants.{Root, Node}
 use Rattle.tap_session.specs.Session.{Session}
 use Rattle.tap_session.specs.Sessions.{answer_to}
 use Rattle.tap_table.specs.Table.{has_room_near}
 use Rattle.tap_join.specs.Hello.{words_of}
 use Rattle.tap_wire.specs.declared.frame.Frame.{Frame}
-use Rattle.tap_wire.specs.declared.frame.Body.TheVariants.{Release}
-use Rattle.tap_rule.specs.Node.{NodeState, Status, link_to, name_of, session_at, word_of}
-use Rattle.tap_rule.specs.Node.Status.{Joining, Core, Leaving, Gone, Ceased}
+use Rattle.tap_wire.specs.declared.frame.Body.TheVariants.{Ack, Done, Release}
+use Rattle.tap_rule.specs.Node.{NodeState, link_to, name_of, session_at, word_of}
+use Rattle.tap_rule.specs.Node.Status.{Joining, Core, Leaving}
 use Rattle.tap_rule.specs.Event.{Acted}
-use Rattle.tap_rule.specs.Reaction.{Message, message}
-use Rattle.tap_rule.specs.Answers.{answer_for, answer_sends}
-use Rattle.tap_rule.specs.Links.{is_new_link, release_answer, release_word}
+use Rattle.tap_rule.specs.Reaction.{message}
+use Rattle.tap_rule.specs.Answers.{answer_sends}
+use Rattle.tap_rule.specs.Links.{release_word}
 use Rattle.tap_rule.specs.Sending.{link_frame, message_frame}
 use Rattle.tap_rule.specs.Sent.{AreSent, IsAmong}
 
@@ -50,14 +51,6 @@ pub record ForgetStep (node : NodeState) (from : List ℕ) (acted : Acted) : Typ
   pub forgets : link_to node from ≡ Some Pin → link_to acted.state from ≡ None
   pub sent : AreSent (name_of node) [] [] acted.sent
 
--- what answers a word, by the status of the node: a joining node doesn't
-abbrev pub link_answer : Status → List Message → List Message
-link_answer Joining messages = []
-link_answer Core messages = messages
-link_answer Leaving messages = messages
-link_answer Gone messages = []
-link_answer Ceased messages = []
-
 -- Link, from a holder: only its word may change, and a new word that there is a link is answered by a core or leaving node
 pub record LinkStep (node : NodeState) (holder : List ℕ) (version : ℕ) (on : Bool) (acted : Acted) : Type 0 where
   pub joins : JoinsAlike node acted.state
@@ -65,9 +58,15 @@ pub record LinkStep (node : NodeState) (holder : List ℕ) (version : ℕ) (on :
   pub table : acted.state.ties.table ≡ node.ties.table
   pub others : (name : List ℕ) → (name ≡ holder) ⊎ (word_of acted.state name ≡ word_of node name)
   pub word : word_of acted.state holder ≡ Some (newest (word_of node holder) (record { key = holder; version = version; value = on }))
-  pub answers : (node.status ≡ Core) ⊎ (node.status ≡ Leaving) → is_new_link node holder version on ≡ true
+  pub answers : (node.status ≡ Core) ⊎ (node.status ≡ Leaving) → supersedes version (word_of node holder) ≡ true → on ≡ true
       → IsAmong (message_frame (name_of node) (message holder Release)) acted.sent
-  pub sent : AreSent (name_of node) [] (link_answer node.status (release_answer node holder version on)) acted.sent
+  pub silent : (node.status ≡ Joining) ⊎ ((supersedes version (word_of node holder) ≡ false) ⊎ (on ≡ false))
+      → AreSent (name_of node) [] [] acted.sent
+
+-- the parent of a session is answered: a session of another node by an Ack, and at the root the joiner by its Done
+abbrev pub IsParentTold : NodeState → Parent → List Frame → Type 0
+IsParentTold node (Root joiner) sent = IsAmong (message_frame (name_of node) (message joiner Done)) sent
+IsParentTold node (Node name session) sent = IsAmong (message_frame (name_of node) (message name (Ack session))) sent
 
 -- Heard or Ack, in a session: only this one may change, and its last answer is passed on
 pub record AnswerStep (node : NodeState) (session : ℕ) (acted : Acted) : Type 0 where
@@ -79,5 +78,5 @@ pub record AnswerStep (node : NodeState) (session : ℕ) (acted : Acted) : Type 
   pub goes_on : (s : Session) → session_at node session ≡ Some s → 1 < s.waiting
       → session_at acted.state session ≡ Some (record s { waiting = s.waiting - 1 })
   pub closes : (s : Session) → session_at node session ≡ Some s → s.waiting ≡ 1
-      → (session_at acted.state session ≡ None) × IsAmong (message_frame (name_of node) (answer_for s.parent)) acted.sent
+      → (session_at acted.state session ≡ None) × IsParentTold node s.parent acted.sent
   pub sent : AreSent (name_of node) [] (answer_sends (answer_to (session_at node session))) acted.sent

@@ -1,4 +1,6 @@
 -- Which frames are strange to a node: they are refused, and change nothing.
+--
+-- Rule: docs/PROTOCOL.md, "Strange frames".
 use Rattle.std.specs.Prelude.{ℕ, ◌==◌, ◌||◌, nat_eq, nat_lt, Bool, false, true, if◌then◌else◌, List, [], ◌∷◌, length, map, Option, None, Some, is_some}
 use Rattle.std.specs.Cmp.Lexicographic.{pointwise}
 use Rattle.tap_name.specs.Names.{has_name}
