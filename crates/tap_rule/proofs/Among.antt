@@ -1,5 +1,5 @@
 -- What is among the elements of a list: of two lists, of a mapped one, and of words in order.
-use Rattle.std.proofs.Common.{◌≡◌, ◌⊎◌, ℕ, List, [], ◌∷◌, ◌++◌, map, Bool, true, false, cond, ap, inl, inr, refl}
+use Rattle.std.proofs.Common.{◌≡◌, ◌⊎◌, List, [], ◌∷◌, ◌++◌, map, Bool, true, false, cond, ap, inl, inr, refl}
 use Rattle.std.specs.Ordering.{is_gt}
 use Rattle.tap_name.specs.Order.{name_cmp}
 use Rattle.tap_table.specs.declared.tie.Tie.{Tie}

@@ -1,14 +1,13 @@
 -- What Heard and Ack change.
-use Rattle.std.proofs.Common.{◌≡◌, ◌⊎◌, ◌==◌, ℕ, ◌<◌, ◌-◌, List, [], Option, Some, None, true, false, arith, refl, sym, ap, ◌∙◌, inl, inr, eqb-true, if◌then◌else◌}
+use Rattle.std.proofs.Common.{◌≡◌, ◌==◌, ℕ, ◌<◌, true, false, arith, refl, sym, ap, ◌∙◌, inl, inr, eqb-true, if◌then◌else◌}
 use Rattle.std.specs.Option.{option_and_then}
 use Rattle.std.proofs.lemmas.Bool.{cases_Bool}
 use Rattle.std.proofs.lemmas.Bool.Decides.{eqb_tells}
-use Rattle.tap_session.specs.Session.{Session, SessionsValue}
+use Rattle.tap_session.specs.Session.{SessionsValue}
 use Rattle.tap_session.specs.Sessions.{AreSessions, answer_to, session_of, with_answer}
 use Rattle.tap_session.proofs.Transitions.{answered-unknown, session_of-answered}
 use Rattle.tap_wire.specs.declared.frame.Body.TheVariants.{Heard, Ack}
-use Rattle.tap_rule.specs.Node.{NodeState, name_of, session_at}
-use Rattle.tap_rule.specs.Node.Status.{Joining, Core, Ceased}
+use Rattle.tap_rule.specs.Node.{NodeState, session_at}
 use Rattle.tap_rule.specs.Event.{Acted}
 use Rattle.tap_rule.specs.Answers.{answer_for, answer_sends, answered}
 use Rattle.tap_rule.specs.FrameRules.{frame_at_ceased, frame_at_core, frame_at_joining}

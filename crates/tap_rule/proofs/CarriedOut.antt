@@ -1,5 +1,5 @@
 -- A step goes as its rule says.
-use Rattle.std.proofs.Common.{◌≡◌, ◌⊎◌, ℕ, ◌≤◌, ◌+◌, List, [], map, ◌++◌, length, Option, Some, None, Bool, cond, true, false, arith, refl, inl, inr}
+use Rattle.std.proofs.Common.{ℕ, List, map, ◌++◌, Bool, cond, true, false, arith, refl, inl, inr}
 use Rattle.tap_wire.specs.declared.frame.Frame.{Frame}
 use Rattle.tap_rule.specs.Node.{NodeState, Status, name_of}
 use Rattle.tap_rule.specs.Node.Status.{Joining, Core, Leaving, Gone, Ceased}
@@ -9,7 +9,7 @@ use Rattle.tap_rule.specs.Sending.{by_receiver, frames_of, lay_frame, link_frame
 use Rattle.tap_rule.specs.Strange.{is_strange}
 use Rattle.tap_rule.specs.FrameRules.{rule_of_frame}
 use Rattle.tap_rule.specs.Act.{act, carried_out, completed, follows, refuses}
-use Rattle.tap_rule.specs.Sent.{AreSent, IsAmong, IsLay, IsLink, IsNamed}
+use Rattle.tap_rule.specs.Sent.{AreSent}
 use Rattle.tap_rule.specs.Laws.{FrameLaw, IsCarriedOut, IsIgnored, StartLaw, StrangeLaw, UnruledLaw}
 use Rattle.tap_rule.proofs.Among.{among-by_receiver, among-by_receiver_from, among-either, among-first, among-map, among-map_from, among-second}
 

@@ -1,5 +1,5 @@
 -- What Seek and Tell change at a core node.
-use Rattle.std.proofs.Common.{◌≡◌, ◌≢◌, ◌⊎◌, ◌||◌, ◌==◌, ℕ, ◌+◌, Bool, cond, List, [], ◌∷◌, ◌++◌, length, map, Option, Some, None, true, false, arith, refl, sym, ap, ◌∙◌, inl, inr, eqb-true}
+use Rattle.std.proofs.Common.{◌≡◌, ◌||◌, ◌==◌, ℕ, ◌+◌, Bool, cond, List, [], ◌∷◌, ◌++◌, length, map, Option, Some, None, true, false, arith, refl, sym, ap, ◌∙◌, inl, inr, eqb-true}
 use Rattle.std.specs.Prelude.{is_some}
 use Rattle.std.specs.Ordering.{is_eq}
 use Rattle.std.proofs.lemmas.Bool.{cases_Bool, eqb-false, or_parts, true≢false}
@@ -17,22 +17,20 @@ use Rattle.tap_table.specs.Ties.{AreTies, pinned}
 use Rattle.tap_multicast.specs.declared.covers.Covered.{Covered}
 use Rattle.tap_multicast.specs.declared.covers.Covered.TheVariants.{Already, Now}
 use Rattle.tap_multicast.specs.declared.target.Target.{Target}
-use Rattle.tap_multicast.specs.Covers.{covered, with_cover}
+use Rattle.tap_multicast.specs.Covers.{with_cover}
 use Rattle.tap_join.specs.Hello.{words_of}
 use Rattle.tap_join.specs.declared.sought.Sought.{Sought}
 use Rattle.tap_join.specs.declared.sought.Sought.TheVariants.{Forward, Surrogate}
 use Rattle.tap_join.specs.Seek.{sought, sought_by}
-use Rattle.tap_wire.specs.declared.frame.TellFields.{TellFields}
 use Rattle.tap_wire.specs.declared.frame.Body.TheVariants.{Seek, Hello}
 use Rattle.tap_rule.specs.Node.{NodeState, level_of, link_to, name_of, settings_of}
-use Rattle.tap_rule.specs.Node.Status.{Core}
 use Rattle.tap_rule.specs.Event.{Acted}
 use Rattle.tap_rule.specs.Reaction.{Message, message, pin_word, sends, with_pin, with_words}
 use Rattle.tap_rule.specs.Answers.{answer_for, with_session}
 use Rattle.tap_rule.specs.Covering.{Request, answers_awaited, covers_as, first_request, greeting, pins_and_covers, request_of, seeks, seeks_as, tell_for, told, with_level}
 use Rattle.tap_rule.specs.Strange.{is_leaving, is_no_pin, is_own, is_strange, is_strange_body, is_strange_seek, is_too_many, names_to_link}
 use Rattle.tap_rule.specs.FrameRules.{frame_at_core}
-use Rattle.tap_rule.specs.Sending.{link_frame, message_frame}
+use Rattle.tap_rule.specs.Sending.{link_frame}
 use Rattle.tap_rule.specs.Sent.{IsAmong}
 use Rattle.tap_rule.specs.JoinSteps.{CoverStep, SeekStep, SpreadStep, found_for}
 use Rattle.tap_rule.specs.Laws.{IsCarriedOut, SeekLaw, TellLaw, frame_to, tell_of}
@@ -119,7 +117,7 @@ module _ (node : NodeState) (request : Request) (acted : Acted) where
   module _ (ties : AreTies node.ties) (is_name : IsName (settings_of node) request.joiner) (fits : IsTellFit node request.joiner) where
     cover_as : (found : Covered) → found_for node request ≡ found
         → IsCarriedOut node
-            (with_words (words_of (pin_word node request.joiner)) (covers_as (with_pin node request.joiner) request found)) acted
+        (with_words (words_of (pin_word node request.joiner)) (covers_as (with_pin node request.joiner) request found)) acted
         → CoverStep node request acted
     cover_as Already is carried = record {
       status = carried.status;

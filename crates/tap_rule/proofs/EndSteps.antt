@@ -1,10 +1,9 @@
 -- What the steps change at which a node leaves or ends, and those of its holders.
-use Rattle.std.proofs.Common.{◌≡◌, ◌≢◌, ◌⊎◌, ◌==◌, ℕ, ◌*◌, ◌<◌, Bool, cond, List, [], ◌∷◌, length, get_or, replicate, Option, Some, None, true, false, arith, refl, sym, ap, ◌∙◌, inl, inr, eqb-true}
+use Rattle.std.proofs.Common.{◌≡◌, ◌≢◌, ◌==◌, ℕ, ◌*◌, Bool, cond, List, [], length, get_or, replicate, None, true, false, arith, refl, ap, ◌∙◌, inl, inr, eqb-true}
 use Rattle.std.proofs.lemmas.Bool.{cases_lt, eqb-false}
 use Rattle.std.proofs.lemmas.List.{get_or-replicate, get_or_past, length-replicate}
 use Rattle.tap_name.specs.Name.{IsName}
 use Rattle.tap_name.specs.Settings.{SettingsValue}
-use Rattle.tap_link.specs.declared.kind.Kind.{Kind}
 use Rattle.tap_link.specs.LinkSet.{kind_of}
 use Rattle.tap_link.proofs.TargetKinds.{kind_removed}
 use Rattle.tap_table.specs.Table.{SlotLinks, empty_table, kind_in, name_cmp, place_of, slot_number}
@@ -13,13 +12,12 @@ use Rattle.tap_table.proofs.LookUps.{by_rule, kind_in-removed, of_itself}
 use Rattle.tap_depart.specs.Leaving.{names_but}
 use Rattle.tap_wire.specs.declared.frame.Body.TheVariants.{Done, Leave, Left, Gone as GoneFrame}
 use Rattle.tap_rule.specs.Node.{NodeState, link_to, name_of, settings_of}
-use Rattle.tap_rule.specs.Node.Status.{Joining, Core, Leaving}
 use Rattle.tap_rule.specs.Event.{Acted}
 use Rattle.tap_rule.specs.Reaction.{sends}
 use Rattle.tap_rule.specs.Ceasing.{ceases}
 use Rattle.tap_rule.specs.Leaving.{finishes, is_left, takes_leave, takes_out}
 use Rattle.tap_rule.specs.FrameRules.{frame_at_core, frame_at_joining, frame_at_leaving}
-use Rattle.tap_rule.specs.EndSteps.{EndStep, GoneStep, LeaveStep, LeftStep}
+use Rattle.tap_rule.specs.EndSteps.{GoneStep, LeftStep}
 use Rattle.tap_rule.specs.Laws.{CeaseLaw, GoneLaw, IsCarriedOut, LeaveLaw, LeftLaw, frame_to}
 use Rattle.tap_rule.proofs.CarriedOut.{frame_law}
 use Rattle.tap_rule.proofs.OneName.{not_own, others_stay}
@@ -99,10 +97,10 @@ module _ (node : NodeState) (from : List ℕ) (acted : Acted) (ties : AreTies no
   taken_out_step : IsCarriedOut node (takes_out node from) acted → GoneStep node from acted
   taken_out_step carried =
       let link : (name : List ℕ) → link_to acted.state name ≡ by_rule from name kind_removed (link_to node name) =
-          λ name. ap (λ (t : TiesValue). kind_in t.table name) carried.ties
-          ∙ kind_in-removed node.ties.table from ties.table is_name apart name in
+      λ name. ap (λ (t : TiesValue). kind_in t.table name) carried.ties
+      ∙ kind_in-removed node.ties.table from ties.table is_name apart name in
       let own : link_to acted.state from ≡ kind_removed (link_to node from) =
-          link from ∙ of_itself from kind_removed (link_to node from) in
+      link from ∙ of_itself from kind_removed (link_to node from) in
       record {
         joins = record { status = carried.status; covers = carried.covers; greeted = carried.greeted; abandoned = carried.abandoned };
         sessions = carried.sessions;

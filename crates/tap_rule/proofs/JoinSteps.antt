@@ -1,5 +1,5 @@
 -- What Tell, Hello and Done change at a joining node.
-use Rattle.std.proofs.Common.{◌≡◌, ◌≢◌, ◌⊎◌, ◌||◌, ℕ, ◌+◌, nat_lt, ◌==◌, Bool, cond, List, [], ◌∷◌, ◌++◌, Option, Some, None, true, false, refl, sym, ap, ◌∙◌, inl, inr}
+use Rattle.std.proofs.Common.{◌≡◌, ◌≢◌, ◌||◌, ℕ, ◌+◌, nat_lt, ◌==◌, Bool, cond, List, [], ◌∷◌, ◌++◌, Option, Some, None, true, false, refl, sym, ap, ◌∙◌, inl}
 use Rattle.std.proofs.lemmas.Bool.{or_parts, or_right, true≢false}
 use Rattle.std.proofs.lemmas.Slice.Eq.{bytes_eq-Decides}
 use Rattle.tap_name.specs.Name.{IsName}
@@ -9,25 +9,22 @@ use Rattle.tap_name.specs.declared.slot.Slot.{Slot}
 use Rattle.tap_link.specs.declared.kind.Kind.{Kind}
 use Rattle.tap_link.specs.declared.kind.Kind.TheVariants.{Pin, Settled, Leaving}
 use Rattle.tap_link.proofs.TargetKinds.{kind_pinned}
-use Rattle.tap_session.specs.declared.parent.Parent.TheVariants.{Node}
-use Rattle.tap_session.specs.Sessions.{opened_with}
 use Rattle.tap_table.specs.declared.tie.Tie.{Tie}
 use Rattle.tap_table.specs.Table.{kind_in}
 use Rattle.tap_table.specs.Ties.{AreTies, TiesValue, pinned}
 use Rattle.tap_table.proofs.LookUps.{by_rule, kind_in-pinned, of_itself}
 use Rattle.tap_join.specs.Hello.{words_of}
 use Rattle.tap_wire.specs.declared.frame.TellFields.{TellFields}
-use Rattle.tap_wire.specs.declared.frame.Body.TheVariants.{Tell, Hello, Ack, Done}
+use Rattle.tap_wire.specs.declared.frame.Body.TheVariants.{Hello, Ack, Done}
 use Rattle.tap_rule.specs.Node.{NodeState, link_to, name_of, settings_of}
-use Rattle.tap_rule.specs.Node.Status.{Joining}
 use Rattle.tap_rule.specs.Event.{Acted}
 use Rattle.tap_rule.specs.Reaction.{message, pin_word, sends, with_pin, with_words}
 use Rattle.tap_rule.specs.Strange.{is_no_pin, is_own, is_strange, is_strange_body, is_strange_tell, is_too_many, most_depth, names_to_link}
 use Rattle.tap_rule.specs.FrameRules.{frame_at_joining}
 use Rattle.tap_rule.specs.Joining.{becomes_core, meets, takes_hello, welcomes}
-use Rattle.tap_rule.specs.Sending.{link_frame, message_frame}
+use Rattle.tap_rule.specs.Sending.{link_frame}
 use Rattle.tap_rule.specs.Sent.{IsAmong}
-use Rattle.tap_rule.specs.JoinSteps.{DoneStep, MeetStep, PinStep}
+use Rattle.tap_rule.specs.JoinSteps.{MeetStep, PinStep}
 use Rattle.tap_rule.specs.Laws.{DoneLaw, HelloLaw, IsCarriedOut, MeetLaw, frame_to, tell_of}
 use Rattle.tap_rule.proofs.CarriedOut.{frame_law}
 use Rattle.tap_rule.proofs.OneName.{others_stay}

@@ -29,7 +29,6 @@ use Rattle.tap_depart.specs.Leaving.{names_but, started}
 use Rattle.tap_depart.proofs.Notices.{AreTies-told, told_owner, told_settings}
 use Rattle.tap_cast.specs.declared.casts.CastTurn.{CastTurn}
 use Rattle.tap_cast.specs.declared.casts.CastTurn.TheVariants.{Already as AlreadyCast, Now as CastNow}
-use Rattle.tap_cast.specs.declared.target.CastTarget.{CastTarget}
 use Rattle.tap_cast.specs.Casts.{turn_of}
 use Rattle.tap_pointer.specs.Pointers.{least_server}
 use Rattle.tap_table.specs.declared.next.Next.{Next}

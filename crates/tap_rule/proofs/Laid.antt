@@ -1,6 +1,5 @@
 -- Each pair of a node is laid as wanted after each step, if it was before.
 use Rattle.std.proofs.Common.{◌≡◌, ℕ, Bool, cond, List, Option, Some, None, true, false, refl}
-use Rattle.std.proofs.lemmas.Bool.{cases_Bool}
 use Rattle.std.proofs.lemmas.List.Elements.{All-map}
 use Rattle.tap_pointer.specs.Pointers.{PointersValue}
 use Rattle.tap_pointer.specs.Reconcile.{AreLaid, reconciled, wanted_hop, with_wanted}
@@ -8,7 +7,6 @@ use Rattle.tap_table.specs.Table.{TableValue}
 use Rattle.tap_wire.specs.declared.frame.Frame.{Frame}
 use Rattle.tap_rule.specs.Node.{NodeState, Status, name_of}
 use Rattle.tap_rule.specs.Node.Status.{Joining, Core, Leaving, Gone, Ceased}
-use Rattle.tap_rule.specs.Event.{Acted}
 use Rattle.tap_rule.specs.Event.Event.{Starts, Takes}
 use Rattle.tap_rule.specs.Reaction.{Reaction}
 use Rattle.tap_rule.specs.Strange.{is_strange}

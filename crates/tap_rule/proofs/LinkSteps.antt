@@ -1,5 +1,5 @@
 -- What Release, Forget and Link change.
-use Rattle.std.proofs.Common.{◌≡◌, ◌≢◌, ◌⊎◌, ℕ, ◌+◌, Bool, List, [], ◌∷◌, Option, Some, None, true, false, refl, sym, ap, subst, ◌∙◌, inl, inr, if◌then◌else◌}
+use Rattle.std.proofs.Common.{◌≡◌, ◌≢◌, ◌⊎◌, ℕ, ◌+◌, Bool, List, [], Option, Some, false, refl, sym, ap, subst, ◌∙◌, inl, inr, if◌then◌else◌}
 use Rattle.std.specs.Ordering.{is_eq}
 use Rattle.std.proofs.lemmas.Bool.{and_right, cases_Bool}
 use Rattle.std.proofs.lemmas.Cmp.{nat_list_cmp_total}
@@ -7,7 +7,6 @@ use Rattle.tap_name.specs.Name.{IsName}
 use Rattle.tap_name.specs.Order.{name_cmp}
 use Rattle.tap_register.proofs.Applied.{entry_of-applied}
 use Rattle.tap_link.specs.declared.kind.Kind.{Kind}
-use Rattle.tap_link.specs.declared.kind.Kind.TheVariants.{Pin}
 use Rattle.tap_link.proofs.TargetKinds.{kind_forgotten, kind_released}
 use Rattle.tap_register.specs.Registers.{entry_of, newest, supersedes}
 use Rattle.tap_table.specs.declared.tie.Tie.{Tie}
@@ -17,10 +16,10 @@ use Rattle.tap_table.proofs.LookUps.{by_rule, kind_in-forgotten, kind_in-release
 use Rattle.tap_table.proofs.Near.{tied_itself, tied_names}
 use Rattle.tap_join.specs.Hello.{words_of}
 use Rattle.tap_wire.specs.declared.frame.Body.TheVariants.{Release, Link, Forget}
-use Rattle.tap_rule.specs.Node.{NodeState, Status, link_to, name_of, settings_of, word_of}
+use Rattle.tap_rule.specs.Node.{NodeState, link_to, name_of, settings_of, word_of}
 use Rattle.tap_rule.specs.Node.Status.{Joining, Core, Leaving}
 use Rattle.tap_rule.specs.Event.{Acted}
-use Rattle.tap_rule.specs.Reaction.{Message, Reaction, message, sends}
+use Rattle.tap_rule.specs.Reaction.{Message, message, sends}
 use Rattle.tap_rule.specs.FrameRules.{frame_at_core, frame_at_joining, frame_at_leaving, rule_of_frame}
 use Rattle.tap_rule.specs.Links.{forgets, hears, hears_and_releases, release_answer, release_word, releases, with_word}
 use Rattle.tap_rule.specs.Sent.{AreSent, IsAmong}

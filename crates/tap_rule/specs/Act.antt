@@ -2,7 +2,6 @@
 --
 -- Rule: docs/PROTOCOL.md, "Steps of a node".
 use Rattle.std.specs.Prelude.{List, ℕ, [], true, false, if◌then◌else◌, Option, None, Some}
-use Rattle.tap_wire.specs.declared.frame.Frame.{Frame}
 use Rattle.tap_rule.specs.Node.{NodeState, Status, name_of}
 use Rattle.tap_rule.specs.Node.Status.{Joining, Core, Leaving, Gone, Ceased}
 use Rattle.tap_rule.specs.Event.{Acted, Event}

@@ -1,5 +1,5 @@
 -- What the steps of a join change, by look-ups: Tell and Done at a joining node, and Seek and Tell at a core node.
-use Rattle.std.specs.Prelude.{◌≡◌, ◌≢◌, ◌⊎◌, ◌==◌, ℕ, ◌+◌, ◌<◌, ◌≤◌, Bool, true, false, List, [], ◌∷◌, length, Option, None, Some}
+use Rattle.std.specs.Prelude.{◌≡◌, ◌≢◌, ◌⊎◌, ℕ, ◌+◌, Bool, true, false, List, [], ◌∷◌, length, None, Some}
 use Rattle.tap_name.specs.declared.slot.Offered.{Offered}
 use Rattle.tap_name.specs.declared.slot.Slot.{Slot}
 use Rattle.tap_name.specs.Names.{has_name}
@@ -21,7 +21,7 @@ use Rattle.tap_rule.specs.Node.{NodeState, link_to, name_of}
 use Rattle.tap_rule.specs.Node.Status.{Core}
 use Rattle.tap_rule.specs.Event.{Acted}
 use Rattle.tap_rule.specs.Event.News.{Core as CoreNews}
-use Rattle.tap_rule.specs.Reaction.{message, pin_word, to_each}
+use Rattle.tap_rule.specs.Reaction.{message, to_each}
 use Rattle.tap_rule.specs.Sending.{link_frame, message_frame}
 use Rattle.tap_rule.specs.Joining.{hello_words}
 use Rattle.tap_rule.specs.Sent.{AreSent, IsAmong}
@@ -82,7 +82,7 @@ pub record SpreadStep (node : NodeState) (request : Request) (first : Bool) (off
       → IsAmong (message_frame (name_of node) (message request.joiner (Hello (node.sessions.opened + 1) true offer))) acted.sent
   pub tells : (target : Target) → IsAmong target targets
       → IsAmong (message_frame (name_of node) (message target.to
-        (Tell request.joiner request.prefix target.level (node.sessions.opened + 1) (request.depth + 1) left))) acted.sent
+      (Tell request.joiner request.prefix target.level (node.sessions.opened + 1) (request.depth + 1) left))) acted.sent
 
 -- what a cover comes to: nothing but an answer if the joiner was covered so already, and else the level that is kept, and what spreads
 abbrev pub CoversAs : NodeState → Request → Acted → Covered → Type 0

@@ -10,9 +10,9 @@ use Rattle.tap_table.specs.Ties.{AreTies}
 use Rattle.tap_wire.specs.Spelling.{IsFrame}
 use Rattle.tap_wire.specs.declared.frame.Frame.{Frame}
 use Rattle.tap_wire.specs.declared.frame.Body.{Body}
-use Rattle.tap_wire.specs.declared.frame.Body.TheVariants.{Seek, Tell, Hello, Heard, Ack, Done, Release, Link, Leave, Left, Gone, Forget}
+use Rattle.tap_wire.specs.declared.frame.Body.TheVariants.{Seek, Tell, Hello, Done, Release, Link, Leave, Left, Gone, Forget}
 use Rattle.tap_wire.specs.declared.frame.TellFields.{TellFields}
-use Rattle.tap_rule.specs.Node.{NodeState, Status, joiner, link_to, member_at_rest, name_of, settings_of}
+use Rattle.tap_rule.specs.Node.{NodeState, Status, joiner, member_at_rest, name_of, settings_of}
 use Rattle.tap_rule.specs.Node.Status.{Joining, Core, Leaving, Gone as EndedGone, Ceased}
 use Rattle.tap_rule.specs.Event.{Acted, Event, Start}
 use Rattle.tap_rule.specs.Event.Event.{Starts, Takes}

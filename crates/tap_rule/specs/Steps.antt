@@ -1,6 +1,5 @@
 -- What the steps of a node change, by look-ups: as proofs about many nodes take them.
-use Rattle.std.specs.Prelude.{◌≡◌, ◌⊎◌, ℕ, ◌+◌, ◌-◌, ◌<◌, Bool, true, false, List, [], ◌∷◌, Option, None, Some}
-use Rattle.tap_register.specs.declared.registers.Entry.{Entry}
+use Rattle.std.specs.Prelude.{◌≡◌, ◌⊎◌, ℕ, ◌+◌, ◌-◌, ◌<◌, Bool, true, false, List, [], None, Some}
 use Rattle.tap_register.specs.Registers.{newest, supersedes}
 use Rattle.tap_link.specs.declared.kind.Kind.TheVariants.{Pin, Settled}
 use Rattle.tap_link.specs.LinkSet.{is_pinned}
