@@ -1,0 +1,73 @@
+-- What Heard and Ack change.
+use Rattle.std.proofs.Common.{◌≡◌, ◌==◌, ℕ, ◌<◌, true, false, arith, refl, sym, ap, ◌∙◌, inl, inr, eqb-true, if◌then◌else◌}
+use Rattle.std.specs.Option.{option_and_then}
+use Rattle.std.proofs.lemmas.Bool.{cases_Bool}
+use Rattle.std.proofs.lemmas.Bool.Decides.{eqb_tells}
+use Rattle.tap_session.specs.Session.{SessionsValue}
+use Rattle.tap_session.specs.Sessions.{AreSessions, answer_to, session_of, with_answer}
+use Rattle.tap_session.proofs.Transitions.{answered-unknown, session_of-answered}
+use Rattle.tap_wire.specs.declared.frame.Body.TheVariants.{Heard, Ack}
+use Rattle.tap_rule.specs.Node.{NodeState, session_at}
+use Rattle.tap_rule.specs.Event.{Acted}
+use Rattle.tap_rule.specs.Answers.{answer_for, answer_sends, answered}
+use Rattle.tap_rule.specs.FrameRules.{frame_at_ceased, frame_at_core, frame_at_joining}
+use Rattle.tap_rule.specs.Sent.{IsAmong}
+use Rattle.tap_rule.specs.Steps.{AnswerStep}
+use Rattle.tap_rule.specs.Laws.{AnswerLaw, IsCarriedOut, frame_to}
+use Rattle.tap_rule.proofs.CarriedOut.{frame_law}
+use Rattle.tap_rule.proofs.OneName.{parent_told}
+
+-- a number is itself
+same_number : (n : ℕ) → (n == n) ≡ true
+same_number n = elim (eqb_tells n n) [ inl both ↦ both.0 | inr both ↦ absurd (both.1 refl) ]
+
+-- a number that isn't one isn't
+other_number : (n : ℕ) → 1 < n → (n == 1) ≡ false
+other_number n above = elim (eqb_tells n 1) [ inl both ↦ absurd (omega (arith, both.1)) | inr both ↦ both.0 ]
+
+module _ (node : NodeState) (session : ℕ) (acted : Acted) (are : AreSessions node.sessions) where
+  answered_step : IsCarriedOut node (answered node session) acted → AnswerStep node session acted
+  answered_step carried =
+      let look : (number : ℕ) → session_at acted.state number
+      ≡ (if session == number then option_and_then with_answer (session_at node session) else session_at node number) =
+      λ number. ap (λ (s : SessionsValue). session_of s.sessions number) carried.sessions
+      ∙ session_of-answered node.sessions are session number in
+      let own : session_at acted.state session ≡ option_and_then with_answer (session_at node session) =
+      look session ∙ rw (same_number session) refl in
+      record {
+        joins = record { status = carried.status; covers = carried.covers; greeted = carried.greeted; abandoned = carried.abandoned };
+        ties = carried.ties;
+        opened = ap (λ (s : SessionsValue). s.opened) carried.sessions;
+        others = λ number. elim (cases_Bool (session == number)) [
+          | inl same ↦ inl (sym (eqb-true session number same))
+          | inr apart ↦ inr (look number ∙ rw apart refl)
+        ];
+        unknown = λ none. carried.sessions ∙ answered-unknown node.sessions are session none;
+        goes_on = λ s is more. own ∙ rw (is, other_number s.waiting more) refl;
+        closes = λ s is last. (
+          own ∙ rw (is, last) refl,
+          let among : IsAmong (answer_for s.parent) (answer_sends (answer_to (session_at node session))) = rw (is, last) (inl refl) in
+              parent_told node s.parent acted.sent (carried.sent.named (answer_for s.parent) among),
+        );
+        sent = carried.sent;
+      }
+
+pub heard_law : AnswerLaw Heard
+unfolding frame_at_joining frame_at_core frame_at_ceased
+heard_law node from session are at taken =
+    let frame = frame_to node from (Heard session) in
+    answered_step node session _ are
+    (frame_law node frame (answered node session) taken (elim at [
+      | inl joining ↦ rw joining refl
+      | inr other ↦ elim other [ inl core ↦ rw core refl | inr ceased ↦ rw ceased refl ]
+    ]))
+
+pub ack_law : AnswerLaw Ack
+unfolding frame_at_joining frame_at_core frame_at_ceased
+ack_law node from session are at taken =
+    let frame = frame_to node from (Ack session) in
+    answered_step node session _ are
+    (frame_law node frame (answered node session) taken (elim at [
+      | inl joining ↦ rw joining refl
+      | inr other ↦ elim other [ inl core ↦ rw core refl | inr ceased ↦ rw ceased refl ]
+    ]))

@@ -1,0 +1,118 @@
+-- What the steps change at which a node leaves or ends, and those of its holders.
+use Rattle.std.proofs.Common.{◌≡◌, ◌≢◌, ◌==◌, ℕ, ◌*◌, Bool, cond, List, [], length, get_or, replicate, None, true, false, arith, refl, ap, ◌∙◌, inl, inr, eqb-true}
+use Rattle.std.proofs.lemmas.Bool.{cases_lt, eqb-false}
+use Rattle.std.proofs.lemmas.List.{get_or-replicate, get_or_past, length-replicate}
+use Rattle.tap_name.specs.Name.{IsName}
+use Rattle.tap_name.specs.Settings.{SettingsValue}
+use Rattle.tap_link.specs.LinkSet.{kind_of}
+use Rattle.tap_link.proofs.TargetKinds.{kind_removed}
+use Rattle.tap_table.specs.Table.{SlotLinks, empty_table, kind_in, name_cmp, place_of, slot_number}
+use Rattle.tap_table.specs.Ties.{AreTies, TiesValue}
+use Rattle.tap_table.proofs.LookUps.{by_rule, kind_in-removed, of_itself}
+use Rattle.tap_depart.specs.Leaving.{names_but}
+use Rattle.tap_wire.specs.declared.frame.Body.TheVariants.{Done, Leave, Left, Gone as GoneFrame}
+use Rattle.tap_rule.specs.Node.{NodeState, link_to, name_of, settings_of}
+use Rattle.tap_rule.specs.Event.{Acted}
+use Rattle.tap_rule.specs.Reaction.{sends}
+use Rattle.tap_rule.specs.Ceasing.{ceases}
+use Rattle.tap_rule.specs.Leaving.{finishes, is_left, takes_leave, takes_out}
+use Rattle.tap_rule.specs.FrameRules.{frame_at_core, frame_at_joining, frame_at_leaving}
+use Rattle.tap_rule.specs.EndSteps.{GoneStep, LeftStep}
+use Rattle.tap_rule.specs.Laws.{CeaseLaw, GoneLaw, IsCarriedOut, LeaveLaw, LeftLaw, frame_to}
+use Rattle.tap_rule.proofs.CarriedOut.{frame_law}
+use Rattle.tap_rule.proofs.OneName.{not_own, others_stay}
+
+-- no slot of a table without links has one
+no_links : (n number : ℕ) → get_or {A = SlotLinks} (replicate n []) number [] ≡ []
+no_links n number =
+    elim (cases_lt number n) [
+      | inl inside ↦ get_or-replicate n number [] [] inside
+      | inr past ↦ get_or_past (replicate n []) number [] (omega (arith, length-replicate {A = SlotLinks} n []))
+    ]
+
+pub unlinked : (p : SettingsValue) (owner name : List ℕ) → kind_in (empty_table p owner) name ≡ None
+unlinked p owner name =
+    ap (λ (links : SlotLinks). kind_of name_cmp links name) (no_links (p.base * p.digits) (slot_number p.base (place_of owner name)))
+
+-- Done, at a node whose join was given up
+pub cease_law : CeaseLaw
+unfolding frame_at_joining
+cease_law node from at given_up taken =
+    let carried = frame_law node (frame_to node from Done) (ceases node) taken (rw (at, given_up) refl) in
+    record {
+      status = carried.status;
+      unlinked = λ name. ap (λ (t : TiesValue). kind_in t.table name) carried.ties ∙ unlinked (settings_of node) (name_of node) name;
+      unheld = ap (λ (t : TiesValue). t.holders) carried.ties;
+      sessions = carried.sessions;
+      news = carried.news;
+      sent = carried.sent;
+    }
+
+pub leave_law : LeaveLaw
+unfolding frame_at_core
+leave_law node from replacement at taken =
+    let carried = frame_law node (frame_to node from (Leave replacement)) (takes_leave node from replacement) taken (rw at refl) in
+    record {
+      joins = record { status = carried.status; covers = carried.covers; greeted = carried.greeted; abandoned = carried.abandoned };
+      sessions = carried.sessions;
+      ties = carried.ties;
+      sent = carried.sent;
+    }
+
+module _ (node : NodeState) (from : List ℕ) (acted : Acted) where
+  left_as : (last : Bool) → (length (names_but node.awaited from) == 0) ≡ last
+      → IsCarriedOut node (cond last (finishes (record node { awaited = names_but node.awaited from }))
+      (sends (record node { awaited = names_but node.awaited from }) [])) acted
+      → LeftStep node from acted
+  left_as true is carried = record {
+    waits = λ some. absurd (some (eqb-true (length (names_but node.awaited from)) 0 is));
+    finishes = λ none. record {
+      status = carried.status;
+      unlinked = λ name. ap (λ (t : TiesValue). kind_in t.table name) carried.ties ∙ unlinked (settings_of node) (name_of node) name;
+      unheld = ap (λ (t : TiesValue). t.holders) carried.ties;
+      sessions = carried.sessions;
+      news = carried.news;
+      sent = carried.sent;
+    };
+  }
+  left_as false is carried = record {
+    waits = λ some. (
+      record { status = carried.status; covers = carried.covers; greeted = carried.greeted; abandoned = carried.abandoned },
+      carried.ties,
+      carried.sessions,
+      carried.awaited,
+      carried.sent,
+    );
+    finishes = λ none. absurd (eqb-false (length (names_but node.awaited from)) 0 is none);
+  }
+
+pub left_law : LeftLaw
+unfolding frame_at_leaving
+left_law node from at taken =
+    left_as node from _ (length (names_but node.awaited from) == 0) refl
+    (frame_law node (frame_to node from Left) (is_left node from) taken (rw at refl))
+
+module _ (node : NodeState) (from : List ℕ) (acted : Acted) (ties : AreTies node.ties) (is_name : IsName (settings_of node) from)
+    (apart : from ≢ name_of node) where
+  taken_out_step : IsCarriedOut node (takes_out node from) acted → GoneStep node from acted
+  taken_out_step carried =
+      let link : (name : List ℕ) → link_to acted.state name ≡ by_rule from name kind_removed (link_to node name) =
+      λ name. ap (λ (t : TiesValue). kind_in t.table name) carried.ties
+      ∙ kind_in-removed node.ties.table from ties.table is_name apart name in
+      let own : link_to acted.state from ≡ kind_removed (link_to node from) =
+      link from ∙ of_itself from kind_removed (link_to node from) in
+      record {
+        joins = record { status = carried.status; covers = carried.covers; greeted = carried.greeted; abandoned = carried.abandoned };
+        sessions = carried.sessions;
+        holders = ap (λ (t : TiesValue). t.holders) carried.ties;
+        others = λ name. others_stay from name kind_removed (link_to acted.state name) (link_to node name) (link name);
+        removed = λ settled. own ∙ rw settled refl;
+        kept = λ pin. own ∙ rw pin refl;
+        sent = carried.sent;
+      }
+
+pub gone_law : GoneLaw
+unfolding frame_at_core
+gone_law node from ties is_name at taken =
+    let frame = frame_to node from GoneFrame in
+    taken_out_step node from _ ties is_name (not_own node frame taken) (frame_law node frame (takes_out node from) taken (rw at refl))

@@ -1,0 +1,11 @@
+pub mod Among
+pub mod CarriedOut
+pub mod OneName
+pub mod LinkSteps
+pub mod AnswerSteps
+pub mod JoinSteps
+pub mod CoverSteps
+pub mod Kept
+pub mod EndSteps
+pub mod QuietSteps
+pub mod Laid

@@ -1,0 +1,187 @@
+-- The laws of the rule: what a step changes, and what it sends.
+use Rattle.std.specs.Prelude.{◌≡◌, ◌⊎◌, ◌≤◌, Bool, ℕ, true, false, List, [], None, Some, Option}
+use Rattle.tap_name.specs.Name.{IsName}
+use Rattle.tap_name.specs.Names.{AreDistinct, AreNames}
+use Rattle.tap_name.specs.Settings.{AreWithinLimits, SettingsValue}
+use Rattle.tap_name.specs.declared.slot.Offered.{Offered}
+use Rattle.tap_name.specs.declared.slot.Slot.{Slot}
+use Rattle.tap_session.specs.Sessions.{AreSessions}
+use Rattle.tap_table.specs.Ties.{AreTies}
+use Rattle.tap_wire.specs.Spelling.{IsFrame}
+use Rattle.tap_wire.specs.declared.frame.Frame.{Frame}
+use Rattle.tap_wire.specs.declared.frame.Body.{Body}
+use Rattle.tap_wire.specs.declared.frame.Body.TheVariants.{Seek, Tell, Hello, Done, Release, Link, Leave, Left, Gone, Forget}
+use Rattle.tap_wire.specs.declared.frame.TellFields.{TellFields}
+use Rattle.tap_rule.specs.Node.{NodeState, Status, joiner, member_at_rest, name_of, settings_of}
+use Rattle.tap_rule.specs.Node.Status.{Joining, Core, Leaving, Gone as EndedGone, Ceased}
+use Rattle.tap_rule.specs.Event.{Acted, Event, Start}
+use Rattle.tap_rule.specs.Event.Event.{Starts, Takes}
+use Rattle.tap_rule.specs.Event.News.{Nothing}
+use Rattle.tap_rule.specs.Reaction.{Reaction}
+use Rattle.tap_rule.specs.Strange.{is_strange}
+use Rattle.tap_pointer.specs.Reconcile.{AreLaid}
+use Rattle.tap_rule.specs.Covering.{request_of}
+use Rattle.tap_rule.specs.FrameRules.{rule_of_frame}
+use Rattle.tap_rule.specs.StartRules.{rule_of_start}
+use Rattle.tap_rule.specs.Act.{act}
+use Rattle.tap_rule.specs.Kept.{IsNode, KeepsNode}
+use Rattle.tap_rule.specs.Sent.{AreSent}
+use Rattle.tap_rule.specs.EndSteps.{EndStep, GoneStep, LeaveStep, LeftStep}
+use Rattle.tap_rule.specs.JoinSteps.{CoverStep, DoneStep, HelloStep, MeetStep, SeekStep}
+use Rattle.tap_rule.specs.QuietSteps.{IsQuiet, IsQuietStart, QuietStep}
+use Rattle.tap_rule.specs.Steps.{AnswerStep, ForgetStep, LinkStep, ReleaseStep}
+
+-- nothing changes, nothing is sent, and there is no news
+pub record IsIgnored (node : NodeState) (acted : Acted) : Type 0 where
+  pub state : acted.state ≡ node
+  pub sent : acted.sent ≡ []
+  pub news : acted.news ≡ Nothing
+
+-- The step goes as its rule says: the node is left so, but that its pointers are reconciled, for which the stamp may rise; and
+-- what is sent is what the rule has it send, and Lays.
+pub record IsCarriedOut (node : NodeState) (reaction : Reaction) (acted : Acted) : Type 0 where
+  pub status : acted.state.status ≡ reaction.state.status
+  pub ties : acted.state.ties ≡ reaction.state.ties
+  pub stamp : reaction.state.stamp ≤ acted.state.stamp
+  pub sessions : acted.state.sessions ≡ reaction.state.sessions
+  pub covers : acted.state.covers ≡ reaction.state.covers
+  pub greeted : acted.state.greeted ≡ reaction.state.greeted
+  pub abandoned : acted.state.abandoned ≡ reaction.state.abandoned
+  pub awaited : acted.state.awaited ≡ reaction.state.awaited
+  pub casts : acted.state.casts ≡ reaction.state.casts
+  pub cast_sessions : acted.state.cast_sessions ≡ reaction.state.cast_sessions
+  pub cast_numbers : acted.state.cast_numbers ≡ reaction.state.cast_numbers
+  pub sent : AreSent (name_of node) reaction.words reaction.messages acted.sent
+  pub news : acted.news ≡ reaction.news
+  pub taken : acted.strange ≡ false
+
+-- a strange frame is refused; what no rule speaks of is ignored; and what a rule speaks of goes as the rule says
+abbrev pub StrangeLaw : Type 0
+StrangeLaw = (node : NodeState) (frame : Frame) → is_strange node frame ≡ true
+    → IsIgnored node (act node (Takes frame)) × ((act node (Takes frame)).strange ≡ true)
+
+abbrev pub UnruledLaw : Type 0
+UnruledLaw = (node : NodeState) (frame : Frame) → rule_of_frame node.status node frame.from frame.body ≡ None
+    → IsIgnored node (act node (Takes frame))
+
+abbrev pub FrameLaw : Type 0
+FrameLaw = (node : NodeState) (frame : Frame) (reaction : Reaction) → is_strange node frame ≡ false
+    → rule_of_frame node.status node frame.from frame.body ≡ Some reaction → IsCarriedOut node reaction (act node (Takes frame))
+
+abbrev pub StartLaw : Type 0
+StartLaw = (node : NodeState) (start : Start) (reaction : Reaction) → rule_of_start node.status node start ≡ Some reaction
+    → IsCarriedOut node reaction (act node (Starts start))
+
+-- a frame of this sender and this body, to the node
+abbrev pub frame_to : NodeState → List ℕ → Body → Frame
+frame_to node from body = record { from = from; to = name_of node; body = body }
+
+-- The step of each kind of frame, at a node that has ties and sessions; the frame isn't strange, and is from a name.
+abbrev pub ReleaseLaw : Type 0
+ReleaseLaw = (node : NodeState) (from : List ℕ) → AreTies node.ties → IsName (settings_of node) from
+    → (node.status ≡ Joining) ⊎ (node.status ≡ Core) → is_strange node (frame_to node from Release) ≡ false
+    → ReleaseStep node from (act node (Takes (frame_to node from Release)))
+
+abbrev pub ForgetLaw : Type 0
+ForgetLaw = (node : NodeState) (from : List ℕ) → AreTies node.ties → IsName (settings_of node) from
+    → (node.status ≡ Joining) ⊎ (node.status ≡ Core) → is_strange node (frame_to node from Forget) ≡ false
+    → ForgetStep node from (act node (Takes (frame_to node from Forget)))
+
+abbrev pub LinkLaw : Type 0
+LinkLaw = (node : NodeState) (holder : List ℕ) (version : ℕ) (on : Bool)
+    → (node.status ≡ Joining) ⊎ ((node.status ≡ Core) ⊎ (node.status ≡ Leaving))
+    → is_strange node (frame_to node holder (Link version on)) ≡ false
+    → LinkStep node holder version on (act node (Takes (frame_to node holder (Link version on))))
+
+-- Heard and Ack alike
+abbrev pub AnswerLaw : (ℕ → Body) → Type 0
+AnswerLaw body = (node : NodeState) (from : List ℕ) (session : ℕ) → AreSessions node.sessions
+    → (node.status ≡ Joining) ⊎ ((node.status ≡ Core) ⊎ (node.status ≡ Ceased))
+    → is_strange node (frame_to node from (body session)) ≡ false
+    → AnswerStep node session (act node (Takes (frame_to node from (body session))))
+
+-- the body of a Tell
+abbrev pub tell_of : TellFields → List Slot → Body
+tell_of tell watch = Tell tell.joiner tell.prefix tell.level tell.session tell.depth watch
+
+-- Tell, Hello and Done, at a joining node
+abbrev pub MeetLaw : Type 0
+MeetLaw = (node : NodeState) (from : List ℕ) (tell : TellFields) (watch : List Slot) → AreTies node.ties
+    → IsName (settings_of node) tell.joiner → node.status ≡ Joining
+    → is_strange node (frame_to node from (tell_of tell watch)) ≡ false
+    → MeetStep node from tell (act node (Takes (frame_to node from (tell_of tell watch))))
+
+abbrev pub HelloLaw : Type 0
+HelloLaw = (node : NodeState) (from : List ℕ) (session : ℕ) (core : Bool) (links : List Offered) → node.status ≡ Joining
+    → is_strange node (frame_to node from (Hello session core links)) ≡ false
+    → HelloStep node from session core links (act node (Takes (frame_to node from (Hello session core links))))
+
+abbrev pub DoneLaw : Type 0
+DoneLaw = (node : NodeState) (from : List ℕ) → node.status ≡ Joining → node.abandoned ≡ false
+    → is_strange node (frame_to node from Done) ≡ false → DoneStep node (act node (Takes (frame_to node from Done)))
+
+-- Tell, at a core node
+abbrev pub TellLaw : Type 0
+TellLaw = (node : NodeState) (from : List ℕ) (tell : TellFields) (watch : List Slot) → AreTies node.ties
+    → IsName (settings_of node) tell.joiner → node.status ≡ Core
+    → is_strange node (frame_to node from (tell_of tell watch)) ≡ false
+    → CoverStep node (request_of from tell watch) (act node (Takes (frame_to node from (tell_of tell watch))))
+
+-- Seek, at a core node
+abbrev pub SeekLaw : Type 0
+SeekLaw = (node : NodeState) (from joiner : List ℕ) → AreTies node.ties → IsName (settings_of node) joiner
+    → node.status ≡ Core → is_strange node (frame_to node from (Seek joiner)) ≡ false
+    → SeekStep node joiner (act node (Takes (frame_to node from (Seek joiner))))
+
+-- a node that starts to join is a node, and so is each of the members with which an overlay begins
+abbrev pub JoinerLaw : Type 0
+JoinerLaw = (p : SettingsValue) (name : List ℕ) → AreWithinLimits p → IsName p name → IsNode (joiner p name)
+
+abbrev pub MemberLaw : Type 0
+MemberLaw = (p : SettingsValue) (members : List (List ℕ)) (name : List ℕ) → AreWithinLimits p → IsName p name
+    → AreNames p members → AreDistinct members → IsNode (member_at_rest p members name)
+
+-- each step keeps what a node keeps, whatever frame it takes that has a spelling, and whatever it starts
+abbrev pub KeptLaw : Type 0
+KeptLaw = (node : NodeState) (frame : Frame) → IsNode node → IsFrame (settings_of node) frame
+    → KeepsNode node (act node (Takes frame)).state
+
+abbrev pub StartKeptLaw : Type 0
+StartKeptLaw = (node : NodeState) (start : Start) → IsNode node → KeepsNode node (act node (Starts start)).state
+
+-- Done, at a node whose join was given up; and the steps of a departure
+abbrev pub CeaseLaw : Type 0
+CeaseLaw = (node : NodeState) (from : List ℕ) → node.status ≡ Joining → node.abandoned ≡ true
+    → is_strange node (frame_to node from Done) ≡ false → EndStep node Ceased Forget (act node (Takes (frame_to node from Done)))
+
+abbrev pub LeaveLaw : Type 0
+LeaveLaw = (node : NodeState) (from : List ℕ) (replacement : Option (List ℕ)) → node.status ≡ Core
+    → is_strange node (frame_to node from (Leave replacement)) ≡ false
+    → LeaveStep node from replacement (act node (Takes (frame_to node from (Leave replacement))))
+
+abbrev pub LeftLaw : Type 0
+LeftLaw = (node : NodeState) (from : List ℕ) → node.status ≡ Leaving → is_strange node (frame_to node from Left) ≡ false
+    → LeftStep node from (act node (Takes (frame_to node from Left)))
+
+abbrev pub GoneLaw : Type 0
+GoneLaw = (node : NodeState) (from : List ℕ) → AreTies node.ties → IsName (settings_of node) from → node.status ≡ Core
+    → is_strange node (frame_to node from Gone) ≡ false → GoneStep node from (act node (Takes (frame_to node from Gone)))
+
+-- Each pair is laid as wanted after each step of a node that hasn't ended, if it was before.
+abbrev pub IsRunning : Status → Type 0
+IsRunning Joining = Unit {0}
+IsRunning Core = Unit {0}
+IsRunning Leaving = Unit {0}
+IsRunning EndedGone = ⊥
+IsRunning Ceased = ⊥
+
+abbrev pub LaidLaw : Type 0
+LaidLaw = (node : NodeState) (event : Event) → AreLaid node.ties.table node.pointers → IsRunning (act node event).state.status
+    → AreLaid (act node event).state.ties.table (act node event).state.pointers
+
+-- frames and starts about pointers, lookups and casts change nothing of joins and departures
+abbrev pub QuietLaw : Type 0
+QuietLaw = (node : NodeState) (frame : Frame) → IsQuiet frame.body → QuietStep node (act node (Takes frame))
+
+abbrev pub QuietStartLaw : Type 0
+QuietStartLaw = (node : NodeState) (start : Start) → IsQuietStart start → QuietStep node (act node (Starts start))

@@ -1,0 +1,75 @@
+-- Pointers and lookups: publications, Lay, Find and Answer.
+--
+-- Rule: docs/PROTOCOL.md, "Publication and withdrawal" and "Lay" and "Find" and "Answer".
+use Rattle.std.specs.Prelude.{ℕ, ◌+◌, Bool, List, [], ◌∷◌, drop, length, Option, None, Some}
+use Rattle.tap_table.specs.declared.next.Next.{Next}
+use Rattle.tap_table.specs.declared.next.Next.TheVariants.{Root, Hop}
+use Rattle.tap_table.specs.Next.{next_from}
+use Rattle.tap_pointer.specs.declared.lay.Lay.{Lay}
+use Rattle.tap_pointer.specs.declared.pair.Pair.{Pair}
+use Rattle.tap_pointer.specs.Pointers.{lay_applied, least_server, pointer_at, published, withdrawn}
+use Rattle.tap_pointer.specs.Reconcile.{reconcile_lays, reconciled}
+use Rattle.tap_wire.specs.declared.frame.Body.TheVariants.{Find, Answer}
+use Rattle.tap_rule.specs.Node.{NodeState, name_of}
+use Rattle.tap_rule.specs.Event.News.{Answered}
+use Rattle.tap_rule.specs.Reaction.{Reaction, message, sends, stays, with_news}
+
+-- a core node publishes an object, and withdraws it
+abbrev pub publishes : NodeState → List ℕ → Reaction
+publishes node object = stays (record node { pointers = published node.pointers object })
+
+abbrev pub withdraws : NodeState → List ℕ → Reaction
+withdraws node object = stays (record node { pointers = withdrawn node.pointers object })
+
+-- Lay, at a core or leaving node: the register of the pair and the sender takes it
+abbrev pub takes_lay : NodeState → List ℕ → Pair → ℕ → ℕ → Bool → Reaction
+takes_lay node from pair level version on =
+    stays (record node { pointers = lay_applied node.pointers pair from version (pointer_at level on) })
+
+-- where a message to an object goes next that has come to this level
+abbrev pub next_hop : NodeState → List ℕ → ℕ → Next
+next_hop node object level = next_from node.ties.table level (drop level object)
+
+-- the lookup of a ticket is answered
+abbrev pub is_answered : NodeState → ℕ → Option (List ℕ) → Reaction
+is_answered node ticket server = with_news (Answered ticket server) (stays node)
+
+-- A lookup at its asker: with a server it is answered at once. Without one it goes on, and at the root it is answered with
+-- none.
+abbrev pub asks_on : NodeState → ℕ → List ℕ → Next → Reaction
+asks_on node ticket object Root = is_answered node ticket None
+asks_on node ticket object (Hop to level) = sends node (message to (Find ticket object (name_of node) level) ∷ [])
+
+abbrev pub asks_with : NodeState → ℕ → List ℕ → Option (List ℕ) → Reaction
+asks_with node ticket object (Some server) = is_answered node ticket (Some server)
+asks_with node ticket object None = asks_on node ticket object (next_hop node object 0)
+
+abbrev pub asks : NodeState → ℕ → List ℕ → Reaction
+asks node ticket object = asks_with node ticket object (least_server node.pointers object)
+
+-- Find, at a core or leaving node: with a server the asker is sent an Answer. Without one the Find goes on, and at the root
+-- the Answer has none.
+abbrev pub finds_on : NodeState → ℕ → List ℕ → List ℕ → Next → Reaction
+finds_on node ticket object asker Root = sends node (message asker (Answer ticket None) ∷ [])
+finds_on node ticket object asker (Hop to level) = sends node (message to (Find ticket object asker level) ∷ [])
+
+abbrev pub finds_with : NodeState → ℕ → List ℕ → List ℕ → ℕ → Option (List ℕ) → Reaction
+finds_with node ticket object asker level (Some server) = sends node (message asker (Answer ticket (Some server)) ∷ [])
+finds_with node ticket object asker level None = finds_on node ticket object asker (next_hop node object level)
+
+abbrev pub finds : NodeState → ℕ → List ℕ → List ℕ → ℕ → Reaction
+finds node ticket object asker level = finds_with node ticket object asker level (least_server node.pointers object)
+
+-- the Lays that reconciling takes, and the node with its pointers reconciled
+abbrev pub lays_due : NodeState → List Lay
+lays_due node = reconcile_lays node.ties.table node.stamp node.pointers
+
+abbrev pub with_reconciled : NodeState → NodeState
+with_reconciled node = record node {
+  pointers = reconciled node.ties.table node.pointers;
+  stamp = node.stamp + length (lays_due node);
+}
+
+-- the end of a step of a node that hasn't ended: its pointers are reconciled
+abbrev pub reconciles : Reaction → Reaction
+reconciles reaction = record reaction { state = with_reconciled reaction.state; lays = lays_due reaction.state }
