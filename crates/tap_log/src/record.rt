@@ -1,3 +1,5 @@
+ghost use Rattle.std.specs.Prelude.{◌≡◌, true};
+
 use tap_name::{List, Name, Settings, Slot};
 use tap_scenario::Step;
 use tap_wire::{Bytes, WireFault};
@@ -229,4 +231,16 @@ pub enum Record {
     Closed {
         cast: u32,
     },
+}
+
+impl Record {
+    /// Whether two records are the same: of one kind, with the same values. `==` answers the same.
+    ///
+    /// Rule: docs/FORMATS.md, "The printed text".
+    pub fn is_same(&self, other: &Record) -> bool
+        ensures same { result ≡ true → self.now ≡ other.now }
+        ensures each { self.now ≡ other.now → result ≡ true }
+    {
+        self == other
+    }
 }
