@@ -92,7 +92,8 @@ module _ (owner : List ℕ) (pair : Pair) where
         → IsKnown owner (pair, told state from version pointer)
     known-told from version pointer least most = record {
       own = known.own;
-      levels_from = All-applied name_cmp nat_list_cmp_total state.registers from version pointer (λ r. 1 ≤ r.value.level) known.levels_from least;
+      levels_from = All-applied name_cmp nat_list_cmp_total state.registers from version pointer (λ r. 1 ≤ r.value.level)
+          known.levels_from least;
       levels_to = All-applied name_cmp nat_list_cmp_total state.registers from version pointer
           (λ r. r.value.level ≤ length pair.object) known.levels_to most;
     }
