@@ -21,7 +21,8 @@ module _ (t : TableValue) (valid : IsTable t) (watch : List Slot) (joiner : List
       picked-same offered_as offered_as (is_offered t watch joiner) (offers joiner (is_some primary && has_slot watch slot) primary) links
       (λ k d within.
       let e = get_or links k d in
-      ap (λ s. offers joiner (has_slot (answered t joiner watch) s) (least_settled (links_at t s)) e) (links_stand t valid slot below k d within)
+      ap (λ s. offers joiner (has_slot (answered t joiner watch) s) (least_settled (links_at t s)) e)
+      (links_stand t valid slot below k d within)
       ∙ offers-watched t joiner slot watch primary refl e)
       (λ k d within. refl)
 

@@ -20,8 +20,8 @@ loop-at-preserved c =
       | then-offers+in_ok-push w ↦
           let parts = picked-first offered_as passes links at link got (sym c.offers.ensures ∙ w.if-offers.true) in
           rw (w.offer-is, w.in_ok-push.ensures.items, w.is_settled.ensures)
-          (added done (offered_as link ∷ []) (picked offered_as passes (drop (at + 1) links)) (picked offered_as passes (drop at links)) whole
-          parts c.loop-at.invariant)
+          (added done (offered_as link ∷ []) (picked offered_as passes (drop (at + 1) links))
+          (picked offered_as passes (drop at links)) whole parts c.loop-at.invariant)
       | else-offers w ↦
           let parts = passed_over offered_as passes links at link got (sym c.offers.ensures ∙ w.if-offers.false) in
           rw w.offer-is (ap (λ l. done ++ l) (sym parts) ∙ c.loop-at.invariant)
