@@ -9,3 +9,4 @@ pub mod Kept
 pub mod EndSteps
 pub mod QuietSteps
 pub mod Laid
+pub mod StartSteps

@@ -26,9 +26,11 @@ use Rattle.tap_rule.specs.StartRules.{rule_of_start}
 use Rattle.tap_rule.specs.Act.{act}
 use Rattle.tap_rule.specs.Kept.{IsNode, KeepsNode}
 use Rattle.tap_rule.specs.Sent.{AreSent}
+use Rattle.tap_rule.specs.Event.Start.{Abandon, Join as JoinStart, Leave as LeaveStart}
 use Rattle.tap_rule.specs.EndSteps.{EndStep, GoneStep, LeaveStep, LeftStep}
 use Rattle.tap_rule.specs.JoinSteps.{CoverStep, DoneStep, HelloStep, MeetStep, SeekStep}
 use Rattle.tap_rule.specs.QuietSteps.{IsQuiet, IsQuietStart, QuietStep}
+use Rattle.tap_rule.specs.StartSteps.{GiveUpStep, LeaveStartStep, SeekStartStep}
 use Rattle.tap_rule.specs.Steps.{AnswerStep, ForgetStep, LinkStep, ReleaseStep}
 
 -- nothing changes, nothing is sent, and there is no news
@@ -185,3 +187,13 @@ QuietLaw = (node : NodeState) (frame : Frame) → IsQuiet frame.body → QuietSt
 
 abbrev pub QuietStartLaw : Type 0
 QuietStartLaw = (node : NodeState) (start : Start) → IsQuietStart start → QuietStep node (act node (Starts start))
+
+-- the starts of a join and of a departure, and that a join is given up
+abbrev pub SeekStartLaw : Type 0
+SeekStartLaw = (node : NodeState) (via : List ℕ) → node.status ≡ Joining → SeekStartStep node via (act node (Starts (JoinStart via)))
+
+abbrev pub GiveUpLaw : Type 0
+GiveUpLaw = (node : NodeState) → node.status ≡ Joining → GiveUpStep node (act node (Starts Abandon))
+
+abbrev pub LeaveStartLaw : Type 0
+LeaveStartLaw = (node : NodeState) → node.status ≡ Core → LeaveStartStep node (act node (Starts LeaveStart))

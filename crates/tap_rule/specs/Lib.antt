@@ -19,5 +19,6 @@ pub mod Kept
 pub mod Steps
 pub mod JoinSteps
 pub mod EndSteps
+pub mod StartSteps
 pub mod QuietSteps
 pub mod Laws

@@ -1,6 +1,7 @@
 ghost use Rattle.tap_wire.specs.declared.frame.Body.TheVariants.{Heard, Ack};
 ghost use Rattle.tap_rule.specs.Laws.{FrameLaw, JoinerLaw, KeptLaw, LaidLaw, MemberLaw, QuietLaw, QuietStartLaw, StartKeptLaw, StartLaw, StrangeLaw, UnruledLaw};
 ghost use Rattle.tap_rule.specs.Laws.{AnswerLaw, CeaseLaw, DoneLaw, ForgetLaw, GoneLaw, HelloLaw, LeaveLaw, LeftLaw, LinkLaw, MeetLaw, ReleaseLaw, SeekLaw, TellLaw};
+ghost use Rattle.tap_rule.specs.Laws.{GiveUpLaw, LeaveStartLaw, SeekStartLaw};
 
 /// What a step comes to. A strange frame changes nothing, and neither does one of which no rule speaks. Any other event leaves the
 /// node as its rule says, but that its pointers are then reconciled, and sends the frames of the rule, and Lays.
@@ -31,11 +32,11 @@ pub fn frames_law()
 
 /// What the frames of a join change at a node: a Seek is sent on or covered; a Tell pins its joiner, which is then greeted once by a
 /// joining node and covered by a core node; a Hello links its names; and a Done makes a joining node core, or has it cease if its
-/// join was given up.
+/// join was given up. The start of a join sends a Seek, and giving it up sends nothing.
 ///
 /// It does nothing: its contract is the law.
 ///
-/// Rule: docs/PROTOCOL.md, "Seek" and "Tell" and "Covers of a node" and "Hello" and "Done".
+/// Rule: docs/PROTOCOL.md, "Seek" and "Tell" and "Covers of a node" and "Hello" and "Done" and "The start of a join" and "Giving a join up".
 pub fn joins_law()
     ensures seek { SeekLaw }
     ensures tell { TellLaw }
@@ -43,6 +44,8 @@ pub fn joins_law()
     ensures hello { HelloLaw }
     ensures done { DoneLaw }
     ensures cease { CeaseLaw }
+    ensures starts { SeekStartLaw }
+    ensures gives_up { GiveUpLaw }
 {}
 
 /// What a node keeps: its ties are ties and its sessions are sessions. A node that starts to join has this, and so has a member at rest;
@@ -59,16 +62,17 @@ pub fn kept_law()
     ensures laid { LaidLaw }
 {}
 
-/// What the frames of a departure change at a node: a Leave marks a link and is answered, a Left is awaited no more and the last one
-/// ends the node, and a Gone takes a link out.
+/// What a departure changes: at its start each holder is sent its notice, and without holders the node ends; a Leave marks a link and is
+/// answered; after a Left its sender is awaited no more, and after the last one the node ends; and a Gone takes a link out.
 ///
 /// It does nothing: its contract is the law.
 ///
-/// Rule: docs/PROTOCOL.md, "Leave" and "Left" and "Gone".
+/// Rule: docs/PROTOCOL.md, "The start of a departure" and "Leave" and "Left" and "Gone".
 pub fn departures_law()
     ensures leave { LeaveLaw }
     ensures left { LeftLaw }
     ensures gone { GoneLaw }
+    ensures starts { LeaveStartLaw }
 {}
 
 /// Publications, lookups, casts and their frames change no link, no holder, no session of a join and no cover, and only such frames

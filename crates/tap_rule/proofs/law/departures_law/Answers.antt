@@ -1,4 +1,5 @@
 use Rattle.tap_rule.proofs.EndSteps.{gone_law, leave_law, left_law}
+use Rattle.tap_rule.proofs.StartSteps.{leave_start_law}
 use Rattle.tap_rule.proofs.law.departures_law.Goals as goal
 
 pub returns-clause-leave : goal.returns-clause-leave
@@ -9,3 +10,6 @@ returns-clause-left c = left_law
 
 pub returns-clause-gone : goal.returns-clause-gone
 returns-clause-gone c = gone_law
+
+pub returns-clause-starts : goal.returns-clause-starts
+returns-clause-starts c = leave_start_law

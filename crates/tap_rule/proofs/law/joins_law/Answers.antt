@@ -1,6 +1,7 @@
 use Rattle.tap_rule.proofs.CoverSteps.{seek_law, tell_law}
 use Rattle.tap_rule.proofs.EndSteps.{cease_law}
 use Rattle.tap_rule.proofs.JoinSteps.{done_law, hello_law, meet_law}
+use Rattle.tap_rule.proofs.StartSteps.{give_up_law, seek_start_law}
 use Rattle.tap_rule.proofs.law.joins_law.Goals as goal
 
 pub returns-clause-seek : goal.returns-clause-seek
@@ -20,3 +21,9 @@ returns-clause-done c = done_law
 
 pub returns-clause-cease : goal.returns-clause-cease
 returns-clause-cease c = cease_law
+
+pub returns-clause-starts : goal.returns-clause-starts
+returns-clause-starts c = seek_start_law
+
+pub returns-clause-gives_up : goal.returns-clause-gives_up
+returns-clause-gives_up c = give_up_law
