@@ -18,11 +18,11 @@ use Rattle.tap_rule.proofs.CarriedOut.{frame_law}
 use Rattle.tap_rule.proofs.OneName.{parent_told}
 
 -- a number is itself
-same_number : (n : ℕ) → (n == n) ≡ true
+pub same_number : (n : ℕ) → (n == n) ≡ true
 same_number n = elim (eqb_tells n n) [ inl both ↦ both.0 | inr both ↦ absurd (both.1 refl) ]
 
 -- a number that isn't one isn't
-other_number : (n : ℕ) → 1 < n → (n == 1) ≡ false
+pub other_number : (n : ℕ) → 1 < n → (n == 1) ≡ false
 other_number n above = elim (eqb_tells n 1) [ inl both ↦ absurd (omega (arith, both.1)) | inr both ↦ both.0 ]
 
 module _ (node : NodeState) (session : ℕ) (acted : Acted) (are : AreSessions node.sessions) where

@@ -10,3 +10,4 @@ pub mod EndSteps
 pub mod QuietSteps
 pub mod Laid
 pub mod StartSteps
+pub mod CastSteps

@@ -5,12 +5,13 @@ use Rattle.tap_name.specs.Names.{AreDistinct, AreNames}
 use Rattle.tap_name.specs.Settings.{AreWithinLimits, SettingsValue}
 use Rattle.tap_name.specs.declared.slot.Offered.{Offered}
 use Rattle.tap_name.specs.declared.slot.Slot.{Slot}
+use Rattle.tap_session.specs.declared.parent.Parent.TheVariants.{Node, Root}
 use Rattle.tap_session.specs.Sessions.{AreSessions}
 use Rattle.tap_table.specs.Ties.{AreTies}
 use Rattle.tap_wire.specs.Spelling.{IsFrame}
 use Rattle.tap_wire.specs.declared.frame.Frame.{Frame}
 use Rattle.tap_wire.specs.declared.frame.Body.{Body}
-use Rattle.tap_wire.specs.declared.frame.Body.TheVariants.{Seek, Tell, Hello, Done, Release, Link, Leave, Left, Gone, Forget}
+use Rattle.tap_wire.specs.declared.frame.Body.TheVariants.{Seek, Tell, Hello, Done, Release, Link, Leave, Left, Gone, Forget, Cast, CastAck}
 use Rattle.tap_wire.specs.declared.frame.TellFields.{TellFields}
 use Rattle.tap_rule.specs.Node.{NodeState, Status, joiner, member_at_rest, name_of, settings_of}
 use Rattle.tap_rule.specs.Node.Status.{Joining, Core, Leaving, Gone as EndedGone, Ceased}
@@ -26,7 +27,8 @@ use Rattle.tap_rule.specs.StartRules.{rule_of_start}
 use Rattle.tap_rule.specs.Act.{act}
 use Rattle.tap_rule.specs.Kept.{IsNode, KeepsNode}
 use Rattle.tap_rule.specs.Sent.{AreSent}
-use Rattle.tap_rule.specs.Event.Start.{Abandon, Join as JoinStart, Leave as LeaveStart}
+use Rattle.tap_rule.specs.Event.Start.{Abandon, Cast as CastStart, Join as JoinStart, Leave as LeaveStart}
+use Rattle.tap_rule.specs.CastSteps.{CastAckStep, CastStep}
 use Rattle.tap_rule.specs.EndSteps.{EndStep, GoneStep, LeaveStep, LeftStep}
 use Rattle.tap_rule.specs.JoinSteps.{CoverStep, DoneStep, HelloStep, MeetStep, SeekStep}
 use Rattle.tap_rule.specs.QuietSteps.{IsQuiet, IsQuietStart, QuietStep}
@@ -197,3 +199,20 @@ GiveUpLaw = (node : NodeState) → node.status ≡ Joining → GiveUpStep node (
 
 abbrev pub LeaveStartLaw : Type 0
 LeaveStartLaw = (node : NodeState) → node.status ≡ Core → LeaveStartStep node (act node (Starts LeaveStart))
+
+-- Cast and CastAck, and the start of a cast, at a core node
+abbrev pub CastLaw : Type 0
+CastLaw = (node : NodeState) (from : List ℕ) (cast level session depth : ℕ) (word : List ℕ) → node.status ≡ Core
+    → is_strange node (frame_to node from (Cast cast level session depth word)) ≡ false
+    → CastStep node (record { cast = cast; level = level; parent = Node from session; depth = depth; word = word })
+    (act node (Takes (frame_to node from (Cast cast level session depth word))))
+
+abbrev pub CastStartLaw : Type 0
+CastStartLaw = (node : NodeState) (cast level : ℕ) (word : List ℕ) → node.status ≡ Core
+    → CastStep node (record { cast = cast; level = level; parent = Root (name_of node); depth = 0; word = word })
+    (act node (Starts (CastStart cast level word)))
+
+abbrev pub CastAckLaw : Type 0
+CastAckLaw = (node : NodeState) (from : List ℕ) (session : ℕ) → AreSessions node.cast_sessions → node.status ≡ Core
+    → is_strange node (frame_to node from (CastAck session)) ≡ false
+    → CastAckStep node session (act node (Takes (frame_to node from (CastAck session))))

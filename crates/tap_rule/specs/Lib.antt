@@ -21,4 +21,5 @@ pub mod JoinSteps
 pub mod EndSteps
 pub mod StartSteps
 pub mod QuietSteps
+pub mod CastSteps
 pub mod Laws

@@ -1,7 +1,7 @@
 ghost use Rattle.tap_wire.specs.declared.frame.Body.TheVariants.{Heard, Ack};
 ghost use Rattle.tap_rule.specs.Laws.{FrameLaw, JoinerLaw, KeptLaw, LaidLaw, MemberLaw, QuietLaw, QuietStartLaw, StartKeptLaw, StartLaw, StrangeLaw, UnruledLaw};
 ghost use Rattle.tap_rule.specs.Laws.{AnswerLaw, CeaseLaw, DoneLaw, ForgetLaw, GoneLaw, HelloLaw, LeaveLaw, LeftLaw, LinkLaw, MeetLaw, ReleaseLaw, SeekLaw, TellLaw};
-ghost use Rattle.tap_rule.specs.Laws.{GiveUpLaw, LeaveStartLaw, SeekStartLaw};
+ghost use Rattle.tap_rule.specs.Laws.{CastAckLaw, CastLaw, CastStartLaw, GiveUpLaw, LeaveStartLaw, SeekStartLaw};
 
 /// What a step comes to. A strange frame changes nothing, and neither does one of which no rule speaks. Any other event leaves the
 /// node as its rule says, but that its pointers are then reconciled, and sends the frames of the rule, and Lays.
@@ -84,4 +84,16 @@ pub fn departures_law()
 pub fn quiet_law()
     ensures frame { QuietLaw }
     ensures start { QuietStartLaw }
+{}
+
+/// What a cast changes at a core node: a copy that is new there is sent on to its targets, in a session of its own, and its level is
+/// kept; any other is answered; and the last answer of a session is passed on, or closes the cast.
+///
+/// It does nothing: its contract is the law.
+///
+/// Rule: docs/PROTOCOL.md, "Cast" and "CastAck".
+pub fn casts_law()
+    ensures cast { CastLaw }
+    ensures starts { CastStartLaw }
+    ensures ack { CastAckLaw }
 {}

@@ -1,0 +1,120 @@
+-- What Cast and CastAck change of the casts of a core node.
+use Rattle.std.proofs.Common.{◌≡◌, ◌==◌, ℕ, ◌+◌, Bool, [], ◌∷◌, Some, false, refl, sym, ap, ◌∙◌, inl, inr, eqb-true, if◌then◌else◌}
+use Rattle.std.specs.Option.{option_and_then}
+use Rattle.std.proofs.lemmas.Bool.{cases_Bool}
+use Rattle.tap_session.specs.declared.parent.Parent.{Parent}
+use Rattle.tap_session.specs.declared.parent.Parent.TheVariants.{Root, Node}
+use Rattle.tap_session.specs.declared.sessions.Answered.{Answered}
+use Rattle.tap_session.specs.declared.sessions.Answered.TheVariants.{Open, Closed, Unknown}
+use Rattle.tap_session.specs.Session.{Session, SessionsValue}
+use Rattle.tap_session.specs.Sessions.{AreSessions, answer_to, answered_at, session_of, with_answer}
+use Rattle.tap_session.proofs.Transitions.{answered-unknown, session_of-answered}
+use Rattle.tap_cast.specs.declared.casts.CastTurn.{CastTurn}
+use Rattle.tap_cast.specs.declared.casts.CastTurn.TheVariants.{Already, Now}
+use Rattle.tap_cast.specs.declared.target.CastTarget.{CastTarget}
+use Rattle.tap_cast.specs.Casts.{turn_of}
+use Rattle.tap_wire.specs.declared.frame.Body.TheVariants.{Cast, CastAck}
+use Rattle.tap_rule.specs.Node.{NodeState, name_of}
+use Rattle.tap_rule.specs.Event.{Acted}
+use Rattle.tap_rule.specs.Event.Start.{Cast as CastStart}
+use Rattle.tap_rule.specs.Reaction.{message, sends, with_news}
+use Rattle.tap_rule.specs.Casts.{Copy, cast_answer, cast_answered, cast_answered_as, cast_for, cast_news, cast_of, casts, casts_as, is_root}
+use Rattle.tap_rule.specs.FrameRules.{frame_at_core}
+use Rattle.tap_rule.specs.Sending.{message_frame}
+use Rattle.tap_rule.specs.Sent.{IsAmong}
+use Rattle.tap_rule.specs.CastSteps.{CastAckStep, CastStep, IsCastAnswered, cast_session_at}
+use Rattle.tap_rule.specs.Laws.{CastAckLaw, CastLaw, CastStartLaw, IsCarriedOut, frame_to}
+use Rattle.tap_rule.proofs.Among.{among-map}
+use Rattle.tap_rule.proofs.AnswerSteps.{other_number, same_number}
+use Rattle.tap_rule.proofs.CarriedOut.{frame_law, start_law}
+
+module _ (node : NodeState) (acted : Acted) where
+  -- a parent that is told what is said to it, with news
+  told_by : (after : NodeState) (parent : Parent) (cast : ℕ) (reached : Bool)
+      → IsCarriedOut node (with_news (cast_news cast reached (is_root parent)) (sends after (cast_answer parent))) acted
+      → IsCastAnswered node parent cast reached acted
+  told_by after (Root name) cast reached carried = carried.news
+  told_by after (Node name session) cast reached carried =
+      (carried.news, carried.sent.named (message name (CastAck session)) (inl refl))
+
+  module _ (copy : Copy) where
+    cast_as : (turn : CastTurn) → turn_of node.casts node.ties.table copy.cast copy.level ≡ turn
+        → IsCarriedOut node (casts_as node copy turn) acted → CastStep node copy acted
+    cast_as Already is carried = rw is (
+      carried.casts,
+      carried.cast_sessions,
+      λ name session parent.
+          let among : IsAmong (message name (CastAck session)) (cast_answer copy.parent) = rw parent (inl refl) in
+          carried.sent.named (message name (CastAck session)) among,
+    )
+    cast_as (Now first []) is carried =
+        rw is (carried.casts, (carried.cast_sessions, told_by _ copy.parent copy.cast first carried))
+    cast_as (Now first (one ∷ others)) is carried =
+        let number = node.cast_sessions.opened + 1 in
+        let told : (target : CastTarget) → IsAmong target (one ∷ others)
+        → IsAmong (message_frame (name_of node) (cast_for copy number target)) acted.sent =
+        λ target among. carried.sent.named (cast_for copy number target)
+        (among-map (cast_for copy number) target (one ∷ others) among) in
+        rw is (carried.casts, (carried.cast_sessions, carried.cast_numbers, carried.news, told))
+
+  module _ (session : ℕ) (are : AreSessions node.cast_sessions) where
+    abbrev answered : NodeState
+    answered = record node { cast_sessions = answered_at node.cast_sessions session }
+
+    -- what is kept of the sessions whatever the answer was
+    sessions_after : acted.state.casts ≡ node.casts → acted.state.cast_sessions ≡ answered_at node.cast_sessions session
+        → ((s : Session) → cast_session_at node session ≡ Some s → s.waiting ≡ 1
+        → IsCastAnswered node s.parent (cast_of node session) false acted)
+        → CastAckStep node session acted
+    sessions_after casts sessions passed_on =
+        let look : (number : ℕ) → cast_session_at acted.state number
+        ≡ (if session == number then option_and_then with_answer (cast_session_at node session) else cast_session_at node number) =
+        λ number. ap (λ (s : SessionsValue). session_of s.sessions number) sessions
+        ∙ session_of-answered node.cast_sessions are session number in
+        let own : cast_session_at acted.state session ≡ option_and_then with_answer (cast_session_at node session) =
+        look session ∙ rw (same_number session) refl in
+        record {
+          casts = casts;
+          others = λ number. elim (cases_Bool (session == number)) [
+            | inl same ↦ inl (sym (eqb-true session number same))
+            | inr apart ↦ inr (look number ∙ rw apart refl)
+          ];
+          unknown = λ none. sessions ∙ answered-unknown node.cast_sessions are session none;
+          goes_on = λ s is more. own ∙ rw (is, other_number s.waiting more) refl;
+          closes = λ s is last. (own ∙ rw (is, last) refl, passed_on s is last);
+        }
+
+    ack_as : (answer : Answered) → answer_to (cast_session_at node session) ≡ answer
+        → IsCarriedOut node (cast_answered_as answered (cast_of node session) answer) acted → CastAckStep node session acted
+    ack_as Open is carried =
+        sessions_after carried.casts carried.cast_sessions
+        (λ s at last. let closed : answer_to (cast_session_at node session) ≡ Closed s.parent = rw (at, last) refl in
+        let both : Closed s.parent ≡ Open = sym closed ∙ is in absurd cc)
+    ack_as (Closed parent) is carried =
+        sessions_after carried.casts carried.cast_sessions
+        (λ s at last. let closed : answer_to (cast_session_at node session) ≡ Closed s.parent = rw (at, last) refl in
+        let both : Closed s.parent ≡ Closed parent = sym closed ∙ is in let same : s.parent ≡ parent = cc in
+        rw same (told_by _ parent (cast_of node session) false carried))
+    ack_as Unknown is carried =
+        sessions_after carried.casts carried.cast_sessions
+        (λ s at last. let closed : answer_to (cast_session_at node session) ≡ Closed s.parent = rw (at, last) refl in
+        let both : Closed s.parent ≡ Unknown = sym closed ∙ is in absurd cc)
+
+pub cast_law : CastLaw
+unfolding frame_at_core
+cast_law node from cast level session depth word at taken =
+    let copy : Copy = record { cast = cast; level = level; parent = Node from session; depth = depth; word = word } in
+    cast_as node _ copy (turn_of node.casts node.ties.table cast level) refl
+    (frame_law node (frame_to node from (Cast cast level session depth word)) (casts node copy) taken (rw at refl))
+
+pub cast_start_law : CastStartLaw
+cast_start_law node cast level word at =
+    let copy : Copy = record { cast = cast; level = level; parent = Root (name_of node); depth = 0; word = word } in
+    cast_as node _ copy (turn_of node.casts node.ties.table cast level) refl
+    (start_law node (CastStart cast level word) (casts node copy) (rw at refl))
+
+pub cast_ack_law : CastAckLaw
+unfolding frame_at_core
+cast_ack_law node from session are at taken =
+    ack_as node _ session are (answer_to (cast_session_at node session)) refl
+    (frame_law node (frame_to node from (CastAck session)) (cast_answered node session) taken (rw at refl))
