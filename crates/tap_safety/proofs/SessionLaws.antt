@@ -1,0 +1,17 @@
+-- What holds of the sessions of joins.
+use Rattle.tap_safety.specs.Laws.{NoSessionWithoutRoot, OnlyTheLastFrameIsLeft, OnlyTheRootIsLeft, SessionsKeptByOpening}
+use Rattle.tap_safety.proofs.Chains.{no_session, only_frame, only_session}
+use Rattle.tap_safety.proofs.SessionsKept.{sessions_kept}
+
+pub opened_law : SessionsKeptByOpening
+opened_law s s' number f w k x l sent step sound = sessions_kept s s' number f w k x l sent step sound
+
+pub rootless_law : NoSessionWithoutRoot
+rootless_law s b sound rootless y l o is joiner = no_session s b sound rootless y l o is joiner
+
+pub root_law : OnlyTheRootIsLeft
+root_law s x k number sound last y l o is joiner = only_session s x k number sound last y l o is joiner
+
+pub frame_law : OnlyTheLastFrameIsLeft
+frame_law s x k number sound last m f y l o among belongs is joiner =
+    only_frame s x k number sound last m f y l o among belongs is joiner

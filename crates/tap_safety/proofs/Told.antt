@@ -1,0 +1,54 @@
+-- What is under way after a frame is taken and others are sent.
+use Rattle.std.proofs.Common.{◌≡◌, inl, inr, ℕ, ◌+◌, List, [], ◌∷◌, ◌++◌, ◌⊎◌, refl}
+use Rattle.tap_wire.specs.declared.frame.Body.{Body}
+use Rattle.tap_wire.specs.declared.frame.Frame.{Frame}
+use Rattle.tap_safety.specs.System.{System, AmongFrames, IsUnderWay}
+use Rattle.tap_safety.specs.Step.{IsTaken, IsSent, numbered}
+
+among_right : (n : ℕ) (f : Frame) (xs ys : List (ℕ × Frame)) → AmongFrames n f ys → AmongFrames n f (xs ++ ys)
+among_right n f [] ys among = among
+among_right n f (x ∷ xs) ys among = inr (among_right n f xs ys among)
+
+among_left : (n : ℕ) (f : Frame) (xs ys : List (ℕ × Frame)) → AmongFrames n f xs → AmongFrames n f (xs ++ ys)
+among_left n f [] ys among = absurd among
+among_left n f (x ∷ xs) ys (inl first) = inl first
+among_left n f (x ∷ xs) ys (inr later) = inr (among_left n f xs ys later)
+
+among_out : (n m : ℕ) (f g : Frame) (front back sent : List (ℕ × Frame)) → AmongFrames n f (front ++ (m, g) ∷ back)
+    → AmongFrames n f (front ++ (back ++ sent)) ⊎ ((n ≡ m) × (f ≡ g))
+among_out n m f g [] back sent (inl is) = inr is
+among_out n m f g [] back sent (inr later) = inl (among_left n f back sent later)
+among_out n m f g (x ∷ xs) back sent (inl is) = inl (inl is)
+among_out n m f g (x ∷ xs) back sent (inr later) =
+    elim (among_out n m f g xs back sent later) [ inl among ↦ inl (inr among) | inr is ↦ inr is ]
+
+-- what is sent has a number
+among_numbered : (n : ℕ) (sent : List Frame) (x t : List ℕ) (body : Body) → IsSent sent x t body
+    → (number : ℕ) × AmongFrames number (record { from = x; to = t; body = body }) (numbered n sent)
+among_numbered n [] x t body sends = absurd sends
+among_numbered n (frame ∷ frames) x t body (inl is) = (n, inl (refl, is))
+among_numbered n (frame ∷ frames) x t body (inr later) =
+    let rest = among_numbered (n + 1) frames x t body later in (rest.0, inr rest.1)
+
+module _ (s s' : System) (number : ℕ) (frame : Frame) (sent : List Frame) (taken : IsTaken s s' number frame sent)
+    (from to : List ℕ) (body : Body) where
+  abbrev of_these : Frame
+  of_these = record { from = from; to = to; body = body }
+
+  -- a frame stays under way, unless it is the one that is taken
+  pub still_under_way : IsUnderWay s from to body → IsUnderWay s' from to body ⊎ (of_these ≡ frame)
+  still_under_way way =
+      elim (among_out way.number number of_these frame taken.front taken.back (numbered s.next sent) (rw taken.before at way.among)) [
+        | inl among ↦ inl (record { number = way.number; among = rw taken.after among })
+        | inr is ↦ inr is.1
+      ]
+
+  -- what is sent is under way
+  pub sent_under_way : IsSent sent from to body → IsUnderWay s' from to body
+  sent_under_way sends =
+      let new = among_numbered s.next sent from to body sends in
+      record {
+        number = new.0;
+        among = rw taken.after (among_right new.0 of_these taken.front (taken.back ++ numbered s.next sent)
+            (among_right new.0 of_these taken.back (numbered s.next sent) new.1));
+      }

@@ -1,0 +1,14 @@
+use Rattle.tap_safety.proofs.SessionLaws.{frame_law, opened_law, root_law, rootless_law}
+use Rattle.tap_safety.proofs.law.sessions_law.Goals as goal
+
+pub returns-clause-opened : goal.returns-clause-opened
+returns-clause-opened c = opened_law
+
+pub returns-clause-rootless : goal.returns-clause-rootless
+returns-clause-rootless c = rootless_law
+
+pub returns-clause-root : goal.returns-clause-root
+returns-clause-root c = root_law
+
+pub returns-clause-frame : goal.returns-clause-frame
+returns-clause-frame c = frame_law

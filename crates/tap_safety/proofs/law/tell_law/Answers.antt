@@ -1,0 +1,17 @@
+use Rattle.tap_safety.proofs.TellLaws.{cover_law, covered_law, hole_free_law, low_law, meet_law}
+use Rattle.tap_safety.proofs.law.tell_law.Goals as goal
+
+pub returns-clause-cover : goal.returns-clause-cover
+returns-clause-cover c = cover_law
+
+pub returns-clause-covered : goal.returns-clause-covered
+returns-clause-covered c = covered_law
+
+pub returns-clause-meet : goal.returns-clause-meet
+returns-clause-meet c = meet_law
+
+pub returns-clause-low : goal.returns-clause-low
+returns-clause-low c = low_law
+
+pub returns-clause-hole_free : goal.returns-clause-hole_free
+returns-clause-hole_free c = hole_free_law

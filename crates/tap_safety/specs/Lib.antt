@@ -1,0 +1,12 @@
+pub mod Frames
+pub mod Remembered
+pub mod System
+pub mod Words
+pub mod Parts
+pub mod Step
+pub mod TellStep
+pub mod DoneStep
+pub mod SeekStep
+pub mod Sessions
+pub mod Ties
+pub mod Laws
