@@ -10,8 +10,8 @@ use Rattle.tap_safety.specs.Parts.{Covered, IsClaim, Cover}
 use Rattle.tap_safety.proofs.Names.{lcp_whole}
 use Rattle.tap_safety.proofs.Kept.{Keeps, AddsNone, StaysJoiner, TakesOne, served_above, served_kept}
 
-module _ (p : SettingsValue) (s s' : System) (x b : List ℕ) (level : ℕ) (kept : Keeps s s') (none : AddsNone s s') (takes : TakesOne s s' x b level)
-    (names : (y : List ℕ) → IsCore s y → IsName p y) (core_x : IsCore s x) (cover : Cover p s) where
+module _ (p : SettingsValue) (s s' : System) (x b : List ℕ) (level : ℕ) (kept : Keeps s s') (none : AddsNone s s')
+    (takes : TakesOne s s' x b level) (names : (y : List ℕ) → IsCore s y → IsName p y) (core_x : IsCore s x) (cover : Cover p s) where
   -- mine: what the taker's level reaches is served; met: so is the taker; covers: no other cover is new
   pub cover_step : ((e : List ℕ) → IsCore s e → level ≤ lcp x e → lcp x e < p.digits → StaysJoiner s s' b → IsServed s' b e (lcp x e))
       → (StaysJoiner s s' b → HaveMet s' b x)
@@ -38,8 +38,16 @@ module _ (p : SettingsValue) (s s' : System) (x b : List ℕ) (level : ℕ) (kep
           let core = none.cores e claim.other in
           let joiner : StaysJoiner s s' d = record { was = none.joiners d claim.joiner; is = claim.joiner } in
           elim (covers v d m claim.covers) [
-            | inl was ↦ old v d e m core joiner
-                (record { core = none.cores v claim.core; joiner = joiner.was; covers = was; other = core; reach = claim.reach; apart = claim.apart })
+            | inl was ↦
+                let before : IsClaim p s v d e m = record {
+                  core = none.cores v claim.core;
+                  joiner = joiner.was;
+                  covers = was;
+                  other = core;
+                  reach = claim.reach;
+                  apart = claim.apart;
+                } in
+                old v d e m core joiner before
             | inr new ↦
                 let reach = claim.reach in
                 let low : level ≤ lcp x e = rw (← new.0, ← new.2) reach in
@@ -48,15 +56,20 @@ module _ (p : SettingsValue) (s s' : System) (x b : List ℕ) (level : ℕ) (kep
           ]
 
   -- the case Already: x covers b at no higher level, and nothing else changes
-  pub cover_already : Covered p s → (c : ℕ) → Covers s x b c → c ≤ level → ((v d : List ℕ) (m : ℕ) → Covers s' v d m → Covers s v d m) → Cover p s'
-  cover_already covered c covers low same =
-      cover_step
-      (λ e core reach apart joiner.
-      elim (served_kept s s' x b level kept takes b e (lcp x e) joiner (kept.cores e core)
-      (cover.served x b e c (record { core = core_x; joiner = joiner.was; covers = covers; other = core; reach = omega arith; apart = apart }))) [
-        | inl served ↦ served
-        | inr taken ↦ let high = taken.1 in absurd (omega arith)
-      ])
-      (λ joiner. let is = covered.each x b c core_x joiner.was covers in
-      record { pin = kept.pins x b joiner (inl (kept.cores x core_x)) is.pin; given = kept.given b x joiner is.given })
-      (λ v d m h. inl (same v d m h))
+  pub cover_already : Covered p s → (c : ℕ) → Covers s x b c → c ≤ level
+      → ((v d : List ℕ) (m : ℕ) → Covers s' v d m → Covers s v d m) → Cover p s'
+  cover_already covered c covers low same = cover_step mine met (λ v d m now. inl (same v d m now))
+    where
+      mine : (e : List ℕ) → IsCore s e → level ≤ lcp x e → lcp x e < p.digits → StaysJoiner s s' b → IsServed s' b e (lcp x e)
+      mine e core reach apart joiner =
+          let claim : IsClaim p s x b e c =
+          record { core = core_x; joiner = joiner.was; covers = covers; other = core; reach = omega arith; apart = apart } in
+          elim (served_kept s s' x b level kept takes b e (lcp x e) joiner (kept.cores e core) (cover.served x b e c claim)) [
+            | inl served ↦ served
+            | inr taken ↦ let high = taken.1 in absurd (omega arith)
+          ]
+
+      met : StaysJoiner s s' b → HaveMet s' b x
+      met joiner =
+          let is = covered.each x b c core_x joiner.was covers in
+          record { pin = kept.pins x b joiner (inl (kept.cores x core_x)) is.pin; given = kept.given b x joiner is.given }

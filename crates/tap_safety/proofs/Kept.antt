@@ -39,10 +39,12 @@ pub record TakesNoTell (s s' : System) : Type 0 where
 pub served_above : (s : System) (b e : List ℕ) (c d : ℕ) → d ≤ c → IsServed s b e c → IsServed s b e d
 served_above s b e c d low (inl met) = inl met
 served_above s b e c d low (inr r) =
-    let high = r.higher in inr (record { to = r.to; level = r.level; told = r.told; core = r.core; higher = omega arith; shared = r.shared })
+    let high = r.higher in
+    inr (record { to = r.to; level = r.level; told = r.told; core = r.core; higher = omega arith; shared = r.shared })
 
 pub met_kept : (s s' : System) (b e : List ℕ) → Keeps s s' → StaysJoiner s s' b → IsCore s' e → HaveMet s b e → HaveMet s' b e
-met_kept s s' b e keeps joiner core met = record { pin = keeps.pins e b joiner (inl core) met.pin; given = keeps.given b e joiner met.given }
+met_kept s s' b e keeps joiner core met =
+    record { pin = keeps.pins e b joiner (inl core) met.pin; given = keeps.given b e joiner met.given }
 
 -- who was served is served, unless by the Tell that is taken
 pub served_kept : (s s' : System) (x b : List ℕ) (level : ℕ) → Keeps s s' → TakesOne s s' x b level
@@ -51,7 +53,14 @@ pub served_kept : (s s' : System) (x b : List ℕ) (level : ℕ) → Keeps s s' 
 served_kept s s' x b level keeps takes d e c joiner core (inl met) = inl (inl (met_kept s s' d e keeps joiner core met))
 served_kept s s' x b level keeps takes d e c joiner core (inr r) =
     elim (takes.told d r.to r.level r.told) [
-      | inl still ↦ inl (inr (record { to = r.to; level = r.level; told = still; core = keeps.cores r.to r.core; higher = r.higher; shared = r.shared }))
+      | inl still ↦ inl (inr (record {
+        to = r.to;
+        level = r.level;
+        told = still;
+        core = keeps.cores r.to r.core;
+        higher = r.higher;
+        shared = r.shared;
+      }))
       | inr is ↦
           let high = r.higher in
           let same = is.2 in
@@ -89,4 +98,9 @@ low_kept s s' keeps none low =
 
 pub hole_free_kept : (p : SettingsValue) (s s' : System) → Keeps s s' → AddsNone s s' → HoleFree p s → HoleFree p s'
 hole_free_kept p s s' keeps none free =
-    record { filled = λ x e core other apart. keeps.filled x e (none.cores x core) (none.cores e other) (free.filled x e (none.cores x core) (none.cores e other) apart) }
+    record {
+      filled = λ x e core other apart.
+          let one = none.cores x core in
+          let two = none.cores e other in
+          keeps.filled x e one two (free.filled x e one two apart);
+    }

@@ -4,7 +4,8 @@ use Rattle.tap_wire.specs.declared.frame.Frame.{Frame}
 use Rattle.tap_safety.specs.Remembered.{OpenSession}
 use Rattle.tap_safety.specs.Remembered.Token.{Way, Child}
 use Rattle.tap_safety.specs.System.{System, AmongFrames}
-use Rattle.tap_safety.specs.Sessions.{AmongTokens, AreSessions, Awaits, Belongs, HasFrame, HasParent, IsOpen, OpensChild, child_of, with_child}
+use Rattle.tap_safety.specs.Sessions.{AmongTokens, AreSessions, Awaits, Belongs, HasFrame, HasParent, IsOpen}
+use Rattle.tap_safety.specs.Sessions.{OpensChild, child_of, with_child}
 use Rattle.tap_safety.proofs.Exchange.{exchange_child, exchange_new, exchange_was, exchange_way}
 
 -- the parts of a session's place
@@ -74,7 +75,14 @@ module _ (s s' : System) (number : ℕ) (f : Frame) (w : List ℕ) (k : ℕ) (x 
             elim more [
               | inl child ↦ let none : s.session y m ≡ None = rw (child.0, child.1) step.none in cc
               | inr same ↦
-                  record { now = o; is = same ∙ is; joiner = refl; depth = refl; children = λ z n among. among; ways = λ n apart among. among }
+                  record {
+                    now = o;
+                    is = same ∙ is;
+                    joiner = refl;
+                    depth = refl;
+                    children = λ z n among. among;
+                    ways = λ n apart among. among;
+                  }
             ]
       ]
 

@@ -42,7 +42,8 @@ node_before s s' x before after at y state is =
       | inr there ↦ inr (sym there ∙ is)
     ]
 
-module _ (s s' : System) (x : List ℕ) (before after : NodeState) (at : IsAt s s' x before after) (status : after.status ≡ before.status) where
+module _ (s s' : System) (x : List ℕ) (before after : NodeState) (at : IsAt s s' x before after)
+    (status : after.status ≡ before.status) where
   -- where its status stays, core nodes and joiners are those of before
   pub core_kept : (y : List ℕ) → IsCore s y → IsCore s' y
   core_kept y core =

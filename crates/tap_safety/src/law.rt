@@ -1,4 +1,7 @@
-ghost use Rattle.tap_safety.specs.Laws.{CoverKeptByDone, CoverKeptByTell, CoveredKeptByTell, HoleFreeKeptByDone, HoleFreeKeptByTell, LowKeptByDone, LowKeptByTell, LowOfNewJoiner, MeetKeptByTell, NoSessionWithoutRoot, OnlyTheLastFrameIsLeft, OnlyTheRootIsLeft, SessionsKeptByOpening, TiesKeptByLink, VersionsKeptByLink};
+ghost use Rattle.tap_safety.specs.Laws.{CoverKeptByDone, HoleFreeKeptByDone, LowKeptByDone, LowOfNewJoiner};
+ghost use Rattle.tap_safety.specs.Laws.{CoverKeptByTell, CoveredKeptByTell, HoleFreeKeptByTell, LowKeptByTell, MeetKeptByTell};
+ghost use Rattle.tap_safety.specs.Laws.{NoSessionWithoutRoot, OnlyTheLastFrameIsLeft, OnlyTheRootIsLeft, SessionsKeptByOpening};
+ghost use Rattle.tap_safety.specs.Laws.{TiesKeptByLink, VersionsKeptByLink};
 
 /// A Tell that a core node takes anew: each node that is to be told is told, or has met the joiner; the covers are as before, but
 /// for the new one; joiners of one region still meet; and no slot is emptied.
