@@ -12,6 +12,7 @@ pub mod DoneLaws
 pub mod SeekLow
 pub mod SeekLaws
 pub mod Chains
+pub mod Quiet
 pub mod Exchange
 pub mod SessionsKept
 pub mod SessionLaws

@@ -1,6 +1,7 @@
 -- What holds of the sessions of joins.
-use Rattle.tap_safety.specs.Laws.{NoSessionWithoutRoot, OnlyTheLastFrameIsLeft, OnlyTheRootIsLeft, SessionsKeptByOpening}
+use Rattle.tap_safety.specs.Laws.{NoSessionWithoutRoot, OnlyTheLastFrameIsLeft, OnlyTheRootIsLeft, QuietOnceDone, SessionsKeptByOpening}
 use Rattle.tap_safety.proofs.Chains.{no_session, only_frame, only_session}
+use Rattle.tap_safety.proofs.Quiet.{quiet}
 use Rattle.tap_safety.proofs.SessionsKept.{sessions_kept}
 
 pub opened_law : SessionsKeptByOpening
@@ -15,3 +16,6 @@ root_law s x k number sound last y l o is joiner = only_session s x k number sou
 pub frame_law : OnlyTheLastFrameIsLeft
 frame_law s x k number sound last m f y l o among belongs is joiner =
     only_frame s x k number sound last m f y l o among belongs is joiner
+
+pub quiet_law : QuietOnceDone
+quiet_law s w e sound whose once joiner done = quiet s e sound whose joiner once w done

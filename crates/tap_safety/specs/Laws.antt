@@ -2,15 +2,17 @@
 use Rattle.std.specs.Prelude.{◌≡◌, ℕ, ◌≤◌, List}
 use Rattle.tap_name.specs.Prefix.{lcp}
 use Rattle.tap_name.specs.Settings.{SettingsValue}
+use Rattle.tap_wire.specs.declared.frame.Body.TheVariants.{Done}
 use Rattle.tap_wire.specs.declared.frame.Frame.{Frame}
 use Rattle.tap_safety.specs.Remembered.{OpenSession, Word}
-use Rattle.tap_safety.specs.System.{System, AmongFrames, IsCore}
+use Rattle.tap_safety.specs.System.{System, AmongFrames, IsCore, IsJoiner, IsUnderWay}
 use Rattle.tap_safety.specs.Words.{IsGiven}
 use Rattle.tap_safety.specs.Parts.{Cover, Covered, HoleFree, Low, Meet}
 use Rattle.tap_safety.specs.TellStep.{TellIsTaken}
-use Rattle.tap_safety.specs.DoneStep.{DoneIsTaken}
+use Rattle.tap_safety.specs.DoneStep.{DoneIsTaken, IsQuiet}
 use Rattle.tap_safety.specs.SeekStep.{JoinerIsGreeted}
 use Rattle.tap_safety.specs.Sessions.{AreSessions, AwaitsLast, Belongs, IsOpen, IsRootless, OpensChild}
+use Rattle.tap_safety.specs.Joins.{AreOfJoiners, EndsOnce}
 use Rattle.tap_safety.specs.Ties.{TakesLink, Ties, Versions}
 
 -- a Tell that is taken anew at a core node keeps tables without holes, and what leads to them
@@ -64,6 +66,11 @@ abbrev pub OnlyTheLastFrameIsLeft : Type 0
 OnlyTheLastFrameIsLeft = (s : System) (x : List ℕ) (k number : ℕ) → AreSessions s → (last : AwaitsLast s x k number)
     → (m : ℕ) (f : Frame) (y : List ℕ) (l : ℕ) (session : OpenSession) → AmongFrames m f s.frames → Belongs f y l
     → IsOpen s y l session → session.joiner ≡ last.root.joiner → m ≡ number
+
+-- nothing of a joiner's own is under way once its Done is
+abbrev pub QuietOnceDone : Type 0
+QuietOnceDone = (s : System) (w e : List ℕ) → AreSessions s → AreOfJoiners s → EndsOnce s → IsJoiner s e → IsUnderWay s w e Done
+    → IsQuiet s e
 
 -- a word that is taken keeps the ties and their versions
 abbrev pub TiesKeptByLink : Type 0

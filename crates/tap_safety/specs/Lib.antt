@@ -8,5 +8,9 @@ pub mod TellStep
 pub mod DoneStep
 pub mod SeekStep
 pub mod Sessions
+pub mod Joins
 pub mod Ties
+pub mod Seeking
+pub mod Bookkeeping
+pub mod Ceased
 pub mod Laws

@@ -15,6 +15,7 @@ pub record CoverIs (p : SettingsValue) (s : System) (w b : List ℕ) (level : �
   pub to : level ≤ p.digits
   pub given : IsGiven s b w
 
+-- Covered: each cover of a joiner by a core node is so; a joiner's surrogate is core and covers it at its prefix; and no joiner covers any.
 pub record Covered (p : SettingsValue) (s : System) : Type 0 where
   pub each : (w b : List ℕ) (level : ℕ) → IsCore s w → IsJoiner s b → Covers s w b level → CoverIs p s w b level
   pub surrogate : (b : List ℕ) → IsJoiner s b → IsCore s (surrogate_of s b) × Covers s (surrogate_of s b) b (prefix_of s b)
@@ -36,6 +37,7 @@ pub record CoversAndPins (s : System) (w b e : List ℕ) : Type 0 where
   pub covers : Covers s w b level
   pub pin : Pins s w e
 
+-- Meet: whichever of the two is in the region of the other is made known there
 pub record Meet (s : System) : Type 0 where
   pub first : (w b e : List ℕ) → CoversAndPins s w b e → IsIn s b e → IsMet s w b e
   pub second : (w b e : List ℕ) → CoversAndPins s w b e → IsIn s e b → IsMet s w e b
@@ -49,9 +51,11 @@ pub record IsClaim (p : SettingsValue) (s : System) (w b e : List ℕ) (level : 
   pub reach : level ≤ lcp w e
   pub apart : lcp w e < p.digits
 
+-- Cover: whom the cover of a joiner reaches is served of it, above the digits that the two share
 pub record Cover (p : SettingsValue) (s : System) : Type 0 where
   pub served : (w b e : List ℕ) (level : ℕ) → IsClaim p s w b e level → IsServed s b e (lcp w e)
 
+-- Low: a joiner is given the slot of each core node with which it shares at most its prefix
 pub record Low (s : System) : Type 0 where
   pub given : (a b : List ℕ) → IsJoiner s a → IsCore s b → lcp a b ≤ prefix_of s a → IsGiven s a b
 
@@ -63,9 +67,10 @@ pub record HasNear (s : System) (x e : List ℕ) : Type 0 where
   pub kind : Kind
   pub link : HasLink s x to kind
 
+-- Hole-free: each core node has a link to a core node in the slot of each other one
 pub record HoleFree (p : SettingsValue) (s : System) : Type 0 where
   pub filled : (x e : List ℕ) → IsCore s x → IsCore s e → lcp x e < p.digits → HasNear s x e
 
--- the first sentence of Settled
+-- Settled, its first sentence: a settled link is to a core node
 pub record SettledCore (s : System) : Type 0 where
   pub settled : (x t : List ℕ) → HasLink s x t Settled → IsCore s t

@@ -1,7 +1,7 @@
 ghost use Rattle.tap_safety.specs.Laws.{CoverKeptByDone, HoleFreeKeptByDone, LowKeptByDone, LowOfNewJoiner};
 ghost use Rattle.tap_safety.specs.Laws.{CoverKeptByTell, CoveredKeptByTell, HoleFreeKeptByTell, LowKeptByTell, MeetKeptByTell};
 ghost use Rattle.tap_safety.specs.Laws.{NoSessionWithoutRoot, OnlyTheLastFrameIsLeft, OnlyTheRootIsLeft, SessionsKeptByOpening};
-ghost use Rattle.tap_safety.specs.Laws.{TiesKeptByLink, VersionsKeptByLink};
+ghost use Rattle.tap_safety.specs.Laws.{QuietOnceDone, TiesKeptByLink, VersionsKeptByLink};
 
 /// A Tell that a core node takes anew: each node that is to be told is told, or has met the joiner; the covers are as before, but
 /// for the new one; joiners of one region still meet; and no slot is emptied.
@@ -39,8 +39,9 @@ pub fn seek_law()
     ensures { LowOfNewJoiner }
 {}
 
-/// The sessions of a join: they are exact once one is opened for a frame that is taken; without its root session a joiner has none; and
-/// if its root session awaits one frame alone, that session and that frame are all that is left.
+/// The sessions of a join: they are exact once one is opened for a frame that is taken; without its root session a joiner has none;
+/// if its root session awaits one frame alone, that session and that frame are all that is left; and once the joiner's Done is under
+/// way, no Tell of it and no Hello to it is.
 ///
 /// It does nothing: its contract is the law.
 ///
@@ -50,6 +51,7 @@ pub fn sessions_law()
     ensures rootless { NoSessionWithoutRoot }
     ensures root { OnlyTheRootIsLeft }
     ensures frame { OnlyTheLastFrameIsLeft }
+    ensures quiet { QuietOnceDone }
 {}
 
 /// A Link that is taken: the last word of each node to each other one still stands where the links ask for it, and no word is above

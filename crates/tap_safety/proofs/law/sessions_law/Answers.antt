@@ -1,4 +1,4 @@
-use Rattle.tap_safety.proofs.SessionLaws.{frame_law, opened_law, root_law, rootless_law}
+use Rattle.tap_safety.proofs.SessionLaws.{frame_law, opened_law, quiet_law, root_law, rootless_law}
 use Rattle.tap_safety.proofs.law.sessions_law.Goals as goal
 
 pub returns-clause-opened : goal.returns-clause-opened
@@ -12,3 +12,6 @@ returns-clause-root c = root_law
 
 pub returns-clause-frame : goal.returns-clause-frame
 returns-clause-frame c = frame_law
+
+pub returns-clause-quiet : goal.returns-clause-quiet
+returns-clause-quiet c = quiet_law

@@ -1,0 +1,32 @@
+-- Nothing of a joiner's own is under way once its Done is.
+use Rattle.std.proofs.Common.{inl, inr, ℕ, List, refl, ◌∙◌}
+use Rattle.tap_wire.specs.declared.frame.Body.TheVariants.{Done}
+use Rattle.tap_wire.specs.declared.frame.Frame.{Frame}
+use Rattle.tap_safety.specs.Frames.{hello_body, tell_body}
+use Rattle.tap_safety.specs.System.{System, IsJoiner, IsNamed, IsTold, IsUnderWay}
+use Rattle.tap_safety.specs.Sessions.{AreSessions, IsRootless}
+use Rattle.tap_safety.specs.Joins.{AreOfJoiners, EndsOnce}
+use Rattle.tap_safety.specs.DoneStep.{IsQuiet}
+use Rattle.tap_safety.proofs.Chains.{no_session}
+
+module _ (s : System) (e : List ℕ) (sound : AreSessions s) (whose : AreOfJoiners s) (joiner : IsJoiner s e) where
+  quiet_at : IsRootless s e → IsQuiet s e
+  quiet_at rootless = record { joiner = joiner; tells = tells; hellos = hellos }
+    where
+      tells : (x : List ℕ) (level : ℕ) → IsTold s e x level → ⊥
+      tells x level told =
+          let frame : Frame = record { from = told.from; to = x; body = tell_body told.fields told.watch } in
+          let awaited = sound.frames told.way.number frame told.from told.fields.session told.way.among refl in
+          let of = whose.tells told.from x told.fields told.watch awaited.session told.way awaited.is in
+          no_session s e sound rootless told.from told.fields.session awaited.session awaited.is (of ∙ told.joiner)
+
+      hellos : (w x : List ℕ) → IsNamed s w e x → ⊥
+      hellos w x named =
+          let frame : Frame = record { from = w; to = e; body = hello_body named.fields } in
+          let awaited = sound.frames named.way.number frame w named.fields.session named.way.among refl in
+          let of = whose.hellos w e named.fields awaited.session named.way awaited.is in
+          no_session s e sound rootless w named.fields.session awaited.session awaited.is of
+
+  pub quiet : EndsOnce s → (w : List ℕ) → IsUnderWay s w e Done → IsQuiet s e
+  quiet once w done =
+      elim (once.ends e joiner) [ inl root ↦ absurd (root.1.none w done) | inr end ↦ quiet_at end.0 ]

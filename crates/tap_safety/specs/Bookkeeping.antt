@@ -1,0 +1,69 @@
+-- What the sessions, the frames and the stamps keep beside, so that the parts of the invariant follow from themselves.
+use Rattle.std.specs.Prelude.{◌≡◌, ℕ, ◌+◌, ◌<◌, ◌≤◌, List, [], Some}
+use Rattle.tap_name.specs.declared.slot.Slot.{Slot}
+use Rattle.tap_wire.specs.declared.frame.Frame.{Frame}
+use Rattle.tap_wire.specs.declared.frame.TellFields.{TellFields}
+use Rattle.tap_rule.specs.Node.{NodeState, Status}
+use Rattle.tap_rule.specs.Node.Status.{Joining, Core, Leaving, Gone, Ceased}
+use Rattle.tap_safety.specs.Frames.{tell_body}
+use Rattle.tap_safety.specs.Remembered.{OpenSession, Word}
+use Rattle.tap_safety.specs.System.{System, AmongFrames, IsCore, IsUnderWay}
+use Rattle.tap_safety.specs.Sessions.{IsOpen}
+use Rattle.tap_safety.specs.Seeking.{IsKnown}
+use Rattle.tap_safety.specs.Ties.{link_frame}
+
+-- S3: an open session awaits an answer
+pub record Await (s : System) : Type 0 where
+  pub some : (x : List ℕ) (k : ℕ) (session : OpenSession) → IsOpen s x k session → session.awaits ≡ [] → ⊥
+
+-- S4 and S5: a Tell under way is one deeper than its session, and its level is above its prefix
+pub record TellsAreDeeper (s : System) : Type 0 where
+  pub depth : (from to : List ℕ) (fields : TellFields) (watch : List Slot) (session : OpenSession)
+      → IsUnderWay s from to (tell_body fields watch) → IsOpen s from fields.session session → fields.depth ≡ session.depth + 1
+  pub level : (from to : List ℕ) (fields : TellFields) (watch : List Slot) → IsUnderWay s from to (tell_body fields watch)
+      → fields.prefix < fields.level
+
+-- a node with this status may have sessions open
+abbrev pub holds_sessions : Status → Type 0
+holds_sessions Joining = Unit
+holds_sessions Core = Unit
+holds_sessions Leaving = ⊥
+holds_sessions Gone = ⊥
+holds_sessions Ceased = Unit
+
+-- S6 and S7, of an open session: it is of a core, joining or ceased node, which has opened as many; and its parent is another node's
+pub record HasPlace (s : System) (x : List ℕ) (k : ℕ) (session : OpenSession) : Type 0 where
+  pub state : NodeState
+  pub is : s.node x ≡ Some state
+  pub holds : holds_sessions state.status
+  pub opened : k ≤ state.sessions.opened
+  pub above : (w : List ℕ) (m : ℕ) → session.parent ≡ Some (w, m) → w ≡ x → ⊥
+
+pub record HavePlaces (s : System) : Type 0 where
+  pub places : (x : List ℕ) (k : ℕ) (session : OpenSession) → IsOpen s x k session → HasPlace s x k session
+
+-- S8: no frame goes to its sender, and its ends are known; so is who has sent a word
+pub record HaveEnds (s : System) : Type 0 where
+  pub apart : (number : ℕ) (f : Frame) → AmongFrames number f s.frames → f.from ≡ f.to → ⊥
+  pub known : (number : ℕ) (f : Frame) → AmongFrames number f s.frames → IsKnown s f.from × IsKnown s f.to
+  pub senders : (x t : List ℕ) (word : Word) → s.last x t ≡ Some word → IsKnown s x
+
+-- a node with this status has a table
+abbrev pub has_table : Status → Type 0
+has_table Joining = Unit
+has_table Core = Unit
+has_table Leaving = Unit
+has_table Gone = ⊥
+has_table Ceased = ⊥
+
+-- S9, beside Versions: a word is under way once, and while a node has a table its stamp is no less than its words' versions
+pub record AreStamped (s : System) : Type 0 where
+  pub once : (x t : List ℕ) (word : Word) (m number : ℕ) → AmongFrames m (link_frame x t word) s.frames
+      → AmongFrames number (link_frame x t word) s.frames → m ≡ number
+  pub stamp : (x t : List ℕ) (word : Word) (state : NodeState) → s.node x ≡ Some state → has_table state.status
+      → s.last x t ≡ Some word → word.version ≤ state.stamp
+
+-- S13: some node is core
+pub record HasCore (s : System) : Type 0 where
+  pub name : List ℕ
+  pub core : IsCore s name
