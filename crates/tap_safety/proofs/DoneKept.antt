@@ -1,26 +1,24 @@
 -- Done at a joiner keeps tables without holes, and what leads to them.
-use Rattle.std.proofs.Common.{◌≡◌, inl, inr, ℕ, ◌+◌, ◌<◌, List, [], ◌⊎◌, Some, arith, sym, ap, ◌∙◌}
+use Rattle.std.proofs.Common.{◌≡◌, inl, inr, ℕ, ◌+◌, ◌<◌, List, ◌⊎◌, arith, sym, ◌∙◌}
 use Rattle.std.proofs.lemmas.Bool.{cases_lt}
-use Rattle.std.specs.Option.{unwrap_or}
 use Rattle.tap_name.specs.Prefix.{lcp}
 use Rattle.tap_name.specs.Settings.{SettingsValue}
 use Rattle.tap_name.proofs.Prefixes.{lcp-least, lcp-sym, lcp-triangle}
 use Rattle.tap_link.specs.declared.kind.Kind.{Kind}
 use Rattle.tap_link.specs.declared.kind.Kind.TheVariants.{Pin}
-use Rattle.tap_multicast.specs.Covers.{level_kept}
 use Rattle.tap_wire.specs.declared.frame.Body.TheVariants.{Done}
 use Rattle.tap_wire.specs.declared.frame.Frame.{Frame}
 use Rattle.tap_rule.specs.Node.Status.{Core, Joining}
-use Rattle.tap_rule.specs.Node.{link_to}
 use Rattle.tap_safety.specs.Frames.{hello_body, tell_body}
 use Rattle.tap_safety.specs.System.{System, IsCore, IsJoiner, HasLink, Covers, IsTold, IsNamed}
 use Rattle.tap_safety.specs.Words.{surrogate_of, prefix_of, IsIn, Knows, Pins, IsGiven}
 use Rattle.tap_safety.specs.Parts.{IsClaim, HasNear, HoleFree}
 use Rattle.tap_safety.specs.DoneStep.{TakesDone, IsQuiet, BeforeDone}
 use Rattle.tap_safety.proofs.Names.{lcp_itself, lcp_whole, lcp_most}
-use Rattle.tap_safety.proofs.Told.{still_under_way}
+use Rattle.tap_safety.proofs.Told.{named_still, told_still}
+use Rattle.tap_safety.proofs.KeepsAll.{keeps_all, knows_kept, near_kept}
 use Rattle.tap_safety.proofs.Kept.{Keeps}
-use Rattle.tap_safety.proofs.TellKeeps.{node_after, node_before}
+use Rattle.tap_safety.proofs.TellKeeps.{covers_same, links_same, node_after, node_before}
 use Rattle.tap_safety.proofs.CoverKept.{core_or_joiner}
 
 -- what a Done leaves
@@ -65,75 +63,29 @@ module _ (s s' : System) (number : ℕ) (w e : List ℕ) (step : TakesDone s s' 
   )
 
   pub link_on : (y z : List ℕ) (kind : Kind) → HasLink s y z kind → HasLink s' y z kind
-  link_on y z kind link =
-      elim (node_after s s' e step.before step.after step.at y link.state link.is) [
-        | inl here ↦
-            let old : link_to step.before z ≡ Some kind = rw (← here.1) link.link in
-            record { state = step.after; is = here.2; link = step.links z ∙ old }
-        | inr there ↦ record { state = link.state; is = there; link = link.link }
-      ]
+  link_on = links_same s s' e step.before step.after step.at step.links
 
   pub covers_was : (y b : List ℕ) (level : ℕ) → Covers s' y b level → Covers s y b level
-  covers_was y b level covers =
-      elim (node_before s s' e step.before step.after step.at y covers.state covers.is) [
-        | inl here ↦
-            let now : level_kept step.after.covers b ≡ Some level = rw (← here.1) covers.cover in
-            record { state = step.before; is = here.2; cover = sym (step.covers b) ∙ now }
-        | inr there ↦ record { state = covers.state; is = there; cover = covers.cover }
-      ]
+  covers_was = covers_same s s' e step.before step.after step.at step.covers
 
   pub told_on : (b x : List ℕ) (level : ℕ) → IsTold s b x level → IsTold s' b x level
   told_on b x level told =
-      elim (still_under_way s s' number taken_done step.sent step.taken told.from x (tell_body told.fields told.watch) told.way) [
-        | inl way ↦ record {
-          from = told.from;
-          fields = told.fields;
-          watch = told.watch;
-          way = way;
-          joiner = told.joiner;
-          level_is = told.level_is;
-        }
-        | inr is ↦ let no : tell_body told.fields told.watch ≡ Done = ap (λ f. f.body) is in cc
+      elim (told_still s s' number taken_done step.sent step.taken b x level told) [
+        | inl still ↦ still
+        | inr is ↦ let no : tell_body told.fields told.watch ≡ Done = is.0 in cc
       ]
 
-  pub named_on : (v b x : List ℕ) → IsNamed s v b x → IsNamed s' v b x
-  named_on v b x named =
-      elim (still_under_way s s' number taken_done step.sent step.taken v b (hello_body named.fields) named.way) [
-        | inl way ↦ record { fields = named.fields; way = way; named = named.named }
-        | inr is ↦ let no : hello_body named.fields ≡ Done = ap (λ f. f.body) is in cc
-      ]
+  named_on : (v b x : List ℕ) → IsNamed s v b x → IsNamed s' v b x
+  named_on = named_still s s' number taken_done step.sent step.taken (λ fields is. let no : hello_body fields ≡ Done = is in cc)
 
-  -- what a node knew it knows
   pub knows_on : (b y : List ℕ) → Knows s b y → Knows s' b y
-  knows_on b y knows =
-      record {
-        known = elim knows.known [
-          | inl has ↦ inl (record { kind = has.kind; link = link_on b y has.kind has.link })
-          | inr named ↦ inr (named.0, named_on named.0 b y named.1)
-        ];
-      }
+  knows_on = knows_kept s s' core_on link_on named_on step.surrogate
 
-  -- and a slot that was filled is filled
   pub near_on : (x y : List ℕ) → HasNear s x y → HasNear s' x y
-  near_on x y near = record {
-    to = near.to;
-    core = core_on near.to near.core;
-    near = near.near;
-    kind = near.kind;
-    link = link_on x near.to near.kind near.link;
-  }
+  near_on = near_kept s s' core_on link_on named_on step.surrogate
 
   pub keeps : Keeps s s'
-  keeps = record {
-    cores = core_on;
-    pins = λ y b joiner kept pin. link_on y b Pin pin;
-    has = λ y b joiner other has. record { kind = has.kind; link = link_on y b has.kind has.link };
-    given = λ b x joiner given.
-        record { by = given.by; core = core_on given.by given.core; near = given.near; knows = knows_on b given.by given.knows };
-    filled = λ y x core other near. near_on y x near;
-    prefix = λ b joiner. ap (λ surrogate. lcp (unwrap_or surrogate []) b) (step.surrogate b);
-    named = λ v b y joiner other named. inr (named_on v b y named);
-  }
+  keeps = keeps_all s s' core_on link_on named_on step.surrogate
 
 module _ (p : SettingsValue) (s : System) (e : List ℕ) (before : BeforeDone p s) (quiet : IsQuiet s e) where
   -- where no Hello is on its way, what a joiner is given stands in its table

@@ -1,10 +1,12 @@
 pub mod Names
 pub mod Kept
 pub mod Told
+pub mod KeepsAll
 pub mod TellKeeps
 pub mod CoverStep
 pub mod CoverKept
 pub mod MeetKept
+pub mod KnownTell
 pub mod TellLaws
 pub mod DoneKept
 pub mod DoneCover

@@ -1,19 +1,18 @@
 -- What a step at one node leaves as it was, and what a Tell leaves that is taken anew at a core node.
-use Rattle.std.proofs.Common.{◌≡◌, inl, inr, ℕ, List, [], ◌⊎◌, None, Some, sym, ap, ◌∙◌}
-use Rattle.std.specs.Option.{unwrap_or}
+use Rattle.std.proofs.Common.{◌≡◌, inl, inr, ℕ, List, ◌⊎◌, None, Some, sym, ◌∙◌}
 use Rattle.tap_name.specs.declared.slot.Slot.{Slot}
-use Rattle.tap_name.specs.Prefix.{lcp}
 use Rattle.tap_link.specs.declared.kind.Kind.{Kind}
 use Rattle.tap_link.specs.declared.kind.Kind.TheVariants.{Pin}
+use Rattle.tap_multicast.specs.Covers.{level_kept}
 use Rattle.tap_wire.specs.declared.frame.Frame.{Frame}
 use Rattle.tap_wire.specs.declared.frame.TellFields.{TellFields}
 use Rattle.tap_rule.specs.Node.{NodeState, link_to}
 use Rattle.tap_safety.specs.Frames.{hello_body, tell_body}
-use Rattle.tap_safety.specs.System.{System, IsCore, IsJoiner, HasLink, IsNamed}
-use Rattle.tap_safety.specs.Words.{Knows}
-use Rattle.tap_safety.specs.Step.{IsAt}
+use Rattle.tap_safety.specs.System.{System, Covers, HasLink, IsCore, IsJoiner, IsNamed, IsTold}
+use Rattle.tap_safety.specs.Step.{IsAt, IsTaken}
 use Rattle.tap_safety.specs.TellStep.{TakesTell}
-use Rattle.tap_safety.proofs.Told.{still_under_way}
+use Rattle.tap_safety.proofs.Told.{named_still, told_still}
+use Rattle.tap_safety.proofs.KeepsAll.{keeps_all}
 use Rattle.tap_safety.proofs.Kept.{Keeps, AddsNone, TakesOne}
 
 -- the node of a name after the step, from the one before
@@ -75,6 +74,43 @@ module _ (s s' : System) (x : List ℕ) (before after : NodeState) (at : IsAt s 
             record { state = joiner.state; is = there; joining = joiner.joining; surrogate = joiner.surrogate; started = started }
       ]
 
+module _ (s s' : System) (x : List ℕ) (before after : NodeState) (at : IsAt s s' x before after) where
+  -- where its links stay, all links do
+  pub links_same : ((t : List ℕ) → link_to after t ≡ link_to before t) → (y z : List ℕ) (kind : Kind) → HasLink s y z kind
+      → HasLink s' y z kind
+  links_same same y z kind link =
+      elim (node_after s s' x before after at y link.state link.is) [
+        | inl here ↦
+            let old : link_to before z ≡ Some kind = rw (← here.1) link.link in
+            record { state = after; is = here.2; link = same z ∙ old }
+        | inr there ↦ record { state = link.state; is = there; link = link.link }
+      ]
+
+  -- where its covers stay, no cover is new
+  pub covers_same : ((b : List ℕ) → level_kept after.covers b ≡ level_kept before.covers b) → (y b : List ℕ) (level : ℕ)
+      → Covers s' y b level → Covers s y b level
+  covers_same same y b level covers =
+      elim (node_before s s' x before after at y covers.state covers.is) [
+        | inl here ↦
+            let now : level_kept after.covers b ≡ Some level = rw (← here.1) covers.cover in
+            record { state = before; is = here.2; cover = sym (same b) ∙ now }
+        | inr there ↦ record { state = covers.state; is = there; cover = covers.cover }
+      ]
+
+-- of the Tells under way the one is taken
+pub told_but_one : (s s' : System) (number : ℕ) (w x : List ℕ) (tell : TellFields) (watch : List Slot) (sent : List Frame)
+    → IsTaken s s' number (record { from = w; to = x; body = tell_body tell watch }) sent
+    → (d t : List ℕ) (k : ℕ) → IsTold s d t k → IsTold s' d t k ⊎ ((d ≡ tell.joiner) × (t ≡ x) × (k ≡ tell.level))
+told_but_one s s' number w x tell watch sent taken d t k told =
+    elim (told_still s s' number (record { from = w; to = x; body = tell_body tell watch }) sent taken d t k told) [
+      | inl still ↦ inl still
+      | inr is ↦
+          let body : tell_body told.fields told.watch ≡ tell_body tell watch = is.0 in
+          let joiner : told.fields.joiner ≡ tell.joiner = cc in
+          let level : told.fields.level ≡ tell.level = cc in
+          inr (sym told.joiner ∙ joiner, is.1, sym told.level_is ∙ level)
+    ]
+
 module _ (s s' : System) (number : ℕ) (w x : List ℕ) (tell : TellFields) (watch : List Slot)
     (step : TakesTell s s' number w x tell watch) where
   abbrev taken_tell : Frame
@@ -100,42 +136,15 @@ module _ (s s' : System) (number : ℕ) (w x : List ℕ) (tell : TellFields) (wa
         | inr there ↦ record { state = link.state; is = there; link = link.link }
       ]
 
-  pub named_kept : (v b z : List ℕ) → IsNamed s v b z → IsNamed s' v b z
-  named_kept v b z named =
-      elim (still_under_way s s' number taken_tell step.sent step.taken v b (hello_body named.fields) named.way) [
-        | inl way ↦ record { fields = named.fields; way = way; named = named.named }
-        | inr is ↦ let no : hello_body named.fields ≡ tell_body tell watch = ap (λ f. f.body) is in cc
-      ]
-
-  pub knows_kept : (b y : List ℕ) → Knows s b y → Knows s' b y
-  knows_kept b y knows =
-      record {
-        known = elim knows.known [
-          | inl has ↦ inl (record { kind = has.kind; link = link_kept b y has.kind has.link })
-          | inr named ↦ inr (named.0, named_kept named.0 b y named.1)
-        ];
-      }
+  named_kept : (v b z : List ℕ) → IsNamed s v b z → IsNamed s' v b z
+  named_kept =
+      named_still s s' number taken_tell step.sent step.taken (λ fields is. let no : hello_body fields ≡ tell_body tell watch = is in cc)
 
   cores : (y : List ℕ) → IsCore s y → IsCore s' y
   cores = core_kept s s' x step.before step.after step.at step.covers.status
 
   pub keeps : Keeps s s'
-  keeps = record {
-    cores = cores;
-    pins = λ y b joiner kept pin. link_kept y b Pin pin;
-    has = λ y b joiner other has. record { kind = has.kind; link = link_kept y b has.kind has.link };
-    given = λ b e joiner given.
-        record { by = given.by; core = cores given.by given.core; near = given.near; knows = knows_kept b given.by given.knows };
-    filled = λ y e core other near. record {
-      to = near.to;
-      core = cores near.to near.core;
-      near = near.near;
-      kind = near.kind;
-      link = link_kept y near.to near.kind near.link;
-    };
-    prefix = λ b joiner. ap (λ surrogate. lcp (unwrap_or surrogate []) b) (step.surrogate b);
-    named = λ v b y joiner other named. inr (named_kept v b y named);
-  }
+  keeps = keeps_all s s' cores link_kept named_kept step.surrogate
 
   pub adds_none : AddsNone s s'
   adds_none = record {
@@ -145,21 +154,6 @@ module _ (s s' : System) (number : ℕ) (w x : List ℕ) (tell : TellFields) (wa
 
   pub takes_one : TakesOne s s' x tell.joiner tell.level
   takes_one = record {
-    told = λ d t k told.
-        elim (still_under_way s s' number taken_tell step.sent step.taken told.from t (tell_body told.fields told.watch) told.way) [
-          | inl way ↦ inl (record {
-            from = told.from;
-            fields = told.fields;
-            watch = told.watch;
-            way = way;
-            joiner = told.joiner;
-            level_is = told.level_is;
-          })
-          | inr is ↦
-              let body : tell_body told.fields told.watch ≡ tell_body tell watch = ap (λ f. f.body) is in
-              let joiner : told.fields.joiner ≡ tell.joiner = cc in
-              let level : told.fields.level ≡ tell.level = cc in
-              inr (sym told.joiner ∙ joiner, ap (λ f. f.to) is, sym told.level_is ∙ level)
-        ];
+    told = told_but_one s s' number w x tell watch step.sent step.taken;
     joiner = λ joiner. record { kind = Pin; link = record { state = step.after; is = step.at.is; link = step.covers.pinned } };
   }

@@ -1,7 +1,9 @@
 -- What a Tell keeps that is taken anew at a core node.
-use Rattle.tap_safety.specs.Laws.{CoverKeptByTell, CoveredKeptByTell, HoleFreeKeptByTell, LowKeptByTell, MeetKeptByTell}
+use Rattle.tap_safety.specs.Laws.{CoverKeptByKnownTell, CoverKeptByTell, CoveredKeptByTell, HoleFreeKeptByTell}
+use Rattle.tap_safety.specs.Laws.{LowKeptByTell, MeetKeptByTell}
 use Rattle.tap_safety.proofs.CoverKept.{cover_kept}
 use Rattle.tap_safety.proofs.Kept.{hole_free_kept, low_kept}
+use Rattle.tap_safety.proofs.KnownTell.{cover_known}
 use Rattle.tap_safety.proofs.MeetKept.{covered_kept, meet_kept}
 use Rattle.tap_safety.proofs.TellKeeps.{adds_none, keeps}
 
@@ -22,3 +24,6 @@ pub hole_free_law : HoleFreeKeptByTell
 hole_free_law p s s' t =
     hole_free_kept p s s' (keeps s s' t.number t.from t.to t.tell t.watch t.step)
     (adds_none s s' t.number t.from t.to t.tell t.watch t.step) t.before.hole_free
+
+pub known_law : CoverKeptByKnownTell
+known_law p s s' t = cover_known p s s' t.number t.from t.to t.tell t.watch t.step t.before t.is

@@ -1,8 +1,9 @@
 -- What is under way after a frame is taken and others are sent.
-use Rattle.std.proofs.Common.{◌≡◌, inl, inr, ℕ, ◌+◌, List, [], ◌∷◌, ◌++◌, ◌⊎◌, refl}
+use Rattle.std.proofs.Common.{◌≡◌, inl, inr, ℕ, ◌+◌, List, [], ◌∷◌, ◌++◌, ◌⊎◌, refl, ap}
 use Rattle.tap_wire.specs.declared.frame.Body.{Body}
 use Rattle.tap_wire.specs.declared.frame.Frame.{Frame}
-use Rattle.tap_safety.specs.System.{System, AmongFrames, IsUnderWay}
+use Rattle.tap_safety.specs.Frames.{HelloFields, hello_body, tell_body}
+use Rattle.tap_safety.specs.System.{System, AmongFrames, IsNamed, IsTold, IsUnderWay}
 use Rattle.tap_safety.specs.Step.{IsTaken, IsSent, numbered}
 
 among_right : (n : ℕ) (f : Frame) (xs ys : List (ℕ × Frame)) → AmongFrames n f ys → AmongFrames n f (xs ++ ys)
@@ -52,3 +53,29 @@ module _ (s s' : System) (number : ℕ) (frame : Frame) (sent : List Frame) (tak
         among = rw taken.after (among_right new.0 of_these taken.front (taken.back ++ numbered s.next sent)
             (among_right new.0 of_these taken.back (numbered s.next sent) new.1));
       }
+
+module _ (s s' : System) (number : ℕ) (frame : Frame) (sent : List Frame) (taken : IsTaken s s' number frame sent) where
+  -- a Hello stays under way, if it is none that is taken
+  pub named_still : ((fields : HelloFields) → hello_body fields ≡ frame.body → ⊥)
+      → (v b x : List ℕ) → IsNamed s v b x → IsNamed s' v b x
+  named_still apart v b x named =
+      elim (still_under_way s s' number frame sent taken v b (hello_body named.fields) named.way) [
+        | inl way ↦ record { fields = named.fields; way = way; named = named.named }
+        | inr is ↦ absurd (apart named.fields (ap (λ f. f.body) is))
+      ]
+
+  -- a Tell stays under way, or says what the one says that is taken
+  pub told_still : (b x : List ℕ) (level : ℕ) → (told : IsTold s b x level)
+      → IsTold s' b x level ⊎ ((tell_body told.fields told.watch ≡ frame.body) × (x ≡ frame.to))
+  told_still b x level told =
+      elim (still_under_way s s' number frame sent taken told.from x (tell_body told.fields told.watch) told.way) [
+        | inl way ↦ inl (record {
+          from = told.from;
+          fields = told.fields;
+          watch = told.watch;
+          way = way;
+          joiner = told.joiner;
+          level_is = told.level_is;
+        })
+        | inr is ↦ inr (ap (λ f. f.body) is, ap (λ f. f.to) is)
+      ]

@@ -8,7 +8,7 @@ use Rattle.tap_safety.specs.Remembered.{OpenSession, Word}
 use Rattle.tap_safety.specs.System.{System, AmongFrames, IsCore, IsJoiner, IsUnderWay}
 use Rattle.tap_safety.specs.Words.{IsGiven}
 use Rattle.tap_safety.specs.Parts.{Cover, Covered, HoleFree, Low, Meet}
-use Rattle.tap_safety.specs.TellStep.{TellIsTaken}
+use Rattle.tap_safety.specs.TellStep.{KnownTellIsTaken, TellIsTaken}
 use Rattle.tap_safety.specs.DoneStep.{DoneIsTaken, IsQuiet}
 use Rattle.tap_safety.specs.SeekStep.{JoinerIsGreeted}
 use Rattle.tap_safety.specs.Sessions.{AreSessions, AwaitsLast, Belongs, IsOpen, IsRootless, OpensChild}
@@ -31,7 +31,11 @@ LowKeptByTell = (p : SettingsValue) (s s' : System) → TellIsTaken p s s' → L
 abbrev pub HoleFreeKeptByTell : Type 0
 HoleFreeKeptByTell = (p : SettingsValue) (s s' : System) → TellIsTaken p s s' → HoleFree p s'
 
--- so does a Done
+-- and a Tell of a joiner that the core node covers so already keeps Cover
+abbrev pub CoverKeptByKnownTell : Type 0
+CoverKeptByKnownTell = (p : SettingsValue) (s s' : System) → KnownTellIsTaken p s s' → Cover p s'
+
+-- a Done keeps tables without holes, and what leads to them
 abbrev pub CoverKeptByDone : Type 0
 CoverKeptByDone = (p : SettingsValue) (s s' : System) → DoneIsTaken p s s' → Cover p s'
 

@@ -70,6 +70,21 @@ pub record TakesTell (s s' : System) (number : ℕ) (w x : List ℕ) (tell : Tel
   pub covers : CoversAnew before after sent x tell.joiner tell.prefix tell.level
   pub surrogate : (b : List ℕ) → s'.surrogate b ≡ s.surrogate b
 
+-- a core node x takes a Tell of b, which it covers at that level or a lesser one: it changes no link and no cover
+pub record TakesKnownTell (s s' : System) (number : ℕ) (w x : List ℕ) (tell : TellFields) (watch : List Slot) : Type 0 where
+  pub before : NodeState
+  pub after : NodeState
+  pub sent : List Frame
+  pub taken : IsTaken s s' number (record { from = w; to = x; body = tell_body tell watch }) sent
+  pub at : IsAt s s' x before after
+  pub status : after.status ≡ before.status
+  pub links : (t : List ℕ) → link_to after t ≡ link_to before t
+  pub covers : (d : List ℕ) → level_kept after.covers d ≡ level_kept before.covers d
+  pub kept : ℕ
+  pub covered : level_kept before.covers tell.joiner ≡ Some kept
+  pub most : kept ≤ tell.level
+  pub surrogate : (b : List ℕ) → s'.surrogate b ≡ s.surrogate b
+
 -- what holds before the step, of those that the law needs
 pub record BeforeTell (p : SettingsValue) (s : System) : Type 0 where
   pub names : (x : List ℕ) → IsCore s x → IsName p x
@@ -99,3 +114,14 @@ pub record TellIsTaken (p : SettingsValue) (s s' : System) : Type 0 where
   pub before : BeforeTell p s
   pub is : IsTellOf p s to tell.joiner tell.prefix tell.level
   pub step : TakesTell s s' number from to tell watch
+
+-- a Tell is taken at a core node that covers its joiner so already
+pub record KnownTellIsTaken (p : SettingsValue) (s s' : System) : Type 0 where
+  pub number : ℕ
+  pub from : List ℕ
+  pub to : List ℕ
+  pub tell : TellFields
+  pub watch : List Slot
+  pub before : BeforeTell p s
+  pub is : IsTellOf p s to tell.joiner tell.prefix tell.level
+  pub step : TakesKnownTell s s' number from to tell watch

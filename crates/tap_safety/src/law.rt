@@ -1,10 +1,11 @@
 ghost use Rattle.tap_safety.specs.Laws.{CoverKeptByDone, HoleFreeKeptByDone, LowKeptByDone, LowOfNewJoiner};
 ghost use Rattle.tap_safety.specs.Laws.{CoverKeptByTell, CoveredKeptByTell, HoleFreeKeptByTell, LowKeptByTell, MeetKeptByTell};
 ghost use Rattle.tap_safety.specs.Laws.{NoSessionWithoutRoot, OnlyTheLastFrameIsLeft, OnlyTheRootIsLeft, SessionsKeptByOpening};
-ghost use Rattle.tap_safety.specs.Laws.{QuietOnceDone, TiesKeptByLink, VersionsKeptByLink};
+ghost use Rattle.tap_safety.specs.Laws.{CoverKeptByKnownTell, QuietOnceDone, TiesKeptByLink, VersionsKeptByLink};
 
 /// A Tell that a core node takes anew: each node that is to be told is told, or has met the joiner; the covers are as before, but
-/// for the new one; joiners of one region still meet; and no slot is emptied.
+/// for the new one; joiners of one region still meet; and no slot is emptied. If the core node covers the joiner so already, whom the
+/// Tell served is served still.
 ///
 /// It does nothing: its contract is the law.
 ///
@@ -15,6 +16,7 @@ pub fn tell_law()
     ensures meet { MeetKeptByTell }
     ensures low { LowKeptByTell }
     ensures hole_free { HoleFreeKeptByTell }
+    ensures known { CoverKeptByKnownTell }
 {}
 
 /// A Done that a joiner takes: the new core node's slot is filled at each other core node, and each other's slot at it; each joiner

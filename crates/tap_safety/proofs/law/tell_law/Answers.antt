@@ -1,4 +1,4 @@
-use Rattle.tap_safety.proofs.TellLaws.{cover_law, covered_law, hole_free_law, low_law, meet_law}
+use Rattle.tap_safety.proofs.TellLaws.{cover_law, covered_law, hole_free_law, known_law, low_law, meet_law}
 use Rattle.tap_safety.proofs.law.tell_law.Goals as goal
 
 pub returns-clause-cover : goal.returns-clause-cover
@@ -15,3 +15,6 @@ returns-clause-low c = low_law
 
 pub returns-clause-hole_free : goal.returns-clause-hole_free
 returns-clause-hole_free c = hole_free_law
+
+pub returns-clause-known : goal.returns-clause-known
+returns-clause-known c = known_law
