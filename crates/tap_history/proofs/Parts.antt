@@ -9,7 +9,7 @@ use Rattle.tap_log.specs.declared.record.Record.TheVariants.{Carrier, Spent}
 use Rattle.tap_log.specs.Kinds.{begins_group, is_carried}
 use Rattle.tap_history.specs.Moments.{beginning, ends_before}
 use Rattle.tap_log.specs.Log.{last_of}
-use Rattle.tap_history.specs.Groups.{EachGroup, EachGroupFrom, after_beginning, beginning_of, can_be_cut, ending_of, groups_of, is_ended, is_ending, is_last, is_lengthened, is_spent, parted, records_of, with_record, without_ending, ending_among}
+use Rattle.tap_history.specs.Groups.{EachGroup, EachGroupFrom, after_beginning, beginning_of, can_be_cut, ending_of, ends_log, groups_of, is_ended, is_ending, is_lengthened, is_spent, parted, records_of, with_record, without_ending, ending_among}
 use Rattle.tap_history.specs.GroupLaws.{IsGroup}
 use Rattle.tap_log.proofs.Growing.{carried_alone, carried_second, carried_third}
 use Rattle.tap_history.proofs.OneMoreGroup.{beginning_size, carried_size, is_carried-group}
@@ -28,8 +28,8 @@ without_ending-whole carried (item ∷ items) =
     ended_here (is_ending carried (item ∷ items)) item items (without_ending carried items) (ending_among carried items)
     (without_ending-whole carried items)
 
-not_spent : (item : Record) → is_last item ≡ false → is_spent item ≡ false
-unfolding is_last is_spent
+not_spent : (item : Record) → ends_log item ≡ false → is_spent item ≡ false
+unfolding ends_log is_spent
 not_spent (Spent limit) is = is
 not_spent item is = refl
 
@@ -244,7 +244,7 @@ without_ending-last carried items first after is =
     (ap (λ l. without_ending carried all ++ l) (sym is) ∙ without_ending-whole carried all)
 
 carrier_goes_on : (carried : Bool) (after : List Record) → is_ending carried (Carrier ∷ after) ≡ false
-unfolding is_last can_be_cut
+unfolding ends_log can_be_cut
 carrier_goes_on carried [] = refl
 carrier_goes_on carried (last ∷ []) = refl
 carrier_goes_on carried (last ∷ other ∷ items) = refl

@@ -20,10 +20,10 @@ is_spent (Spent limit) = true
 is_spent other = false
 
 -- no record follows this one
-unfoldable pub is_last : Record → Bool
-is_last (Spent limit) = true
-is_last (Finished steps) = true
-is_last other = false
+unfoldable pub ends_log : Record → Bool
+ends_log (Spent limit) = true
+ends_log (Finished steps) = true
+ends_log other = false
 
 -- A group that this record begins is cut short if `Spent` follows it: it is a start's, or that of a packet that arrives.
 -- Every other record that begins a group may be a whole one.
@@ -35,12 +35,12 @@ can_be_cut carried other = false
 -- the last one of the records ends the log
 abbrev pub is_ended : List Record → Bool
 is_ended [] = false
-is_ended (item ∷ []) = is_last item
+is_ended (item ∷ []) = ends_log item
 is_ended (item ∷ next ∷ items) = is_ended (next ∷ items)
 
 -- These records are an ending: `Finished`, or `Spent` with the beginning of the group that it cuts short, if it does.
 abbrev pub is_ending : Bool → List Record → Bool
-is_ending carried (last ∷ []) = is_last last
+is_ending carried (last ∷ []) = ends_log last
 is_ending carried (first ∷ last ∷ []) = can_be_cut carried first && is_spent last
 is_ending carried other = false
 

@@ -1,5 +1,5 @@
 ghost use Rattle.std.specs.Prelude.{◌≡◌, ◌<◌, ◌≤◌, [], ◌∷◌, length, take, drop, map, IfOk};
-ghost use Rattle.tap_history.specs.Groups.{after_beginning, beginning_of, can_be_cut, ending_of, groups_of, is_ending, is_last, is_spent, parted, without_ending};
+ghost use Rattle.tap_history.specs.Groups.{after_beginning, beginning_of, can_be_cut, ending_of, ends_log, groups_of, is_ending, is_spent, parted, without_ending};
 ghost use Rattle.tap_history.specs.Groups.{ending_among};
 
 use crate::moments::beginning;
@@ -43,9 +43,9 @@ fn is_spent(item: &Record) -> bool
 }
 
 // Whether no record follows this one.
-#[tactic(auto, unfolding(crate::specs::Groups::is_last))]
-fn is_last(item: &Record) -> bool
-    ensures { result ≡ is_last item.now }
+#[tactic(auto, unfolding(crate::specs::Groups::ends_log))]
+fn ends_log(item: &Record) -> bool
+    ensures { result ≡ ends_log item.now }
 {
     match item {
         Record::Spent { .. } | Record::Finished { .. } => true,
@@ -77,7 +77,7 @@ fn is_ending(carried: bool, items: &[Record]) -> bool
     ensures { result ≡ is_ending carried items.now }
 {
     match items {
-        [last] => is_last(last),
+        [last] => ends_log(last),
         [first, last] => is_cut(carried, first, last),
         _ => false,
     }

@@ -1,11 +1,11 @@
 ghost use Rattle.std.specs.Prelude.{◌≡◌, ◌≤◌, ◌&&◌, length, not, OnOk, IfOk};
 ghost use Rattle.std.specs.List.{filter_map, list_any};
 ghost use Rattle.tap_log.specs.Kinds.{begins_group};
-ghost use Rattle.tap_log.specs.Asked.{number_of};
+ghost use Rattle.tap_log.specs.Asked.{number_in};
 ghost use Rattle.tap_history.specs.Moments.{acknowledged, acknowledged_by, awaiting, beginning, has_number, is_group_end, is_moment, is_rest, is_still, numbers_less, outstanding, under_way};
 
 use std::alloc::Global;
-use tap_log::{NoMemory, NumberKind, Record, begins_group, is_carried, number_of};
+use tap_log::{NoMemory, NumberKind, Record, begins_group, is_carried, number_in};
 use tap_name::List;
 
 // The numbers of one kind that the records tell.
@@ -14,11 +14,11 @@ pub(crate) fn numbers(
     kind: NumberKind,
     records: &[Record],
 ) -> Result<Vec<u32>, NoMemory>
-    ensures { IfOk result (λ numbers. numbers.items ≡ filter_map (number_of kind) records.now) }
+    ensures { IfOk result (λ numbers. numbers.items ≡ filter_map (number_in kind) records.now) }
 {
     let mut numbers = Vec::new(alloc);
     for item in records {
-        if let Some(number) = number_of(kind, item) {
+        if let Some(number) = number_in(kind, item) {
             numbers.push(number)?;
         }
     }

@@ -1,13 +1,13 @@
 ghost use Rattle.std.specs.Prelude.{◌≡◌, ◌++◌, filter, IfOk};
 ghost use Rattle.std.specs.List.{filter_map, last_or};
 ghost use Rattle.tap_history.specs.Steps.{depart_name, join_name};
-ghost use Rattle.tap_log.specs.Asked.{name_of};
+ghost use Rattle.tap_log.specs.Asked.{name_in};
 ghost use Rattle.tap_history.specs.Core.{abandoned_of, accepted_in, accepted_step, ceased_of, core_of, departures_of, present_of, joins_of, members_of};
 ghost use Rattle.tap_name.specs.Names.{has_name, names_without};
 
 use crate::steps::{depart_name, join_name};
 use std::alloc::Global;
-use tap_log::{NameKind, NoMemory, Record, accepts, is_carried, name_of, step_of};
+use tap_log::{NameKind, NoMemory, Record, accepts, is_carried, name_in, step_of};
 use tap_name::{List, Name};
 use tap_scenario::Step;
 
@@ -17,11 +17,11 @@ pub(crate) fn names(
     kind: NameKind,
     records: &[Record],
 ) -> Result<Vec<Name>, NoMemory>
-    ensures { IfOk result (λ names. names.items ≡ filter_map (name_of kind) records.now) }
+    ensures { IfOk result (λ names. names.items ≡ filter_map (name_in kind) records.now) }
 {
     let mut names = Vec::new(alloc);
     for item in records {
-        if let Some(name) = name_of(kind, item) {
+        if let Some(name) = name_in(kind, item) {
             names.push(name)?;
         }
     }

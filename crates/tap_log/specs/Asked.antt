@@ -8,17 +8,17 @@ use Rattle.tap_log.specs.declared.record.Record.{Record}
 use Rattle.tap_log.specs.Kinds.{abandoned_name, arrived_number, asked_ticket, begun_cast, core_name, ended_number, gone_name, packet_number, sent_number, taken_number}
 
 -- the number that a record tells
-abbrev pub number_of : NumberKind → Record → Option ℕ
-number_of Sent = sent_number
-number_of Taken = taken_number
-number_of Made = packet_number
-number_of Arrived = arrived_number
-number_of Ended = ended_number
-number_of Asked = asked_ticket
-number_of Cast = begun_cast
+abbrev pub number_in : NumberKind → Record → Option ℕ
+number_in Sent = sent_number
+number_in Taken = taken_number
+number_in Made = packet_number
+number_in Arrived = arrived_number
+number_in Ended = ended_number
+number_in Asked = asked_ticket
+number_in Cast = begun_cast
 
 -- the name that a record tells
-abbrev pub name_of : NameKind → Record → Option (List ℕ)
-name_of Core = core_name
-name_of Gone = gone_name
-name_of Abandoned = abandoned_name
+abbrev pub name_in : NameKind → Record → Option (List ℕ)
+name_in Core = core_name
+name_in Gone = gone_name
+name_in Abandoned = abandoned_name

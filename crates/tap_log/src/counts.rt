@@ -1,20 +1,20 @@
 ghost use Rattle.std.specs.Prelude.{◌≡◌, ◌≤◌, ◌&&◌, length, is_some, if◌then◌else◌};
 ghost use Rattle.std.specs.List.{filter_map};
-ghost use Rattle.tap_log.specs.Asked.{number_of};
+ghost use Rattle.tap_log.specs.Asked.{number_in};
 ghost use Rattle.tap_log.specs.Counts.{cast_count, packet_count, resends, resends_after, resent_count, sent_count, ticket_count};
 ghost use Rattle.tap_log.specs.Kinds.{packet_number};
 
-use crate::kinds::{NumberKind, number_of};
+use crate::kinds::{NumberKind, number_in};
 use crate::record::Record;
 use tap_scenario::Step;
 
 // How many records tell a number of this kind.
 fn count_of(kind: NumberKind, records: &[Record]) -> usize
-    ensures { result ≡ length (filter_map (number_of kind) records.now) }
+    ensures { result ≡ length (filter_map (number_in kind) records.now) }
 {
     records
         .iter()
-        .filter_map(|item| number_of(kind, item))
+        .filter_map(|item| number_in(kind, item))
         .count()
 }
 
@@ -84,7 +84,7 @@ fn resent_by(before: bool, item: &Record) -> usize
     if !before {
         return 0;
     }
-    match number_of(NumberKind::Made, item) {
+    match number_in(NumberKind::Made, item) {
         Some(_) => 1,
         None => 0,
     }

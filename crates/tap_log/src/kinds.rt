@@ -1,6 +1,6 @@
 ghost use Rattle.std.specs.Prelude.{◌≡◌};
 ghost use Rattle.tap_log.specs.Kinds.{accepts, begins_group, is_carried, published_pair, step_of, withdrawn_pair};
-ghost use Rattle.tap_log.specs.Asked.{name_of, number_of};
+ghost use Rattle.tap_log.specs.Asked.{name_in, number_in};
 ghost use Rattle.tap_log.specs.Reduced.{is_added};
 
 use crate::record::{Pair, Record};
@@ -85,8 +85,8 @@ pub enum NumberKind {
 ///
 /// Rule: docs/FORMATS.md, "The printed text".
 #[tactic(auto, unfolding(crate::specs::Kinds::sent_number, crate::specs::Kinds::taken_number, crate::specs::Kinds::packet_number, crate::specs::Kinds::arrived_number, crate::specs::Kinds::ended_number, crate::specs::Kinds::asked_ticket, crate::specs::Kinds::begun_cast))]
-pub fn number_of(kind: NumberKind, item: &Record) -> Option<u32>
-    ensures { result ≡ number_of kind item.now }
+pub fn number_in(kind: NumberKind, item: &Record) -> Option<u32>
+    ensures { result ≡ number_in kind item.now }
 {
     match (kind, item) {
         (NumberKind::Sent, Record::Sent { number, .. }) => Some(*number),
@@ -117,8 +117,8 @@ pub enum NameKind {
 ///
 /// Rule: docs/FORMATS.md, "The printed text".
 #[tactic(auto, unfolding(crate::specs::Kinds::core_name, crate::specs::Kinds::gone_name, crate::specs::Kinds::abandoned_name))]
-pub fn name_of(kind: NameKind, item: &Record) -> Option<Name>
-    ensures { result ≡ name_of kind item.now }
+pub fn name_in(kind: NameKind, item: &Record) -> Option<Name>
+    ensures { result ≡ name_in kind item.now }
 {
     match (kind, item) {
         (NameKind::Core, Record::Core { name }) => Some(*name),

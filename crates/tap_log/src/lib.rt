@@ -13,7 +13,7 @@ mod tests;
 pub use counts::{cast_count, packet_count, resent_count, sent_count, ticket_count};
 pub use frames::bytes_of;
 pub use kinds::{
-    NameKind, NumberKind, accepts, begins_group, is_added, is_carried, name_of, number_of,
+    NameKind, NumberKind, accepts, begins_group, is_added, is_carried, name_in, number_in,
     published_pair, step_of, withdrawn_pair,
 };
 pub use law::{more_records, one_more_record};

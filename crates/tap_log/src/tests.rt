@@ -1,6 +1,6 @@
 use crate::{
     Bytes, Log, NameKind, NoMemory, NumberKind, Pair, Record, Refusal, accepts, begins_group,
-    bytes_of, cast_count, is_added, is_carried, name_of, number_of, packet_count, published_pair,
+    bytes_of, cast_count, is_added, is_carried, name_in, number_in, packet_count, published_pair,
     resent_count, sent_count, step_of, ticket_count, withdrawn_pair,
 };
 use std::alloc::Global;
@@ -125,14 +125,14 @@ fn single_records_tell_numbers_names_and_pairs(rt: HostRuntime) -> Result<(), Fa
         server: name,
     };
     assert_eq!(rt;
-        number_of(NumberKind::Ended, &Record::Lost { packet: 4 }),
+        number_in(NumberKind::Ended, &Record::Lost { packet: 4 }),
         Some(4)
     );
     assert_eq!(rt;
-        number_of(NumberKind::Arrived, &Record::Lost { packet: 4 }),
+        number_in(NumberKind::Arrived, &Record::Lost { packet: 4 }),
         None
     );
-    assert_eq!(rt; name_of(NameKind::Gone, &Record::Gone { name }), Some(name));
+    assert_eq!(rt; name_in(NameKind::Gone, &Record::Gone { name }), Some(name));
     let published = Record::Published {
         object,
         server: name,

@@ -15,7 +15,7 @@ use Rattle.tap_log.specs.Log.{last_of}
 use Rattle.tap_history.proofs.Growing.{accepted_steps-push}
 use Rattle.tap_log.proofs.Growing.{last_of-push}
 use Rattle.tap_report.specs.Summary.{departed_after, is_departed, last_departure}
-use Rattle.tap_report.specs.Tally.{accepted_after, asked_by, asked_last, departures_after, departures_known, members_after, opening_after, opening_of, opens_carried}
+use Rattle.tap_report.specs.Tally.{accepted_after, asked_by, asked_last, departures_after, departures_known, log_opening, members_after, opening_after, opens_carried}
 use Rattle.tap_report.specs.declared.opening.Opening.TheVariants.{Carried, Plain}
 
 -- ---- the opening
@@ -29,7 +29,7 @@ carried_stays [] = refl
 carried_stays (item ∷ items) = carried_stays items
 
 -- the opening says whether the log is carried
-pub opening_tells : (log : List Record) → opens_carried (opening_of log) ≡ is_carried log
+pub opening_tells : (log : List Record) → opens_carried (log_opening log) ≡ is_carried log
 unfolding is_carried
 opening_tells [] = refl
 opening_tells (rec.Begin settings frames members ∷ []) = refl
@@ -41,7 +41,7 @@ opening_tells (first ∷ item ∷ items) = ap opens_carried (plain_stays items)
 -- ---- members
 
 later_members : (first : Record) (items : List Record) (members : ℕ) (item : Record)
-    → members_after (opening_of (first ∷ items)) members item ≡ members
+    → members_after (log_opening (first ∷ items)) members item ≡ members
 later_members (rec.Begin settings frames names) [] members item = refl
 later_members first [] members item = refl
 later_members (rec.Begin settings frames names) (rec.Carrier ∷ items) members item =
@@ -50,7 +50,7 @@ later_members (rec.Begin settings frames names) (next ∷ items) members item = 
 later_members first (next ∷ items) members item = ap (λ o. members_after o members item) (plain_stays items)
 
 pub members-push : (log : List Record) (item : Record)
-    → length (members_of (log ++ item ∷ [])) ≡ members_after (opening_of log) (length (members_of log)) item
+    → length (members_of (log ++ item ∷ [])) ≡ members_after (log_opening log) (length (members_of log)) item
 members-push [] item = refl
 members-push (first ∷ items) item = sym (later_members first items (length (begin_members first)) item)
 

@@ -7,8 +7,8 @@ use Rattle.tap_log.specs.declared.record.Record.{Record}
 use Rattle.tap_log.specs.Kinds.{core_name, sent_number}
 use Rattle.tap_log.specs.Laws.{at_most_one}
 use Rattle.tap_log.proofs.Growing.{filter_map-push}
-use Rattle.tap_report.specs.Summary.{hops_in, is_answered, is_gone}
-use Rattle.tap_report.specs.Tally.{IsWithin, accepted_after, departures_after, departures_known, is_core, is_sent, opening_after, opens_carried, tally_after, tally_of}
+use Rattle.tap_report.specs.Summary.{finds_server, hops_in, is_gone}
+use Rattle.tap_report.specs.Tally.{CountsWithin, accepted_after, departures_after, departures_known, is_core, is_sent, opening_after, opens_carried, tally_after, tally_of}
 use Rattle.tap_report.specs.declared.opening.Opening.TheVariants.{Nothing}
 use Rattle.tap_report.specs.declared.tally.Tally.{Tally}
 use Rattle.tap_report.proofs.DepartedLemmas.{departures-push, members-push, opening_tells}
@@ -37,7 +37,7 @@ tally_of-push records item =
       known-push records item,
       told_count-push sent_number records item,
       fold-append (λ n x. max n (hops_in x)) 0 records (item ∷ []),
-      fold-append (λ n x. n + cond (is_answered x) 1 0) 0 records (item ∷ []),
+      fold-append (λ n x. n + cond (finds_server x) 1 0) 0 records (item ∷ []),
     )
 
 one : (b : Bool) → cond {A = ℕ} b 1 0 ≤ 1
@@ -45,12 +45,12 @@ one true = omega arith
 one false = omega arith
 
 -- one record more counts once at most
-pub IsWithin-after : (most : ℕ) (t : Tally) (item : Record) → IsWithin most t → IsWithin (most + 1) (tally_after t item)
-IsWithin-after most t item w =
+pub CountsWithin-after : (most : ℕ) (t : Tally) (item : Record) → CountsWithin most t → CountsWithin (most + 1) (tally_after t item)
+CountsWithin-after most t item w =
     let core = one (is_core item) in
     let gone = one (is_gone (accepted_after (opens_carried t.opening) t.departures item) item) in
     let frames = one (is_sent item) in
-    let answered = one (is_answered item) in
+    let answered = one (finds_server item) in
     record {
       core = omega (arith, w.core, core);
       gone = omega (arith, w.gone, gone);

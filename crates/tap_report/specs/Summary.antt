@@ -56,13 +56,13 @@ abbrev pub most_hops : List Record → ℕ
 most_hops log = fold (λ most item. max most (hops_in item)) 0 log
 
 -- whether a record answers a lookup with a server
-abbrev pub is_answered : Record → Bool
-is_answered (rec.Answered ticket (Some server)) = true
-is_answered item = false
+abbrev pub finds_server : Record → Bool
+finds_server (rec.Answered ticket (Some server)) = true
+finds_server item = false
 
 -- how many lookups were answered with a server
 abbrev pub answered_count : List Record → ℕ
-answered_count log = count_by is_answered log
+answered_count log = count_by finds_server log
 
 -- ---- the four numbers
 

@@ -9,7 +9,7 @@ use Rattle.tap_history.specs.Steps.{depart_name}
 use Rattle.tap_history.specs.Core.{members_of}
 use Rattle.tap_log.specs.Counts.{sent_count}
 use Rattle.tap_log.specs.Log.{last_of}
-use Rattle.tap_report.specs.Summary.{Numbers, answered_count, core_count, departed_count, hops_in, is_answered, is_gone, last_departure, most_hops}
+use Rattle.tap_report.specs.Summary.{Numbers, answered_count, core_count, departed_count, finds_server, hops_in, is_gone, last_departure, most_hops}
 use Rattle.tap_report.specs.declared.departures.Departures.{Departures}
 use Rattle.tap_report.specs.declared.opening.Opening.{Opening}
 use Rattle.tap_report.specs.declared.opening.Opening.TheVariants.{Nothing, Begun, Carried, Plain}
@@ -27,8 +27,8 @@ opening_after Carried item = Carried
 opening_after Plain item = Plain
 
 -- how a log opens
-abbrev pub opening_of : List Record → Opening
-opening_of log = fold opening_after Nothing log
+abbrev pub log_opening : List Record → Opening
+log_opening log = fold opening_after Nothing log
 
 -- whether a log that opens so is carried
 abbrev pub opens_carried : Opening → Bool
@@ -81,7 +81,7 @@ is_sent item = is_some (sent_number item)
 -- what is kept of a log
 abbrev pub tally_of : List Record → Tally
 tally_of log = record {
-  opening = opening_of log;
+  opening = log_opening log;
   members = length (members_of log);
   core = core_count log;
   departures = departures_known log;
@@ -99,7 +99,7 @@ tally_after t item = record {
   departures = departures_after (opens_carried t.opening) t.departures item;
   frames = t.frames + cond (is_sent item) 1 0;
   hops = max t.hops (hops_in item);
-  answered = t.answered + cond (is_answered item) 1 0;
+  answered = t.answered + cond (finds_server item) 1 0;
 }
 
 -- the numbers of the summary
@@ -107,7 +107,7 @@ abbrev pub numbers_in : Tally → Numbers
 numbers_in t = record { nodes = t.members + t.core - t.departures.gone; frames = t.frames; hops = t.hops; answered = t.answered }
 
 -- none of its counts of records is above this number
-pub record IsWithin (most : ℕ) (t : Tally) : Type 0 where
+pub record CountsWithin (most : ℕ) (t : Tally) : Type 0 where
   pub core : t.core ≤ most
   pub gone : t.departures.gone ≤ most
   pub frames : t.frames ≤ most

@@ -34,13 +34,13 @@ pub struct Reporter {
 impl Model for Reporter {
     ghost use Rattle.std.specs.Prelude.{◌≤◌};
     ghost use Rattle.tap_report.specs.Reporter.{ReporterValue};
-    ghost use Rattle.tap_report.specs.Tally.{IsWithin};
+    ghost use Rattle.tap_report.specs.Tally.{CountsWithin};
 
     ghost Value = { ReporterValue };
 
     ghost view = { λ r. record { mode = r.mode; settings = r.settings; records = r.records; tally = r.tally; so_far = r.so_far } };
 
-    ghost invariant = { λ r. IsWithin r.records r.tally };
+    ghost invariant = { λ r. CountsWithin r.records r.tally };
 }
 
 impl Reporter {

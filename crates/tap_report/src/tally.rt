@@ -1,7 +1,7 @@
 ghost use Rattle.std.specs.Prelude.{◌≡◌, ◌-◌, length, []};
 ghost use Rattle.tap_log.specs.Kinds.{begin_members};
-ghost use Rattle.tap_report.specs.Summary.{hops_in, is_answered};
-ghost use Rattle.tap_report.specs.Tally.{IsWithin, is_core, is_sent, members_after, numbers_in, tally_after, tally_of};
+ghost use Rattle.tap_report.specs.Summary.{finds_server, hops_in};
+ghost use Rattle.tap_report.specs.Tally.{CountsWithin, is_core, is_sent, members_after, numbers_in, tally_after, tally_of};
 
 use crate::departures::Departures;
 use crate::opening::Opening;
@@ -44,7 +44,7 @@ impl Tally {
 
     // With one record more.
     pub(crate) fn with(&self, item: &Record) -> Tally
-        requires { IsWithin (u64.MAX - 1) self.now }
+        requires { CountsWithin (u64.MAX - 1) self.now }
         ensures { result ≡ tally_after self.now item.now }
     {
         let carried = self.opening.is_carried();
@@ -55,7 +55,7 @@ impl Tally {
             departures: self.departures.with(carried, item),
             frames: self.frames + u64::from(is_sent(item)),
             hops: self.hops.max(hops_in(item)),
-            answered: self.answered + u64::from(is_answered(item)),
+            answered: self.answered + u64::from(finds_server(item)),
         }
     }
 
@@ -110,8 +110,8 @@ fn is_sent(item: &Record) -> bool
 }
 
 // Whether a lookup is answered with a server.
-fn is_answered(item: &Record) -> bool
-    ensures { result ≡ is_answered item.now }
+fn finds_server(item: &Record) -> bool
+    ensures { result ≡ finds_server item.now }
 {
     match item {
         Record::Answered { server, .. } => server.is_some(),

@@ -10,7 +10,7 @@ use Rattle.tap_scenario.specs.declared.fault.Key.TheVariants.{Members}
 use Rattle.tap_scenario.specs.declared.fault.Fault.TheVariants.{BadValue}
 use Rattle.tap_scenario.specs.Document.{read_at, members_of_table}
 use Rattle.tap_scenario.specs.Scenario.{most_members}
-use Rattle.tap_scenario.specs.Value.{are_strings, texts_of, array_of_strings, names_of, distinct_names}
+use Rattle.tap_scenario.specs.Value.{are_strings, texts_of, array_of_strings, names_of_texts, distinct_names}
 use Rattle.tap_scenario.proofs.Arrays.{length-texts_of}
 
 -- there are not as many as members can be
@@ -24,10 +24,10 @@ members_of_table-count p table values is strings count =
 pub members_of_table-names : (p : SettingsValue) (table : Table) (values : List Value) (names : List (List ℕ))
     → read_at Members array_of_strings table ≡ Ok (texts_of (items_view values)) → are_strings (items_view values) ≡ true
     → (nat_le 1 (length values) && nat_le (length values) most_members) ≡ true
-    → ok_or (names_of p (texts_of (items_view values))) (BadValue Members) ≡ Ok names → are_distinct names ≡ true
+    → ok_or (names_of_texts p (texts_of (items_view values))) (BadValue Members) ≡ Ok names → are_distinct names ≡ true
     → members_of_table p table ≡ Ok names
 members_of_table-names p table values names is strings count read distinct =
-    let len = length-texts_of values strings in rw (is, len, count) (go (names_of p (texts_of (items_view values))) read)
+    let len = length-texts_of values strings in rw (is, len, count) (go (names_of_texts p (texts_of (items_view values))) read)
   where
     go : (o : Option (List (List ℕ))) → ok_or o (BadValue Members) ≡ Ok names
         → ok_or (option_and_then distinct_names o) (BadValue Members) ≡ Ok names

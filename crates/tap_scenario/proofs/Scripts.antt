@@ -18,7 +18,7 @@ use Rattle.tap_scenario.specs.Key.{value_at}
 use Rattle.tap_scenario.specs.Scenario.{IsScript, most_frames, most_members, most_steps}
 use Rattle.tap_scenario.specs.Step.{IsStep, step_of_text, can_run}
 use Rattle.tap_scenario.specs.Fault.{◌>>=◌, cons_result}
-use Rattle.tap_scenario.specs.Value.{whole_number, array_of_strings, strings_up_to, cons_both, names_of, distinct_names, members_of_texts}
+use Rattle.tap_scenario.specs.Value.{whole_number, array_of_strings, strings_up_to, cons_both, names_of_texts, distinct_names, members_of_texts}
 use Rattle.tap_name.proofs.Membership.{are_distinct-Decides}
 use Rattle.tap_name.proofs.Texts.{name_of_word-back}
 use Rattle.tap_scenario.proofs.Options.{and_then-back, ok_or-Ok}
@@ -83,13 +83,14 @@ cons_both-Some None others all e = absurd (cc)
 cons_both-Some (Some x) None all e = absurd (cc)
 cons_both-Some (Some x) (Some xs) all e = (x, xs, refl, refl, cc)
 
-names_of-names : (p : SettingsValue) (texts : List (List ℕ)) (names : List (List ℕ)) → p.base ≤ 16 → names_of p texts ≡ Some names
+names_of_texts-names : (p : SettingsValue) (texts : List (List ℕ)) (names : List (List ℕ)) → p.base ≤ 16
+    → names_of_texts p texts ≡ Some names
     → (length names ≡ length texts) × All (IsName p) names
-names_of-names p [] names small e = let none : [] ≡ names = cc in rw (← none) (refl, All-nil (IsName p))
-names_of-names p (text ∷ others) names small e =
-    let parts = cons_both-Some (name_of_word p text) (names_of p others) names e in
+names_of_texts-names p [] names small e = let none : [] ≡ names = cc in rw (← none) (refl, All-nil (IsName p))
+names_of_texts-names p (text ∷ others) names small e =
+    let parts = cons_both-Some (name_of_word p text) (names_of_texts p others) names e in
     let first = name_of_word-back p text parts.0 small parts.2 in
-    let rest = names_of-names p others parts.1 small parts.3 in
+    let rest = names_of_texts-names p others parts.1 small parts.3 in
     rw (← parts.4) (ap suc rest.0, All-cons (IsName p) parts.0 parts.1 first.1 rest.1)
 
 -- what a script has of its members
@@ -108,8 +109,8 @@ members_of_texts-limits p texts names small e =
           let tests = and_parts (nat_le 1 (length texts)) (nat_le (length texts) most_members) within in
           let from = leb-true 1 (length texts) tests.0 in
           let to = leb-true (length texts) most_members tests.1 in
-          let found = and_then-back distinct_names (names_of p texts) names (rw within at e) in
-          let read = names_of-names p texts found.0 small found.1 in
+          let found = and_then-back distinct_names (names_of_texts p texts) names (rw within at e) in
+          let read = names_of_texts-names p texts found.0 small found.1 in
           elim (cases_Bool (are_distinct found.0)) [
             | inr twice ↦ absurd (let none : None ≡ Some names = rw twice at found.2 in cc)
             | inl distinct ↦

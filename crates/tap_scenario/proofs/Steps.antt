@@ -18,7 +18,7 @@ use Rattle.tap_scenario.specs.declared.kind.Kind.{Kind}
 use Rattle.tap_scenario.specs.declared.kind.Kind.TheVariants as shape
 use Rattle.tap_scenario.specs.declared.step.Step.{Step}
 use Rattle.tap_scenario.specs.declared.step.Step.TheVariants.{Join, Depart, Publish, Withdraw, Find, Walk, Root, Deliver, Settle, SettleNewest, SettleMixed, Table, Pointers, Garble, Cut, Abandon, Tick, Lose, Repeat, RootSet, Cast}
-use Rattle.tap_scenario.specs.Kind.{kinds, text_of_kind, link_of_pair, kind_of_word, is_there}
+use Rattle.tap_scenario.specs.Kind.{step_kinds, text_of_kind, link_of_pair, kind_of_word, is_there}
 use Rattle.tap_scenario.specs.Step.{IsStep, text_of_prefix, text_of_step, number_below, word_of_bytes, prefix_of_word, one_name, two_names, one_number, two_numbers, only, settle_of_words, garble_of_words, cast_of_words, step_of_name, step_of_pair, step_of_place, step_of_kind, step_of_words, step_of_text}
 use Rattle.tap_scenario.specs.Words.{words}
 use Rattle.tap_name.proofs.Texts.{name_of_word-back, name_of_word-text, text_of_name-no_space}
@@ -346,7 +346,7 @@ step_of_words-back p carrier [] step small told = absurd (cc)
 step_of_words-back p carrier (word ∷ others) step small read =
     let told = and_then-back (λ kind. if is_there p carrier kind then step_of_kind p kind others else None) (kind_of_word word) step read in
     let same : word ≡ text_of_kind told.0 =
-    (bytes_eq-Decides word (text_of_kind told.0)).0 (find-passes (λ kind. bytes_eq word (text_of_kind kind)) kinds told.0 told.1) in
+    (bytes_eq-Decides word (text_of_kind told.0)).0 (find-passes (λ kind. bytes_eq word (text_of_kind kind)) step_kinds told.0 told.1) in
     elim (cases_Bool (is_there p carrier told.0)) [
       | inr absent ↦ absurd (let failed = rw absent at told.2 in cc)
       | inl there ↦

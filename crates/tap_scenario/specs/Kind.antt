@@ -9,8 +9,8 @@ use Rattle.tap_scenario.specs.declared.kind.Kind.{Kind}
 use Rattle.tap_scenario.specs.declared.kind.Kind.TheVariants.{Name, Pair, Place, Settle, Garble, Cut, Tick, Cast}
 
 -- all first words of steps, those that long scenarios have most first
-abbrev pub kinds : List Kind
-kinds =
+abbrev pub step_kinds : List Kind
+step_kinds =
     Pair Walk ∷ Pair Find ∷ Pair Publish ∷ Pair Join ∷ Pair Withdraw ∷ Pair RootSet
     ∷ Name Root ∷ Name Table ∷ Name Leave ∷ Name Pointers ∷ Name Abandon
     ∷ Place Deliver ∷ Place Lose ∷ Place Repeat
@@ -49,7 +49,7 @@ link_of_pair RootSet = codes "from"
 
 -- the kind whose steps begin with a word
 abbrev pub kind_of_word : List ℕ → Option Kind
-kind_of_word word = find (λ kind. bytes_eq word (text_of_kind kind)) kinds
+kind_of_word word = find (λ kind. bytes_eq word (text_of_kind kind)) step_kinds
 
 -- whether there are steps of this kind with these settings, in a scenario that is carried or not
 abbrev pub is_there : SettingsValue → Bool → Kind → Bool

@@ -38,9 +38,9 @@ cons_both (Some first) (Some others) = Some (first ∷ others)
 cons_both _ _ = None
 
 -- texts that are names
-abbrev pub names_of : SettingsValue → List (List ℕ) → Option (List (List ℕ))
-names_of p [] = Some []
-names_of p (text ∷ others) = cons_both (name_of_word p text) (names_of p others)
+abbrev pub names_of_texts : SettingsValue → List (List ℕ) → Option (List (List ℕ))
+names_of_texts p [] = Some []
+names_of_texts p (text ∷ others) = cons_both (name_of_word p text) (names_of_texts p others)
 
 -- names of which no two are the same
 abbrev pub distinct_names : List (List ℕ) → Option (List (List ℕ))
@@ -49,4 +49,4 @@ distinct_names names = if are_distinct names then Some names else None
 -- texts that are distinct names, as many as a scenario may have members
 abbrev pub members_of_texts : SettingsValue → List (List ℕ) → Option (List (List ℕ))
 members_of_texts p texts =
-    if nat_le 1 (length texts) && nat_le (length texts) most_members then option_and_then distinct_names (names_of p texts) else None
+    if nat_le 1 (length texts) && nat_le (length texts) most_members then option_and_then distinct_names (names_of_texts p texts) else None

@@ -5,7 +5,7 @@ ghost use Rattle.tap_scenario.specs.Document.{read_at, settings_of_table, frames
 ghost use Rattle.tap_scenario.specs.Key.{missing_key, is_known, has_known_keys, wrong_key};
 ghost use Rattle.tap_scenario.specs.Scenario.{IsScript};
 ghost use Rattle.tap_scenario.specs.ReadRefusal.{AnswersUnlessMemory, TellsFault};
-ghost use Rattle.tap_scenario.specs.Value.{whole_number, array_of_strings, strings_up_to, are_strings, names_of, texts_of};
+ghost use Rattle.tap_scenario.specs.Value.{whole_number, array_of_strings, strings_up_to, are_strings, names_of_texts, texts_of};
 
 use crate::fault::{Fault, Key, ReadRefusal};
 use crate::scenario::Scenario;
@@ -150,7 +150,7 @@ fn read_names(
     settings: &Settings,
     strings: &[Value],
 ) -> Result<List<Name>, ReadRefusal>
-    ensures { let read = names_of settings.now (texts_of (items_view strings.now))
+    ensures { let read = names_of_texts settings.now (texts_of (items_view strings.now))
         in AnswersUnlessMemory (ok_or read (Fault.BadValue Key.Members)) result }
 {
     let mut names = Vec::with_capacity(alloc, strings.len())?;

@@ -12,7 +12,7 @@ use Rattle.tap_link.specs.Entry.{Entry}
 use Rattle.tap_link.specs.declared.kind.Kind.{Kind}
 use Rattle.tap_log.specs.declared.record.LinkLine.{LinkLine}
 use Rattle.tap_table.specs.Table.{Row, SlotLinks, TableValue, rows, rows_of}
-use Rattle.tap_top.specs.Lines.{line_of, lines_of, word_of}
+use Rattle.tap_top.specs.Lines.{lines_of, link_line_of, link_word_of}
 
 -- what is read at a place of a list of rows is that row's
 part_at : {A : Type 0} (part : Row → A) (all : List Row) (i : ℕ) (row : Row) (is : A) → i < length all
@@ -24,8 +24,8 @@ part_at part all i row is within read =
 -- one line more
 pub lines_more : (all : List Row) (i : ℕ) (slot : Slot) (target : List ℕ) (kind : Kind) (old new : List LinkLine) → i < length all
     → slice_get (map (λ r. r.slot) all) i ≡ Some slot → slice_get (map (λ r. r.entry.target) all) i ≡ Some target
-    → slice_get (map (λ r. r.entry.kind) all) i ≡ Some kind → old ≡ map line_of (take i all)
-    → new ≡ old ++ record { slot = slot; name = target; kind = word_of kind } ∷ [] → new ≡ map line_of (take (i + 1) all)
+    → slice_get (map (λ r. r.entry.kind) all) i ≡ Some kind → old ≡ map link_line_of (take i all)
+    → new ≡ old ++ record { slot = slot; name = target; kind = link_word_of kind } ∷ [] → new ≡ map link_line_of (take (i + 1) all)
 lines_more all i slot target kind old new within slot_is target_is kind_is so_far grown =
     let entry : Entry (List ℕ) = record { target = target; kind = kind } in
     let row : Row = record { slot = slot; entry = entry } in
@@ -33,10 +33,11 @@ lines_more all i slot target kind old new within slot_is target_is kind_is so_fa
     let same_slot = part_at (λ r. r.slot) all i row slot within slot_is in
     let same_target = part_at (λ r. r.entry.target) all i row target within target_is in
     let same_kind = part_at (λ r. r.entry.kind) all i row kind within kind_is in
-    let line : line_of found ≡ record { slot = slot; name = target; kind = word_of kind } = rw (same_slot, same_target, same_kind) refl in
-    grown ∙ ap (λ l. l ++ record { slot = slot; name = target; kind = word_of kind } ∷ []) so_far
-    ∙ ap (λ l. map line_of (take i all) ++ l ∷ []) (sym line) ∙ sym (map-append line_of (take i all) (found ∷ []))
-    ∙ sym (ap (map line_of) (take_more all i row within))
+    let line : link_line_of found ≡ record { slot = slot; name = target; kind = link_word_of kind } =
+    rw (same_slot, same_target, same_kind) refl in
+    grown ∙ ap (λ l. l ++ record { slot = slot; name = target; kind = link_word_of kind } ∷ []) so_far
+    ∙ ap (λ l. map link_line_of (take i all) ++ l ∷ []) (sym line) ∙ sym (map-append link_line_of (take i all) (found ∷ []))
+    ∙ sym (ap (map link_line_of) (take_more all i row within))
 
 rows_below : (base : ℕ) (numbered : List (ℕ × SlotLinks)) → zero < base
     → All (λ row. row.slot.digit < base) (flat_map (rows_of base) numbered)
@@ -52,5 +53,5 @@ rows_below base (links ∷ numbered) some =
 -- each line's digit is below the base
 pub lines_below : (table : TableValue) → zero < table.settings.base → All (λ line. line.slot.digit < table.settings.base) (lines_of table)
 lines_below table some =
-    All-map (λ line. line.slot.digit < table.settings.base) line_of (rows table)
+    All-map (λ line. line.slot.digit < table.settings.base) link_line_of (rows table)
     (rows_below table.settings.base (enumerate_from 0 table.slots) some)

@@ -8,15 +8,15 @@ use Rattle.tap_log.specs.declared.record.LinkWord.TheVariants.{Pin as PinWord, S
 use Rattle.tap_table.specs.Table.{Row, TableValue, rows}
 
 -- the word of a link's kind
-abbrev pub word_of : Kind → LinkWord
-word_of Pin = PinWord
-word_of Settled = SettledWord
-word_of Leaving = LeavingWord
+abbrev pub link_word_of : Kind → LinkWord
+link_word_of Pin = PinWord
+link_word_of Settled = SettledWord
+link_word_of Leaving = LeavingWord
 
 -- the link of a row: its slot, its target and the word of its kind
-abbrev pub line_of : Row → LinkLine
-line_of row = record { slot = row.slot; name = row.entry.target; kind = word_of row.entry.kind }
+abbrev pub link_line_of : Row → LinkLine
+link_line_of row = record { slot = row.slot; name = row.entry.target; kind = link_word_of row.entry.kind }
 
 -- all links of a table, in ascending order of slot, then target
 abbrev pub lines_of : TableValue → List LinkLine
-lines_of table = map line_of (rows table)
+lines_of table = map link_line_of (rows table)

@@ -4,7 +4,7 @@ ghost use Rattle.tap_name.specs.Root.{root};
 ghost use Rattle.tap_scenario.specs.Step.{IsStep, can_run};
 ghost use Rattle.tap_top.specs.AtRest.{AreKeptAtRest, nodes_of};
 ghost use Rattle.tap_top.specs.Lawful.{Answers};
-ghost use Rattle.tap_top.specs.Lines.{lines_of, word_of};
+ghost use Rattle.tap_top.specs.Lines.{lines_of, link_word_of};
 
 use crate::members::Members;
 use crate::memory::NoMemory;
@@ -108,15 +108,15 @@ fn lines_of(alloc: Global, table: &Table) -> Result<List<LinkLine>, NoMemory>
         lines.push(LinkLine {
             slot: table.slot_at(place),
             name: table.target_at(place),
-            kind: word_of(table.kind_at(place)),
+            kind: link_word_of(table.kind_at(place)),
         })?;
     }
     Ok(lines)
 }
 
 // The word for a kind of link.
-fn word_of(kind: Kind) -> LinkWord
-    ensures { result ≡ word_of kind }
+fn link_word_of(kind: Kind) -> LinkWord
+    ensures { result ≡ link_word_of kind }
 {
     match kind {
         Kind::Pin => LinkWord::Pin,

@@ -18,7 +18,7 @@ use Rattle.tap_wire.specs.declared.opening.Opening.{Opening}
 use Rattle.tap_wire.specs.Fault.{fault_of_head, fault_of_body}
 use Rattle.tap_wire.specs.Kind.{code_of, kind_of, has_list}
 use Rattle.tap_wire.specs.Fields.{◌>>=◌, number_at}
-use Rattle.tap_wire.specs.Reading.{head_of_frame, head_of, opening_of, body_at, in_frame, frame_of, Fails, WantsMemory}
+use Rattle.tap_wire.specs.Reading.{head_of_frame, head_of, opening_of, body_at, in_frame, frame_of, BodyFails, WantsMemory}
 use Rattle.tap_wire.specs.Spelling.{body_bytes, spelling, IsFrame, IsTyped}
 use Rattle.tap_wire.specs.Writing.{HasRoom}
 use Rattle.tap_wire.specs.Layout.{is_length, is_long, version_of, head_len, body_start, body_len}
@@ -279,7 +279,7 @@ listed p bytes o (Ok body) limits all opened e ok list =
 
 -- want of memory comes in place of a frame with a list alone
 pub wanting : (p : SettingsValue) (bytes : List ℕ) (o : Opening) (fault : BodyFault) → AreWithinLimits p → All (λ b. b < 256) bytes
-    → opening_of p bytes ≡ Ok o → Fails fault (body_at p o.kind (body_start p) bytes)
+    → opening_of p bytes ≡ Ok o → BodyFails fault (body_at p o.kind (body_start p) bytes)
     → (◌≡◌ {A = Result Body BodyFault} (Err fault) (Err faults.NoMemory) → IsTrue (has_list o.kind)) → fault_of_body fault ≡ NoMemory
     → WantsMemory (frame_of p bytes)
 wanting p bytes o (faults.Field broken) limits all opened fails list want = absurd cc

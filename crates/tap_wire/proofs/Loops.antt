@@ -7,7 +7,7 @@ use Rattle.tap_name.specs.declared.slot.Slot.{Slot}
 use Rattle.tap_name.specs.declared.slot.Offered.{Offered}
 use Rattle.tap_watch.specs.Watch.{IsAscending}
 use Rattle.tap_wire.specs.declared.fault.Broken.{Broken}
-use Rattle.tap_wire.specs.Fields.{◌>>=◌, slot_at, slots_at, hello_link_at, hello_links_at}
+use Rattle.tap_wire.specs.Fields.{◌>>=◌, watch_slot_at, slots_at, hello_link_at, hello_links_at}
 use Rattle.tap_wire.proofs.Slots.{slots_taken, follow_ascends}
 
 -- what was read before, and what is still read
@@ -23,7 +23,7 @@ regroup front x (Err b) = refl
 
 pub slots_go_on : (p : SettingsValue) (prefix count i : ℕ) (before : Option Slot) (place : ℕ) (bytes : List ℕ) (front : List Slot)
     (s : Slot) (total : Result (List Slot) Broken) → i < count
-    → slot_at p prefix before place bytes ≡ Ok s → with_front front (slots_at p prefix (count - i) before place bytes) ≡ total
+    → watch_slot_at p prefix before place bytes ≡ Ok s → with_front front (slots_at p prefix (count - i) before place bytes) ≡ total
     → with_front (front ++ s ∷ []) (slots_at p prefix (count - (i + 1)) (Some s) (place + 2) bytes) ≡ total
 unfolding slots_at
 slots_go_on p prefix count i before place bytes front s total lt h so_far =
@@ -38,7 +38,7 @@ slots_go_on p prefix count i before place bytes front s total lt h so_far =
 
 pub slots_end : (p : SettingsValue) (prefix count i : ℕ) (before : Option Slot) (place : ℕ) (bytes : List ℕ) (front : List Slot)
     (b : Broken) (total : Result (List Slot) Broken) → i < count
-    → slot_at p prefix before place bytes ≡ Err b → with_front front (slots_at p prefix (count - i) before place bytes) ≡ total
+    → watch_slot_at p prefix before place bytes ≡ Err b → with_front front (slots_at p prefix (count - i) before place bytes) ≡ total
     → total ≡ Err b
 unfolding slots_at
 slots_end p prefix count i before place bytes front b total lt h so_far =

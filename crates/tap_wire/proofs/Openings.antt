@@ -7,7 +7,7 @@ use Rattle.tap_wire.specs.declared.fault.HeadFault.TheVariants.{Short, BadVersio
 use Rattle.tap_wire.specs.declared.kind.Kind.{Kind}
 use Rattle.tap_wire.specs.declared.kind.Kind.TheVariants.{Seek, Tell, Hello, Heard, Ack, Done, Release, Link, Lay, Find, Answer, Leave, Left, Gone, Forget, Cast, CastAck}
 use Rattle.tap_wire.specs.declared.opening.Opening.{Opening}
-use Rattle.tap_wire.specs.Kind.{code_of, kinds, kind_of_code}
+use Rattle.tap_wire.specs.Kind.{code_of, frame_kinds, kind_of_code}
 use Rattle.tap_wire.specs.Fields.{◌>>=◌, number_at, digits_at}
 use Rattle.tap_wire.specs.Reading.{names_at, sized, of_kind, opening_of}
 use Rattle.tap_wire.specs.Layout.{is_length, is_long, version_of, head_len, body_start}
@@ -52,7 +52,7 @@ coded_at [] first place chosen coded e = absurd cc
 coded_at (k ∷ ks) first zero chosen coded e = same_code k chosen e ∙ coded.0 ∙ omega arith
 coded_at (k ∷ ks) first (suc place) chosen coded e = coded_at ks (suc first) place chosen coded.1 e ∙ omega arith
 
-kinds_coded : Coded kinds 1
+kinds_coded : Coded frame_kinds 1
 kinds_coded = (
   refl,
   (
@@ -75,7 +75,7 @@ kinds_coded = (
 
 pub code_back : (code : ℕ) (chosen : Kind) → kind_of_code code ≡ Some chosen → code_of chosen ≡ code
 code_back zero chosen e = absurd cc
-code_back (suc place) chosen e = coded_at kinds 1 place chosen kinds_coded e ∙ omega arith
+code_back (suc place) chosen e = coded_at frame_kinds 1 place chosen kinds_coded e ∙ omega arith
 
 -- ---- tests one after the other
 

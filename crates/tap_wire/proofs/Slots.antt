@@ -8,7 +8,7 @@ use Rattle.std.proofs.lemmas.List.Kept.{AllPairs-cons}
 use Rattle.tap_name.specs.Settings.{SettingsValue}
 use Rattle.tap_name.specs.declared.slot.Slot.{Slot}
 use Rattle.tap_watch.specs.Watch.{Precedes, IsAscending}
-use Rattle.tap_wire.specs.Fields.{◌>>=◌, field, is_next_level, is_next_digit, slot_at, slots_at}
+use Rattle.tap_wire.specs.Fields.{◌>>=◌, field, is_next_level, is_next_digit, watch_slot_at, slots_at}
 use Rattle.tap_wire.specs.Spelling.{slot_bytes}
 use Rattle.tap_wire.proofs.Steps.{bind_ok, bind_is, field_ok, ok_is}
 use Rattle.tap_wire.proofs.Pieces.{byte_is, past_byte, byte_taken, moved}
@@ -24,7 +24,7 @@ Follow base prefix before (s ∷ ss) =
 slot_is : (p : SettingsValue) (prefix : ℕ) (before : Option Slot) (place : ℕ) (bytes : List ℕ) (s : Slot)
     → slice_index bytes place ≡ s.level → slice_index bytes (place + 1) ≡ s.digit
     → is_next_level prefix before s.level ≡ true → is_next_digit p.base before s.level s.digit ≡ true
-    → slot_at p prefix before place bytes ≡ Ok s
+    → watch_slot_at p prefix before place bytes ≡ Ok s
 slot_is p prefix before place bytes s level digit rises rises_on = rw (level, digit, rises, rises_on) refl
 
 pub slots_again : (p : SettingsValue) (prefix : ℕ) (ss : List Slot) (before : Option Slot) (place : ℕ) (bytes rest : List ℕ)
@@ -40,7 +40,7 @@ slots_again p prefix (s ∷ ss) before place bytes rest follow here =
     let second = past_byte bytes place s.level (s.digit ∷ after) split in
     let digit = byte_is bytes (place + 1) s.digit after second in
     let third = moved bytes after (place + 1 + 1) (place + 2) (omega arith) (past_byte bytes (place + 1) s.digit after second) in
-    bind_is (slot_at p prefix before place bytes) (λ slot. slots_at p prefix (length ss) (Some slot) (place + 2) bytes >>=
+    bind_is (watch_slot_at p prefix before place bytes) (λ slot. slots_at p prefix (length ss) (Some slot) (place + 2) bytes >>=
     λ slots. Ok (slot ∷ slots)) s (Ok (s ∷ ss))
     (slot_is p prefix before place bytes s level digit follow.0 follow.1)
     (bind_is (slots_at p prefix (length ss) (Some s) (place + 2) bytes) (λ slots. Ok (s ∷ slots)) ss (Ok (s ∷ ss))
@@ -62,7 +62,7 @@ record TakesOne (base prefix : ℕ) (before : Option Slot) (place : ℕ) (bytes 
   pub rises_on : is_next_digit base before s.level s.digit ≡ true
 
 slot_taken : (p : SettingsValue) (prefix : ℕ) (before : Option Slot) (place : ℕ) (bytes : List ℕ) (s : Slot)
-    → slot_at p prefix before place bytes ≡ Ok s → TakesOne p.base prefix before place bytes s
+    → watch_slot_at p prefix before place bytes ≡ Ok s → TakesOne p.base prefix before place bytes s
 slot_taken p prefix before place bytes s e =
     let level = slice_index bytes place in
     let digit = slice_index bytes (place + 1) in
@@ -90,7 +90,7 @@ slots_taken p prefix zero before place bytes ss room e =
     let same : place ≡ place + 2 * 0 = omega arith in
     subst (Takes p.base prefix 0 before place bytes) none (record { parts = ap (λ k. drop k bytes) same; many = refl; follow = tt })
 slots_taken p prefix (suc count) before place bytes ss room e =
-    let a = bind_ok (slot_at p prefix before place bytes)
+    let a = bind_ok (watch_slot_at p prefix before place bytes)
     (λ slot. slots_at p prefix count (Some slot) (place + 2) bytes >>= λ slots. Ok (slot ∷ slots)) ss e in
     let s = a.0 in
     let b = bind_ok (slots_at p prefix count (Some s) (place + 2) bytes) (λ slots. Ok (s ∷ slots)) ss a.2 in

@@ -77,8 +77,8 @@ is_next_digit base None level digit = nat_lt digit base
 is_next_digit base (Some before) level digit = nat_lt digit base && (not (level == before.level) || nat_lt before.digit digit)
 
 -- a slot has two fields, its level and its digit
-abbrev pub slot_at : SettingsValue → ℕ → Option Slot → ℕ → List ℕ → Result Slot Broken
-slot_at p prefix before place bytes =
+abbrev pub watch_slot_at : SettingsValue → ℕ → Option Slot → ℕ → List ℕ → Result Slot Broken
+watch_slot_at p prefix before place bytes =
     let level = slice_index bytes place in
     let digit = slice_index bytes (place + 1) in
     field (is_next_level prefix before level) place level >>= λ level.
@@ -88,7 +88,7 @@ slot_at p prefix before place bytes =
 unfoldable pub slots_at : SettingsValue → ℕ → ℕ → Option Slot → ℕ → List ℕ → Result (List Slot) Broken
 slots_at p prefix zero before place bytes = Ok []
 slots_at p prefix (suc count) before place bytes =
-    slot_at p prefix before place bytes >>= λ slot.
+    watch_slot_at p prefix before place bytes >>= λ slot.
     slots_at p prefix count (Some slot) (place + 2) bytes >>= λ slots.
     Ok (slot ∷ slots)
 

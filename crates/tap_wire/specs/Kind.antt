@@ -26,13 +26,14 @@ code_of Cast = 16
 code_of CastAck = 17
 
 -- the kinds in the order of their codes, from 1
-abbrev pub kinds : List Kind
-kinds = Seek ∷ Tell ∷ Hello ∷ Heard ∷ Ack ∷ Done ∷ Release ∷ Link ∷ Lay ∷ Find ∷ Answer ∷ Leave ∷ Left ∷ Gone ∷ Forget ∷ Cast ∷ CastAck ∷ []
+abbrev pub frame_kinds : List Kind
+frame_kinds =
+    Seek ∷ Tell ∷ Hello ∷ Heard ∷ Ack ∷ Done ∷ Release ∷ Link ∷ Lay ∷ Find ∷ Answer ∷ Leave ∷ Left ∷ Gone ∷ Forget ∷ Cast ∷ CastAck ∷ []
 
 -- the kind with this code
 abbrev pub kind_of_code : ℕ → Option Kind
 kind_of_code zero = None
-kind_of_code (suc before) = slice_get kinds before
+kind_of_code (suc before) = slice_get frame_kinds before
 
 -- the kind of a body
 abbrev pub kind_of : Body → Kind

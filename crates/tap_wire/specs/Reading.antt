@@ -165,11 +165,11 @@ abbrev pub WantsMemory : Result Frame WireFault → Type 0
 WantsMemory read = IsOkAnd read (λ frame. IsTrue (has_list (kind_of frame.body)))
 
 -- a reader's fault is the field that breaks its rule, or want of memory for what is read
-abbrev pub Fails : {X : Type 0} → BodyFault → Result X Broken → Type 0
-Fails faults.NoMemory read = IsOk read
-Fails (faults.Field b) read = read ≡ Err b
+abbrev pub BodyFails : {X : Type 0} → BodyFault → Result X Broken → Type 0
+BodyFails faults.NoMemory read = IsOk read
+BodyFails (faults.Field b) read = read ≡ Err b
 
 -- what a reader answered is what is read, or want of memory for it
-abbrev pub Gives : {X : Type 0} → Result X BodyFault → Result X Broken → Type 0
-Gives (Ok x) read = read ≡ Ok x
-Gives (Err e) read = Fails e read
+abbrev pub BodyGives : {X : Type 0} → Result X BodyFault → Result X Broken → Type 0
+BodyGives (Ok x) read = read ≡ Ok x
+BodyGives (Err e) read = BodyFails e read

@@ -6,9 +6,9 @@ ghost use Rattle.std.specs.Cmp.Lexicographic.{slice_cmp};
 ghost use Rattle.tap_name.specs.Name.{IsName};
 ghost use Rattle.tap_name.specs.declared.slot.Slot.{Slot};
 ghost use Rattle.tap_name.specs.declared.slot.Offered.{Offered};
-ghost use Rattle.tap_wire.specs.Fields.{slot_at, slots_at, hello_link_at, hello_links_at, word_at, is_next_level, is_next_digit, is_next_name};
+ghost use Rattle.tap_wire.specs.Fields.{watch_slot_at, slots_at, hello_link_at, hello_links_at, word_at, is_next_level, is_next_digit, is_next_name};
 ghost use Rattle.tap_wire.specs.Layout.{slot_len, link_len};
-ghost use Rattle.tap_wire.specs.Reading.{Fails, Gives};
+ghost use Rattle.tap_wire.specs.Reading.{BodyFails, BodyGives};
 
 use crate::bytes::Bytes;
 use crate::fault::{BodyFault, Broken};
@@ -39,7 +39,7 @@ fn is_next_digit(base: u8, before: Option<Slot>, level: u8, digit: u8) -> bool
 }
 
 // A slot that follows the one before.
-fn slot_at(
+fn watch_slot_at(
     settings: &Settings,
     bytes: &[u8],
     place: usize,
@@ -47,7 +47,7 @@ fn slot_at(
     before: Option<Slot>,
 ) -> Result<Slot, Broken>
     requires { place + 2 ≤ length bytes.now }
-    ensures { result ≡ slot_at settings.now prefix before place bytes.now }
+    ensures { result ≡ watch_slot_at settings.now prefix before place bytes.now }
 {
     let level = bytes[place];
     let digit = bytes[place + 1];
@@ -69,12 +69,12 @@ fn slots_fault(
     count: usize,
 ) -> BodyFault
     requires { start + SLOT_LEN * count ≤ length bytes.now }
-    ensures { Fails result (slots_at settings.now prefix count None start bytes.now) }
+    ensures { BodyFails result (slots_at settings.now prefix count None start bytes.now) }
 {
     let mut before = None;
     let mut place = start;
     for _ in 0..count {
-        match slot_at(settings, bytes, place, prefix, before) {
+        match watch_slot_at(settings, bytes, place, prefix, before) {
             Ok(slot) => before = Some(slot),
             Err(broken) => return BodyFault::Field(broken),
         }
@@ -92,7 +92,7 @@ pub(crate) fn watch_at(
     prefix: u8,
 ) -> Result<Watch, BodyFault>
     requires { start ≤ length bytes.now }
-    ensures { Gives result (slots_at settings.now prefix ((length bytes.now - start) / slot_len) None start bytes.now) }
+    ensures { BodyGives result (slots_at settings.now prefix ((length bytes.now - start) / slot_len) None start bytes.now) }
 {
     let count = (bytes.len() - start) / SLOT_LEN;
     let mut slots = match Vec::with_capacity(alloc, count) {
@@ -102,7 +102,7 @@ pub(crate) fn watch_at(
     let mut before = None;
     let mut place = start;
     for _ in 0..count {
-        let slot = slot_at(settings, bytes, place, prefix, before)?;
+        let slot = watch_slot_at(settings, bytes, place, prefix, before)?;
         slots.push_reserved(slot);
         before = Some(slot);
         place += SLOT_LEN;
@@ -187,7 +187,7 @@ fn settled_at(
 // Why links aren't read if memory was refused: the first field that breaks its rule, and else want of memory.
 fn links_fault(settings: &Settings, bytes: &[u8], start: usize, count: usize) -> BodyFault
     requires { start + link_len settings.now * count ≤ length bytes.now }
-    ensures { Fails result (hello_links_at settings.now count None start bytes.now) }
+    ensures { BodyFails result (hello_links_at settings.now count None start bytes.now) }
 {
     let size = link_len(settings);
     let mut before = None;
@@ -210,7 +210,7 @@ pub(crate) fn hello_links_at(
     start: usize,
 ) -> Result<List<Offered>, BodyFault>
     requires { start ≤ length bytes.now }
-    ensures { Gives result (hello_links_at settings.now ((length bytes.now - start) / link_len settings.now) None start bytes.now) }
+    ensures { BodyGives result (hello_links_at settings.now ((length bytes.now - start) / link_len settings.now) None start bytes.now) }
 {
     let size = link_len(settings);
     let count = (bytes.len() - start) / size;
@@ -236,7 +236,7 @@ pub(crate) fn hello_links_at(
 // The word of a Cast, from a place to the end of the bytes.
 pub(crate) fn word_at(alloc: Global, bytes: &[u8], start: usize) -> Result<Bytes, BodyFault>
     requires { start ≤ length bytes.now }
-    ensures { Gives result (word_at start bytes.now) }
+    ensures { BodyGives result (word_at start bytes.now) }
 {
     let word = &bytes[start..];
     if !are_word_bytes(word) {

@@ -1,7 +1,7 @@
 ghost use Rattle.std.specs.Prelude.{◌≡◌, ◌+◌, ◌*◌, ◌-◌, ◌≤◌, ◌<◌, length, IsTrue, Err};
 ghost use Rattle.tap_wire.specs.Kind.{has_list};
 ghost use Rattle.tap_wire.specs.Layout.{is_length};
-ghost use Rattle.tap_wire.specs.Reading.{Gives, prefix_at, level_above_at, seek_at, tell_at, hello_at, link_body_at, lay_at, find_at, answer_at, leave_at, cast_at, body_at};
+ghost use Rattle.tap_wire.specs.Reading.{BodyGives, prefix_at, level_above_at, seek_at, tell_at, hello_at, link_body_at, lay_at, find_at, answer_at, leave_at, cast_at, body_at};
 
 use crate::fault::{BodyFault, Broken};
 use crate::fields::{flag_at, level_at, name_at, optional_at, session_at, u16_at, u32_at};
@@ -54,7 +54,7 @@ fn tell_at(
     start: usize,
 ) -> Result<Body, BodyFault>
     requires { start + settings.now.digits + 8 ≤ length bytes.now }
-    ensures { Gives result (tell_at settings.now start bytes.now) }
+    ensures { BodyGives result (tell_at settings.now start bytes.now) }
 {
     let at = start + settings.digits() as usize;
     let joiner = name_at(settings, bytes, start)?;
@@ -81,7 +81,7 @@ fn hello_at(
     start: usize,
 ) -> Result<Body, BodyFault>
     requires { start + 5 ≤ length bytes.now }
-    ensures { Gives result (hello_at settings.now start bytes.now) }
+    ensures { BodyGives result (hello_at settings.now start bytes.now) }
 {
     let session = session_at(bytes, start)?;
     let core = flag_at(bytes, start + 4)?;
@@ -168,7 +168,7 @@ fn cast_at(
     start: usize,
 ) -> Result<Body, BodyFault>
     requires { start + 11 ≤ length bytes.now }
-    ensures { Gives result (cast_at settings.now start bytes.now) }
+    ensures { BodyGives result (cast_at settings.now start bytes.now) }
 {
     let cast = u32_at(bytes, start);
     let level = level_at(settings, bytes, start + 4)?;
@@ -194,7 +194,7 @@ pub(crate) fn body_at(
 ) -> Result<Body, BodyFault>
     requires within { start ≤ length bytes.now }
     requires long { IsTrue (is_length settings.now kind (length bytes.now - start)) }
-    ensures value { Gives result (body_at settings.now kind start bytes.now) }
+    ensures value { BodyGives result (body_at settings.now kind start bytes.now) }
     ensures memory { result ≡ Err BodyFault.NoMemory → IsTrue (has_list kind) }
 {
     Ok(match kind {

@@ -4,7 +4,7 @@ use Rattle.tap_report.specs.Summary.{ending, numbers_of}
 use Rattle.tap_report.specs.Tally.{tally_after}
 use Rattle.tap_report.specs.Text.{ArePrintable, settings_after, settings_so_far, texts_after}
 use Rattle.tap_report.proofs.WritesLemmas.{◌⨾◌, WritesText-none, WritesText-then}
-use Rattle.tap_report.proofs.TallyLemmas.{tally_of-push, IsWithin-after}
+use Rattle.tap_report.proofs.TallyLemmas.{CountsWithin-after, tally_of-push}
 use Rattle.tap_report.proofs.TextLemmas.{ArePrintable-at, settings_so_far-push, take_next, texts_after-push}
 use Rattle.tap_report.proofs.reporter.write_log.Goals as goal
 
@@ -35,7 +35,7 @@ loop-item-preserved g c =
       text = rw (texts_after-push c.args.mode None first item) (was.text ⨾ rw was.settings at c.add_record.ensures);
       settings = ap (λ s. settings_after s item) was.settings ∙ sym (settings_so_far-push first item);
       tally = ap (λ t. tally_after t item) was.tally ∙ sym (tally_of-push first item);
-      within = IsWithin-after i c.loop-item.tally item was.within;
+      within = CountsWithin-after i c.loop-item.tally item was.within;
     })
 
 pub returns : goal.returns

@@ -24,7 +24,7 @@ loop-preserved c =
         front ++ c.in-Ok.slot ∷ [],
         slots_go_on p c.args.prefix c.args.count c.loop.counter c.loop.before c.loop.place c.args.bytes.now
             front c.in-Ok.slot (slots_at p c.args.prefix c.args.count None c.args.start c.args.bytes.now) c.loop-test.true
-            (sym c.slot_at.ensures ∙ c.in-Ok.is) c.loop.invariant.reads.1,
+            (sym c.watch_slot_at.ensures ∙ c.in-Ok.is) c.loop.invariant.reads.1,
       );
       at = omega (arith, c.loop.invariant.at);
     }
@@ -34,7 +34,7 @@ returns-in-Err c =
     let p = c.args.settings.now in
     slots_end p c.args.prefix c.args.count c.loop.counter c.loop.before c.loop.place c.args.bytes.now c.loop.invariant.reads.0
     c.in-Err.broken
-    (slots_at p c.args.prefix c.args.count None c.args.start c.args.bytes.now) c.loop-test.true (sym c.slot_at.ensures ∙ c.in-Err.is)
+    (slots_at p c.args.prefix c.args.count None c.args.start c.args.bytes.now) c.loop-test.true (sym c.watch_slot_at.ensures ∙ c.in-Err.is)
     c.loop.invariant.reads.1
 
 pub returns : goal.returns
