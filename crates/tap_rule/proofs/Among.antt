@@ -3,7 +3,7 @@ use Rattle.std.proofs.Common.{◌≡◌, ◌⊎◌, List, [], ◌∷◌, ◌++�
 use Rattle.std.specs.Ordering.{is_gt}
 use Rattle.tap_name.specs.Order.{name_cmp}
 use Rattle.tap_table.specs.declared.tie.Tie.{Tie}
-use Rattle.tap_rule.specs.Sending.{by_receiver, inserted}
+use Rattle.tap_rule.specs.Sending.{by_receiver, inserted_by_receiver}
 use Rattle.tap_rule.specs.Sent.{IsAmong}
 
 module _ {A : Type 0} where
@@ -52,17 +52,17 @@ step_out x word first others rest true later (inr among) =
 step_out x word first others rest false later among = among
 
 -- a word that is inserted is among the words then, and so are the others, and no more
-pub among-inserted : (x word : Tie) (words : List Tie) → (x ≡ word) ⊎ IsAmong x words → IsAmong x (inserted word words)
-unfolding inserted
+pub among-inserted : (x word : Tie) (words : List Tie) → (x ≡ word) ⊎ IsAmong x words → IsAmong x (inserted_by_receiver word words)
+unfolding inserted_by_receiver
 among-inserted x word [] among = among
 among-inserted x word (first ∷ others) among =
-    step_in x word first others (inserted word others) (is_gt (name_cmp word.to first.to)) (among-inserted x word others) among
+    step_in x word first others (inserted_by_receiver word others) (is_gt (name_cmp word.to first.to)) (among-inserted x word others) among
 
-pub among-inserted_from : (x word : Tie) (words : List Tie) → IsAmong x (inserted word words) → (x ≡ word) ⊎ IsAmong x words
-unfolding inserted
+pub among-inserted_from : (x word : Tie) (words : List Tie) → IsAmong x (inserted_by_receiver word words) → (x ≡ word) ⊎ IsAmong x words
+unfolding inserted_by_receiver
 among-inserted_from x word [] among = among
 among-inserted_from x word (first ∷ others) among =
-    step_out x word first others (inserted word others) (is_gt (name_cmp word.to first.to)) (among-inserted_from x word others) among
+    step_out x word first others (inserted_by_receiver word others) (is_gt (name_cmp word.to first.to)) (among-inserted_from x word others) among
 
 -- the words in order are the words
 pub among-by_receiver : (x : Tie) (words : List Tie) → IsAmong x words → IsAmong x (by_receiver words)

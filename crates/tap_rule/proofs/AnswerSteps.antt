@@ -7,7 +7,7 @@ use Rattle.tap_session.specs.Session.{SessionsValue}
 use Rattle.tap_session.specs.Sessions.{AreSessions, answer_to, session_of, with_answer}
 use Rattle.tap_session.proofs.Transitions.{answered-unknown, session_of-answered}
 use Rattle.tap_wire.specs.declared.frame.Body.TheVariants.{Heard, Ack}
-use Rattle.tap_rule.specs.Node.{NodeState, session_at}
+use Rattle.tap_rule.specs.Node.{NodeState, join_session_at}
 use Rattle.tap_rule.specs.Event.{Acted}
 use Rattle.tap_rule.specs.Answers.{answer_for, answer_sends, answered}
 use Rattle.tap_rule.specs.FrameRules.{frame_at_ceased, frame_at_core, frame_at_joining}
@@ -28,11 +28,11 @@ other_number n above = elim (eqb_tells n 1) [ inl both ↦ absurd (omega (arith,
 module _ (node : NodeState) (session : ℕ) (acted : Acted) (are : AreSessions node.sessions) where
   answered_step : IsCarriedOut node (answered node session) acted → AnswerStep node session acted
   answered_step carried =
-      let look : (number : ℕ) → session_at acted.state number
-      ≡ (if session == number then option_and_then with_answer (session_at node session) else session_at node number) =
+      let look : (number : ℕ) → join_session_at acted.state number
+      ≡ (if session == number then option_and_then with_answer (join_session_at node session) else join_session_at node number) =
       λ number. ap (λ (s : SessionsValue). session_of s.sessions number) carried.sessions
       ∙ session_of-answered node.sessions are session number in
-      let own : session_at acted.state session ≡ option_and_then with_answer (session_at node session) =
+      let own : join_session_at acted.state session ≡ option_and_then with_answer (join_session_at node session) =
       look session ∙ rw (same_number session) refl in
       record {
         joins = record { status = carried.status; covers = carried.covers; greeted = carried.greeted; abandoned = carried.abandoned };
@@ -46,7 +46,7 @@ module _ (node : NodeState) (session : ℕ) (acted : Acted) (are : AreSessions n
         goes_on = λ s is more. own ∙ rw (is, other_number s.waiting more) refl;
         closes = λ s is last. (
           own ∙ rw (is, last) refl,
-          let among : IsAmong (answer_for s.parent) (answer_sends (answer_to (session_at node session))) = rw (is, last) (inl refl) in
+          let among : IsAmong (answer_for s.parent) (answer_sends (answer_to (join_session_at node session))) = rw (is, last) (inl refl) in
               parent_told node s.parent acted.sent (carried.sent.named (answer_for s.parent) among),
         );
         sent = carried.sent;

@@ -27,8 +27,8 @@ use Rattle.tap_rule.specs.Node.{NodeState, level_of, link_to, name_of, settings_
 use Rattle.tap_rule.specs.Event.{Acted}
 use Rattle.tap_rule.specs.Reaction.{Message, message, pin_word, sends, with_pin, with_words}
 use Rattle.tap_rule.specs.Answers.{answer_for, with_session}
-use Rattle.tap_rule.specs.Covering.{Request, answers_awaited, covers_as, first_request, greeting, pins_and_covers, request_of, seeks, seeks_as, tell_for, told, with_level}
-use Rattle.tap_rule.specs.Strange.{is_leaving, is_no_pin, is_own, is_strange, is_strange_body, is_strange_seek, is_too_many, names_to_link}
+use Rattle.tap_rule.specs.Covering.{Request, answers_awaited, covers_as, first_request, greeting, pins_and_covers, request_of, seeks, seeks_as, takes_tell, tell_for, with_level}
+use Rattle.tap_rule.specs.Strange.{is_leaving, is_no_pin, is_own_name, is_strange, is_strange_body, is_strange_seek, is_too_many, names_to_link}
 use Rattle.tap_rule.specs.FrameRules.{frame_at_core}
 use Rattle.tap_rule.specs.Sending.{link_frame}
 use Rattle.tap_rule.specs.Sent.{IsAmong}
@@ -144,7 +144,7 @@ pub tell_law : TellLaw
 unfolding frame_at_core
 tell_law node from tell watch ties is_name at taken =
     cover_step node (request_of from tell watch) _ ties is_name (tell_fits node from tell watch taken)
-    (frame_law node (frame_to node from (tell_of tell watch)) (told node from tell watch) taken (rw at refl))
+    (frame_law node (frame_to node from (tell_of tell watch)) (takes_tell node from tell watch) taken (rw at refl))
 
 -- a slot without a primary has no settled link
 no_settled : (links : SlotLinks) (target : List ℕ) → least_settled links ≡ None → kind_of name_cmp links target ≡ Some Settled → ⊥
@@ -181,11 +181,11 @@ pub seek_fits : (node : NodeState) (from joiner : List ℕ) (prefix : ℕ) → i
 unfolding is_strange_body
 seek_fits node from joiner prefix taken is =
     let many = is_too_many node (names_to_link from (Seek joiner)) in
-    let body = or_parts (is_own node from) (is_strange_seek node joiner)
-    (or_parts (is_own node from || is_strange_seek node joiner) many taken).0 in
+    let body = or_parts (is_own_name node from) (is_strange_seek node joiner)
+    (or_parts (is_own_name node from || is_strange_seek node joiner) many taken).0 in
     let covered_before = is_some (level_of node joiner) in
-    let parts = or_parts (is_own node joiner || covered_before) (is_leaving (link_to node joiner)) body.1 in
-    let own = or_parts (is_own node joiner) covered_before parts.0 in
+    let parts = or_parts (is_own_name node joiner || covered_before) (is_leaving (link_to node joiner)) body.1 in
+    let own = or_parts (is_own_name node joiner) covered_before parts.0 in
     let none = no_primary (least_settled (links_near node.ties.table joiner)) (lcp (name_of node) joiner) prefix is in
     record {
       apart = λ same. true≢false (sym ((bytes_eq-Decides joiner (name_of node)).1 same) ∙ own.0);

@@ -19,7 +19,7 @@ use Rattle.tap_wire.specs.declared.frame.Body.TheVariants.{Hello, Ack, Done}
 use Rattle.tap_rule.specs.Node.{NodeState, link_to, name_of, settings_of}
 use Rattle.tap_rule.specs.Event.{Acted}
 use Rattle.tap_rule.specs.Reaction.{message, pin_word, sends, with_pin, with_words}
-use Rattle.tap_rule.specs.Strange.{is_no_pin, is_own, is_strange, is_strange_body, is_strange_tell, is_too_many, most_depth, names_to_link}
+use Rattle.tap_rule.specs.Strange.{is_no_pin, is_own_name, is_strange, is_strange_body, is_strange_tell, is_too_many, most_depth, names_to_link}
 use Rattle.tap_rule.specs.FrameRules.{frame_at_joining}
 use Rattle.tap_rule.specs.Joining.{becomes_core, meets, takes_hello, welcomes}
 use Rattle.tap_rule.specs.Sending.{link_frame}
@@ -63,12 +63,12 @@ pub tell_fits : (node : NodeState) (from : List ℕ) (tell : TellFields) (watch 
 unfolding is_strange_body
 tell_fits node from tell watch taken =
     let many = is_too_many node (names_to_link from (tell_of tell watch)) in
-    let body = or_parts (is_own node from) (is_strange_tell node tell.joiner tell.prefix tell.depth)
-    (or_parts (is_own node from || is_strange_tell node tell.joiner tell.prefix tell.depth) many taken).0 in
+    let body = or_parts (is_own_name node from) (is_strange_tell node tell.joiner tell.prefix tell.depth)
+    (or_parts (is_own_name node from || is_strange_tell node tell.joiner tell.prefix tell.depth) many taken).0 in
     let deep = tell.depth == most_depth in
     let long = nat_lt (lcp (name_of node) tell.joiner) tell.prefix in
     let linked = is_no_pin (link_to node tell.joiner) in
-    let own = is_own node tell.joiner in
+    let own = is_own_name node tell.joiner in
     let first = or_parts (own || linked || long) deep body.1 in
     let second = or_parts (own || linked) long first.0 in
     let third = or_parts own linked second.0 in

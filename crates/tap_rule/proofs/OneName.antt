@@ -15,7 +15,7 @@ use Rattle.tap_rule.specs.Answers.{answer_for}
 use Rattle.tap_rule.specs.Sending.{message_frame}
 use Rattle.tap_rule.specs.Sent.{IsAmong}
 use Rattle.tap_rule.specs.Steps.{IsParentTold}
-use Rattle.tap_rule.specs.Strange.{is_own, is_strange}
+use Rattle.tap_rule.specs.Strange.{is_own_name, is_strange}
 
 -- a name is the rule's own, or nothing changes
 pub others_stay : (from name : List ℕ) (rule : Option Kind → Option Kind) (now was : Option Kind) → now ≡ by_rule from name rule was
@@ -34,6 +34,6 @@ parent_told node (Node name session) sent among = among
 -- a frame that isn't strange is from another node
 pub not_own : (node : NodeState) (frame : Frame) → is_strange node frame ≡ false → frame.from ≢ name_of node
 not_own node frame taken is =
-    let own : is_own node frame.from ≡ true = (bytes_eq-Decides frame.from (name_of node)).1 is in
+    let own : is_own_name node frame.from ≡ true = (bytes_eq-Decides frame.from (name_of node)).1 is in
     let strange : is_strange node frame ≡ true = rw own refl in
     true≢false (sym strange ∙ taken)

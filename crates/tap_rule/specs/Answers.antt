@@ -8,7 +8,7 @@ use Rattle.tap_session.specs.declared.sessions.Answered.{Answered}
 use Rattle.tap_session.specs.declared.sessions.Answered.TheVariants.{Open, Closed, Unknown}
 use Rattle.tap_session.specs.Sessions.{answer_to, answered_at, opened_with}
 use Rattle.tap_wire.specs.declared.frame.Body.TheVariants.{Ack, Done}
-use Rattle.tap_rule.specs.Node.{NodeState, session_at}
+use Rattle.tap_rule.specs.Node.{NodeState, join_session_at}
 use Rattle.tap_rule.specs.Reaction.{Message, Reaction, message, sends}
 
 -- what the parent of a session is sent once this has closed: an Ack, and at the root the joiner its Done
@@ -26,7 +26,7 @@ answer_sends Unknown = []
 abbrev pub answered : NodeState → ℕ → Reaction
 answered node session =
     sends (record node { sessions = answered_at node.sessions session })
-    (answer_sends (answer_to (session_at node session)))
+    (answer_sends (answer_to (join_session_at node session)))
 
 -- the number of the session that is opened next, and the node once it is open
 abbrev pub next_number : NodeState → ℕ

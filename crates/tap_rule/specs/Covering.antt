@@ -105,5 +105,5 @@ abbrev pub seeks : NodeState → List ℕ → Reaction
 seeks node joiner = seeks_as node joiner (sought node.ties.table joiner)
 
 -- Tell, at a core node
-abbrev pub told : NodeState → List ℕ → TellFields → List Slot → Reaction
-told node from tell watch = pins_and_covers node (request_of from tell watch)
+abbrev pub takes_tell : NodeState → List ℕ → TellFields → List Slot → Reaction
+takes_tell node from tell watch = pins_and_covers node (request_of from tell watch)

@@ -10,7 +10,7 @@ use Rattle.tap_rule.specs.Node.Status.{Joining, Core, Leaving, Gone as GoneStatu
 use Rattle.tap_rule.specs.Reaction.{Reaction}
 use Rattle.tap_rule.specs.Answers.{answered}
 use Rattle.tap_rule.specs.Links.{forgets, hears, hears_and_releases, releases}
-use Rattle.tap_rule.specs.Covering.{seeks, told}
+use Rattle.tap_rule.specs.Covering.{seeks, takes_tell}
 use Rattle.tap_rule.specs.Joining.{meets, takes_hello}
 use Rattle.tap_rule.specs.Ceasing.{acknowledges, is_done, is_forgotten}
 use Rattle.tap_rule.specs.Pointers.{finds, is_answered, takes_lay}
@@ -35,7 +35,7 @@ frame_at_joining node from _ = None
 unfoldable pub frame_at_core : NodeState → List ℕ → Body → Option Reaction
 frame_at_core node from (Seek joiner) = Some (seeks node joiner)
 frame_at_core node from (Tell joiner prefix level session depth watch) =
-    Some (told node from (record { joiner = joiner; prefix = prefix; level = level; session = session; depth = depth }) watch)
+    Some (takes_tell node from (record { joiner = joiner; prefix = prefix; level = level; session = session; depth = depth }) watch)
 frame_at_core node from (Heard session) = Some (answered node session)
 frame_at_core node from (Ack session) = Some (answered node session)
 frame_at_core node from Release = Some (releases node from)

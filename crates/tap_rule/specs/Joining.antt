@@ -21,13 +21,13 @@ abbrev pub starts_join : NodeState → List ℕ → Reaction
 starts_join node via = sends node (message via (Seek (name_of node)) ∷ [])
 
 -- the node with the joiner greeted
-abbrev pub with_greeted : NodeState → List ℕ → NodeState
-with_greeted node joiner = record node { greeted = node.greeted ++ joiner ∷ [] }
+abbrev pub with_greeting : NodeState → List ℕ → NodeState
+with_greeting node joiner = record node { greeted = node.greeted ++ joiner ∷ [] }
 
 -- the joiner of a Tell is greeted, in a session that waits for its answer alone
 abbrev pub welcomes : NodeState → List ℕ → TellFields → Reaction
 welcomes node from tell =
-    sends (with_session (with_greeted node tell.joiner) (Node from tell.session) tell.depth 1)
+    sends (with_session (with_greeting node tell.joiner) (Node from tell.session) tell.depth 1)
     (message tell.joiner (Hello (next_number node) false []) ∷ [])
 
 -- it is greeted once; after that the Tell is answered

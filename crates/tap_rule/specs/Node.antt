@@ -67,8 +67,8 @@ level_of node joiner = level_kept node.covers joiner
 abbrev pub word_of : NodeState → List ℕ → Option (Entry (List ℕ) Bool)
 word_of node holder = entry_of name_cmp node.ties.holders holder
 
-abbrev pub session_at : NodeState → ℕ → Option Session
-session_at node number = session_of node.sessions.sessions number
+abbrev pub join_session_at : NodeState → ℕ → Option Session
+join_session_at node number = session_of node.sessions.sessions number
 
 -- no session was opened
 abbrev pub no_sessions : SessionsValue

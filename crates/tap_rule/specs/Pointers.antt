@@ -15,8 +15,8 @@ use Rattle.tap_rule.specs.Event.News.{Answered}
 use Rattle.tap_rule.specs.Reaction.{Reaction, message, sends, stays, with_news}
 
 -- a core node publishes an object, and withdraws it
-abbrev pub publishes : NodeState → List ℕ → Reaction
-publishes node object = stays (record node { pointers = published node.pointers object })
+abbrev pub starts_publishing : NodeState → List ℕ → Reaction
+starts_publishing node object = stays (record node { pointers = published node.pointers object })
 
 abbrev pub withdraws : NodeState → List ℕ → Reaction
 withdraws node object = stays (record node { pointers = withdrawn node.pointers object })

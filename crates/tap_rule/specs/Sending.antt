@@ -11,15 +11,15 @@ use Rattle.tap_wire.specs.declared.frame.Body.TheVariants.{Link, Lay}
 use Rattle.tap_rule.specs.Reaction.{Message, Reaction}
 
 -- one more word, before the first whose receiver isn't below its own
-unfoldable pub inserted : Tie → List Tie → List Tie
-inserted word [] = word ∷ []
-inserted word (first ∷ others) =
-    if is_gt (name_cmp word.to first.to) then first ∷ inserted word others else word ∷ first ∷ others
+unfoldable pub inserted_by_receiver : Tie → List Tie → List Tie
+inserted_by_receiver word [] = word ∷ []
+inserted_by_receiver word (first ∷ others) =
+    if is_gt (name_cmp word.to first.to) then first ∷ inserted_by_receiver word others else word ∷ first ∷ others
 
 -- these words, ascending by receiver
 unfoldable pub by_receiver : List Tie → List Tie
 by_receiver [] = []
-by_receiver (word ∷ words) = inserted word (by_receiver words)
+by_receiver (word ∷ words) = inserted_by_receiver word (by_receiver words)
 
 -- the frame of a word, of a message and of a Lay
 abbrev pub link_frame : List ℕ → Tie → Frame

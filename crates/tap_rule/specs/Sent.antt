@@ -7,7 +7,7 @@ use Rattle.tap_rule.specs.Reaction.{Message}
 use Rattle.tap_rule.specs.Sending.{lay_frame, link_frame, message_frame}
 
 module _ {A : Type 0} where
-  -- this is one of these
+  -- this is one of these; of names, what `Among` of `tap_name` says
   abbrev pub IsAmong : A → List A → Type 0
   IsAmong x [] = ⊥
   IsAmong x (y ∷ ys) = (x ≡ y) ⊎ IsAmong x ys

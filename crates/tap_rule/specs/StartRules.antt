@@ -9,7 +9,7 @@ use Rattle.tap_rule.specs.Event.Start.{Join, Abandon, Publish, Withdraw, Find, L
 use Rattle.tap_rule.specs.Reaction.{Reaction}
 use Rattle.tap_rule.specs.Joining.{starts_join}
 use Rattle.tap_rule.specs.Ceasing.{gives_up}
-use Rattle.tap_rule.specs.Pointers.{asks, publishes, withdraws}
+use Rattle.tap_rule.specs.Pointers.{asks, starts_publishing, withdraws}
 use Rattle.tap_rule.specs.Leaving.{leaves}
 use Rattle.tap_rule.specs.Casts.{starts_cast}
 
@@ -21,7 +21,7 @@ start_at_joining node _ = None
 
 -- a start at a core node
 abbrev pub start_at_core : NodeState → Start → Option Reaction
-start_at_core node (Publish object) = Some (publishes node object)
+start_at_core node (Publish object) = Some (starts_publishing node object)
 start_at_core node (Withdraw object) = Some (withdraws node object)
 start_at_core node (Find ticket object) = Some (asks node ticket object)
 start_at_core node Leave = Some (leaves node)

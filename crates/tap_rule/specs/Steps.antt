@@ -11,7 +11,7 @@ use Rattle.tap_table.specs.Table.{has_room_near}
 use Rattle.tap_join.specs.Hello.{words_of}
 use Rattle.tap_wire.specs.declared.frame.Frame.{Frame}
 use Rattle.tap_wire.specs.declared.frame.Body.TheVariants.{Ack, Done, Release}
-use Rattle.tap_rule.specs.Node.{NodeState, link_to, name_of, session_at, word_of}
+use Rattle.tap_rule.specs.Node.{NodeState, link_to, name_of, join_session_at, word_of}
 use Rattle.tap_rule.specs.Node.Status.{Joining, Core, Leaving}
 use Rattle.tap_rule.specs.Event.{Acted}
 use Rattle.tap_rule.specs.Reaction.{message}
@@ -72,10 +72,10 @@ pub record AnswerStep (node : NodeState) (session : ℕ) (acted : Acted) : Type 
   pub joins : JoinsAlike node acted.state
   pub ties : acted.state.ties ≡ node.ties
   pub opened : acted.state.sessions.opened ≡ node.sessions.opened
-  pub others : (number : ℕ) → (number ≡ session) ⊎ (session_at acted.state number ≡ session_at node number)
-  pub unknown : session_at node session ≡ None → acted.state.sessions ≡ node.sessions
-  pub goes_on : (s : Session) → session_at node session ≡ Some s → 1 < s.waiting
-      → session_at acted.state session ≡ Some (record s { waiting = s.waiting - 1 })
-  pub closes : (s : Session) → session_at node session ≡ Some s → s.waiting ≡ 1
-      → (session_at acted.state session ≡ None) × IsParentTold node s.parent acted.sent
-  pub sent : AreSent (name_of node) [] (answer_sends (answer_to (session_at node session))) acted.sent
+  pub others : (number : ℕ) → (number ≡ session) ⊎ (join_session_at acted.state number ≡ join_session_at node number)
+  pub unknown : join_session_at node session ≡ None → acted.state.sessions ≡ node.sessions
+  pub goes_on : (s : Session) → join_session_at node session ≡ Some s → 1 < s.waiting
+      → join_session_at acted.state session ≡ Some (record s { waiting = s.waiting - 1 })
+  pub closes : (s : Session) → join_session_at node session ≡ Some s → s.waiting ≡ 1
+      → (join_session_at acted.state session ≡ None) × IsParentTold node s.parent acted.sent
+  pub sent : AreSent (name_of node) [] (answer_sends (answer_to (join_session_at node session))) acted.sent

@@ -16,8 +16,8 @@ use Rattle.tap_rule.specs.Node.{NodeState, level_of, name_of}
 pub use Rattle.tap_rule.specs.Node.{link_to}
 
 -- the name is the node's own
-abbrev pub is_own : NodeState → List ℕ → Bool
-is_own node name = pointwise nat_eq name (name_of node)
+abbrev pub is_own_name : NodeState → List ℕ → Bool
+is_own_name node name = pointwise nat_eq name (name_of node)
 
 -- a link that is leaving, and one that is no pin
 abbrev pub is_leaving : Option Kind → Bool
@@ -39,13 +39,13 @@ most_depth = 65535
 -- a Seek is strange of the node itself, of a joiner that it covers, and of one that it links to as leaving
 abbrev pub is_strange_seek : NodeState → List ℕ → Bool
 is_strange_seek node joiner =
-    is_own node joiner || is_some (level_of node joiner) || is_leaving (link_to node joiner)
+    is_own_name node joiner || is_some (level_of node joiner) || is_leaving (link_to node joiner)
 
 -- a Tell is strange of the node itself, of a joiner that it links to otherwise than by a pin, with a prefix above what the two
 -- share, and at the greatest depth
 abbrev pub is_strange_tell : NodeState → List ℕ → ℕ → ℕ → Bool
 is_strange_tell node joiner prefix depth =
-    is_own node joiner || is_no_pin (link_to node joiner) || nat_lt (lcp (name_of node) joiner) prefix || depth == most_depth
+    is_own_name node joiner || is_no_pin (link_to node joiner) || nat_lt (lcp (name_of node) joiner) prefix || depth == most_depth
 
 -- by what it says
 unfoldable pub is_strange_body : NodeState → Body → Bool
@@ -73,15 +73,15 @@ with_names names [] = names
 with_names names (name ∷ others) = with_names (if has_name names name then names else name ∷ names) others
 
 -- how many links a node may have
-abbrev pub most_links : ℕ
-most_links = 255
+abbrev pub most_links_kept : ℕ
+most_links_kept = 255
 
 -- the node's links and the names that a frame could link are, its own name left out, more than these
 abbrev pub is_too_many : NodeState → List (List ℕ) → Bool
 is_too_many node names =
-    nat_lt most_links (length (names_but (with_names (targets_by_name node.ties.table) names) (name_of node)))
+    nat_lt most_links_kept (length (names_but (with_names (targets_by_name node.ties.table) names) (name_of node)))
 
 -- a frame is strange by its sender, by what it says, or by the names that it could link
 abbrev pub is_strange : NodeState → Frame → Bool
 is_strange node frame =
-    is_own node frame.from || is_strange_body node frame.body || is_too_many node (names_to_link frame.from frame.body)
+    is_own_name node frame.from || is_strange_body node frame.body || is_too_many node (names_to_link frame.from frame.body)
