@@ -4,9 +4,9 @@ use Rattle.tap_wire.specs.declared.frame.Frame.{Frame}
 use Rattle.tap_safety.specs.Remembered.{OpenSession}
 use Rattle.tap_safety.specs.Remembered.Token.{Way, Child}
 use Rattle.tap_safety.specs.System.{System, AmongFrames}
-use Rattle.tap_safety.specs.Sessions.{AmongTokens, AreSessions, AwaitsLast, Belongs, IsOpen, IsRootless}
+use Rattle.tap_safety.specs.Sessions.{AmongTokens, AreExact, AwaitsLast, Belongs, IsOpen, IsRootless}
 
-module _ (s : System) (b : List ℕ) (sound : AreSessions s) (rootless : IsRootless s b) where
+module _ (s : System) (b : List ℕ) (sound : AreExact s) (rootless : IsRootless s b) where
   -- there is no session of b at any depth
   none_at : (depth : ℕ) (y : List ℕ) (l : ℕ) (o : OpenSession) → IsOpen s y l o → o.joiner ≡ b → o.depth ≡ depth
       → (parent : Option (List ℕ × ℕ)) → o.parent ≡ parent → ⊥
@@ -21,7 +21,7 @@ module _ (s : System) (b : List ℕ) (sound : AreSessions s) (rootless : IsRootl
   pub no_session : (y : List ℕ) (l : ℕ) (o : OpenSession) → IsOpen s y l o → o.joiner ≡ b → ⊥
   no_session y l o is joiner = none_at o.depth y l o is joiner refl o.parent refl
 
-module _ (s : System) (x : List ℕ) (k number : ℕ) (sound : AreSessions s) (last : AwaitsLast s x k number) where
+module _ (s : System) (x : List ℕ) (k number : ℕ) (sound : AreExact s) (last : AwaitsLast s x k number) where
   -- the root is the only session of its joiner, at any depth
   only_at : (depth : ℕ) (y : List ℕ) (l : ℕ) (o : OpenSession) → IsOpen s y l o → o.joiner ≡ last.root.joiner → o.depth ≡ depth
       → (parent : Option (List ℕ × ℕ)) → o.parent ≡ parent → (y ≡ x) × (l ≡ k)

@@ -13,7 +13,7 @@ use Rattle.tap_wire.specs.declared.frame.TellFields.{TellFields}
 use Rattle.tap_rule.specs.Node.Status.{Core, Leaving, Joining}
 use Rattle.tap_rule.specs.Node.{link_to}
 use Rattle.tap_safety.specs.Frames.{hello_body, tell_body}
-use Rattle.tap_safety.specs.System.{System, IsCore, IsJoiner, HasLink, Covers, IsTold}
+use Rattle.tap_safety.specs.System.{System, IsCoreNode, IsJoiner, HasLink, Covers, IsTold}
 use Rattle.tap_safety.specs.Words.{IsGiven, IsReached, HaveMet, IsServed}
 use Rattle.tap_safety.specs.Parts.{IsClaim, Cover, HasNear}
 use Rattle.tap_safety.specs.TellStep.{Tells, IsNewlyCovered, TakesTell, BeforeTell, IsTellOf}
@@ -24,7 +24,7 @@ use Rattle.tap_safety.proofs.TellKeeps.{adds_none, keeps, node_before, takes_one
 use Rattle.tap_safety.proofs.Told.{sent_under_way}
 
 -- no core node is joining
-pub core_or_joiner : (s : System) (x : List ℕ) → IsCore s x → IsJoiner s x → ⊥
+pub core_or_joiner : (s : System) (x : List ℕ) → IsCoreNode s x → IsJoiner s x → ⊥
 core_or_joiner s x core joiner =
     let one = core.is in
     let two = joiner.is in
@@ -36,7 +36,7 @@ core_or_joiner s x core joiner =
     ]
 
 -- a Tell to a core node of the slot of e serves e
-pub serves_near : (s : System) (x b e t : List ℕ) (level : ℕ) → IsTold s b t level → IsCore s t → level ≡ lcp x t + 1
+pub serves_near : (s : System) (x b e t : List ℕ) (level : ℕ) → IsTold s b t level → IsCoreNode s t → level ≡ lcp x t + 1
     → lcp x e < lcp e t → IsReached s b e (lcp x e)
 serves_near s x b e t level told core is near =
     let sides = lcp-triangle x e t in
@@ -82,7 +82,7 @@ module _ (s s' : System) (number : ℕ) (w x : List ℕ) (tell : TellFields) (wa
     kept = keeps s s' number w x tell watch step
 
     -- a core node of a level that the cover newly reaches is told of, or will be
-    newly : (e : List ℕ) → IsCore s e → lcp x e < p.digits → IsNewlyCovered step.before x tell.joiner tell.level e
+    newly : (e : List ℕ) → IsCoreNode s e → lcp x e < p.digits → IsNewlyCovered step.before x tell.joiner tell.level e
         → IsReached s' tell.joiner e (lcp x e)
     newly e core apart new =
         let filled = before.hole_free.filled x e is.core core apart in
@@ -114,7 +114,7 @@ module _ (s s' : System) (number : ℕ) (w x : List ℕ) (tell : TellFields) (wa
             let settled : link_to step.before filled.to ≡ Some Settled = rw (← same, ← kind) filled.link.link in
             let first = step.covers.primaries filled.to settled reaches in
             let primary = first.primary in
-            let core : IsCore s primary =
+            let core : IsCoreNode s primary =
             before.settled.settled x primary (record { state = step.before; is = step.at.was; link = first.settled }) in
             let one = filled.near in
             let two = first.near in
@@ -126,7 +126,7 @@ module _ (s s' : System) (number : ℕ) (w x : List ℕ) (tell : TellFields) (wa
             absurd (before.unmarked x filled.to link)
 
     -- each core node that the new level reaches was served, or is now
-    own : (e : List ℕ) → IsCore s e → lcp x e < p.digits → tell.level ≤ lcp x e → StaysJoiner s s' tell.joiner
+    own : (e : List ℕ) → IsCoreNode s e → lcp x e < p.digits → tell.level ≤ lcp x e → StaysJoiner s s' tell.joiner
         → (old : Option ℕ) → level_kept step.before.covers tell.joiner ≡ old → IsServed s' tell.joiner e (lcp x e)
     own e core apart reach joiner None old =
         inr (newly e core apart (record { from = reach; to = λ kept_at at. cc }))

@@ -4,22 +4,23 @@ use Rattle.std.proofs.lemmas.Bool.{cases_lt}
 use Rattle.tap_name.specs.Settings.{SettingsValue}
 use Rattle.tap_name.specs.Name.{IsName}
 use Rattle.tap_name.specs.Prefix.{lcp}
-use Rattle.tap_safety.specs.System.{System, IsCore, Covers}
+use Rattle.tap_safety.specs.System.{System, IsCoreNode, Covers}
 use Rattle.tap_safety.specs.Words.{HaveMet, IsServed}
 use Rattle.tap_safety.specs.Parts.{Covered, IsClaim, Cover}
 use Rattle.tap_safety.proofs.Names.{lcp_whole}
 use Rattle.tap_safety.proofs.Kept.{Keeps, AddsNone, StaysJoiner, TakesOne, served_above, served_kept}
 
 module _ (p : SettingsValue) (s s' : System) (x b : List ℕ) (level : ℕ) (kept : Keeps s s') (none : AddsNone s s')
-    (takes : TakesOne s s' x b level) (names : (y : List ℕ) → IsCore s y → IsName p y) (core_x : IsCore s x) (cover : Cover p s) where
+    (takes : TakesOne s s' x b level) (names : (y : List ℕ) → IsCoreNode s y → IsName p y) (core_x : IsCoreNode s x)
+    (cover : Cover p s) where
   -- mine: what the taker's level reaches is served; met: so is the taker; covers: no other cover is new
-  pub cover_step : ((e : List ℕ) → IsCore s e → level ≤ lcp x e → lcp x e < p.digits → StaysJoiner s s' b → IsServed s' b e (lcp x e))
+  pub cover_step : ((e : List ℕ) → IsCoreNode s e → level ≤ lcp x e → lcp x e < p.digits → StaysJoiner s s' b → IsServed s' b e (lcp x e))
       → (StaysJoiner s s' b → HaveMet s' b x)
       → ((v d : List ℕ) (m : ℕ) → Covers s' v d m → Covers s v d m ⊎ ((v ≡ x) × (d ≡ b) × (m ≡ level)))
       → Cover p s'
   cover_step mine met covers = record { served = served }
     where
-      old : (v d e : List ℕ) (m : ℕ) → IsCore s e → StaysJoiner s s' d → IsClaim p s v d e m → IsServed s' d e (lcp v e)
+      old : (v d e : List ℕ) (m : ℕ) → IsCoreNode s e → StaysJoiner s s' d → IsClaim p s v d e m → IsServed s' d e (lcp v e)
       old v d e m core joiner claim =
           elim (served_kept s s' x b level kept takes d e (lcp v e) joiner (kept.cores e core) (cover.served v d e m claim)) [
             | inl served ↦ served
@@ -60,7 +61,7 @@ module _ (p : SettingsValue) (s s' : System) (x b : List ℕ) (level : ℕ) (kep
       → ((v d : List ℕ) (m : ℕ) → Covers s' v d m → Covers s v d m) → Cover p s'
   cover_already covered c covers low same = cover_step mine met (λ v d m now. inl (same v d m now))
     where
-      mine : (e : List ℕ) → IsCore s e → level ≤ lcp x e → lcp x e < p.digits → StaysJoiner s s' b → IsServed s' b e (lcp x e)
+      mine : (e : List ℕ) → IsCoreNode s e → level ≤ lcp x e → lcp x e < p.digits → StaysJoiner s s' b → IsServed s' b e (lcp x e)
       mine e core reach apart joiner =
           let claim : IsClaim p s x b e c =
           record { core = core_x; joiner = joiner.was; covers = covers; other = core; reach = omega arith; apart = apart } in

@@ -5,10 +5,10 @@ use Rattle.tap_name.specs.Prefix.{lcp}
 use Rattle.tap_name.specs.Settings.{SettingsValue}
 use Rattle.tap_name.proofs.Prefixes.{lcp-least, lcp-sym, lcp-triangle}
 use Rattle.tap_link.specs.declared.kind.Kind.TheVariants.{Pin}
-use Rattle.tap_safety.specs.System.{System, IsCore, IsJoiner, Covers, IsTold}
+use Rattle.tap_safety.specs.System.{System, IsCoreNode, IsJoiner, Covers, IsTold}
 use Rattle.tap_safety.specs.Words.{surrogate_of, prefix_of, IsIn, Knows, IsGiven, IsReached, HaveMet, IsServed}
 use Rattle.tap_safety.specs.Parts.{CoverIs, IsMet, CoversAndPins, IsClaim, Cover, Low}
-use Rattle.tap_safety.specs.DoneStep.{TakesDone, IsQuiet, BeforeDone}
+use Rattle.tap_safety.specs.DoneStep.{TakesDone, NothingOnWay, BeforeDone}
 use Rattle.tap_safety.proofs.Names.{lcp_itself, lcp_whole}
 use Rattle.tap_safety.proofs.Kept.{Keeps, StaysJoiner, met_kept}
 use Rattle.tap_safety.proofs.CoverKept.{core_or_joiner}
@@ -18,7 +18,7 @@ use Rattle.tap_safety.proofs.DoneKept.{in_region, now_core, core_cases, joiner_w
 abbrev pub TellOrMet : System → System → List ℕ → List ℕ → List ℕ → Type 0
 TellOrMet s s' v b e = ((level : ℕ) × IsTold s b e level × (lcp v e < level)) ⊎ HaveMet s' b e
 
-module _ (p : SettingsValue) (s s' : System) (number : ℕ) (w e : List ℕ) (before : BeforeDone p s) (quiet : IsQuiet s e)
+module _ (p : SettingsValue) (s s' : System) (number : ℕ) (w e : List ℕ) (before : BeforeDone p s) (quiet : NothingOnWay s e)
     (step : TakesDone s s' number w e) where
   kept : Keeps s s'
   kept = keeps s s' number w e step
@@ -29,13 +29,13 @@ module _ (p : SettingsValue) (s s' : System) (number : ℕ) (w e : List ℕ) (be
   knows : (b y : List ℕ) → Knows s b y → Knows s' b y
   knows = knows_on s s' number w e step
 
-  new_core : IsCore s' e
+  new_core : IsCoreNode s' e
   new_core = now_core s s' number w e step
 
   abbrev at : List ℕ
   at = surrogate_of s e
 
-  surrogate : IsCore s at × Covers s at e (prefix_of s e)
+  surrogate : IsCoreNode s at × Covers s at e (prefix_of s e)
   surrogate = before.covered.surrogate e quiet.joiner
 
   -- the new core node isn't a joiner that is left
@@ -95,8 +95,8 @@ module _ (p : SettingsValue) (s s' : System) (number : ℕ) (w e : List ℕ) (be
           ]
 
   -- the new core node is served
-  module _ (v b : List ℕ) (level : ℕ) (core : IsCore s v) (joiner : StaysJoiner s s' b) (other : b ≡ e → ⊥) (covers : Covers s v b level)
-      (reach : level ≤ lcp v e) (apart : lcp v e < p.digits) where
+  module _ (v b : List ℕ) (level : ℕ) (core : IsCoreNode s v) (joiner : StaysJoiner s s' b) (other : b ≡ e → ⊥)
+      (covers : Covers s v b level) (reach : level ≤ lcp v e) (apart : lcp v e < p.digits) where
     covered : CoverIs p s v b level
     covered = before.covered.each v b level core joiner.was covers
 
@@ -120,7 +120,7 @@ module _ (p : SettingsValue) (s s' : System) (number : ℕ) (w e : List ℕ) (be
         inr (record { to = e; level = way.0; told = told b e way.0 way.1; core = new_core; higher = omega arith; shared = omega arith })
 
     -- u covers b and stands in the region of e
-    direct : (u : List ℕ) (c : ℕ) → IsCore s u → Covers s u b c → IsIn s e u → lcp v e ≤ lcp u e → IsServed s' b e (lcp v e)
+    direct : (u : List ℕ) (c : ℕ) → IsCoreNode s u → Covers s u b c → IsIn s e u → lcp v e ≤ lcp u e → IsServed s' b e (lcp v e)
     direct u c core_u covers_u inside low =
         let cover = before.covered.each u b c core_u joiner.was covers_u in
         let pin = (in_region p s e before quiet u core_u inside).0 in
@@ -263,7 +263,7 @@ module _ (p : SettingsValue) (s s' : System) (number : ℕ) (w e : List ℕ) (be
   pub low_kept : Low s'
   low_kept = record { given = given }
     where
-      given : (a f : List ℕ) → IsJoiner s' a → IsCore s' f → lcp a f ≤ prefix_of s' a → IsGiven s' a f
+      given : (a f : List ℕ) → IsJoiner s' a → IsCoreNode s' f → lcp a f ≤ prefix_of s' a → IsGiven s' a f
       given a f joiner core near =
           let was = joiner_was s s' number w e step a joiner in
           let stays : StaysJoiner s s' a = record { was = was.0; is = joiner } in

@@ -10,10 +10,10 @@ use Rattle.tap_wire.specs.declared.frame.Body.TheVariants.{Done}
 use Rattle.tap_wire.specs.declared.frame.Frame.{Frame}
 use Rattle.tap_rule.specs.Node.Status.{Core, Joining}
 use Rattle.tap_safety.specs.Frames.{hello_body, tell_body}
-use Rattle.tap_safety.specs.System.{System, IsCore, IsJoiner, HasLink, Covers, IsTold, IsNamed}
+use Rattle.tap_safety.specs.System.{System, IsCoreNode, IsJoiner, HasLink, Covers, IsTold, HelloNames}
 use Rattle.tap_safety.specs.Words.{surrogate_of, prefix_of, IsIn, Knows, Pins, IsGiven}
 use Rattle.tap_safety.specs.Parts.{IsClaim, HasNear, HoleFree}
-use Rattle.tap_safety.specs.DoneStep.{TakesDone, IsQuiet, BeforeDone}
+use Rattle.tap_safety.specs.DoneStep.{TakesDone, NothingOnWay, BeforeDone}
 use Rattle.tap_safety.proofs.Names.{lcp_itself, lcp_whole, lcp_most}
 use Rattle.tap_safety.proofs.Told.{named_still, told_still}
 use Rattle.tap_safety.proofs.KeepsAll.{keeps_all, knows_kept, near_kept}
@@ -26,17 +26,17 @@ module _ (s s' : System) (number : ℕ) (w e : List ℕ) (step : TakesDone s s' 
   abbrev taken_done : Frame
   taken_done = record { from = w; to = e; body = Done }
 
-  pub core_on : (y : List ℕ) → IsCore s y → IsCore s' y
+  pub core_on : (y : List ℕ) → IsCoreNode s y → IsCoreNode s' y
   core_on y core =
       elim (node_after s s' e step.before step.after step.at y core.state core.is) [
         | inl here ↦ record { state = step.after; is = here.2; core = inl step.is }
         | inr there ↦ record { state = core.state; is = there; core = core.core }
       ]
 
-  pub now_core : IsCore s' e
+  pub now_core : IsCoreNode s' e
   now_core = record { state = step.after; is = step.at.is; core = inl step.is }
 
-  pub core_cases : (y : List ℕ) → IsCore s' y → IsCore s y ⊎ (y ≡ e)
+  pub core_cases : (y : List ℕ) → IsCoreNode s' y → IsCoreNode s y ⊎ (y ≡ e)
   core_cases y core =
       elim (node_before s s' e step.before step.after step.at y core.state core.is) [
         | inl here ↦ inr here.0
@@ -75,7 +75,7 @@ module _ (s s' : System) (number : ℕ) (w e : List ℕ) (step : TakesDone s s' 
         | inr is ↦ let no : tell_body told.fields told.watch ≡ Done = is.0 in cc
       ]
 
-  named_on : (v b x : List ℕ) → IsNamed s v b x → IsNamed s' v b x
+  named_on : (v b x : List ℕ) → HelloNames s v b x → HelloNames s' v b x
   named_on = named_still s s' number taken_done step.sent step.taken (λ fields is. let no : hello_body fields ≡ Done = is in cc)
 
   pub knows_on : (b y : List ℕ) → Knows s b y → Knows s' b y
@@ -87,7 +87,7 @@ module _ (s s' : System) (number : ℕ) (w e : List ℕ) (step : TakesDone s s' 
   pub keeps : Keeps s s'
   keeps = keeps_all s s' core_on link_on named_on step.surrogate
 
-module _ (p : SettingsValue) (s : System) (e : List ℕ) (before : BeforeDone p s) (quiet : IsQuiet s e) where
+module _ (p : SettingsValue) (s : System) (e : List ℕ) (before : BeforeDone p s) (quiet : NothingOnWay s e) where
   -- where no Hello is on its way, what a joiner is given stands in its table
   table_has : (x : List ℕ) → IsGiven s e x → HasNear s e x
   table_has x given =
@@ -97,7 +97,7 @@ module _ (p : SettingsValue) (s : System) (e : List ℕ) (before : BeforeDone p 
       ]
 
   -- a core node of the region of a quiet joiner pins it, and stands in a filled slot of its table
-  pub in_region : (v : List ℕ) → IsCore s v → IsIn s e v → Pins s v e × HasNear s e v
+  pub in_region : (v : List ℕ) → IsCoreNode s v → IsIn s e v → Pins s v e × HasNear s e v
   in_region v core inside =
       let at = surrogate_of s e in
       let surrogate = before.covered.surrogate e quiet.joiner in
@@ -119,7 +119,7 @@ module _ (p : SettingsValue) (s : System) (e : List ℕ) (before : BeforeDone p 
       ]
 
   -- a core node outside the region has a core link in the joiner's slot, and the joiner has one in its slot
-  pub out_of_region : (v : List ℕ) → IsCore s v → lcp v e < prefix_of s e → HasNear s v e × HasNear s e v
+  pub out_of_region : (v : List ℕ) → IsCoreNode s v → lcp v e < prefix_of s e → HasNear s v e × HasNear s e v
   out_of_region v core outside =
       let at = surrogate_of s e in
       let surrogate = before.covered.surrogate e quiet.joiner in
@@ -138,7 +138,7 @@ module _ (p : SettingsValue) (s : System) (e : List ℕ) (before : BeforeDone p 
 
   module _ (s' : System) (number : ℕ) (w : List ℕ) (step : TakesDone s s' number w e) where
     -- the new core node's slot is filled at each other one, and each other one's at it
-    both : (v : List ℕ) → IsCore s v → HasNear s' v e × HasNear s' e v
+    both : (v : List ℕ) → IsCoreNode s v → HasNear s' v e × HasNear s' e v
     both v core =
         elim (cases_lt (lcp v e) (prefix_of s e)) [
           | inl outside ↦
@@ -162,7 +162,7 @@ module _ (p : SettingsValue) (s : System) (e : List ℕ) (before : BeforeDone p 
     pub hole_free_kept : HoleFree p s'
     hole_free_kept = record { filled = filled }
       where
-        filled : (x y : List ℕ) → IsCore s' x → IsCore s' y → lcp x y < p.digits → HasNear s' x y
+        filled : (x y : List ℕ) → IsCoreNode s' x → IsCoreNode s' y → lcp x y < p.digits → HasNear s' x y
         filled x y one two apart =
             elim (core_cases s s' number w e step x one) [
               | inl old ↦

@@ -4,14 +4,14 @@ use Rattle.std.specs.Option.{unwrap_or}
 use Rattle.tap_name.specs.Prefix.{lcp}
 use Rattle.tap_link.specs.declared.kind.Kind.{Kind}
 use Rattle.tap_link.specs.declared.kind.Kind.TheVariants.{Pin}
-use Rattle.tap_safety.specs.System.{System, HasLink, IsCore, IsNamed}
+use Rattle.tap_safety.specs.System.{System, HasLink, IsCoreNode, HelloNames}
 use Rattle.tap_safety.specs.Words.{Has, Knows}
 use Rattle.tap_safety.specs.Parts.{HasNear}
 use Rattle.tap_safety.proofs.Kept.{Keeps}
 
-module _ (s s' : System) (cores : (y : List ℕ) → IsCore s y → IsCore s' y)
+module _ (s s' : System) (cores : (y : List ℕ) → IsCoreNode s y → IsCoreNode s' y)
     (links : (y z : List ℕ) (kind : Kind) → HasLink s y z kind → HasLink s' y z kind)
-    (named : (v b z : List ℕ) → IsNamed s v b z → IsNamed s' v b z)
+    (named : (v b z : List ℕ) → HelloNames s v b z → HelloNames s' v b z)
     (surrogate : (b : List ℕ) → s'.surrogate b ≡ s.surrogate b) where
   has_kept : (y z : List ℕ) → Has s y z → Has s' y z
   has_kept y z has = record { kind = has.kind; link = links y z has.kind has.link }

@@ -2,7 +2,7 @@
 use Rattle.std.proofs.Common.{◌≡◌, inl, inr, ℕ, ◌<◌, ◌≤◌, List, ◌⊎◌, arith}
 use Rattle.tap_name.specs.Settings.{SettingsValue}
 use Rattle.tap_name.specs.Prefix.{lcp}
-use Rattle.tap_safety.specs.System.{System, IsCore, IsJoiner, IsTold, IsNamed}
+use Rattle.tap_safety.specs.System.{System, IsCoreNode, IsJoiner, IsTold, HelloNames}
 use Rattle.tap_safety.specs.Words.{prefix_of, Pins, Has, IsGiven, HaveMet, IsServed}
 use Rattle.tap_safety.specs.Parts.{IsMet, Low, HasNear, HoleFree}
 
@@ -13,18 +13,18 @@ pub record StaysJoiner (s s' : System) (b : List ℕ) : Type 0 where
 
 -- Core nodes stay, and their slots stay filled; a joiner keeps what pins it, what it is given and its prefix.
 pub record Keeps (s s' : System) : Type 0 where
-  pub cores : (x : List ℕ) → IsCore s x → IsCore s' x
-  pub pins : (x b : List ℕ) → StaysJoiner s s' b → IsCore s' x ⊎ IsJoiner s' x → Pins s x b → Pins s' x b
+  pub cores : (x : List ℕ) → IsCoreNode s x → IsCoreNode s' x
+  pub pins : (x b : List ℕ) → StaysJoiner s s' b → IsCoreNode s' x ⊎ IsJoiner s' x → Pins s x b → Pins s' x b
   pub has : (x b : List ℕ) → StaysJoiner s s' b → StaysJoiner s s' x → Has s x b → Has s' x b
   pub given : (b e : List ℕ) → StaysJoiner s s' b → IsGiven s b e → IsGiven s' b e
-  pub filled : (x e : List ℕ) → IsCore s x → IsCore s e → HasNear s x e → HasNear s' x e
+  pub filled : (x e : List ℕ) → IsCoreNode s x → IsCoreNode s e → HasNear s x e → HasNear s' x e
   pub prefix : (b : List ℕ) → StaysJoiner s s' b → prefix_of s' b ≡ prefix_of s b
   -- a Hello to a joiner stays under way, or the joiner has what it named
-  pub named : (w b x : List ℕ) → StaysJoiner s s' b → StaysJoiner s s' x → IsNamed s w b x → Has s' b x ⊎ IsNamed s' w b x
+  pub named : (w b x : List ℕ) → StaysJoiner s s' b → StaysJoiner s s' x → HelloNames s w b x → Has s' b x ⊎ HelloNames s' w b x
 
 -- there are no other core nodes and joiners than before
 pub record AddsNone (s s' : System) : Type 0 where
-  pub cores : (x : List ℕ) → IsCore s' x → IsCore s x
+  pub cores : (x : List ℕ) → IsCoreNode s' x → IsCoreNode s x
   pub joiners : (b : List ℕ) → IsJoiner s' b → IsJoiner s b
 
 -- of the Tells under way only one of b to x at a level is taken, and where x is a joiner it has b then
@@ -42,13 +42,13 @@ served_above s b e c d low (inr r) =
     let high = r.higher in
     inr (record { to = r.to; level = r.level; told = r.told; core = r.core; higher = omega arith; shared = r.shared })
 
-pub met_kept : (s s' : System) (b e : List ℕ) → Keeps s s' → StaysJoiner s s' b → IsCore s' e → HaveMet s b e → HaveMet s' b e
+pub met_kept : (s s' : System) (b e : List ℕ) → Keeps s s' → StaysJoiner s s' b → IsCoreNode s' e → HaveMet s b e → HaveMet s' b e
 met_kept s s' b e keeps joiner core met =
     record { pin = keeps.pins e b joiner (inl core) met.pin; given = keeps.given b e joiner met.given }
 
 -- who was served is served, unless by the Tell that is taken
 pub served_kept : (s s' : System) (x b : List ℕ) (level : ℕ) → Keeps s s' → TakesOne s s' x b level
-    → (d e : List ℕ) (c : ℕ) → StaysJoiner s s' d → IsCore s' e → IsServed s d e c
+    → (d e : List ℕ) (c : ℕ) → StaysJoiner s s' d → IsCoreNode s' e → IsServed s d e c
     → IsServed s' d e c ⊎ ((d ≡ b) × (c < level) × (level ≤ lcp x e))
 served_kept s s' x b level keeps takes d e c joiner core (inl met) = inl (inl (met_kept s s' d e keeps joiner core met))
 served_kept s s' x b level keeps takes d e c joiner core (inr r) =

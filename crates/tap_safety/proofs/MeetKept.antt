@@ -12,7 +12,7 @@ use Rattle.tap_wire.specs.declared.frame.Frame.{Frame}
 use Rattle.tap_wire.specs.declared.frame.TellFields.{TellFields}
 use Rattle.tap_rule.specs.Node.{link_to}
 use Rattle.tap_safety.specs.Frames.{hello_body, tell_body}
-use Rattle.tap_safety.specs.System.{System, IsCore, IsJoiner, HasLink, Covers}
+use Rattle.tap_safety.specs.System.{System, IsCoreNode, IsJoiner, HasLink, Covers}
 use Rattle.tap_safety.specs.Words.{surrogate_of, prefix_of, IsIn, Pins}
 use Rattle.tap_safety.specs.Parts.{CoverIs, Covered, IsMet, CoversAndPins, Meet}
 use Rattle.tap_safety.specs.TellStep.{TakesTell, BeforeTell, IsTellOf}
@@ -57,7 +57,7 @@ module _ (s s' : System) (number : ℕ) (w x : List ℕ) (tell : TellFields) (wa
 
   module _ (p : SettingsValue) (before : BeforeTell p s) (is : IsTellOf p s x tell.joiner tell.prefix tell.level) where
     -- each cover of after the step is as Covered has it
-    each : (v b : List ℕ) (level : ℕ) → IsCore s' v → IsJoiner s' b → Covers s' v b level → CoverIs p s' v b level
+    each : (v b : List ℕ) (level : ℕ) → IsCoreNode s' v → IsJoiner s' b → Covers s' v b level → CoverIs p s' v b level
     each v b level core joiner covers =
         let stays : StaysJoiner s s' b = record { was = none.joiners b joiner; is = joiner } in
         elim (cases v b level covers) [
@@ -105,11 +105,11 @@ module _ (s s' : System) (number : ℕ) (w x : List ℕ) (tell : TellFields) (wa
               ]
         ]
 
-    surrogate : (b : List ℕ) → IsJoiner s' b → IsCore s' (surrogate_of s' b) × Covers s' (surrogate_of s' b) b (prefix_of s' b)
+    surrogate : (b : List ℕ) → IsJoiner s' b → IsCoreNode s' (surrogate_of s' b) × Covers s' (surrogate_of s' b) b (prefix_of s' b)
     surrogate b joiner =
         let was = none.joiners b joiner in
         let core = kept.cores (surrogate_of s b) (before.covered.surrogate b was).0 in
-        let P : List ℕ → Type 0 = λ y. IsCore s' y × Covers s' y b (lcp y b) in
+        let P : List ℕ → Type 0 = λ y. IsCoreNode s' y × Covers s' y b (lcp y b) in
         let same : surrogate_of s' b ≡ surrogate_of s b = ap (λ o. unwrap_or o []) (step.surrogate b) in
         subst P (sym same) (core, own_cover b was)
 

@@ -3,14 +3,14 @@ use Rattle.std.proofs.Common.{inl, inr, ℕ, List, refl, ◌∙◌}
 use Rattle.tap_wire.specs.declared.frame.Body.TheVariants.{Done}
 use Rattle.tap_wire.specs.declared.frame.Frame.{Frame}
 use Rattle.tap_safety.specs.Frames.{hello_body, tell_body}
-use Rattle.tap_safety.specs.System.{System, IsJoiner, IsNamed, IsTold, IsUnderWay}
-use Rattle.tap_safety.specs.Sessions.{AreSessions, IsRootless}
+use Rattle.tap_safety.specs.System.{System, IsJoiner, HelloNames, IsTold, IsUnderWay}
+use Rattle.tap_safety.specs.Sessions.{AreExact, IsRootless}
 use Rattle.tap_safety.specs.Joins.{AreOfJoiners, EndsOnce}
-use Rattle.tap_safety.specs.DoneStep.{IsQuiet}
+use Rattle.tap_safety.specs.DoneStep.{NothingOnWay}
 use Rattle.tap_safety.proofs.Chains.{no_session}
 
-module _ (s : System) (e : List ℕ) (sound : AreSessions s) (whose : AreOfJoiners s) (joiner : IsJoiner s e) where
-  quiet_at : IsRootless s e → IsQuiet s e
+module _ (s : System) (e : List ℕ) (sound : AreExact s) (whose : AreOfJoiners s) (joiner : IsJoiner s e) where
+  quiet_at : IsRootless s e → NothingOnWay s e
   quiet_at rootless = record { joiner = joiner; tells = tells; hellos = hellos }
     where
       tells : (x : List ℕ) (level : ℕ) → IsTold s e x level → ⊥
@@ -20,13 +20,13 @@ module _ (s : System) (e : List ℕ) (sound : AreSessions s) (whose : AreOfJoine
           let of = whose.tells told.from x told.fields told.watch awaited.session told.way awaited.is in
           no_session s e sound rootless told.from told.fields.session awaited.session awaited.is (of ∙ told.joiner)
 
-      hellos : (w x : List ℕ) → IsNamed s w e x → ⊥
+      hellos : (w x : List ℕ) → HelloNames s w e x → ⊥
       hellos w x named =
           let frame : Frame = record { from = w; to = e; body = hello_body named.fields } in
           let awaited = sound.frames named.way.number frame w named.fields.session named.way.among refl in
           let of = whose.hellos w e named.fields awaited.session named.way awaited.is in
           no_session s e sound rootless w named.fields.session awaited.session awaited.is of
 
-  pub quiet : EndsOnce s → (w : List ℕ) → IsUnderWay s w e Done → IsQuiet s e
+  pub quiet : EndsOnce s → (w : List ℕ) → IsUnderWay s w e Done → NothingOnWay s e
   quiet once w done =
       elim (once.ends e joiner) [ inl root ↦ absurd (root.1.none w done) | inr end ↦ quiet_at end.0 ]

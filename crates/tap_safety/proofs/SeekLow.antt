@@ -7,15 +7,15 @@ use Rattle.tap_name.proofs.Prefixes.{lcp-least, lcp-sym, lcp-triangle}
 use Rattle.tap_link.specs.declared.kind.Kind.{Kind}
 use Rattle.tap_link.specs.declared.kind.Kind.TheVariants.{Pin, Settled, Leaving as Marked}
 use Rattle.tap_rule.specs.Node.{link_to}
-use Rattle.tap_safety.specs.System.{System, IsCore, HasLink, AmongOffered}
+use Rattle.tap_safety.specs.System.{System, IsCoreNode, HasLink, AmongOffered}
 use Rattle.tap_safety.specs.Words.{IsGiven}
 use Rattle.tap_safety.specs.Parts.{HasNear}
 use Rattle.tap_safety.specs.SeekStep.{IsGreeted, BeforeSeek}
 
-module _ (p : SettingsValue) (s s' : System) (x b : List ℕ) (before : BeforeSeek p s) (core : IsCore s x) (joins : IsCore s b → ⊥)
+module _ (p : SettingsValue) (s s' : System) (x b : List ℕ) (before : BeforeSeek p s) (core : IsCoreNode s x) (joins : IsCoreNode s b → ⊥)
     (greeted : IsGreeted p s s' x b) where
   -- what the Hello offers is given
-  offered_given : (f t : List ℕ) → AmongOffered t greeted.hello.links → IsCore s t → lcp b f < lcp f t → IsGiven s' b f
+  offered_given : (f t : List ℕ) → AmongOffered t greeted.hello.links → IsCoreNode s t → lcp b f < lcp f t → IsGiven s' b f
   offered_given f t among core_t near = record {
     by = t;
     core = greeted.cores t core_t;
@@ -47,7 +47,7 @@ module _ (p : SettingsValue) (s s' : System) (x b : List ℕ) (before : BeforeSe
       let stands : lcp x filled.to ≡ lcp x f = sides.below near in
       let first = greeted.primaries filled.to settled (omega arith) in
       let primary = first.primary in
-      let is_core : IsCore s primary =
+      let is_core : IsCoreNode s primary =
       before.settled.settled x primary (record { state = greeted.before; is = greeted.was; link = first.settled }) in
       let two = first.near in
       let three = lcp-least f filled.to primary (lcp b f + 1) (omega arith) (omega arith) in
@@ -56,7 +56,7 @@ module _ (p : SettingsValue) (s s' : System) (x b : List ℕ) (before : BeforeSe
       let link : HasLink s x filled.to Marked = rw kind at filled.link in
       absurd (before.unmarked x filled.to link)
 
-  pub low_new : (f : List ℕ) → IsCore s f → lcp b f ≤ lcp x b → IsGiven s' b f
+  pub low_new : (f : List ℕ) → IsCoreNode s f → lcp b f ≤ lcp x b → IsGiven s' b f
   low_new f other low =
       let back = lcp-sym x b in
       let turned = lcp-sym x f in

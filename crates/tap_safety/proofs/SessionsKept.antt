@@ -4,7 +4,7 @@ use Rattle.tap_wire.specs.declared.frame.Frame.{Frame}
 use Rattle.tap_safety.specs.Remembered.{OpenSession}
 use Rattle.tap_safety.specs.Remembered.Token.{Way, Child}
 use Rattle.tap_safety.specs.System.{System, AmongFrames}
-use Rattle.tap_safety.specs.Sessions.{AmongTokens, AreSessions, Awaits, Belongs, HasFrame, HasParent, IsOpen}
+use Rattle.tap_safety.specs.Sessions.{AmongTokens, AreExact, Awaits, Belongs, HasFrame, HasParent, IsOpen}
 use Rattle.tap_safety.specs.Sessions.{OpensChild, child_of, with_child}
 use Rattle.tap_safety.proofs.Exchange.{exchange_child, exchange_new, exchange_was, exchange_way}
 
@@ -49,7 +49,7 @@ record StaysOpen (s' : System) (number : ℕ) (y : List ℕ) (m : ℕ) (o : Open
   ways : (n : ℕ) → (n ≡ number → ⊥) → AmongTokens (Way n) o.awaits → AmongTokens (Way n) now.awaits
 
 module _ (s s' : System) (number : ℕ) (f : Frame) (w : List ℕ) (k : ℕ) (x : List ℕ) (l : ℕ) (sent : List (ℕ × Frame))
-    (step : OpensChild s s' number f w k x l sent) (sound : AreSessions s) where
+    (step : OpensChild s s' number f w k x l sent) (sound : AreExact s) where
   -- the session of the frame after the step, and the one that is opened
   abbrev parent_now : OpenSession
   parent_now = with_child step.before number x l
@@ -245,5 +245,5 @@ module _ (s s' : System) (number : ℕ) (f : Frame) (w : List ℕ) (k : ℕ) (x 
             ]
       ]
 
-  pub sessions_kept : AreSessions s'
+  pub sessions_kept : AreExact s'
   sessions_kept = record { frames = frames; ways = ways; parents = parents; roots = roots; numbers = numbers }

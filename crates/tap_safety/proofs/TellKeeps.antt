@@ -8,15 +8,15 @@ use Rattle.tap_wire.specs.declared.frame.Frame.{Frame}
 use Rattle.tap_wire.specs.declared.frame.TellFields.{TellFields}
 use Rattle.tap_rule.specs.Node.{NodeState, link_to}
 use Rattle.tap_safety.specs.Frames.{hello_body, tell_body}
-use Rattle.tap_safety.specs.System.{System, Covers, HasLink, IsCore, IsJoiner, IsNamed, IsTold}
-use Rattle.tap_safety.specs.Step.{IsAt, IsTaken}
+use Rattle.tap_safety.specs.System.{System, Covers, HasLink, IsCoreNode, IsJoiner, HelloNames, IsTold}
+use Rattle.tap_safety.specs.Step.{ChangesAt, IsTaken}
 use Rattle.tap_safety.specs.TellStep.{TakesTell}
 use Rattle.tap_safety.proofs.Told.{named_still, told_still}
 use Rattle.tap_safety.proofs.KeepsAll.{keeps_all}
 use Rattle.tap_safety.proofs.Kept.{Keeps, AddsNone, TakesOne}
 
 -- the node of a name after the step, from the one before
-pub node_after : (s s' : System) (x : List ℕ) (before after : NodeState) → IsAt s s' x before after
+pub node_after : (s s' : System) (x : List ℕ) (before after : NodeState) → ChangesAt s s' x before after
     → (y : List ℕ) (state : NodeState) → s.node y ≡ Some state
     → ((y ≡ x) × (state ≡ before) × (s'.node y ≡ Some after)) ⊎ (s'.node y ≡ Some state)
 node_after s s' x before after at y state is =
@@ -29,7 +29,7 @@ node_after s s' x before after at y state is =
     ]
 
 -- and the one before, from the one after
-pub node_before : (s s' : System) (x : List ℕ) (before after : NodeState) → IsAt s s' x before after
+pub node_before : (s s' : System) (x : List ℕ) (before after : NodeState) → ChangesAt s s' x before after
     → (y : List ℕ) (state : NodeState) → s'.node y ≡ Some state
     → ((y ≡ x) × (state ≡ after) × (s.node y ≡ Some before)) ⊎ (s.node y ≡ Some state)
 node_before s s' x before after at y state is =
@@ -41,10 +41,10 @@ node_before s s' x before after at y state is =
       | inr there ↦ inr (sym there ∙ is)
     ]
 
-module _ (s s' : System) (x : List ℕ) (before after : NodeState) (at : IsAt s s' x before after)
+module _ (s s' : System) (x : List ℕ) (before after : NodeState) (at : ChangesAt s s' x before after)
     (status : after.status ≡ before.status) where
   -- where its status stays, core nodes and joiners are those of before
-  pub core_kept : (y : List ℕ) → IsCore s y → IsCore s' y
+  pub core_kept : (y : List ℕ) → IsCoreNode s y → IsCoreNode s' y
   core_kept y core =
       elim (node_after s s' x before after at y core.state core.is) [
         | inl here ↦
@@ -53,7 +53,7 @@ module _ (s s' : System) (x : List ℕ) (before after : NodeState) (at : IsAt s 
         | inr there ↦ record { state = core.state; is = there; core = core.core }
       ]
 
-  pub core_was : (y : List ℕ) → IsCore s' y → IsCore s y
+  pub core_was : (y : List ℕ) → IsCoreNode s' y → IsCoreNode s y
   core_was y core =
       elim (node_before s s' x before after at y core.state core.is) [
         | inl here ↦
@@ -74,7 +74,7 @@ module _ (s s' : System) (x : List ℕ) (before after : NodeState) (at : IsAt s 
             record { state = joiner.state; is = there; joining = joiner.joining; surrogate = joiner.surrogate; started = started }
       ]
 
-module _ (s s' : System) (x : List ℕ) (before after : NodeState) (at : IsAt s s' x before after) where
+module _ (s s' : System) (x : List ℕ) (before after : NodeState) (at : ChangesAt s s' x before after) where
   -- where its links stay, all links do
   pub links_same : ((t : List ℕ) → link_to after t ≡ link_to before t) → (y z : List ℕ) (kind : Kind) → HasLink s y z kind
       → HasLink s' y z kind
@@ -136,11 +136,11 @@ module _ (s s' : System) (number : ℕ) (w x : List ℕ) (tell : TellFields) (wa
         | inr there ↦ record { state = link.state; is = there; link = link.link }
       ]
 
-  named_kept : (v b z : List ℕ) → IsNamed s v b z → IsNamed s' v b z
+  named_kept : (v b z : List ℕ) → HelloNames s v b z → HelloNames s' v b z
   named_kept =
       named_still s s' number taken_tell step.sent step.taken (λ fields is. let no : hello_body fields ≡ tell_body tell watch = is in cc)
 
-  cores : (y : List ℕ) → IsCore s y → IsCore s' y
+  cores : (y : List ℕ) → IsCoreNode s y → IsCoreNode s' y
   cores = core_kept s s' x step.before step.after step.at step.covers.status
 
   pub keeps : Keeps s s'

@@ -13,8 +13,8 @@ use Rattle.tap_safety.specs.Ties.{
   TakesLink,
   Ties,
   Versions,
-  hears,
-  link_frame,
+  hears_words,
+  word_frame,
   link_of,
   register_of,
   release_frame,
@@ -28,7 +28,7 @@ same_word one two version on =
     ap by_version version ∙ ap by_on on
 
 -- a frame of a word is of one pair of names
-same_frame : (y u x t : List ℕ) (one two : Word) → link_frame y u one ≡ link_frame x t two → (y ≡ x) × (u ≡ t) × (one ≡ two)
+same_frame : (y u x t : List ℕ) (one two : Word) → word_frame y u one ≡ word_frame x t two → (y ≡ x) × (u ≡ t) × (one ≡ two)
 same_frame y u x t one two is =
     let body : Link one.version one.on ≡ Link two.version two.on = ap (λ f. f.body) is in
     (ap (λ f. f.from) is, ap (λ f. f.to) is, same_word one two (cc) (cc))
@@ -45,7 +45,7 @@ module _ (s s' : System) (x t : List ℕ) (w : Word) (step : TakesLink s s' x t 
   -- the last word still stands
   stands : (y u : List ℕ) (v : Word) → s.last y u ≡ Some v → Stands s y u v → Stands s' y u v
   stands y u v last (inl way) =
-      elim (step.still (link_frame y u v) way) [
+      elim (step.still (word_frame y u v) way) [
         | inr still ↦ inl still
         | inl is ↦
             let same = same_frame y u x t v w is in
@@ -70,11 +70,11 @@ module _ (s s' : System) (x t : List ℕ) (w : Word) (step : TakesLink s s' x t 
   last_kept y u on l =
       record { last = l.last; is = step.last y u ∙ l.is; on_is = l.on_is; stands = stands y u l.last l.is l.stands }
 
-  heard : (u : List ℕ) → hears (status_of s' u) → hears (status_of s u)
+  heard : (u : List ℕ) → hears_words (status_of s' u) → hears_words (status_of s u)
   heard u h = rw step.status at h
 
   pinned : (y u : List ℕ) → status_of s u ≡ Some Core → link_of s y u ≡ Some Pin
-      → ((v : Word) × (s'.last y u ≡ Some v) × IsOnWay s' (link_frame y u v)) ⊎ IsOnWay s' (release_frame u y)
+      → ((v : Word) × (s'.last y u ≡ Some v) × IsOnWay s' (word_frame y u v)) ⊎ IsOnWay s' (release_frame u y)
   pinned y u core link =
       elim (ties.pinned y u core link) [
         | inr back ↦
@@ -83,7 +83,7 @@ module _ (s s' : System) (x t : List ℕ) (w : Word) (step : TakesLink s s' x t 
               | inl is ↦ let wrong : Release ≡ Link w.version w.on = ap (λ f. f.body) is in cc
             ]
         | inl way ↦
-            elim (step.still (link_frame y u way.0) way.2) [
+            elim (step.still (word_frame y u way.0) way.2) [
               | inr still ↦ inl (way.0, step.last y u ∙ way.1, still)
               | inl is ↦
                   let same = same_frame y u x t way.0 w is in

@@ -3,8 +3,8 @@ use Rattle.std.proofs.Common.{◌≡◌, inl, inr, ℕ, ◌+◌, List, [], ◌�
 use Rattle.tap_wire.specs.declared.frame.Body.{Body}
 use Rattle.tap_wire.specs.declared.frame.Frame.{Frame}
 use Rattle.tap_safety.specs.Frames.{HelloFields, hello_body, tell_body}
-use Rattle.tap_safety.specs.System.{System, AmongFrames, IsNamed, IsTold, IsUnderWay}
-use Rattle.tap_safety.specs.Step.{IsTaken, IsSent, numbered}
+use Rattle.tap_safety.specs.System.{System, AmongFrames, HelloNames, IsTold, IsUnderWay}
+use Rattle.tap_safety.specs.Step.{IsTaken, IsSent, numbered_from}
 
 among_right : (n : ℕ) (f : Frame) (xs ys : List (ℕ × Frame)) → AmongFrames n f ys → AmongFrames n f (xs ++ ys)
 among_right n f [] ys among = among
@@ -25,7 +25,7 @@ among_out n m f g (x ∷ xs) back sent (inr later) =
 
 -- what is sent has a number
 among_numbered : (n : ℕ) (sent : List Frame) (x t : List ℕ) (body : Body) → IsSent sent x t body
-    → (number : ℕ) × AmongFrames number (record { from = x; to = t; body = body }) (numbered n sent)
+    → (number : ℕ) × AmongFrames number (record { from = x; to = t; body = body }) (numbered_from n sent)
 among_numbered n [] x t body sends = absurd sends
 among_numbered n (frame ∷ frames) x t body (inl is) = (n, inl (refl, is))
 among_numbered n (frame ∷ frames) x t body (inr later) =
@@ -39,7 +39,7 @@ module _ (s s' : System) (number : ℕ) (frame : Frame) (sent : List Frame) (tak
   -- a frame stays under way, unless it is the one that is taken
   pub still_under_way : IsUnderWay s from to body → IsUnderWay s' from to body ⊎ (of_these ≡ frame)
   still_under_way way =
-      elim (among_out way.number number of_these frame taken.front taken.back (numbered s.next sent) (rw taken.before at way.among)) [
+      elim (among_out way.number number of_these frame taken.front taken.back (numbered_from s.next sent) (rw taken.before at way.among)) [
         | inl among ↦ inl (record { number = way.number; among = rw taken.after among })
         | inr is ↦ inr is.1
       ]
@@ -50,14 +50,14 @@ module _ (s s' : System) (number : ℕ) (frame : Frame) (sent : List Frame) (tak
       let new = among_numbered s.next sent from to body sends in
       record {
         number = new.0;
-        among = rw taken.after (among_right new.0 of_these taken.front (taken.back ++ numbered s.next sent)
-            (among_right new.0 of_these taken.back (numbered s.next sent) new.1));
+        among = rw taken.after (among_right new.0 of_these taken.front (taken.back ++ numbered_from s.next sent)
+            (among_right new.0 of_these taken.back (numbered_from s.next sent) new.1));
       }
 
 module _ (s s' : System) (number : ℕ) (frame : Frame) (sent : List Frame) (taken : IsTaken s s' number frame sent) where
   -- a Hello stays under way, if it is none that is taken
   pub named_still : ((fields : HelloFields) → hello_body fields ≡ frame.body → ⊥)
-      → (v b x : List ℕ) → IsNamed s v b x → IsNamed s' v b x
+      → (v b x : List ℕ) → HelloNames s v b x → HelloNames s' v b x
   named_still apart v b x named =
       elim (still_under_way s s' number frame sent taken v b (hello_body named.fields) named.way) [
         | inl way ↦ record { fields = named.fields; way = way; named = named.named }

@@ -5,24 +5,24 @@ use Rattle.tap_wire.specs.declared.frame.Frame.{Frame}
 use Rattle.tap_wire.specs.declared.frame.Body.TheVariants.{Link, Release}
 use Rattle.tap_safety.specs.Remembered.{Word}
 use Rattle.tap_safety.specs.System.{System}
-use Rattle.tap_safety.specs.Ties.{IsOnWay, IsWithin, TakesLink, Versions, link_frame, register_of}
+use Rattle.tap_safety.specs.Ties.{IsOnWay, IsNoNewer, TakesLink, Versions, word_frame, register_of}
 
 -- of equal frames one is under way if the other is
 on_way_at : (s : System) (one two : Frame) → one ≡ two → IsOnWay s two → IsOnWay s one
 on_way_at s one two same way = rw same way
 
 module _ (s s' : System) (x t : List ℕ) (w : Word) (step : TakesLink s s' x t w) (versions : Versions s) where
-  within_kept : (y u : List ℕ) (v : Word) → IsWithin s y u v → IsWithin s' y u v
+  within_kept : (y u : List ℕ) (v : Word) → IsNoNewer s y u v → IsNoNewer s' y u v
   within_kept y u v is = record { last = is.last; is = step.last y u ∙ is.is; most = is.most; same = is.same }
 
-  was : (y u : List ℕ) (v : Word) → IsOnWay s' (link_frame y u v) → IsOnWay s (link_frame y u v)
+  was : (y u : List ℕ) (v : Word) → IsOnWay s' (word_frame y u v) → IsOnWay s (word_frame y u v)
   was y u v way =
-      elim (step.was (link_frame y u v) way) [
+      elim (step.was (word_frame y u v) way) [
         | inl old ↦ old
         | inr is ↦ let wrong : Link v.version v.on ≡ Release = ap (λ f. f.body) is in cc
       ]
 
-  ways : (y u : List ℕ) (v : Word) → IsOnWay s' (link_frame y u v) → IsWithin s' y u v
+  ways : (y u : List ℕ) (v : Word) → IsOnWay s' (word_frame y u v) → IsNoNewer s' y u v
   ways y u v way = within_kept y u v (versions.ways y u v (was y u v way))
 
   -- the register of the pair has the word that is taken, or what it had
@@ -35,7 +35,7 @@ module _ (s s' : System) (x t : List ℕ) (w : Word) (step : TakesLink s s' x t 
         | inr old ↦ inr (step.old kept is old ∙ sym is)
       ]
 
-  registers : (y u : List ℕ) (v : Word) → register_of s' u y ≡ Some v → IsWithin s' y u v
+  registers : (y u : List ℕ) (v : Word) → register_of s' u y ≡ Some v → IsNoNewer s' y u v
   registers y u v is =
       elim (step.registers u y) [
         | inr same ↦ within_kept y u v (versions.registers y u v (sym same ∙ is))
@@ -48,7 +48,7 @@ module _ (s s' : System) (x t : List ℕ) (w : Word) (step : TakesLink s s' x t 
       ]
 
   -- if the last word is still on its way, it isn't the one that is taken, which is older
-  older : (v : Word) → s.last x t ≡ Some v → IsOnWay s' (link_frame x t v) → w.version < v.version
+  older : (v : Word) → s.last x t ≡ Some v → IsOnWay s' (word_frame x t v) → w.version < v.version
   older v top on_way =
       let within = versions.ways x t w step.taken in
       let is_last = within.is in
@@ -60,11 +60,11 @@ module _ (s s' : System) (x t : List ℕ) (w : Word) (step : TakesLink s s' x t 
             let high : w.version ≤ v.version = rw it at most in
             let even : w.version ≡ v.version = omega arith in
             let level : w.version ≡ within.last.version = rw it even in
-            let taken : link_frame x t w ≡ link_frame x t v = ap (link_frame x t) (within.same level ∙ it) in
-            absurd (step.left (on_way_at s' (link_frame x t w) (link_frame x t v) taken on_way))
+            let taken : word_frame x t w ≡ word_frame x t v = ap (word_frame x t) (within.same level ∙ it) in
+            absurd (step.left (on_way_at s' (word_frame x t w) (word_frame x t v) taken on_way))
       ]
 
-  once : (y u : List ℕ) (v kept : Word) → s'.last y u ≡ Some v → IsOnWay s' (link_frame y u v) → register_of s' u y ≡ Some kept
+  once : (y u : List ℕ) (v kept : Word) → s'.last y u ≡ Some v → IsOnWay s' (word_frame y u v) → register_of s' u y ≡ Some kept
       → kept.version < v.version
   once y u v kept last way is =
       let old_last : s.last y u ≡ Some v = sym (step.last y u) ∙ last in
@@ -73,7 +73,7 @@ module _ (s s' : System) (x t : List ℕ) (w : Word) (step : TakesLink s s' x t 
         | inl here ↦
             let at : register_of s' t x ≡ Some kept = rw (← here.0, ← here.1) is in
             let top : s.last x t ≡ Some v = rw (← here.0, ← here.1) old_last in
-            let on_way : IsOnWay s' (link_frame x t v) = rw (← here.0, ← here.1) way in
+            let on_way : IsOnWay s' (word_frame x t v) = rw (← here.0, ← here.1) way in
             elim (mine (register_of s t x) refl) [
               | inr old ↦ versions.once x t v kept top (was x t v on_way) (sym old ∙ at)
               | inl new ↦ let same : w ≡ kept = cc in rw (← same) (older v top on_way)

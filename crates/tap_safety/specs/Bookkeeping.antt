@@ -7,10 +7,10 @@ use Rattle.tap_rule.specs.Node.{NodeState, Status}
 use Rattle.tap_rule.specs.Node.Status.{Joining, Core, Leaving, Gone, Ceased}
 use Rattle.tap_safety.specs.Frames.{tell_body}
 use Rattle.tap_safety.specs.Remembered.{OpenSession, Word}
-use Rattle.tap_safety.specs.System.{System, AmongFrames, IsCore, IsUnderWay}
+use Rattle.tap_safety.specs.System.{System, AmongFrames, IsCoreNode, IsUnderWay}
 use Rattle.tap_safety.specs.Sessions.{IsOpen}
-use Rattle.tap_safety.specs.Seeking.{IsKnown}
-use Rattle.tap_safety.specs.Ties.{link_frame}
+use Rattle.tap_safety.specs.Seeking.{HasNode}
+use Rattle.tap_safety.specs.Ties.{word_frame}
 
 -- S3: an open session awaits an answer
 pub record Await (s : System) : Type 0 where
@@ -45,8 +45,8 @@ pub record HavePlaces (s : System) : Type 0 where
 -- S8: no frame goes to its sender, and its ends are known; so is who has sent a word
 pub record HaveEnds (s : System) : Type 0 where
   pub apart : (number : ℕ) (f : Frame) → AmongFrames number f s.frames → f.from ≡ f.to → ⊥
-  pub known : (number : ℕ) (f : Frame) → AmongFrames number f s.frames → IsKnown s f.from × IsKnown s f.to
-  pub senders : (x t : List ℕ) (word : Word) → s.last x t ≡ Some word → IsKnown s x
+  pub known : (number : ℕ) (f : Frame) → AmongFrames number f s.frames → HasNode s f.from × HasNode s f.to
+  pub senders : (x t : List ℕ) (word : Word) → s.last x t ≡ Some word → HasNode s x
 
 -- a node with this status has a table
 abbrev pub has_table : Status → Type 0
@@ -58,12 +58,12 @@ has_table Ceased = ⊥
 
 -- S9, beside Versions: a word is under way once, and while a node has a table its stamp is no less than its words' versions
 pub record AreStamped (s : System) : Type 0 where
-  pub once : (x t : List ℕ) (word : Word) (m number : ℕ) → AmongFrames m (link_frame x t word) s.frames
-      → AmongFrames number (link_frame x t word) s.frames → m ≡ number
+  pub once : (x t : List ℕ) (word : Word) (m number : ℕ) → AmongFrames m (word_frame x t word) s.frames
+      → AmongFrames number (word_frame x t word) s.frames → m ≡ number
   pub stamp : (x t : List ℕ) (word : Word) (state : NodeState) → s.node x ≡ Some state → has_table state.status
       → s.last x t ≡ Some word → word.version ≤ state.stamp
 
 -- S13: some node is core
 pub record HasCore (s : System) : Type 0 where
   pub name : List ℕ
-  pub core : IsCore s name
+  pub core : IsCoreNode s name

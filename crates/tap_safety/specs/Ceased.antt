@@ -5,7 +5,7 @@ use Rattle.tap_wire.specs.declared.frame.Body.TheVariants.{Forget}
 use Rattle.tap_safety.specs.Remembered.{Word}
 use Rattle.tap_safety.specs.System.{System, IsUnderWay}
 use Rattle.tap_safety.specs.Words.{Pins}
-use Rattle.tap_safety.specs.Ties.{IsOnWay, link_frame, register_of, status_of}
+use Rattle.tap_safety.specs.Ties.{IsOnWay, word_frame, register_of, status_of}
 
 -- x is core or joining
 abbrev pub CoreOrJoining : System → List ℕ → Type 0
@@ -15,7 +15,7 @@ CoreOrJoining s x = (status_of s x ≡ Some Core) ⊎ (status_of s x ≡ Some Jo
 pub record SaysSo (s : System) (x n : List ℕ) : Type 0 where
   pub word : Word
   pub on : word.on ≡ true
-  pub way : IsOnWay s (link_frame x n word)
+  pub way : IsOnWay s (word_frame x n word)
 
 -- the register of n has x on
 pub record IsRegistered (s : System) (x n : List ℕ) : Type 0 where

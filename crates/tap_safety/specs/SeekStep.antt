@@ -6,7 +6,7 @@ use Rattle.tap_name.specs.Settings.{SettingsValue}
 use Rattle.tap_link.specs.declared.kind.Kind.TheVariants.{Pin, Settled, Leaving as Marked}
 use Rattle.tap_rule.specs.Node.{NodeState, link_to}
 use Rattle.tap_safety.specs.Frames.{HelloFields, hello_body}
-use Rattle.tap_safety.specs.System.{System, IsCore, HasLink, IsUnderWay, AmongOffered}
+use Rattle.tap_safety.specs.System.{System, IsCoreNode, HasLink, IsUnderWay, AmongOffered}
 use Rattle.tap_safety.specs.Parts.{HoleFree, SettledCore}
 
 -- a Hello offers a settled link of the slot of t
@@ -25,12 +25,12 @@ pub record IsGreeted (p : SettingsValue) (s s' : System) (x b : List ℕ) : Type
   pub is_core : hello.is_core ≡ true
   pub pins : (t : List ℕ) → link_to before t ≡ Some Pin → (t ≡ b → ⊥) → AmongOffered t hello.links
   pub primaries : (t : List ℕ) → link_to before t ≡ Some Settled → lcp x t ≤ lcp x b → OffersPrimary before hello x t
-  pub cores : (y : List ℕ) → IsCore s y → IsCore s' y
+  pub cores : (y : List ℕ) → IsCoreNode s y → IsCoreNode s' y
   pub apart : lcp x b < p.digits
 
 -- what holds before
 pub record BeforeSeek (p : SettingsValue) (s : System) : Type 0 where
-  pub names : (y : List ℕ) → IsCore s y → IsName p y
+  pub names : (y : List ℕ) → IsCoreNode s y → IsName p y
   pub settled : SettledCore s
   pub unmarked : (y t : List ℕ) → HasLink s y t Marked → ⊥
   pub hole_free : HoleFree p s
@@ -38,6 +38,6 @@ pub record BeforeSeek (p : SettingsValue) (s : System) : Type 0 where
 -- b is a new joiner: the core node x is its surrogate, and has greeted it
 pub record JoinerIsGreeted (p : SettingsValue) (s s' : System) (x b : List ℕ) : Type 0 where
   pub before : BeforeSeek p s
-  pub core : IsCore s x
-  pub joins : IsCore s b → ⊥
+  pub core : IsCoreNode s x
+  pub joins : IsCoreNode s b → ⊥
   pub greets : IsGreeted p s s' x b

@@ -4,11 +4,11 @@ use Rattle.tap_wire.specs.declared.frame.Body.TheVariants.{Seek}
 use Rattle.tap_rule.specs.Node.{NodeState}
 use Rattle.tap_rule.specs.Node.Status.{Joining}
 use Rattle.tap_safety.specs.Frames.{HelloFields, hello_body}
-use Rattle.tap_safety.specs.System.{System, AmongFrames, Covers, IsCore, IsNamed, IsTold, IsUnderWay}
+use Rattle.tap_safety.specs.System.{System, AmongFrames, Covers, IsCoreNode, HelloNames, IsTold, IsUnderWay}
 use Rattle.tap_safety.specs.Words.{Has}
 
 -- there is, or was, a node of this name
-pub record IsKnown (s : System) (x : List ℕ) : Type 0 where
+pub record HasNode (s : System) (x : List ℕ) : Type 0 where
   pub state : NodeState
   pub is : s.node x ≡ Some state
 
@@ -25,7 +25,7 @@ pub record HasOneSeek (s : System) (x : List ℕ) : Type 0 where
   pub to : List ℕ
   pub number : ℕ
   pub among : AmongFrames number (record { from = from; to = to; body = Seek x }) s.frames
-  pub core : IsCore s to
+  pub core : IsCoreNode s to
   pub only : (w t : List ℕ) (m : ℕ) → AmongFrames m (record { from = w; to = t; body = Seek x }) s.frames → m ≡ number
 
 -- no table, Tell, Hello or cover names x
@@ -33,14 +33,14 @@ pub record IsUnknown (s : System) (x : List ℕ) : Type 0 where
   pub linked : (y : List ℕ) → Has s y x → ⊥
   pub told : (b t : List ℕ) (level : ℕ) → IsTold s b t level → (b ≡ x → ⊥) × (t ≡ x → ⊥)
   pub greeted : (w b : List ℕ) (fields : HelloFields) → IsUnderWay s w b (hello_body fields) → (w ≡ x → ⊥) × (b ≡ x → ⊥)
-  pub offered : (w b : List ℕ) → IsNamed s w b x → ⊥
+  pub offered : (w b : List ℕ) → HelloNames s w b x → ⊥
   pub covered : (y : List ℕ) (level : ℕ) → Covers s y x level → ⊥
 
 -- Seeking: of each seeker one Seek is under way, and nothing else names it; and each cover is of a known name
 pub record Seeking (s : System) : Type 0 where
   pub seeks : (x : List ℕ) → IsSeeker s x → HasOneSeek s x
   pub unknown : (x : List ℕ) → IsSeeker s x → IsUnknown s x
-  pub covers : (y b : List ℕ) (level : ℕ) → Covers s y b level → IsKnown s b
+  pub covers : (y b : List ℕ) (level : ℕ) → Covers s y b level → HasNode s b
 
 -- S1, seekers: a Seek under way is of a seeker
 pub record AreOfSeekers (s : System) : Type 0 where

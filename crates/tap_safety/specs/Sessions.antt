@@ -48,7 +48,7 @@ pub record HasParent (s : System) (y : List ℕ) (l : ℕ) (child : OpenSession)
 
 -- The sessions are exact: each frame that belongs to a session is awaited there, and each frame that is awaited is under way; each
 -- session with a parent is awaited there; a joiner has at most one root session; and no two frames have one number.
-pub record AreSessions (s : System) : Type 0 where
+pub record AreExact (s : System) : Type 0 where
   pub frames : (number : ℕ) (f : Frame) (x : List ℕ) (k : ℕ) → AmongFrames number f s.frames → Belongs f x k
       → Awaits s x k (Way number)
   pub ways : (x : List ℕ) (k number : ℕ) → Awaits s x k (Way number) → HasFrame s.frames number x k

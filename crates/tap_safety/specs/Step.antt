@@ -6,20 +6,20 @@ use Rattle.tap_rule.specs.Node.{NodeState}
 use Rattle.tap_safety.specs.System.{System}
 
 -- frames with their numbers, from this one on
-abbrev pub numbered : ℕ → List Frame → List (ℕ × Frame)
-numbered number [] = []
-numbered number (frame ∷ frames) = (number, frame) ∷ numbered (number + 1) frames
+abbrev pub numbered_from : ℕ → List Frame → List (ℕ × Frame)
+numbered_from number [] = []
+numbered_from number (frame ∷ frames) = (number, frame) ∷ numbered_from (number + 1) frames
 
 -- a frame is taken and others are sent
 pub record IsTaken (s s' : System) (number : ℕ) (frame : Frame) (sent : List Frame) : Type 0 where
   pub front : List (ℕ × Frame)
   pub back : List (ℕ × Frame)
   pub before : s.frames ≡ front ++ (number, frame) ∷ back
-  pub after : s'.frames ≡ front ++ (back ++ numbered s.next sent)
+  pub after : s'.frames ≡ front ++ (back ++ numbered_from s.next sent)
   pub next : s'.next ≡ s.next + length sent
 
 -- only the node of x changes
-pub record IsAt (s s' : System) (x : List ℕ) (before after : NodeState) : Type 0 where
+pub record ChangesAt (s s' : System) (x : List ℕ) (before after : NodeState) : Type 0 where
   pub was : s.node x ≡ Some before
   pub is : s'.node x ≡ Some after
   pub others : (y : List ℕ) → (y ≡ x) ⊎ (s'.node y ≡ s.node y)

@@ -34,7 +34,7 @@ pub record IsUnderWay (s : System) (from to : List ℕ) (body : Body) : Type 0 w
   pub among : AmongFrames number (record { from = from; to = to; body = body }) s.frames
 
 -- there is a core node of this name; a leaving node counts as core
-pub record IsCore (s : System) (x : List ℕ) : Type 0 where
+pub record IsCoreNode (s : System) (x : List ℕ) : Type 0 where
   pub state : NodeState
   pub is : s.node x ≡ Some state
   pub core : (state.status ≡ Core) ⊎ (state.status ≡ Leaving)
@@ -74,7 +74,7 @@ AmongOffered x [] = ⊥
 AmongOffered x (offered ∷ others) = (x ≡ offered.name) ⊎ AmongOffered x others
 
 -- a Hello from w is on its way to b, and names x: it offers it, or it is from the core node x
-pub record IsNamed (s : System) (w b x : List ℕ) : Type 0 where
+pub record HelloNames (s : System) (w b x : List ℕ) : Type 0 where
   pub fields : HelloFields
   pub way : IsUnderWay s w b (hello_body fields)
   pub named : AmongOffered x fields.links ⊎ ((x ≡ w) × (fields.is_core ≡ true))

@@ -10,10 +10,10 @@ use Rattle.tap_wire.specs.declared.frame.Frame.{Frame}
 use Rattle.tap_wire.specs.declared.frame.TellFields.{TellFields}
 use Rattle.tap_rule.specs.Node.{NodeState, link_to}
 use Rattle.tap_safety.specs.Frames.{HelloFields, hello_body, tell_body}
-use Rattle.tap_safety.specs.System.{System, AmongOffered, HasLink, IsCore, IsJoiner}
+use Rattle.tap_safety.specs.System.{System, AmongOffered, HasLink, IsCoreNode, IsJoiner}
 use Rattle.tap_safety.specs.Words.{IsIn, prefix_of}
 use Rattle.tap_safety.specs.Parts.{Cover, Covered, HoleFree, SettledCore}
-use Rattle.tap_safety.specs.Step.{IsAt, IsSent, IsTaken}
+use Rattle.tap_safety.specs.Step.{ChangesAt, IsSent, IsTaken}
 
 -- x tells t of b, at the level that it has for t
 pub record Tells (sent : List Frame) (x b t : List ℕ) : Type 0 where
@@ -66,7 +66,7 @@ pub record TakesTell (s s' : System) (number : ℕ) (w x : List ℕ) (tell : Tel
   pub after : NodeState
   pub sent : List Frame
   pub taken : IsTaken s s' number (record { from = w; to = x; body = tell_body tell watch }) sent
-  pub at : IsAt s s' x before after
+  pub at : ChangesAt s s' x before after
   pub covers : CoversAnew before after sent x tell.joiner tell.prefix tell.level
   pub surrogate : (b : List ℕ) → s'.surrogate b ≡ s.surrogate b
 
@@ -76,7 +76,7 @@ pub record TakesKnownTell (s s' : System) (number : ℕ) (w x : List ℕ) (tell 
   pub after : NodeState
   pub sent : List Frame
   pub taken : IsTaken s s' number (record { from = w; to = x; body = tell_body tell watch }) sent
-  pub at : IsAt s s' x before after
+  pub at : ChangesAt s s' x before after
   pub status : after.status ≡ before.status
   pub links : (t : List ℕ) → link_to after t ≡ link_to before t
   pub covers : (d : List ℕ) → level_kept after.covers d ≡ level_kept before.covers d
@@ -87,7 +87,7 @@ pub record TakesKnownTell (s s' : System) (number : ℕ) (w x : List ℕ) (tell 
 
 -- what holds before the step, of those that the law needs
 pub record BeforeTell (p : SettingsValue) (s : System) : Type 0 where
-  pub names : (x : List ℕ) → IsCore s x → IsName p x
+  pub names : (x : List ℕ) → IsCoreNode s x → IsName p x
   pub settled : SettledCore s
   pub unmarked : (x t : List ℕ) → HasLink s x t Marked → ⊥
   pub covered : Covered p s
@@ -96,7 +96,7 @@ pub record BeforeTell (p : SettingsValue) (s : System) : Type 0 where
 
 -- what is known of the Tell that is taken
 pub record IsTellOf (p : SettingsValue) (s : System) (x b : List ℕ) (prefix level : ℕ) : Type 0 where
-  pub core : IsCore s x
+  pub core : IsCoreNode s x
   pub joiner : IsJoiner s b
   pub apart : lcp x b < p.digits
   pub inside : IsIn s b x

@@ -33,17 +33,17 @@ link_of s x t = link_in (s.node x) t
 unfoldable pub register_of : System → List ℕ → List ℕ → Option Word
 register_of s t x = register_in (s.node t) x
 
--- a node with this status hears a word: it is neither gone nor ceased
-abbrev pub hears : Option Status → Type 0
-hears None = ⊥
-hears (Some Joining) = Unit
-hears (Some Core) = Unit
-hears (Some Leaving) = Unit
-hears (Some Gone) = ⊥
-hears (Some Ceased) = ⊥
+-- a node with this status hears words: it is neither gone nor ceased
+abbrev pub hears_words : Option Status → Type 0
+hears_words None = ⊥
+hears_words (Some Joining) = Unit
+hears_words (Some Core) = Unit
+hears_words (Some Leaving) = Unit
+hears_words (Some Gone) = ⊥
+hears_words (Some Ceased) = ⊥
 
-abbrev pub link_frame : List ℕ → List ℕ → Word → Frame
-link_frame x t word = record { from = x; to = t; body = Link word.version word.on }
+abbrev pub word_frame : List ℕ → List ℕ → Word → Frame
+word_frame x t word = record { from = x; to = t; body = Link word.version word.on }
 
 abbrev pub release_frame : List ℕ → List ℕ → Frame
 release_frame t x = record { from = t; to = x; body = Release }
@@ -54,7 +54,7 @@ IsOnWay s frame = IsUnderWay s frame.from frame.to frame.body
 
 -- the word of x to t stands: it is on its way, or in the register of t
 abbrev pub Stands : System → List ℕ → List ℕ → Word → Type 0
-Stands s x t word = IsOnWay s (link_frame x t word) ⊎ (register_of s t x ≡ Some word)
+Stands s x t word = IsOnWay s (word_frame x t word) ⊎ (register_of s t x ≡ Some word)
 
 -- x has sent t a word, the last one says this, and it stands
 pub record LastIs (s : System) (x t : List ℕ) (on : Bool) : Type 0 where
@@ -63,17 +63,17 @@ pub record LastIs (s : System) (x t : List ℕ) (on : Bool) : Type 0 where
   pub on_is : last.on ≡ on
   pub stands : Stands s x t last
 
--- Of x and a t that hears: if x has a link to t, its last word is that it has, and stands; if it has none but has sent t a word, its
+-- Of x and a t that hears words: if x has a link to t, its last word is that it has, and stands; if it has none but has sent t a word, its
 -- last word is that it has none, and stands. If x pins a core node t, its last word or t's Release is on its way.
 pub record Ties (s : System) : Type 0 where
-  pub linked : (x t : List ℕ) (kind : Kind) → hears (status_of s t) → link_of s x t ≡ Some kind → LastIs s x t true
-  pub dropped : (x t : List ℕ) (word : Word) → hears (status_of s t) → link_of s x t ≡ None → s.last x t ≡ Some word
+  pub linked : (x t : List ℕ) (kind : Kind) → hears_words (status_of s t) → link_of s x t ≡ Some kind → LastIs s x t true
+  pub dropped : (x t : List ℕ) (word : Word) → hears_words (status_of s t) → link_of s x t ≡ None → s.last x t ≡ Some word
       → LastIs s x t false
   pub pinned : (x t : List ℕ) → status_of s t ≡ Some Core → link_of s x t ≡ Some Pin
-      → ((word : Word) × (s.last x t ≡ Some word) × IsOnWay s (link_frame x t word)) ⊎ IsOnWay s (release_frame t x)
+      → ((word : Word) × (s.last x t ≡ Some word) × IsOnWay s (word_frame x t word)) ⊎ IsOnWay s (release_frame t x)
 
 -- x has sent t a word; this one is not above the last one, and is the last one if it has its version
-pub record IsWithin (s : System) (x t : List ℕ) (word : Word) : Type 0 where
+pub record IsNoNewer (s : System) (x t : List ℕ) (word : Word) : Type 0 where
   pub last : Word
   pub is : s.last x t ≡ Some last
   pub most : word.version ≤ last.version
@@ -81,9 +81,9 @@ pub record IsWithin (s : System) (x t : List ℕ) (word : Word) : Type 0 where
 
 -- no word on its way or in a register is above the last one of its sender, and the last one isn't both on its way and in the register
 pub record Versions (s : System) : Type 0 where
-  pub ways : (x t : List ℕ) (word : Word) → IsOnWay s (link_frame x t word) → IsWithin s x t word
-  pub registers : (x t : List ℕ) (word : Word) → register_of s t x ≡ Some word → IsWithin s x t word
-  pub once : (x t : List ℕ) (word kept : Word) → s.last x t ≡ Some word → IsOnWay s (link_frame x t word)
+  pub ways : (x t : List ℕ) (word : Word) → IsOnWay s (word_frame x t word) → IsNoNewer s x t word
+  pub registers : (x t : List ℕ) (word : Word) → register_of s t x ≡ Some word → IsNoNewer s x t word
+  pub once : (x t : List ℕ) (word kept : Word) → s.last x t ≡ Some word → IsOnWay s (word_frame x t word)
       → register_of s t x ≡ Some kept → kept.version < word.version
 
 -- a version is newer than what the register has
@@ -97,10 +97,10 @@ pub record TakesLink (s s' : System) (x t : List ℕ) (word : Word) : Type 0 whe
   pub status : (y : List ℕ) → status_of s' y ≡ status_of s y
   pub links : (y u : List ℕ) → link_of s' y u ≡ link_of s y u
   pub last : (y u : List ℕ) → s'.last y u ≡ s.last y u
-  pub taken : IsOnWay s (link_frame x t word)
-  pub still : (f : Frame) → IsOnWay s f → (f ≡ link_frame x t word) ⊎ IsOnWay s' f
+  pub taken : IsOnWay s (word_frame x t word)
+  pub still : (f : Frame) → IsOnWay s f → (f ≡ word_frame x t word) ⊎ IsOnWay s' f
   pub was : (f : Frame) → IsOnWay s' f → IsOnWay s f ⊎ (f ≡ release_frame t x)
-  pub left : IsOnWay s' (link_frame x t word) → ⊥
+  pub left : IsOnWay s' (word_frame x t word) → ⊥
   pub registers : (u y : List ℕ) → ((u ≡ t) × (y ≡ x)) ⊎ (register_of s' u y ≡ register_of s u y)
   pub new : IsNewer word.version (register_of s t x) → register_of s' t x ≡ Some word
   pub old : (kept : Word) → register_of s t x ≡ Some kept → word.version ≤ kept.version → register_of s' t x ≡ Some kept

@@ -4,7 +4,7 @@ use Rattle.std.specs.Option.{unwrap_or}
 use Rattle.tap_name.specs.Prefix.{lcp}
 use Rattle.tap_link.specs.declared.kind.Kind.{Kind}
 use Rattle.tap_link.specs.declared.kind.Kind.TheVariants.{Pin}
-use Rattle.tap_safety.specs.System.{System, IsCore, HasLink, IsTold, IsNamed}
+use Rattle.tap_safety.specs.System.{System, IsCoreNode, HasLink, IsTold, HelloNames}
 
 -- the surrogate of a joiner that was started
 abbrev pub surrogate_of : System → List ℕ → List ℕ
@@ -29,12 +29,12 @@ pub record Has (s : System) (x y : List ℕ) : Type 0 where
 
 -- b knows y: it has y, or a Hello on its way to b names it
 pub record Knows (s : System) (b y : List ℕ) : Type 0 where
-  pub known : Has s b y ⊎ ((w : List ℕ) × IsNamed s w b y)
+  pub known : Has s b y ⊎ ((w : List ℕ) × HelloNames s w b y)
 
 -- b is given the slot of e: it knows a core node of that slot
 pub record IsGiven (s : System) (b e : List ℕ) : Type 0 where
   pub by : List ℕ
-  pub core : IsCore s by
+  pub core : IsCoreNode s by
   pub near : lcp b e < lcp e by
   pub knows : Knows s b by
 
@@ -43,7 +43,7 @@ pub record IsReached (s : System) (b e : List ℕ) (above : ℕ) : Type 0 where
   pub to : List ℕ
   pub level : ℕ
   pub told : IsTold s b to level
-  pub core : IsCore s to
+  pub core : IsCoreNode s to
   pub higher : above < level
   pub shared : level ≤ lcp to e
 
