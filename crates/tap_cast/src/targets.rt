@@ -1,13 +1,13 @@
 ghost use Rattle.std.specs.Prelude.{◌≡◌, ◌+◌, ◌<◌, ◌≤◌, ◌++◌, map, IfOk, OnOk};
 ghost use Rattle.std.specs.List.{flat_map};
-ghost use Rattle.tap_link.specs.LinkSet.{is_pinned, least_settled};
+ghost use Rattle.tap_link.specs.LinkSet.{least_settled};
 ghost use Rattle.tap_table.specs.ByName.{slots_in};
 ghost use Rattle.tap_table.specs.Table.{links_at};
 ghost use Rattle.tap_cast.specs.Targets.{cast_targets, is_level, pins_of, primary_or_pins, slot_targets, target_at};
 
 use crate::target::CastTarget;
 use std::alloc::Global;
-use tap_link::{Kind, LinkSet};
+use tap_link::LinkSet;
 use tap_name::{Name, Slot};
 use tap_table::{NoMemory, SlotRange, Table};
 
@@ -79,7 +79,7 @@ fn push_pins(targets: &mut Vec<CastTarget>, level: u8, set: &LinkSet<Name>) -> R
     ensures { OnOk result (targets.new.items ≡ targets.old.items ++ map (target_at level) (pins_of set.now.links)) }
 {
     for at in 0..set.len() {
-        if is_pin(set.kind_at(at)) {
+        if set.kind_at(at).is_pin() {
             targets.push(CastTarget {
                 to: set.target_at(at),
                 level,
@@ -87,14 +87,4 @@ fn push_pins(targets: &mut Vec<CastTarget>, level: u8, set: &LinkSet<Name>) -> R
         }
     }
     Ok(())
-}
-
-// Whether a link of this kind is a pin.
-fn is_pin(kind: Kind) -> bool
-    ensures { result ≡ is_pinned (Some kind) }
-{
-    match kind {
-        Kind::Pin => true,
-        Kind::Settled | Kind::Leaving => false,
-    }
 }

@@ -13,7 +13,7 @@ use Rattle.tap_name.proofs.Prefixes.{lcp-sym}
 use Rattle.tap_link.specs.declared.kind.Kind.{Kind}
 use Rattle.tap_link.specs.declared.kind.Kind.TheVariants.{Leaving, Pin, Settled}
 use Rattle.tap_link.specs.Entry.{Entry}
-use Rattle.tap_link.specs.LinkSet.{IsAscending, is_settled}
+use Rattle.tap_link.specs.LinkSet.{LinksAscend, is_settled}
 use Rattle.tap_link.proofs.Least.{ascending_tail}
 use Rattle.tap_table.specs.ByName.{by_name}
 use Rattle.tap_table.specs.Table.{IsTable, SlotLinks, TableValue, kind_in, name_cmp}
@@ -27,7 +27,7 @@ settled_kind Settled is = refl
 settled_kind Leaving is = cc
 
 -- the first name is below a later one
-later_above : (e : Entry (List ℕ)) (links : SlotLinks) (i : ℕ) (f : Entry (List ℕ)) → IsAscending name_cmp (e ∷ links)
+later_above : (e : Entry (List ℕ)) (links : SlotLinks) (i : ℕ) (f : Entry (List ℕ)) → LinksAscend name_cmp (e ∷ links)
     → slice_get links i ≡ Some f → IsBelow e.target f.target
 later_above e links i f ascending got =
     let read = get_or_from_slice_get links i f f got in
@@ -66,7 +66,7 @@ module _ (owner : List ℕ) (level : ℕ) where
       ]
 
   -- and no other is below it
-  least_where : (links : SlotLinks) (name : List ℕ) (i : ℕ) (e : Entry (List ℕ)) → IsAscending name_cmp links
+  least_where : (links : SlotLinks) (name : List ℕ) (i : ℕ) (e : Entry (List ℕ)) → LinksAscend name_cmp links
       → first_above owner level links ≡ Some name → slice_get links i ≡ Some e → passes e → IsBelow e.target name → ⊥
   least_where [] name i e ascending is got held lower = cc
   least_where (f ∷ links) name zero e ascending is got held lower =

@@ -6,7 +6,7 @@ use Rattle.std.proofs.lemmas.Cmp.{nat_list_cmp_total}
 use Rattle.tap_name.specs.Name.{IsName}
 use Rattle.tap_link.specs.declared.kind.Kind.{Kind}
 use Rattle.tap_link.specs.declared.kind.Kind.TheVariants.{Pin, Settled}
-use Rattle.tap_link.specs.LinkSet.{IsAscending, LinkSetValue, settled_count}
+use Rattle.tap_link.specs.LinkSet.{LinksAscend, LinkSetValue, settled_count}
 use Rattle.tap_link.specs.LinkSet.{pinned as set_pinned, offered as set_offered}
 use Rattle.tap_link.proofs.Sizes.{settled_count-offered, settled_count-pinned}
 use Rattle.tap_link.proofs.TargetKinds.{kind_offered, kind_pinned}
@@ -78,7 +78,7 @@ module _ (t : TableValue) (name : List ℕ) (valid : IsTable t) (is_name : IsNam
         | inr ne ↦ ap room (links_elsewhere t name valid is_name apart new (number_near t other) ne) ∙ full
       ]
 
-  ascending : IsAscending name_cmp (links_near t name)
+  ascending : LinksAscend name_cmp (links_near t name)
   ascending = (valid.sets (number_near t name)).ascending
 
   -- so pins and offers leave it without room

@@ -10,7 +10,7 @@ use Rattle.std.proofs.lemmas.List.{length-map}
 use Rattle.std.proofs.lemmas.List.Sums.{sum_by-append, sum_by-cons}
 use Rattle.tap_link.specs.declared.kind.Kind.{Kind}
 use Rattle.tap_link.specs.Entry.{Entry}
-use Rattle.tap_link.specs.LinkSet.{IsAscending, kind_of, with_link, with_kind, without, settled_count, is_settled}
+use Rattle.tap_link.specs.LinkSet.{LinksAscend, kind_of, with_link, with_kind, without, settled_count, is_settled}
 use Rattle.tap_link.proofs.Least.{tied_is, ascending_tail}
 use Rattle.tap_link.proofs.Search.{AreAbove, above-without, above-with_kind}
 
@@ -63,14 +63,14 @@ module _ {K : Type 0} (cmp : K → K → Ordering) where
       rw (sum_by-append (λ f. weight f.kind) lesser (new ∷ greater), kind_sum-cons weight new greater)
       (omega (arith, both_sides weight links target absent))
 
-  above_all : IsTotalOrder cmp → (e : Entry K) (es : List (Entry K)) (target : K) → IsAscending cmp (e ∷ es)
+  above_all : IsTotalOrder cmp → (e : Entry K) (es : List (Entry K)) (target : K) → LinksAscend cmp (e ∷ es)
       → is_eq (cmp target e.target) ≡ true → AreAbove cmp es target 0
   above_all o e es target ascending tied k d ge h =
       o.congr target e.target _ (tied_is (cmp target e.target) tied) ∙ ascending 0 (suc k) d (omega arith) (omega arith)
 
   -- a link less
   pub kind_sum-without : IsTotalOrder cmp → (weight : Kind → ℕ) (links : List (Entry K)) (target : K) (kind : Kind)
-      → IsAscending cmp links → kind_of cmp links target ≡ Some kind
+      → LinksAscend cmp links → kind_of cmp links target ≡ Some kind
       → kind_sum weight (without cmp links target) + weight kind ≡ kind_sum weight links
   kind_sum-without o weight [] target kind ascending found = cc
   kind_sum-without o weight (e ∷ es) target kind ascending found =
@@ -88,7 +88,7 @@ module _ {K : Type 0} (cmp : K → K → Ordering) where
 
   -- a link of another kind
   pub kind_sum-with_kind : IsTotalOrder cmp → (weight : Kind → ℕ) (links : List (Entry K)) (target : K) (old new : Kind)
-      → IsAscending cmp links → kind_of cmp links target ≡ Some old
+      → LinksAscend cmp links → kind_of cmp links target ≡ Some old
       → kind_sum weight (with_kind cmp links target new) + weight old ≡ kind_sum weight links + weight new
   kind_sum-with_kind o weight [] target old new ascending found = cc
   kind_sum-with_kind o weight (e ∷ es) target old new ascending found =
@@ -114,13 +114,13 @@ module _ {K : Type 0} (cmp : K → K → Ordering) where
   settled_count-with_link links target kind absent = kind_sum-with_link (λ k. cond (is_settled (Some k)) 1 0) links target kind absent
 
   pub settled_count-without : IsTotalOrder cmp → (links : List (Entry K)) (target : K) (kind : Kind)
-      → IsAscending cmp links → kind_of cmp links target ≡ Some kind
+      → LinksAscend cmp links → kind_of cmp links target ≡ Some kind
       → settled_count (without cmp links target) + cond {A = ℕ} (is_settled (Some kind)) 1 0 ≡ settled_count links
   settled_count-without o links target kind ascending found =
       kind_sum-without o (λ k. cond (is_settled (Some k)) 1 0) links target kind ascending found
 
   pub settled_count-with_kind : IsTotalOrder cmp → (links : List (Entry K)) (target : K) (old new : Kind)
-      → IsAscending cmp links → kind_of cmp links target ≡ Some old
+      → LinksAscend cmp links → kind_of cmp links target ≡ Some old
       → settled_count (with_kind cmp links target new) + cond {A = ℕ} (is_settled (Some old)) 1 0
       ≡ settled_count links + cond {A = ℕ} (is_settled (Some new)) 1 0
   settled_count-with_kind o links target old new ascending found =
@@ -140,7 +140,7 @@ module _ {K : Type 0} (cmp : K → K → Ordering) where
   length-with_kind links target kind = length-map links _
 
   pub length-without : IsTotalOrder cmp → (links : List (Entry K)) (target : K) (kind : Kind)
-      → IsAscending cmp links → kind_of cmp links target ≡ Some kind → length (without cmp links target) + 1 ≡ length links
+      → LinksAscend cmp links → kind_of cmp links target ≡ Some kind → length (without cmp links target) + 1 ≡ length links
   length-without o links target kind ascending found =
       omega (
         arith,

@@ -11,14 +11,14 @@ use Rattle.std.proofs.lemmas.List.Quantifiers.{all_pairs_remove}
 use Rattle.tap_link.specs.declared.kind.Kind.{Kind}
 use Rattle.std.specs.declared.cmp.Ordering.TheVariants.{Less}
 use Rattle.tap_link.specs.Entry.{Entry}
-use Rattle.tap_link.specs.LinkSet.{LinkSetValue, IsAscending, IsLinkSet, settled_count, is_settled}
-use Rattle.tap_link.specs.Places.{IsGap}
+use Rattle.tap_link.specs.LinkSet.{LinkSetValue, LinksAscend, IsLinkSet, settled_count, is_settled}
+use Rattle.tap_link.specs.Places.{IsGapFor}
 use Rattle.tap_link.proofs.Present.{get_or_from_got, within_from_got}
 
 module _ {K : Type 0} (cmp : K → K → Ordering) where
   -- a link more, in its gap
-  ascending-insert : IsTotalOrder cmp → (links : List (Entry K)) (e : Entry K) (at : ℕ) → IsAscending cmp links
-      → IsGap cmp links e.target at → IsAscending cmp (insert links at e)
+  ascending-insert : IsTotalOrder cmp → (links : List (Entry K)) (e : Entry K) (at : ℕ) → LinksAscend cmp links
+      → IsGapFor cmp links e.target at → LinksAscend cmp (insert links at e)
   ascending-insert o links e at ascending gap i j d lt inside =
       let len = length-insert links at e gap.within in
       elim (cases_order j at) [
@@ -45,8 +45,8 @@ module _ {K : Type 0} (cmp : K → K → Ordering) where
       ]
 
   -- another link to the same target
-  ascending-set : (links : List (Entry K)) (at : ℕ) (e x : Entry K) → IsAscending cmp links → slice_get links at ≡ Some x
-      → e.target ≡ x.target → IsAscending cmp (set links at e)
+  ascending-set : (links : List (Entry K)) (at : ℕ) (e x : Entry K) → LinksAscend cmp links → slice_get links at ≡ Some x
+      → e.target ≡ x.target → LinksAscend cmp (set links at e)
   ascending-set links at e x ascending got same i j d lt inside =
       let len = length-set links at e in
       let within = within_from_got links at x got in
@@ -63,7 +63,7 @@ module _ {K : Type 0} (cmp : K → K → Ordering) where
   fits true count width within room = let lt : count < width = room refl in omega arith
   fits false count width within room = omega arith
 
-  pub kept-insert : IsTotalOrder cmp → (s : LinkSetValue K) (e : Entry K) (at : ℕ) → IsLinkSet cmp s → IsGap cmp s.links e.target at
+  pub kept-insert : IsTotalOrder cmp → (s : LinkSetValue K) (e : Entry K) (at : ℕ) → IsLinkSet cmp s → IsGapFor cmp s.links e.target at
       → (is_settled (Some e.kind) ≡ true → settled_count s.links < s.width) → IsLinkSet cmp (record s { links = insert s.links at e })
   kept-insert o s e at kept gap room =
       let fit = fits (is_settled (Some e.kind)) (settled_count s.links) s.width kept.within_width room in

@@ -11,7 +11,7 @@ use Rattle.std.proofs.lemmas.List.Sums.{sum_by-cons, sum_by_more}
 use Rattle.tap_link.specs.declared.kind.Kind.{Kind}
 use Rattle.tap_link.specs.declared.kind.Kind.TheVariants.{Pin, Settled, Leaving}
 use Rattle.tap_link.specs.Entry.{Entry}
-use Rattle.tap_link.specs.LinkSet.{IsAscending, IsLeastSettled, kind_of, is_settled, settled_count, least_settled}
+use Rattle.tap_link.specs.LinkSet.{LinksAscend, IsLeastSettled, kind_of, is_settled, settled_count, least_settled}
 use Rattle.tap_link.proofs.Present.{get_or_from_got, within_from_got}
 
 is_settled_is : (kind : Kind) → is_settled (Some kind) ≡ true → kind ≡ Settled
@@ -77,13 +77,13 @@ module _ {K : Type 0} (cmp : K → K → Ordering) where
   abbrev IsBelowAll : K → List (Entry K) → Type 0
   IsBelowAll target links = (k : ℕ) (d : Entry K) → k < length links → cmp target (get_or links k d).target ≡ Less
 
-  below_rest : (e : Entry K) (es : List (Entry K)) → IsAscending cmp (e ∷ es) → IsBelowAll e.target es
+  below_rest : (e : Entry K) (es : List (Entry K)) → LinksAscend cmp (e ∷ es) → IsBelowAll e.target es
   below_rest e es ascending k d h = ascending 0 (suc k) d (omega arith) (omega arith)
 
   below_tail : (target : K) (e : Entry K) (es : List (Entry K)) → IsBelowAll target (e ∷ es) → IsBelowAll target es
   below_tail target e es below k d h = below (suc k) d (omega arith)
 
-  pub ascending_tail : (e : Entry K) (es : List (Entry K)) → IsAscending cmp (e ∷ es) → IsAscending cmp es
+  pub ascending_tail : (e : Entry K) (es : List (Entry K)) → LinksAscend cmp (e ∷ es) → LinksAscend cmp es
   ascending_tail e es ascending i j d lt h = ascending (suc i) (suc j) d (omega arith) (omega arith)
 
   -- what is below all links is below the least settled one
@@ -114,7 +114,7 @@ module _ {K : Type 0} (cmp : K → K → Ordering) where
       ]
 
   -- the first settled link of an ascending list is the least one
-  pub least_settled_is : IsTotalOrder cmp → (links : List (Entry K)) (target : K) → IsAscending cmp links
+  pub least_settled_is : IsTotalOrder cmp → (links : List (Entry K)) (target : K) → LinksAscend cmp links
       → least_settled links ≡ Some target → IsLeastSettled cmp links target
   least_settled_is o [] target ascending some = cc
   least_settled_is o (e ∷ es) target ascending some =

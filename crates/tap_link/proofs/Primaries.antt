@@ -11,7 +11,7 @@ use Rattle.std.proofs.lemmas.Cmp.{alike_right, tied_itself}
 use Rattle.tap_link.specs.declared.kind.Kind.{Kind}
 use Rattle.tap_link.specs.declared.kind.Kind.TheVariants.{Pin, Settled, Leaving}
 use Rattle.tap_link.specs.Entry.{Entry}
-use Rattle.tap_link.specs.LinkSet.{IsAscending, IsLeastSettled, IsLinkSet, LinkSetValue, forgotten, has_room, is_pinned, kind_of, least_settled, marked, offered, pinned, released, removed, with_kind, with_link, without}
+use Rattle.tap_link.specs.LinkSet.{LinksAscend, IsLeastSettled, IsLinkSet, LinkSetValue, forgotten, has_room, is_pinned, kind_of, least_settled, marked, offered, pinned, released, removed, with_kind, with_link, without}
 use Rattle.tap_link.proofs.Least.{least_settled_is, never_settled, tied_is}
 use Rattle.tap_link.proofs.LookUps.{kind_of-with_kind, kind_of-with_link, kind_of-without}
 use Rattle.tap_link.proofs.TargetKinds.{by_rule, kind_forgotten, kind_marked, kind_of-marked, kind_of-pinned, kind_of-removed, kind_pinned, kind_removed}
@@ -38,7 +38,7 @@ module _ {K : Type 0} (cmp : K → K → Ordering) (o : IsTotalOrder cmp) (apart
   neither_less a b Greater is not_less not_greater = absurd (not_greater (o.antisymm b a ∙ ap ordering_reverse is))
 
   -- a set has one least settled link
-  pub least_settled-from : (links : List (Entry K)) (target : K) → IsAscending cmp links → IsLeastSettled cmp links target
+  pub least_settled-from : (links : List (Entry K)) (target : K) → LinksAscend cmp links → IsLeastSettled cmp links target
       → least_settled links ≡ Some target
   least_settled-from links target ascending least = by_found (least_settled links) refl
     where
@@ -50,7 +50,7 @@ module _ {K : Type 0} (cmp : K → K → Ordering) (o : IsTotalOrder cmp) (apart
           is ∙ ap Some (neither_less first target (cmp first target) refl (least.least first found.settled) not_above)
 
   -- it is told by which targets are settled
-  pub least_settled-same : (links others : List (Entry K)) → IsAscending cmp links → IsAscending cmp others
+  pub least_settled-same : (links others : List (Entry K)) → LinksAscend cmp links → LinksAscend cmp others
       → SameSettled cmp links others → least_settled links ≡ least_settled others
   least_settled-same links others ascending ascending' same = by_found (least_settled others) refl
     where
@@ -106,7 +106,7 @@ module _ {K : Type 0} (cmp : K → K → Ordering) (o : IsTotalOrder cmp) (apart
       ]
 
   -- the new least one is the target, where nothing that was settled is below it
-  least_added : (links new : List (Entry K)) (target : K) → IsAscending cmp new → AddsSettled links new target
+  least_added : (links new : List (Entry K)) (target : K) → LinksAscend cmp new → AddsSettled links new target
       → ((other : K) → kind_of cmp links other ≡ Some Settled → cmp other target ≢ Less) → least_settled new ≡ Some target
   least_added links new target ascending adds above =
       least_settled-from new target ascending (record {
@@ -119,7 +119,7 @@ module _ {K : Type 0} (cmp : K → K → Ordering) (o : IsTotalOrder cmp) (apart
       })
 
   -- and the least one stays where it is below the target
-  least_stays : (links new : List (Entry K)) (target first : K) → IsAscending cmp new → AddsSettled links new target
+  least_stays : (links new : List (Entry K)) (target first : K) → LinksAscend cmp new → AddsSettled links new target
       → IsLeastSettled cmp links first → cmp first target ≡ Less → least_settled new ≡ Some first
   least_stays links new target first ascending adds found below =
       let above : cmp target first ≡ Greater = o.antisymm target first ∙ ap ordering_reverse below in
@@ -141,7 +141,7 @@ module _ {K : Type 0} (cmp : K → K → Ordering) (o : IsTotalOrder cmp) (apart
       let below : cmp target first ≡ Less = o.antisymm target first ∙ ap ordering_reverse is in
       found.least other settled (o.trans other target first less below)
 
-  added_by : (links new : List (Entry K)) (target first : K) (r : Ordering) → cmp first target ≡ r → IsAscending cmp new
+  added_by : (links new : List (Entry K)) (target first : K) (r : Ordering) → cmp first target ≡ r → LinksAscend cmp new
       → AddsSettled links new target → IsLeastSettled cmp links first
       → least_settled new ≡ (if is_lt (cmp first target) then Some first else Some target)
   added_by links new target first Less is ascending adds found = rw is (least_stays links new target first ascending adds found is)
@@ -151,7 +151,7 @@ module _ {K : Type 0} (cmp : K → K → Ordering) (o : IsTotalOrder cmp) (apart
       rw is (least_added links new target ascending adds (not_below links target first Greater is (λ wrong. cc) found))
 
   -- the primary after one more target is settled
-  pub least_settled-added : (links new : List (Entry K)) (target : K) → IsAscending cmp links → IsAscending cmp new
+  pub least_settled-added : (links new : List (Entry K)) (target : K) → LinksAscend cmp links → LinksAscend cmp new
       → AddsSettled links new target → least_settled new ≡ lesser_of cmp (least_settled links) target
   least_settled-added links new target ascending ascending' adds = by_found (least_settled links) refl
     where
@@ -196,7 +196,7 @@ module _ {K : Type 0} (cmp : K → K → Ordering) (o : IsTotalOrder cmp) (apart
   removed_never (Some Leaving) settled = cc
 
   -- where another target is the primary, or none, so it stays
-  pub least_settled-lost_other : (links new : List (Entry K)) (target : K) → IsAscending cmp links → IsAscending cmp new
+  pub least_settled-lost_other : (links new : List (Entry K)) (target : K) → LinksAscend cmp links → LinksAscend cmp new
       → LosesSettled links new target → least_settled links ≢ Some target → least_settled new ≡ least_settled links
   least_settled-lost_other links new target ascending ascending' loses other = by_found (least_settled links) refl
     where
@@ -221,7 +221,7 @@ module _ {K : Type 0} (cmp : K → K → Ordering) (o : IsTotalOrder cmp) (apart
   above_lost target next Greater is not_less not_equal = o.antisymm target next ∙ ap ordering_reverse is
 
   -- where the target was the primary, the next one is above it
-  pub least_settled-lost : (links new : List (Entry K)) (target next : K) → IsAscending cmp links → IsAscending cmp new
+  pub least_settled-lost : (links new : List (Entry K)) (target next : K) → LinksAscend cmp links → LinksAscend cmp new
       → LosesSettled links new target → least_settled links ≡ Some target → least_settled new ≡ Some next → cmp target next ≡ Less
   least_settled-lost links new target next ascending ascending' loses is next_is =
       let first = least_settled_is cmp o links target ascending is in

@@ -9,8 +9,8 @@ use Rattle.std.proofs.lemmas.Bool.{cases_order}
 use Rattle.tap_link.specs.declared.kind.Kind.{Kind}
 use Rattle.tap_link.specs.declared.kind.Kind.TheVariants.{Pin, Settled, Leaving}
 use Rattle.tap_link.specs.Entry.{Entry}
-use Rattle.tap_link.specs.LinkSet.{LinkSetValue, is_pinned, is_settled, is_settled_or_leaving, IsAscending, kind_of, with_link, with_kind, without}
-use Rattle.tap_link.specs.Places.{IsGap, IsAt}
+use Rattle.tap_link.specs.LinkSet.{LinkSetValue, is_pinned, is_settled, is_settled_or_leaving, LinksAscend, kind_of, with_link, with_kind, without}
+use Rattle.tap_link.specs.Places.{IsGapFor, StandsAt}
 use Rattle.tap_link.proofs.Present.{get_or_from_got, within_from_got}
 
 -- what two arms of a match on the kind say
@@ -139,7 +139,7 @@ module _ {K : Type 0} (cmp : K → K → Ordering) where
 
   -- what one look at a link tells of the others: those before a lesser target, those from a greater one on, and those on both sides
   -- of an equal one
-  pub below_after : IsTotalOrder cmp → (links : List (Entry K)) (target : K) (at : ℕ) (x : Entry K) → IsAscending cmp links
+  pub below_after : IsTotalOrder cmp → (links : List (Entry K)) (target : K) (at : ℕ) (x : Entry K) → LinksAscend cmp links
       → slice_get links at ≡ Some x → cmp target x.target ≡ Greater → AreBelow links target (at + 1)
   below_after o links target at x ascending got greater k d h =
       let read = get_or_from_got links at x d got in
@@ -154,7 +154,7 @@ module _ {K : Type 0} (cmp : K → K → Ordering) where
         | inr (inr gt) ↦ absurd (omega arith)
       ]
 
-  pub above_from : IsTotalOrder cmp → (links : List (Entry K)) (target : K) (at : ℕ) (x : Entry K) → IsAscending cmp links
+  pub above_from : IsTotalOrder cmp → (links : List (Entry K)) (target : K) (at : ℕ) (x : Entry K) → LinksAscend cmp links
       → slice_get links at ≡ Some x → cmp target x.target ≡ Less → AreAbove links target at
   above_from o links target at x ascending got less k d ge h =
       let read = get_or_from_got links at x d got in
@@ -166,8 +166,8 @@ module _ {K : Type 0} (cmp : K → K → Ordering) where
             o.trans target x.target (get_or links k d).target less later
       ]
 
-  pub found_here : IsTotalOrder cmp → (links : List (Entry K)) (target : K) (at : ℕ) (x : Entry K) → IsAscending cmp links
-      → slice_get links at ≡ Some x → cmp target x.target ≡ Equal → IsAt cmp links target at
+  pub found_here : IsTotalOrder cmp → (links : List (Entry K)) (target : K) (at : ℕ) (x : Entry K) → LinksAscend cmp links
+      → slice_get links at ≡ Some x → cmp target x.target ≡ Equal → StandsAt cmp links target at
   found_here o links target at x ascending got same =
       let within = within_from_got links at x got in
       record {
@@ -184,43 +184,43 @@ module _ {K : Type 0} (cmp : K → K → Ordering) where
       }
 
   -- what an edit in the gap makes
-  pub absent-kind_of : (links : List (Entry K)) (target : K) (at : ℕ) → IsGap cmp links target at → kind_of cmp links target ≡ None
+  pub absent-kind_of : (links : List (Entry K)) (target : K) (at : ℕ) → IsGapFor cmp links target at → kind_of cmp links target ≡ None
   absent-kind_of links target at gap = gap-kind_of links target at gap.below gap.above
 
-  pub insert-with_link : (links : List (Entry K)) (target : K) (at : ℕ) (x : Entry K) (kind : Kind) → IsGap cmp links target at
+  pub insert-with_link : (links : List (Entry K)) (target : K) (at : ℕ) (x : Entry K) (kind : Kind) → IsGapFor cmp links target at
       → x.target ≡ target → x.kind ≡ kind → insert links at x ≡ with_link cmp links target kind
   insert-with_link links target at x kind gap same is =
       ap (insert links at) (entry_is x (record { target = target; kind = kind }) kind same is)
       ∙ gap-insert links target kind at gap.within gap.below gap.above
 
   -- what an edit at the link makes
-  pub found-kind_of : (links : List (Entry K)) (target : K) (at : ℕ) (x : Entry K) → IsAt cmp links target at → slice_get links at ≡ Some x
+  pub found-kind_of : (links : List (Entry K)) (target : K) (at : ℕ) (x : Entry K) → StandsAt cmp links target at → slice_get links at ≡ Some x
       → kind_of cmp links target ≡ Some x.kind
   found-kind_of links target at x found got =
       at-kind_of links target at x found.within found.below (found.here x)
       ∙ ap (λ (e : Entry K). Some e.kind) (get_or_from_got links at x x got)
 
-  pub found-target : (links : List (Entry K)) (target : K) (at : ℕ) (x : Entry K) → IsAt cmp links target at → slice_get links at ≡ Some x
+  pub found-target : (links : List (Entry K)) (target : K) (at : ℕ) (x : Entry K) → StandsAt cmp links target at → slice_get links at ≡ Some x
       → cmp target x.target ≡ Equal
   found-target links target at x found got = rw (get_or_from_got links at x x got) at (found.here x)
 
-  pub remove-without : (links : List (Entry K)) (target : K) (at : ℕ) (x : Entry K) → IsAt cmp links target at
+  pub remove-without : (links : List (Entry K)) (target : K) (at : ℕ) (x : Entry K) → StandsAt cmp links target at
       → remove links at ≡ without cmp links target
   remove-without links target at x found =
       at-remove links target at x found.within found.below (found.here x) (λ k d gt h. found.above k d (omega arith) h)
 
-  pub set-with_kind : (links : List (Entry K)) (target : K) (at : ℕ) (x : Entry K) (kind : Kind) → IsAt cmp links target at
+  pub set-with_kind : (links : List (Entry K)) (target : K) (at : ℕ) (x : Entry K) (kind : Kind) → StandsAt cmp links target at
       → slice_get links at ≡ Some x → set links at (record x { kind = kind }) ≡ with_kind cmp links target kind
   set-with_kind links target at x kind found got =
       ap (λ (e : Entry K). set links at (record e { kind = kind })) (sym (get_or_from_got links at x x got))
       ∙ at-set links target kind at x found.within found.below (found.here x) (λ k d gt h. found.above k d (omega arith) h)
 
-  pub found-is_some : (links : List (Entry K)) (target : K) (at : ℕ) → IsAt cmp links target at → is_none (kind_of cmp links target) ≡ false
+  pub found-is_some : (links : List (Entry K)) (target : K) (at : ℕ) → StandsAt cmp links target at → is_none (kind_of cmp links target) ≡ false
   found-is_some [] target at found = absurd (omega (arith, found.within))
   found-is_some (e ∷ es) target at found =
       ap is_none (at-kind_of (e ∷ es) target at e found.within found.below (found.here e))
 
   -- the kind that was read there
-  pub found_as : (links : List (Entry K)) (target : K) (at : ℕ) (x : Entry K) (kind : Kind) → IsAt cmp links target at
+  pub found_as : (links : List (Entry K)) (target : K) (at : ℕ) (x : Entry K) (kind : Kind) → StandsAt cmp links target at
       → slice_get links at ≡ Some x → kind ≡ x.kind → kind_of cmp links target ≡ Some kind
   found_as links target at x kind found got is = found-kind_of links target at x found got ∙ ap Some (sym is)

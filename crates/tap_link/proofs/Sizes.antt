@@ -7,7 +7,7 @@ use Rattle.std.proofs.lemmas.Bool.{ltb-false}
 use Rattle.tap_link.specs.declared.kind.Kind.{Kind}
 use Rattle.tap_link.specs.declared.kind.Kind.TheVariants.{Pin, Settled, Leaving}
 use Rattle.tap_link.specs.Entry.{Entry}
-use Rattle.tap_link.specs.LinkSet.{IsAscending, IsLinkSet, LinkSetValue, forgotten, has_room, is_pinned, is_settled, is_settled_or_leaving, kind_of, least_settled, marked, offered, pinned, released, removed, settled_count, with_kind, with_link, without}
+use Rattle.tap_link.specs.LinkSet.{LinksAscend, IsLinkSet, LinkSetValue, forgotten, has_room, is_pinned, is_settled, is_settled_or_leaving, kind_of, least_settled, marked, offered, pinned, released, removed, settled_count, with_kind, with_link, without}
 use Rattle.tap_link.proofs.Counts.{length-with_kind, length-with_link, length-without, settled_count-with_kind, settled_count-with_link, settled_count-without}
 use Rattle.tap_link.proofs.Least.{counted_none}
 
@@ -84,7 +84,7 @@ module _ {K : Type 0} (cmp : K → K → Ordering) (set : LinkSetValue K) (targe
   length-marked = length_by_mark (kind_of cmp set.links target) refl
 
 module _ {K : Type 0} (cmp : K → K → Ordering) (o : IsTotalOrder cmp) (set : LinkSetValue K) (target : K)
-    (ascending : IsAscending cmp set.links) where
+    (ascending : LinksAscend cmp set.links) where
   length_by_release : (found : Option Kind) (room : Bool) → kind_of cmp set.links target ≡ found → has_room set ≡ room
       → length (released cmp set target).links + one_if (is_pinned (kind_of cmp set.links target) && not (has_room set))
       ≡ length set.links

@@ -7,8 +7,8 @@ use Rattle.std.proofs.lemmas.Bool.{ltb-true}
 use Rattle.tap_link.specs.declared.kind.Kind.{Kind}
 use Rattle.tap_link.specs.declared.kind.Kind.TheVariants.{Pin, Settled, Leaving}
 use Rattle.tap_link.specs.Entry.{Entry}
-use Rattle.tap_link.specs.LinkSet.{IsAscending, IsLinkSet, LinkSetValue, forgotten, has_room, is_settled, kind_of, marked, offered, pinned, released, removed, settled_count, with_kind, with_link, without}
-use Rattle.tap_link.specs.Places.{IsAt, IsGap}
+use Rattle.tap_link.specs.LinkSet.{LinksAscend, IsLinkSet, LinkSetValue, forgotten, has_room, is_settled, kind_of, marked, offered, pinned, released, removed, settled_count, with_kind, with_link, without}
+use Rattle.tap_link.specs.Places.{StandsAt, IsGapFor}
 use Rattle.tap_link.proofs.Kept.{kept-insert, kept-remove, kept-set}
 use Rattle.tap_link.proofs.Least.{ascending_tail}
 use Rattle.tap_link.proofs.Search.{absent-kind_of, found-is_some, found_here, above_from, insert-with_link, remove-without, set-with_kind}
@@ -22,7 +22,7 @@ module _ {X : Type 0} where
 
 module _ {K : Type 0} (cmp : K → K → Ordering) where
   at_later : (e : Entry K) (es : List (Entry K)) (target : K) (at : ℕ) → cmp target e.target ≡ Greater
-      → IsAt cmp es target at → IsAt cmp (e ∷ es) target (suc at)
+      → StandsAt cmp es target at → StandsAt cmp (e ∷ es) target (suc at)
   at_later e es target at greater found =
       record { within = omega (arith, found.within); below = below; here = found.here; above = above }
     where
@@ -35,7 +35,7 @@ module _ {K : Type 0} (cmp : K → K → Ordering) where
       above (suc k) d gt h = found.above k d (omega arith) (omega arith)
 
   gap_later : (e : Entry K) (es : List (Entry K)) (target : K) (at : ℕ) → cmp target e.target ≡ Greater
-      → IsGap cmp es target at → IsGap cmp (e ∷ es) target (suc at)
+      → IsGapFor cmp es target at → IsGapFor cmp (e ∷ es) target (suc at)
   gap_later e es target at greater gap =
       record { within = omega (arith, gap.within); below = below; above = above }
     where
@@ -49,10 +49,10 @@ module _ {K : Type 0} (cmp : K → K → Ordering) where
 
   -- a target stands somewhere, or would go somewhere
   abbrev pub Stands : List (Entry K) → K → Type 0
-  Stands links target = ((at : ℕ) × IsAt cmp links target at) ⊎ ((at : ℕ) × IsGap cmp links target at)
+  Stands links target = ((at : ℕ) × StandsAt cmp links target at) ⊎ ((at : ℕ) × IsGapFor cmp links target at)
 
-  gap_first : IsTotalOrder cmp → (e : Entry K) (es : List (Entry K)) (target : K) → IsAscending cmp (e ∷ es)
-      → cmp target e.target ≡ Less → IsGap cmp (e ∷ es) target 0
+  gap_first : IsTotalOrder cmp → (e : Entry K) (es : List (Entry K)) (target : K) → LinksAscend cmp (e ∷ es)
+      → cmp target e.target ≡ Less → IsGapFor cmp (e ∷ es) target 0
   gap_first o e es target ascending less =
       record {
         within = omega arith;
@@ -60,7 +60,7 @@ module _ {K : Type 0} (cmp : K → K → Ordering) where
         above = above_from cmp o (e ∷ es) target 0 e ascending refl less;
       }
 
-  stands_by : IsTotalOrder cmp → (e : Entry K) (es : List (Entry K)) (target : K) → IsAscending cmp (e ∷ es)
+  stands_by : IsTotalOrder cmp → (e : Entry K) (es : List (Entry K)) (target : K) → LinksAscend cmp (e ∷ es)
       → (r : Ordering) → cmp target e.target ≡ r → Stands es target → Stands (e ∷ es) target
   stands_by o e es target ascending Less is later =
       inr (0, gap_first o e es target ascending is)
@@ -73,7 +73,7 @@ module _ {K : Type 0} (cmp : K → K → Ordering) where
       ]
 
   -- so each target does in an ascending list
-  pub stands : IsTotalOrder cmp → (links : List (Entry K)) (target : K) → IsAscending cmp links → Stands links target
+  pub stands : IsTotalOrder cmp → (links : List (Entry K)) (target : K) → LinksAscend cmp links → Stands links target
   stands o [] target ascending =
       inr (
         0,

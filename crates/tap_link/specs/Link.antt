@@ -5,6 +5,6 @@ use Rattle.tap_link.specs.declared.link.Held.TheVariants.{Pin, Settled}
 use Rattle.tap_link.specs.declared.kind.Kind.TheVariants.{Pin as PinKind, Settled as SettledKind, Leaving as LeavingKind}
 use Rattle.tap_link.specs.Entry.{Entry}
 
-abbrev pub entry_of : {K : Type 0} → Held K → Entry K
-entry_of (Pin p) = record { target = p; kind = PinKind }
-entry_of (Settled s) = record { target = s.target; kind = if s.leaving then LeavingKind else SettledKind }
+abbrev pub entry_held : {K : Type 0} → Held K → Entry K
+entry_held (Pin p) = record { target = p; kind = PinKind }
+entry_held (Settled s) = record { target = s.target; kind = if s.leaving then LeavingKind else SettledKind }

@@ -36,7 +36,7 @@ is_settled_or_leaving (Some Pin) = false
 is_settled_or_leaving (Some Settled) = true
 is_settled_or_leaving (Some Leaving) = true
 
--- what a release answers, where its sender is pinned or not, and where there is room or not
+-- what a release answers, by whether its sender is pinned, and whether there is room
 abbrev pub released_as : Bool → Bool → Released
 released_as pinned room = if pinned then (if room then ReleasedSettled else Dropped) else Nothing
 
@@ -55,12 +55,12 @@ module _ {K : Type 0} where
 
 module _ {K : Type 0} (cmp : K → K → Ordering) where
   -- each target is below each later one
-  abbrev pub IsAscending : List (Entry K) → Type 0
-  IsAscending links = AllPairs (λ e f. cmp e.target f.target ≡ Less) links
+  abbrev pub LinksAscend : List (Entry K) → Type 0
+  LinksAscend links = AllPairs (λ e f. cmp e.target f.target ≡ Less) links
 
   -- what each link set keeps
   pub record IsLinkSet (set : LinkSetValue K) : Type 0 where
-    pub ascending : IsAscending set.links
+    pub ascending : LinksAscend set.links
     pub within_width : settled_count set.links ≤ set.width
 
   -- the kind of the link to the target, if there is one

@@ -19,13 +19,13 @@ module _ {X : Type 0} where
 
 module _ {K : Type 0} (cmp : K → K → Ordering) (links : List (Entry K)) (target : K) where
   -- the target goes here: what stands before is below it, and what stands from here on is above it
-  pub record IsGap (at : ℕ) : Type 0 where
+  pub record IsGapFor (at : ℕ) : Type 0 where
     pub within : at ≤ length links
     pub below : (k : ℕ) (d : Entry K) → k < at → cmp target (slice_index_or links k d).target ≡ Greater
     pub above : (k : ℕ) (d : Entry K) → at ≤ k → k < length links → cmp target (slice_index_or links k d).target ≡ Less
 
-  -- the link here names the target: what stands before is below it, and what stands behind is above it
-  pub record IsAt (at : ℕ) : Type 0 where
+  -- the link here names the target: what stands before is below it, and what stands after it is above it
+  pub record StandsAt (at : ℕ) : Type 0 where
     pub within : at < length links
     pub below : (k : ℕ) (d : Entry K) → k < at → cmp target (slice_index_or links k d).target ≡ Greater
     pub here : (d : Entry K) → cmp target (slice_index_or links at d).target ≡ Equal

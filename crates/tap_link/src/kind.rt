@@ -1,3 +1,6 @@
+ghost use Rattle.std.specs.Prelude.{◌≡◌, Some};
+ghost use Rattle.tap_link.specs.LinkSet.{is_pinned, is_settled};
+
 /// What a link is.
 ///
 /// Rule: docs/PROTOCOL.md, "Links".
@@ -9,6 +12,28 @@ pub enum Kind {
     Settled,
     /// A link to a node that has said that it will leave.
     Leaving,
+}
+
+impl Kind {
+    /// Whether a link of this kind is a pin.
+    pub fn is_pin(self) -> bool
+        ensures { result ≡ is_pinned (Some self) }
+    {
+        match self {
+            Kind::Pin => true,
+            Kind::Settled | Kind::Leaving => false,
+        }
+    }
+
+    /// Whether a link of this kind is settled and not leaving.
+    pub fn is_settled(self) -> bool
+        ensures { result ≡ is_settled (Some self) }
+    {
+        match self {
+            Kind::Settled => true,
+            Kind::Pin | Kind::Leaving => false,
+        }
+    }
 }
 
 /// What became of a link at a release by its target.

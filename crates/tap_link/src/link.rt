@@ -35,9 +35,9 @@ impl<K: Ord + Copy> Model for Link<K> {
 
     ghost Value = { Entry K };
 
-    ghost use Rattle.tap_link.specs.Link.{entry_of};
+    ghost use Rattle.tap_link.specs.Link.{entry_held};
 
-    ghost view = { λ l. entry_of l.held };
+    ghost view = { λ l. entry_held l.held };
 }
 
 impl<K: Ord + Copy> Link<K> {
@@ -87,10 +87,7 @@ impl<K: Ord + Copy> Link<K> {
     pub(crate) fn is_settled(&self) -> bool
         ensures { result ≡ is_settled (Some self.now.kind) }
     {
-        match self.kind() {
-            Kind::Settled => true,
-            Kind::Pin | Kind::Leaving => false,
-        }
+        self.kind().is_settled()
     }
 
     // Settles a pin at its target's release.

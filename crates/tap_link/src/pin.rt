@@ -55,7 +55,7 @@ impl<K: Ord + Copy> Pin<K> {
         self.end();
     }
 
-    /// Ends the pin where its target gave up joining.
+    /// Ends a pin whose target gave up joining.
     ///
     /// That the pin is gone is the whole of what this call does, so it has no `ensures`.
     pub fn forget(self, by: Forget<K>)
@@ -71,7 +71,7 @@ impl<K: Ord + Copy> Pin<K> {
         self.end();
     }
 
-    // Ends the pin without a word, where the link that holds it is dropped.
+    // Ends the pin without a word, with the link that holds it.
     pub(crate) fn end(self) {
         let Pin { target: _ } = self;
     }

@@ -2,8 +2,8 @@ ghost use Rattle.std.specs.Prelude.{◌≡◌, ◌<◌, ◌≤◌, [], length, I
 ghost use Rattle.std.specs.declared.cmp.Ordering.TheVariants.{Equal};
 ghost use Rattle.std.specs.Option.{ForSome};
 ghost use Rattle.tap_link.specs.Entry.{settled, leaving};
-ghost use Rattle.tap_link.specs.LinkSet.{IsAscending, settled_count};
-ghost use Rattle.tap_link.specs.Places.{IsAt, IsGap};
+ghost use Rattle.tap_link.specs.LinkSet.{LinksAscend, settled_count};
+ghost use Rattle.tap_link.specs.Places.{StandsAt, IsGapFor};
 
 use crate::kind::Kind;
 use crate::link::Link;
@@ -60,9 +60,9 @@ impl<K: Ord + Copy> Places<K> {
 
     // Where the link to the target is, or where it would go. It halves what is left to look at.
     pub(crate) fn search(&self, target: K) -> Result<usize, usize>
-        requires { IsAscending K.cmp self.now }
-        ensures found { IfOk result (IsAt K.cmp self.now target) }
-        ensures absent { IfErr result (IsGap K.cmp self.now target) }
+        requires { LinksAscend K.cmp self.now }
+        ensures found { IfOk result (StandsAt K.cmp self.now target) }
+        ensures absent { IfErr result (IsGapFor K.cmp self.now target) }
     {
         let mut low = 0;
         let mut high = self.len();

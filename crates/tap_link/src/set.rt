@@ -75,7 +75,7 @@ impl<K: Ord + Copy> LinkSet<K> {
         self.places.link_at(i).kind()
     }
 
-    /// The kind of the link to this target, `None` exactly where no link names it.
+    /// The kind of the link to this target, `None` exactly if no link names it.
     pub fn kind_of(&self, target: K) -> Option<Kind>
         ensures kind { result ≡ kind_of K.cmp self.now.links target }
         ensures valid { IsLinkSet K.cmp self.now }
@@ -88,7 +88,7 @@ impl<K: Ord + Copy> LinkSet<K> {
 
     /// Pins a target that is absent, and answers whether it was.
     ///
-    /// `NoMemory` comes only where a link would be added to four links or more. A set that is refused
+    /// `NoMemory` comes only if a link would be added to four links or more. A set that is refused
     /// memory stays as it was.
     pub fn pin(&mut self, target: K) -> Result<bool, NoMemory>
         ensures answer { IfOk result (λ added. added ≡ is_none (kind_of K.cmp self.old.links target)) }
@@ -106,10 +106,10 @@ impl<K: Ord + Copy> LinkSet<K> {
         }
     }
 
-    /// Settles on a target that is absent where there is room for a settled link, and answers
-    /// whether it did. There is room where fewer than `width` links are settled and not leaving.
+    /// Settles on a target that is absent if there is room for a settled link, and answers
+    /// whether it did. There is room if fewer than `width` links are settled and not leaving.
     ///
-    /// `NoMemory` comes only where a link would be added to four links or more. A set that is refused
+    /// `NoMemory` comes only if a link would be added to four links or more. A set that is refused
     /// memory stays as it was.
     pub fn offer(&mut self, target: K) -> Result<bool, NoMemory>
         ensures answer { IfOk result (λ added. added
@@ -132,8 +132,8 @@ impl<K: Ord + Copy> LinkSet<K> {
         }
     }
 
-    /// Takes the release of a node: a pin on it becomes a settled link where there is room for one,
-    /// and is dropped otherwise. `Nothing` exactly where the sender isn't pinned.
+    /// Takes the release of a node: a pin on it becomes a settled link if there is room for one,
+    /// and is dropped otherwise. `Nothing` exactly if the sender isn't pinned.
     pub fn release(&mut self, by: Release<K>) -> Released
         ensures answer { result
             ≡ released_as (is_pinned (kind_of K.cmp self.old.links by.from)) (has_room self.old) }
@@ -157,7 +157,7 @@ impl<K: Ord + Copy> LinkSet<K> {
         }
     }
 
-    /// Ends the pin on a node that gave up joining: true exactly where it was pinned.
+    /// Ends the pin on a node that gave up joining: true exactly if it was pinned.
     pub fn forget(&mut self, by: Forget<K>) -> bool
         ensures answer { result ≡ is_pinned (kind_of K.cmp self.old.links by.from) }
         ensures after { self.new ≡ forgotten K.cmp self.old by.from }
@@ -174,7 +174,7 @@ impl<K: Ord + Copy> LinkSet<K> {
         }
     }
 
-    /// Marks the link to a target as leaving: true exactly where it was settled and not leaving.
+    /// Marks the link to a target as leaving: true exactly if it was settled and not leaving.
     pub fn mark_leaving(&mut self, target: K) -> bool
         ensures answer { result ≡ is_settled (kind_of K.cmp self.old.links target) }
         ensures after { self.new ≡ marked K.cmp self.old target }
@@ -191,7 +191,7 @@ impl<K: Ord + Copy> LinkSet<K> {
         }
     }
 
-    /// Takes out the link to a target that is settled or leaving: true exactly where it was.
+    /// Takes out the link to a target that is settled or leaving: true exactly if it was.
     pub fn remove_settled(&mut self, target: K) -> bool
         ensures answer { result ≡ is_settled_or_leaving (kind_of K.cmp self.old.links target) }
         ensures after { self.new ≡ removed K.cmp self.old target }
@@ -208,7 +208,7 @@ impl<K: Ord + Copy> LinkSet<K> {
         }
     }
 
-    /// The least target that is settled and not leaving, `None` exactly where there is none.
+    /// The least target that is settled and not leaving, `None` exactly if there is none.
     pub fn primary(&self) -> Option<K>
         ensures value { result ≡ least_settled self.now.links }
         ensures least { IfSome result (IsLeastSettled K.cmp self.now.links) }

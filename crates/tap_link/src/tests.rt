@@ -28,6 +28,18 @@ fn a_set_of_width_one_settles_one_link(rt: HostRuntime) -> Result<(), Fail> {
 }
 
 #[test]
+fn each_kind_is_one_of_three(rt: HostRuntime) {
+    for (kind, pin, settled) in [
+        (Kind::Pin, true, false),
+        (Kind::Settled, false, true),
+        (Kind::Leaving, false, false),
+    ] {
+        assert_eq!(rt; kind.is_pin(), pin);
+        assert_eq!(rt; kind.is_settled(), settled);
+    }
+}
+
+#[test]
 fn links_stand_in_ascending_order(rt: HostRuntime) -> Result<(), Fail> {
     let mut set: LinkSet<u32> = LinkSet::new(rt.alloc(), 2);
     for target in [60, 20, 50, 10, 40, 30] {

@@ -8,7 +8,7 @@ use Rattle.tap_name.specs.Name.{IsName}
 use Rattle.tap_name.specs.Order.{AreAscending, IsBelow, name_cmp}
 use Rattle.tap_link.specs.declared.kind.Kind.TheVariants.{Settled}
 use Rattle.tap_link.specs.Entry.{Entry}
-use Rattle.tap_link.specs.LinkSet.{IsAscending, least_settled}
+use Rattle.tap_link.specs.LinkSet.{LinksAscend, least_settled}
 use Rattle.tap_link.proofs.Least.{least_settled_is}
 use Rattle.tap_table.specs.ByName.{targets_of}
 use Rattle.tap_table.specs.Table.{IsTable, SlotLinks, TableValue, kind_in, links_at, place_of, slot_number}
@@ -36,7 +36,7 @@ module _ (t : TableValue) (valid : IsTable t) where
   primary_near-stands name first is_name other =
       primary_stands (place_of t.owner name) (place_inside t.settings t.owner name valid.owner is_name other).1 first
 
-targets-ascend : (links : SlotLinks) → IsAscending name_cmp links → AreAscending (targets_of links)
+targets-ascend : (links : SlotLinks) → LinksAscend name_cmp links → AreAscending (targets_of links)
 targets-ascend links up i j d before within =
     let len = length-map links (λ (e : Entry (List ℕ)). e.target) in
     let e : Entry (List ℕ) = link_to d Settled in
@@ -51,7 +51,7 @@ module _ {X : Type 0} (make : Entry (List ℕ) → X) (name_of : X → List ℕ)
   names_made [] = refl
   names_made (e ∷ links) = rw (keeps e) (ap (λ l. e.target ∷ l) (names_made links))
 
-  pub picked-ascend : (passes : Entry (List ℕ) → Bool) (links : SlotLinks) → IsAscending name_cmp links
+  pub picked-ascend : (passes : Entry (List ℕ) → Bool) (links : SlotLinks) → LinksAscend name_cmp links
       → AreAscending (map name_of (picked make passes links))
   picked-ascend passes links up =
       subst AreAscending (sym (names_made (filter passes links)))

@@ -1,5 +1,4 @@
-ghost use Rattle.std.specs.Prelude.{◌≡◌, ◌||◌, Some};
-ghost use Rattle.tap_link.specs.LinkSet.{is_pinned};
+ghost use Rattle.std.specs.Prelude.{◌≡◌, ◌||◌};
 ghost use Rattle.tap_multicast.specs.Targets.{is_covered, is_introduced, is_primary, tells};
 
 use tap_link::Kind;
@@ -47,19 +46,9 @@ impl Cover {
         if self.joiner == *target {
             return false;
         }
-        let pin = is_pin(kind);
+        let pin = kind.is_pin();
         (self.is_covered(level) && (pin || is_primary(primary, target)))
             || (self.is_introduced(level) && pin)
-    }
-}
-
-// Whether a link of this kind is a pin.
-pub(crate) fn is_pin(kind: Kind) -> bool
-    ensures { result ≡ is_pinned (Some kind) }
-{
-    match kind {
-        Kind::Pin => true,
-        Kind::Settled | Kind::Leaving => false,
     }
 }
 

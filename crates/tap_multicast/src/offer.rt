@@ -1,6 +1,6 @@
-ghost use Rattle.std.specs.Prelude.{◌≡◌, ◌<◌, ◌≤◌, ◌++◌, ◌&&◌, ◌||◌, All, IfOk, OnOk, Some, is_some};
+ghost use Rattle.std.specs.Prelude.{◌≡◌, ◌<◌, ◌≤◌, ◌++◌, ◌&&◌, ◌||◌, All, IfOk, OnOk, is_some};
 ghost use Rattle.std.specs.List.{flat_map};
-ghost use Rattle.tap_link.specs.LinkSet.{is_settled, least_settled};
+ghost use Rattle.tap_link.specs.LinkSet.{least_settled};
 ghost use Rattle.tap_name.specs.Name.{IsName};
 ghost use Rattle.tap_table.specs.ByName.{slots_in};
 ghost use Rattle.tap_table.specs.Members.{is_slot};
@@ -9,7 +9,7 @@ ghost use Rattle.tap_multicast.specs.Covers.{MayWatch};
 ghost use Rattle.tap_multicast.specs.Offer.{has_slot, left, offer, offers, unanswered};
 ghost use Rattle.tap_multicast.specs.Slots.{offered_among, offered_in};
 
-use crate::cover::{Cover, is_pin, is_primary};
+use crate::cover::{Cover, is_primary};
 use std::alloc::Global;
 use tap_link::{Kind, LinkSet};
 use tap_name::{Name, Offered, Slot, slot_of};
@@ -83,7 +83,7 @@ fn push_slot(
         if offers(&joiner, answered, &primary, &name, kind) {
             offer.push(Offered {
                 name,
-                settled: is_settled(kind),
+                settled: kind.is_settled(),
             })?;
         }
     }
@@ -101,17 +101,7 @@ fn is_watched(watch: &Watch, slot: Slot, primary: &Option<Name>) -> bool
 fn offers(joiner: &Name, answered: bool, primary: &Option<Name>, target: &Name, kind: Kind) -> bool
     ensures { result ≡ offers joiner.now answered primary.now (record { target = target.now; kind = kind }) }
 {
-    (is_pin(kind) && *joiner != *target) || (answered && is_primary(primary, target))
-}
-
-// Whether a link of this kind is settled and not leaving.
-fn is_settled(kind: Kind) -> bool
-    ensures { result ≡ is_settled (Some kind) }
-{
-    match kind {
-        Kind::Settled => true,
-        Kind::Pin | Kind::Leaving => false,
-    }
+    (kind.is_pin() && *joiner != *target) || (answered && is_primary(primary, target))
 }
 
 // The watch that a cover leaves.

@@ -1,5 +1,5 @@
 -- Registers are seen as the list of their entries. A comparison of keys, `cmp`, says which key is below which, and two
--- keys are the same where it answers `Equal`.
+-- keys are the same if it answers `Equal`.
 use Rattle.std.specs.Prelude.{◌≡◌, ℕ, ◌+◌, ◌<◌, ◌≤◌, nat_lt, Bool, if◌then◌else◌, true, List, ◌∷◌, ◌++◌, length, take, drop, filter, find, slice_get, AllPairs, Option, Some, None}
 use Rattle.std.specs.Ordering.{is_lt, is_eq, is_gt}
 use Rattle.std.specs.declared.cmp.Ordering.{Ordering}

@@ -26,7 +26,7 @@ pub struct Entry<K, V> {
 /// was applied.
 ///
 /// Contracts see the list of entries, which ascends strictly by the keys' order. Two keys are the
-/// same where their comparison answers `Equal`.
+/// same if their comparison answers `Equal`.
 ///
 /// The entries lie in one sorted vector. A look-up compares the key with about log n of the n
 /// others, and takes no memory. A newer version of a key that is there is written in its place; a
@@ -60,7 +60,7 @@ impl<K: Ord + Copy, V: Copy> Registers<K, V> {
         }
     }
 
-    /// Keeps the value under the key where the key is absent or its version is less, and answers
+    /// Keeps the value under the key if the key is absent or its version is less, and answers
     /// whether it was kept.
     ///
     /// A write that is older than the one that is kept, or as old, is answered `Ok(false)`. That and
@@ -98,7 +98,7 @@ impl<K: Ord + Copy, V: Copy> Registers<K, V> {
         }
     }
 
-    /// The value that is kept under the key, and `None` exactly where the key is absent.
+    /// The value that is kept under the key, and `None` exactly if the key is absent.
     pub fn get(&self, key: K) -> Option<V>
         ensures { result ≡ option_map (λ e. e.value) (entry_of K.cmp self.now key) }
     {

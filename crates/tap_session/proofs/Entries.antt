@@ -13,7 +13,7 @@ use Rattle.std.proofs.lemmas.List.Kept.{AllPairs-cons}
 use Rattle.std.proofs.lemmas.Bool.Decides.{eqb_tells}
 use Rattle.std.proofs.lemmas.Map.Views.{IfSome-lookup_from_All}
 use Rattle.tap_session.specs.declared.sessions.Awaited.{Awaited}
-use Rattle.tap_session.specs.Awaited.{AreCounted, session, sessions_of}
+use Rattle.tap_session.specs.Awaited.{AreAwaiting, session, sessions_of}
 use Rattle.tap_session.specs.Sessions.{AreSessions, after_answer, session_of}
 use Rattle.tap_session.proofs.Transitions.{after_answer-unknown}
 
@@ -137,7 +137,7 @@ All-waiting P (e ∷ es) all =
     (All-waiting P es (All-tail (λ a. P a.waiting) e.1 (values_of es) all))
 
 -- they are sessions
-pub are_sessions : (entries : List (ℕ × Awaited)) (opened : ℕ) → IsStrictlySortedBy nat_cmp (keys_of entries) → AreCounted entries opened
+pub are_sessions : (entries : List (ℕ × Awaited)) (opened : ℕ) → IsStrictlySortedBy nat_cmp (keys_of entries) → AreAwaiting entries opened
     → AreSessions (record { sessions = sessions_of entries; opened = opened })
 are_sessions entries opened sorted counted = record {
   ascending = ascending entries sorted;

@@ -11,7 +11,7 @@ use Rattle.tap_session.specs.declared.parent.Parent.{Parent}
 use Rattle.tap_session.specs.declared.sessions.Answered.{Answered}
 use Rattle.tap_session.specs.declared.sessions.Answered.TheVariants.{Open, Closed, Unknown}
 use Rattle.tap_session.specs.Session.{Session, SessionsValue}
-use Rattle.tap_session.specs.Sessions.{AreSessions, after_answer, answer_to, answered_at, is_last, next_session, opened_with, session_of, with_answer}
+use Rattle.tap_session.specs.Sessions.{AreSessions, after_answer, answer_to, answered_at, closes_next, next_session, opened_with, session_of, with_answer}
 
 -- a number that is above those of all sessions, or below them, has none
 session_of-above : (sessions : List Session) (opened id : ℕ) → All (λ a. a.id ≤ opened) sessions → opened < id
@@ -124,15 +124,15 @@ ascending-after_answer id (a ∷ rest) ascending =
 
 -- a session that is closed is one less, and any other answer leaves as many
 length-after_answer : (id : ℕ) (sessions : List Session) → AllPairs (λ a b. a.id < b.id) sessions
-    → length (after_answer id sessions) + (if is_last (session_of sessions id) then 1 else 0) ≡ length sessions
+    → length (after_answer id sessions) + (if closes_next (session_of sessions id) then 1 else 0) ≡ length sessions
 length-after_answer id [] ascending = refl
 length-after_answer id (a ∷ rest) ascending =
     step (id == a.id) refl (a.waiting == 1) refl
     (length-after_answer id rest (λ i j d lt within. ascending (suc i) (suc j) d (omega arith) (omega arith)))
   where
     step : (here : Bool) → (id == a.id) ≡ here → (last : Bool) → (a.waiting == 1) ≡ last
-        → length (after_answer id rest) + (if is_last (session_of rest id) then 1 else 0) ≡ length rest
-        → length (after_answer id (a ∷ rest)) + (if is_last (session_of (a ∷ rest) id) then 1 else 0) ≡ length (a ∷ rest)
+        → length (after_answer id rest) + (if closes_next (session_of rest id) then 1 else 0) ≡ length rest
+        → length (after_answer id (a ∷ rest)) + (if closes_next (session_of (a ∷ rest) id) then 1 else 0) ≡ length (a ∷ rest)
     step true is last w later =
         let same : id ≡ a.id = eqb-true id a.id is in
         let above : All (λ b. id < b.id) rest = rw same (λ k d h. ascending 0 (suc k) d (omega arith) (omega arith)) in
@@ -140,7 +140,7 @@ length-after_answer id (a ∷ rest) ascending =
         closes last w stays
       where
         closes : (last : Bool) → (a.waiting == 1) ≡ last → after_answer id rest ≡ rest
-            → length (after_answer id (a ∷ rest)) + (if is_last (session_of (a ∷ rest) id) then 1 else 0) ≡ length (a ∷ rest)
+            → length (after_answer id (a ∷ rest)) + (if closes_next (session_of (a ∷ rest) id) then 1 else 0) ≡ length (a ∷ rest)
         closes true w stays = rw (is, w, stays) (omega arith)
         closes false w stays = rw (is, w, stays) (omega arith)
     step false is last w later = rw is (omega (arith, later))
@@ -241,7 +241,7 @@ module _ (s : SessionsValue) (are : AreSessions s) where
     }
 
     -- one less is open if it was the last answer, and else as many as before
-    pub length-answered : length (answered_at s id).sessions + (if is_last (session_of s.sessions id) then 1 else 0) ≡ length s.sessions
+    pub length-answered : length (answered_at s id).sessions + (if closes_next (session_of s.sessions id) then 1 else 0) ≡ length s.sessions
     length-answered = length-after_answer id s.sessions are.ascending
 
     -- a number that no open session has changes nothing

@@ -13,7 +13,7 @@ abbrev pub sessions_of : List (ℕ × Awaited) → List Session
 sessions_of entries = map (λ e. session e.0 e.1) entries
 
 -- each number was given, each session waits for an answer, and no more were opened than may be
-pub record AreCounted (entries : List (ℕ × Awaited)) (opened : ℕ) : Type 0 where
+pub record AreAwaiting (entries : List (ℕ × Awaited)) (opened : ℕ) : Type 0 where
   pub given : All (λ id. (1 ≤ id) × (id ≤ opened)) (keys_of entries)
   pub waiting : All (λ a. 1 ≤ a.waiting) (values_of entries)
   pub few : opened ≤ most_sessions

@@ -21,7 +21,7 @@ opened_with s parent depth waiting = record {
   opened = s.opened + 1;
 }
 
--- a session with one answer more: it waits for one less, and is gone where that was the last one
+-- a session with one answer more: it waits for one less, and is gone if that was the last one
 abbrev pub with_answer : Session → Option Session
 with_answer s = if s.waiting == 1 then None else Some (record s { waiting = s.waiting - 1 })
 
@@ -34,9 +34,9 @@ abbrev pub answered_at : SessionsValue → ℕ → SessionsValue
 answered_at s id = record s { sessions = after_answer id s.sessions }
 
 -- whether one answer more closes this session
-abbrev pub is_last : Option Session → Bool
-is_last None = false
-is_last (Some s) = s.waiting == 1
+abbrev pub closes_next : Option Session → Bool
+closes_next None = false
+closes_next (Some s) = s.waiting == 1
 
 -- what an answer to this session is told
 abbrev pub answer_to : Option Session → Answered

@@ -57,11 +57,11 @@ impl Model for Sessions {
 
     ghost Value = { SessionsValue };
 
-    ghost use Rattle.tap_session.specs.Awaited.{AreCounted, sessions_of};
+    ghost use Rattle.tap_session.specs.Awaited.{AreAwaiting, sessions_of};
 
     ghost view = { λ s. record { sessions = sessions_of s.awaited.entries; opened = s.opened } };
 
-    ghost invariant = { λ s. AreCounted s.awaited.entries s.opened };
+    ghost invariant = { λ s. AreAwaiting s.awaited.entries s.opened };
 }
 
 impl Sessions {
@@ -127,7 +127,7 @@ impl Sessions {
         Answered::Closed(parent)
     }
 
-    /// The depth that an open session was opened with, and `None` exactly where no session of this
+    /// The depth that an open session was opened with, and `None` exactly if no session of this
     /// number is open.
     pub fn depth_of(&self, id: u32) -> Option<u16>
         ensures { result ≡ option_map (λ s. s.depth) (session_of self.now.sessions id) }

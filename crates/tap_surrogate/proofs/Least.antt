@@ -12,7 +12,7 @@ use Rattle.tap_name.specs.Slot.{Fits}
 use Rattle.tap_name.specs.Root.{Among, first_of}
 use Rattle.tap_link.specs.declared.kind.Kind.TheVariants.{Settled}
 use Rattle.tap_link.specs.Entry.{Entry}
-use Rattle.tap_link.specs.LinkSet.{IsAscending}
+use Rattle.tap_link.specs.LinkSet.{LinksAscend}
 use Rattle.tap_name.proofs.Names.{among-All}
 use Rattle.tap_table.specs.Members.{IsBelow}
 use Rattle.tap_table.proofs.Least.{below_later}
@@ -22,7 +22,7 @@ use Rattle.tap_surrogate.proofs.CoreLinks.{core_links_of}
 use Rattle.tap_surrogate.proofs.Standing.{core_link_fits}
 
 -- the targets of ascending links ascend
-targets_ascend : (links : SlotLinks) → IsAscending name_cmp links → AllPairs IsBelow (map (λ e. e.target) links)
+targets_ascend : (links : SlotLinks) → LinksAscend name_cmp links → AllPairs IsBelow (map (λ e. e.target) links)
 targets_ascend links ascending = λ i j d before within.
     let target = λ (e : Entry (List ℕ)). e.target in
     let none : Entry (List ℕ) = record { target = d; kind = Settled } in
@@ -48,7 +48,7 @@ first_of_ascending (x ∷ xs) to other ascending first among below =
       | inr later ↦ not_both x other (among-All (IsBelow x) xs (below_later x xs ascending) other later) below_x
     ]
 
-pub first_is_least : (core : List ℕ → Bool) (links : SlotLinks) (to : List ℕ) → IsAscending name_cmp links
+pub first_is_least : (core : List ℕ → Bool) (links : SlotLinks) (to : List ℕ) → LinksAscend name_cmp links
     → first_of (filter core (map (λ e. e.target) links)) ≡ Some to
     → (other : List ℕ) → Among other (filter core (map (λ e. e.target) links)) → IsBelow other to → ⊥
 first_is_least core links to ascending first other among below =

@@ -17,7 +17,7 @@ use Rattle.tap_table.specs.Table.{IsTable, SlotLinks, TableValue, links_at, slot
 use Rattle.tap_surrogate.specs.Tables.{least_link}
 use Rattle.tap_surrogate.specs.Nodes.{HasSettledCoreLinks, IsCore, Nodes, core_links}
 use Rattle.tap_surrogate.specs.Walk.{hop, walked_digit}
-use Rattle.tap_surrogate.specs.Entered.{Entered, Follows, entered_from, entered_on}
+use Rattle.tap_surrogate.specs.Entered.{Entered, WalkFollows, entered_from, entered_on}
 use Rattle.tap_surrogate.specs.Laws.{NextHopLaw}
 use Rattle.tap_surrogate.proofs.Cyclic.{first_from_agree}
 use Rattle.tap_surrogate.proofs.CoreLinks.{least_link_of}
@@ -132,7 +132,7 @@ module _ (nodes : Nodes) (table : TableValue) (is : HasSettledTable nodes table)
 
   follows_by : (level : ℕ) (object : List ℕ) (next : Next)
       → FollowsBy (entry level) object (entered_from base (core_links nodes) (entry level) object) next
-      → Follows base (core_links nodes) (entry level) object next
+      → WalkFollows base (core_links nodes) (entry level) object next
   follows_by level object Root follows = follows
   follows_by level object (Hop to at) follows = follows
 

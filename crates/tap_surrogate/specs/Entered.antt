@@ -50,9 +50,9 @@ pub record AreEntered (p : SettingsValue) (path : List (List ℕ)) (entered : Li
   pub levels : All (λ e. e.level ≤ p.digits) entered
 
 -- A walk does what a next hop says: at the root it stays, and after a hop it goes on where the hop leads, from the hop's level.
-abbrev pub Follows : ℕ → Tables → Entered → List ℕ → Next → Type 0
-Follows base tables at object Root = entered_from base tables at object ≡ at ∷ []
-Follows base tables at object (Hop to level) =
+abbrev pub WalkFollows : ℕ → Tables → Entered → List ℕ → Next → Type 0
+WalkFollows base tables at object Root = entered_from base tables at object ≡ at ∷ []
+WalkFollows base tables at object (Hop to level) =
     entered_from base tables at object ≡ at ∷ entered_from base tables (record { node = to; level = level }) object
 
 -- the next hop of a message from where it stands, by the table of the node there

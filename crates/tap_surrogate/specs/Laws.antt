@@ -7,7 +7,7 @@ use Rattle.tap_table.specs.Next.{next_from}
 use Rattle.tap_table.specs.Table.{IsTable, TableValue}
 use Rattle.tap_surrogate.specs.Tables.{Tables}
 use Rattle.tap_surrogate.specs.Nodes.{HasSettledCoreLinks, IsCore, IsSettledTable, Nodes, core_links}
-use Rattle.tap_surrogate.specs.Entered.{AreEntered, Follows, IsChain, next_of, walk_entered}
+use Rattle.tap_surrogate.specs.Entered.{AreEntered, WalkFollows, IsChain, next_of, walk_entered}
 use Rattle.tap_surrogate.specs.HoleFree.{IsHoleFree}
 use Rattle.tap_surrogate.specs.Members.{AreMembersAtRest, HaveLeastFitting}
 use Rattle.tap_surrogate.specs.Walk.{walk, hops, walk_end}
@@ -33,15 +33,15 @@ EnteredLaw = (p : SettingsValue) (core : List (List ℕ)) (tables : Tables) → 
     → (node object : List ℕ) → Among node core → IsName p object
     → AreEntered p (walk p.base tables node object) (walk_entered p.base tables node object)
 
--- where all links of a node are settled and to core nodes, the next hop of a message is the walk's
+-- if all links of a node are settled and to core nodes, the next hop of a message is the walk's
 abbrev pub NextHopLaw : Type 0
 NextHopLaw = (nodes : Nodes) (table : TableValue) → IsTable table → nodes.table_of table.owner ≡ Some table
     → HasSettledCoreLinks nodes table → (level : ℕ) (object : List ℕ) → level ≤ table.settings.digits
     → IsName table.settings object
-    → Follows table.settings.base (core_links nodes) (record { node = table.owner; level = level }) object
+    → WalkFollows table.settings.base (core_links nodes) (record { node = table.owner; level = level }) object
     (next_from table level (drop level object))
 
--- where this holds of each core node, a walk is a chain of next hops
+-- if this holds of each core node, a walk is a chain of next hops
 abbrev pub ChainLaw : Type 0
 ChainLaw = (p : SettingsValue) (nodes : Nodes)
     → ((node : List ℕ) → IsCore nodes node → IsSomeAnd (nodes.table_of node) (IsSettledTable p nodes node))

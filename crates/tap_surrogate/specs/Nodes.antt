@@ -23,7 +23,7 @@ pub record IsTableOf (p : SettingsValue) (owner : List ℕ) (table : TableValue)
   pub owner_is : table.owner ≡ owner
   pub settings_are : table.settings ≡ p
 
--- the links in a slot of a table: none where there is no table, or where the base has no such digit
+-- the links in a slot of a table: none if there is no table, or if the base has no such digit
 abbrev pub links_in : Option TableValue → Slot → SlotLinks
 links_in None slot = []
 links_in (Some table) slot = if nat_lt slot.digit table.settings.base then links_at table slot else []

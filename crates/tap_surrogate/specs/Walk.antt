@@ -12,7 +12,7 @@ walked_digit base tables node level wanted =
     first_cyclic base
     (λ digit. slice_index node level == digit || is_some (least_link tables node level digit)) wanted
 
--- the hop of a walk at a level: none where the digit that is taken is the node's own, else to the
+-- the hop of a walk at a level: none if the digit that is taken is the node's own, else to the
 -- least core node in its slot
 abbrev pub hop : ℕ → Tables → List ℕ → ℕ → ℕ → Option (List ℕ)
 hop base tables node level wanted =

@@ -10,7 +10,7 @@ use tap_name::{List, Name, Settings};
 /// first one, cyclically from the object's, that any name left has; the root is the one that is
 /// kept at all levels.
 ///
-/// `None` exactly where the list is empty. One pass over the names, and no memory.
+/// `None` exactly if the list is empty. One pass over the names, and no memory.
 ///
 /// Rule: docs/PROTOCOL.md, "Roots".
 pub fn root_of(names: &List<Name>, settings: &Settings, object: &Name) -> Option<Name>

@@ -19,7 +19,7 @@ pub trait Tables {
     fn settings(&self) -> Settings
         ensures { result ≡ parameters self.now };
 
-    /// The table of the node of this name, `None` exactly where there is none. Each core node has a
+    /// The table of the node of this name, `None` exactly if there is none. Each core node has a
     /// table, whose owner it is, and which has the common settings.
     fn table_of(&self, name: Name) -> Option<&Table>
         ensures table { option_copied result ≡ (nodes self.now).table_of name }

@@ -89,7 +89,7 @@ impl Walk {
         }
     }
 
-    // The walk after its next hop, `None` where it stays for all levels that are left.
+    // The walk after its next hop, `None` if it stays for all levels that are left.
     fn after_hop<T: Tables>(&self, tables: &T) -> Option<Walk>
         requires { IsStanding (T.parameters tables.now) (T.nodes tables.now) self.now }
         ensures { let p = T.parameters tables.now in let nodes = T.nodes tables.now in
@@ -145,7 +145,7 @@ pub fn walk_path<T: Tables>(
     }
 }
 
-// The hop of a walk at a level, from the node whose table and own digit this is; `None` where the walk stays.
+// The hop of a walk at a level, from the node whose table and own digit this is; `None` if the walk stays.
 fn hop_at<T: Tables>(tables: &T, table: &Table, level: u8, own: u8, wanted: u8) -> Option<Name>
     requires table { (T.nodes tables.now).table_of table.now.owner ≡ Some table.now }
     requires settings { table.now.settings ≡ T.parameters tables.now }

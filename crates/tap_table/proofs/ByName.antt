@@ -14,7 +14,7 @@ use Rattle.tap_name.proofs.Near.{ball-both}
 use Rattle.tap_name.proofs.Prefixes.{lcp-differs, lcp-digits, lcp-is}
 use Rattle.tap_link.specs.declared.kind.Kind.{Kind}
 use Rattle.tap_link.specs.Entry.{Entry}
-use Rattle.tap_link.specs.LinkSet.{IsAscending}
+use Rattle.tap_link.specs.LinkSet.{LinksAscend}
 use Rattle.tap_table.specs.declared.slot_range.SlotRange.{SlotRange}
 use Rattle.tap_table.specs.ByName.{by_name, range_by_name, slots_by_name, slots_in}
 use Rattle.tap_table.specs.Table.{IsTable, TableValue, kind_in, links_at, links_near, name_cmp, place_of, slot_number}
@@ -232,7 +232,7 @@ module _ (t : TableValue) (valid : IsTable t) where
       }
 
   -- the links by name ascend
-  pub by_name-ascending : IsAscending name_cmp (by_name t)
+  pub by_name-ascending : LinksAscend name_cmp (by_name t)
   by_name-ascending =
       AllPairs-flat_map (links_at t) (λ e f. IsBelow e.target f.target) slots
       (λ k d within. (valid.sets (slot_number t.settings.base (get_or slots k d))).ascending)

@@ -1,5 +1,5 @@
 -- The levels of a table from which on no slot has a link: a message stays there.
-use Rattle.std.proofs.Common.{◌≡◌, inl, inr, ℕ, ◌+◌, ◌*◌, ◌<◌, ◌≤◌, false, List, [], length, drop, get_or, map, arith, ap, sym, ◌∙◌, eqb, is_some}
+use Rattle.std.proofs.Common.{◌≡◌, inl, inr, ℕ, ◌*◌, ◌≤◌, List, [], length, drop, get_or, map, arith, ap, sym, ◌∙◌, eqb, is_some}
 use Rattle.std.proofs.Math.Nat.{mul-le-mul_left}
 use Rattle.std.proofs.lemmas.Bool.{cases_Bool, cases_lt, eqb-true, true≢false}
 use Rattle.std.proofs.lemmas.List.{get_or_past, length-map}

@@ -4,7 +4,7 @@ use Rattle.std.specs.List.{flat_map}
 use Rattle.std.proofs.lemmas.List.Elements.{All-append, All-head, All-nil, All-tail}
 use Rattle.std.proofs.lemmas.Option.{slice_get_within}
 use Rattle.tap_register.proofs.Lists.{AllPairs-append}
-use Rattle.tap_table.proofs.Rows.{slice_get_after, slice_get_front}
+use Rattle.tap_table.proofs.RowLists.{slice_get_after, slice_get_front}
 
 module _ {A X : Type 0} (f : A → List X) where
   pub All-flat_map : (P : X → Type 0) (xs : List A) → All (λ a. All P (f a)) xs → All P (flat_map f xs)

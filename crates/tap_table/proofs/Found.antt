@@ -9,7 +9,7 @@ use Rattle.std.proofs.lemmas.Cmp.{nat_list_cmp_total}
 use Rattle.std.proofs.lemmas.Option.{get_or_from_slice_get, slice_get_within}
 use Rattle.tap_link.specs.declared.kind.Kind.{Kind}
 use Rattle.tap_link.specs.Entry.{Entry}
-use Rattle.tap_link.specs.LinkSet.{IsAscending, kind_of}
+use Rattle.tap_link.specs.LinkSet.{LinksAscend, kind_of}
 use Rattle.tap_link.proofs.Least.{ascending_tail}
 use Rattle.tap_name.specs.Name.{IsName}
 use Rattle.tap_name.specs.Settings.{SettingsValue}
@@ -44,7 +44,7 @@ link_found (e ∷ es) name kind found =
     ]
 
 -- the first name is below a later one
-below_later : (e : Entry (List ℕ)) (es : SlotLinks) (i : ℕ) (f : Entry (List ℕ)) → IsAscending name_cmp (e ∷ es)
+below_later : (e : Entry (List ℕ)) (es : SlotLinks) (i : ℕ) (f : Entry (List ℕ)) → LinksAscend name_cmp (e ∷ es)
     → slice_get es i ≡ Some f → name_cmp e.target f.target ≡ Less
 below_later e es i f ascending got =
     let read = get_or_from_slice_get es i f f got in
@@ -52,7 +52,7 @@ below_later e es i f ascending got =
     ap (λ (x : Entry (List ℕ)). name_cmp e.target x.target) (sym read) ∙ ascending 0 (suc i) f (omega arith) (omega arith)
 
 -- each link gives the kind of its name
-pub link_gives : (links : SlotLinks) (i : ℕ) (f : Entry (List ℕ)) → IsAscending name_cmp links → slice_get links i ≡ Some f
+pub link_gives : (links : SlotLinks) (i : ℕ) (f : Entry (List ℕ)) → LinksAscend name_cmp links → slice_get links i ≡ Some f
     → kind_of name_cmp links f.target ≡ Some f.kind
 link_gives [] i f ascending got = cc
 link_gives (e ∷ es) zero f ascending got =

@@ -4,7 +4,7 @@ use Rattle.std.proofs.lemmas.List.{drop_all, drop_more, length-map}
 use Rattle.std.specs.List.{count_by}
 use Rattle.std.proofs.lemmas.List.Sums.{length-filter}
 use Rattle.tap_register.specs.declared.registers.Entry.{Entry}
-use Rattle.tap_table.proofs.Rows.{got}
+use Rattle.tap_table.proofs.RowLists.{got}
 
 -- the names of those that have a link
 abbrev pub on : List (Entry (List ℕ) Bool) → List (List ℕ)

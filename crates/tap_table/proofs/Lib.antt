@@ -2,7 +2,7 @@ pub mod Slots
 pub mod SetChanges
 pub mod Counted
 pub mod Taken
-pub mod Rows
+pub mod RowLists
 pub mod Holders
 pub mod Near
 pub mod Found
@@ -28,3 +28,5 @@ pub mod Stepping
 pub mod LinksByName
 pub mod Targets
 pub mod EmptyLevels
+pub mod OffTies
+pub mod NewLinks

@@ -11,7 +11,7 @@ use Rattle.tap_link.specs.Entry.{Entry}
 use Rattle.tap_table.specs.Table.{IsTable, Row, SlotLinks, TableValue, kind_in, links_near, place_of, rows, rows_of, slot_numbered}
 use Rattle.tap_table.proofs.Found.{kind_of_target, link_found, link_to, linked_is_name, linked_is_other, slot_is_own}
 use Rattle.tap_table.proofs.Near.{number_near, within_slots}
-use Rattle.tap_table.proofs.Rows.{slice_get_front, slice_get_after}
+use Rattle.tap_table.proofs.RowLists.{slice_get_front, slice_get_after}
 
 -- a row of a link
 abbrev pub row_at : Row → ℕ → ℕ → Entry (List ℕ) → Type 0

@@ -9,7 +9,7 @@ use Rattle.tap_link.specs.LinkSet.{pinned as set_pinned, offered as set_offered,
 use Rattle.tap_link.proofs.Sizes.{length-forgotten, length-marked, length-offered, length-pinned, length-released, length-removed, one_if}
 use Rattle.tap_table.specs.Table.{IsTable, SlotLinks, TableValue, forgotten, has_room_near, kind_in, links_near, marked, name_cmp, near, offered, pinned, released, removed, rows, with_near}
 use Rattle.tap_table.proofs.Near.{number_near, within_slots}
-use Rattle.tap_table.proofs.Rows.{length-rows}
+use Rattle.tap_table.proofs.RowLists.{length-rows}
 
 module _ (t : TableValue) (name : List ℕ) (valid : IsTable t) (is_name : IsName t.settings name) (other : name ≢ t.owner) where
   -- as many more or fewer as in the slot of the name

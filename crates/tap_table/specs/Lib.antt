@@ -7,3 +7,4 @@ pub mod ByName
 pub mod Ties
 pub mod Members
 pub mod Laws
+pub mod Levels

@@ -57,7 +57,7 @@ abbrev pub ties_at_rest : SettingsValue → List ℕ → List (List ℕ) → Tie
 ties_at_rest p owner members =
     record { table = table_at_rest p owner (sorted members); holders = holders_at_rest p owner (sorted members) (sorted members) }
 
--- These links are the `width` least members that fit a slot of the owner, ascending; all that fit, where they are fewer.
+-- These links are the `width` least members that fit a slot of the owner, ascending; all that fit, if they are fewer.
 pub record AreLeastFitting (width : ℕ) (owner : List ℕ) (slot : Slot)
     (members links : List (List ℕ)) : Type 0 where
   pub ascending : AllPairs IsBelow links

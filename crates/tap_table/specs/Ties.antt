@@ -57,12 +57,12 @@ removed ties name = record ties { table = table_removed ties.table name }
 abbrev pub held_word : TiesValue → List ℕ → ℕ → Bool → TiesValue
 held_word ties holder version on = record ties { holders = applied name_cmp ties.holders holder version on }
 
--- the word for a node, where there is one
+-- the word for a node, if there is one
 abbrev pub tie_where : Bool → List ℕ → ℕ → Bool → Option Tie
 tie_where told to version on = if told then Some (record { to = to; version = version; on = on }) else None
 
--- What each call tells the node that it is about, with the number after the stamp's last: that there is a link where one
--- was added, and that there is none any more where a release dropped the pin.
+-- What each call tells the node that it is about, with the number after the stamp's last: that there is a link if one
+-- was added, and that there is none any more if a release dropped the pin.
 abbrev pub pin_tells : TiesValue → ℕ → List ℕ → Option Tie
 pin_tells ties stamp name = tie_where (is_none (kind_in ties.table name)) name (stamp + 1) true
 

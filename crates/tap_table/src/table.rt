@@ -1,15 +1,17 @@
-ghost use Rattle.std.specs.Prelude.{◌≡◌, ◌==◌, ℕ, List, ◌≢◌, ◌≤◌, ◌<◌, ◌↔◌, ◌+◌, ◌*◌, ◌&&◌, length, map, drop, slice_get, slice_index, false, Some, IsOk, IsSome, IsTrue, IfOk, OnOk, OnErr};
+ghost use Rattle.std.specs.Prelude.{◌≡◌, ◌==◌, ℕ, List, [], ◌≢◌, ◌≤◌, ◌<◌, ◌↔◌, ◌+◌, ◌*◌, ◌&&◌, length, map, drop, slice_get, slice_index, false, Some, IsOk, IsSome, IsTrue, IfOk, OnOk, OnErr};
+ghost use Rattle.std.specs.List.{slice_index_or};
 ghost use Rattle.std.specs.Option.{is_none};
 ghost use Rattle.tap_link.specs.LinkSet.{is_pinned, is_settled, is_settled_or_leaving, least_settled, released_as};
 ghost use Rattle.tap_name.specs.Name.{IsName};
 ghost use Rattle.tap_table.specs.Next.{HopsTo, IsHop, TakesOwnFrom, can_take, hop_to, next_from, primary_at, taken_digit};
 ghost use Rattle.tap_table.specs.Table.{HasNoLinksFrom, IsTable, empty_table, forgotten, has_room_near, kind_in, links_at, links_near, marked, near, offered, pinned, place_of, released, removed, rows, set_at, slot_number};
 ghost use Rattle.tap_table.specs.ByName.{range_by_name};
-ghost use Rattle.tap_table.specs.Row.{row_of};
+ghost use Rattle.tap_table.specs.Row.{row_of, rows_numbered};
 
 use crate::memory::NoMemory;
 use crate::next::Next;
 use crate::row::Row;
+use crate::rows::Rows;
 use crate::sets::Sets;
 use crate::slot_range::SlotRange;
 use std::alloc::Global;
@@ -98,24 +100,46 @@ impl Table {
 
     /// A link by its place, from 0, in ascending order of slot, then target.
     ///
-    /// It walks over the slots up to the link's, so that a list of all links made by it is quadratic. `slot`
-    /// gives the links of one slot at once: who goes through the slots and the links of each sees all links
-    /// in this order, in time linear in slots and links.
+    /// It walks over the slots up to the link's. Who wants all links steps through them by `rows`.
     pub fn row_at(&self, i: usize) -> Row
         requires { i < length (rows self.now) }
         ensures { slice_get (rows self.now) i ≡ Some (row_of result) }
     {
         let place = self.place_of_link(i);
+        self.row(place.number, place.link)
+    }
+
+    /// The links one after another, in ascending order of slot, then target. To go over all of them takes
+    /// time linear in slots and links, and no memory.
+    pub fn rows(&self) -> Rows<'_>
+        ensures { result ≡ rows self.now }
+    {
+        Rows::new(self)
+    }
+
+    // A link by the number of its slot, and its place among the links there.
+    pub(crate) fn row(&self, number: usize, link: usize) -> Row
+        requires slot { number < length self.now.slots }
+        requires link { link < length (slice_index_or self.now.slots number []) }
+        ensures { slice_get (rows_numbered self.now number) link ≡ Some (row_of result) }
+    {
         let base = self.settings.base() as usize;
-        let set = &self.sets.as_slice()[place.number];
+        let set = &self.sets.as_slice()[number];
         Row {
             slot: Slot {
-                level: (place.number / base) as u8,
-                digit: (place.number % base) as u8,
+                level: (number / base) as u8,
+                digit: (number % base) as u8,
             },
-            target: set.target_at(place.link),
-            kind: set.kind_at(place.link),
+            target: set.target_at(link),
+            kind: set.kind_at(link),
         }
+    }
+
+    // The links of all slots, by the slots' numbers.
+    pub(crate) fn sets(&self) -> &[LinkSet<Name>]
+        ensures { map (λ s. s.links) result.now ≡ self.now.slots }
+    {
+        self.sets.as_slice()
     }
 
     /// The slot of a link by its place, from 0, in ascending order of slot, then target.

@@ -99,6 +99,27 @@ fn a_table_takes_the_words_of_its_targets(rt: HostRuntime) -> Result<(), Fail> {
 }
 
 #[test]
+fn rows_come_by_slot_and_then_by_target(rt: HostRuntime) -> Result<(), Fail> {
+    let settings = Settings::new(4, 3, 1).ok_or("settings")?;
+    let owner = read_name(&settings, b"012")?;
+    let mut table = Table::new(rt.alloc(), owner, &settings)?;
+    assert!(rt; pin(&mut table, &settings, b"013")?);
+    assert!(rt; pin(&mut table, &settings, b"310")?);
+    assert!(rt; pin(&mut table, &settings, b"300")?);
+    let mut rows = table.rows();
+    for (text, level, digit) in [(b"300", 0, 3), (b"310", 0, 3), (b"013", 2, 3)] {
+        let row = Row {
+            slot: Slot { level, digit },
+            target: read_name(&settings, text)?,
+            kind: Kind::Pin,
+        };
+        assert_eq!(rt; rows.next(), Some(row));
+    }
+    assert_eq!(rt; rows.next(), None);
+    Ok(())
+}
+
+#[test]
 fn ties_give_the_words_for_their_targets(rt: HostRuntime) -> Result<(), Fail> {
     let settings = Settings::new(4, 3, 1).ok_or("settings")?;
     let owner = read_name(&settings, b"012")?;

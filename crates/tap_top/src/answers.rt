@@ -104,11 +104,17 @@ fn lines_of(alloc: Global, table: &Table) -> Result<List<LinkLine>, NoMemory>
     ensures { IfOk result (λ lines. lines ≡ lines_of table.now) }
 {
     let mut lines = List::new(alloc);
-    for place in 0..table.len() {
+    for row in table.rows() {
         lines.push(LinkLine {
+<<<<<<< HEAD
             slot: table.slot_at(place),
             name: table.target_at(place),
             kind: link_word_of(table.kind_at(place)),
+=======
+            slot: row.slot,
+            name: row.target,
+            kind: word_of(row.kind),
+>>>>>>> low
         })?;
     }
     Ok(lines)

@@ -6,13 +6,13 @@ use Rattle.std.proofs.lemmas.List.{get_or_append_left, get_or-append_right, get_
 use Rattle.std.proofs.lemmas.List.Elements.{Contains-append_left, Contains-append_right, Contains-append_cases}
 use Rattle.tap_name.specs.declared.slot.Slot.{Slot}
 use Rattle.tap_name.specs.Slot.{Precedes}
-use Rattle.tap_watch.specs.Watch.{IsAscending}
+use Rattle.tap_watch.specs.Watch.{SlotsAscend}
 use Rattle.tap_name.proofs.Slots.{same_slot}
 use Rattle.tap_watch.specs.Level.{level_slots, levels_slots}
 
 -- two ascending lists, the first before the second
-ascends-append : (xs ys : List Slot) → IsAscending xs → IsAscending ys → ((s t : Slot) → Contains xs s → Contains ys t → Precedes s t)
-    → IsAscending (xs ++ ys)
+ascends-append : (xs ys : List Slot) → SlotsAscend xs → SlotsAscend ys → ((s t : Slot) → Contains xs s → Contains ys t → Precedes s t)
+    → SlotsAscend (xs ++ ys)
 ascends-append xs ys ax ay across i j d lt within =
     let n = length xs in
     let total = length-append xs ys in
@@ -115,10 +115,10 @@ level_len level own (suc bound) lt =
           ))
     ]
 
-one_ascends : (x : Slot) → IsAscending (x ∷ [])
+one_ascends : (x : Slot) → SlotsAscend (x ∷ [])
 one_ascends x i j d lt within = absurd (omega arith)
 
-level_ascends : (level own bound : ℕ) → IsAscending (level_slots level own bound)
+level_ascends : (level own bound : ℕ) → SlotsAscend (level_slots level own bound)
 level_ascends level own zero = λ i j d lt within. absurd (omega arith)
 level_ascends level own (suc bound) =
     elim (cases_Bool (eqb bound own)) [
@@ -169,7 +169,7 @@ to_levels base joiner (suc level) s h =
           }))
     ]
 
-pub levels_ascend : (base : ℕ) (joiner : List ℕ) (levels : ℕ) → IsAscending (levels_slots base joiner levels)
+pub levels_ascend : (base : ℕ) (joiner : List ℕ) (levels : ℕ) → SlotsAscend (levels_slots base joiner levels)
 levels_ascend base joiner zero = λ i j d lt within. absurd (omega arith)
 levels_ascend base joiner (suc level) =
     let own = slice_index joiner level in

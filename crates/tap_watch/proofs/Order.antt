@@ -10,13 +10,13 @@ use Rattle.std.proofs.lemmas.Bool.Decides.{nat_tests}
 use Rattle.tap_name.specs.declared.slot.Slot.{Slot}
 use Rattle.tap_name.proofs.Slots.{same_slot}
 use Rattle.tap_name.specs.Slot.{Precedes, slot_cmp}
-use Rattle.tap_watch.specs.Watch.{IsAscending, is_other, without}
+use Rattle.tap_watch.specs.Watch.{SlotsAscend, is_other, without}
 
 -- what compares with a slot rises along ascending slots
 rising : (a b x : Slot) → Precedes a b → ordering_index (slot_cmp a x) ≤ ordering_index (slot_cmp b x)
 rising a b x h = grind (arith, nat_tests, h.level, h.digit)
 
-rises : (xs : List Slot) (x : Slot) → IsAscending xs → IsNonDecreasingBy (λ y. ordering_index (slot_cmp y x)) xs
+rises : (xs : List Slot) (x : Slot) → SlotsAscend xs → IsNonDecreasingBy (λ y. ordering_index (slot_cmp y x)) xs
 rises xs x ascending i j d le lt =
     elim (cases_lt i j) [
       | inl below ↦ rising (get_or xs i d) (get_or xs j d) x (ascending i j d below lt)
@@ -27,7 +27,7 @@ same_cmp : (x : Slot) → slot_cmp x x ≡ Equal
 same_cmp x = grind (arith, nat_tests)
 
 -- a search that finds no place finds none that there is
-pub absent : (xs : List Slot) (x : Slot) (r : Result ℕ ℕ) → IsAscending xs → IsBinarySearchResult (λ y. slot_cmp y x) xs r
+pub absent : (xs : List Slot) (x : Slot) (r : Result ℕ ℕ) → SlotsAscend xs → IsBinarySearchResult (λ y. slot_cmp y x) xs r
     → IsNone (result_ok r) → Contains xs x → ⊥
 absent xs x (Ok i) ascending found none here = absurd cc
 absent xs x (Err i) ascending found none (k, lt, e) =
@@ -60,7 +60,7 @@ without_absent (s ∷ xs) x none =
       | inr same ↦ let parts = tests_agree s x same in absurd (none (0, omega arith, same_slot s x parts.0 parts.1))
     ]
 
-tail_ascends : (s : Slot) (xs : List Slot) → IsAscending (s ∷ xs) → IsAscending xs
+tail_ascends : (s : Slot) (xs : List Slot) → SlotsAscend (s ∷ xs) → SlotsAscend xs
 tail_ascends s xs h i j d lt within = h (suc i) (suc j) d (omega arith) (omega arith)
 
 later_stay : (x : Slot) (xs : List Slot) → ((k : ℕ) (d : Slot) → k < length xs → Precedes x (get_or xs k d)) → without x xs ≡ xs
@@ -70,7 +70,7 @@ later_stay x (s ∷ xs) h =
     rw other (ap (λ (ys : List Slot). s ∷ ys) (later_stay x xs (λ k d lt. h (suc k) d (omega arith))))
 
 -- what stands at a place is all that goes
-pub without_at : (xs : List Slot) (x : Slot) (i : ℕ) → IsAscending xs → slice_get xs i ≡ Some x → without x xs ≡ remove xs i
+pub without_at : (xs : List Slot) (x : Slot) (i : ℕ) → SlotsAscend xs → slice_get xs i ≡ Some x → without x xs ≡ remove xs i
 without_at [] x i ascending here = absurd cc
 without_at (s ∷ xs) x zero ascending here =
     let same : s ≡ x = cc in

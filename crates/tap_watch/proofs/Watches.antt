@@ -13,7 +13,7 @@ use Rattle.tap_name.specs.Slot.{Precedes}
 use Rattle.tap_name.specs.declared.slot.Slot.{Slot}
 use Rattle.tap_name.proofs.Slots.{same_slot}
 use Rattle.tap_watch.specs.Level.{full_slots}
-use Rattle.tap_watch.specs.Watch.{IsAscending, IsWatch, IsWatched, is_other, with_last, without}
+use Rattle.tap_watch.specs.Watch.{SlotsAscend, IsWatch, IsWatched, is_other, with_last, without}
 use Rattle.tap_watch.proofs.Levels.{from_levels, levels_ascend, levels_len, single, single_is, to_levels}
 use Rattle.tap_watch.proofs.Order.{itself, tests_agree, without_absent, without_at}
 
@@ -84,7 +84,7 @@ Contains-with_last slots last s = (
 )
 
 -- a strike of a slot that is there leaves one less
-pub length-without : (slots : List Slot) (struck : Slot) → IsAscending slots → Contains slots struck
+pub length-without : (slots : List Slot) (struck : Slot) → SlotsAscend slots → Contains slots struck
     → length (without struck slots) + 1 ≡ length slots
 length-without slots struck ascending (i, within, e) =
     let here = slice_get-get_or slots i struck within ∙ ap Some e in
@@ -95,9 +95,9 @@ pub without-twice : (slots : List Slot) (struck : Slot) → without struck (with
 without-twice slots struck =
     without_absent (without struck slots) struck (λ here. ((Contains-without slots struck struck).0 here).1 refl)
 
-pub IsAscending-with_last : (slots : List Slot) (last : Slot) → IsAscending slots → All (λ s. Precedes s last) slots
-    → IsAscending (with_last slots last)
-IsAscending-with_last slots last ascending before = all_pairs_push Precedes slots last ascending before
+pub SlotsAscend-with_last : (slots : List Slot) (last : Slot) → SlotsAscend slots → All (λ s. Precedes s last) slots
+    → SlotsAscend (with_last slots last)
+SlotsAscend-with_last slots last ascending before = all_pairs_push Precedes slots last ascending before
 
 module _ (p : SettingsValue) (joiner : List ℕ) (prefix : ℕ) where
   -- the full watch has exactly the slots that are watched
@@ -140,6 +140,6 @@ module _ (p : SettingsValue) (joiner : List ℕ) (prefix : ℕ) where
   pub IsWatch-with_last : (slots : List Slot) (last : Slot) → IsWatch p joiner prefix slots → All (λ s. Precedes s last) slots
       → IsWatched p joiner prefix last → IsWatch p joiner prefix (with_last slots last)
   IsWatch-with_last slots last is before watched = record {
-    ascending = IsAscending-with_last slots last is.ascending before;
+    ascending = SlotsAscend-with_last slots last is.ascending before;
     watched = All-push (IsWatched p joiner prefix) slots last is.watched watched;
   }

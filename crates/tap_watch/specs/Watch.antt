@@ -5,8 +5,8 @@ use Rattle.tap_name.specs.Settings.{SettingsValue}
 pub use Rattle.tap_name.specs.Slot.{Precedes}
 
 -- each slot stands before each later one
-abbrev pub IsAscending : List Slot → Type 0
-IsAscending slots = AllPairs Precedes slots
+abbrev pub SlotsAscend : List Slot → Type 0
+SlotsAscend slots = AllPairs Precedes slots
 
 -- it is another slot than this one
 abbrev pub is_other : Slot → Slot → Bool
@@ -28,5 +28,5 @@ pub record IsWatched (p : SettingsValue) (joiner : List ℕ) (prefix : ℕ) (s :
 
 -- the form of a watch: the slots ascend, and each is one of the joiner's levels up to the prefix
 pub record IsWatch (p : SettingsValue) (joiner : List ℕ) (prefix : ℕ) (slots : List Slot) : Type 0 where
-  pub ascending : IsAscending slots
+  pub ascending : SlotsAscend slots
   pub watched : All (IsWatched p joiner prefix) slots

@@ -2,7 +2,7 @@ ghost use Rattle.std.specs.Prelude.{◌≡◌, ◌↔◌, ◌+◌, ◌-◌, ◌*
 ghost use Rattle.tap_name.specs.declared.slot.Slot.{Slot};
 ghost use Rattle.tap_name.specs.Name.{IsName};
 ghost use Rattle.tap_name.specs.Slot.{Precedes};
-ghost use Rattle.tap_watch.specs.Watch.{IsAscending, IsWatched, with_last, without};
+ghost use Rattle.tap_watch.specs.Watch.{SlotsAscend, IsWatched, with_last, without};
 ghost use Rattle.tap_watch.specs.Level.{full_slots, level_slots};
 
 use crate::memory::NoMemory;
@@ -21,13 +21,13 @@ pub struct Watch {
 impl Model for Watch {
     ghost use Rattle.std.specs.Prelude.{List};
     ghost use Rattle.tap_name.specs.declared.slot.Slot.{Slot};
-    ghost use Rattle.tap_watch.specs.Watch.{IsAscending};
+    ghost use Rattle.tap_watch.specs.Watch.{SlotsAscend};
 
     ghost Value = { List Slot };
 
     ghost view = { λ w. w.slots.items };
 
-    ghost invariant = { λ w. IsAscending w.slots.items };
+    ghost invariant = { λ w. SlotsAscend w.slots.items };
 }
 
 impl Watch {
@@ -66,7 +66,7 @@ impl Watch {
 
     /// The watch of a vector's slots, which ascend strictly, by level and then digit. It takes no memory.
     pub fn from_vec(slots: Vec<Slot>) -> Watch
-        requires { IsAscending slots.items }
+        requires { SlotsAscend slots.items }
         ensures { result ≡ slots.items }
     {
         Watch { slots }
@@ -90,7 +90,7 @@ impl Watch {
     /// The slots, lent.
     pub fn as_slice(&self) -> &[Slot]
         ensures value { result.now ≡ self.now }
-        ensures ascending { IsAscending self.now }
+        ensures ascending { SlotsAscend self.now }
     {
         self.slots.as_slice()
     }

@@ -11,7 +11,7 @@ use Rattle.tap_name.specs.Settings.{SettingsValue}
 use Rattle.tap_name.specs.Name.{IsName}
 use Rattle.tap_name.specs.declared.slot.Slot.{Slot}
 use Rattle.tap_name.specs.declared.slot.Offered.{Offered}
-use Rattle.tap_watch.specs.Watch.{IsAscending}
+use Rattle.tap_watch.specs.Watch.{SlotsAscend}
 use Rattle.tap_wire.specs.declared.frame.Body.{Body}
 use Rattle.tap_wire.specs.declared.frame.Body.TheVariants.{Tell, Hello}
 use Rattle.tap_wire.specs.declared.kind.Kind.TheVariants as kinds
@@ -69,7 +69,7 @@ level_above_taken p prefix place bytes level e =
     (is.1, subst (λ y. prefix < y) is.1 (ltb-true prefix x parts.0), subst (λ y. y ≤ p.digits) is.1 (leb-true x p.digits parts.1))
 
 pub tell_again : (p : SettingsValue) (start : ℕ) (bytes joiner : List ℕ) (prefix level session depth : ℕ) (watch : List Slot)
-    → IsTell p joiner prefix level session watch → IsAscending watch
+    → IsTell p joiner prefix level session watch → SlotsAscend watch
     → session < 2 ^ 32 → depth < 2 ^ 16 → drop start bytes ≡ body_bytes (Tell joiner prefix level session depth watch)
     → tell_at p start bytes ≡ Ok (Tell joiner prefix level session depth watch)
 unfolding tell_at

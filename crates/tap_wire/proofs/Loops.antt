@@ -5,7 +5,7 @@ use Rattle.std.proofs.Math.Nat.{div-add-mod}
 use Rattle.tap_name.specs.Settings.{SettingsValue}
 use Rattle.tap_name.specs.declared.slot.Slot.{Slot}
 use Rattle.tap_name.specs.declared.slot.Offered.{Offered}
-use Rattle.tap_watch.specs.Watch.{IsAscending}
+use Rattle.tap_watch.specs.Watch.{SlotsAscend}
 use Rattle.tap_wire.specs.declared.fault.Broken.{Broken}
 use Rattle.tap_wire.specs.Fields.{◌>>=◌, watch_slot_at, slots_at, hello_link_at, hello_links_at}
 use Rattle.tap_wire.proofs.Slots.{slots_taken, follow_ascends}
@@ -61,7 +61,7 @@ slots_done p prefix count i before place bytes front total le so_far =
 
 -- slots that were read ascend
 pub slots_ascend : (p : SettingsValue) (prefix start : ℕ) (bytes : List ℕ) (ss : List Slot) → start ≤ length bytes
-    → slots_at p prefix ((length bytes - start) / 2) None start bytes ≡ Ok ss → IsAscending ss
+    → slots_at p prefix ((length bytes - start) / 2) None start bytes ≡ Ok ss → SlotsAscend ss
 slots_ascend p prefix start bytes ss within e =
     let count = (length bytes - start) / 2 in
     let taken = slots_taken p prefix count None start bytes ss (omega arith) e in

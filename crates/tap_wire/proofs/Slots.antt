@@ -7,7 +7,7 @@ use Rattle.std.proofs.lemmas.List.Elements.{All-cons, All-nil}
 use Rattle.std.proofs.lemmas.List.Kept.{AllPairs-cons}
 use Rattle.tap_name.specs.Settings.{SettingsValue}
 use Rattle.tap_name.specs.declared.slot.Slot.{Slot}
-use Rattle.tap_watch.specs.Watch.{Precedes, IsAscending}
+use Rattle.tap_watch.specs.Watch.{Precedes, SlotsAscend}
 use Rattle.tap_wire.specs.Fields.{◌>>=◌, field, is_next_level, is_next_digit, watch_slot_at, slots_at}
 use Rattle.tap_wire.specs.Spelling.{slot_bytes}
 use Rattle.tap_wire.proofs.Steps.{bind_ok, bind_is, field_ok, ok_is}
@@ -157,7 +157,7 @@ all_follow base prefix b (s ∷ ss) follow =
     let after = all_follow base prefix s ss follow.2 in
     All-cons (Precedes b) s ss here (λ k d h. Precedes-trans b s (get_or ss k d) here (after k d h))
 
-pub follow_ascends : (base prefix : ℕ) (before : Option Slot) (ss : List Slot) → Follow base prefix before ss → IsAscending ss
+pub follow_ascends : (base prefix : ℕ) (before : Option Slot) (ss : List Slot) → Follow base prefix before ss → SlotsAscend ss
 follow_ascends base prefix before [] follow = λ i j d lt within. absurd (omega arith)
 follow_ascends base prefix before (s ∷ ss) follow =
     AllPairs-cons Precedes s ss (all_follow base prefix s ss follow.2) (follow_ascends base prefix (Some s) ss follow.2)
@@ -178,7 +178,7 @@ first_digit base None s ss after low = grind (arith, nat_tests)
 first_digit base (Some b) s ss after low = let h = after 0 s (omega arith) in grind (arith, nat_tests, h.level, h.digit)
 
 pub follow_from : (base prefix : ℕ) (before : Option Slot) (ss : List Slot) → FirstFollows before ss → All (λ s. s.level ≤ prefix) ss
-    → All (λ s. s.digit < base) ss → IsAscending ss
+    → All (λ s. s.digit < base) ss → SlotsAscend ss
     → Follow base prefix before ss
 follow_from base prefix before [] after levels digits ascending = tt
 follow_from base prefix before (s ∷ ss) after levels digits ascending = (

@@ -10,7 +10,7 @@ use Rattle.tap_name.specs.Name.{IsName}
 use Rattle.tap_name.specs.declared.slot.Slot.{Slot}
 use Rattle.tap_name.specs.declared.slot.Offered.{Offered}
 use Rattle.tap_name.specs.Word.{IsWord}
-use Rattle.tap_watch.specs.Watch.{IsAscending}
+use Rattle.tap_watch.specs.Watch.{SlotsAscend}
 use Rattle.tap_wire.specs.declared.frame.Frame.{Frame}
 use Rattle.tap_wire.specs.declared.frame.TellFields.{TellFields}
 use Rattle.tap_wire.specs.declared.frame.Body.{Body}
@@ -131,7 +131,7 @@ pub record IsFrame (p : SettingsValue) (frame : Frame) : Type 0 where
 -- what the types of the fields say by themselves: numbers of 32 and 16 bits, and ascending slots
 abbrev pub IsTyped : Body → Type 0
 IsTyped (Seek joiner) = Unit {0}
-IsTyped (Tell joiner prefix level session depth watch) = (session < 2 ^ 32) × (depth < 2 ^ 16) × IsAscending watch
+IsTyped (Tell joiner prefix level session depth watch) = (session < 2 ^ 32) × (depth < 2 ^ 16) × SlotsAscend watch
 IsTyped (Hello session core links) = session < 2 ^ 32
 IsTyped (Heard session) = session < 2 ^ 32
 IsTyped (Ack session) = session < 2 ^ 32

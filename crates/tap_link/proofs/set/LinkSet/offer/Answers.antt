@@ -2,14 +2,14 @@ use Rattle.std.proofs.Common.{◌≡◌, true, refl, ap, ◌∙◌}
 use Rattle.std.proofs.lemmas.Bool.{ltb-true}
 use Rattle.tap_link.specs.declared.kind.Kind.TheVariants.{Settled}
 use Rattle.tap_link.specs.LinkSet.{has_room}
-use Rattle.tap_link.specs.Places.{IsGap}
+use Rattle.tap_link.specs.Places.{IsGapFor}
 use Rattle.tap_link.proofs.Kept.{kept-insert}
 use Rattle.tap_link.proofs.Search.{set_of, absent-kind_of, found-is_some, insert-with_link}
 use Rattle.tap_link.proofs.set.LinkSet.offer.Goals as goal
 
 pub invariant_of-self-in-Err : goal.invariant_of-self-in-Err
 invariant_of-self-in-Err g c =
-    let gap : IsGap g.K.Ord.cmp c.self.inside.places c.settled.result.target c.in-Err.at =
+    let gap : IsGapFor g.K.Ord.cmp c.self.inside.places c.settled.result.target c.in-Err.at =
     rw c.settled.ensures.target c.in-Err.ensures.absent in
     let room : has_room (set_of c.self.inside.width c.self.inside.places) ≡ true = cc in
     rw c.in_ok-insert-in-Err.ensures.ok

@@ -1,5 +1,5 @@
 use Rattle.std.proofs.Common.{sym, ◌∙◌}
-use Rattle.tap_table.proofs.Rows.{length-rows_of_sets}
+use Rattle.tap_table.proofs.RowLists.{length-rows_of_sets}
 use Rattle.tap_table.proofs.table.Table.len.Goals as goal
 
 pub returns : goal.returns

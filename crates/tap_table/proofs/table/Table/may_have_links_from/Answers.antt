@@ -1,4 +1,4 @@
-use Rattle.std.proofs.Common.{◌≡◌, ◌*◌, ◌≤◌, arith, ap, subst}
+use Rattle.std.proofs.Common.{◌*◌, arith, ap, subst}
 use Rattle.std.proofs.lemmas.Bool.{ltb-false}
 use Rattle.tap_table.specs.Table.{HasNoLinksFrom}
 use Rattle.tap_table.proofs.EmptyLevels.{no_links_from}

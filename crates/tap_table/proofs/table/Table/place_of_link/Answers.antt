@@ -1,5 +1,5 @@
 use Rattle.std.proofs.Common.{length, arith, ap}
-use Rattle.tap_table.proofs.Rows.{place_found, place_later, place_within, slot_is, slots_are, slots_len}
+use Rattle.tap_table.proofs.RowLists.{place_found, place_later, place_within, slot_is, slots_are, slots_len}
 use Rattle.tap_table.proofs.table.Table.place_of_link.Goals as goal
 
 pub returns-then-link-links : goal.returns-then-link-links

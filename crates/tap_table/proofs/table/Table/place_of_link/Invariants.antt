@@ -1,4 +1,4 @@
-use Rattle.tap_table.proofs.Rows.{IsRest}
+use Rattle.tap_table.proofs.RowLists.{IsRest}
 use Rattle.tap_table.proofs.table.Table.place_of_link.Given as goal
 
 abbrev pub invariant-loop-number : goal.invariant-loop-number

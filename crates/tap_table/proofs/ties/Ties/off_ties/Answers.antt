@@ -1,5 +1,4 @@
 use Rattle.std.proofs.Common.{length, arith, ap}
-use Rattle.tap_table.specs.ByName.{targets_by_name}
 use Rattle.tap_table.specs.Table.{rows}
 use Rattle.tap_table.specs.Ties.{TiesValue}
 use Rattle.tap_table.proofs.Targets.{few_by_name}

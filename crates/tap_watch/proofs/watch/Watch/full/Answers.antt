@@ -1,5 +1,5 @@
 use Rattle.std.proofs.Common.{◌≡◌, ◌+◌, arith, ap, subst, ◌∙◌, sym}
-use Rattle.tap_watch.specs.Watch.{IsAscending}
+use Rattle.tap_watch.specs.Watch.{SlotsAscend}
 use Rattle.tap_watch.specs.Level.{levels_slots}
 use Rattle.tap_watch.proofs.Levels.{levels_ascend}
 use Rattle.tap_watch.proofs.Watches.{Contains-full, length-full}
@@ -13,7 +13,7 @@ all c =
     ∙ ap (levels_slots c.args.settings.now.base c.args.joiner.now) over
 
 pub invariant_of-result : goal.invariant_of-result
-invariant_of-result c = subst IsAscending (sym (all c)) (levels_ascend c.args.settings.now.base c.args.joiner.now (c.args.prefix + 1))
+invariant_of-result c = subst SlotsAscend (sym (all c)) (levels_ascend c.args.settings.now.base c.args.joiner.now (c.args.prefix + 1))
 
 pub returns-clause-slots : goal.returns-clause-slots
 returns-clause-slots c = all c

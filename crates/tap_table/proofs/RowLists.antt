@@ -4,16 +4,17 @@ use Rattle.std.specs.List.{enumerate_from, flat_map, sum_by}
 use Rattle.std.specs.Option.{option_map}
 use Rattle.std.proofs.lemmas.List.{drop_all, drop_more, length-map}
 use Rattle.std.proofs.lemmas.List.Sums.{sum_by-cons}
-use Rattle.std.proofs.lemmas.Option.{slice_get-map, slice_get_past}
+use Rattle.std.proofs.lemmas.Option.{slice_get-map, slice_get_past, slice_get_within}
 use Rattle.tap_name.specs.Settings.{SettingsValue}
 use Rattle.tap_link.specs.declared.kind.Kind.{Kind}
 use Rattle.tap_link.specs.Entry.{Entry}
 use Rattle.tap_link.specs.LinkSet.{LinkSetValue}
-use Rattle.tap_table.specs.declared.table.Place.{Place}
 use Rattle.tap_table.specs.Place.{IsPlace}
+use Rattle.tap_table.specs.Row.{rows_left, rows_numbered}
 use Rattle.tap_table.specs.Sets.{all_links}
 use Rattle.tap_table.specs.Table.{Row, SlotLinks, TableValue, rows, rows_of, slot_numbered, table_of}
 use Rattle.tap_table.proofs.Slots.{links_of_set}
+use Rattle.tap_table.proofs.Steps.{drop_got}
 
 module _ {X : Type 0} where
   pub slice_get_front : (xs ys : List X) (k : ℕ) → k < length xs → slice_get (xs ++ ys) k ≡ slice_get xs k
@@ -114,23 +115,34 @@ pub slot_is : (t : TableValue) (sets : List (LinkSetValue (List ℕ))) (n : ℕ)
     → e ≡ get_or sets n e → get_or t.slots n [] ≡ e.links
 slot_is t sets n e are within is = ap (λ l. get_or l n []) are ∙ links_of_set sets n e within ∙ sym (ap (λ s. s.links) is)
 
--- the row of the link that stands at a place
-pub row_of_place : (t : TableValue) (i : ℕ) (place : Place) (links : SlotLinks) (target : List ℕ) (kind : Kind) → IsPlace t i place
-    → get_or t.slots place.number [] ≡ links → slice_get (map (λ e. e.target) links) place.link ≡ Some target
-    → slice_get (map (λ e. e.kind) links) place.link ≡ Some kind
-    → slice_get (rows t) i
-    ≡ Some (record { slot = slot_numbered t.settings.base place.number; entry = record { target = target; kind = kind } })
-row_of_place t i place links target kind is same target_is kind_is =
-    let e = got links place.link (rw same at is.link) in
-    let here : slice_get (get_or t.slots place.number []) place.link ≡ Some e.0 = ap (λ l. slice_get l place.link) same ∙ e.1 in
-    let target_read = slice_get-map (λ e. e.target) links place.link ∙ ap (option_map (λ e. e.target)) e.1 in
-    let kind_read = slice_get-map (λ e. e.kind) links place.link ∙ ap (option_map (λ e. e.kind)) e.1 in
+-- the row of the link that stands at a place of a slot
+pub row_of_link : (base number : ℕ) (slot_links links : SlotLinks) (link : ℕ) (target : List ℕ) (kind : Kind)
+    → slot_links ≡ links → link < length slot_links
+    → slice_get (map (λ e. e.target) links) link ≡ Some target → slice_get (map (λ e. e.kind) links) link ≡ Some kind
+    → slice_get (rows_of base (number, slot_links)) link
+    ≡ Some (record { slot = slot_numbered base number; entry = record { target = target; kind = kind } })
+row_of_link base number slot_links links link target kind same within target_is kind_is =
+    let e = got links link (rw same at within) in
+    let here : slice_get slot_links link ≡ Some e.0 = ap (λ l. slice_get l link) same ∙ e.1 in
+    let target_read = slice_get-map (λ e. e.target) links link ∙ ap (option_map (λ e. e.target)) e.1 in
+    let kind_read = slice_get-map (λ e. e.kind) links link ∙ ap (option_map (λ e. e.kind)) e.1 in
     let same_target : Some e.0.target ≡ Some target = sym target_read ∙ target_is in
     let same_kind : Some e.0.kind ≡ Some kind = sym kind_read ∙ kind_is in
     let t_is : e.0.target ≡ target = cc in
     let k_is : e.0.kind ≡ kind = cc in
-    let of_entry : Entry (List ℕ) → Row = λ f. record { slot = slot_numbered t.settings.base place.number; entry = f } in
+    let of_entry : Entry (List ℕ) → Row = λ f. record { slot = slot_numbered base number; entry = f } in
     let with_target : List ℕ → Entry (List ℕ) = λ n. record { target = n; kind = e.0.kind } in
     let with_kind : Kind → Entry (List ℕ) = λ k. record { target = target; kind = k } in
-    is.same ∙ slice_get-map of_entry (get_or t.slots place.number []) place.link ∙ ap (option_map of_entry) here
+    slice_get-map of_entry slot_links link ∙ ap (option_map of_entry) here
     ∙ ap (λ f. Some (of_entry f)) (ap with_target t_is ∙ ap with_kind k_is)
+
+-- a row more of the slot from whose number on rows are left
+pub left_first : (t : TableValue) (number link : ℕ) (row : Row) → number < length t.slots
+    → slice_get (rows_numbered t number) link ≡ Some row → rows_left t number link ≡ row ∷ rows_left t number (link + 1)
+left_first t number link row within is =
+    let here = rows_numbered t number in
+    let more = flat_map (rows_of t.settings.base) (enumerate_from (number + 1) (drop (number + 1) t.slots)) in
+    let all = flat_map (rows_of t.settings.base) (enumerate_from number (drop number t.slots)) in
+    let parts : all ≡ here ++ more = rows_more t.settings.base number t.slots within in
+    drop_got all link row
+    (ap (λ l. slice_get l link) parts ∙ slice_get_front here more link (slice_get_within here link row is) ∙ is)
