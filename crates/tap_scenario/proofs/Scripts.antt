@@ -15,7 +15,7 @@ use Rattle.tap_scenario.specs.declared.fault.Fault.TheVariants.{BadValue, BadSte
 use Rattle.tap_scenario.specs.declared.step.Step.{Step}
 use Rattle.tap_scenario.specs.Document.{read_at, settings_of_table, default_frames, frames_of_table, members_of_table, if_runs, numbered_step, steps_from, steps_of_table}
 use Rattle.tap_scenario.specs.Key.{value_at}
-use Rattle.tap_scenario.specs.Scenario.{IsScript, most_frames, most_members, most_steps}
+use Rattle.tap_scenario.specs.Scenario.{EachStepRuns, IsScript, most_frames, most_members, most_steps}
 use Rattle.tap_scenario.specs.Step.{IsStep, step_of_text, can_run}
 use Rattle.tap_scenario.specs.Fault.{◌>>=◌, cons_result}
 use Rattle.tap_scenario.specs.Value.{whole_number, array_of_strings, strings_up_to, cons_both, names_of_texts, distinct_names, members_of_texts}
@@ -208,5 +208,13 @@ IsScript-parts t p frames members steps is_p is_frames is_members is_steps =
       distinct = names.distinct;
       steps_to = read.0;
       steps = λ k d h. (read.1 k d h).is_step;
-      runs = λ k d h. (read.1 k d h).runs;
     }
+
+-- a run takes each of the steps that a table gives
+pub EachStepRuns-parts : (t : Table) (p : SettingsValue) (frames : ℕ) (members : List (List ℕ)) (steps : List Step)
+    → settings_of_table t ≡ Ok p → steps_of_table p t ≡ Ok steps
+    → EachStepRuns (record { settings = p; frames = frames; members = members; steps = steps })
+EachStepRuns-parts t p frames members steps is_p is_steps =
+    let settings = settings_of_table-limits t p is_p in
+    let read = steps_of_table-limits p t steps settings.base_to is_steps in
+    λ k d h. (read.1 k d h).runs

@@ -36,4 +36,7 @@ pub record IsScript (s : ScenarioValue) : Type 0 where
   pub distinct : AreDistinct s.members
   pub steps_to : length s.steps ≤ most_steps
   pub steps : All (IsStep s.settings false) s.steps
-  pub runs : All (λ step. IsTrue (can_run step)) s.steps
+
+-- a run takes each of the steps
+abbrev pub EachStepRuns : ScenarioValue → Type 0
+EachStepRuns s = All (λ step. IsTrue (can_run step)) s.steps

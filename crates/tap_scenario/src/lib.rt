@@ -18,4 +18,5 @@ pub use document::read;
 pub use fault::{Fault, Key, ReadRefusal};
 pub use scenario::Scenario;
 pub use step::{Step, read_step};
+pub use tap_name::NoMemory;
 pub use wording::{StepWords, WordsAfter};

@@ -1,9 +1,10 @@
-ghost use Rattle.std.specs.Prelude.{◌≡◌, ◌<◌, length, slice_get, Some};
+ghost use Rattle.std.specs.Prelude.{◌≡◌, ◌<◌, IfOk, length, slice_get, Some};
 ghost use Rattle.tap_scenario.specs.Scenario.{ScenarioValue, IsScript};
 
 use crate::step::Step;
+use std::alloc::Global;
 use std::marker::Model;
-use tap_name::{List, Name, Settings};
+use tap_name::{List, Name, NoMemory, Settings};
 
 /// What a run is made from: the settings, the limit of frames, the members at the start, and the steps.
 ///
@@ -30,12 +31,34 @@ impl Model for Scenario {
 }
 
 impl Scenario {
-    /// The scenario of these parts. It takes no memory.
+    /// The scenario of these parts, of which it keeps copies. `NoMemory` if memory was refused.
     ///
     /// Condition: the parts are within the limits of a scenario. There are 1 to 64 members, distinct names of the
-    /// settings, and at most 10,000 steps; each is one of these settings, in a scenario that isn't carried, and one that a
-    /// run takes. The frames are 1 to 500,000, or 1 to 100,000 if names have more than eight digits.
-    pub fn of(settings: &Settings, frames: u32, members: List<Name>, steps: List<Step>) -> Scenario
+    /// settings, and at most 10,000 steps, each one of these settings in a scenario that isn't carried. The frames are 1 to
+    /// 500,000, or 1 to 100,000 if names have more than eight digits.
+    pub fn of(
+        alloc: Global,
+        settings: &Settings,
+        frames: u32,
+        members: &List<Name>,
+        steps: &[Step],
+    ) -> Result<Scenario, NoMemory>
+        requires { IsScript (record { settings = settings.now; frames = frames; members = members.now; steps = steps.now }) }
+        ensures { IfOk result
+            (λ s. s ≡ record { settings = settings.now; frames = frames; members = members.now; steps = steps.now }) }
+    {
+        let members = List::from_vec(Vec::from_slice(alloc, members.as_slice())?);
+        let steps = List::from_vec(Vec::from_slice(alloc, steps)?);
+        Ok(Scenario::from_lists(settings, frames, members, steps))
+    }
+
+    /// The scenario of these parts, which it keeps. It takes no memory. The condition is that of [`Scenario::of`].
+    pub fn from_lists(
+        settings: &Settings,
+        frames: u32,
+        members: List<Name>,
+        steps: List<Step>,
+    ) -> Scenario
         requires { IsScript (record { settings = settings.now; frames = frames; members = members; steps = steps }) }
         ensures { result ≡ record { settings = settings.now; frames = frames; members = members; steps = steps } }
     {

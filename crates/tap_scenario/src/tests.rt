@@ -2,7 +2,7 @@ use crate::{Fault, Key, Prefix, ReadRefusal, Scenario, Step, Word, WordsAfter, r
 use std::alloc::{AllocError, Global};
 use std::process::Abort;
 use std::test::Fail;
-use tap_name::{List, Name, Settings, read_name};
+use tap_name::{Name, Settings, read_name};
 
 // A scenario's lines, each under its key.
 const LINES: [(&str, &str); 5] = [
@@ -547,16 +547,20 @@ fn makes_a_scenario(rt: HostRuntime) -> Result<(), Fail> {
     let alloc = rt.alloc();
     let text = text_with(alloc, "frames", "frames = 9\n")?;
     let scenario = read(alloc, text.as_bytes()).map_err(|_| "a scenario")?;
-    let members = List::from_vec(scenario.members().as_slice().to_vec(alloc)?);
+    let (_, object, asker) = named()?;
+    let find = Step::Find { object, asker };
     let made = Scenario::of(
+        alloc,
         &scenario.settings(),
         scenario.frames(),
-        members,
-        List::new(alloc),
-    );
+        scenario.members(),
+        &[find, Step::Settle],
+    )
+    .map_err(|_| "no memory")?;
     assert_eq!(rt; made.frames(), 9);
     assert_eq!(rt; made.members().len(), 5);
-    assert_eq!(rt; made.step_count(), 0);
+    assert_eq!(rt; made.step_count(), 2);
+    assert_eq!(rt; made.step_at(0), find);
     Ok(())
 }
 

@@ -3,6 +3,7 @@ ghost use Rattle.tap_report.specs.Text.{IsPrintableLog};
 ghost use Rattle.tap_io.specs.Sink.{SinkState};
 ghost use Rattle.tap_report.specs.Reporter.{Reports, most_records, new_reporter, settings_after};
 ghost use Rattle.tap_report.specs.declared.mode.Mode.{Mode as ReportMode};
+ghost use Rattle.tap_scenario.specs.Scenario.{EachStepRuns};
 ghost use Rattle.tap_top.specs.AtRest.{AreKeptAtRest, nodes_of};
 ghost use Rattle.tap_top.specs.Headline.{IsLogOf, IsWholeLogOf};
 ghost use Rattle.tap_top.specs.Running.{HasRun};
@@ -27,6 +28,7 @@ fn add_group(
 ) -> Result<(), NoMemory>
     requires at_rest { AreKeptAtRest scenario.now.settings scenario.now.members members.now }
     requires place { place < length scenario.now.steps }
+    requires runs { EachStepRuns scenario.now }
     requires run { HasRun scenario.now (nodes_of members.now) log.old.records place }
     ensures ok { OnOk result (HasRun scenario.now (nodes_of members.now) log.new.records (place + 1)) }
     ensures grows { OnOk result (take (length log.old.records) log.new.records ≡ log.old.records) }
@@ -76,6 +78,7 @@ pub(crate) fn run_scenario<K: Sink>(
     reporter: &mut Reporter,
     sink: &mut K,
 ) -> Result<(), NoMemory>
+    requires runs { EachStepRuns scenario.now }
     requires empty { log.old.records ≡ [] }
     requires fresh { reporter.old ≡ new_reporter reporter.old.mode }
     ensures done { OnOk result (IsWholeLogOf scenario.now log.new.records) }

@@ -2,6 +2,7 @@ ghost use Rattle.std.specs.Prelude.{◌≡◌, ◌≢◌, ◌<◌, ◌↔◌, �
 ghost use Rattle.tap_io.specs.Faults.{HasRisen};
 ghost use Rattle.tap_report.specs.Text.{IsPrintableLog};
 ghost use Rattle.tap_report.specs.declared.mode.Mode.TheVariants.{Long as LongMode};
+ghost use Rattle.tap_scenario.specs.Scenario.{EachStepRuns};
 ghost use Rattle.tap_top.specs.Ending.{HasCause, HasRunAll, HasRunAs, HasRunSome, HasWritten, IsUnread, text_of_run};
 ghost use Rattle.tap_top.specs.FaultLine.{fault_line};
 ghost use Rattle.tap_top.specs.Reading.{HasReadFault, HasReadScript, HasReadTooMany};
@@ -23,6 +24,7 @@ const TEXT_ROOM: usize = 16_384;
 // Reads the scenario of a source, or says why there is none.
 fn read_scenario<S: Source>(alloc: Global, source: &mut S) -> Result<Scenario, Status>
     ensures script { IfOk result (HasReadScript (S.state source.old) (S.state source.new)) }
+    ensures runs { IfOk result EachStepRuns }
     ensures unread { IfErr result (IsUnread (S.state source.old) (S.state source.new)) }
 {
     let bytes = match read_all(alloc, source) {
@@ -46,6 +48,7 @@ fn scenario_to_run<S: Source>(
 ) -> Result<Scenario, Status>
     ensures none { IfOk result (λ script. length words.now ≡ 0) }
     ensures script { IfOk result (HasReadScript (S.state source.old) (S.state source.new)) }
+    ensures runs { IfOk result EachStepRuns }
     ensures cause { IfErr result (HasCause (length words.now) (S.state source.old) (S.state source.new) []) }
 {
     if !words.is_empty() {
@@ -70,6 +73,7 @@ fn end_without_run<K: Sink>(alloc: Global, before: Status, sink: &mut K) -> Ende
 
 // Runs a scenario, and writes the text of its log and the fault line, gathered into large pieces.
 fn run_and_print<K: Sink>(alloc: Global, scenario: &Scenario, sink: &mut K) -> Ended
+    requires { EachStepRuns scenario.now }
     ensures run { HasRunAs scenario.now result.log.records result.before }
     ensures written { HasWritten (K.state sink.old) (K.state sink.new)
         (text_of_run LongMode result.log.records result.before) result.before result.status }
