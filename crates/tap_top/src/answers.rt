@@ -106,15 +106,9 @@ fn lines_of(alloc: Global, table: &Table) -> Result<List<LinkLine>, NoMemory>
     let mut lines = List::new(alloc);
     for row in table.rows() {
         lines.push(LinkLine {
-<<<<<<< HEAD
-            slot: table.slot_at(place),
-            name: table.target_at(place),
-            kind: link_word_of(table.kind_at(place)),
-=======
             slot: row.slot,
             name: row.target,
-            kind: word_of(row.kind),
->>>>>>> low
+            kind: link_word_of(row.kind),
         })?;
     }
     Ok(lines)
