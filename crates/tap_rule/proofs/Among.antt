@@ -62,7 +62,8 @@ pub among-inserted_from : (x word : Tie) (words : List Tie) → IsAmong x (inser
 unfolding inserted_by_receiver
 among-inserted_from x word [] among = among
 among-inserted_from x word (first ∷ others) among =
-    step_out x word first others (inserted_by_receiver word others) (is_gt (name_cmp word.to first.to)) (among-inserted_from x word others) among
+    step_out x word first others (inserted_by_receiver word others) (is_gt (name_cmp word.to first.to))
+    (among-inserted_from x word others) among
 
 -- the words in order are the words
 pub among-by_receiver : (x : Tie) (words : List Tie) → IsAmong x words → IsAmong x (by_receiver words)

@@ -1,20 +1,23 @@
 -- What Heard and Ack change.
-use Rattle.std.proofs.Common.{◌≡◌, ◌==◌, ℕ, ◌<◌, true, false, arith, refl, sym, ap, ◌∙◌, inl, inr, eqb-true, if◌then◌else◌}
+use Rattle.std.proofs.Common.{◌≡◌, ◌==◌, ℕ, ◌<◌, List, [], ◌∷◌, Option, None, Some, true, false, arith, refl, sym, ap, subst, ◌∙◌, inl, inr, eqb-true, if◌then◌else◌}
 use Rattle.std.specs.Option.{option_and_then}
 use Rattle.std.proofs.lemmas.Bool.{cases_Bool}
 use Rattle.std.proofs.lemmas.Bool.Decides.{eqb_tells}
-use Rattle.tap_session.specs.Session.{SessionsValue}
+use Rattle.tap_session.specs.Session.{Session, SessionsValue}
 use Rattle.tap_session.specs.Sessions.{AreSessions, answer_to, session_of, with_answer}
 use Rattle.tap_session.proofs.Transitions.{answered-unknown, session_of-answered}
-use Rattle.tap_wire.specs.declared.frame.Body.TheVariants.{Heard, Ack}
+use Rattle.tap_wire.specs.declared.frame.Body.TheVariants.{Heard, Ack, Done}
 use Rattle.tap_rule.specs.Node.{NodeState, join_session_at}
 use Rattle.tap_rule.specs.Event.{Acted}
+use Rattle.tap_rule.specs.Reaction.{message}
 use Rattle.tap_rule.specs.Answers.{answer_for, answer_sends, answered}
 use Rattle.tap_rule.specs.FrameRules.{frame_at_ceased, frame_at_core, frame_at_joining}
 use Rattle.tap_rule.specs.Sent.{IsAmong}
-use Rattle.tap_rule.specs.Steps.{AnswerStep}
+use Rattle.tap_rule.specs.Completed.{SendsAt}
+use Rattle.tap_rule.specs.Steps.{AnswerStep, IsNotLast}
 use Rattle.tap_rule.specs.Laws.{AnswerLaw, IsCarriedOut, frame_to}
 use Rattle.tap_rule.proofs.CarriedOut.{frame_law}
+use Rattle.tap_rule.proofs.Completed.{rest_by, sends_at}
 use Rattle.tap_rule.proofs.OneName.{parent_told}
 
 -- a number is itself
@@ -25,7 +28,16 @@ same_number n = elim (eqb_tells n n) [ inl both ↦ both.0 | inr both ↦ absurd
 pub other_number : (n : ℕ) → 1 < n → (n == 1) ≡ false
 other_number n above = elim (eqb_tells n 1) [ inl both ↦ absurd (omega (arith, both.1)) | inr both ↦ both.0 ]
 
+-- an answer that isn't a session's last is passed on to nobody
+pub not_last : (found : Option Session) → IsNotLast found → answer_sends (answer_to found) ≡ []
+not_last None waits = refl
+not_last (Some s) waits = rw (other_number s.waiting waits) refl
+
 module _ (node : NodeState) (session : ℕ) (acted : Acted) (are : AreSessions node.sessions) where
+  whole : IsCarriedOut node (answered node session) acted
+      → SendsAt node.status node (answer_sends (answer_to (join_session_at node session))) acted
+  whole carried = sends_at node _ _ acted carried refl refl refl node.status refl
+
   answered_step : IsCarriedOut node (answered node session) acted → AnswerStep node session acted
   answered_step carried =
       let look : (number : ℕ) → join_session_at acted.state number
@@ -50,6 +62,14 @@ module _ (node : NodeState) (session : ℕ) (acted : Acted) (are : AreSessions n
               parent_told node s.parent acted.sent (carried.sent.named (answer_for s.parent) among),
         );
         sent = carried.sent;
+        rest = rest_by carried refl refl refl refl;
+        silent = λ waits. subst (λ m. SendsAt node.status node m acted) (not_last (join_session_at node session) waits) (whole carried);
+        acks = λ s name number is last parent.
+            let due : answer_sends (answer_to (join_session_at node session)) ≡ message name (Ack number) ∷ [] = rw (is, last, parent) refl
+            in subst (λ m. SendsAt node.status node m acted) due (whole carried);
+        is_done = λ s joiner is last parent.
+            let due : answer_sends (answer_to (join_session_at node session)) ≡ message joiner Done ∷ [] = rw (is, last, parent) refl in
+            subst (λ m. SendsAt node.status node m acted) due (whole carried);
       }
 
 pub heard_law : AnswerLaw Heard

@@ -1,7 +1,7 @@
 -- A step goes as its rule says.
-use Rattle.std.proofs.Common.{ℕ, List, map, ◌++◌, Bool, cond, true, false, arith, refl, inl, inr}
+use Rattle.std.proofs.Common.{◌≡◌, ℕ, List, map, ◌++◌, Bool, cond, true, false, arith, refl, inl, inr}
 use Rattle.tap_wire.specs.declared.frame.Frame.{Frame}
-use Rattle.tap_rule.specs.Node.{NodeState, Status, name_of}
+use Rattle.tap_rule.specs.Node.{IsRunning, NodeState, Status, name_of}
 use Rattle.tap_rule.specs.Node.Status.{Joining, Core, Leaving, Gone, Ceased}
 use Rattle.tap_rule.specs.Reaction.{Reaction}
 use Rattle.tap_rule.specs.Pointers.{reconciles}
@@ -9,8 +9,9 @@ use Rattle.tap_rule.specs.Sending.{by_receiver, frames_of, lay_frame, link_frame
 use Rattle.tap_rule.specs.Strange.{is_strange}
 use Rattle.tap_rule.specs.FrameRules.{rule_of_frame}
 use Rattle.tap_rule.specs.Act.{act, carried_out, completed, follows, refuses}
-use Rattle.tap_rule.specs.Sent.{AreSent}
-use Rattle.tap_rule.specs.Laws.{FrameLaw, IsCarriedOut, IsIgnored, StartLaw, StrangeLaw, UnruledLaw}
+use Rattle.tap_rule.specs.Sent.{AreSent, AreSentInOrder}
+use Rattle.tap_rule.specs.Laws.{FrameLaw, IsCarriedOut, IsIgnored, StartLaw, StrangeLaw, UnruledLaw, UnruledStartLaw}
+use Rattle.tap_rule.proofs.ByReceiver.{by_receiver-ascending, by_receiver-permutation}
 use Rattle.tap_rule.proofs.Among.{among-by_receiver, among-by_receiver_from, among-either, among-first, among-map, among-map_from, among-second}
 
 -- the frames of a reaction are those of its words, of its messages, and of its Lays
@@ -40,9 +41,14 @@ are_sent from r =
           (among-first (message_frame from message) named lays (among-map (message_frame from) message r.messages among));
     }
 
+-- and they are in order
+pub are_sent_in_order : (from : List ℕ) (r : Reaction) → AreSentInOrder from r.words r.messages r.lays (frames_of from r)
+are_sent_in_order from r =
+    record { all = refl; same = by_receiver-permutation r.words; ascending = by_receiver-ascending r.words }
+
 -- a step that ends as its rule says, and one that ends with reconciling
-as_it_says : (node : NodeState) (r : Reaction) → IsCarriedOut node r (carried_out (name_of node) r)
-as_it_says node r = record {
+as_it_says : (node : NodeState) (r : Reaction) → (IsRunning r.state.status → ⊥) → IsCarriedOut node r (carried_out (name_of node) r)
+as_it_says node r ended = record {
   status = refl;
   ties = refl;
   stamp = omega arith;
@@ -57,10 +63,13 @@ as_it_says node r = record {
   sent = are_sent (name_of node) r;
   news = refl;
   taken = refl;
+  running = λ runs. absurd (ended runs);
+  ended = λ has. record { state = refl; sent = are_sent_in_order (name_of node) r };
 }
 
-reconciling : (node : NodeState) (r : Reaction) → IsCarriedOut node r (carried_out (name_of node) (reconciles r))
-reconciling node r = record {
+reconciling : (node : NodeState) (r : Reaction) → IsRunning r.state.status
+    → IsCarriedOut node r (carried_out (name_of node) (reconciles r))
+reconciling node r runs = record {
   status = refl;
   ties = refl;
   stamp = omega arith;
@@ -75,15 +84,17 @@ reconciling node r = record {
   sent = are_sent (name_of node) (reconciles r);
   news = refl;
   taken = refl;
+  running = λ runs. record { pointers = refl; stamp = refl; sent = are_sent_in_order (name_of node) (reconciles r) };
+  ended = λ has. absurd (has runs);
 }
 
-pub completing : (node : NodeState) (r : Reaction) (status : Status)
+pub completing : (node : NodeState) (r : Reaction) (status : Status) → r.state.status ≡ status
     → IsCarriedOut node r (carried_out (name_of node) (completed status r))
-completing node r Joining = reconciling node r
-completing node r Core = reconciling node r
-completing node r Leaving = reconciling node r
-completing node r Gone = as_it_says node r
-completing node r Ceased = as_it_says node r
+completing node r Joining is = reconciling node r (rw is tt)
+completing node r Core is = reconciling node r (rw is tt)
+completing node r Leaving is = reconciling node r (rw is tt)
+completing node r Gone is = as_it_says node r (λ runs. let no : ⊥ = rw is at runs in no)
+completing node r Ceased is = as_it_says node r (λ runs. let no : ⊥ = rw is at runs in no)
 
 pub strange_law : StrangeLaw
 unfolding act
@@ -98,10 +109,14 @@ unruled_law node frame none = step (is_strange node frame)
     step true = record { state = refl; sent = refl; news = refl }
     step false = rw none (record { state = refl; sent = refl; news = refl })
 
+pub unruled_start_law : UnruledStartLaw
+unfolding act
+unruled_start_law node start none = rw none (record { state = refl; sent = refl; news = refl })
+
 pub frame_law : FrameLaw
 unfolding act
-frame_law node frame reaction taken rule = rw (taken, rule) (completing node reaction reaction.state.status)
+frame_law node frame reaction taken rule = rw (taken, rule) (completing node reaction reaction.state.status refl)
 
 pub start_law : StartLaw
 unfolding act
-start_law node start reaction rule = rw rule (completing node reaction reaction.state.status)
+start_law node start reaction rule = rw rule (completing node reaction reaction.state.status refl)

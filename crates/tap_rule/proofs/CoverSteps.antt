@@ -1,5 +1,5 @@
 -- What Seek and Tell change at a core node.
-use Rattle.std.proofs.Common.{◌≡◌, ◌||◌, ◌==◌, ℕ, ◌+◌, Bool, cond, List, [], ◌∷◌, ◌++◌, length, map, Option, Some, None, true, false, arith, refl, sym, ap, ◌∙◌, inl, inr, eqb-true}
+use Rattle.std.proofs.Common.{◌≡◌, ◌||◌, ◌==◌, ℕ, ◌+◌, Bool, cond, List, [], ◌∷◌, ◌++◌, length, map, Option, Some, None, true, false, arith, refl, sym, ap, subst, ◌∙◌, inl, inr, eqb-true}
 use Rattle.std.specs.Prelude.{is_some}
 use Rattle.std.specs.Ordering.{is_eq}
 use Rattle.std.proofs.lemmas.Bool.{cases_Bool, eqb-false, or_parts, true≢false}
@@ -14,6 +14,9 @@ use Rattle.tap_link.specs.LinkSet.{is_settled, kind_of, least_settled}
 use Rattle.tap_table.specs.declared.tie.Tie.{Tie}
 use Rattle.tap_table.specs.Table.{SlotLinks, links_near, name_cmp}
 use Rattle.tap_table.specs.Ties.{AreTies, pinned}
+use Rattle.tap_session.specs.declared.parent.Parent.{Parent}
+use Rattle.tap_session.specs.declared.parent.Parent.TheVariants.{Root, Node}
+use Rattle.tap_session.specs.Sessions.{opened_with}
 use Rattle.tap_multicast.specs.declared.covers.Covered.{Covered}
 use Rattle.tap_multicast.specs.declared.covers.Covered.TheVariants.{Already, Now}
 use Rattle.tap_multicast.specs.declared.target.Target.{Target}
@@ -23,8 +26,9 @@ use Rattle.tap_join.specs.declared.sought.Sought.{Sought}
 use Rattle.tap_join.specs.declared.sought.Sought.TheVariants.{Forward, Surrogate}
 use Rattle.tap_join.specs.Seek.{sought, sought_by}
 use Rattle.tap_wire.specs.declared.frame.Body.TheVariants.{Seek, Hello}
-use Rattle.tap_rule.specs.Node.{NodeState, level_of, link_to, name_of, settings_of}
+use Rattle.tap_rule.specs.Node.{IsRunning, NodeState, level_of, link_to, name_of, settings_of}
 use Rattle.tap_rule.specs.Event.{Acted}
+use Rattle.tap_rule.specs.Event.News.{Nothing}
 use Rattle.tap_rule.specs.Reaction.{Message, message, pin_word, sends, with_pin, with_words}
 use Rattle.tap_rule.specs.Answers.{answer_for, with_session}
 use Rattle.tap_rule.specs.Covering.{Request, answers_awaited, covers_as, first_request, greeting, pins_and_covers, request_of, seeks, seeks_as, takes_tell, tell_for, with_level}
@@ -32,10 +36,13 @@ use Rattle.tap_rule.specs.Strange.{is_leaving, is_no_pin, is_own_name, is_strang
 use Rattle.tap_rule.specs.FrameRules.{frame_at_core}
 use Rattle.tap_rule.specs.Sending.{link_frame}
 use Rattle.tap_rule.specs.Sent.{IsAmong}
-use Rattle.tap_rule.specs.JoinSteps.{CoverStep, SeekStep, SpreadStep, found_for}
+use Rattle.tap_rule.specs.Completed.{IsCompleted, RestAlike}
+use Rattle.tap_rule.specs.Steps.{IsParentAnswered}
+use Rattle.tap_rule.specs.JoinSteps.{CoverStep, SeekStep, SpreadStep, found_for, pin_words, tells_for}
 use Rattle.tap_rule.specs.Laws.{IsCarriedOut, SeekLaw, TellLaw, frame_to, tell_of}
 use Rattle.tap_rule.proofs.Among.{among-first, among-map, among-second}
 use Rattle.tap_rule.proofs.CarriedOut.{frame_law}
+use Rattle.tap_rule.proofs.Completed.{alike_by, completed_by, one_word, rest_by}
 use Rattle.tap_rule.proofs.OneName.{parent_told}
 use Rattle.tap_rule.proofs.JoinSteps.{IsTellFit, pin_step, tell_fits}
 
@@ -50,7 +57,13 @@ never_alone : (first : Bool) (targets : List Target) → answers_awaited first (
 never_alone true targets none is = absurd (omega (arith, none))
 never_alone false targets none is = true≢false (sym is)
 
-module _ (node : NodeState) (request : Request) (acted : Acted) where
+-- an answer for a parent, and nothing else, is how it is answered
+parent_answered : (node : NodeState) (words : List Tie) (parent : Parent) (acted : Acted)
+    → IsCompleted node node.pointers words (answer_for parent ∷ []) Nothing acted → IsParentAnswered node words parent acted
+parent_answered node words (Root joiner) acted completed = completed
+parent_answered node words (Node name session) acted completed = completed
+
+module _ (node : NodeState) (request : Request) (acted : Acted) (runs : IsRunning node.status) where
   -- The Tells and the Hello are among the messages
   module _ (first : Bool) (offer : List Offered) (targets : List Target) (left : List Slot) where
     abbrev session : ℕ
@@ -75,7 +88,20 @@ module _ (node : NodeState) (request : Request) (acted : Acted) where
       ties : acted.state.ties ≡ pinned node.ties request.joiner
       links : (word : Tie) → IsAmong word (words_of (pin_word node request.joiner)) → IsAmong (link_frame (name_of node) word) acted.sent
       covers : acted.state.covers ≡ with_cover node.covers request.joiner request.level
+      greeted : acted.state.greeted ≡ node.greeted
+      abandoned : acted.state.abandoned ≡ node.abandoned
+      rest : RestAlike node acted.state
       spreads : SpreadStep node request first offer targets left acted
+
+    -- what is sent in a session that is opened
+    exactly : IsCarriedOut node (with_words (words_of (pin_word node request.joiner))
+        (sends (with_session (with_level (with_pin node request.joiner) request) request.parent request.depth
+        (answers_awaited first (length targets))) messages)) acted
+        → (sent : List Message) → messages ≡ sent
+        → IsCompleted node node.pointers (pin_words node request.joiner) sent Nothing acted
+    exactly carried sent all =
+        subst (λ m. IsCompleted node node.pointers (pin_words node request.joiner) m Nothing acted) all
+        (completed_by node _ acted carried runs (one_word _ request.joiner node.stamp true))
 
     -- a node with the joiner pinned and covered, which waits for nobody or opens a session
     spread_as : (none : Bool) → (answers_awaited first (length targets) == 0) ≡ none
@@ -91,6 +117,9 @@ module _ (node : NodeState) (request : Request) (acted : Acted) where
           ties = carried.ties;
           links = carried.sent.links;
           covers = carried.covers;
+          greeted = carried.greeted;
+          abandoned = carried.abandoned;
+          rest = rest_by carried refl refl refl refl;
           spreads = record {
             alone = λ zero. (
               carried.sessions,
@@ -99,6 +128,13 @@ module _ (node : NodeState) (request : Request) (acted : Acted) where
             opens = λ some. absurd (some none);
             greets = λ yes. absurd (never_alone first targets none yes);
             tells = λ target among. absurd (no_targets first targets target none among);
+            first_opens = λ yes. absurd (never_alone first targets none yes);
+            again_opens = λ no some. let zero : length targets ≡ 0 = rw no at none in absurd (some zero);
+            again_answers = λ no zero. (
+              carried.sessions,
+              parent_answered node _ request.parent acted
+                  (completed_by node _ acted carried runs (one_word _ request.joiner node.stamp true)),
+            );
           };
         }
     spread_as false is carried = record {
@@ -106,11 +142,25 @@ module _ (node : NodeState) (request : Request) (acted : Acted) where
       ties = carried.ties;
       links = carried.sent.links;
       covers = carried.covers;
+      greeted = carried.greeted;
+      abandoned = carried.abandoned;
+      rest = rest_by carried refl refl refl refl;
       spreads = record {
         alone = λ zero. absurd (eqb-false (answers_awaited first (length targets)) 0 is zero);
         opens = λ some. carried.sessions;
         greets = λ yes. carried.sent.named (message request.joiner (Hello session true offer)) (greeted_among yes);
         tells = λ target among. carried.sent.named (tell_for request session left target) (told_among target among);
+        first_opens = λ yes.
+            let number : answers_awaited first (length targets) ≡ length targets + 1 = rw yes refl in
+            let all : messages ≡ message request.joiner (Hello session true offer) ∷ tells_for node request left targets = rw yes refl in
+            (carried.sessions ∙ ap (opened_with node.sessions request.parent request.depth) number, exactly carried _ all);
+        again_opens = λ no some.
+            let number : answers_awaited first (length targets) ≡ length targets = rw no refl in
+            let all : messages ≡ tells_for node request left targets = rw no refl in
+            (carried.sessions ∙ ap (opened_with node.sessions request.parent request.depth) number, exactly carried _ all);
+        again_answers = λ no zero.
+            let none : answers_awaited first (length targets) ≡ 0 = rw no zero in
+            absurd (eqb-false (answers_awaited first (length targets)) 0 is none);
       };
     }
 
@@ -127,7 +177,12 @@ module _ (node : NodeState) (request : Request) (acted : Acted) where
             carried.covers,
             carried.sessions,
             parent_told node request.parent acted.sent (carried.sent.named (answer_for request.parent) (inl refl)),
+            parent_answered node _ request.parent acted
+                (completed_by node _ acted carried runs (one_word _ request.joiner node.stamp true)),
           );
+      greeted = carried.greeted;
+      abandoned = carried.abandoned;
+      rest = rest_by carried refl refl refl refl;
     }
     cover_as (Now first offer targets left) is carried =
         let both = spread_as first offer targets left (answers_awaited first (length targets) == 0) refl carried in
@@ -135,6 +190,9 @@ module _ (node : NodeState) (request : Request) (acted : Acted) where
           status = both.status;
           pins = pin_step node request.joiner acted ties is_name fits.apart fits.pin both.ties both.links;
           covers = rw is (both.covers, both.spreads);
+          greeted = both.greeted;
+          abandoned = both.abandoned;
+          rest = both.rest;
         }
 
     pub cover_step : IsCarriedOut node (pins_and_covers node request) acted → CoverStep node request acted
@@ -143,7 +201,7 @@ module _ (node : NodeState) (request : Request) (acted : Acted) where
 pub tell_law : TellLaw
 unfolding frame_at_core
 tell_law node from tell watch ties is_name at taken =
-    cover_step node (request_of from tell watch) _ ties is_name (tell_fits node from tell watch taken)
+    cover_step node (request_of from tell watch) _ (rw at tt) ties is_name (tell_fits node from tell watch taken)
     (frame_law node (frame_to node from (tell_of tell watch)) (takes_tell node from tell watch) taken (rw at refl))
 
 -- a slot without a primary has no settled link
@@ -195,15 +253,22 @@ seek_fits node from joiner prefix taken is =
 module _ (node : NodeState) (joiner : List ℕ) (acted : Acted) (ties : AreTies node.ties) (is_name : IsName (settings_of node) joiner)
   where
     seek_as : (found : Sought) → sought node.ties.table joiner ≡ found
-        → ((prefix : ℕ) → sought node.ties.table joiner ≡ Surrogate prefix → IsTellFit node joiner)
+        → ((prefix : ℕ) → sought node.ties.table joiner ≡ Surrogate prefix → IsTellFit node joiner) → IsRunning node.status
         → IsCarriedOut node (seeks_as node joiner found) acted → SeekStep node joiner acted
-    seek_as (Forward next) is fits carried =
-        rw is (carried.ties, carried.covers, carried.sessions, carried.sent.named (message next (Seek joiner)) (inl refl))
-    seek_as (Surrogate prefix) is fits carried =
-        rw is (cover_step node (first_request node joiner prefix) acted ties is_name (fits prefix is) carried)
+    seek_as (Forward next) is fits runs carried =
+        rw is (
+          carried.ties,
+          carried.covers,
+          carried.sessions,
+          carried.sent.named (message next (Seek joiner)) (inl refl),
+          alike_by carried refl,
+          completed_by node _ acted carried runs (omega arith),
+        )
+    seek_as (Surrogate prefix) is fits runs carried =
+        rw is (cover_step node (first_request node joiner prefix) acted runs ties is_name (fits prefix is) carried)
 
 pub seek_law : SeekLaw
 unfolding frame_at_core
 seek_law node from joiner ties is_name at taken =
     seek_as node joiner _ ties is_name (sought node.ties.table joiner) refl (λ prefix. seek_fits node from joiner prefix taken)
-    (frame_law node (frame_to node from (Seek joiner)) (seeks node joiner) taken (rw at refl))
+    (rw at tt) (frame_law node (frame_to node from (Seek joiner)) (seeks node joiner) taken (rw at refl))

@@ -1,6 +1,7 @@
 -- What Tell, Hello and Done change at a joining node.
-use Rattle.std.proofs.Common.{◌≡◌, ◌≢◌, ◌||◌, ℕ, ◌+◌, nat_lt, ◌==◌, Bool, cond, List, [], ◌∷◌, ◌++◌, Option, Some, None, true, false, refl, sym, ap, ◌∙◌, inl}
-use Rattle.std.proofs.lemmas.Bool.{or_parts, or_right, true≢false}
+use Rattle.std.proofs.Common.{◌≡◌, ◌≢◌, ◌⊎◌, ◌||◌, ℕ, ◌+◌, nat_lt, ◌==◌, Bool, cond, List, [], ◌∷◌, ◌++◌, Option, Some, None, true, false, arith, refl, sym, ap, ◌∙◌, inl, inr}
+use Rattle.std.specs.Prelude.{bytes_eq}
+use Rattle.std.proofs.lemmas.Bool.{cases_Bool, or_parts, or_right, true≢false}
 use Rattle.std.proofs.lemmas.Slice.Eq.{bytes_eq-Decides}
 use Rattle.tap_name.specs.Name.{IsName}
 use Rattle.tap_name.specs.Names.{has_name}
@@ -16,7 +17,7 @@ use Rattle.tap_table.proofs.LookUps.{by_rule, kind_in-pinned, of_itself}
 use Rattle.tap_join.specs.Hello.{words_of}
 use Rattle.tap_wire.specs.declared.frame.TellFields.{TellFields}
 use Rattle.tap_wire.specs.declared.frame.Body.TheVariants.{Hello, Ack, Done}
-use Rattle.tap_rule.specs.Node.{NodeState, link_to, name_of, settings_of}
+use Rattle.tap_rule.specs.Node.{IsRunning, NodeState, link_to, name_of, settings_of}
 use Rattle.tap_rule.specs.Event.{Acted}
 use Rattle.tap_rule.specs.Reaction.{message, pin_word, sends, with_pin, with_words}
 use Rattle.tap_rule.specs.Strange.{is_no_pin, is_own_name, is_strange, is_strange_body, is_strange_tell, is_too_many, most_depth, names_to_link}
@@ -27,6 +28,7 @@ use Rattle.tap_rule.specs.Sent.{IsAmong}
 use Rattle.tap_rule.specs.JoinSteps.{MeetStep, PinStep}
 use Rattle.tap_rule.specs.Laws.{DoneLaw, HelloLaw, IsCarriedOut, MeetLaw, frame_to, tell_of}
 use Rattle.tap_rule.proofs.CarriedOut.{frame_law}
+use Rattle.tap_rule.proofs.Completed.{completed_by, one_word, rest_by}
 use Rattle.tap_rule.proofs.OneName.{others_stay}
 
 -- a pin leaves a pin, unless there was another link
@@ -82,8 +84,20 @@ added : (names : List (List ℕ)) (name : List ℕ) → has_name (names ++ name 
 added [] name = rw ((bytes_eq-Decides name name).1 refl) refl
 added (first ∷ others) name = or_right _ _ (added others name)
 
+-- and of others it stays so whether they are
+added_others : (names : List (List ℕ)) (name other : List ℕ)
+    → (other ≡ name) ⊎ (has_name (names ++ name ∷ []) other ≡ has_name names other)
+added_others [] name other = elim (cases_Bool (bytes_eq name other)) [
+  | inl same ↦ inl (sym ((bytes_eq-Decides name other).0 same))
+  | inr apart ↦ inr (rw apart refl)
+]
+added_others (first ∷ others) name other = elim (added_others others name other) [
+  | inl is ↦ inl is
+  | inr same ↦ inr (ap (λ b. bytes_eq first other || b) same)
+]
+
 module _ (node : NodeState) (from : List ℕ) (tell : TellFields) (acted : Acted) (ties : AreTies node.ties)
-    (is_name : IsName (settings_of node) tell.joiner) (fits : IsTellFit node tell.joiner) where
+    (is_name : IsName (settings_of node) tell.joiner) (fits : IsTellFit node tell.joiner) (runs : IsRunning node.status) where
   met_as : (before : Bool) → has_name node.greeted tell.joiner ≡ before
       → IsCarriedOut node (with_words (words_of (pin_word node tell.joiner)) (cond before
       (sends (with_pin node tell.joiner) (message from (Ack tell.session) ∷ [])) (welcomes (with_pin node tell.joiner) from tell))) acted
@@ -94,6 +108,11 @@ module _ (node : NodeState) (from : List ℕ) (tell : TellFields) (acted : Acted
     pins = pin_step node tell.joiner acted ties is_name fits.apart fits.pin carried.ties carried.sent.links;
     greeted_before = λ before. (carried.sessions, carried.greeted, carried.sent.named (message from (Ack tell.session)) (inl refl));
     greets = λ new. absurd (true≢false (sym is ∙ new));
+    abandoned = carried.abandoned;
+    rest = rest_by carried refl refl refl refl;
+    greeted = λ name. inr (ap (λ (names : List (List ℕ)). has_name names name) carried.greeted);
+    answers = λ before. completed_by node _ acted carried runs (one_word _ tell.joiner node.stamp true);
+    welcomes = λ new. absurd (true≢false (sym is ∙ new));
   }
   met_as false is carried = record {
     status = carried.status;
@@ -105,12 +124,20 @@ module _ (node : NodeState) (from : List ℕ) (tell : TellFields) (acted : Acted
       rw carried.greeted (added node.greeted tell.joiner),
       carried.sent.named (message tell.joiner (Hello (node.sessions.opened + 1) false [])) (inl refl),
     );
+    abandoned = carried.abandoned;
+    rest = rest_by carried refl refl refl refl;
+    greeted = λ name. elim (added_others node.greeted tell.joiner name) [
+      | inl is ↦ inl is
+      | inr same ↦ inr (ap (λ (names : List (List ℕ)). has_name names name) carried.greeted ∙ same)
+    ];
+    answers = λ before. absurd (true≢false (sym before ∙ is));
+    welcomes = λ new. completed_by node _ acted carried runs (one_word _ tell.joiner node.stamp true);
   }
 
 pub meet_law : MeetLaw
 unfolding frame_at_joining
 meet_law node from tell watch ties is_name at taken =
-    met_as node from tell _ ties is_name (tell_fits node from tell watch taken) (has_name node.greeted tell.joiner) refl
+    met_as node from tell _ ties is_name (tell_fits node from tell watch taken) (rw at tt) (has_name node.greeted tell.joiner) refl
     (frame_law node (frame_to node from (tell_of tell watch)) (meets node from tell) taken (rw at refl))
 
 pub hello_law : HelloLaw
@@ -123,6 +150,8 @@ hello_law node from session core links at taken =
       sessions = carried.sessions;
       ties = carried.ties;
       sent = carried.sent;
+      rest = rest_by carried refl refl refl refl;
+      completed = completed_by node _ _ carried (rw at tt) refl;
     }
 
 pub done_law : DoneLaw
@@ -136,4 +165,8 @@ done_law node from at joined taken =
       sessions = carried.sessions;
       news = carried.news;
       sent = carried.sent;
+      greeted = carried.greeted;
+      abandoned = carried.abandoned;
+      rest = rest_by carried refl refl refl refl;
+      completed = completed_by node _ _ carried tt (omega arith);
     }

@@ -1,11 +1,9 @@
 -- Each pair of a node is laid as wanted after each step, if it was before.
 use Rattle.std.proofs.Common.{◌≡◌, ℕ, Bool, cond, List, Option, Some, None, true, false, refl}
-use Rattle.std.proofs.lemmas.List.Elements.{All-map}
-use Rattle.tap_pointer.specs.Pointers.{PointersValue}
-use Rattle.tap_pointer.specs.Reconcile.{AreLaid, reconciled, wanted_hop, with_wanted}
-use Rattle.tap_table.specs.Table.{TableValue}
+use Rattle.tap_pointer.specs.Reconcile.{AreLaid}
+use Rattle.tap_pointer.proofs.Laws.{reconciled_is_laid}
 use Rattle.tap_wire.specs.declared.frame.Frame.{Frame}
-use Rattle.tap_rule.specs.Node.{NodeState, Status, name_of}
+use Rattle.tap_rule.specs.Node.{IsRunning, NodeState, Status, name_of}
 use Rattle.tap_rule.specs.Node.Status.{Joining, Core, Leaving, Gone, Ceased}
 use Rattle.tap_rule.specs.Event.Event.{Starts, Takes}
 use Rattle.tap_rule.specs.Reaction.{Reaction}
@@ -13,11 +11,7 @@ use Rattle.tap_rule.specs.Strange.{is_strange}
 use Rattle.tap_rule.specs.FrameRules.{rule_of_frame}
 use Rattle.tap_rule.specs.StartRules.{rule_of_start}
 use Rattle.tap_rule.specs.Act.{act, carried_out, completed, follows, refuses}
-use Rattle.tap_rule.specs.Laws.{IsRunning, LaidLaw}
-
--- what is reconciled is laid as wanted: where a pair is wanted doesn't depend on where it was laid
-are_laid : (t : TableValue) (pointers : PointersValue) → AreLaid t (reconciled t pointers)
-are_laid t pointers = All-map (λ e. e.1.laid ≡ wanted_hop t e) (with_wanted t) pointers.pairs (λ k d within. refl)
+use Rattle.tap_rule.specs.Laws.{LaidLaw}
 
 -- the pairs of a node are laid as wanted
 abbrev IsLaid : NodeState → Type 0
@@ -26,9 +20,9 @@ IsLaid node = AreLaid node.ties.table node.pointers
 -- a step that is completed, by the status of the node at its end
 completed_laid : (from : List ℕ) (r : Reaction) (status : Status) → r.state.status ≡ status
     → IsRunning (carried_out from (completed status r)).state.status → IsLaid (carried_out from (completed status r)).state
-completed_laid from r Joining is running = are_laid r.state.ties.table r.state.pointers
-completed_laid from r Core is running = are_laid r.state.ties.table r.state.pointers
-completed_laid from r Leaving is running = are_laid r.state.ties.table r.state.pointers
+completed_laid from r Joining is running = reconciled_is_laid r.state.ties.table r.state.pointers
+completed_laid from r Core is running = reconciled_is_laid r.state.ties.table r.state.pointers
+completed_laid from r Leaving is running = reconciled_is_laid r.state.ties.table r.state.pointers
 completed_laid from r Gone is running = let ended : ⊥ = rw is at running in absurd ended
 completed_laid from r Ceased is running = let ended : ⊥ = rw is at running in absurd ended
 

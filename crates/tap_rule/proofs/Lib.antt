@@ -1,5 +1,7 @@
 pub mod Among
+pub mod ByReceiver
 pub mod CarriedOut
+pub mod Completed
 pub mod OneName
 pub mod LinkSteps
 pub mod AnswerSteps
@@ -11,3 +13,6 @@ pub mod QuietSteps
 pub mod Laid
 pub mod StartSteps
 pub mod CastSteps
+pub mod PointerSteps
+pub mod CeasedSteps
+pub mod Fit

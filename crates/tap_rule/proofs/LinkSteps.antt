@@ -1,5 +1,5 @@
 -- What Release, Forget and Link change.
-use Rattle.std.proofs.Common.{◌≡◌, ◌≢◌, ◌⊎◌, ℕ, ◌+◌, Bool, List, [], Option, Some, false, refl, sym, ap, subst, ◌∙◌, inl, inr, if◌then◌else◌}
+use Rattle.std.proofs.Common.{◌≡◌, ◌≢◌, ◌⊎◌, ℕ, ◌+◌, Bool, List, [], ◌∷◌, Option, Some, false, arith, refl, sym, ap, subst, ◌∙◌, inl, inr, if◌then◌else◌}
 use Rattle.std.specs.Ordering.{is_eq}
 use Rattle.std.proofs.lemmas.Bool.{and_right, cases_Bool}
 use Rattle.std.proofs.lemmas.Cmp.{nat_list_cmp_total}
@@ -16,20 +16,23 @@ use Rattle.tap_table.proofs.LookUps.{by_rule, kind_in-forgotten, kind_in-release
 use Rattle.tap_table.proofs.Near.{tied_itself, tied_names}
 use Rattle.tap_join.specs.Hello.{words_of}
 use Rattle.tap_wire.specs.declared.frame.Body.TheVariants.{Release, Link, Forget}
-use Rattle.tap_rule.specs.Node.{NodeState, link_to, name_of, settings_of, word_of}
+use Rattle.tap_rule.specs.Node.{IsRunning, NodeState, link_to, name_of, settings_of, word_of}
 use Rattle.tap_rule.specs.Node.Status.{Joining, Core, Leaving}
 use Rattle.tap_rule.specs.Event.{Acted}
+use Rattle.tap_rule.specs.Event.News.{Nothing}
 use Rattle.tap_rule.specs.Reaction.{Message, message, sends}
 use Rattle.tap_rule.specs.FrameRules.{frame_at_core, frame_at_joining, frame_at_leaving, rule_of_frame}
 use Rattle.tap_rule.specs.Links.{forgets, hears, hears_and_releases, release_answer, release_word, releases, with_word}
 use Rattle.tap_rule.specs.Sent.{AreSent, IsAmong}
 use Rattle.tap_rule.specs.Steps.{ForgetStep, LinkStep, ReleaseStep}
 use Rattle.tap_rule.specs.Laws.{ForgetLaw, IsCarriedOut, LinkLaw, ReleaseLaw, frame_to}
+use Rattle.tap_rule.specs.Completed.{IsCompleted}
 use Rattle.tap_rule.proofs.CarriedOut.{frame_law}
+use Rattle.tap_rule.proofs.Completed.{completed_by, early_runs, one_word, rest_by}
 use Rattle.tap_rule.proofs.OneName.{not_own, others_stay}
 
 module _ (node : NodeState) (from : List ℕ) (acted : Acted) (ties : AreTies node.ties) (is_name : IsName (settings_of node) from)
-    (apart : from ≢ name_of node) where
+    (apart : from ≢ name_of node) (runs : IsRunning node.status) where
   released_step : IsCarriedOut node (releases node from) acted → ReleaseStep node from acted
   released_step carried =
       let rule : Option Kind → Option Kind = kind_released (has_room_near node.ties.table from) in
@@ -50,6 +53,8 @@ module _ (node : NodeState) (from : List ℕ) (acted : Acted) (ties : AreTies no
               let among : IsAmong word (words_of (release_word node from)) = rw (pin, full) (inl refl) in carried.sent.links word among,
         );
         sent = carried.sent;
+        rest = rest_by carried refl refl refl refl;
+        completed = completed_by node _ acted carried runs (one_word _ from node.stamp false);
       }
 
   forgotten_step : IsCarriedOut node (forgets node from) acted → ForgetStep node from acted
@@ -67,6 +72,8 @@ module _ (node : NodeState) (from : List ℕ) (acted : Acted) (ties : AreTies no
         unpinned = λ none. own ∙ rw none refl;
         forgets = λ pin. own ∙ rw pin refl;
         sent = carried.sent;
+        rest = rest_by carried refl refl refl refl;
+        completed = completed_by node _ acted carried runs (omega arith);
       }
 
 -- the rules of these kinds
@@ -85,13 +92,13 @@ forget_rule node from (inr at) = rw at refl
 pub release_law : ReleaseLaw
 release_law node from ties is_name at taken =
     let frame = frame_to node from Release in
-    released_step node from _ ties is_name (not_own node frame taken)
+    released_step node from _ ties is_name (not_own node frame taken) (early_runs node.status at)
     (frame_law node frame (releases node from) taken (release_rule node from at))
 
 pub forget_law : ForgetLaw
 forget_law node from ties is_name at taken =
     let frame = frame_to node from Forget in
-    forgotten_step node from _ ties is_name (not_own node frame taken)
+    forgotten_step node from _ ties is_name (not_own node frame taken) (early_runs node.status at)
     (frame_law node frame (forgets node from) taken (forget_rule node from at))
 
 module _ (node : NodeState) (holder : List ℕ) (version : ℕ) (on : Bool) (acted : Acted) where
@@ -106,10 +113,10 @@ module _ (node : NodeState) (holder : List ℕ) (version : ℕ) (on : Bool) (act
 
   heard_step : (messages : List Message) → IsCarriedOut node (sends (with_word node holder version on) messages) acted
       → ((node.status ≡ Core) ⊎ (node.status ≡ Leaving) → messages ≡ release_answer node holder version on)
-      → (node.status ≡ Joining → messages ≡ [])
+      → (node.status ≡ Joining → messages ≡ []) → IsRunning node.status
       → (messages ≡ release_answer node holder version on) ⊎ (messages ≡ [])
       → LinkStep node holder version on acted
-  heard_step messages carried answered unanswered either = record {
+  heard_step messages carried answered unanswered runs either = record {
     joins = record { status = carried.status; covers = carried.covers; greeted = carried.greeted; abandoned = carried.abandoned };
     sessions = carried.sessions;
     table = ap (λ (t : TiesValue). t.table) carried.ties;
@@ -122,8 +129,16 @@ module _ (node : NodeState) (holder : List ℕ) (version : ℕ) (on : Bool) (act
         let due : IsAmong (message holder Release) (release_answer node holder version on) = rw (new, is_on) (inl refl) in
         carried.sent.named (message holder Release) (subst (IsAmong (message holder Release)) (sym (answered at)) due);
     silent = λ why. subst (λ m. AreSent (name_of node) [] m acted.sent) (none why) carried.sent;
+    rest = rest_by carried refl refl refl refl;
+    answers_alone = λ at new is_on.
+        let due : release_answer node holder version on ≡ message holder Release ∷ [] = rw (new, is_on) refl in
+        subst (λ m. IsCompleted node node.pointers [] m Nothing acted) (answered at ∙ due) whole;
+    completed = λ why. subst (λ m. IsCompleted node node.pointers [] m Nothing acted) (none why) whole;
   }
     where
+      whole : IsCompleted node node.pointers [] messages Nothing acted
+      whole = completed_by node _ acted carried runs (omega arith)
+
       no_answer : (supersedes version (word_of node holder) ≡ false) ⊎ (on ≡ false) → release_answer node holder version on ≡ []
       no_answer (inl old) = rw old refl
       no_answer (inr off) = rw (off, and_right (supersedes version (word_of node holder)) false refl) refl
@@ -142,14 +157,14 @@ unfolding frame_at_joining frame_at_core frame_at_leaving
 link_law node holder version on (inl at) taken =
     let frame = frame_to node holder (Link version on) in
     heard_step node holder version on _ [] (frame_law node frame (hears node holder version on) taken (rw at refl))
-    (λ other. not_both node at other) (λ joining. refl) (inr refl)
+    (λ other. not_both node at other) (λ joining. refl) (rw at tt) (inr refl)
 link_law node holder version on (inr (inl at)) taken =
     let frame = frame_to node holder (Link version on) in
     heard_step node holder version on _ (release_answer node holder version on)
     (frame_law node frame (hears_and_releases node holder version on) taken (rw at refl))
-    (λ core. refl) (λ joining. not_both node joining (inl at)) (inl refl)
+    (λ core. refl) (λ joining. not_both node joining (inl at)) (rw at tt) (inl refl)
 link_law node holder version on (inr (inr at)) taken =
     let frame = frame_to node holder (Link version on) in
     heard_step node holder version on _ (release_answer node holder version on)
     (frame_law node frame (hears_and_releases node holder version on) taken (rw at refl))
-    (λ leaving. refl) (λ joining. not_both node joining (inr at)) (inl refl)
+    (λ leaving. refl) (λ joining. not_both node joining (inr at)) (rw at tt) (inl refl)

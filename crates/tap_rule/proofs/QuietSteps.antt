@@ -196,7 +196,7 @@ module _ (node : NodeState) where
 
   followed_quiet : (rule : Option Reaction) → IfSome rule IsQuietReaction → QuietStep node (follows node rule)
   followed_quiet None quiet = unchanged_quiet _ refl refl
-  followed_quiet (Some r) quiet = carried_quiet r _ (completing node r r.state.status) quiet
+  followed_quiet (Some r) quiet = carried_quiet r _ (completing node r r.state.status refl) quiet
 
 pub quiet_law : QuietLaw
 unfolding act

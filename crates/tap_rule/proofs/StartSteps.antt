@@ -1,20 +1,28 @@
 -- What the starts of joins and departures change.
-use Rattle.std.proofs.Common.{◌≡◌, ◌==◌, Bool, cond, length, map, true, false, refl, ap, ◌∙◌, eqb-true}
+use Rattle.std.proofs.Common.{◌≡◌, ◌==◌, ◌+◌, Bool, cond, List, length, map, None, true, false, arith, refl, ap, eqb-true}
 use Rattle.std.proofs.lemmas.Bool.{eqb-false}
-use Rattle.tap_table.specs.Table.{kind_in}
-use Rattle.tap_table.specs.Ties.{TiesValue, holders_on}
+use Rattle.std.proofs.lemmas.List.Folds.{flat_map-map}
+use Rattle.tap_table.specs.Ties.{holders_on}
 use Rattle.tap_depart.specs.Leaving.{started}
-use Rattle.tap_rule.specs.Node.{NodeState, name_of, settings_of}
+use Rattle.tap_pointer.specs.declared.pair.Pair.{Pair}
+use Rattle.tap_pointer.specs.declared.state.PairState.{PairState}
+use Rattle.tap_pointer.specs.Pointers.{with_published}
+use Rattle.tap_pointer.specs.Reconcile.{layings, layings_to_none, numbered}
+use Rattle.tap_wire.specs.declared.frame.Body.TheVariants.{Gone as GoneFrame}
+use Rattle.tap_rule.specs.Node.{NodeState}
+use Rattle.tap_rule.specs.Node.Status.{Gone}
 use Rattle.tap_rule.specs.Event.{Acted}
 use Rattle.tap_rule.specs.Event.Start.{Join, Abandon, Leave}
 use Rattle.tap_rule.specs.Reaction.{sends}
 use Rattle.tap_rule.specs.Joining.{starts_join}
 use Rattle.tap_rule.specs.Ceasing.{gives_up}
 use Rattle.tap_rule.specs.Leaving.{finishes, leave_for, leaves, with_departure}
+use Rattle.tap_rule.specs.EndSteps.{words_at_end}
 use Rattle.tap_rule.specs.StartSteps.{LeaveStartStep}
 use Rattle.tap_rule.specs.Laws.{GiveUpLaw, IsCarriedOut, LeaveStartLaw, SeekStartLaw}
 use Rattle.tap_rule.proofs.CarriedOut.{start_law}
-use Rattle.tap_rule.proofs.EndSteps.{unlinked}
+use Rattle.tap_rule.proofs.Completed.{casts_by, completed_by, rest_by}
+use Rattle.tap_rule.proofs.EndSteps.{end_step}
 
 pub seek_start_law : SeekStartLaw
 seek_start_law node via at =
@@ -24,6 +32,8 @@ seek_start_law node via at =
       ties = carried.ties;
       sessions = carried.sessions;
       sent = carried.sent;
+      rest = rest_by carried refl refl refl refl;
+      completed = completed_by node _ _ carried (rw at tt) (omega arith);
     }
 
 pub give_up_law : GiveUpLaw
@@ -37,7 +47,14 @@ give_up_law node at =
       covers = carried.covers;
       greeted = carried.greeted;
       sent = carried.sent;
+      rest = rest_by carried refl refl refl refl;
+      completed = completed_by node _ _ carried (rw at tt) (omega arith);
     }
+
+-- what is laid stays so when all is withdrawn, and so do the Lays that clear it
+clearing_withdrawn : (pairs : List (Pair × PairState))
+    → layings_to_none (map (λ e. (e.0, with_published e.1 false)) pairs) ≡ layings_to_none pairs
+clearing_withdrawn pairs = flat_map-map (λ e. layings e.0 e.1.laid None) (λ e. (e.0, with_published e.1 false)) pairs
 
 module _ (node : NodeState) (acted : Acted) where
   leaves_as : (alone : Bool) → (length (holders_on node.ties) == 0) ≡ alone
@@ -46,17 +63,23 @@ module _ (node : NodeState) (acted : Acted) where
       → LeaveStartStep node acted
   leaves_as true is carried = record {
     waits = λ some. absurd (some (eqb-true (length (holders_on node.ties)) 0 is));
-    finishes = λ none. record {
-      status = carried.status;
-      unlinked = λ name. ap (λ (t : TiesValue). kind_in t.table name) carried.ties ∙ unlinked (settings_of node) (name_of node) name;
-      unheld = ap (λ (t : TiesValue). t.holders) carried.ties;
-      sessions = carried.sessions;
-      news = carried.news;
-      sent = carried.sent;
-    };
+    finishes = λ none.
+        end_step node Gone GoneFrame _ acted (λ runs. runs)
+        (ap (numbered (node.stamp + length (words_at_end node))) (clearing_withdrawn node.pointers.pairs)) carried;
   }
   leaves_as false is carried = record {
-    waits = λ some. (carried.status, carried.ties, carried.sessions, carried.awaited, carried.sent);
+    waits = λ some. (
+      carried.status,
+      carried.ties,
+      carried.sessions,
+      carried.awaited,
+      carried.sent,
+      carried.covers,
+      carried.greeted,
+      carried.abandoned,
+      casts_by carried refl refl refl,
+      completed_by node _ acted carried tt (omega arith),
+    );
     finishes = λ none. absurd (eqb-false (length (holders_on node.ties)) 0 is none);
   }
 

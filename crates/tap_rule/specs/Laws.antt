@@ -1,5 +1,5 @@
 -- The laws of the rule: what a step changes, and what it sends.
-use Rattle.std.specs.Prelude.{◌≡◌, ◌⊎◌, ◌≤◌, Bool, ℕ, true, false, List, [], None, Some, Option}
+use Rattle.std.specs.Prelude.{◌≡◌, ◌↔◌, ◌⊎◌, ◌≤◌, ◌+◌, Bool, ℕ, true, false, List, [], ◌∷◌, length, None, Some, Option}
 use Rattle.tap_name.specs.Name.{IsName}
 use Rattle.tap_name.specs.Names.{AreDistinct, AreNames}
 use Rattle.tap_name.specs.Settings.{AreWithinLimits, SettingsValue}
@@ -11,26 +11,31 @@ use Rattle.tap_table.specs.Ties.{AreTies}
 use Rattle.tap_wire.specs.Spelling.{IsFrame}
 use Rattle.tap_wire.specs.declared.frame.Frame.{Frame}
 use Rattle.tap_wire.specs.declared.frame.Body.{Body}
-use Rattle.tap_wire.specs.declared.frame.Body.TheVariants.{Seek, Tell, Hello, Done, Release, Link, Leave, Left, Gone, Forget, Cast, CastAck}
+use Rattle.tap_wire.specs.declared.frame.Body.TheVariants.{Seek, Tell, Hello, Done, Release, Link, Lay, Find, Answer, Leave, Left, Gone, Forget, Ack, Cast, CastAck}
 use Rattle.tap_wire.specs.declared.frame.TellFields.{TellFields}
 use Rattle.tap_rule.specs.Node.{NodeState, Status, joiner, member_at_rest, name_of, settings_of}
-use Rattle.tap_rule.specs.Node.Status.{Joining, Core, Leaving, Gone as EndedGone, Ceased}
+use Rattle.tap_rule.specs.Node.Status.{Joining, Core, Leaving, Ceased}
+pub use Rattle.tap_rule.specs.Node.{IsRunning}
 use Rattle.tap_rule.specs.Event.{Acted, Event, Start}
 use Rattle.tap_rule.specs.Event.Event.{Starts, Takes}
 use Rattle.tap_rule.specs.Event.News.{Nothing}
-use Rattle.tap_rule.specs.Reaction.{Reaction}
+use Rattle.tap_rule.specs.Reaction.{Reaction, message}
 use Rattle.tap_rule.specs.Strange.{is_strange}
-use Rattle.tap_pointer.specs.Reconcile.{AreLaid}
-use Rattle.tap_rule.specs.Covering.{request_of}
+use Rattle.tap_pointer.specs.declared.lay.Lay as lay
+use Rattle.tap_pointer.specs.Pointers.{pair_of, published, withdrawn}
+use Rattle.tap_pointer.specs.Reconcile.{AreLaid, reconcile_lays, reconciled}
 use Rattle.tap_rule.specs.FrameRules.{rule_of_frame}
 use Rattle.tap_rule.specs.StartRules.{rule_of_start}
 use Rattle.tap_rule.specs.Act.{act}
-use Rattle.tap_rule.specs.Kept.{IsNode, KeepsNode}
-use Rattle.tap_rule.specs.Sent.{AreSent}
-use Rattle.tap_rule.specs.Event.Start.{Abandon, Cast as CastStart, Join as JoinStart, Leave as LeaveStart}
+use Rattle.tap_rule.specs.Kept.{IsNode, IsStart, KeepsNode}
+use Rattle.tap_rule.specs.Sent.{AreSent, AreSentInOrder}
+use Rattle.tap_rule.specs.Event.Start.{Abandon, Publish, Withdraw, Cast as CastStart, Find as FindStart, Join as JoinStart, Leave as LeaveStart}
 use Rattle.tap_rule.specs.CastSteps.{CastAckStep, CastStep}
+use Rattle.tap_rule.specs.CeasedSteps.{AnsweredCastStep, CeasedStep}
 use Rattle.tap_rule.specs.EndSteps.{EndStep, GoneStep, LeaveStep, LeftStep}
+use Rattle.tap_rule.specs.Fit.{IsFit}
 use Rattle.tap_rule.specs.JoinSteps.{CoverStep, DoneStep, HelloStep, MeetStep, SeekStep}
+use Rattle.tap_rule.specs.PointerSteps.{FindStep, FoundStep, LayStep, LookupStep, PointersStep}
 use Rattle.tap_rule.specs.QuietSteps.{IsQuiet, IsQuietStart, QuietStep}
 use Rattle.tap_rule.specs.StartSteps.{GiveUpStep, LeaveStartStep, SeekStartStep}
 use Rattle.tap_rule.specs.Steps.{AnswerStep, ForgetStep, LinkStep, ReleaseStep}
@@ -40,6 +45,22 @@ pub record IsIgnored (node : NodeState) (acted : Acted) : Type 0 where
   pub state : acted.state ≡ node
   pub sent : acted.sent ≡ []
   pub news : acted.news ≡ Nothing
+
+-- the Lays that lay the pointers as wanted which a rule leaves, with the numbers after the rule's last
+abbrev pub lays_for : Reaction → List lay.Lay
+lays_for reaction = reconcile_lays reaction.state.ties.table reaction.state.stamp reaction.state.pointers
+
+-- the end of a step of a node that hasn't ended by then: its pointers are laid as wanted, the stamp has given the numbers of the
+-- Lays that this takes, and these are sent at last
+pub record IsReconciled (from : List ℕ) (reaction : Reaction) (acted : Acted) : Type 0 where
+  pub pointers : acted.state.pointers ≡ reconciled reaction.state.ties.table reaction.state.pointers
+  pub stamp : acted.state.stamp ≡ reaction.state.stamp + length (lays_for reaction)
+  pub sent : AreSentInOrder from reaction.words reaction.messages (lays_for reaction) acted.sent
+
+-- the end of a step of a node that has ended by then: all is as the rule says, its Lays too
+pub record IsAsSaid (from : List ℕ) (reaction : Reaction) (acted : Acted) : Type 0 where
+  pub state : acted.state ≡ reaction.state
+  pub sent : AreSentInOrder from reaction.words reaction.messages reaction.lays acted.sent
 
 -- The step goes as its rule says: the node is left so, but that its pointers are reconciled, for which the stamp may rise; and
 -- what is sent is what the rule has it send, and Lays.
@@ -58,6 +79,8 @@ pub record IsCarriedOut (node : NodeState) (reaction : Reaction) (acted : Acted)
   pub sent : AreSent (name_of node) reaction.words reaction.messages acted.sent
   pub news : acted.news ≡ reaction.news
   pub taken : acted.strange ≡ false
+  pub running : IsRunning reaction.state.status → IsReconciled (name_of node) reaction acted
+  pub ended : (IsRunning reaction.state.status → ⊥) → IsAsSaid (name_of node) reaction acted
 
 -- a strange frame is refused; what no rule speaks of is ignored; and what a rule speaks of goes as the rule says
 abbrev pub StrangeLaw : Type 0
@@ -68,6 +91,10 @@ abbrev pub UnruledLaw : Type 0
 UnruledLaw = (node : NodeState) (frame : Frame) → rule_of_frame node.status node frame.from frame.body ≡ None
     → IsIgnored node (act node (Takes frame))
 
+abbrev pub UnruledStartLaw : Type 0
+UnruledStartLaw = (node : NodeState) (start : Start) → rule_of_start node.status node start ≡ None
+    → IsIgnored node (act node (Starts start))
+
 abbrev pub FrameLaw : Type 0
 FrameLaw = (node : NodeState) (frame : Frame) (reaction : Reaction) → is_strange node frame ≡ false
     → rule_of_frame node.status node frame.from frame.body ≡ Some reaction → IsCarriedOut node reaction (act node (Takes frame))
@@ -75,6 +102,10 @@ FrameLaw = (node : NodeState) (frame : Frame) (reaction : Reaction) → is_stran
 abbrev pub StartLaw : Type 0
 StartLaw = (node : NodeState) (start : Start) (reaction : Reaction) → rule_of_start node.status node start ≡ Some reaction
     → IsCarriedOut node reaction (act node (Starts start))
+
+-- a frame isn't strange to a node that has ties exactly if it is fit
+abbrev pub FitLaw : Type 0
+FitLaw = (node : NodeState) (frame : Frame) → AreTies node.ties → (is_strange node frame ≡ false) ↔ IsFit node frame
 
 -- a frame of this sender and this body, to the node
 abbrev pub frame_to : NodeState → List ℕ → Body → Frame
@@ -129,7 +160,14 @@ abbrev pub TellLaw : Type 0
 TellLaw = (node : NodeState) (from : List ℕ) (tell : TellFields) (watch : List Slot) → AreTies node.ties
     → IsName (settings_of node) tell.joiner → node.status ≡ Core
     → is_strange node (frame_to node from (tell_of tell watch)) ≡ false
-    → CoverStep node (request_of from tell watch) (act node (Takes (frame_to node from (tell_of tell watch))))
+    → CoverStep node (record {
+      joiner = tell.joiner;
+      prefix = tell.prefix;
+      level = tell.level;
+      watch = watch;
+      parent = Node from tell.session;
+      depth = tell.depth;
+    }) (act node (Takes (frame_to node from (tell_of tell watch))))
 
 -- Seek, at a core node
 abbrev pub SeekLaw : Type 0
@@ -145,13 +183,14 @@ abbrev pub MemberLaw : Type 0
 MemberLaw = (p : SettingsValue) (members : List (List ℕ)) (name : List ℕ) → AreWithinLimits p → IsName p name
     → AreNames p members → AreDistinct members → IsNode (member_at_rest p members name)
 
--- each step keeps what a node keeps, whatever frame it takes that has a spelling, and whatever it starts
+-- each step keeps what a node keeps, whatever frame it takes that has a spelling, and whatever it starts; what it publishes is a name
 abbrev pub KeptLaw : Type 0
 KeptLaw = (node : NodeState) (frame : Frame) → IsNode node → IsFrame (settings_of node) frame
     → KeepsNode node (act node (Takes frame)).state
 
 abbrev pub StartKeptLaw : Type 0
-StartKeptLaw = (node : NodeState) (start : Start) → IsNode node → KeepsNode node (act node (Starts start)).state
+StartKeptLaw = (node : NodeState) (start : Start) → IsNode node → IsStart (settings_of node) start
+    → KeepsNode node (act node (Starts start)).state
 
 -- Done, at a node whose join was given up; and the steps of a departure
 abbrev pub CeaseLaw : Type 0
@@ -172,13 +211,6 @@ GoneLaw = (node : NodeState) (from : List ℕ) → AreTies node.ties → IsName 
     → is_strange node (frame_to node from Gone) ≡ false → GoneStep node from (act node (Takes (frame_to node from Gone)))
 
 -- Each pair is laid as wanted after each step of a node that hasn't ended, if it was before.
-abbrev pub IsRunning : Status → Type 0
-IsRunning Joining = Unit {0}
-IsRunning Core = Unit {0}
-IsRunning Leaving = Unit {0}
-IsRunning EndedGone = ⊥
-IsRunning Ceased = ⊥
-
 abbrev pub LaidLaw : Type 0
 LaidLaw = (node : NodeState) (event : Event) → AreLaid node.ties.table node.pointers → IsRunning (act node event).state.status
     → AreLaid (act node event).state.ties.table (act node event).state.pointers
@@ -216,3 +248,64 @@ abbrev pub CastAckLaw : Type 0
 CastAckLaw = (node : NodeState) (from : List ℕ) (session : ℕ) → AreSessions node.cast_sessions → node.status ≡ Core
     → is_strange node (frame_to node from (CastAck session)) ≡ false
     → CastAckStep node session (act node (Takes (frame_to node from (CastAck session))))
+
+-- Lay, Find and Answer, at a core or leaving node
+abbrev pub LayLaw : Type 0
+LayLaw = (node : NodeState) (from object server : List ℕ) (level version : ℕ) (on : Bool)
+    → (node.status ≡ Core) ⊎ (node.status ≡ Leaving)
+    → is_strange node (frame_to node from (Lay object server level version on)) ≡ false
+    → LayStep node from (pair_of object server) level version on
+    (act node (Takes (frame_to node from (Lay object server level version on))))
+
+abbrev pub FindLaw : Type 0
+FindLaw = (node : NodeState) (from : List ℕ) (ticket : ℕ) (object asker : List ℕ) (level : ℕ)
+    → (node.status ≡ Core) ⊎ (node.status ≡ Leaving)
+    → is_strange node (frame_to node from (Find ticket object asker level)) ≡ false
+    → FindStep node ticket object asker level (act node (Takes (frame_to node from (Find ticket object asker level))))
+
+abbrev pub FoundLaw : Type 0
+FoundLaw = (node : NodeState) (from : List ℕ) (ticket : ℕ) (server : Option (List ℕ))
+    → (node.status ≡ Core) ⊎ (node.status ≡ Leaving) → is_strange node (frame_to node from (Answer ticket server)) ≡ false
+    → FoundStep node ticket server (act node (Takes (frame_to node from (Answer ticket server))))
+
+-- the starts of a publication, a withdrawal and a lookup, at a core node
+abbrev pub PublishLaw : Type 0
+PublishLaw = (node : NodeState) (object : List ℕ) → node.status ≡ Core
+    → PointersStep node (published node.pointers object) (act node (Starts (Publish object)))
+
+abbrev pub WithdrawLaw : Type 0
+WithdrawLaw = (node : NodeState) (object : List ℕ) → node.status ≡ Core
+    → PointersStep node (withdrawn node.pointers object) (act node (Starts (Withdraw object)))
+
+abbrev pub LookupLaw : Type 0
+LookupLaw = (node : NodeState) (ticket : ℕ) (object : List ℕ) → node.status ≡ Core
+    → LookupStep node ticket object (act node (Starts (FindStart ticket object)))
+
+-- Tell, Link and Cast at a node that has ceased: a Tell is answered with an Ack, a word that there is a link with a Forget, and a Cast
+-- with a CastAck
+abbrev pub CeasedTellLaw : Type 0
+CeasedTellLaw = (node : NodeState) (from : List ℕ) (tell : TellFields) (watch : List Slot) → node.status ≡ Ceased
+    → is_strange node (frame_to node from (tell_of tell watch)) ≡ false
+    → CeasedStep node (message from (Ack tell.session) ∷ []) (act node (Takes (frame_to node from (tell_of tell watch))))
+
+abbrev pub CeasedLinkLaw : Type 0
+CeasedLinkLaw = (node : NodeState) (from : List ℕ) (version : ℕ) → node.status ≡ Ceased
+    → is_strange node (frame_to node from (Link version true)) ≡ false
+    → CeasedStep node (message from Forget ∷ []) (act node (Takes (frame_to node from (Link version true))))
+
+abbrev pub CeasedUnlinkLaw : Type 0
+CeasedUnlinkLaw = (node : NodeState) (from : List ℕ) (version : ℕ) → node.status ≡ Ceased
+    → is_strange node (frame_to node from (Link version false)) ≡ false
+    → CeasedStep node [] (act node (Takes (frame_to node from (Link version false))))
+
+abbrev pub CeasedCastLaw : Type 0
+CeasedCastLaw = (node : NodeState) (from : List ℕ) (cast level session depth : ℕ) (word : List ℕ) → node.status ≡ Ceased
+    → is_strange node (frame_to node from (Cast cast level session depth word)) ≡ false
+    → CeasedStep node (message from (CastAck session) ∷ [])
+    (act node (Takes (frame_to node from (Cast cast level session depth word))))
+
+-- a Cast at a joining node is answered too, and nothing else changes
+abbrev pub JoiningCastLaw : Type 0
+JoiningCastLaw = (node : NodeState) (from : List ℕ) (cast level session depth : ℕ) (word : List ℕ) → node.status ≡ Joining
+    → is_strange node (frame_to node from (Cast cast level session depth word)) ≡ false
+    → AnsweredCastStep node (message from (CastAck session)) (act node (Takes (frame_to node from (Cast cast level session depth word))))

@@ -15,11 +15,15 @@ pub mod StartRules
 pub mod Sending
 pub mod Act
 pub mod Sent
+pub mod Completed
+pub mod Fit
 pub mod Kept
 pub mod Steps
 pub mod JoinSteps
 pub mod EndSteps
 pub mod StartSteps
 pub mod QuietSteps
+pub mod PointerSteps
+pub mod CeasedSteps
 pub mod CastSteps
 pub mod Laws

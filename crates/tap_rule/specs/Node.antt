@@ -25,7 +25,15 @@ pub data Status : Type 0 where
   Gone : Status
   Ceased : Status
 
--- The state of a node, whatever its status: what a status has no use for is empty.
+-- a node that hasn't ended
+abbrev pub IsRunning : Status → Type 0
+IsRunning Joining = Unit {0}
+IsRunning Core = Unit {0}
+IsRunning Leaving = Unit {0}
+IsRunning Gone = ⊥
+IsRunning Ceased = ⊥
+
+-- The state of a node, whatever its status. A node that has ended keeps its name and its sessions, and the rest is empty.
 pub record NodeState : Type 0 where
   pub status : Status
   -- its table, and the register of its holders

@@ -1,10 +1,13 @@
--- Which frames a step sends: as proofs about many nodes ask, by what is among them.
-use Rattle.std.specs.Prelude.{◌≡◌, ◌⊎◌, ℕ, List, [], ◌∷◌}
+-- Which frames a step sends: by what is among them, as proofs about many nodes ask, and in order.
+use Rattle.std.specs.Prelude.{◌≡◌, ◌⊎◌, ℕ, false, List, [], ◌∷◌, ◌++◌, map, AllPairs}
+use Rattle.std.specs.List.Sorted.{IsPermutation}
+use Rattle.std.specs.Ordering.{is_gt}
+use Rattle.tap_name.specs.Order.{name_cmp}
 use Rattle.tap_table.specs.declared.tie.Tie.{Tie}
 use Rattle.tap_pointer.specs.declared.lay.Lay.{Lay}
 use Rattle.tap_wire.specs.declared.frame.Frame.{Frame}
 use Rattle.tap_rule.specs.Reaction.{Message}
-use Rattle.tap_rule.specs.Sending.{lay_frame, link_frame, message_frame}
+use Rattle.tap_rule.specs.Sending.{by_receiver, lay_frame, link_frame, message_frame}
 
 module _ {A : Type 0} where
   -- this is one of these; of names, what `Among` of `tap_name` says
@@ -34,3 +37,10 @@ pub record AreSent (from : List ℕ) (words : List Tie) (messages : List Message
   pub each : (frame : Frame) → IsAmong frame sent → IsLink from words frame ⊎ (IsNamed from messages frame ⊎ IsLay from frame)
   pub links : (word : Tie) → IsAmong word words → IsAmong (link_frame from word) sent
   pub named : (message : Message) → IsAmong message messages → IsAmong (message_frame from message) sent
+
+-- What is sent, in order: first the Links of these words, ascending by receiver, then the frames of these messages, and then
+-- those of these Lays. The words by receiver are these words, each as often, and no receiver is above a later one.
+pub record AreSentInOrder (from : List ℕ) (words : List Tie) (messages : List Message) (lays : List Lay) (sent : List Frame) : Type 0 where
+  pub all : sent ≡ map (link_frame from) (by_receiver words) ++ (map (message_frame from) messages ++ map (lay_frame from) lays)
+  pub same : IsPermutation words (by_receiver words)
+  pub ascending : AllPairs (λ a b. is_gt (name_cmp a.to b.to) ≡ false) (by_receiver words)

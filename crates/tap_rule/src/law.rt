@@ -1,10 +1,13 @@
 ghost use Rattle.tap_wire.specs.declared.frame.Body.TheVariants.{Heard, Ack};
-ghost use Rattle.tap_rule.specs.Laws.{FrameLaw, JoinerLaw, KeptLaw, LaidLaw, MemberLaw, QuietLaw, QuietStartLaw, StartKeptLaw, StartLaw, StrangeLaw, UnruledLaw};
+ghost use Rattle.tap_rule.specs.Laws.{FrameLaw, JoinerLaw, KeptLaw, LaidLaw, MemberLaw, QuietLaw, QuietStartLaw, StartKeptLaw, StartLaw, StrangeLaw, UnruledLaw, UnruledStartLaw, FitLaw};
 ghost use Rattle.tap_rule.specs.Laws.{AnswerLaw, CeaseLaw, DoneLaw, ForgetLaw, GoneLaw, HelloLaw, LeaveLaw, LeftLaw, LinkLaw, MeetLaw, ReleaseLaw, SeekLaw, TellLaw};
-ghost use Rattle.tap_rule.specs.Laws.{CastAckLaw, CastLaw, CastStartLaw, GiveUpLaw, LeaveStartLaw, SeekStartLaw};
+ghost use Rattle.tap_rule.specs.Laws.{CastAckLaw, CastLaw, CastStartLaw, GiveUpLaw, JoiningCastLaw, LeaveStartLaw, SeekStartLaw};
+ghost use Rattle.tap_rule.specs.Laws.{CeasedCastLaw, CeasedLinkLaw, CeasedTellLaw, CeasedUnlinkLaw, FindLaw, FoundLaw, LayLaw, LookupLaw, PublishLaw, WithdrawLaw};
 
-/// What a step comes to. A strange frame changes nothing, and neither does one of which no rule speaks. Any other event leaves the
-/// node as its rule says, but that its pointers are then reconciled, and sends the frames of the rule, and Lays.
+/// What a step comes to. A strange frame changes nothing, and neither does a frame or a start of which no rule speaks. Any other event
+/// leaves the node as its rule says, but that its pointers are then reconciled if it hasn't ended, and sends, in this order, the Links of
+/// the rule, ascending by receiver, its other frames, and the Lays that reconciling takes. A node that ends sends the Lays of its rule in
+/// their place. A frame is strange exactly if it breaks one of a few conditions.
 ///
 /// It does nothing: its contract is the law.
 ///
@@ -12,6 +15,8 @@ ghost use Rattle.tap_rule.specs.Laws.{CastAckLaw, CastLaw, CastStartLaw, GiveUpL
 pub fn rule_law()
     ensures strange { StrangeLaw }
     ensures unruled { UnruledLaw }
+    ensures unruled_start { UnruledStartLaw }
+    ensures fit { FitLaw }
     ensures frame { FrameLaw }
     ensures start { StartLaw }
 {}
@@ -48,8 +53,10 @@ pub fn joins_law()
     ensures gives_up { GiveUpLaw }
 {}
 
-/// What a node keeps: its ties are ties and its sessions are sessions. A node that starts to join has this, and so has a member at rest;
-/// and whatever a node takes or starts, it keeps it, with its name and the settings. While it hasn't ended, each pair is laid as wanted.
+/// What a node keeps: its ties are ties, its sessions are sessions, each session of casts has its cast, its pointers are pointers of
+/// objects that are names, and the joiners that it covers and the casts that it has met ascend. A node that starts to join has this, and
+/// so has a member at rest; and whatever frame with a spelling it takes, and whatever it starts, if what it publishes is a name, it keeps
+/// this, its name and the settings. If each pair was laid as wanted before a step, each is after it, unless the node has ended by then.
 ///
 /// It does nothing: its contract is the law.
 ///
@@ -62,8 +69,9 @@ pub fn kept_law()
     ensures laid { LaidLaw }
 {}
 
-/// What a departure changes: at its start each holder is sent its notice, and without holders the node ends; a Leave marks a link and is
-/// answered; after a Left its sender is awaited no more, and after the last one the node ends; and a Gone takes a link out.
+/// What a departure changes: at its start each holder that is on is sent its notice and is awaited, and without such holders the node ends;
+/// a Leave leaves the ties as `tap_depart` says, and is answered; after a Left its sender is awaited no more, and if nobody is then, the
+/// node ends; and a Gone takes a link out that is no pin.
 ///
 /// It does nothing: its contract is the law.
 ///
@@ -87,7 +95,7 @@ pub fn quiet_law()
 {}
 
 /// What a cast changes at a core node: a copy that is new there is sent on to its targets, in a session of its own, and its level is
-/// kept; any other is answered; and the last answer of a session is passed on, or closes the cast.
+/// kept; any other is answered; and the last answer of a session is passed on, or closes the cast. A joining node answers a copy.
 ///
 /// It does nothing: its contract is the law.
 ///
@@ -96,4 +104,34 @@ pub fn casts_law()
     ensures cast { CastLaw }
     ensures starts { CastStartLaw }
     ensures ack { CastAckLaw }
+    ensures joining { JoiningCastLaw }
+{}
+
+/// What the steps about pointers and lookups change: a Lay, a publication and a withdrawal change what is known of one pair, and nothing
+/// else is sent than the Lays that this takes; a Find and the start of a lookup end at a node that holds a pair of the object or is its
+/// root, and else go on; and an Answer answers the lookup.
+///
+/// It does nothing: its contract is the law.
+///
+/// Rule: docs/PROTOCOL.md, "Publication and withdrawal" and "Lay" and "Find" and "Answer".
+pub fn pointers_law()
+    ensures lay { LayLaw }
+    ensures find { FindLaw }
+    ensures answer { FoundLaw }
+    ensures publishes { PublishLaw }
+    ensures withdraws { WithdrawLaw }
+    ensures looks_up { LookupLaw }
+{}
+
+/// What a node that has ceased does at a Tell, a Link and a Cast: it answers all but a word that there is no link any more, and changes
+/// nothing.
+///
+/// It does nothing: its contract is the law.
+///
+/// Rule: docs/PROTOCOL.md, "Tell" and "Link" and "Cast".
+pub fn ceased_law()
+    ensures tell { CeasedTellLaw }
+    ensures link { CeasedLinkLaw }
+    ensures unlink { CeasedUnlinkLaw }
+    ensures cast { CeasedCastLaw }
 {}

@@ -6,4 +6,7 @@
 
 mod law;
 
-pub use law::{casts_law, departures_law, frames_law, joins_law, kept_law, quiet_law, rule_law};
+pub use law::{
+    casts_law, ceased_law, departures_law, frames_law, joins_law, kept_law, pointers_law,
+    quiet_law, rule_law,
+};

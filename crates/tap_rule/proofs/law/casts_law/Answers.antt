@@ -1,4 +1,5 @@
 use Rattle.tap_rule.proofs.CastSteps.{cast_ack_law, cast_law, cast_start_law}
+use Rattle.tap_rule.proofs.CeasedSteps.{joining_cast_law}
 use Rattle.tap_rule.proofs.law.casts_law.Goals as goal
 
 pub returns-clause-cast : goal.returns-clause-cast
@@ -9,3 +10,6 @@ returns-clause-starts c = cast_start_law
 
 pub returns-clause-ack : goal.returns-clause-ack
 returns-clause-ack c = cast_ack_law
+
+pub returns-clause-joining : goal.returns-clause-joining
+returns-clause-joining c = joining_cast_law
