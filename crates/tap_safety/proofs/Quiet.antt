@@ -17,14 +17,15 @@ module _ (s : System) (e : List ℕ) (sound : AreExact s) (whose : AreOfJoiners 
       tells x level told =
           let frame : Frame = record { from = told.from; to = x; body = tell_body told.fields told.watch } in
           let awaited = sound.frames told.way.number frame told.from told.fields.session told.way.among refl in
-          let of = whose.tells told.from x told.fields told.watch awaited.session told.way awaited.is in
+          let of = whose.frames told.way.number frame told.from told.fields.session awaited.session told.fields.joiner told.way.among refl
+          awaited.is refl in
           no_session s e sound rootless told.from told.fields.session awaited.session awaited.is (of ∙ told.joiner)
 
       hellos : (w x : List ℕ) → HelloNames s w e x → ⊥
       hellos w x named =
           let frame : Frame = record { from = w; to = e; body = hello_body named.fields } in
           let awaited = sound.frames named.way.number frame w named.fields.session named.way.among refl in
-          let of = whose.hellos w e named.fields awaited.session named.way awaited.is in
+          let of = whose.frames named.way.number frame w named.fields.session awaited.session e named.way.among refl awaited.is refl in
           no_session s e sound rootless w named.fields.session awaited.session awaited.is of
 
   pub quiet : EndsOnce s → (w : List ℕ) → IsUnderWay s w e Done → NothingOnWay s e

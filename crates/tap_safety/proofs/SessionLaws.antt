@@ -2,10 +2,10 @@
 use Rattle.tap_safety.specs.Laws.{NoSessionWithoutRoot, OnlyTheLastFrameIsLeft, OnlyTheRootIsLeft, QuietOnceDone, SessionsKeptByOpening}
 use Rattle.tap_safety.proofs.Chains.{no_session, only_frame, only_session}
 use Rattle.tap_safety.proofs.Quiet.{quiet}
-use Rattle.tap_safety.proofs.SessionsKept.{sessions_kept}
+use Rattle.tap_safety.proofs.SessionsKept.{child_exact}
 
 pub opened_law : SessionsKeptByOpening
-opened_law s s' number f w k x l sent step sound = sessions_kept s s' number f w k x l sent step sound
+opened_law s s' number f w k x l sent step sound = child_exact s s' number f w k x l sent step sound
 
 pub rootless_law : NoSessionWithoutRoot
 rootless_law s b sound rootless y l o is joiner = no_session s b sound rootless y l o is joiner

@@ -1,15 +1,53 @@
--- The sessions are exact once one is opened for a frame that is taken.
-use Rattle.std.proofs.Common.{◌≡◌, inl, inr, ℕ, List, ◌⊎◌, Option, None, Some, arith, refl, sym, ap, ◌∙◌}
+-- The sessions are exact after each kind of step.
+use Rattle.std.proofs.Common.{◌≡◌, inl, inr, ℕ, ◌+◌, true, false, List, [], ◌∷◌, ◌⊎◌, Option, None, Some, refl, sym, ap, ◌∙◌}
+use Rattle.std.proofs.lemmas.Bool.{cases_Bool, true≢false}
 use Rattle.tap_wire.specs.declared.frame.Frame.{Frame}
-use Rattle.tap_safety.specs.Remembered.{OpenSession}
+use Rattle.tap_safety.specs.Remembered.{OpenSession, Token}
 use Rattle.tap_safety.specs.Remembered.Token.{Way, Child}
 use Rattle.tap_safety.specs.System.{System, AmongFrames}
-use Rattle.tap_safety.specs.Sessions.{AmongTokens, AreExact, Awaits, Belongs, HasFrame, HasParent, IsOpen}
-use Rattle.tap_safety.specs.Sessions.{OpensChild, child_of, with_child}
-use Rattle.tap_safety.proofs.Exchange.{exchange_child, exchange_new, exchange_was, exchange_way}
+use Rattle.tap_safety.specs.Sessions.{
+  AmongTokens,
+  AreExact,
+  Awaits,
+  Belongs,
+  HasFrame,
+  HasParent,
+  IsOpen,
+  for_child,
+  for_way,
+  is_place,
+  is_placed,
+  session_named,
+  ways_of,
+}
+use Rattle.tap_safety.specs.SessionSteps.{
+  ClosesChild,
+  ClosesRoot,
+  Exchanges,
+  HandsOn,
+  LeavesSessions,
+  OpensChild,
+  OpensRoot,
+  with_awaits,
+  child_of,
+  with_child,
+}
+use Rattle.tap_safety.proofs.Exchange.{
+  for_child-new,
+  for_child-stays,
+  for_child-was,
+  for_way-new,
+  for_way-stays,
+  for_way-was,
+  is_place-here,
+  is_place-same,
+}
+use Rattle.tap_safety.proofs.Turns.{GoesOn, IsClosed, IsNew, Turns, WasOpen, turned_exact}
+
+-- ---- places
 
 -- the parts of a session's place
-same_place : (x y : List ℕ) (k l : ℕ) → ◌≡◌ {A = Option (List ℕ × ℕ)} (Some (x, k)) (Some (y, l)) → (x ≡ y) × (k ≡ l)
+pub same_place : (x y : List ℕ) (k l : ℕ) → ◌≡◌ {A = Option (List ℕ × ℕ)} (Some (x, k)) (Some (y, l)) → (x ≡ y) × (k ≡ l)
 same_place x y k l is =
     let place : Option (List ℕ × ℕ) → List ℕ × ℕ = place_or (x, k) in
     let same = ap place is in
@@ -22,7 +60,7 @@ same_place x y k l is =
     place_or default (Some place) = place
 
 -- a frame belongs to one session
-one_owner : (f : Frame) (x y : List ℕ) (k l : ℕ) → Belongs f x k → Belongs f y l → (x ≡ y) × (k ≡ l)
+pub one_owner : (f : Frame) (x y : List ℕ) (k l : ℕ) → Belongs f x k → Belongs f y l → (x ≡ y) × (k ≡ l)
 one_owner f x y k l one two = same_place x y k l (sym one ∙ two)
 
 -- the same of equal frames and places
@@ -36,214 +74,579 @@ among_at : (m number : ℕ) (f : Frame) (frames : List (ℕ × Frame)) → m ≡
     → AmongFrames number f frames
 among_at m number f frames is among = rw (← is) among
 
-ways_at : (one two : OpenSession) → one ≡ two → (m : ℕ) → AmongTokens (Way m) one.awaits → AmongTokens (Way m) two.awaits
-ways_at one two same m among = rw (← same) among
+has_at : (frames : List (ℕ × Frame)) (n : ℕ) (y x : List ℕ) (m l : ℕ) → y ≡ x → m ≡ l → HasFrame frames n x l → HasFrame frames n y m
+has_at frames n y x m l node number has =
+    record { frame = has.frame; among = has.among; belongs = belongs_to has.frame y x m l node number has.belongs }
 
--- what an open session is after the step
-record StaysOpen (s' : System) (number : ℕ) (y : List ℕ) (m : ℕ) (o : OpenSession) : Type 0 where
-  now : OpenSession
-  is : IsOpen s' y m now
-  joiner : now.joiner ≡ o.joiner
-  depth : now.depth ≡ o.depth
-  children : (z : List ℕ) (n : ℕ) → AmongTokens (Child z n) o.awaits → AmongTokens (Child z n) now.awaits
-  ways : (n : ℕ) → (n ≡ number → ⊥) → AmongTokens (Way n) o.awaits → AmongTokens (Way n) now.awaits
+tokens_at : (one two : OpenSession) → one ≡ two → (token : Token) → AmongTokens token one.awaits → AmongTokens token two.awaits
+tokens_at one two same token among = rw (← same) among
+
+way_number : (n m : ℕ) → Way n ≡ Way m → n ≡ m
+way_number n m same = cc
+
+-- ---- the tokens of frames
+
+placed : (o : Option (List ℕ × ℕ)) (x : List ℕ) (k : ℕ) → is_placed o x k ≡ true → o ≡ Some (x, k)
+placed None x k is = absurd (true≢false (sym is))
+placed (Some (y, m)) x k is =
+    let same = is_place-same x k y m is in
+    let by_node : List ℕ → Option (List ℕ × ℕ) = λ z. Some (z, m) in
+    let by_number : ℕ → Option (List ℕ × ℕ) = λ n. Some (x, n) in
+    ap by_node same.0 ∙ ap by_number same.1
+
+placed_at : (o : Option (List ℕ × ℕ)) (x : List ℕ) (k : ℕ) → o ≡ Some (x, k) → is_placed o x k ≡ true
+placed_at o x k is = rw is (is_place-here x k x k refl refl)
+
+pub ways_of-has : (x : List ℕ) (k : ℕ) (fs : List (ℕ × Frame)) (m : ℕ) → AmongTokens (Way m) (ways_of x k fs) → HasFrame fs m x k
+unfolding ways_of
+ways_of-has x k [] m among = absurd among
+ways_of-has x k (f ∷ fs) m among =
+    elim (cases_Bool (is_placed (session_named f.1.body f.1.from f.1.to) x k)) [
+      | inl here ↦
+          let parts : (Way m ≡ Way f.0) ⊎ AmongTokens (Way m) (ways_of x k fs) = rw here at among in
+          elim parts [
+            | inl is ↦ record {
+              frame = f.1;
+              among = inl (way_number m f.0 is, refl);
+              belongs = placed (session_named f.1.body f.1.from f.1.to) x k here;
+            }
+            | inr later ↦
+                let rest = ways_of-has x k fs m later in
+                record { frame = rest.frame; among = inr rest.among; belongs = rest.belongs }
+          ]
+      | inr apart ↦
+          let later : AmongTokens (Way m) (ways_of x k fs) = rw apart at among in
+          let rest = ways_of-has x k fs m later in
+          record { frame = rest.frame; among = inr rest.among; belongs = rest.belongs }
+    ]
+
+pub ways_of-among : (x : List ℕ) (k : ℕ) (fs : List (ℕ × Frame)) (m : ℕ) (f : Frame) → AmongFrames m f fs → Belongs f x k
+    → AmongTokens (Way m) (ways_of x k fs)
+unfolding ways_of
+ways_of-among x k [] m f among belongs = absurd among
+ways_of-among x k (g ∷ gs) m f (inl is) belongs =
+    let at : Belongs g.1 x k = belongs_at f g.1 x k is.1 belongs in
+    let here : is_placed (session_named g.1.body g.1.from g.1.to) x k ≡ true =
+    placed_at (session_named g.1.body g.1.from g.1.to) x k at in
+    rw here (inl (ap (λ n. Way n) is.0))
+ways_of-among x k (g ∷ gs) m f (inr later) belongs =
+    elim (cases_Bool (is_placed (session_named g.1.body g.1.from g.1.to) x k)) [
+      | inl here ↦ rw here (inr (ways_of-among x k gs m f later belongs))
+      | inr apart ↦ rw apart (ways_of-among x k gs m f later belongs)
+    ]
+
+-- ---- what all kinds share
+
+module _ (s s' : System) (number : ℕ) (f : Frame) (sent : List (ℕ × Frame)) (ex : Exchanges s s' number f sent)
+    (left : (y : List ℕ) (m : ℕ) (o : OpenSession) → IsOpen s' y m o → Belongs f y m → AmongTokens (Way number) o.awaits → ⊥) where
+  -- a frame that is awaited still is under way
+  still_way : (y : List ℕ) (m : ℕ) (o : OpenSession) → IsOpen s' y m o → (n : ℕ) → AmongTokens (Way n) o.awaits
+      → (g : Frame) → AmongFrames n g s.frames → Belongs g y m → AmongFrames n g s'.frames
+  still_way y m o is n token g among belongs =
+      elim (ex.still n g among) [
+        | inr still ↦ still
+        | inl it ↦
+            let there = among_at n number g s.frames it among in
+            let same : g ≡ f = ex.was_one number g f there ex.taken in
+            let mine : AmongTokens (Way number) o.awaits = rw (← it) token in
+            absurd (left y m o is (belongs_at g f y m same belongs) mine)
+      ]
+
+  on_same : (y : List ℕ) (m : ℕ) (o : OpenSession) → s'.session y m ≡ s.session y m → IsOpen s y m o → GoesOn s s' y m o
+  on_same y m o same is = record {
+    now = o;
+    is = same ∙ is;
+    joiner = refl;
+    depth = refl;
+    parent = refl;
+    children = λ z n c opened among. among;
+    ways = λ n g among belongs token. token;
+  }
+
+  was_same : (y : List ℕ) (m : ℕ) (o : OpenSession) → s'.session y m ≡ s.session y m → IsOpen s' y m o → WasOpen s s' sent y m o
+  was_same y m o same is = record {
+    old = o;
+    is = sym same ∙ is;
+    joiner = refl;
+    depth = refl;
+    parent = refl;
+    ways = λ n token. inr (token, still_way y m o is n token);
+  }
+
+  -- a frame that is under way isn't the taken one
+  other_way : (n : ℕ) (g : Frame) → AmongFrames n g s'.frames → Way n ≡ Way number → ⊥
+  other_way n g among same = ex.gone g (among_at n number g s'.frames (way_number n number same) among)
+
+  -- the session of the frame, in which other tokens stand in its place
+  module _ (w : List ℕ) (k : ℕ) (before : OpenSession) (new : List Token) (was : IsOpen s w k before)
+      (is_now : IsOpen s' w k (with_awaits before (for_way number new before.awaits))) where
+    abbrev now_there : OpenSession
+    now_there = with_awaits before (for_way number new before.awaits)
+
+    on_there : (y : List ℕ) (m : ℕ) (o : OpenSession) → (y ≡ w) × (m ≡ k) → IsOpen s y m o → GoesOn s s' y m o
+    on_there y m o here is =
+        let at : s.session y m ≡ Some before = rw (here.0, here.1) was in
+        let same : o ≡ before = cc in
+        record {
+          now = now_there;
+          is = rw (here.0, here.1) is_now;
+          joiner = ap (λ session. session.joiner) (sym same);
+          depth = ap (λ session. session.depth) (sym same);
+          parent = ap (λ session. session.parent) (sym same);
+          children = λ z n c opened among.
+              for_way-stays number new before.awaits (Child z n) (λ no. let wrong : Child z n ≡ Way number = no in cc)
+              (tokens_at o before same (Child z n) among);
+          ways = λ n g among belongs token.
+              for_way-stays number new before.awaits (Way n) (other_way n g among) (tokens_at o before same (Way n) token);
+        }
+
+    was_there : (y : List ℕ) (m : ℕ) (o : OpenSession) → (y ≡ w) × (m ≡ k)
+        → ((n : ℕ) → AmongTokens (Way n) new → HasFrame sent n w k) → IsOpen s' y m o → WasOpen s s' sent y m o
+    was_there y m o here comes is =
+        let at : s'.session y m ≡ Some now_there = rw (here.0, here.1) is_now in
+        let same : o ≡ now_there = cc in
+        record {
+          old = before;
+          is = rw (here.0, here.1) was;
+          joiner = ap (λ session. session.joiner) same;
+          depth = ap (λ session. session.depth) same;
+          parent = ap (λ session. session.parent) same;
+          ways = λ n token.
+              elim (for_way-was number new before.awaits (Way n) (tokens_at o now_there same (Way n) token)) [
+                | inl fresh ↦ inl (has_at sent n y w m k here.0 here.1 (comes n fresh))
+                | inr old ↦ inr (old.1, still_way y m o is n token)
+              ];
+        }
+
+-- ---- a frame is answered at once
+
+module _ (s s' : System) (number : ℕ) (f : Frame) (w : List ℕ) (k : ℕ) (sent : List (ℕ × Frame))
+    (step : HandsOn s s' number f w k sent) (sound : AreExact s) where
+  abbrev comes : List Token
+  comes = ways_of w k sent
+
+  abbrev now : OpenSession
+  now = with_awaits step.before (for_way number comes step.before.awaits)
+
+  left : (y : List ℕ) (m : ℕ) (o : OpenSession) → IsOpen s' y m o → Belongs f y m → AmongTokens (Way number) o.awaits → ⊥
+  left y m o is belongs token =
+      let here = one_owner f y w m k belongs step.belongs in
+      let at : s'.session y m ≡ Some now = rw (here.0, here.1) step.is in
+      let same : o ≡ now = cc in
+      elim (for_way-was number comes step.before.awaits (Way number) (tokens_at o now same (Way number) token)) [
+        | inl fresh ↦
+            let has = ways_of-has w k sent number fresh in
+            step.frames.gone has.frame (step.frames.sends number has.frame has.among)
+        | inr old ↦ absurd (old.0 refl)
+      ]
+
+  pub hands_on_origin : (y : List ℕ) (m : ℕ) (o : OpenSession) → IsOpen s' y m o → WasOpen s s' sent y m o
+  hands_on_origin y m o is =
+      elim (step.others y m) [
+        | inl here ↦
+            was_there s s' number f sent step.frames left w k step.before comes step.was step.is y m o here
+            (λ n token. ways_of-has w k sent n token) is
+        | inr same ↦ was_same s s' number f sent step.frames left y m o same is
+      ]
+
+  pub hands_on_turns : Turns s s' sent
+  hands_on_turns = record {
+    fate = λ y m o is.
+        elim (step.others y m) [
+          | inl here ↦ inl (on_there s s' number f sent step.frames left w k step.before comes step.was step.is y m o here is)
+          | inr same ↦ inl (on_same s s' number f sent step.frames left y m o same is)
+        ];
+    origin = λ y m o is. inl (hands_on_origin y m o is);
+    one = λ y z m n o c is also none other.
+        let was = hands_on_origin y m o is in let there = was.is in let no : Some was.old ≡ None = sym there ∙ none in cc;
+    was = λ m g y n among belongs. step.frames.was m g among;
+    sends = step.frames.sends;
+    asks = λ m g y n among belongs.
+        let here = step.asks m g y n among belongs in
+        let awaited = sound.frames number f w k step.frames.taken step.belongs in
+        let was = awaited.is in
+        let at = step.was in
+        let same : awaited.session ≡ step.before = cc in
+        let mine : AmongTokens (Way number) step.before.awaits =
+        tokens_at awaited.session step.before same (Way number) awaited.among in
+        let new : AmongTokens (Way m) comes = ways_of-among w k sent m g among (rw (here.0, here.1) at belongs) in
+        rw (here.0, here.1) (record {
+          session = now;
+          is = step.is;
+          among = for_way-new number comes step.before.awaits (Way m) mine new;
+        });
+    is_one = step.frames.is_one;
+  }
+
+  pub handed_on_exact : AreExact s'
+  handed_on_exact = turned_exact s s' sent hands_on_turns sound
+
+-- ---- a session is opened for it
 
 module _ (s s' : System) (number : ℕ) (f : Frame) (w : List ℕ) (k : ℕ) (x : List ℕ) (l : ℕ) (sent : List (ℕ × Frame))
     (step : OpensChild s s' number f w k x l sent) (sound : AreExact s) where
-  -- the session of the frame after the step, and the one that is opened
+  abbrev comes_child : List Token
+  comes_child = Child x l ∷ []
+
   abbrev parent_now : OpenSession
   parent_now = with_child step.before number x l
 
   abbrev new : OpenSession
-  new = child_of step.before w k step.awaits
+  new = child_of step.before w k (ways_of x l sent)
 
-  stays : (y : List ℕ) (m : ℕ) (o : OpenSession) → IsOpen s y m o → StaysOpen s' number y m o
-  stays y m o is =
-      elim (step.others y m) [
-        | inl parent ↦
-            let was : s.session y m ≡ Some step.before = rw (parent.0, parent.1) step.parent_was in
-            let same : o ≡ step.before = cc in
-            record {
-              now = parent_now;
-              is = rw (parent.0, parent.1) step.parent_is;
-              joiner = rw same refl;
-              depth = rw same refl;
-              children = λ z n among. exchange_child number (Child x l) step.before.awaits z n (rw (← same) among);
-              ways = λ n apart among. exchange_way number (Child x l) step.before.awaits n apart (rw (← same) among);
-            }
-        | inr more ↦
-            elim more [
-              | inl child ↦ let none : s.session y m ≡ None = rw (child.0, child.1) step.none in cc
-              | inr same ↦
-                  record {
-                    now = o;
-                    is = same ∙ is;
-                    joiner = refl;
-                    depth = refl;
-                    children = λ z n among. among;
-                    ways = λ n apart among. among;
-                  }
-            ]
-      ]
+  no_way : (n : ℕ) → AmongTokens (Way n) comes_child → ⊥
+  no_way n (inl is) = let wrong : Way n ≡ Child x l = is in cc
+  no_way n (inr none) = none
 
-  -- an open session was open, and awaited what it awaits, but for the frame that is taken
-  record WasOpen (y : List ℕ) (m : ℕ) (o : OpenSession) : Type 0 where
-    old : OpenSession
-    is : IsOpen s y m old
-    joiner : o.joiner ≡ old.joiner
-    parent : o.parent ≡ old.parent
-    depth : o.depth ≡ old.depth
-    ways : (n : ℕ) → AmongTokens (Way n) o.awaits → AmongTokens (Way n) old.awaits
-    taken : (n : ℕ) → AmongTokens (Way n) o.awaits → (y ≡ w) × (m ≡ k) → n ≡ number → ⊥
-
-  -- the session of the frame awaits it no more
-  taken_there : (y : List ℕ) (m : ℕ) (o : OpenSession) → IsOpen s' y m o → (n : ℕ) → AmongTokens (Way n) o.awaits
-      → (y ≡ w) × (m ≡ k) → n ≡ number → ⊥
-  taken_there y m o is n among here =
+  left_child : (y : List ℕ) (m : ℕ) (o : OpenSession) → IsOpen s' y m o → Belongs f y m → AmongTokens (Way number) o.awaits → ⊥
+  left_child y m o is belongs token =
+      let here = one_owner f y w m k belongs step.belongs in
       let at : s'.session y m ≡ Some parent_now = rw (here.0, here.1) step.parent_is in
       let same : o ≡ parent_now = cc in
-      (exchange_was number x l step.before.awaits n (ways_at o parent_now same n among)).0
-
-  -- an open session is the new one, or was open
-  was_open : (y : List ℕ) (m : ℕ) (o : OpenSession) → IsOpen s' y m o → ((y ≡ x) × (m ≡ l)) ⊎ WasOpen y m o
-  was_open y m o is =
-      elim (step.others y m) [
-        | inl parent ↦
-            let at : s'.session y m ≡ Some parent_now = rw (parent.0, parent.1) step.parent_is in
-            let same : o ≡ parent_now = cc in
-            inr (record {
-              old = step.before;
-              is = rw (parent.0, parent.1) step.parent_was;
-              joiner = rw same refl;
-              parent = rw same refl;
-              depth = rw same refl;
-              ways = λ n among. (exchange_was number x l step.before.awaits n (ways_at o parent_now same n among)).1;
-              taken = taken_there y m o is;
-            })
-        | inr more ↦
-            elim more [
-              | inl child ↦ inl child
-              | inr same ↦ inr (record {
-                old = o;
-                is = sym same ∙ is;
-                joiner = refl;
-                parent = refl;
-                depth = refl;
-                ways = λ n among. among;
-                taken = taken_there y m o is;
-              })
-            ]
+      elim (for_way-was number comes_child step.before.awaits (Way number) (tokens_at o parent_now same (Way number) token)) [
+        | inl fresh ↦ no_way number fresh
+        | inr old ↦ old.0 refl
       ]
 
   -- what stands in the place of the new session
-  is_new : (y : List ℕ) (m : ℕ) (o : OpenSession) → (y ≡ x) × (m ≡ l) → IsOpen s' y m o → o ≡ new
+  pub is_new : (y : List ℕ) (m : ℕ) (o : OpenSession) → (y ≡ x) × (m ≡ l) → IsOpen s' y m o → o ≡ new
   is_new y m o here is = let at : s'.session y m ≡ Some new = rw (here.0, here.1) step.child in cc
-
-  frames : (m : ℕ) (g : Frame) (y : List ℕ) (n : ℕ) → AmongFrames m g s'.frames → Belongs g y n → Awaits s' y n (Way m)
-  frames m g y n among belongs =
-      elim (step.was m g among) [
-        | inl old ↦
-            let awaited = sound.frames m g y n old.1 belongs in
-            let now = stays y n awaited.session awaited.is in
-            record { session = now.now; is = now.is; among = now.ways m old.0 awaited.among }
-        | inr comes ↦
-            let at = step.asks m g y n comes belongs in
-            rw (at.0, at.1) (record { session = new; is = step.child; among = at.2 })
-      ]
-
-  ways : (y : List ℕ) (n m : ℕ) → Awaits s' y n (Way m) → HasFrame s'.frames m y n
-  ways y n m awaited =
-      elim (was_open y n awaited.session awaited.is) [
-        | inl here ↦
-            let same = is_new y n awaited.session here awaited.is in
-            let has = step.asked m (ways_at awaited.session new same m awaited.among) in
-            record {
-              frame = has.frame;
-              among = step.sends m has.frame has.among;
-              belongs = belongs_to has.frame y x n l here.0 here.1 has.belongs;
-            }
-        | inr was ↦
-            let has = sound.ways y n m (record { session = was.old; is = was.is; among = was.ways m awaited.among }) in
-            elim (step.still m has.frame has.among) [
-              | inr on ↦ record { frame = has.frame; among = on; belongs = has.belongs }
-              | inl it ↦
-                  let there = among_at m number has.frame s.frames it has.among in
-                  let same : has.frame ≡ f = sound.numbers number has.frame f there step.taken in
-                  let owner = one_owner f y w n k (belongs_at has.frame f y n same has.belongs) step.belongs in
-                  absurd (was.taken m awaited.among owner it)
-            ]
-      ]
 
   -- the new session is awaited in place of the frame
   child_awaited : AmongTokens (Child x l) parent_now.awaits
   child_awaited =
-      let awaited = sound.frames number f w k step.taken step.belongs in
+      let awaited = sound.frames number f w k step.frames.taken step.belongs in
       let was = awaited.is in
       let old = step.parent_was in
       let same : awaited.session ≡ step.before = cc in
-      exchange_new number (Child x l) step.before.awaits (ways_at awaited.session step.before same number awaited.among)
+      for_way-new number comes_child step.before.awaits (Child x l)
+      (tokens_at awaited.session step.before same (Way number) awaited.among) (inl refl)
 
-  parents : (y : List ℕ) (m : ℕ) (o : OpenSession) (z : List ℕ) (n : ℕ) → IsOpen s' y m o → o.parent ≡ Some (z, n)
-      → HasParent s' y m o z n
-  parents y m o z n is parent =
-      elim (was_open y m o is) [
-        | inl here ↦
-            let same = is_new y m o here is in
-            let above : o.parent ≡ Some (w, k) = ap (λ session. session.parent) same in
-            let place = same_place z w n k (sym parent ∙ above) in
-            let node = place.0 in
-            let at = place.1 in
-            record {
-              parent = parent_now;
-              is = rw (node, at) step.parent_is;
-              among = rw (here.0, here.1) child_awaited;
-              joiner = ap (λ session. session.joiner) same;
-              depth = ap (λ session. session.depth) same;
-            }
-        | inr was ↦
-            let up = sound.parents y m was.old z n was.is (sym was.parent ∙ parent) in
-            let now = stays z n up.parent up.is in
-            let one = was.depth in
-            let two = up.depth in
-            let three = now.depth in
-            record {
-              parent = now.now;
-              is = now.is;
-              among = now.children y m up.among;
-              joiner = was.joiner ∙ up.joiner ∙ sym now.joiner;
-              depth = omega arith;
-            }
-      ]
-
-  not_root : (y : List ℕ) (m : ℕ) (o : OpenSession) → (y ≡ x) × (m ≡ l) → IsOpen s' y m o → o.parent ≡ None → ⊥
-  not_root y m o here is top =
+  above : (y : List ℕ) (m : ℕ) (o : OpenSession) → (y ≡ x) × (m ≡ l) → IsOpen s' y m o → (z : List ℕ) (n : ℕ)
+      → o.parent ≡ Some (z, n) → HasParent s' y m o z n
+  above y m o here is z n parent =
       let same = is_new y m o here is in
-      let above : o.parent ≡ Some (w, k) = ap (λ session. session.parent) same in cc
+      let top : o.parent ≡ Some (w, k) = ap (λ session. session.parent) same in
+      let place = same_place z w n k (sym parent ∙ top) in
+      record {
+        parent = parent_now;
+        is = rw (place.0, place.1) step.parent_is;
+        among = rw (here.0, here.1) child_awaited;
+        joiner = ap (λ session. session.joiner) same;
+        depth = ap (λ session. session.depth) same;
+      }
 
-  roots : (y z : List ℕ) (m n : ℕ) (one two : OpenSession) → IsOpen s' y m one → IsOpen s' z n two → one.parent ≡ None
-      → two.parent ≡ None → one.joiner ≡ two.joiner → (y ≡ z) × (m ≡ n)
-  roots y z m n one two open_one open_two top also same =
-      elim (was_open y m one open_one) [
-        | inl here ↦ absurd (not_root y m one here open_one top)
-        | inr was ↦
-            elim (was_open z n two open_two) [
-              | inl here ↦ absurd (not_root z n two here open_two also)
-              | inr other ↦
-                  sound.roots y z m n was.old other.old was.is other.is (sym was.parent ∙ top) (sym other.parent ∙ also)
-                  (sym was.joiner ∙ same ∙ other.joiner)
+  child_origin : (y : List ℕ) (m : ℕ) (o : OpenSession) → IsOpen s' y m o → WasOpen s s' sent y m o ⊎ IsNew s s' sent y m o
+  child_origin y m o is =
+      elim (step.others y m) [
+        | inl here ↦
+            inl (was_there s s' number f sent step.frames left_child w k step.before comes_child step.parent_was step.parent_is y m o
+            here (λ n token. absurd (no_way n token)) is)
+        | inr more ↦
+            elim more [
+              | inr same ↦ inl (was_same s s' number f sent step.frames left_child y m o same is)
+              | inl here ↦
+                  let same = is_new y m o here is in
+                  inr (record {
+                    none = rw (here.0, here.1) step.none;
+                    ways = λ n token.
+                        has_at sent n y x m l here.0 here.1 (ways_of-has x l sent n (tokens_at o new same (Way n) token));
+                    above = above y m o here is;
+                    root = λ top.
+                        let parent : o.parent ≡ Some (w, k) = ap (λ session. session.parent) same in
+                        let no : None ≡ Some (w, k) = sym top ∙ parent in
+                        cc;
+                  })
             ]
       ]
 
-  numbers : (m : ℕ) (g other : Frame) → AmongFrames m g s'.frames → AmongFrames m other s'.frames → g ≡ other
-  numbers m g other one two =
-      elim (step.was m g one) [
-        | inr comes ↦ step.numbers m g other comes two
-        | inl old ↦
-            elim (step.was m other two) [
-              | inr comes ↦ sym (step.numbers m other g comes one)
-              | inl also ↦ sound.numbers m g other old.1 also.1
+  -- a place where no session was open, and one is
+  pub new_place : (y : List ℕ) (m : ℕ) (o : OpenSession) → IsOpen s' y m o → s.session y m ≡ None → (y ≡ x) × (m ≡ l)
+  new_place y m o is none =
+      elim (step.others y m) [
+        | inl here ↦ let was : s.session y m ≡ Some step.before = rw (here.0, here.1) step.parent_was in cc
+        | inr more ↦ elim more [ inl here ↦ here | inr same ↦ let no : Some o ≡ None = sym is ∙ same ∙ none in cc ]
+      ]
+
+  pub opens_child_turns : Turns s s' sent
+  opens_child_turns = record {
+    fate = λ y m o is.
+        elim (step.others y m) [
+          | inl here ↦
+              inl (on_there s s' number f sent step.frames left_child w k step.before comes_child step.parent_was step.parent_is y m
+              o here is)
+          | inr more ↦
+              elim more [
+                | inl here ↦ let none : s.session y m ≡ None = rw (here.0, here.1) step.none in cc
+                | inr same ↦ inl (on_same s s' number f sent step.frames left_child y m o same is)
+              ]
+        ];
+    origin = child_origin;
+    one = λ y z m n o c is also none other.
+        let one = new_place y m o is none in let two = new_place z n c also other in (one.0 ∙ sym two.0, one.1 ∙ sym two.1);
+    was = λ m g y n among belongs. step.frames.was m g among;
+    sends = step.frames.sends;
+    asks = λ m g y n among belongs.
+        let here = step.asks m g y n among belongs in
+        rw (here.0, here.1) (record {
+          session = new;
+          is = step.child;
+          among = ways_of-among x l sent m g among (rw (here.0, here.1) at belongs);
+        });
+    is_one = step.frames.is_one;
+  }
+
+  pub child_exact : AreExact s'
+  child_exact = turned_exact s s' sent opens_child_turns sound
+
+-- ---- a root session is opened
+
+module _ (s s' : System) (number : ℕ) (f : Frame) (x : List ℕ) (l : ℕ) (sent : List (ℕ × Frame))
+    (step : OpensRoot s s' number f x l sent) (sound : AreExact s) where
+  left_root : (y : List ℕ) (m : ℕ) (o : OpenSession) → IsOpen s' y m o → Belongs f y m → AmongTokens (Way number) o.awaits → ⊥
+  left_root y m o is belongs token = step.apart y m belongs
+
+  is_root : (y : List ℕ) (m : ℕ) (o : OpenSession) → (y ≡ x) × (m ≡ l) → IsOpen s' y m o → o ≡ step.root
+  is_root y m o here is = let at : s'.session y m ≡ Some step.root = rw (here.0, here.1) step.is in cc
+
+  root_place : (y : List ℕ) (m : ℕ) (o : OpenSession) → IsOpen s' y m o → s.session y m ≡ None → (y ≡ x) × (m ≡ l)
+  root_place y m o is none =
+      elim (step.others y m) [ inl here ↦ here | inr same ↦ let no : Some o ≡ None = sym is ∙ same ∙ none in cc ]
+
+  pub opens_root_turns : Turns s s' sent
+  opens_root_turns = record {
+    fate = λ y m o is.
+        elim (step.others y m) [
+          | inl here ↦ let none : s.session y m ≡ None = rw (here.0, here.1) step.none in cc
+          | inr same ↦ inl (on_same s s' number f sent step.frames left_root y m o same is)
+        ];
+    origin = λ y m o is.
+        elim (step.others y m) [
+          | inr same ↦ inl (was_same s s' number f sent step.frames left_root y m o same is)
+          | inl here ↦
+              let same = is_root y m o here is in
+              let awaits : o.awaits ≡ ways_of x l sent = ap (λ session. session.awaits) same ∙ step.awaits in
+              inr (record {
+                none = rw (here.0, here.1) step.none;
+                ways = λ n token. has_at sent n y x m l here.0 here.1 (ways_of-has x l sent n (rw (← awaits) token));
+                above = λ w k parent.
+                    let top : o.parent ≡ None = ap (λ session. session.parent) same ∙ step.top in
+                    let no : None ≡ Some (w, k) = sym top ∙ parent in
+                    cc;
+                root = λ top. rw same step.rootless;
+              })
+        ];
+    one = λ y z m n o c is also none other.
+        let one = root_place y m o is none in let two = root_place z n c also other in (one.0 ∙ sym two.0, one.1 ∙ sym two.1);
+    was = λ m g y n among belongs. step.frames.was m g among;
+    sends = step.frames.sends;
+    asks = λ m g y n among belongs.
+        let here = step.asks m g y n among belongs in
+        rw (here.0, here.1) (record {
+          session = step.root;
+          is = step.is;
+          among = rw step.awaits (ways_of-among x l sent m g among (rw (here.0, here.1) at belongs));
+        });
+    is_one = step.frames.is_one;
+  }
+
+  pub root_exact : AreExact s'
+  root_exact = turned_exact s s' sent opens_root_turns sound
+
+-- ---- a session is closed
+
+module _ (s s' : System) (number : ℕ) (f : Frame) (x : List ℕ) (k : ℕ) (w : List ℕ) (m : ℕ) (sent : List (ℕ × Frame))
+    (step : ClosesChild s s' number f x k w m sent) (sound : AreExact s) where
+  abbrev passed : List Token
+  passed = ways_of w m sent
+
+  abbrev up_now : OpenSession
+  up_now = with_awaits step.before (for_child x k passed step.before.awaits)
+
+  left_closed : (y : List ℕ) (n : ℕ) (o : OpenSession) → IsOpen s' y n o → Belongs f y n → AmongTokens (Way number) o.awaits → ⊥
+  left_closed y n o is belongs token =
+      let here = one_owner f y x n k belongs step.belongs in
+      let gone : s'.session y n ≡ None = rw (here.0, here.1) step.closes.gone in
+      let no : Some o ≡ None = sym is ∙ gone in
+      cc
+
+  pub closed_origin : (y : List ℕ) (n : ℕ) (o : OpenSession) → IsOpen s' y n o → WasOpen s s' sent y n o
+  closed_origin y n o is =
+      elim (step.others y n) [
+        | inl here ↦
+            let gone : s'.session y n ≡ None = rw (here.0, here.1) step.closes.gone in
+            let no : Some o ≡ None = sym is ∙ gone in
+            cc
+        | inr more ↦
+            elim more [
+              | inr same ↦ was_same s s' number f sent step.frames left_closed y n o same is
+              | inl here ↦
+                  let at : s'.session y n ≡ Some up_now = rw (here.0, here.1) step.parent_is in
+                  let same : o ≡ up_now = cc in
+                  record {
+                    old = step.before;
+                    is = rw (here.0, here.1) step.parent_was;
+                    joiner = ap (λ session. session.joiner) same;
+                    depth = ap (λ session. session.depth) same;
+                    parent = ap (λ session. session.parent) same;
+                    ways = λ l token.
+                        elim (for_child-was x k passed step.before.awaits (Way l) (tokens_at o up_now same (Way l) token)) [
+                          | inl fresh ↦ inl (has_at sent l y w n m here.0 here.1 (ways_of-has w m sent l fresh))
+                          | inr old ↦
+                              inr (old.1, still_way s s' number f sent step.frames left_closed y n o is l token)
+                        ];
+                  }
             ]
       ]
 
-  pub sessions_kept : AreExact s'
-  sessions_kept = record { frames = frames; ways = ways; parents = parents; roots = roots; numbers = numbers }
+  -- the session that is closed was awaited
+  awaited_up : AmongTokens (Child x k) step.before.awaits
+  awaited_up =
+      let up = sound.parents x k step.closes.session w m step.closes.was step.above in
+      let is = up.is in
+      let was = step.parent_was in
+      let same : up.parent ≡ step.before = cc in
+      tokens_at up.parent step.before same (Child x k) up.among
+
+  pub closes_child_turns : Turns s s' sent
+  closes_child_turns = record {
+    fate = λ y n o is.
+        elim (step.others y n) [
+          | inl here ↦
+              let at : s.session y n ≡ Some step.closes.session = rw (here.0, here.1) step.closes.was in
+              let same : o ≡ step.closes.session = cc in
+              inr (record {
+                gone = rw (here.0, here.1) step.closes.gone;
+                children = λ z l token.
+                    let no = step.closes.only (Child z l) (tokens_at o step.closes.session same (Child z l) token) in cc;
+                ways = λ l g among token.
+                    other_way s s' number f sent step.frames left_closed l g among
+                    (step.closes.only (Way l) (tokens_at o step.closes.session same (Way l) token));
+              })
+          | inr more ↦
+              elim more [
+                | inr same ↦ inl (on_same s s' number f sent step.frames left_closed y n o same is)
+                | inl here ↦
+                    let at : s.session y n ≡ Some step.before = rw (here.0, here.1) step.parent_was in
+                    let same : o ≡ step.before = cc in
+                    inl (record {
+                      now = up_now;
+                      is = rw (here.0, here.1) step.parent_is;
+                      joiner = ap (λ session. session.joiner) (sym same);
+                      depth = ap (λ session. session.depth) (sym same);
+                      parent = ap (λ session. session.parent) (sym same);
+                      children = λ z l c opened among.
+                          for_child-stays x k passed step.before.awaits (Child z l) (other_child z l c opened)
+                          (tokens_at o step.before same (Child z l) among);
+                      ways = λ l g among belongs token.
+                          for_child-stays x k passed step.before.awaits (Way l) (λ no. let wrong : Way l ≡ Child x k = no in cc)
+                          (tokens_at o step.before same (Way l) token);
+                    })
+              ]
+        ];
+    origin = λ y n o is. inl (closed_origin y n o is);
+    one = λ y z l n o c is also none other.
+        let was = closed_origin y l o is in let there = was.is in let no : Some was.old ≡ None = sym there ∙ none in cc;
+    was = λ l g y n among belongs. step.frames.was l g among;
+    sends = step.frames.sends;
+    asks = λ l g y n among belongs.
+        let here = step.asks l g y n among belongs in
+        let new : AmongTokens (Way l) passed = ways_of-among w m sent l g among (rw (here.0, here.1) at belongs) in
+        rw (here.0, here.1) (record {
+          session = up_now;
+          is = step.parent_is;
+          among = for_child-new x k passed step.before.awaits (Way l) awaited_up new;
+        });
+    is_one = step.frames.is_one;
+  }
+    where
+      other_child : (z : List ℕ) (l : ℕ) (c : OpenSession) → IsOpen s' z l c → Child z l ≡ Child x k → ⊥
+      other_child z l c opened same =
+          let node : z ≡ x = cc in
+          let place : l ≡ k = cc in
+          let gone : s'.session z l ≡ None = rw (node, place) step.closes.gone in
+          let no : Some c ≡ None = sym opened ∙ gone in
+          cc
+
+  pub closed_exact : AreExact s'
+  closed_exact = turned_exact s s' sent closes_child_turns sound
+
+module _ (s s' : System) (number : ℕ) (f : Frame) (x : List ℕ) (k : ℕ) (sent : List (ℕ × Frame))
+    (step : ClosesRoot s s' number f x k sent) (sound : AreExact s) where
+  left_last : (y : List ℕ) (n : ℕ) (o : OpenSession) → IsOpen s' y n o → Belongs f y n → AmongTokens (Way number) o.awaits → ⊥
+  left_last y n o is belongs token =
+      let here = one_owner f y x n k belongs step.belongs in
+      let gone : s'.session y n ≡ None = rw (here.0, here.1) step.closes.gone in
+      let no : Some o ≡ None = sym is ∙ gone in
+      cc
+
+  pub last_origin : (y : List ℕ) (n : ℕ) (o : OpenSession) → IsOpen s' y n o → WasOpen s s' sent y n o
+  last_origin y n o is =
+      elim (step.others y n) [
+        | inl here ↦
+            let gone : s'.session y n ≡ None = rw (here.0, here.1) step.closes.gone in
+            let no : Some o ≡ None = sym is ∙ gone in
+            cc
+        | inr same ↦ was_same s s' number f sent step.frames left_last y n o same is
+      ]
+
+  pub closes_root_turns : Turns s s' sent
+  closes_root_turns = record {
+    fate = λ y n o is.
+        elim (step.others y n) [
+          | inl here ↦
+              let at : s.session y n ≡ Some step.closes.session = rw (here.0, here.1) step.closes.was in
+              let same : o ≡ step.closes.session = cc in
+              inr (record {
+                gone = rw (here.0, here.1) step.closes.gone;
+                children = λ z l token.
+                    let no = step.closes.only (Child z l) (tokens_at o step.closes.session same (Child z l) token) in cc;
+                ways = λ l g among token.
+                    other_way s s' number f sent step.frames left_last l g among
+                    (step.closes.only (Way l) (tokens_at o step.closes.session same (Way l) token));
+              })
+          | inr same ↦ inl (on_same s s' number f sent step.frames left_last y n o same is)
+        ];
+    origin = λ y n o is. inl (last_origin y n o is);
+    one = λ y z l n o c is also none other.
+        let was = last_origin y l o is in let there = was.is in let no : Some was.old ≡ None = sym there ∙ none in cc;
+    was = λ l g y n among belongs. step.frames.was l g among;
+    sends = step.frames.sends;
+    asks = λ l g y n among belongs. absurd (step.asks l g y n among belongs);
+    is_one = step.frames.is_one;
+  }
+
+  pub last_exact : AreExact s'
+  last_exact = turned_exact s s' sent closes_root_turns sound
+
+-- ---- no session changes
+
+module _ (s s' : System) (step : LeavesSessions s s') where
+  pub leaves_turns : Turns s s' []
+  leaves_turns = record {
+    fate = λ y m o is. inl (record {
+      now = o;
+      is = step.sessions y m ∙ is;
+      joiner = refl;
+      depth = refl;
+      parent = refl;
+      children = λ z n c opened among. among;
+      ways = λ n g among belongs token. token;
+    });
+    origin = λ y m o is. inl (record {
+      old = o;
+      is = sym (step.sessions y m) ∙ is;
+      joiner = refl;
+      depth = refl;
+      parent = refl;
+      ways = λ n token. inr (token, λ g among belongs. step.still n g y m among belongs);
+    });
+    one = λ y z m n o c is also none other. let no : Some o ≡ None = sym is ∙ step.sessions y m ∙ none in cc;
+    was = λ m g y n among belongs. inl (step.was m g y n among belongs);
+    sends = λ m g among. absurd among;
+    asks = λ m g y n among belongs. absurd among;
+    is_one = step.is_one;
+  }
+
+  pub left_exact : AreExact s → AreExact s'
+  left_exact sound = turned_exact s s' [] leaves_turns sound

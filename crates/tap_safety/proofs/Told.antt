@@ -2,18 +2,25 @@
 use Rattle.std.proofs.Common.{◌≡◌, inl, inr, ℕ, ◌+◌, List, [], ◌∷◌, ◌++◌, ◌⊎◌, refl, ap}
 use Rattle.tap_wire.specs.declared.frame.Body.{Body}
 use Rattle.tap_wire.specs.declared.frame.Frame.{Frame}
+use Rattle.tap_rule.specs.Sent.{IsAmong}
 use Rattle.tap_safety.specs.Frames.{HelloFields, hello_body, tell_body}
 use Rattle.tap_safety.specs.System.{System, AmongFrames, HelloNames, IsTold, IsUnderWay}
 use Rattle.tap_safety.specs.Step.{IsTaken, IsSent, numbered_from}
 
-among_right : (n : ℕ) (f : Frame) (xs ys : List (ℕ × Frame)) → AmongFrames n f ys → AmongFrames n f (xs ++ ys)
+pub among_right : (n : ℕ) (f : Frame) (xs ys : List (ℕ × Frame)) → AmongFrames n f ys → AmongFrames n f (xs ++ ys)
 among_right n f [] ys among = among
 among_right n f (x ∷ xs) ys among = inr (among_right n f xs ys among)
 
-among_left : (n : ℕ) (f : Frame) (xs ys : List (ℕ × Frame)) → AmongFrames n f xs → AmongFrames n f (xs ++ ys)
+pub among_left : (n : ℕ) (f : Frame) (xs ys : List (ℕ × Frame)) → AmongFrames n f xs → AmongFrames n f (xs ++ ys)
 among_left n f [] ys among = absurd among
 among_left n f (x ∷ xs) ys (inl first) = inl first
 among_left n f (x ∷ xs) ys (inr later) = inr (among_left n f xs ys later)
+
+pub among_either : (n : ℕ) (f : Frame) (xs ys : List (ℕ × Frame)) → AmongFrames n f (xs ++ ys) → AmongFrames n f xs ⊎ AmongFrames n f ys
+among_either n f [] ys among = inr among
+among_either n f (x ∷ xs) ys (inl is) = inl (inl is)
+among_either n f (x ∷ xs) ys (inr later) =
+    elim (among_either n f xs ys later) [ inl one ↦ inl (inr one) | inr two ↦ inr two ]
 
 among_out : (n m : ℕ) (f g : Frame) (front back sent : List (ℕ × Frame)) → AmongFrames n f (front ++ (m, g) ∷ back)
     → AmongFrames n f (front ++ (back ++ sent)) ⊎ ((n ≡ m) × (f ≡ g))
@@ -24,12 +31,35 @@ among_out n m f g (x ∷ xs) back sent (inr later) =
     elim (among_out n m f g xs back sent later) [ inl among ↦ inl (inr among) | inr is ↦ inr is ]
 
 -- what is sent has a number
-among_numbered : (n : ℕ) (sent : List Frame) (x t : List ℕ) (body : Body) → IsSent sent x t body
+pub among_numbered : (n : ℕ) (sent : List Frame) (x t : List ℕ) (body : Body) → IsSent sent x t body
     → (number : ℕ) × AmongFrames number (record { from = x; to = t; body = body }) (numbered_from n sent)
 among_numbered n [] x t body sends = absurd sends
 among_numbered n (frame ∷ frames) x t body (inl is) = (n, inl (refl, is))
 among_numbered n (frame ∷ frames) x t body (inr later) =
     let rest = among_numbered (n + 1) frames x t body later in (rest.0, inr rest.1)
+
+among_was : (n m : ℕ) (f g : Frame) (front back sent : List (ℕ × Frame)) → AmongFrames n f (front ++ (back ++ sent))
+    → AmongFrames n f (front ++ (m, g) ∷ back) ⊎ AmongFrames n f sent
+among_was n m f g [] back sent among = elim (among_either n f back sent among) [ inl old ↦ inl (inr old) | inr new ↦ inr new ]
+among_was n m f g (x ∷ xs) back sent (inl is) = inl (inl is)
+among_was n m f g (x ∷ xs) back sent (inr later) =
+    elim (among_was n m f g xs back sent later) [ inl old ↦ inl (inr old) | inr new ↦ inr new ]
+
+-- what has a number is sent
+pub among_sent : (n : ℕ) (sent : List Frame) (m : ℕ) (f : Frame) → AmongFrames m f (numbered_from n sent) → IsAmong f sent
+among_sent n [] m f among = absurd among
+among_sent n (frame ∷ frames) m f (inl is) = inl is.1
+among_sent n (frame ∷ frames) m f (inr later) = inr (among_sent (n + 1) frames m f later)
+
+among_there : (n : ℕ) (f : Frame) (front back : List (ℕ × Frame)) → AmongFrames n f (front ++ (n, f) ∷ back)
+among_there n f [] back = inl (refl, refl)
+among_there n f (x ∷ xs) back = inr (among_there n f xs back)
+
+-- the frame that is taken was under way
+pub taken_under_way : (s s' : System) (number : ℕ) (frame : Frame) (sent : List Frame) → IsTaken s s' number frame sent
+    → IsUnderWay s frame.from frame.to frame.body
+taken_under_way s s' number frame sent taken =
+    record { number = number; among = rw taken.before (among_there number frame taken.front taken.back) }
 
 module _ (s s' : System) (number : ℕ) (frame : Frame) (sent : List Frame) (taken : IsTaken s s' number frame sent)
     (from to : List ℕ) (body : Body) where
@@ -42,6 +72,14 @@ module _ (s s' : System) (number : ℕ) (frame : Frame) (sent : List Frame) (tak
       elim (among_out way.number number of_these frame taken.front taken.back (numbered_from s.next sent) (rw taken.before at way.among)) [
         | inl among ↦ inl (record { number = way.number; among = rw taken.after among })
         | inr is ↦ inr is.1
+      ]
+
+  -- a frame that is under way was, or is sent
+  pub was_under_way : IsUnderWay s' from to body → IsUnderWay s from to body ⊎ IsSent sent from to body
+  was_under_way way =
+      elim (among_was way.number number of_these frame taken.front taken.back (numbered_from s.next sent) (rw taken.after at way.among)) [
+        | inl among ↦ inl (record { number = way.number; among = rw taken.before among })
+        | inr new ↦ inr (among_sent s.next sent way.number of_these new)
       ]
 
   -- what is sent is under way

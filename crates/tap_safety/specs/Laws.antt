@@ -11,7 +11,8 @@ use Rattle.tap_safety.specs.Parts.{Cover, Covered, HoleFree, Low, Meet}
 use Rattle.tap_safety.specs.TellStep.{KnownTellIsTaken, TellIsTaken}
 use Rattle.tap_safety.specs.DoneStep.{DoneIsTaken, NothingOnWay}
 use Rattle.tap_safety.specs.SeekStep.{JoinerIsGreeted}
-use Rattle.tap_safety.specs.Sessions.{AreExact, AwaitsLast, Belongs, IsOpen, IsRootless, OpensChild}
+use Rattle.tap_safety.specs.Sessions.{AreExact, AwaitsLast, Belongs, IsOpen, IsRootless}
+use Rattle.tap_safety.specs.SessionSteps.{OpensChild}
 use Rattle.tap_safety.specs.Joins.{AreOfJoiners, EndsOnce}
 use Rattle.tap_safety.specs.Ties.{TakesLink, Ties, Versions}
 

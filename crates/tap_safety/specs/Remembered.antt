@@ -1,5 +1,6 @@
--- What is remembered of a system beside its nodes and frames: the sessions of joins, and the words of links.
+-- What is remembered of a system beside its nodes and frames: the sessions of joins, the words of links, and a departure.
 use Rattle.std.specs.Prelude.{ℕ, Bool, List, Option}
+use Rattle.tap_link.specs.declared.kind.Kind.{Kind}
 
 -- what stands for an answer that is to come: a frame under way, by its number, or an open session of another node
 pub data Token : Type 0 where
@@ -18,3 +19,9 @@ pub record OpenSession : Type 0 where
 pub record Word : Type 0 where
   pub version : ℕ
   pub on : Bool
+
+-- the node that departs: its name, and its links and holders at the start
+pub record Leaver : Type 0 where
+  pub name : List ℕ
+  pub links : List ℕ → Option Kind
+  pub holders : List (List ℕ)

@@ -1,5 +1,6 @@
 -- The sessions of joins, and the answers that each waits for, one token for each.
-use Rattle.std.specs.Prelude.{◌≡◌, ◌==◌, ℕ, ◌+◌, if◌then◌else◌, List, [], ◌∷◌, ◌⊎◌, Option, None, Some}
+use Rattle.std.specs.Prelude.{◌≡◌, ◌==◌, ℕ, nat_eq, ◌+◌, Bool, false, ◌&&◌, if◌then◌else◌, List, [], ◌∷◌, ◌++◌, ◌⊎◌, Option, None, Some}
+use Rattle.std.specs.Cmp.Lexicographic.{pointwise}
 use Rattle.tap_wire.specs.declared.frame.Frame.{Frame}
 use Rattle.tap_wire.specs.declared.frame.Body.{Body}
 use Rattle.tap_wire.specs.declared.frame.Body.TheVariants.{Tell, Hello, Heard, Ack}
@@ -18,6 +19,14 @@ session_named (Hello session core links) from to = Some (from, session)
 session_named (Heard session) from to = Some (to, session)
 session_named (Ack session) from to = Some (to, session)
 session_named other from to = None
+
+-- this is the session of that node and number
+abbrev pub is_place : List ℕ → ℕ → List ℕ → ℕ → Bool
+is_place x k y m = pointwise nat_eq y x && (m == k)
+
+abbrev pub is_placed : Option (List ℕ × ℕ) → List ℕ → ℕ → Bool
+is_placed None x k = false
+is_placed (Some (y, m)) x k = is_place x k y m
 
 abbrev pub Belongs : Frame → List ℕ → ℕ → Type 0
 Belongs f x k = session_named f.body f.from f.to ≡ Some (x, k)
@@ -69,43 +78,20 @@ pub record AwaitsLast (s : System) (x : List ℕ) (k number : ℕ) : Type 0 wher
   pub top : root.parent ≡ None
   pub awaits : root.awaits ≡ Way number ∷ []
 
--- the tokens with another one in place of that of a frame
-abbrev pub exchange : ℕ → Token → List Token → List Token
-exchange number new [] = []
-exchange number new (Way other ∷ tokens) = (if other == number then new else Way other) ∷ exchange number new tokens
-exchange number new (Child y l ∷ tokens) = Child y l ∷ exchange number new tokens
+-- the tokens of those frames that belong to a session
+unfoldable pub ways_of : List ℕ → ℕ → List (ℕ × Frame) → List Token
+ways_of x k [] = []
+ways_of x k (f ∷ fs) =
+    if is_placed (session_named f.1.body f.1.from f.1.to) x k then Way f.0 ∷ ways_of x k fs else ways_of x k fs
 
--- the session once it awaits another one in place of a frame
-abbrev pub with_child : OpenSession → ℕ → List ℕ → ℕ → OpenSession
-with_child session number x l = record session { awaits = exchange number (Child x l) session.awaits }
+-- the tokens, with these in place of that of a frame
+unfoldable pub for_way : ℕ → List Token → List Token → List Token
+for_way number new [] = []
+for_way number new (Way other ∷ tokens) = (if other == number then new else Way other ∷ []) ++ for_way number new tokens
+for_way number new (Child y l ∷ tokens) = Child y l ∷ for_way number new tokens
 
--- a session that answers this one in the end, with what it awaits
-abbrev pub child_of : OpenSession → List ℕ → ℕ → List Token → OpenSession
-child_of session w k awaits = record {
-  joiner = session.joiner;
-  parent = Some (w, k);
-  depth = session.depth + 1;
-  awaits = awaits;
-}
-
--- A frame of the session k of w is taken at x, which opens its session l for what it sends: no frame but that one goes, and none but
--- those come; the session k awaits the new one in its place; and the new one awaits each frame that is sent in it.
-pub record OpensChild (s s' : System) (number : ℕ) (f : Frame) (w : List ℕ) (k : ℕ) (x : List ℕ) (l : ℕ) (sent : List (ℕ × Frame))
-    : Type 0 where
-  pub taken : AmongFrames number f s.frames
-  pub belongs : Belongs f w k
-  pub still : (m : ℕ) (g : Frame) → AmongFrames m g s.frames → (m ≡ number) ⊎ AmongFrames m g s'.frames
-  pub was : (m : ℕ) (g : Frame) → AmongFrames m g s'.frames
-      → ((m ≡ number → ⊥) × AmongFrames m g s.frames) ⊎ AmongFrames m g sent
-  pub sends : (m : ℕ) (g : Frame) → AmongFrames m g sent → AmongFrames m g s'.frames
-  pub numbers : (m : ℕ) (g other : Frame) → AmongFrames m g sent → AmongFrames m other s'.frames → g ≡ other
-  pub before : OpenSession
-  pub parent_was : IsOpen s w k before
-  pub parent_is : IsOpen s' w k (with_child before number x l)
-  pub awaits : List Token
-  pub none : s.session x l ≡ None
-  pub child : IsOpen s' x l (child_of before w k awaits)
-  pub others : (y : List ℕ) (m : ℕ) → ((y ≡ w) × (m ≡ k)) ⊎ (((y ≡ x) × (m ≡ l)) ⊎ (s'.session y m ≡ s.session y m))
-  pub asks : (m : ℕ) (g : Frame) (y : List ℕ) (n : ℕ) → AmongFrames m g sent → Belongs g y n
-      → (y ≡ x) × (n ≡ l) × AmongTokens (Way m) awaits
-  pub asked : (m : ℕ) → AmongTokens (Way m) awaits → HasFrame sent m x l
+-- the tokens, with these in place of that of a session
+unfoldable pub for_child : List ℕ → ℕ → List Token → List Token → List Token
+for_child x k new [] = []
+for_child x k new (Way number ∷ tokens) = Way number ∷ for_child x k new tokens
+for_child x k new (Child y m ∷ tokens) = (if is_place x k y m then new else Child y m ∷ []) ++ for_child x k new tokens

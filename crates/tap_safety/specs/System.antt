@@ -10,11 +10,11 @@ use Rattle.tap_wire.specs.declared.frame.TellFields.{TellFields}
 use Rattle.tap_rule.specs.Node.{NodeState, link_to}
 use Rattle.tap_rule.specs.Node.Status.{Joining, Core, Leaving}
 use Rattle.tap_safety.specs.Frames.{HelloFields, hello_body, tell_body}
-use Rattle.tap_safety.specs.Remembered.{OpenSession, Word}
+use Rattle.tap_safety.specs.Remembered.{Leaver, OpenSession, Word}
 
 -- The node of each name, if there is one; the frames under way with their numbers, oldest first; and the number of the frame that
--- is sent next. What is remembered: of each joiner that was started its surrogate, the open session of a node and a number, and
--- the last word of one name to another, each if there is one.
+-- is sent next. What is remembered: of each joiner that was started its surrogate, the open session of a node and a number, the
+-- last word of one name to another, and the node that departs, each if there is one.
 pub record System : Type 0 where
   pub node : List ℕ → Option NodeState
   pub frames : List (ℕ × Frame)
@@ -22,6 +22,7 @@ pub record System : Type 0 where
   pub surrogate : List ℕ → Option (List ℕ)
   pub session : List ℕ → ℕ → Option OpenSession
   pub last : List ℕ → List ℕ → Option Word
+  pub departing : Option Leaver
 
 -- the frame of this number is one of these
 abbrev pub AmongFrames : ℕ → Frame → List (ℕ × Frame) → Type 0

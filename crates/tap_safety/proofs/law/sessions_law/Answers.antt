@@ -1,4 +1,5 @@
 use Rattle.tap_safety.proofs.SessionLaws.{frame_law, opened_law, quiet_law, root_law, rootless_law}
+use Rattle.tap_safety.proofs.StepLaws.{closing_law, handing_on_law, last_answer_law, others_law, root_opened_law}
 use Rattle.tap_safety.proofs.law.sessions_law.Goals as goal
 
 pub returns-clause-opened : goal.returns-clause-opened
@@ -15,3 +16,18 @@ returns-clause-frame c = frame_law
 
 pub returns-clause-quiet : goal.returns-clause-quiet
 returns-clause-quiet c = quiet_law
+
+pub returns-clause-handed_on : goal.returns-clause-handed_on
+returns-clause-handed_on c = handing_on_law
+
+pub returns-clause-seated : goal.returns-clause-seated
+returns-clause-seated c = root_opened_law
+
+pub returns-clause-closed : goal.returns-clause-closed
+returns-clause-closed c = closing_law
+
+pub returns-clause-last : goal.returns-clause-last
+returns-clause-last c = last_answer_law
+
+pub returns-clause-others : goal.returns-clause-others
+returns-clause-others c = others_law

@@ -1,0 +1,283 @@
+-- Who is named stays core or soft, if the links that are new and the messages that are sent are sound.
+use Rattle.std.proofs.Common.{◌≡◌, inl, inr, ℕ, true, false, List, [], ◌∷◌, ◌⊎◌, Option, None, Some, refl, sym, ap, ◌∙◌}
+use Rattle.std.proofs.lemmas.Bool.{cases_Bool, true≢false}
+use Rattle.tap_name.specs.declared.slot.Offered.{Offered}
+use Rattle.tap_name.specs.declared.slot.Slot.{Slot}
+use Rattle.tap_link.specs.declared.kind.Kind.{Kind}
+use Rattle.tap_link.specs.declared.kind.Kind.TheVariants.{Pin, Settled, Leaving as Marked}
+use Rattle.tap_join.specs.Hello.{hello_names}
+use Rattle.tap_table.specs.declared.tie.Tie.{Tie}
+use Rattle.tap_wire.specs.declared.frame.Body.{Body}
+use Rattle.tap_wire.specs.declared.frame.Body.TheVariants.{Ack, Forget, Heard, Hello, Lay, Leave, Link, Release}
+use Rattle.tap_wire.specs.declared.frame.Frame.{Frame}
+use Rattle.tap_wire.specs.declared.frame.TellFields.{TellFields}
+use Rattle.tap_rule.specs.Node.{NodeState, link_to}
+use Rattle.tap_rule.specs.Node.Status.{Ceased as HasCeased}
+use Rattle.tap_rule.specs.Reaction.{Message, message}
+use Rattle.tap_rule.specs.Sending.{lay_frame, link_frame, message_frame}
+use Rattle.tap_rule.specs.Sent.{AreSent, IsAmong}
+use Rattle.tap_safety.specs.Frames.{HelloFields, hello_body, tell_body}
+use Rattle.tap_safety.specs.System.{System, HasLink, IsCoreNode, IsJoiner, IsUnderWay}
+use Rattle.tap_safety.specs.Step.{HasSent, IsSent, numbered_from}
+use Rattle.tap_safety.specs.Soft.{
+  AreSound,
+  IsCeased,
+  IsSoft,
+  IsSoundBody,
+  IsSoundLink,
+  IsSoundOffer,
+  IsSoundReplacement,
+  NamesSoft,
+  Offers,
+}
+use Rattle.tap_safety.specs.FrameSteps.{
+  ComesFrom,
+  LinksStay,
+  StartsJoin,
+  StartsPlainly,
+  TakesForget,
+  TakesFrame,
+  TakesHello,
+  TakesPlainly,
+  TakesRelease,
+  TakesTellCeased,
+  TakesTellJoining,
+  kind_offered,
+}
+use Rattle.tap_safety.proofs.FrameKeeps.{frame_cores}
+use Rattle.tap_safety.proofs.LinkKeeps.{release_core}
+use Rattle.tap_safety.proofs.StartKeeps.{join_cores, node_was, old_node}
+use Rattle.tap_safety.proofs.TellKeeps.{core_kept, node_after, node_before}
+use Rattle.tap_safety.proofs.Told.{among_either, among_sent, taken_under_way, was_under_way}
+
+-- what is sent is sound, if the messages are
+pub sent_sound : (s : System) (x : List ℕ) (words : List Tie) (messages : List Message) (sent : List Frame)
+    → AreSent x words messages sent → AreSound s x messages → (from to : List ℕ) (body : Body) → IsSent sent from to body
+    → IsSoundBody s from to body
+sent_sound s x words messages sent are sound from to body is =
+    elim (are.each (record { from = from; to = to; body = body }) is) [
+      | inl link ↦
+          let said : body ≡ Link link.word.version link.word.on = ap (λ f. f.body) link.is in
+          rw said tt
+      | inr more ↦
+          elim more [
+            | inl named ↦
+                let frame : message_frame x named.message ≡ record { from = from; to = to; body = body } = sym named.is in
+                let is_sound = sound named.message named.among in
+                let ends : (f : Frame) → message_frame x named.message ≡ f → IsSoundBody s f.from f.to f.body =
+                λ f same. rw (← same) is_sound in
+                ends (record { from = from; to = to; body = body }) frame
+            | inr lay ↦
+                let said : body ≡ Lay lay.lay.object lay.lay.server lay.lay.level lay.lay.version lay.lay.on =
+                ap (λ f. f.body) lay.is in
+                rw said tt
+          ]
+    ]
+
+-- a message of a list of one
+pub only_message : (m one : Message) → IsAmong m (one ∷ []) → m ≡ one
+only_message m one (inl is) = is
+only_message m one (inr none) = absurd none
+
+pub one_sound : (s : System) (x : List ℕ) (one : Message) → IsSoundBody s x one.to one.body → AreSound s x (one ∷ [])
+one_sound s x one sound m among = let same = only_message m one among in rw same sound
+
+module _ (s s' : System) (cores : (y : List ℕ) → IsCoreNode s y → IsCoreNode s' y)
+    (softs : (y : List ℕ) → IsSoft s y → IsSoft s' y)
+    (links : (y t : List ℕ) (kind : Kind) → HasLink s' y t kind → HasLink s y t kind ⊎ IsSoundLink s' t kind)
+    (ways : (from to : List ℕ) (body : Body) → IsUnderWay s' from to body → IsUnderWay s from to body ⊎ IsSoundBody s' from to body)
+    (soft : NamesSoft s) where
+  offer_kept : (b : List ℕ) (o : Offered) → IsSoundOffer s b o → IsSoundOffer s' b o
+  offer_kept b o sound = record {
+    core = λ says. cores o.name (sound.core says);
+    soft = λ says. softs o.name (sound.soft says);
+    apart = sound.apart;
+  }
+
+  pub soft_kept : NamesSoft s'
+  soft_kept = record {
+    settled = λ y t link. elim (links y t Settled link) [ inl old ↦ cores t (soft.settled y t old) | inr new ↦ new ];
+    pins = λ y t link. elim (links y t Pin link) [ inl old ↦ softs t (soft.pins y t old) | inr new ↦ new ];
+    hellos = λ w b hello way o offers.
+        elim (ways w b (hello_body hello) way) [
+          | inl old ↦ offer_kept b o (soft.hellos w b hello old o offers)
+          | inr new ↦ new o offers
+        ];
+    releases = λ t y way. elim (ways t y Release way) [ inl old ↦ cores t (soft.releases t y old) | inr new ↦ new ];
+    leaves = λ n y r way.
+        elim (ways n y (Leave (Some r)) way) [ inl old ↦ cores r (soft.leaves n y r old) | inr new ↦ new ];
+  }
+
+module _ (s s' : System) (number : ℕ) (frame : Frame) (step : TakesFrame s s' number frame) where
+  pub frame_softs : (y : List ℕ) → IsSoft s y → IsSoft s' y
+  frame_softs y (inr (inl core)) = inr (inl (frame_cores s s' number frame step y core))
+  frame_softs y (inl joiner) =
+      let started = step.surrogate y ∙ joiner.started in
+      inl (elim (node_after s s' frame.to step.before step.after step.at y joiner.state joiner.is) [
+        | inl here ↦
+            let same = here.1 in
+            let joining = joiner.joining in
+            let status = step.stays.status in
+            record { state = step.after; is = here.2; joining = cc; surrogate = joiner.surrogate; started = started }
+        | inr there ↦
+            record { state = joiner.state; is = there; joining = joiner.joining; surrogate = joiner.surrogate; started = started }
+      ])
+  frame_softs y (inr (inr ceased)) =
+      inr (inr (elim (node_after s s' frame.to step.before step.after step.at y ceased.state ceased.is) [
+        | inl here ↦
+            let same = here.1 in
+            let was = ceased.ceased in
+            let status = step.stays.status in
+            record { state = step.after; is = here.2; ceased = cc }
+        | inr there ↦ record { state = ceased.state; is = there; ceased = ceased.ceased }
+      ]))
+
+  pub frame_soft : ((t : List ℕ) (kind : Kind) → link_to step.after t ≡ Some kind → (link_to step.before t ≡ Some kind) ⊎ IsSoundLink s' t kind)
+      → AreSound s' frame.to step.messages → NamesSoft s → NamesSoft s'
+  frame_soft new sound soft = soft_kept s s' (frame_cores s s' number frame step) frame_softs links ways soft
+    where
+      links : (y t : List ℕ) (kind : Kind) → HasLink s' y t kind → HasLink s y t kind ⊎ IsSoundLink s' t kind
+      links y t kind link =
+          elim (node_before s s' frame.to step.before step.after step.at y link.state link.is) [
+            | inr there ↦ inl (record { state = link.state; is = there; link = link.link })
+            | inl here ↦
+                let now : link_to step.after t ≡ Some kind = rw (← here.1) link.link in
+                elim (new t kind now) [
+                  | inl old ↦ inl (record { state = step.before; is = here.2; link = old })
+                  | inr is ↦ inr is
+                ]
+          ]
+
+      ways : (from to : List ℕ) (body : Body) → IsUnderWay s' from to body → IsUnderWay s from to body ⊎ IsSoundBody s' from to body
+      ways from to body way =
+          elim (was_under_way s s' number frame step.sent step.taken from to body way) [
+            | inl old ↦ inl old
+            | inr sends ↦ inr (sent_sound s' frame.to step.words step.messages step.sent step.are sound from to body sends)
+          ]
+
+-- a link that stays isn't new
+pub not_new : (s : System) (before after : NodeState) → LinksStay before after → (t : List ℕ) (kind : Kind) → link_to after t ≡ Some kind
+    → (link_to before t ≡ Some kind) ⊎ IsSoundLink s t kind
+not_new s before after stay t kind now = inl (sym (stay t) ∙ now)
+
+pub plain_soft : (s s' : System) (number : ℕ) (frame : Frame) (plain : TakesPlainly s s' number frame)
+    → AreSound s' frame.to plain.step.messages → NamesSoft s → NamesSoft s'
+plain_soft s s' number frame plain sound soft =
+    frame_soft s s' number frame plain.step (not_new s' plain.step.before plain.step.after plain.links) sound soft
+
+pub ceased_soft : (s s' : System) (number : ℕ) (w x : List ℕ) (tell : TellFields) (watch : List Slot)
+    → TakesTellCeased s s' number w x tell watch → NamesSoft s → NamesSoft s'
+ceased_soft s s' number w x tell watch ceased soft =
+    frame_soft s s' number (record { from = w; to = x; body = tell_body tell watch }) ceased.step
+    (not_new s' ceased.step.before ceased.step.after ceased.links)
+    (rw ceased.answers (one_sound s' x (message w (Ack tell.session)) tt)) soft
+
+-- the joiner of the Tell is pinned, and hears of the node, which is a joiner
+pub joining_soft : (s s' : System) (number : ℕ) (w x : List ℕ) (tell : TellFields) (watch : List Slot)
+    → TakesTellJoining s s' number w x tell watch → IsJoiner s tell.joiner → IsJoiner s x → (x ≡ tell.joiner → ⊥)
+    → NamesSoft s → NamesSoft s'
+joining_soft s s' number w x tell watch joining joiner here apart soft =
+    frame_soft s s' number frame joining.step new sound soft
+  where
+    frame : Frame
+    frame = record { from = w; to = x; body = tell_body tell watch }
+
+    on : (y : List ℕ) → IsSoft s y → IsSoft s' y
+    on = frame_softs s s' number frame joining.step
+
+    new : (t : List ℕ) (kind : Kind) → link_to joining.step.after t ≡ Some kind
+        → (link_to joining.step.before t ≡ Some kind) ⊎ IsSoundLink s' t kind
+    new t kind now =
+        elim (joining.links t) [
+          | inr same ↦ inl (sym same ∙ now)
+          | inl is ↦
+              let pin : link_to joining.step.after t ≡ Some Pin = rw is joining.pinned in
+              let kind_is : kind ≡ Pin = cc in
+              inr (rw (kind_is, is) (on tell.joiner (inl joiner)))
+        ]
+
+    greets : (session : ℕ) → IsSoundBody s' x tell.joiner (Hello session false [])
+    greets session o (inl is) =
+        let name : o.name ≡ x = ap (λ o. o.name) is in
+        let says : o.settled ≡ false = ap (λ o. o.settled) is in
+        record {
+          core = λ no. absurd (true≢false (sym no ∙ says));
+          soft = λ yes. rw name (on x (inl here));
+          apart = λ same. apart (sym name ∙ same);
+        }
+    greets session o (inr none) = absurd none
+
+    sound : AreSound s' x joining.step.messages
+    sound =
+        elim joining.answers [
+          | inl ack ↦ rw ack (one_sound s' x (message w (Ack tell.session)) tt)
+          | inr hello ↦
+              rw hello.1 (one_sound s' x (message tell.joiner (Hello hello.0 false [])) (greets hello.0))
+        ]
+
+pub hello_soft : (s s' : System) (number : ℕ) (w b : List ℕ) (hello : HelloFields) → TakesHello s s' number w b hello → NamesSoft s
+    → NamesSoft s'
+hello_soft s s' number w b hello step soft =
+    frame_soft s s' number frame step.step new (rw step.answers (one_sound s' b (message w (Heard hello.session)) tt)) soft
+  where
+    frame : Frame
+    frame = record { from = w; to = b; body = hello_body hello }
+
+    by : (o : Offered) → IsSoundOffer s b o → (flag : _) → o.settled ≡ flag → IsSoundLink s' o.name (kind_offered o)
+    by o sound true says = rw says (frame_cores s s' number frame step.step o.name (sound.core says))
+    by o sound false says = rw says (frame_softs s s' number frame step.step o.name (sound.soft says))
+
+    new : (t : List ℕ) (kind : Kind) → link_to step.step.after t ≡ Some kind
+        → (link_to step.step.before t ≡ Some kind) ⊎ IsSoundLink s' t kind
+    new t kind now =
+        elim (step.new t kind now) [
+          | inl old ↦ inl old
+          | inr comes ↦
+              let way = taken_under_way s s' number frame step.step.sent step.step.taken in
+              let sound = soft.hellos w b hello way comes.offered comes.offers in
+              inr (rw (comes.kind_is, ← comes.name) (by comes.offered sound comes.offered.settled refl))
+        ]
+
+pub release_soft : (s s' : System) (number : ℕ) (t x : List ℕ) → TakesRelease s s' number t x → NamesSoft s → NamesSoft s'
+release_soft s s' number t x step soft =
+    frame_soft s s' number frame step.step new (rw step.silent (λ m none. absurd none)) soft
+  where
+    frame : Frame
+    frame = record { from = t; to = x; body = Release }
+
+    core : IsCoreNode s' t
+    core = frame_cores s s' number frame step.step t (release_core s s' number t x step soft)
+
+    new : (u : List ℕ) (kind : Kind) → link_to step.step.after u ≡ Some kind
+        → (link_to step.step.before u ≡ Some kind) ⊎ IsSoundLink s' u kind
+    new u kind now =
+        elim (step.others u) [
+          | inr same ↦ inl (sym same ∙ now)
+          | inl here ↦
+              let mine : link_to step.step.after t ≡ Some kind = sym (ap (λ v. link_to step.step.after v) here) ∙ now in
+              elim step.released [
+                | inl same ↦ inl (rw here (sym same ∙ mine))
+                | inr settles ↦
+                    elim settles.1 [
+                      | inl settled ↦ let kind_is : kind ≡ Settled = cc in inr (rw (kind_is, here) core)
+                      | inr dropped ↦ let none = dropped.0 in let no : None ≡ Some kind = sym none ∙ mine in cc
+                    ]
+              ]
+        ]
+
+pub forget_soft : (s s' : System) (number : ℕ) (n x : List ℕ) → TakesForget s s' number n x → NamesSoft s → NamesSoft s'
+forget_soft s s' number n x step soft =
+    frame_soft s s' number (record { from = n; to = x; body = Forget }) step.step new (rw step.silent (λ m none. absurd none)) soft
+  where
+    new : (u : List ℕ) (kind : Kind) → link_to step.step.after u ≡ Some kind
+        → (link_to step.step.before u ≡ Some kind) ⊎ IsSoundLink s' u kind
+    new u kind now =
+        elim (step.others u) [
+          | inr same ↦ inl (sym same ∙ now)
+          | inl here ↦
+              let mine : link_to step.step.after n ≡ Some kind = sym (ap (λ v. link_to step.step.after v) here) ∙ now in
+              elim step.forgotten [
+                | inl same ↦ inl (rw here (sym same ∙ mine))
+                | inr gone ↦ let none = gone.1 in let no : None ≡ Some kind = sym none ∙ mine in cc
+              ]
+        ]

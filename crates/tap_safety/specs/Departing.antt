@@ -1,0 +1,94 @@
+-- What is so while a node departs, and that nothing of it is left otherwise.
+use Rattle.std.specs.Prelude.{◌≡◌, ℕ, ◌<◌, true, List, [], ◌⊎◌, Option, None, Some}
+use Rattle.tap_name.specs.Prefix.{lcp}
+use Rattle.tap_name.specs.Settings.{SettingsValue}
+use Rattle.tap_name.specs.Names.{Among}
+use Rattle.tap_link.specs.declared.kind.Kind.{Kind}
+use Rattle.tap_link.specs.declared.kind.Kind.TheVariants.{Pin, Settled, Leaving as Marked}
+use Rattle.tap_wire.specs.declared.frame.Body.{Body}
+use Rattle.tap_wire.specs.declared.frame.Body.TheVariants.{Ack, Answer, Cast, CastAck, Done, Find, Forget, Gone, Heard, Hello, Leave, Left, Link, Release, Seek, Tell}
+use Rattle.tap_wire.specs.declared.frame.Frame.{Frame}
+use Rattle.tap_rule.specs.Node.{NodeState, link_to}
+use Rattle.tap_rule.specs.Node.Status.{Ceased as HasCeased, Gone as HasGone, Joining, Leaving}
+use Rattle.tap_safety.specs.Remembered.{Leaver}
+use Rattle.tap_safety.specs.System.{System, AmongFrames, HasLink, IsCoreNode, IsUnderWay}
+use Rattle.tap_safety.specs.Ties.{link_of, status_of}
+
+-- this node departs
+abbrev pub Departs : System → Leaver → Type 0
+Departs s leaver = s.departing ≡ Some leaver
+
+-- such a frame may be under way while a node departs: none of a join, and no lookup; nor, S12, a cast
+abbrev pub may_be_then : Body → Type 0
+may_be_then (Seek joiner) = ⊥
+may_be_then (Tell joiner prefix level session depth watch) = ⊥
+may_be_then (Hello session core links) = ⊥
+may_be_then (Heard session) = ⊥
+may_be_then (Ack session) = ⊥
+may_be_then Done = ⊥
+may_be_then (Find ticket object asker level) = ⊥
+may_be_then (Answer ticket server) = ⊥
+may_be_then (Cast cast level session depth word) = ⊥
+may_be_then (CastAck session) = ⊥
+may_be_then other = Unit
+
+-- one frame with this body is under way from x to t, and no other
+pub record HasOneFrame (s : System) (x t : List ℕ) (body : Body) : Type 0 where
+  pub number : ℕ
+  pub among : AmongFrames number (record { from = x; to = t; body = body }) s.frames
+  pub only : (m : ℕ) → AmongFrames m (record { from = x; to = t; body = body }) s.frames → m ≡ number
+
+-- a core node other than n is in the slot of n at a
+pub record HasOther (s : System) (a n : List ℕ) : Type 0 where
+  pub other : List ℕ
+  pub core : IsCoreNode s other
+  pub apart : other ≡ n → ⊥
+  pub near : lcp a n < lcp n other
+
+-- the replacement fits the slot of n at a, if another core node does
+abbrev pub FitsSlot : System → List ℕ → List ℕ → Option (List ℕ) → Type 0
+FitsSlot s a n None = HasOther s a n → ⊥
+FitsSlot s a n (Some r) = (r ≡ n → ⊥) × (lcp a n < lcp n r)
+
+-- a has a settled link in the slot of n, if another core node is in it
+pub record HasReplaced (s : System) (a n : List ℕ) : Type 0 where
+  pub marked : HasLink s a n Marked
+  pub filled : HasOther s a n → (to : List ℕ) × HasLink s a to Settled × (lcp a n < lcp n to)
+
+-- a holder is still to take its Leave, or has taken it and its answer is under way
+abbrev pub IsAwaited : System → List ℕ → List ℕ → Type 0
+IsAwaited s n a =
+    ((replacement : Option (List ℕ)) × HasOneFrame s n a (Leave replacement)) ⊎ (HasReplaced s a n × HasOneFrame s a n Left)
+
+-- while n leaves: whom it awaits were holders; its links are as at its start, and settled; and who has a link to it was a holder
+pub record WhileLeaving (s : System) (leaver : Leaver) (state : NodeState) : Type 0 where
+  pub some : state.awaited ≡ [] → ⊥
+  pub holders : (a : List ℕ) → Among a state.awaited → Among a leaver.holders
+  pub answers : (a : List ℕ) → Among a state.awaited → IsAwaited s leaver.name a
+  pub links : (t : List ℕ) → link_to state t ≡ leaver.links t
+  pub settled : (t : List ℕ) (kind : Kind) → link_to state t ≡ Some kind → kind ≡ Settled
+  pub linked : (y : List ℕ) (kind : Kind) → HasLink s y leaver.name kind → Among y leaver.holders
+
+-- Departure, with S10 to S12. While a node departs, no node joins, no table has a pin, no other node leaves or is marked, and only such frames
+-- are under way; the leaver leaves or is gone, and then each link to it is marked, and its Gone is under way.
+pub record WhileDeparting (s : System) (leaver : Leaver) : Type 0 where
+  pub joining : (x : List ℕ) → status_of s x ≡ Some Joining → ⊥
+  pub pins : (x t : List ℕ) → HasLink s x t Pin → ⊥
+  pub marked : (x t : List ℕ) → HasLink s x t Marked → t ≡ leaver.name
+  pub leaving : (x : List ℕ) → status_of s x ≡ Some Leaving → x ≡ leaver.name
+  pub frames : (x t : List ℕ) (body : Body) → IsUnderWay s x t body → may_be_then body
+  pub ends : (status_of s leaver.name ≡ Some Leaving) ⊎ (status_of s leaver.name ≡ Some HasGone)
+  pub goes : (state : NodeState) → s.node leaver.name ≡ Some state → state.status ≡ Leaving → WhileLeaving s leaver state
+  pub gone : status_of s leaver.name ≡ Some HasGone → (y : List ℕ) (kind : Kind) → HasLink s y leaver.name kind
+      → HasReplaced s y leaver.name × IsUnderWay s leaver.name y Gone
+  pub leaves : (x a : List ℕ) (replacement : Option (List ℕ)) → IsUnderWay s x a (Leave replacement)
+      → (x ≡ leaver.name) × HasLink s a x Settled × FitsSlot s a x replacement
+  pub lefts : (a x : List ℕ) → IsUnderWay s a x Left → (x ≡ leaver.name) × HasReplaced s a x
+  pub quiet : (x t : List ℕ) (version : ℕ) → IsUnderWay s x t (Link version true) → (t ≡ leaver.name → ⊥) × (x ≡ leaver.name → ⊥)
+  pub releases : (x t : List ℕ) → IsUnderWay s x t Release → (t ≡ leaver.name → ⊥) × (x ≡ leaver.name → ⊥)
+  pub forgets : (x t : List ℕ) → IsUnderWay s x t Forget → ⊥
+
+pub record Departure (s : System) : Type 0 where
+  pub during : (leaver : Leaver) → Departs s leaver → WhileDeparting s leaver
+  pub marked : (x t : List ℕ) → s.departing ≡ None → HasLink s x t Marked → ⊥
+  pub leaving : (x : List ℕ) → s.departing ≡ None → status_of s x ≡ Some Leaving → ⊥

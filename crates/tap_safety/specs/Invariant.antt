@@ -1,0 +1,41 @@
+-- The invariant of a system: its parts.
+use Rattle.tap_name.specs.Settings.{SettingsValue}
+use Rattle.tap_safety.specs.System.{System}
+use Rattle.tap_safety.specs.Step.{AreNumbered}
+use Rattle.tap_safety.specs.Soft.{NamesSoft}
+use Rattle.tap_safety.specs.Seeking.{AreOfSeekers, Seeking}
+use Rattle.tap_safety.specs.Sessions.{AreExact}
+use Rattle.tap_safety.specs.Joins.{AreOfJoiners, EndsOnce}
+use Rattle.tap_safety.specs.Tells.{TellsAreSound}
+use Rattle.tap_safety.specs.Filled.{AreFilled}
+use Rattle.tap_safety.specs.Ceased.{Ceased}
+use Rattle.tap_safety.specs.Ties.{Ties, Versions}
+use Rattle.tap_safety.specs.Bookkeeping.{AreStamped, Await, HasCore, HaveEnds, HavePlaces, TellsAreDeeper}
+use Rattle.tap_safety.specs.Counted.{AreCountedSo}
+use Rattle.tap_safety.specs.Departing.{Departure}
+
+pub record Invariant (p : SettingsValue) (s : System) : Type 0 where
+  -- Settled, Seeking, Sessions
+  pub soft : NamesSoft s
+  pub seeking : Seeking s
+  pub exact : AreExact s
+  pub of_joiners : AreOfJoiners s
+  pub tells : TellsAreSound p s
+  pub counted : AreCountedSo s
+  -- Covered, Meet, Cover, Low and Hole-free
+  pub filled : AreFilled p s
+  -- Ceased, Ties, and Departure with S10 to S12
+  pub ceased : Ceased s
+  pub ties : Ties s
+  pub departure : Departure s
+  -- S1 to S9, S13, and the numbers of the frames
+  pub seekers : AreOfSeekers s
+  pub ends_once : EndsOnce s
+  pub await : Await s
+  pub deeper : TellsAreDeeper s
+  pub places : HavePlaces s
+  pub ends : HaveEnds s
+  pub versions : Versions s
+  pub stamped : AreStamped s
+  pub has_core : HasCore s
+  pub numbered : AreNumbered s
