@@ -547,20 +547,18 @@ fn makes_a_scenario(rt: HostRuntime) -> Result<(), Fail> {
     let alloc = rt.alloc();
     let text = text_with(alloc, "frames", "frames = 9\n")?;
     let scenario = read(alloc, text.as_bytes()).map_err(|_| "a scenario")?;
-    let (_, object, asker) = named()?;
-    let find = Step::Find { object, asker };
     let made = Scenario::of(
         alloc,
         &scenario.settings(),
         scenario.frames(),
         scenario.members(),
-        &[find, Step::Settle],
+        &[Step::Deliver { place: 3 }, Step::Settle],
     )
     .map_err(|_| "no memory")?;
     assert_eq!(rt; made.frames(), 9);
     assert_eq!(rt; made.members().len(), 5);
     assert_eq!(rt; made.step_count(), 2);
-    assert_eq!(rt; made.step_at(0), find);
+    assert_eq!(rt; made.step_at(0), Step::Deliver { place: 3 });
     Ok(())
 }
 
