@@ -1,5 +1,5 @@
 -- What Heard and Ack change.
-use Rattle.std.proofs.Common.{◌≡◌, ◌==◌, ℕ, ◌<◌, List, [], ◌∷◌, Option, None, Some, true, false, arith, refl, sym, ap, subst, ◌∙◌, inl, inr, eqb-true, if◌then◌else◌}
+use Rattle.std.proofs.Common.{◌≡◌, ◌==◌, ℕ, ◌<◌, [], ◌∷◌, Option, None, Some, true, false, arith, refl, sym, ap, subst, ◌∙◌, inl, inr, eqb-true, if◌then◌else◌}
 use Rattle.std.specs.Option.{option_and_then}
 use Rattle.std.proofs.lemmas.Bool.{cases_Bool}
 use Rattle.std.proofs.lemmas.Bool.Decides.{eqb_tells}

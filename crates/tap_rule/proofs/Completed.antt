@@ -1,5 +1,5 @@
 -- The end of a step, from that of its rule.
-use Rattle.std.proofs.Common.{◌≡◌, ◌⊎◌, ℕ, ◌+◌, Bool, List, [], length, map, Option, None, Some, true, false, arith, refl, sym, ap, subst, ◌∙◌, inl, inr}
+use Rattle.std.proofs.Common.{◌≡◌, ◌⊎◌, ℕ, ◌+◌, Bool, List, [], length, map, Option, None, Some, true, false, arith, sym, ap, subst, ◌∙◌, inl, inr}
 use Rattle.std.proofs.lemmas.List.{append-nil}
 use Rattle.tap_table.specs.Ties.{TiesValue, stamp_after, tie_where}
 use Rattle.tap_depart.specs.Told.{offer_tells_if}

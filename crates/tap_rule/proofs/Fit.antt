@@ -21,7 +21,7 @@ use Rattle.tap_table.specs.ByName.{targets_by_name}
 use Rattle.tap_depart.specs.Leaving.{names_but}
 use Rattle.tap_wire.specs.declared.frame.Frame.{Frame}
 use Rattle.tap_wire.specs.declared.frame.Body.{Body}
-use Rattle.tap_wire.specs.declared.frame.Body.TheVariants.{Seek, Tell, Hello, Heard, Ack, Done, Release, Link, Lay, Find, Answer, Leave, Left, Gone, Forget, Cast, CastAck}
+use Rattle.tap_wire.specs.declared.frame.Body.TheVariants.{Seek, Tell, Hello, Leave, Cast}
 use Rattle.tap_rule.specs.Node.{NodeState, level_of, link_to, name_of}
 use Rattle.tap_rule.specs.Strange.{is_leaving, is_no_pin, is_own_name, is_strange, is_strange_body, is_strange_seek, is_strange_tell, is_too_many, name_if, names_to_link, with_names}
 use Rattle.tap_rule.specs.Fit.{CouldLink, IsFit, IsFitBody, IsFitSeek, IsFitTell, MayLink}

@@ -1,5 +1,5 @@
 -- What the steps about pointers and lookups change.
-use Rattle.std.proofs.Common.{◌≡◌, ◌⊎◌, ℕ, List, [], Option, None, Some, Bool, arith, refl, sym, ◌∙◌, inl, inr}
+use Rattle.std.proofs.Common.{◌≡◌, ◌⊎◌, ℕ, List, Option, None, Some, Bool, arith, refl, sym, ◌∙◌, inl, inr}
 use Rattle.tap_table.specs.declared.next.Next.{Next}
 use Rattle.tap_table.specs.declared.next.Next.TheVariants.{Root, Hop}
 use Rattle.tap_pointer.specs.Pointers.{least_server, pair_of}

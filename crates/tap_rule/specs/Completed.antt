@@ -1,5 +1,5 @@
 -- How a step ends: its pointers, its stamp, its news and all that it sends, in order; and what it leaves alone.
-use Rattle.std.specs.Prelude.{◌≡◌, ℕ, ◌+◌, false, List, [], length, map}
+use Rattle.std.specs.Prelude.{◌≡◌, ◌+◌, false, List, [], length, map}
 use Rattle.tap_table.specs.declared.tie.Tie.{Tie}
 use Rattle.tap_pointer.specs.declared.lay.Lay.{Lay}
 use Rattle.tap_pointer.specs.Pointers.{PointersValue}

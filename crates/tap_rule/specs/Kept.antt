@@ -1,5 +1,5 @@
 -- What each node keeps, whatever happens at it.
-use Rattle.std.specs.Prelude.{◌≡◌, List, length, All}
+use Rattle.std.specs.Prelude.{◌≡◌, length, All}
 use Rattle.std.specs.List.Sorted.{IsStrictlySortedBy}
 use Rattle.std.specs.Map.{keys_of}
 use Rattle.std.specs.Ordering.{nat_cmp}

@@ -13,7 +13,7 @@ use Rattle.tap_wire.specs.declared.frame.Frame.{Frame}
 use Rattle.tap_wire.specs.declared.frame.Body.{Body}
 use Rattle.tap_wire.specs.declared.frame.Body.TheVariants.{Seek, Tell, Hello, Done, Release, Link, Lay, Find, Answer, Leave, Left, Gone, Forget, Ack, Cast, CastAck}
 use Rattle.tap_wire.specs.declared.frame.TellFields.{TellFields}
-use Rattle.tap_rule.specs.Node.{NodeState, Status, joiner, member_at_rest, name_of, settings_of}
+use Rattle.tap_rule.specs.Node.{NodeState, joiner, member_at_rest, name_of, settings_of}
 use Rattle.tap_rule.specs.Node.Status.{Joining, Core, Leaving, Ceased}
 pub use Rattle.tap_rule.specs.Node.{IsRunning}
 use Rattle.tap_rule.specs.Event.{Acted, Event, Start}
