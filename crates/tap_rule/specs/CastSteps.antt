@@ -29,7 +29,7 @@ IsCastAnswered node (Root name) cast reached acted = acted.news ≡ cast_news ca
 IsCastAnswered node (Node name session) cast reached acted =
     (acted.news ≡ cast_news cast reached false) × IsAmong (message_frame (name_of node) (message name (CastAck session))) acted.sent
 
--- and nothing else is sent but Lays: to the root nothing at all
+-- and this answer and Lays are all that is sent; a root is sent nothing
 abbrev pub IsOnlyAnswered : NodeState → Parent → Acted → Type 0
 IsOnlyAnswered node (Root name) acted = IsCompleted node node.pointers [] [] acted.news acted
 IsOnlyAnswered node (Node name session) acted =

@@ -87,7 +87,7 @@ abbrev pub IsParentTold : NodeState → Parent → List Frame → Type 0
 IsParentTold node (Root joiner) sent = IsAmong (message_frame (name_of node) (message joiner Done)) sent
 IsParentTold node (Node name session) sent = IsAmong (message_frame (name_of node) (message name (Ack session))) sent
 
--- and nothing else is sent but Lays: these words before, with this answer, at a node that hasn't ended
+-- and these words, this answer and Lays are all that is sent, by a node that hasn't ended
 abbrev pub IsParentAnswered : NodeState → List Tie → Parent → Acted → Type 0
 IsParentAnswered node words (Root joiner) acted = IsCompleted node node.pointers words (message joiner Done ∷ []) Nothing acted
 IsParentAnswered node words (Node name session) acted =
