@@ -1,9 +1,11 @@
+ghost use Rattle.std.specs.Prelude.{◌≡◌};
+
 use crate::{CastFields, FrameList};
 use std::process::Abort;
 use std::test::Fail;
 use tap_cast::CastTarget;
 use tap_multicast::Target;
-use tap_name::{List, Settings, Slot, read_name};
+use tap_name::{List, Name, Settings, Slot, read_name};
 use tap_pointer::Lay;
 use tap_table::Tie;
 use tap_watch::Watch;
@@ -25,6 +27,12 @@ fn check(rt: &impl Abort, list: FrameList, frames: &[&[u8]]) {
     }
 }
 
+fn tie(to: Name, version: u32, on: bool) -> Tie
+    ensures { result ≡ record { to = to; version = version; on = on } }
+{
+    Tie { to, version, on }
+}
+
 // The Links ascend by receiver, and two to one receiver stay in their order.
 #[test]
 fn links(rt: HostRuntime) -> Result<(), Fail> {
@@ -32,12 +40,13 @@ fn links(rt: HostRuntime) -> Result<(), Fail> {
     let from = read_name(&settings, b"012")?;
     let far = read_name(&settings, b"301")?;
     let near = read_name(&settings, b"010")?;
-    let mut words = List::new(rt.alloc());
-    for (to, version, on) in [(far, 7, true), (near, 258, false), (near, 9, true)] {
-        words.push(Tie { to, version, on })?;
-    }
+    let words = vec![in rt.alloc();
+        tie(far, 7, true),
+        tie(near, 258, false),
+        tie(near, 9, true)
+    ]?;
     let mut list = FrameList::new(rt.alloc());
-    list.send_links(&settings, &from, words)?;
+    list.send_links(&settings, &from, List::from_vec(words))?;
     check(
         &rt,
         list,
@@ -57,15 +66,10 @@ fn one_link(rt: HostRuntime) -> Result<(), Fail> {
     let to = read_name(&settings, b"301")?;
     let mut list = FrameList::new(rt.alloc());
     list.send_link(&settings, &from, None)?;
-    let word = Tie {
-        to,
-        version: 1,
-        on: false,
-    };
+    let word = tie(to, 1, false);
     list.send_link(&settings, &from, Some(word))?;
-    let mut words = List::new(rt.alloc());
-    words.push(word)?;
-    list.send_links(&settings, &from, words)?;
+    let words = vec![in rt.alloc(); word]?;
+    list.send_links(&settings, &from, List::from_vec(words))?;
     let frame: &[u8] = &[1, 8, 0, 5, 0, 1, 2, 3, 0, 1, 0, 0, 0, 1, 0];
     check(&rt, list, &[frame, frame]);
     Ok(())
@@ -78,9 +82,7 @@ fn messages(rt: HostRuntime) -> Result<(), Fail> {
     let from = read_name(&settings, b"000000001")?;
     let one = read_name(&settings, b"000000010")?;
     let other = read_name(&settings, b"100000000")?;
-    let mut names = List::new(rt.alloc());
-    names.push(other)?;
-    names.push(one)?;
+    let names = List::from_vec(vec![in rt.alloc(); other, one]?);
     let mut list = FrameList::new(rt.alloc());
     list.send(&settings, &from, &one, Body::Ack { session: 259 })?;
     list.send_each(&settings, &from, Body::Release, &names)?;
@@ -109,20 +111,22 @@ fn tells(rt: HostRuntime) -> Result<(), Fail> {
     let from = read_name(&settings, b"012")?;
     let mut watch = Watch::new(rt.alloc());
     watch.push_last(Slot { level: 0, digit: 2 })?;
-    let mut targets = List::new(rt.alloc());
-    for (name, level) in [(b"010", 3), (b"301", 1)] {
-        let to = read_name(&settings, name)?;
-        targets.push(Target { to, level })?;
-    }
+    let near = read_name(&settings, b"010")?;
+    let far = read_name(&settings, b"301")?;
+    let joiner = read_name(&settings, b"120")?;
+    let targets = vec![in rt.alloc();
+        Target { to: near, level: 3 },
+        Target { to: far, level: 1 }
+    ]?;
     let fields = TellFields {
-        joiner: read_name(&settings, b"120")?,
+        joiner,
         prefix: 0,
         level: 1,
         session: 5,
         depth: 2,
     };
     let mut list = FrameList::new(rt.alloc());
-    list.send_tells(&settings, &from, &fields, &watch, &targets)?;
+    list.send_tells(&settings, &from, &fields, &watch, &List::from_vec(targets))?;
     check(
         &rt,
         list,
@@ -142,11 +146,12 @@ fn tells(rt: HostRuntime) -> Result<(), Fail> {
 fn casts(rt: HostRuntime) -> Result<(), Fail> {
     let settings = Settings::new(4, 3, 2).ok_or("settings")?;
     let from = read_name(&settings, b"012")?;
-    let mut targets = List::new(rt.alloc());
-    for (name, level) in [(b"010", 3), (b"301", 1)] {
-        let to = read_name(&settings, name)?;
-        targets.push(CastTarget { to, level })?;
-    }
+    let near = read_name(&settings, b"010")?;
+    let far = read_name(&settings, b"301")?;
+    let targets = vec![in rt.alloc();
+        CastTarget { to: near, level: 3 },
+        CastTarget { to: far, level: 1 }
+    ]?;
     let fields = CastFields {
         cast: 6,
         session: 5,
@@ -154,7 +159,7 @@ fn casts(rt: HostRuntime) -> Result<(), Fail> {
         word: Bytes::copy_of(rt.alloc(), b"h9")?,
     };
     let mut list = FrameList::new(rt.alloc());
-    list.send_casts(&settings, &from, fields, &targets)?;
+    list.send_casts(&settings, &from, fields, &List::from_vec(targets))?;
     check(
         &rt,
         list,
@@ -174,17 +179,25 @@ fn casts(rt: HostRuntime) -> Result<(), Fail> {
 fn lays(rt: HostRuntime) -> Result<(), Fail> {
     let settings = Settings::new(4, 3, 2).ok_or("settings")?;
     let from = read_name(&settings, b"012")?;
-    let mut lays = List::new(rt.alloc());
-    for (name, version, on) in [(b"301", 4, false), (b"010", 5, true)] {
-        lays.push(Lay {
-            to: read_name(&settings, name)?,
-            object: read_name(&settings, b"333")?,
-            server: read_name(&settings, b"120")?,
-            level: 1,
-            version,
-            on,
-        })?;
-    }
+    let near = read_name(&settings, b"010")?;
+    let far = read_name(&settings, b"301")?;
+    let object = read_name(&settings, b"333")?;
+    let server = read_name(&settings, b"120")?;
+    let off = Lay {
+        to: far,
+        object,
+        server,
+        level: 1,
+        version: 4,
+        on: false,
+    };
+    let on = Lay {
+        to: near,
+        version: 5,
+        on: true,
+        ..off
+    };
+    let lays = List::from_vec(vec![in rt.alloc(); off, on]?);
     let mut list = FrameList::new(rt.alloc());
     list.send_lays(&settings, &from, &lays)?;
     check(
