@@ -1,0 +1,4 @@
+pub mod Stable
+pub mod ByReceiver
+pub mod Steps
+pub mod Spellings
