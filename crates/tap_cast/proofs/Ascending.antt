@@ -12,8 +12,9 @@ use Rattle.tap_link.specs.LinkSet.{is_pinned, is_settled, least_settled}
 use Rattle.tap_table.specs.ByName.{slots_by_name, targets_of}
 use Rattle.tap_table.specs.Table.{IsTable, SlotLinks, TableValue, links_at}
 use Rattle.tap_table.proofs.Targets.{targets-ascending}
+use Rattle.tap_table.specs.Levels.{is_between}
 use Rattle.tap_cast.specs.declared.target.CastTarget.{CastTarget}
-use Rattle.tap_cast.specs.Targets.{cast_targets, is_level, pins_of, primary_or_pins, slot_targets, target_at, targets_between}
+use Rattle.tap_cast.specs.Targets.{cast_targets, pins_of, primary_or_pins, slot_targets, told_at, targets_between}
 use Rattle.tap_cast.proofs.Thinned.{AllPairs-thinned, pairs-first, pairs-nil, pairs-rest}
 
 abbrev told_names : List CastTarget → List (List ℕ)
@@ -24,7 +25,7 @@ map-flat_map : {A X Y : Type 0} (f : X → Y) (g : A → List X) (parts : List A
 map-flat_map f g [] = refl
 map-flat_map f g (a ∷ parts) = map-append f (g a) (flat_map g parts) ∙ ap (λ l. map f (g a) ++ l) (map-flat_map f g parts)
 
-names_at : (level : ℕ) (names : List (List ℕ)) → told_names (map (target_at level) names) ≡ names
+names_at : (level : ℕ) (names : List (List ℕ)) → told_names (map (told_at level) names) ≡ names
 names_at level [] = refl
 names_at level (name ∷ names) = ap (λ l. name ∷ l) (names_at level names)
 
@@ -73,7 +74,7 @@ module _ (t : TableValue) (from to : ℕ) where
   -- what a slot tells is some of its links, in their order
   all_told_in : (slot : Slot) (P : List ℕ → Type 0) → All P (targets_of (links_at t slot)) → All P (told_in slot)
   all_told_in slot P all =
-      elim (cases_Bool (is_level from to slot.level)) [
+      elim (cases_Bool (is_between from to slot.level)) [
         | inl between ↦ rw between (subst (All P) (sym (told_of slot)) (by_primary (least_settled (links_at t slot)) refl))
         | inr beyond ↦ rw beyond (All-nil P)
       ]
@@ -84,7 +85,7 @@ module _ (t : TableValue) (from to : ℕ) where
 
   told_in_ascends : (slot : Slot) → AreAscending (targets_of (links_at t slot)) → AreAscending (told_in slot)
   told_in_ascends slot up =
-      elim (cases_Bool (is_level from to slot.level)) [
+      elim (cases_Bool (is_between from to slot.level)) [
         | inl between ↦ rw between (subst AreAscending (sym (told_of slot)) (by_primary (least_settled (links_at t slot))))
         | inr beyond ↦ rw beyond (pairs-nil IsBelow)
       ]

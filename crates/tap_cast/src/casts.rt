@@ -1,5 +1,6 @@
 ghost use Rattle.std.specs.Prelude.{◌≡◌, ◌==◌, ◌≤◌, ℕ, [], if◌then◌else◌, not, Some, IfOk, OnOk, OnErr};
-ghost use Rattle.tap_cast.specs.Casts.{is_kept, level_kept, sent_from, turn_of, with_cast};
+ghost use Rattle.tap_table.specs.Levels.{is_kept, sent_from};
+ghost use Rattle.tap_cast.specs.Casts.{level_of_cast, turn_of, with_cast};
 
 use crate::target::CastTarget;
 use crate::targets::cast_targets;
@@ -57,7 +58,7 @@ impl Casts {
 
     /// The level that is kept of a cast, `None` exactly if no copy of it was met.
     pub fn level_of(&self, cast: u32) -> Option<u8>
-        ensures { result ≡ level_kept self.now cast }
+        ensures { result ≡ level_of_cast self.now cast }
     {
         self.levels.get(&cast).copied()
     }

@@ -3,7 +3,8 @@ ghost use Rattle.std.specs.List.{flat_map};
 ghost use Rattle.tap_link.specs.LinkSet.{least_settled};
 ghost use Rattle.tap_table.specs.ByName.{slots_in};
 ghost use Rattle.tap_table.specs.Table.{links_at};
-ghost use Rattle.tap_cast.specs.Targets.{cast_targets, is_level, pins_of, primary_or_pins, slot_targets, target_at};
+ghost use Rattle.tap_table.specs.Levels.{is_between};
+ghost use Rattle.tap_cast.specs.Targets.{cast_targets, pins_of, primary_or_pins, slot_targets, told_at};
 
 use crate::target::CastTarget;
 use std::alloc::Global;
@@ -24,7 +25,7 @@ pub(crate) fn cast_targets(
     let ranges = 2 * table.settings().digits() as usize;
     for i in 0..ranges {
         let range = table.range_by_name(i);
-        if is_level(from, to, range.level) {
+        if is_between(from, to, range.level) {
             push_range(&mut targets, table, range)?;
         }
     }
@@ -32,8 +33,8 @@ pub(crate) fn cast_targets(
 }
 
 // Whether a level is this one or above, and below another.
-fn is_level(from: u8, to: u8, level: u8) -> bool
-    ensures { result ≡ is_level from to level }
+fn is_between(from: u8, to: u8, level: u8) -> bool
+    ensures { result ≡ is_between from to level }
 {
     from <= level && level < to
 }
@@ -63,7 +64,7 @@ fn push_range(
 // Adds the targets of a slot with these links: the primary, or if there is none all pins.
 fn push_slot(targets: &mut Vec<CastTarget>, level: u8, set: &LinkSet<Name>) -> Result<(), NoMemory>
     ensures { OnOk result (targets.new.items ≡ targets.old.items
-        ++ map (target_at level) (primary_or_pins (least_settled set.now.links) set.now.links)) }
+        ++ map (told_at level) (primary_or_pins (least_settled set.now.links) set.now.links)) }
 {
     match set.primary() {
         Some(to) => {
@@ -76,7 +77,7 @@ fn push_slot(targets: &mut Vec<CastTarget>, level: u8, set: &LinkSet<Name>) -> R
 
 // Adds all pins of these links.
 fn push_pins(targets: &mut Vec<CastTarget>, level: u8, set: &LinkSet<Name>) -> Result<(), NoMemory>
-    ensures { OnOk result (targets.new.items ≡ targets.old.items ++ map (target_at level) (pins_of set.now.links)) }
+    ensures { OnOk result (targets.new.items ≡ targets.old.items ++ map (told_at level) (pins_of set.now.links)) }
 {
     for at in 0..set.len() {
         if set.kind_at(at).is_pin() {

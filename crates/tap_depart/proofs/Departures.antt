@@ -1,25 +1,19 @@
 -- The notices of a departure, and whom the leaving node awaits.
-use Rattle.std.proofs.Common.{◌≡◌, ◌≢◌, ◌↔◌, ℕ, ◌+◌, zero, suc, Bool, true, false, not, Some, List, [], ◌∷◌, length, map, filter, slice_get, arith, ap, sym, refl, ◌∙◌, inl, inr}
+use Rattle.std.proofs.Common.{◌≡◌, ◌≢◌, ◌↔◌, ℕ, Bool, true, false, not, Some, List, [], ◌∷◌, map, filter, slice_get, arith, ap, sym, refl, ◌∙◌, inl, inr}
 use Rattle.std.specs.Prelude.{bytes_eq}
 use Rattle.std.specs.Option.{option_map}
 use Rattle.std.proofs.lemmas.Bool.{cases_Bool}
 use Rattle.std.proofs.lemmas.List.{get_or-map, length-map}
 use Rattle.std.proofs.lemmas.List.Kept.{AllPairs-filter}
-use Rattle.std.proofs.lemmas.Option.{get_or_from_slice_get, slice_get-map, slice_get_within}
+use Rattle.std.proofs.lemmas.Option.{slice_get-map}
 use Rattle.std.proofs.lemmas.Slice.Eq.{bytes_eq-Decides}
 use Rattle.tap_name.specs.Names.{Among}
 use Rattle.tap_name.specs.Order.{AreAscending, IsBelow}
-use Rattle.tap_name.proofs.Names.{among-filter, among-filter_from, among_item}
-use Rattle.tap_link.specs.declared.kind.Kind.{Kind}
-use Rattle.tap_link.specs.Entry.{Entry as Link}
+use Rattle.tap_name.proofs.Names.{among-filter, among-filter_from}
 use Rattle.tap_register.specs.declared.registers.Entry.{Entry}
-use Rattle.tap_table.specs.declared.tie.Tie.{Tie}
-use Rattle.tap_table.specs.ByName.{by_name, targets_by_name}
-use Rattle.tap_table.specs.Table.{IsTable, TableValue, kind_in}
-use Rattle.tap_table.specs.Ties.{AreTies, TiesValue, holders_on, off_ties}
-use Rattle.tap_table.proofs.ByName.{found_by_name}
-use Rattle.tap_table.proofs.Targets.{target_is_linked}
-use Rattle.tap_depart.specs.Leaving.{LeavingValue, left_by, names_but, notice_for, started}
+use Rattle.tap_table.specs.Table.{TableValue}
+use Rattle.tap_table.specs.Ties.{AreTies, TiesValue, holders_on}
+use Rattle.tap_depart.specs.Leaving.{LeavingValue, left_by, names_but, notice_for, started_leaving}
 
 abbrev Word : Type 0
 Word = Entry (List ℕ) Bool
@@ -40,11 +34,11 @@ notices_to : (t : TableValue) (holders : List (List ℕ)) → map (λ n. n.to) (
 notices_to t [] = refl
 notices_to t (holder ∷ holders) = ap (λ l. holder ∷ l) (notices_to t holders)
 
-pub notices_are_for : (ties : TiesValue) → map (λ n. n.to) (started ties).notices ≡ holders_on ties
+pub notices_are_for : (ties : TiesValue) → map (λ n. n.to) (started_leaving ties).notices ≡ holders_on ties
 notices_are_for ties = notices_to ties.table (holders_on ties)
 
 pub notice_at : (ties : TiesValue) (i : ℕ) (holder : List ℕ) → slice_get (holders_on ties) i ≡ Some holder
-    → slice_get (started ties).notices i ≡ Some (notice_for ties.table holder)
+    → slice_get (started_leaving ties).notices i ≡ Some (notice_for ties.table holder)
 notice_at ties i holder got =
     slice_get-map (notice_for ties.table) (holders_on ties) i ∙ ap (option_map (notice_for ties.table)) got
 

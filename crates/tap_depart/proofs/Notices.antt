@@ -14,13 +14,13 @@ use Rattle.tap_link.specs.LinkSet.{least_settled}
 use Rattle.tap_link.proofs.TargetKinds.{kind_marked, kind_offered}
 use Rattle.tap_table.specs.Table.{TableValue, has_room_near, kind_in, name_cmp, place_of, slot_number}
 use Rattle.tap_table.specs.declared.tie.Tie.{Tie}
-use Rattle.tap_table.specs.Ties.{AreTies, TiesValue, marked, offer_tells, offered, tie_where}
+use Rattle.tap_table.specs.Ties.{AreTies, TiesValue, marked, offer_tells, offered}
 use Rattle.tap_table.proofs.Fitting.{slot_of_other}
 use Rattle.tap_table.proofs.LookUps.{by_rule, kind_in-marked, kind_in-offered, of_itself, of_others}
-use Rattle.tap_table.proofs.Near.{tied_names}
+use Rattle.tap_table.proofs.NewLinks.{link_word, offered_rule_new, word_given}
 use Rattle.tap_table.proofs.Primaries.{full_has_primary, primary_near, primary_near-offered}
 use Rattle.tap_table.proofs.TiesKept.{AreTies-marked, AreTies-offered}
-use Rattle.tap_depart.specs.Told.{has_settled_near, offer_tells_if, offered_if, taken_in, told, told_tells}
+use Rattle.tap_depart.specs.Told.{has_settled_near, offer_tells_if, offered_if, taken_in, told_leave, told_leave_tells}
 
 neither : (a b : Bool) → (a || b) ≡ false → (a ≡ false) × (b ≡ false)
 neither true b is = cc
@@ -70,28 +70,10 @@ unlinked_kind name other (Some kind) is =
     never_unlinked Settled is = cc
     never_unlinked Leaving is = cc
 
--- the word for a node that there is a link to it, with the number after this one
-abbrev link_word : ℕ → List ℕ → Tie
-link_word last name = record { to = name; version = last + 1; on = true }
-
--- an offer gives its word if there was no link and there is room, and makes a link of no other name
-offer_given : (found : Option Kind) (room : Bool) (last : ℕ) (name : List ℕ) (tie : Tie)
-    → tie_where (is_none found && room) name (last + 1) true ≡ Some tie → (found ≡ None) × (room ≡ true) × (tie ≡ link_word last name)
-offer_given None true last name tie is = let same : link_word last name ≡ tie = cc in (refl, refl, sym same)
-offer_given None false last name tie is = cc
-offer_given (Some kind) room last name tie is = cc
-
-offered_new : (name other : List ℕ) (room : Bool) (kind : Kind) → by_rule name other (kind_offered room) None ≡ Some kind
-    → (other ≡ name) × (room ≡ true)
-offered_new name other room kind is =
-    elim (cases_Bool (is_eq (name_cmp other name))) [
-      | inl tied ↦ (tied_names other name tied, has_room room (rw tied at is))
-      | inr apart ↦ let wrong : None ≡ Some kind = rw apart at is in cc
-    ]
-  where
-    has_room : (room : Bool) → kind_offered room None ≡ Some kind → room ≡ true
-    has_room true is = refl
-    has_room false is = cc
+-- an offer is told if there was no link and there is room
+offer_told : (found : Option Kind) (room : Bool) → (is_none found && room) ≡ true → (found ≡ None) × (room ≡ true)
+offer_told None room is = (refl, is)
+offer_told (Some kind) room is = cc
 
 -- the word of a holder for the replacement that it took, with the number after the stamp's last: it had no link to it, and has a
 -- settled one now
@@ -114,33 +96,33 @@ module _ (ties : TiesValue) (leaver : List ℕ) (replacement : Option (List ℕ)
   -- either nothing is offered, or the replacement that is taken, which is told accordingly
   tells_cases : (P : TiesValue → Option Tie → Type 0) (last : ℕ) → P after None
       → ((name : List ℕ) → taken_in after leaver replacement ≡ Some name → P (offered after name) (offer_tells after last name))
-      → P (told ties leaver replacement) (told_tells ties last leaver replacement)
+      → P (told_leave ties leaver replacement) (told_leave_tells ties last leaver replacement)
   tells_cases P last here there = by_taken (taken_in after leaver replacement) refl
     where
       by_taken : (taken : Option (List ℕ)) → taken_in after leaver replacement ≡ taken
-          → P (told ties leaver replacement) (told_tells ties last leaver replacement)
+          → P (told_leave ties leaver replacement) (told_leave_tells ties last leaver replacement)
       by_taken None is = subst (λ found. P (offered_if after found) (offer_tells_if after last found)) (sym is) here
       by_taken (Some name) is = subst (λ found. P (offered_if after found) (offer_tells_if after last found)) (sym is) (there name is)
 
   told_cases : (P : TiesValue → Type 0) → P after
       → ((name : List ℕ) → taken_in after leaver replacement ≡ Some name → P (offered after name))
-      → P (told ties leaver replacement)
+      → P (told_leave ties leaver replacement)
   told_cases P here there = tells_cases (λ t word. P t) 0 here there
 
   -- what ties keep is kept; owner, settings and holders stay
-  pub AreTies-told : AreTies (told ties leaver replacement)
+  pub AreTies-told : AreTies (told_leave ties leaver replacement)
   AreTies-told =
       told_cases AreTies after_are (λ name taken.
       let parts = taken_parts after leaver replacement name taken in
       AreTies-offered after name after_are (given name parts.0) parts.2)
 
-  pub told_owner : (told ties leaver replacement).table.owner ≡ ties.table.owner
+  pub told_owner : (told_leave ties leaver replacement).table.owner ≡ ties.table.owner
   told_owner = told_cases (λ t. t.table.owner ≡ ties.table.owner) refl (λ name taken. refl)
 
-  pub told_settings : (told ties leaver replacement).table.settings ≡ ties.table.settings
+  pub told_settings : (told_leave ties leaver replacement).table.settings ≡ ties.table.settings
   told_settings = told_cases (λ t. t.table.settings ≡ ties.table.settings) refl (λ name taken. refl)
 
-  pub told_holders : (told ties leaver replacement).holders ≡ ties.holders
+  pub told_holders : (told_leave ties leaver replacement).holders ≡ ties.holders
   told_holders = told_cases (λ t. t.holders ≡ ties.holders) refl (λ name taken. refl)
 
   -- the kind of a name after the mark, and after the offer of a replacement
@@ -156,27 +138,27 @@ module _ (ties : TiesValue) (leaver : List ℕ) (replacement : Option (List ℕ)
 
   -- a link that has this kind after the mark has it after the notice
   linked_after : (other : List ℕ) (kind : Kind) → kind_in after.table other ≡ Some kind
-      → kind_in (told ties leaver replacement).table other ≡ Some kind
+      → kind_in (told_leave ties leaver replacement).table other ≡ Some kind
   linked_after other kind is =
       told_cases (λ t. kind_in t.table other ≡ Some kind) is (λ name taken.
       let room = has_room_near after.table name in
       offered_kind name other taken ∙ ap (by_rule name other (kind_offered room)) is ∙ linked_stays name other room kind)
 
   -- the settled link to the leaver is marked
-  pub leaver_marked : kind_in ties.table leaver ≡ Some Settled → kind_in (told ties leaver replacement).table leaver ≡ Some Leaving
+  pub leaver_marked : kind_in ties.table leaver ≡ Some Settled → kind_in (told_leave ties leaver replacement).table leaver ≡ Some Leaving
   leaver_marked settled =
       linked_after leaver Leaving
       (marked_kind leaver ∙ of_itself leaver kind_marked (kind_in ties.table leaver) ∙ ap kind_marked settled)
 
   -- links to others stay as they are
   pub links_stay : (other : List ℕ) (kind : Kind) → other ≢ leaver → kind_in ties.table other ≡ Some kind
-      → kind_in (told ties leaver replacement).table other ≡ Some kind
+      → kind_in (told_leave ties leaver replacement).table other ≡ Some kind
   links_stay other kind differs is =
       linked_after other kind (marked_kind other ∙ of_others leaver other kind_marked (kind_in ties.table other) differs ∙ is)
 
   -- and so does every other name but the replacement
   pub others_stay : (other : List ℕ) → other ≢ leaver → replacement ≢ Some other
-      → kind_in (told ties leaver replacement).table other ≡ kind_in ties.table other
+      → kind_in (told_leave ties leaver replacement).table other ≡ kind_in ties.table other
   others_stay other differs not_given =
       let before = marked_kind other ∙ of_others leaver other kind_marked (kind_in ties.table other) differs in
       told_cases (λ t. kind_in t.table other ≡ kind_in ties.table other) before (λ name taken.
@@ -187,7 +169,7 @@ module _ (ties : TiesValue) (leaver : List ℕ) (replacement : Option (List ℕ)
       ∙ before)
 
   -- if another link of the slot is settled and not leaving, the mark is all
-  pub marked_alone : has_settled_near after leaver ≡ true → told ties leaver replacement ≡ after
+  pub marked_alone : has_settled_near after leaver ≡ true → told_leave ties leaver replacement ≡ after
   marked_alone settled =
       told_cases (λ t. t ≡ after) refl (λ name taken.
       let parts = taken_parts after leaver replacement name taken in
@@ -199,27 +181,28 @@ module _ (ties : TiesValue) (leaver : List ℕ) (replacement : Option (List ℕ)
 
   module _ (last : ℕ) where
     -- who is told that there is a link to it is the replacement: it had none, and has a settled one now
-    pub told_is_new : (tie : Tie) → told_tells ties last leaver replacement ≡ Some tie
-        → IsWordFor ties (told ties leaver replacement) replacement last tie
+    pub told_is_new : (tie : Tie) → told_leave_tells ties last leaver replacement ≡ Some tie
+        → IsWordFor ties (told_leave ties leaver replacement) replacement last tie
     told_is_new tie =
         tells_cases (λ t word. word ≡ Some tie → IsWordFor ties t replacement last tie) last (λ is. cc) (λ name taken is.
         let room = has_room_near after.table name in
-        let given = offer_given (kind_in after.table name) room last name tie is in
-        let to : name ≡ tie.to = sym (ap (λ (w : Tie). w.to) given.2) in
+        let word = word_given (is_none (kind_in after.table name) && room) last name tie is in
+        let given = offer_told (kind_in after.table name) room word.0 in
+        let to : name ≡ tie.to = ap (λ (w : Tie). w.to) word.1 in
         let parts = taken_parts after leaver replacement name taken in
         let now = offered_kind name name taken ∙ of_itself name (kind_offered room) (kind_in after.table name) in
         record {
           given = parts.0 ∙ ap Some to;
-          version = ap (λ (w : Tie). w.version) given.2;
-          on = ap (λ (w : Tie). w.on) given.2;
+          version = sym (ap (λ (w : Tie). w.version) word.1);
+          on = sym (ap (λ (w : Tie). w.on) word.1);
           was = ap (kind_in ties.table) (sym to) ∙ unlinked_before name given.0;
           now = ap (kind_in (offered after name).table) (sym to) ∙ now ∙ rw (given.0, given.1) refl;
         })
 
     -- and a node that is newly linked is told
     pub new_is_told : (other : List ℕ) (kind : Kind) → kind_in ties.table other ≡ None
-        → kind_in (told ties leaver replacement).table other ≡ Some kind
-        → told_tells ties last leaver replacement ≡ Some (record { to = other; version = last + 1; on = true })
+        → kind_in (told_leave ties leaver replacement).table other ≡ Some kind
+        → told_leave_tells ties last leaver replacement ≡ Some (record { to = other; version = last + 1; on = true })
     new_is_told other kind was =
         let unmarked : kind_in after.table other ≡ None =
         marked_kind other ∙ ap (by_rule leaver other kind_marked) was ∙ unlinked_stays leaver other in
@@ -230,9 +213,12 @@ module _ (ties : TiesValue) (leaver : List ℕ) (replacement : Option (List ℕ)
         (λ name taken is. let room = has_room_near after.table name in
         let ruled : by_rule name other (kind_offered room) None ≡ Some kind =
         ap (by_rule name other (kind_offered room)) (sym unmarked) ∙ sym (offered_kind name other taken) ∙ is in
-        let new = offered_new name other room kind ruled in
-        let absent : kind_in after.table name ≡ None = ap (kind_in after.table) (sym new.0) ∙ unmarked in
-        rw (absent, new.1) (ap (λ n. Some (link_word last n)) (sym new.0)))
+        elim (offered_rule_new name other room None kind ruled) [
+          | inl was ↦ cc
+          | inr new ↦
+              let absent : kind_in after.table name ≡ None = ap (kind_in after.table) (sym new.0) ∙ unmarked in
+              rw (absent, new.2) (ap (λ n. Some (link_word last n)) (sym new.0))
+        ])
 
   module _ (name : List ℕ) (is_given : replacement ≡ Some name) (other : name ≢ ties.table.owner)
       (fits : slot_at ties.table.owner name ≡ slot_at ties.table.owner leaver) (unlinked : kind_in ties.table name ≡ None) where
@@ -275,7 +261,7 @@ module _ (ties : TiesValue) (leaver : List ℕ) (replacement : Option (List ℕ)
         primary_near-offered t name after_are.table (given name is_given) other ∙ rw (absent, room, none) refl
 
     -- where the replacement fits the leaver's slot and isn't linked, the slot then has a settled link that isn't leaving
-    pub slot_filled : has_settled_near (told ties leaver replacement) leaver ≡ true
+    pub slot_filled : has_settled_near (told_leave ties leaver replacement) leaver ≡ true
     slot_filled =
         elim (cases_Bool (has_settled_near after leaver)) [
           | inl settled ↦ rw (marked_alone settled) settled

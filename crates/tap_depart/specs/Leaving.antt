@@ -17,8 +17,8 @@ abbrev pub notice_for : TableValue → List ℕ → Notice
 notice_for t holder = record { to = holder; replacement = replacement_for t holder }
 
 -- a node with these ties that starts to leave: a notice for each holder that is on, all of whom it awaits
-abbrev pub started : TiesValue → LeavingValue
-started ties = record {
+abbrev pub started_leaving : TiesValue → LeavingValue
+started_leaving ties = record {
   ties = ties;
   notices = map (notice_for ties.table) (holders_on ties);
   awaited = holders_on ties;

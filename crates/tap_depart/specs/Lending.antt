@@ -6,5 +6,5 @@ use Rattle.tap_depart.specs.Leaving.{LeavingValue}
 use Rattle.tap_depart.specs.contracts.leaving.Leaving.{the_row}
 
 -- the leaving node ends with the ties as they are left, and the notices and awaited holders as they were
-abbrev pub LendsTies : MutBor LeavingValue → MutBor TiesValue → Fml
-LendsTies leaving r = Lends the_row ties.the_row leaving r (λ w. record leaving.now { ties = w })
+abbrev pub LendsLeavingTies : MutBor LeavingValue → MutBor TiesValue → Fml
+LendsLeavingTies leaving r = Lends the_row ties.the_row leaving r (λ w. record leaving.now { ties = w })

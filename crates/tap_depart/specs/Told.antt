@@ -26,10 +26,10 @@ offer_tells_if ties stamp None = None
 offer_tells_if ties stamp (Some name) = offer_tells ties stamp name
 
 -- the ties after the notice: the link to the leaver is marked, and the replacement is offered if it is wanted
-abbrev pub told : TiesValue → List ℕ → Option (List ℕ) → TiesValue
-told ties leaver replacement = let after = marked ties leaver in offered_if after (taken_in after leaver replacement)
+abbrev pub told_leave : TiesValue → List ℕ → Option (List ℕ) → TiesValue
+told_leave ties leaver replacement = let after = marked ties leaver in offered_if after (taken_in after leaver replacement)
 
 -- and what the replacement is told
-abbrev pub told_tells : TiesValue → ℕ → List ℕ → Option (List ℕ) → Option Tie
-told_tells ties stamp leaver replacement =
+abbrev pub told_leave_tells : TiesValue → ℕ → List ℕ → Option (List ℕ) → Option Tie
+told_leave_tells ties stamp leaver replacement =
     let after = marked ties leaver in offer_tells_if after stamp (taken_in after leaver replacement)

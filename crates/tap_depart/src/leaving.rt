@@ -2,7 +2,7 @@ ghost use Rattle.std.specs.Prelude.{◌≡◌, ◌==◌, ◌+◌, ◌<◌, ◌�
 ghost use Rattle.tap_table.specs.ByName.{targets_by_name};
 ghost use Rattle.tap_table.specs.Table.{rows};
 ghost use Rattle.tap_table.specs.Ties.{holders_on, off_ties};
-ghost use Rattle.tap_depart.specs.Leaving.{left_by, notice_for, started};
+ghost use Rattle.tap_depart.specs.Leaving.{left_by, notice_for, started_leaving};
 
 use crate::notice::Notice;
 use crate::replacement::replacement_for;
@@ -36,12 +36,12 @@ impl Model for Leaving {
 
 impl Leaving {
     ghost use Rattle.std.specs.Borrow.{sem};
-    ghost use Rattle.tap_depart.specs.Lending.{LendsTies};
+    ghost use Rattle.tap_depart.specs.Lending.{LendsLeavingTies};
 
     /// Starts the departure of a node: it awaits each holder that is on, and has a notice for each of
     /// them. If memory is refused, the ties come back as they were.
     pub fn start(alloc: Global, ties: Ties) -> Result<Leaving, Ties>
-        ensures value { IfOk result (λ leaving. leaving ≡ started ties) }
+        ensures value { IfOk result (λ leaving. leaving ≡ started_leaving ties) }
         ensures back { IfErr result (λ back. back ≡ ties) }
     {
         match start_lists(alloc, &ties) {
@@ -96,7 +96,7 @@ impl Leaving {
 
     /// The ties, to be changed. The notices and the awaited holders stay.
     pub fn ties_mut(&mut self) -> &mut Ties
-        ensures* lends { sem 𝓛 (LendsTies self.entry result) }
+        ensures* lends { sem 𝓛 (LendsLeavingTies self.entry result) }
         ensures value { result.now ≡ self.old.ties }
     {
         &mut self.ties

@@ -1,7 +1,7 @@
 ghost use Rattle.std.specs.Prelude.{◌≡◌, ◌≢◌, ◌<◌, None, IsOk, IfOk, IfSome, OnOk, OnErr};
 ghost use Rattle.tap_name.specs.Name.{IsName};
 ghost use Rattle.tap_table.specs.Ties.{marked, stamp_after};
-ghost use Rattle.tap_depart.specs.Told.{taken_in, told, told_tells};
+ghost use Rattle.tap_depart.specs.Told.{taken_in, told_leave, told_leave_tells};
 
 use tap_name::Name;
 use tap_register::Stamp;
@@ -29,9 +29,9 @@ pub fn told_leave(
     requires other { leaver ≢ ties.old.table.owner }
     requires replacement { IfSome replacement (IsName ties.old.table.settings) }
     requires number { stamp.old < u32.MAX }
-    ensures answer { IfOk result (λ tie. tie ≡ told_tells ties.old stamp.old leaver replacement) }
-    ensures after { OnOk result (ties.new ≡ told ties.old leaver replacement) }
-    ensures stamped { OnOk result (stamp.new ≡ stamp_after stamp.old (told_tells ties.old stamp.old leaver replacement)) }
+    ensures answer { IfOk result (λ tie. tie ≡ told_leave_tells ties.old stamp.old leaver replacement) }
+    ensures after { OnOk result (ties.new ≡ told_leave ties.old leaver replacement) }
+    ensures stamped { OnOk result (stamp.new ≡ stamp_after stamp.old (told_leave_tells ties.old stamp.old leaver replacement)) }
     ensures refused { OnErr result (ties.new ≡ marked ties.old leaver) }
     ensures same_stamp { OnErr result (stamp.new ≡ stamp.old) }
     ensures unasked { taken_in (marked ties.old leaver) leaver replacement ≡ None → IsOk result }

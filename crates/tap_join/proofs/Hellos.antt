@@ -13,10 +13,11 @@ use Rattle.tap_table.specs.Table.{has_room_near, kind_in}
 use Rattle.tap_table.specs.declared.tie.Tie.{Tie}
 use Rattle.tap_table.specs.Ties.{AreTies, TiesValue, offer_tells, offered, pin_tells, pinned}
 use Rattle.tap_table.proofs.LookUps.{by_rule, kind_in-offered, kind_in-pinned, of_itself}
+use Rattle.tap_table.proofs.NewLinks.{offered_rule_new, pinned_rule_new}
 use Rattle.tap_table.proofs.Primaries.{full_has_primary, primary_near}
 use Rattle.tap_table.proofs.TiesKept.{AreTies-offered, AreTies-pinned}
 use Rattle.tap_join.specs.Hello.{after_hello, after_links, hello_names, is_own, offered_tells, with_offered}
-use Rattle.tap_join.proofs.NewKinds.{full_after_offer, full_after_pin, kept_by_rule, offered_has, offered_rule_new, pinned_has, pinned_rule_new}
+use Rattle.tap_join.proofs.NewKinds.{full_after_offer, full_after_pin, kept_by_rule, offered_has, pinned_has}
 
 -- a name of a Hello is the node's own, or offered, or pinned, and its node is told accordingly
 pub offered_cases : (P : TiesValue → Option Tie → Type 0) (ties : TiesValue) (last : ℕ) (link : Offered)
@@ -153,8 +154,12 @@ module _ (p : SettingsValue) (owner : List ℕ) where
         ties
         link
         (λ own is. inl is)
-        (λ apart core is. rw core (offered_rule_new link.name other (has_room_near ties.table link.name) (kind_in ties.table other) kind
-        (sym (kind_in-offered ties.table link.name are.0.table named apart other) ∙ is)))
+        (λ apart core is. let room = has_room_near ties.table link.name in
+        let ruled = sym (kind_in-offered ties.table link.name are.0.table named apart other) ∙ is in
+        rw core (elim (offered_rule_new link.name other room (kind_in ties.table other) kind ruled) [
+          | inl was ↦ inl was
+          | inr new ↦ inr (new.0, new.1)
+        ]))
         (λ apart joining is. rw joining (pinned_rule_new link.name other (kind_in ties.table other) kind
         (sym (kind_in-pinned ties.table link.name are.0.table named apart other) ∙ is)))
 

@@ -1,5 +1,5 @@
 -- What pins and offers make of one kind and of the room of a slot.
-use Rattle.std.proofs.Common.{◌≡◌, ◌≢◌, ◌⊎◌, ℕ, ◌≤◌, nat_lt, Bool, true, false, Option, None, Some, List, [], get_or, arith, ap, sym, refl, ◌∙◌, inl, inr}
+use Rattle.std.proofs.Common.{◌≡◌, ◌≢◌, ◌⊎◌, ℕ, ◌≤◌, nat_lt, Bool, true, false, Option, None, Some, List, [], get_or, arith, ap, refl, ◌∙◌, inl, inr}
 use Rattle.std.specs.Ordering.{is_eq}
 use Rattle.std.proofs.lemmas.Bool.{cases_Bool, cases_eq, le-ltb, ltb-false}
 use Rattle.std.proofs.lemmas.Cmp.{nat_list_cmp_total}
@@ -12,7 +12,7 @@ use Rattle.tap_link.proofs.Sizes.{settled_count-offered, settled_count-pinned}
 use Rattle.tap_link.proofs.TargetKinds.{kind_offered, kind_pinned}
 use Rattle.tap_table.specs.Table.{IsTable, SlotLinks, TableValue, has_room_near, links_near, name_cmp, near, offered, pinned, with_near}
 use Rattle.tap_table.proofs.LookUps.{by_rule}
-use Rattle.tap_table.proofs.Near.{links_elsewhere, links_here, number_near, tied_names}
+use Rattle.tap_table.proofs.Near.{links_elsewhere, links_here, number_near}
 
 -- after a pin there is a link; after an offer there is one, or there was no room
 pub pinned_has : (found : Option Kind) → (kind : Kind) × (kind_pinned found ≡ Some kind)
@@ -24,42 +24,11 @@ offered_has None true = inl (Settled, refl)
 offered_has None false = inr refl
 offered_has (Some kind) room = inl (kind, refl)
 
--- a link that is there after a pin or an offer was there before, or is new
-pinned_new : (found : Option Kind) (kind : Kind) → kind_pinned found ≡ Some kind → (found ≡ Some kind) ⊎ (kind ≡ Pin)
-pinned_new None kind is = let same : Pin ≡ kind = cc in inr (sym same)
-pinned_new (Some k) kind is = inl is
-
-offered_new : (found : Option Kind) (room : Bool) (kind : Kind) → kind_offered room found ≡ Some kind
-    → (found ≡ Some kind) ⊎ (kind ≡ Settled)
-offered_new None true kind is = let same : Settled ≡ kind = cc in inr (sym same)
-offered_new None false kind is = cc
-offered_new (Some k) room kind is = inl is
-
 module _ (name other : List ℕ) (rule : Option Kind → Option Kind) where
   -- a rule that keeps a kind keeps it for each name
   pub kept_by_rule : (kind : Kind) → rule (Some kind) ≡ Some kind → by_rule name other rule (Some kind) ≡ Some kind
   kept_by_rule kind keeps =
       elim (cases_Bool (is_eq (name_cmp other name))) [ inl tied ↦ rw tied keeps | inr apart ↦ rw apart refl ]
-
-  -- what a rule makes of a name was so before, or it is the rule's own name
-  pub new_by_rule : (found : Option Kind) (kind fresh : Kind) → (rule found ≡ Some kind → (found ≡ Some kind) ⊎ (kind ≡ fresh))
-      → by_rule name other rule found ≡ Some kind → (found ≡ Some kind) ⊎ ((other ≡ name) × (kind ≡ fresh))
-  new_by_rule found kind fresh says is =
-      elim (cases_Bool (is_eq (name_cmp other name))) [
-        | inl tied ↦
-            let here : rule found ≡ Some kind = rw tied at is in
-            elim (says here) [ inl was ↦ inl was | inr new ↦ inr (tied_names other name tied, new) ]
-        | inr apart ↦ inl (rw apart at is)
-      ]
-
-pub pinned_rule_new : (name other : List ℕ) (found : Option Kind) (kind : Kind) → by_rule name other kind_pinned found ≡ Some kind
-    → (found ≡ Some kind) ⊎ ((other ≡ name) × (kind ≡ Pin))
-pinned_rule_new name other found kind is = new_by_rule name other kind_pinned found kind Pin (pinned_new found kind) is
-
-pub offered_rule_new : (name other : List ℕ) (room : Bool) (found : Option Kind) (kind : Kind)
-    → by_rule name other (kind_offered room) found ≡ Some kind → (found ≡ Some kind) ⊎ ((other ≡ name) × (kind ≡ Settled))
-offered_rule_new name other room found kind is =
-    new_by_rule name other (kind_offered room) found kind Settled (offered_new found room kind) is
 
 module _ (t : TableValue) (name : List ℕ) (valid : IsTable t) (is_name : IsName t.settings name) (apart : name ≢ t.owner)
     (other : List ℕ) (full : has_room_near t other ≡ false) where

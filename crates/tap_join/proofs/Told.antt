@@ -1,7 +1,7 @@
 -- Whom a Hello makes a joining node tell: exactly the nodes to which it has a new link, each once, with the next numbers.
-use Rattle.std.proofs.Common.{◌≡◌, ◌≢◌, ◌&&◌, ℕ, ◌+◌, ◌<◌, zero, suc, Bool, true, false, Option, None, Some, List, [], ◌∷◌, ◌++◌, slice_get, All, arith, ap, sym, refl, ◌∙◌, inl, inr}
+use Rattle.std.proofs.Common.{◌≡◌, ◌≢◌, ◌&&◌, ℕ, ◌+◌, ◌<◌, zero, suc, Bool, true, Option, None, Some, List, [], ◌∷◌, ◌++◌, slice_get, All, arith, ap, sym, refl, ◌∙◌, inl, inr}
 use Rattle.std.specs.Option.{is_none}
-use Rattle.std.proofs.lemmas.Bool.{and_parts, cases_Bool}
+use Rattle.std.proofs.lemmas.Bool.{and_parts}
 use Rattle.std.proofs.lemmas.List.Elements.{All-head, All-tail}
 use Rattle.tap_name.specs.declared.slot.Offered.{Offered}
 use Rattle.tap_name.specs.Name.{IsName}
@@ -11,15 +11,11 @@ use Rattle.tap_link.specs.declared.kind.Kind.TheVariants.{Pin, Settled}
 use Rattle.tap_link.proofs.TargetKinds.{kind_offered, kind_pinned}
 use Rattle.tap_table.specs.declared.tie.Tie.{Tie}
 use Rattle.tap_table.specs.Table.{has_room_near, kind_in}
-use Rattle.tap_table.specs.Ties.{TiesValue, offered, stamp_after, tie_where}
+use Rattle.tap_table.specs.Ties.{TiesValue, stamp_after}
 use Rattle.tap_table.proofs.LookUps.{kind_in-offered, kind_in-pinned, of_itself}
+use Rattle.tap_table.proofs.NewLinks.{link_word, offered_rule_new, pinned_rule_new, word_given}
 use Rattle.tap_join.specs.Hello.{after_hello, after_links, hello_names, hello_tells, links_tell, offered_tells, with_offered, words_of}
 use Rattle.tap_join.proofs.Hellos.{AreOf, HasLink, IsNamed, all_named, kind_stays, links_stay, named, of_one, offered_cases}
-use Rattle.tap_join.proofs.NewKinds.{offered_rule_new, pinned_rule_new}
-
--- the word for a node that there is a link to it, with the number after this one
-abbrev link_word : ℕ → List ℕ → Tie
-link_word last name = record { to = name; version = last + 1; on = true }
 
 -- The words that some ties make a node give, which it had before and has after: they are for exactly the nodes that are
 -- newly linked, one for each, with the numbers after the last one, in order.
@@ -37,11 +33,6 @@ KeepsLinks before after = (name : List ℕ) (kind : Kind) → kind_in before.tab
 no_kind : (found : Option Kind) → is_none found ≡ true → found ≡ None
 no_kind None is = refl
 no_kind (Some kind) is = cc
-
-word_given : (told : Bool) (last : ℕ) (name : List ℕ) (tie : Tie) → tie_where told name (last + 1) true ≡ Some tie
-    → (told ≡ true) × (link_word last name ≡ tie)
-word_given true last name tie is = let same : link_word last name ≡ tie = cc in (refl, same)
-word_given false last name tie is = cc
 
 module _ (p : SettingsValue) (owner : List ℕ) where
   -- a word for one name of a Hello is for a node that had no link, and has one now
@@ -91,14 +82,7 @@ module _ (p : SettingsValue) (owner : List ℕ) where
           | inl there ↦ let wrong : None ≡ Some kind = sym was ∙ there in cc
           | inr new ↦
               let absent : kind_in ties.table link.name ≡ None = ap (kind_in ties.table) (sym new.0) ∙ was in
-              elim (cases_Bool room) [
-                | inl has ↦ rw (absent, has) (ap (λ n. Some (link_word last n)) (sym new.0))
-                | inr full ↦
-                    let here = sym (of_itself link.name (kind_offered room) (kind_in ties.table link.name))
-                    ∙ sym (kind_in-offered ties.table link.name are.0.table (named p owner ties link is_name are) apart link.name)
-                    ∙ ap (kind_in (offered ties link.name).table) (sym new.0) ∙ is in
-                    let wrong : None ≡ Some kind = rw (absent, full) at here in cc
-              ]
+              rw (absent, new.2) (ap (λ n. Some (link_word last n)) (sym new.0))
         ])
         (λ apart joining is. let ruled =
         sym (kind_in-pinned ties.table link.name are.0.table (named p owner ties link is_name are) apart name) ∙ is in

@@ -12,8 +12,8 @@ pub record JoiningValue : Type 0 where
   pub abandoned : Bool
 
 -- a node that starts to join: no links, no holders, nobody greeted
-abbrev pub started : SettingsValue → List ℕ → JoiningValue
-started settings name = record {
+abbrev pub started_joining : SettingsValue → List ℕ → JoiningValue
+started_joining settings name = record {
   ties = record { table = empty_table settings name; holders = [] };
   greeted = [];
   abandoned = false;

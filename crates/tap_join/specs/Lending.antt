@@ -7,8 +7,8 @@ use Rattle.tap_join.specs.contracts.joining.Joining as joining
 use Rattle.tap_join.specs.contracts.core_node.Core as core
 
 -- the joining node ends with the ties as they are left; whom it greeted stays, and whether the join was given up
-abbrev pub LendsTies : MutBor JoiningValue → MutBor TiesValue → Fml
-LendsTies node r = Lends joining.the_row ties.the_row node r (λ w. record node.now { ties = w })
+abbrev pub LendsJoiningTies : MutBor JoiningValue → MutBor TiesValue → Fml
+LendsJoiningTies node r = Lends joining.the_row ties.the_row node r (λ w. record node.now { ties = w })
 
 -- the core node ends with the ties as they are left
 abbrev pub LendsCoreTies : MutBor TiesValue → MutBor TiesValue → Fml

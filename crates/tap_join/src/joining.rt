@@ -5,7 +5,7 @@ ghost use Rattle.tap_table.specs.ByName.{targets_by_name};
 ghost use Rattle.tap_table.specs.Table.{rows};
 ghost use Rattle.tap_table.specs.Ties.{holders_on, off_ties};
 ghost use Rattle.tap_join.specs.Hello.{after_hello, hello_tells};
-ghost use Rattle.tap_join.specs.Joining.{given_up, started, with_greeted};
+ghost use Rattle.tap_join.specs.Joining.{given_up, started_joining, with_greeted};
 
 use crate::core_node::Core;
 use crate::hello::{take_link, take_links};
@@ -38,12 +38,12 @@ impl Model for Joining {
 
 impl Joining {
     ghost use Rattle.std.specs.Borrow.{sem};
-    ghost use Rattle.tap_join.specs.Lending.{LendsTies};
+    ghost use Rattle.tap_join.specs.Lending.{LendsJoiningTies};
 
     /// Starts the join of a node, which has no links and no holders yet. It is a name of the settings.
     pub fn start(alloc: Global, name: Name, settings: &Settings) -> Result<Joining, NoMemory>
         requires { IsName settings.now name }
-        ensures { IfOk result (λ joining. joining ≡ started settings.now name) }
+        ensures { IfOk result (λ joining. joining ≡ started_joining settings.now name) }
     {
         Ok(Joining {
             alloc,
@@ -62,7 +62,7 @@ impl Joining {
 
     /// The ties, to be changed. The nodes greeted stay, and whether the join was given up.
     pub fn ties_mut(&mut self) -> &mut Ties
-        ensures* lends { sem 𝓛 (LendsTies self.entry result) }
+        ensures* lends { sem 𝓛 (LendsJoiningTies self.entry result) }
         ensures value { result.now ≡ self.old.ties }
     {
         &mut self.ties

@@ -10,7 +10,7 @@ use Rattle.tap_link.specs.Entry.{Entry}
 use Rattle.tap_link.specs.LinkSet.{least_settled}
 use Rattle.tap_table.specs.Members.{is_slot}
 use Rattle.tap_table.specs.Table.{TableValue, links_at}
-use Rattle.tap_multicast.specs.Offer.{answered, answers, has_slot, offers}
+use Rattle.tap_multicast.specs.Offer.{answered_slots, answers, has_slot, offers}
 
 abbrev same : Slot → Slot → Bool
 same slot other = is_slot slot (Some other)
@@ -44,9 +44,9 @@ module _ (t : TableValue) (joiner : List ℕ) (slot : Slot) where
 
   -- so the primary of an answered slot is that of a watched one
   pub offers-watched : (watch : List Slot) (primary : Option (List ℕ)) → least_settled (links_at t slot) ≡ primary
-      → (link : Entry (List ℕ)) → offers joiner (has_slot (answered t joiner watch) slot) primary link
+      → (link : Entry (List ℕ)) → offers joiner (has_slot (answered_slots t joiner watch) slot) primary link
       ≡ offers joiner (is_some primary && has_slot watch slot) primary link
   offers-watched watch None none link =
-      let nothing = and_right (has_slot (answered t joiner watch) slot) false refl in rw nothing refl
+      let nothing = and_right (has_slot (answered_slots t joiner watch) slot) false refl in rw nothing refl
   offers-watched watch (Some first) primary link =
       let test = any-filter_same (same slot) (answers t joiner) true (answers-primary first primary) watch in rw test refl

@@ -11,8 +11,9 @@ use Rattle.tap_name.specs.Order.{name_cmp}
 use Rattle.tap_name.proofs.Orders.{name_cmp-equal}
 use Rattle.tap_table.specs.Table.{TableValue}
 use Rattle.tap_table.proofs.Near.{apart_names, tied_itself}
+use Rattle.tap_table.specs.Levels.{is_kept}
 use Rattle.tap_multicast.specs.declared.covers.Covered.TheVariants.{Already}
-use Rattle.tap_multicast.specs.Covers.{CoversValue, begun, cover_of, covered, is_kept, level_kept, with_cover}
+use Rattle.tap_multicast.specs.Covers.{CoversValue, begun, cover_of, covered, level_kept, with_cover}
 
 module _ (joiner : List ℕ) (level : ℕ) (other : List ℕ) where
   -- the joiner that is entered has its level, and others have theirs

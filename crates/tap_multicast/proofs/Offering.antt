@@ -6,7 +6,7 @@ use Rattle.tap_link.specs.LinkSet.{least_settled}
 use Rattle.tap_table.specs.ByName.{by_name, slots_by_name}
 use Rattle.tap_table.specs.Table.{IsTable, TableValue, links_at}
 use Rattle.tap_table.proofs.ByName.{slots_inside}
-use Rattle.tap_multicast.specs.Offer.{answered, has_slot, is_offered, offered_as, offers}
+use Rattle.tap_multicast.specs.Offer.{answered_slots, has_slot, is_offered, offered_as, offers}
 use Rattle.tap_multicast.specs.Slots.{offered_in}
 use Rattle.tap_multicast.proofs.Answering.{offers-watched}
 use Rattle.tap_multicast.proofs.Links.{links_stand}
@@ -21,7 +21,7 @@ module _ (t : TableValue) (valid : IsTable t) (watch : List Slot) (joiner : List
       picked-same offered_as offered_as (is_offered t watch joiner) (offers joiner (is_some primary && has_slot watch slot) primary) links
       (λ k d within.
       let e = get_or links k d in
-      ap (λ s. offers joiner (has_slot (answered t joiner watch) s) (least_settled (links_at t s)) e)
+      ap (λ s. offers joiner (has_slot (answered_slots t joiner watch) s) (least_settled (links_at t s)) e)
       (links_stand t valid slot below k d within)
       ∙ offers-watched t joiner slot watch primary refl e)
       (λ k d within. refl)

@@ -22,7 +22,7 @@ use Rattle.tap_table.proofs.Primaries.{primary_near}
 use Rattle.tap_watch.specs.Watch.{IsWatch}
 use Rattle.tap_watch.proofs.Watches.{Contains-filter, IsWatch-filter}
 use Rattle.tap_multicast.specs.declared.cover.Cover.{Cover}
-use Rattle.tap_multicast.specs.Offer.{answered, answers, has_slot, is_offered, left, offer, offered_as}
+use Rattle.tap_multicast.specs.Offer.{answered_slots, answers, has_slot, is_offered, left, offer, offered_as}
 use Rattle.tap_multicast.specs.Targets.{is_primary}
 use Rattle.tap_multicast.proofs.Answering.{has_slot-from_Contains}
 use Rattle.tap_multicast.proofs.Linked.{picked-ascend, primary_near-stands, primary_stands}
@@ -33,7 +33,7 @@ use Rattle.tap_multicast.proofs.Telling.{differ, other_than, pinned_kind, primar
 pub record IsOffered (t : TableValue) (watch : List Slot) (joiner : List ℕ) (link : Offered) : Type 0 where
   pub which : ((link.settled ≡ false) × (kind_in t link.name ≡ Some Pin) × (link.name ≢ joiner))
       ⊎ ((link.settled ≡ true) × (kind_in t link.name ≡ Some Settled) × (primary_near t link.name ≡ Some link.name)
-      × (has_slot (answered t joiner watch) (place_of t.owner link.name) ≡ true))
+      × (has_slot (answered_slots t joiner watch) (place_of t.owner link.name) ≡ true))
 
 module _ (t : TableValue) (valid : IsTable t) (watch : List Slot) (cover : Cover) (first : cover.first ≡ true) where
   abbrev joiner : List ℕ
@@ -44,7 +44,7 @@ module _ (t : TableValue) (valid : IsTable t) (watch : List Slot) (cover : Cover
   found_offered e found offered =
       let pin = is_pinned (Some e.kind) && not (pointwise nat_eq joiner e.target) in
       let primary = is_primary (primary_near t e.target) e.target in
-      let slot_answered = has_slot (answered t joiner watch) (place_of t.owner e.target) in
+      let slot_answered = has_slot (answered_slots t joiner watch) (place_of t.owner e.target) in
       record {
         which = elim (or_cases pin (slot_answered && primary) offered) [
           | inl now ↦
@@ -90,15 +90,15 @@ module _ (t : TableValue) (valid : IsTable t) (watch : List Slot) (cover : Cover
   pin_offered name not_joiner pinned = link_offered name Pin pinned (rw (differ joiner name not_joiner) refl)
 
   -- and the primary of each answered slot
-  pub primary_offered : (slot : Slot) → slot.digit < t.settings.base → Contains (answered t joiner watch) slot → (name : List ℕ)
+  pub primary_offered : (slot : Slot) → slot.digit < t.settings.base → Contains (answered_slots t joiner watch) slot → (name : List ℕ)
       → least_settled (links_at t slot) ≡ Some name
       → (k : ℕ) × (slice_get (offer t watch cover) k ≡ Some (record { name = name; settled = true }))
   primary_offered slot below there name is =
       let stands = primary_stands t valid slot below name is in
       let primary : primary_near t name ≡ Some name = ap (λ s. least_settled (links_at t s)) stands.1 ∙ is in
       let test : is_primary (primary_near t name) name ≡ true = rw primary ((bytes_eq-Decides name name).1 refl) in
-      let has : has_slot (answered t joiner watch) (place_of t.owner name) ≡ true =
-      ap (has_slot (answered t joiner watch)) stands.1 ∙ has_slot-from_Contains (answered t joiner watch) slot there in
+      let has : has_slot (answered_slots t joiner watch) (place_of t.owner name) ≡ true =
+      ap (has_slot (answered_slots t joiner watch)) stands.1 ∙ has_slot-from_Contains (answered_slots t joiner watch) slot there in
       link_offered name Settled stands.0 (rw (has, test) refl)
 
   -- a slot that isn't answered stays watched, and one that is answered doesn't

@@ -14,11 +14,11 @@ use Rattle.tap_link.specs.LinkSet.{least_settled}
 use Rattle.tap_table.specs.Table.{IsTable, TableValue, links_at, place_of}
 use Rattle.tap_table.proofs.Found.{linked_is_name, linked_is_other}
 use Rattle.tap_table.proofs.Slots.{place_inside}
+use Rattle.tap_table.specs.Levels.{is_between}
 use Rattle.tap_watch.specs.Watch.{IsWatched}
 use Rattle.tap_multicast.specs.declared.cover.Cover.{Cover}
 use Rattle.tap_multicast.specs.declared.target.Target.{Target}
 use Rattle.tap_multicast.specs.Covers.{MayCover, cover_of}
-use Rattle.tap_multicast.specs.Targets.{is_between}
 use Rattle.tap_multicast.proofs.Linked.{primary_stands}
 use Rattle.tap_multicast.proofs.Telling.{IsTarget}
 

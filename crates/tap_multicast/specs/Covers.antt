@@ -1,5 +1,5 @@
 -- The joiners that a node covers, and what a further word of one makes it do.
-use Rattle.std.specs.Prelude.{◌≡◌, ℕ, ◌<◌, ◌≤◌, nat_le, Bool, false, if◌then◌else◌, List, Option, None, Some, All}
+use Rattle.std.specs.Prelude.{◌≡◌, ℕ, ◌<◌, ◌≤◌, if◌then◌else◌, List, Option, Some, All}
 use Rattle.std.specs.BTreeMap.{insert_entry}
 use Rattle.std.specs.Map.{lookup}
 use Rattle.std.specs.Option.{is_none}
@@ -8,6 +8,7 @@ use Rattle.tap_name.specs.declared.slot.Slot.{Slot}
 use Rattle.tap_name.specs.Order.{name_cmp}
 use Rattle.tap_name.specs.Prefix.{lcp}
 use Rattle.tap_link.specs.declared.kind.Kind.TheVariants.{Pin}
+use Rattle.tap_table.specs.Levels.{is_kept, sent_from}
 use Rattle.tap_table.specs.Table.{TableValue, kind_in}
 use Rattle.tap_multicast.specs.declared.cover.Cover.{Cover}
 use Rattle.tap_multicast.specs.declared.covers.Covered.{Covered}
@@ -23,16 +24,6 @@ CoversValue = List (List ℕ × ℕ)
 abbrev pub level_kept : CoversValue → List ℕ → Option ℕ
 level_kept covers joiner = lookup (λ other. is_eq (name_cmp joiner other)) covers
 
--- a level at most this one is kept
-abbrev pub is_kept : Option ℕ → ℕ → Bool
-is_kept None level = false
-is_kept (Some kept) level = nat_le kept level
-
--- the level from which on the joiner was covered before: the one that is kept, or the number of digits
-abbrev pub covered_from : ℕ → Option ℕ → ℕ
-covered_from digits None = digits
-covered_from digits (Some kept) = kept
-
 -- the cover of a joiner of which this level is kept
 abbrev pub cover_of : TableValue → Option ℕ → List ℕ → ℕ → ℕ → Cover
 cover_of t kept joiner prefix level = record {
@@ -40,7 +31,7 @@ cover_of t kept joiner prefix level = record {
   first = is_none kept;
   prefix = prefix;
   level = level;
-  before = covered_from t.settings.digits kept;
+  before = sent_from t.settings.digits kept;
 }
 
 -- what a cover gives

@@ -18,8 +18,8 @@ abbrev pub answers : TableValue → List ℕ → Slot → Bool
 answers t joiner slot = is_slot slot (slot_at joiner t.owner) || is_some (least_settled (links_at t slot))
 
 -- the slots of a watch that it answers, and those that it doesn't
-abbrev pub answered : TableValue → List ℕ → List Slot → List Slot
-answered t joiner watch = filter (answers t joiner) watch
+abbrev pub answered_slots : TableValue → List ℕ → List Slot → List Slot
+answered_slots t joiner watch = filter (answers t joiner) watch
 
 abbrev pub unanswered : TableValue → List ℕ → List Slot → List Slot
 unanswered t joiner watch = filter (λ slot. not (answers t joiner slot)) watch
@@ -42,7 +42,7 @@ offers joiner slot_answered primary link =
 -- a link of the table is offered
 abbrev pub is_offered : TableValue → List Slot → List ℕ → Entry (List ℕ) → Bool
 is_offered t watch joiner link =
-    offers joiner (has_slot (answered t joiner watch) (place_of t.owner link.target)) (least_settled (links_near t link.target)) link
+    offers joiner (has_slot (answered_slots t joiner watch) (place_of t.owner link.target)) (least_settled (links_near t link.target)) link
 
 -- a link as it is offered: with the flag if it is settled
 abbrev pub offered_as : Entry (List ℕ) → Offered

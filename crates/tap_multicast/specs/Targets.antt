@@ -1,17 +1,14 @@
 -- Whom a node tells of a joiner that it covers.
-use Rattle.std.specs.Prelude.{ℕ, ◌+◌, ◌&&◌, ◌||◌, nat_le, nat_lt, not, Bool, false, nat_eq, List, map, filter, Option, None, Some}
+use Rattle.std.specs.Prelude.{ℕ, ◌+◌, ◌&&◌, ◌||◌, not, Bool, false, nat_eq, List, map, filter, Option, None, Some}
 use Rattle.std.specs.Cmp.Lexicographic.{pointwise}
 use Rattle.tap_name.specs.Prefix.{lcp}
 use Rattle.tap_link.specs.Entry.{Entry}
 use Rattle.tap_link.specs.LinkSet.{is_pinned, least_settled}
 use Rattle.tap_table.specs.ByName.{by_name}
+use Rattle.tap_table.specs.Levels.{is_between}
 use Rattle.tap_table.specs.Table.{TableValue, links_near}
 use Rattle.tap_multicast.specs.declared.cover.Cover.{Cover}
 use Rattle.tap_multicast.specs.declared.target.Target.{Target}
-
--- the level is this one or above, and below another
-abbrev pub is_between : ℕ → ℕ → ℕ → Bool
-is_between from to level = nat_le from level && nat_lt level to
 
 -- the slots of this level are covered: from the level of the cover up to the one at which the joiner was covered before
 abbrev pub is_covered : Cover → ℕ → Bool

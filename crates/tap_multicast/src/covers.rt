@@ -1,5 +1,6 @@
 ghost use Rattle.std.specs.Prelude.{◌≡◌, [], IfOk, OnOk, OnErr};
-ghost use Rattle.tap_multicast.specs.Covers.{MayCover, cover_of, covered, covered_from, is_kept, level_kept, with_cover};
+ghost use Rattle.tap_table.specs.Levels.{is_kept, sent_from};
+ghost use Rattle.tap_multicast.specs.Covers.{MayCover, cover_of, covered, level_kept, with_cover};
 
 use crate::cover::Cover;
 use crate::offer::{left_watch, offer};
@@ -62,7 +63,7 @@ impl Covers {
         }
     }
 
-    /// The level at which a joiner is covered, `None` exactly where no cover of it is kept.
+    /// The level at which a joiner is covered, `None` exactly if no cover of it is kept.
     pub fn level_of(&self, joiner: Name) -> Option<u8>
         ensures { result ≡ level_kept self.now joiner }
     {
@@ -70,7 +71,7 @@ impl Covers {
     }
 
     /// Takes a word of a joiner, with its prefix, a level and a watch, and answers what the owner of the
-    /// table does: `Already` exactly where the level that is kept is at most this one.
+    /// table does: `Already` exactly if the level that is kept is at most this one.
     ///
     /// Else the level is kept, and the slots of the levels from this one up to the one that was kept before,
     /// or to the last if none was, are covered: the targets are their primaries and pins. The first cover
@@ -103,7 +104,7 @@ impl Covers {
             first: kept.is_none(),
             prefix,
             level,
-            before: covered_from(table.settings().digits(), kept),
+            before: sent_from(table.settings().digits(), kept),
         };
         let offer = offer(self.alloc, table, watch, &cover)?;
         let targets = targets(self.alloc, table, &cover)?;
@@ -128,9 +129,9 @@ fn is_kept(kept: Option<u8>, level: u8) -> bool
     }
 }
 
-// The level from which on the joiner was covered before.
-fn covered_from(digits: u8, kept: Option<u8>) -> u8
-    ensures { result ≡ covered_from digits kept }
+// The level from which on the word was sent on before.
+fn sent_from(digits: u8, kept: Option<u8>) -> u8
+    ensures { result ≡ sent_from digits kept }
 {
     match kept {
         Some(kept) => kept,

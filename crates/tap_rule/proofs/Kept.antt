@@ -34,12 +34,12 @@ use Rattle.tap_join.specs.declared.sought.Sought.TheVariants.{Forward, Surrogate
 use Rattle.tap_join.specs.Hello.{hello_names}
 use Rattle.tap_join.specs.Seek.{sought}
 use Rattle.tap_join.proofs.Hellos.{AreTies-after_hello, owner_stays, settings_stay}
-use Rattle.tap_depart.specs.Leaving.{names_but, started}
+use Rattle.tap_depart.specs.Leaving.{names_but, started_leaving}
 use Rattle.tap_depart.proofs.Notices.{AreTies-told, told_owner, told_settings}
 use Rattle.tap_cast.specs.declared.casts.CastTurn.{CastTurn}
 use Rattle.tap_cast.specs.declared.casts.CastTurn.TheVariants.{Already as AlreadyCast, Now as CastNow}
-use Rattle.tap_cast.specs.Casts.{CastsValue, turn_of, with_cast, is_kept as is_cast_kept, level_kept as cast_level_kept}
-use Rattle.tap_multicast.specs.Covers.{CoversValue, is_kept, level_kept, with_cover}
+use Rattle.tap_cast.specs.Casts.{CastsValue, level_of_cast, turn_of, with_cast}
+use Rattle.tap_multicast.specs.Covers.{CoversValue, level_kept, with_cover}
 use Rattle.tap_pointer.specs.declared.pair.Pair.{Pair}
 use Rattle.tap_pointer.specs.declared.state.PairState.{PairState}
 use Rattle.tap_pointer.specs.Pair.{pair_cmp, pair_cmp-total}
@@ -50,6 +50,7 @@ use Rattle.tap_pointer.proofs.Known.{All-found, pair_cmp-equal}
 use Rattle.tap_pointer.proofs.Laws.{are-all_withdrawn, are-none, are-published, are-reconciled, are-told, are-withdrawn}
 use Rattle.tap_table.specs.declared.next.Next.{Next}
 use Rattle.tap_table.specs.declared.next.Next.TheVariants.{Root, Hop}
+use Rattle.tap_table.specs.Levels.{is_kept}
 use Rattle.tap_wire.specs.Spelling.{IsBody}
 use Rattle.tap_wire.specs.declared.frame.Body.{Body}
 use Rattle.tap_wire.specs.declared.frame.Body.TheVariants.{Seek, Tell, Hello, Heard, Ack, Done, Release, Link, Lay, Find, Answer, Leave, Left, Gone, Forget, Cast, CastAck}
@@ -273,7 +274,7 @@ module _ (node : NodeState) (is : IsNode node) where
 
   with_met_cast : (cast level : ℕ) (list : List ℕ) (opened : ℕ) → length list ≡ opened
       → AreKept (settings_of node) (name_of node) node.pointers node.covers (with_cast node.casts cast level) list opened
-  with_met_cast cast level list opened numbers = by_case (is_cast_kept (cast_level_kept node.casts cast) level) refl
+  with_met_cast cast level list opened numbers = by_case (is_kept (level_of_cast node.casts cast) level) refl
     where
       as_sorted : (met : CastsValue) → IsStrictlySortedBy nat_cmp (keys_of met)
           → AreKept (settings_of node) (name_of node) node.pointers node.covers met list opened
@@ -287,7 +288,7 @@ module _ (node : NodeState) (is : IsNode node) where
         numbers = numbers;
       }
 
-      by_case : (kept : Bool) → is_cast_kept (cast_level_kept node.casts cast) level ≡ kept
+      by_case : (kept : Bool) → is_kept (level_of_cast node.casts cast) level ≡ kept
           → AreKept (settings_of node) (name_of node) node.pointers node.covers (with_cast node.casts cast level) list opened
       by_case true kept = rw kept (as_sorted node.casts is.casts)
       by_case false kept =
@@ -509,7 +510,7 @@ module _ (node : NodeState) (is : IsNode node) where
       keeps _ is.ties refl refl is.sessions is.cast_sessions (with_withdrawn_object object)
   starting_kept Core (StartFind ticket object) is_start = asked_kept ticket object (least_server node.pointers object)
   starting_kept Core StartLeave is_start =
-      leaves_kept (map leave_for (started node.ties).notices) (length (started node.ties).awaited == 0)
+      leaves_kept (map leave_for (started_leaving node.ties).notices) (length (started_leaving node.ties).awaited == 0)
   starting_kept Core (StartCast cast level word) is_start =
       cast_kept (record { cast = cast; level = level; parent = RootParent (name_of node); depth = 0; word = word })
       (turn_of node.casts node.ties.table cast level)

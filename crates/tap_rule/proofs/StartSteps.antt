@@ -3,7 +3,7 @@ use Rattle.std.proofs.Common.{◌≡◌, ◌==◌, ◌+◌, Bool, cond, List, le
 use Rattle.std.proofs.lemmas.Bool.{eqb-false}
 use Rattle.std.proofs.lemmas.List.Folds.{flat_map-map}
 use Rattle.tap_table.specs.Ties.{holders_on}
-use Rattle.tap_depart.specs.Leaving.{started}
+use Rattle.tap_depart.specs.Leaving.{started_leaving}
 use Rattle.tap_pointer.specs.declared.pair.Pair.{Pair}
 use Rattle.tap_pointer.specs.declared.state.PairState.{PairState}
 use Rattle.tap_pointer.specs.Pointers.{with_published}
@@ -59,7 +59,7 @@ clearing_withdrawn pairs = flat_map-map (λ e. layings e.0 e.1.laid None) (λ e.
 module _ (node : NodeState) (acted : Acted) where
   leaves_as : (alone : Bool) → (length (holders_on node.ties) == 0) ≡ alone
       → IsCarriedOut node (cond alone (finishes (with_departure node))
-      (sends (with_departure node) (map leave_for (started node.ties).notices))) acted
+      (sends (with_departure node) (map leave_for (started_leaving node.ties).notices))) acted
       → LeaveStartStep node acted
   leaves_as true is carried = record {
     waits = λ some. absurd (some (eqb-true (length (holders_on node.ties)) 0 is));

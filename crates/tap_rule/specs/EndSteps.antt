@@ -5,7 +5,7 @@ use Rattle.tap_table.specs.declared.tie.Tie.{Tie}
 use Rattle.tap_table.specs.ByName.{targets_by_name}
 use Rattle.tap_table.specs.Ties.{holders_on, off_ties}
 use Rattle.tap_depart.specs.Leaving.{names_but}
-use Rattle.tap_depart.specs.Told.{told, told_tells}
+use Rattle.tap_depart.specs.Told.{told_leave, told_leave_tells}
 use Rattle.tap_join.specs.Hello.{words_of}
 use Rattle.tap_pointer.specs.declared.lay.Lay.{Lay}
 use Rattle.tap_pointer.specs.Pointers.{no_pointers}
@@ -63,11 +63,11 @@ pub record EndStep (node : NodeState) (end : Status) (farewell : Body) (acted : 
 pub record LeaveStep (node : NodeState) (from : List ℕ) (replacement : Option (List ℕ)) (acted : Acted) : Type 0 where
   pub joins : JoinsAlike node acted.state
   pub sessions : acted.state.sessions ≡ node.sessions
-  pub ties : acted.state.ties ≡ told node.ties from replacement
+  pub ties : acted.state.ties ≡ told_leave node.ties from replacement
   pub sent : AreSent (name_of node) (words_of (leave_word node from replacement)) (message from Left ∷ []) acted.sent
   pub rest : RestAlike node acted.state
-  pub completed : IsCompleted node node.pointers (words_of (told_tells node.ties node.stamp from replacement)) (message from Left ∷ [])
-      Nothing acted
+  pub completed : IsCompleted node node.pointers (words_of (told_leave_tells node.ties node.stamp from replacement))
+      (message from Left ∷ []) Nothing acted
 
 -- Left, at a leaving node: the sender is awaited no more; the node stays as it is while it awaits others, and else it ends
 pub record LeftStep (node : NodeState) (from : List ℕ) (acted : Acted) : Type 0 where

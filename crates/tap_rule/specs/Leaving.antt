@@ -6,8 +6,8 @@ use Rattle.tap_table.specs.declared.tie.Tie.{Tie}
 use Rattle.tap_table.specs.ByName.{targets_by_name}
 use Rattle.tap_table.specs.Ties.{holders_on, off_ties, removed}
 use Rattle.tap_depart.specs.declared.notice.Notice.{Notice}
-use Rattle.tap_depart.specs.Leaving.{names_but, started}
-use Rattle.tap_depart.specs.Told.{told, told_tells}
+use Rattle.tap_depart.specs.Leaving.{names_but, started_leaving}
+use Rattle.tap_depart.specs.Told.{told_leave, told_leave_tells}
 use Rattle.tap_pointer.specs.Pointers.{all_withdrawn}
 use Rattle.tap_pointer.specs.Reconcile.{clear_lays}
 use Rattle.tap_wire.specs.declared.frame.Body.TheVariants.{Leave, Left, Gone}
@@ -36,7 +36,7 @@ abbrev pub with_departure : NodeState → NodeState
 with_departure node = record node {
   status = Leaving;
   pointers = all_withdrawn node.pointers;
-  awaited = (started node.ties).awaited;
+  awaited = (started_leaving node.ties).awaited;
 }
 
 -- the Leave of a notice
@@ -49,16 +49,16 @@ finishes_or_sends node messages = if length node.awaited == 0 then finishes node
 
 -- a core node leaves: a Leave for each holder that is on, ascending; without holders it finishes at once
 abbrev pub leaves : NodeState → Reaction
-leaves node = finishes_or_sends (with_departure node) (map leave_for (started node.ties).notices)
+leaves node = finishes_or_sends (with_departure node) (map leave_for (started_leaving node.ties).notices)
 
 -- Leave, at a core node: it marks the leaver, takes the replacement if its slot wants one, and answers
 abbrev pub leave_word : NodeState → List ℕ → Option (List ℕ) → Option Tie
-leave_word node from replacement = told_tells node.ties node.stamp from replacement
+leave_word node from replacement = told_leave_tells node.ties node.stamp from replacement
 
 abbrev pub takes_leave : NodeState → List ℕ → Option (List ℕ) → Reaction
 takes_leave node from replacement =
     let word = leave_word node from replacement in
-    with_words (words_of word) (sends (with_ties (told node.ties from replacement) word node) (message from Left ∷ []))
+    with_words (words_of word) (sends (with_ties (told_leave node.ties from replacement) word node) (message from Left ∷ []))
 
 -- Left, at a leaving node: the sender is awaited no more, and after the last one the node finishes
 abbrev pub is_left : NodeState → List ℕ → Reaction

@@ -13,7 +13,7 @@ use Rattle.tap_table.specs.Members.{ties_at_rest}
 use Rattle.tap_session.specs.Session.{Session, SessionsValue}
 use Rattle.tap_session.specs.Sessions.{session_of}
 use Rattle.tap_multicast.specs.Covers.{CoversValue, level_kept}
-use Rattle.tap_join.specs.Joining.{started}
+use Rattle.tap_join.specs.Joining.{started_joining}
 use Rattle.tap_pointer.specs.Pointers.{PointersValue, no_pointers}
 use Rattle.tap_cast.specs.Casts.{CastsValue}
 
@@ -86,7 +86,7 @@ no_sessions = record { sessions = []; opened = 0 }
 abbrev pub joiner : SettingsValue → List ℕ → NodeState
 joiner p name = record {
   status = Joining;
-  ties = (started p name).ties;
+  ties = (started_joining p name).ties;
   stamp = 0;
   sessions = no_sessions;
   covers = [];

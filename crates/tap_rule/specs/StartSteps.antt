@@ -1,7 +1,7 @@
 -- What the starts of joins and departures change.
 use Rattle.std.specs.Prelude.{◌≡◌, ◌≢◌, true, List, [], ◌∷◌, length, map, ℕ}
 use Rattle.tap_table.specs.Ties.{holders_on}
-use Rattle.tap_depart.specs.Leaving.{started}
+use Rattle.tap_depart.specs.Leaving.{started_leaving}
 use Rattle.tap_pointer.specs.Pointers.{all_withdrawn}
 use Rattle.tap_wire.specs.declared.frame.Body.TheVariants.{Seek, Leave, Gone as GoneFrame}
 use Rattle.tap_rule.specs.Node.{NodeState, name_of}
@@ -40,8 +40,9 @@ pub record LeaveStartStep (node : NodeState) (acted : Acted) : Type 0 where
   pub waits : length (holders_on node.ties) ≢ 0
       → (acted.state.status ≡ Leaving) × (acted.state.ties ≡ node.ties) × (acted.state.sessions ≡ node.sessions)
       × (acted.state.awaited ≡ holders_on node.ties)
-      × AreSent (name_of node) [] (map (λ notice. message notice.to (Leave notice.replacement)) (started node.ties).notices) acted.sent
+      × AreSent (name_of node) []
+      (map (λ notice. message notice.to (Leave notice.replacement)) (started_leaving node.ties).notices) acted.sent
       × (acted.state.covers ≡ node.covers) × (acted.state.greeted ≡ node.greeted) × (acted.state.abandoned ≡ node.abandoned)
       × CastsAlike node acted.state × IsCompleted node (all_withdrawn node.pointers) []
-      (map (λ notice. message notice.to (Leave notice.replacement)) (started node.ties).notices) Nothing acted
+      (map (λ notice. message notice.to (Leave notice.replacement)) (started_leaving node.ties).notices) Nothing acted
   pub finishes : length (holders_on node.ties) ≡ 0 → EndStep node Gone GoneFrame acted

@@ -4,7 +4,7 @@ use Rattle.tap_cast.proofs.Levels.{all_told, none_told}
 use Rattle.tap_table.proofs.Stepping.{in_range, in_ranges, in_ranges-first}
 use Rattle.tap_table.proofs.Steps.{added}
 use Rattle.tap_cast.proofs.targets.cast_targets.Goals as goal
-use Rattle.tap_cast.proofs.targets.cast_targets.Goals.{then-is_level+in_ok-push_range, else-is_level}
+use Rattle.tap_cast.proofs.targets.cast_targets.Goals.{then-is_between+in_ok-push_range, else-is_between}
 
 pub push_range-requires-clause-small : goal.push_range-requires-clause-small
 push_range-requires-clause-small c =
@@ -25,13 +25,13 @@ loop-i-preserved c =
     let rest = in_ranges of_slot t.settings t.owner (i + 1) in
     let parts = in_ranges-first of_slot t.settings t.owner i inside
     ∙ ap (λ r. in_range of_slot r ++ rest) (sym c.range_by_name-range.ensures.value) in
-    elim c.if-is_level.branch [
-      | then-is_level+in_ok-push_range w ↦
-          let here = all_told t from to range (sym c.is_level.ensures ∙ w.if-is_level.true) in
+    elim c.if-is_between.branch [
+      | then-is_between+in_ok-push_range w ↦
+          let here = all_told t from to range (sym c.is_between.ensures ∙ w.if-is_between.true) in
           rw (w.targets-is, w.in_ok-push_range.ensures)
           (added done (in_range (slot_targets t) range) rest (in_ranges of_slot t.settings t.owner i) (cast_targets t from to)
           (parts ∙ ap (λ l. l ++ rest) here) c.loop-i.invariant)
-      | else-is_level w ↦
-          let here = none_told t from to range (sym c.is_level.ensures ∙ w.if-is_level.false) in
+      | else-is_between w ↦
+          let here = none_told t from to range (sym c.is_between.ensures ∙ w.if-is_between.false) in
           rw w.targets-is (ap (λ l. done ++ l) (sym (parts ∙ ap (λ l. l ++ rest) here)) ∙ c.loop-i.invariant)
     ]
