@@ -73,6 +73,14 @@ state_of-withdrawn p object other =
           ]
     ]
 
+-- the owner stays when it withdraws an object
+pub withdrawn_owner : (p : PointersValue) (object : List ℕ) → (withdrawn p object).owner ≡ p.owner
+withdrawn_owner p object =
+    elim (cases_Bool (owner_publishes p object)) [
+      | inl is ↦ rw is refl
+      | inr is_not ↦ rw is_not refl
+    ]
+
 -- withdrawing an object of whose pair something is known is putting it in as not published
 pub withdrawn_put : (p : PointersValue) (object : List ℕ) → IsStrictlySortedBy pair_cmp (keys_of p.pairs)
     → lookup (is_at (pair_cmp (own_pair p object))) p.pairs ≡ Some (state_of p (own_pair p object))
@@ -129,6 +137,25 @@ put_lays_others t pair state p laid = each p.pairs laid
         All-put pair_cmp-total pair state Unless
         (λ other tied apart. let wrong : true ≡ false = sym (ap is_eq tied) ∙ apart in absurd (cc))
         pairs (laid_but_one t pair (record p { pairs = pairs }) all)
+
+-- so it is after a step that publishes or withdraws an object, or takes a Lay, and changes no primary
+pub published_lays_others : (t : TableValue) (object : List ℕ) (p : PointersValue) → AreLaid t p
+    → AreLaidBut t (own_pair p object) (published p object)
+published_lays_others t object p =
+    put_lays_others t (own_pair p object) (with_published (state_of p (own_pair p object)) true) p
+
+pub withdrawn_lays_others : (t : TableValue) (object : List ℕ) (p : PointersValue) → AreLaid t p
+    → AreLaidBut t (own_pair p object) (withdrawn p object)
+withdrawn_lays_others t object p laid =
+    elim (cases_Bool (owner_publishes p object)) [
+      | inl is ↦ rw is (put_lays_others t (own_pair p object) (with_published (state_of p (own_pair p object)) false) p laid)
+      | inr is_not ↦ rw is_not (laid_but_one t (own_pair p object) p laid)
+    ]
+
+pub lay_applied_lays_others : (t : TableValue) (pair : Pair) (from : List ℕ) (version : ℕ) (pointer : Pointer) (p : PointersValue)
+    → AreLaid t p → AreLaidBut t pair (lay_applied p pair from version pointer)
+lay_applied_lays_others t pair from version pointer p =
+    put_lays_others t pair (with_lay (state_of p pair) from version pointer) p
 
 -- what pointers keep, after each call
 module _ (p : PointersValue) (are : IsPointers p) where

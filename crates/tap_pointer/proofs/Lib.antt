@@ -5,5 +5,6 @@ pub mod Layings
 pub mod Least
 pub mod Levels
 pub mod Lookups
+pub mod NamesHeld
 pub mod OnePair
 pub mod Retained
