@@ -21,7 +21,7 @@ use Rattle.tap_pointer.specs.declared.hop.Hop.{Hop}
 use Rattle.tap_pointer.specs.declared.state.PairState.{PairState}
 use Rattle.tap_pointer.specs.declared.state.Pointer.{Pointer}
 use Rattle.tap_pointer.specs.Pair.{pair_cmp, pair_cmp-total}
-use Rattle.tap_pointer.specs.Pointers.{IsKnown, change_between, is_held_or_laid, nothing_known, span, state_among, told, with_laid, with_published}
+use Rattle.tap_pointer.specs.Pointers.{IsPairState, change_between, is_held_or_laid, nothing_known, held_or_laid_count, state_among, with_lay, with_laid, with_published}
 use Rattle.tap_pointer.proofs.Entries.{All-put, count-put, one_if, put_in_place}
 
 -- two pairs that compare as equal are one
@@ -58,7 +58,7 @@ All-found P pair state (e ∷ pairs) all found =
 
 module _ (owner : List ℕ) (pair : Pair) where
   -- nothing that is known is known as it should be
-  pub nothing-known : IsKnown owner (pair, nothing_known)
+  pub nothing-known : IsPairState owner (pair, nothing_known)
   nothing-known = record {
     own = λ is. let wrong : false ≡ true = is in absurd (cc);
     levels_from = All-nil (λ r. 1 ≤ r.value.level);
@@ -66,31 +66,31 @@ module _ (owner : List ℕ) (pair : Pair) where
   }
 
   -- what is known of a pair among others is known as it should be
-  pub known-among : (pairs : List (Pair × PairState)) → All (IsKnown owner) pairs → IsKnown owner (pair, state_among pairs pair)
+  pub known-among : (pairs : List (Pair × PairState)) → All (IsPairState owner) pairs → IsPairState owner (pair, state_among pairs pair)
   known-among pairs all = by_found (lookup (is_at (pair_cmp pair)) pairs) refl
     where
       by_found : (found : Option PairState) → lookup (is_at (pair_cmp pair)) pairs ≡ found
-          → IsKnown owner (pair, unwrap_or found nothing_known)
+          → IsPairState owner (pair, unwrap_or found nothing_known)
       by_found None is = nothing-known
-      by_found (Some state) is = All-found (IsKnown owner) pair state pairs all is
+      by_found (Some state) is = All-found (IsPairState owner) pair state pairs all is
 
-  module _ (state : PairState) (known : IsKnown owner (pair, state)) where
-    pub known-published : pair.server ≡ owner → IsKnown owner (pair, with_published state true)
+  module _ (state : PairState) (known : IsPairState owner (pair, state)) where
+    pub known-published : pair.server ≡ owner → IsPairState owner (pair, with_published state true)
     known-published own = record { own = λ is. own; levels_from = known.levels_from; levels_to = known.levels_to }
 
-    pub known-withdrawn : IsKnown owner (pair, with_published state false)
+    pub known-withdrawn : IsPairState owner (pair, with_published state false)
     known-withdrawn = record {
       own = λ is. let wrong : false ≡ true = is in absurd (cc);
       levels_from = known.levels_from;
       levels_to = known.levels_to;
     }
 
-    pub known-laid : (hop : Option Hop) → IsKnown owner (pair, with_laid state hop)
+    pub known-laid : (hop : Option Hop) → IsPairState owner (pair, with_laid state hop)
     known-laid hop = record { own = known.own; levels_from = known.levels_from; levels_to = known.levels_to }
 
-    pub known-told : (from : List ℕ) (version : ℕ) (pointer : Pointer) → 1 ≤ pointer.level → pointer.level ≤ length pair.object
-        → IsKnown owner (pair, told state from version pointer)
-    known-told from version pointer least most = record {
+    pub known-with_lay : (from : List ℕ) (version : ℕ) (pointer : Pointer) → 1 ≤ pointer.level → pointer.level ≤ length pair.object
+        → IsPairState owner (pair, with_lay state from version pointer)
+    known-with_lay from version pointer least most = record {
       own = known.own;
       levels_from = All-applied name_cmp nat_list_cmp_total state.registers from version pointer (λ r. 1 ≤ r.value.level)
           known.levels_from least;
@@ -99,11 +99,11 @@ module _ (owner : List ℕ) (pair : Pair) where
     }
 
   -- the pairs are known as they should be after one of them was put in
-  pub known-put : (pairs : List (Pair × PairState)) (state : PairState) → All (IsKnown owner) pairs → IsKnown owner (pair, state)
-      → All (IsKnown owner) (insert_entry pair_cmp pairs pair state)
+  pub known-put : (pairs : List (Pair × PairState)) (state : PairState) → All (IsPairState owner) pairs → IsPairState owner (pair, state)
+      → All (IsPairState owner) (insert_entry pair_cmp pairs pair state)
   known-put pairs state all known =
-      All-put pair_cmp-total pair state (IsKnown owner)
-      (λ other tied. subst (λ same. IsKnown owner (same, state)) (pair_cmp-equal pair other tied) known) pairs all
+      All-put pair_cmp-total pair state (IsPairState owner)
+      (λ other tied. subst (λ same. IsPairState owner (same, state)) (pair_cmp-equal pair other tied) known) pairs all
 
 -- one for a pair that is held or laid, and none for another one
 abbrev pub one_of : PairState → ℕ
@@ -115,24 +115,25 @@ module _ (pairs : List (Pair × PairState)) (pair : Pair) where
   found_one (Some state) = refl
 
   -- how many pairs are held or laid after one of them was put in
-  pub span-put : (state : PairState) → IsStrictlySortedBy pair_cmp (keys_of pairs)
-      → span (insert_entry pair_cmp pairs pair state) + one_of (state_among pairs pair) ≡ span pairs + one_of state
-  span-put state sorted =
+  pub count-with_pair : (state : PairState) → IsStrictlySortedBy pair_cmp (keys_of pairs)
+      → held_or_laid_count (insert_entry pair_cmp pairs pair state) + one_of (state_among pairs pair)
+      ≡ held_or_laid_count pairs + one_of state
+  count-with_pair state sorted =
       let counted = count-put pair_cmp-total is_held_or_laid pair state pairs sorted in
       let found = found_one (lookup (is_at (pair_cmp pair)) pairs) in
       omega (arith, counted, found)
 
 -- a pair that is held or laid is counted
-pub counted-among : (pairs : List (Pair × PairState)) (pair : Pair) → one_of (state_among pairs pair) ≤ span pairs
+pub counted-among : (pairs : List (Pair × PairState)) (pair : Pair) → one_of (state_among pairs pair) ≤ held_or_laid_count pairs
 counted-among [] pair = omega arith
 counted-among (e ∷ pairs) pair = by_order (counted-among pairs pair) (is_at (pair_cmp pair) e.0) refl
   where
-    more : (known : Bool) → is_held_or_laid e.1 ≡ known → span (e ∷ pairs) ≡ one_of e.1 + span pairs
+    more : (known : Bool) → is_held_or_laid e.1 ≡ known → held_or_laid_count (e ∷ pairs) ≡ one_of e.1 + held_or_laid_count pairs
     more true is = rw is (omega arith)
     more false is = rw is (omega arith)
 
-    by_order : one_of (state_among pairs pair) ≤ span pairs → (tied : Bool) → is_at (pair_cmp pair) e.0 ≡ tied
-        → one_of (state_among (e ∷ pairs) pair) ≤ span (e ∷ pairs)
+    by_order : one_of (state_among pairs pair) ≤ held_or_laid_count pairs → (tied : Bool) → is_at (pair_cmp pair) e.0 ≡ tied
+        → one_of (state_among (e ∷ pairs) pair) ≤ held_or_laid_count (e ∷ pairs)
     by_order later true is =
         let here : one_of (state_among (e ∷ pairs) pair) ≡ one_of e.1 = rw is refl in
         omega (arith, here, more (is_held_or_laid e.1) refl)
@@ -141,22 +142,23 @@ counted-among (e ∷ pairs) pair = by_order (counted-among pairs pair) (is_at (p
         omega (arith, there, later, more (is_held_or_laid e.1) refl)
 
 -- no more pairs are held or laid than there are
-pub span-most : (pairs : List (Pair × PairState)) → span pairs ≤ length pairs
-span-most [] = omega arith
-span-most (e ∷ pairs) = by_state (span-most pairs) (is_held_or_laid e.1) refl
+pub count-most : (pairs : List (Pair × PairState)) → held_or_laid_count pairs ≤ length pairs
+count-most [] = omega arith
+count-most (e ∷ pairs) = by_state (count-most pairs) (is_held_or_laid e.1) refl
   where
-    by_state : span pairs ≤ length pairs → (known : Bool) → is_held_or_laid e.1 ≡ known → span (e ∷ pairs) ≤ length (e ∷ pairs)
+    by_state : held_or_laid_count pairs ≤ length pairs → (known : Bool) → is_held_or_laid e.1 ≡ known
+        → held_or_laid_count (e ∷ pairs) ≤ length (e ∷ pairs)
     by_state later true is = rw is (omega (arith, later))
     by_state later false is = rw is (omega (arith, later))
 
 -- what is known of each pair is still as it should be after a change of each
 pub known-map : (owner : List ℕ) (f : Pair × PairState → PairState)
-    → ((e : Pair × PairState) → IsKnown owner e → IsKnown owner (e.0, f e))
-    → (pairs : List (Pair × PairState)) → All (IsKnown owner) pairs → All (IsKnown owner) (map (λ e. (e.0, f e)) pairs)
-known-map owner f keeps [] all = All-nil (IsKnown owner)
+    → ((e : Pair × PairState) → IsPairState owner e → IsPairState owner (e.0, f e))
+    → (pairs : List (Pair × PairState)) → All (IsPairState owner) pairs → All (IsPairState owner) (map (λ e. (e.0, f e)) pairs)
+known-map owner f keeps [] all = All-nil (IsPairState owner)
 known-map owner f keeps (e ∷ pairs) all =
-    All-cons (IsKnown owner) (e.0, f e) (map (λ e. (e.0, f e)) pairs) (keeps e (All-head (IsKnown owner) e pairs all))
-    (known-map owner f keeps pairs (All-tail (IsKnown owner) e pairs all))
+    All-cons (IsPairState owner) (e.0, f e) (map (λ e. (e.0, f e)) pairs) (keeps e (All-head (IsPairState owner) e pairs all))
+    (known-map owner f keeps pairs (All-tail (IsPairState owner) e pairs all))
 
 module _ (pairs : List (Pair × PairState)) (pair : Pair) (sorted : IsStrictlySortedBy pair_cmp (keys_of pairs)) where
   -- the state that a look-up finds, and that is written in its place
@@ -172,28 +174,28 @@ module _ (pairs : List (Pair × PairState)) (pair : Pair) (sorted : IsStrictlySo
 
   module _ (state : PairState) (change : Change) (is : change ≡ change_between (state_among pairs pair) state)
       (new : List (Pair × PairState)) (after : new ≡ insert_entry pair_cmp pairs pair state)
-      (spanned : ℕ) (counted : spanned ≡ span pairs) where
+      (held_or_laid : ℕ) (counted : held_or_laid ≡ held_or_laid_count pairs) where
     was_one : (if change.was then 1 else 0) ≡ one_of (state_among pairs pair)
     was_one = ap (λ c. if c.was then 1 else 0) is
 
     is_one : (if change.is then 1 else 0) ≡ one_of state
     is_one = ap (λ c. if c.is then 1 else 0) is
 
-    span_now : span new + one_of (state_among pairs pair) ≡ span pairs + one_of state
-    span_now = ap (λ entries. span entries + one_of (state_among pairs pair)) after ∙ span-put pairs pair state sorted
+    count_now : held_or_laid_count new + one_of (state_among pairs pair) ≡ held_or_laid_count pairs + one_of state
+    count_now = ap (λ entries. held_or_laid_count entries + one_of (state_among pairs pair)) after ∙ count-with_pair pairs pair state sorted
 
     -- the count of the pairs that are held or laid, from before the change to after it
-    pub count_from : (if change.was then 1 else 0) ≤ spanned
+    pub count_from : (if change.was then 1 else 0) ≤ held_or_laid
     count_from = omega (arith, was_one, counted, counted-among pairs pair)
 
-    pub count_to : (most : ℕ) → most ≡ length new → spanned + (if change.is then 1 else 0) ≤ most + (if change.was then 1 else 0)
-    count_to most all = omega (arith, was_one, is_one, counted, span_now, span-most new, all)
+    pub count_to : (most : ℕ) → most ≡ length new → held_or_laid + (if change.is then 1 else 0) ≤ most + (if change.was then 1 else 0)
+    count_to most all = omega (arith, was_one, is_one, counted, count_now, count-most new, all)
 
-    pub put_keeps : (owner : List ℕ) (now : ℕ) → now + (if change.was then 1 else 0) ≡ spanned + (if change.is then 1 else 0)
-        → All (IsKnown owner) pairs → IsKnown owner (pair, state) → All (IsKnown owner) new × (now ≡ span new)
+    pub put_keeps : (owner : List ℕ) (now : ℕ) → now + (if change.was then 1 else 0) ≡ held_or_laid + (if change.is then 1 else 0)
+        → All (IsPairState owner) pairs → IsPairState owner (pair, state) → All (IsPairState owner) new × (now ≡ held_or_laid_count new)
     put_keeps owner now counted_now all known = (
-      subst (All (IsKnown owner)) (sym after) (known-put owner pair pairs state all known),
-      omega (arith, was_one, is_one, counted, span_now, counted_now),
+      subst (All (IsPairState owner)) (sym after) (known-put owner pair pairs state all known),
+      omega (arith, was_one, is_one, counted, count_now, counted_now),
     )
 
 -- what laying a known pair did: the change, and the pairs afterwards

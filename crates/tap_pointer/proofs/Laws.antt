@@ -16,10 +16,10 @@ use Rattle.tap_pointer.specs.declared.pair.Pair.{Pair}
 use Rattle.tap_pointer.specs.declared.state.PairState.{PairState}
 use Rattle.tap_pointer.specs.declared.state.Pointer.{Pointer}
 use Rattle.tap_pointer.specs.Pair.{pair_cmp, pair_cmp-total}
-use Rattle.tap_pointer.specs.Pointers.{IsKnown, IsPointers, PointersValue, all_withdrawn, lay_applied, no_pointers, nothing_known, own_pair, published, publishes, state_of, told, with_laid, with_published, with_state, withdrawn}
-use Rattle.tap_pointer.specs.Reconcile.{AreLaid, AreLaidBut, cleared, layings_to_wanted, numbered, reconcile_lays, reconciled, wanted_hop, with_wanted}
+use Rattle.tap_pointer.specs.Pointers.{IsPairState, IsPointers, PointersValue, all_withdrawn, lay_applied, no_pointers, nothing_known, own_pair, published, owner_publishes, state_of, with_lay, with_laid, with_published, with_state, withdrawn}
+use Rattle.tap_pointer.specs.Reconcile.{AreLaid, AreLaidBut, cleared, layings_to_wanted, lays_numbered, reconcile_lays, reconciled, wanted_hop, with_wanted}
 use Rattle.tap_pointer.proofs.Entries.{All-put, lookup-put, put_same, sorted-put}
-use Rattle.tap_pointer.proofs.Known.{known-among, known-laid, known-map, known-put, known-published, known-told, known-withdrawn, pair_cmp-equal}
+use Rattle.tap_pointer.proofs.Known.{known-among, known-laid, known-map, known-put, known-published, known-with_lay, known-withdrawn, pair_cmp-equal}
 use Rattle.tap_pointer.proofs.Layings.{all_laid, none_if_laid}
 
 -- whether two pairs are one
@@ -43,10 +43,10 @@ pub state_of-published : (p : PointersValue) (object : List ℕ) (other : Pair)
     ≡ (if is_same other (own_pair p object) then with_published (state_of p (own_pair p object)) true else state_of p other)
 state_of-published p object = state_of-with p (own_pair p object) (with_published (state_of p (own_pair p object)) true)
 
-pub state_of-told : (p : PointersValue) (pair : Pair) (from : List ℕ) (version : ℕ) (pointer : Pointer) (other : Pair)
+pub state_of-lay_applied : (p : PointersValue) (pair : Pair) (from : List ℕ) (version : ℕ) (pointer : Pointer) (other : Pair)
     → state_of (lay_applied p pair from version pointer) other
-    ≡ (if is_same other pair then told (state_of p pair) from version pointer else state_of p other)
-state_of-told p pair from version pointer = state_of-with p pair (told (state_of p pair) from version pointer)
+    ≡ (if is_same other pair then with_lay (state_of p pair) from version pointer else state_of p other)
+state_of-lay_applied p pair from version pointer = state_of-with p pair (with_lay (state_of p pair) from version pointer)
 
 -- a pair that compares as equal is the same, and so is what is known of it
 same_state : (p : PointersValue) (pair other : Pair) → is_same other pair ≡ true → state_of p other ≡ state_of p pair
@@ -61,7 +61,7 @@ pub state_of-withdrawn : (p : PointersValue) (object : List ℕ) (other : Pair)
     → state_of (withdrawn p object) other
     ≡ (if is_same other (own_pair p object) then with_published (state_of p (own_pair p object)) false else state_of p other)
 state_of-withdrawn p object other =
-    elim (cases_Bool (publishes p object)) [
+    elim (cases_Bool (owner_publishes p object)) [
       | inl is ↦ rw is (state_of-with p (own_pair p object) (with_published (state_of p (own_pair p object)) false) other)
       | inr is_not ↦
           let own = own_pair p object in
@@ -73,12 +73,20 @@ state_of-withdrawn p object other =
           ]
     ]
 
+-- the owner stays when it withdraws an object
+pub withdrawn_owner : (p : PointersValue) (object : List ℕ) → (withdrawn p object).owner ≡ p.owner
+withdrawn_owner p object =
+    elim (cases_Bool (owner_publishes p object)) [
+      | inl is ↦ rw is refl
+      | inr is_not ↦ rw is_not refl
+    ]
+
 -- withdrawing an object of whose pair something is known is putting it in as not published
 pub withdrawn_put : (p : PointersValue) (object : List ℕ) → IsStrictlySortedBy pair_cmp (keys_of p.pairs)
     → lookup (is_at (pair_cmp (own_pair p object))) p.pairs ≡ Some (state_of p (own_pair p object))
     → with_state p (own_pair p object) (with_published (state_of p (own_pair p object)) false) ≡ withdrawn p object
 withdrawn_put p object sorted found =
-    elim (cases_Bool (publishes p object)) [
+    elim (cases_Bool (owner_publishes p object)) [
       | inl is ↦ rw is refl
       | inr is_not ↦
           let own = own_pair p object in
@@ -97,7 +105,7 @@ pub laid_sends_nothing : (t : TableValue) (last : ℕ) (p : PointersValue) → A
     → (reconcile_lays t last p ≡ []) × (reconciled t p ≡ p)
 laid_sends_nothing t last p laid =
     let nothing = none_if_laid t p.pairs laid in
-    (ap (numbered last) nothing.0, ap (λ pairs. record p { pairs = pairs }) nothing.1)
+    (ap (lays_numbered last) nothing.0, ap (λ pairs. record p { pairs = pairs }) nothing.1)
 
 -- so reconciling twice sends nothing the second time
 pub reconciling_twice : (t : TableValue) (last : ℕ) (p : PointersValue) → reconcile_lays t last (reconciled t p) ≡ []
@@ -130,15 +138,34 @@ put_lays_others t pair state p laid = each p.pairs laid
         (λ other tied apart. let wrong : true ≡ false = sym (ap is_eq tied) ∙ apart in absurd (cc))
         pairs (laid_but_one t pair (record p { pairs = pairs }) all)
 
+-- so it is after a step that publishes or withdraws an object, or takes a Lay, and changes no primary
+pub published_lays_others : (t : TableValue) (object : List ℕ) (p : PointersValue) → AreLaid t p
+    → AreLaidBut t (own_pair p object) (published p object)
+published_lays_others t object p =
+    put_lays_others t (own_pair p object) (with_published (state_of p (own_pair p object)) true) p
+
+pub withdrawn_lays_others : (t : TableValue) (object : List ℕ) (p : PointersValue) → AreLaid t p
+    → AreLaidBut t (own_pair p object) (withdrawn p object)
+withdrawn_lays_others t object p laid =
+    elim (cases_Bool (owner_publishes p object)) [
+      | inl is ↦ rw is (put_lays_others t (own_pair p object) (with_published (state_of p (own_pair p object)) false) p laid)
+      | inr is_not ↦ rw is_not (laid_but_one t (own_pair p object) p laid)
+    ]
+
+pub lay_applied_lays_others : (t : TableValue) (pair : Pair) (from : List ℕ) (version : ℕ) (pointer : Pointer) (p : PointersValue)
+    → AreLaid t p → AreLaidBut t pair (lay_applied p pair from version pointer)
+lay_applied_lays_others t pair from version pointer p =
+    put_lays_others t pair (with_lay (state_of p pair) from version pointer) p
+
 -- what pointers keep, after each call
 module _ (p : PointersValue) (are : IsPointers p) where
-  put : (pair : Pair) (state : PairState) → IsKnown p.owner (pair, state) → IsPointers (with_state p pair state)
+  put : (pair : Pair) (state : PairState) → IsPairState p.owner (pair, state) → IsPointers (with_state p pair state)
   put pair state known = record {
     ascending = sorted-put pair_cmp-total pair state p.pairs are.ascending;
     known = known-put p.owner pair p.pairs state are.known known;
   }
 
-  known_of : (pair : Pair) → IsKnown p.owner (pair, state_of p pair)
+  known_of : (pair : Pair) → IsPairState p.owner (pair, state_of p pair)
   known_of pair = known-among p.owner pair p.pairs are.known
 
   pub are-published : (object : List ℕ) → IsPointers (published p object)
@@ -149,20 +176,20 @@ module _ (p : PointersValue) (are : IsPointers p) where
   pub are-withdrawn : (object : List ℕ) → IsPointers (withdrawn p object)
   are-withdrawn object =
       let own = own_pair p object in
-      elim (cases_Bool (publishes p object)) [
+      elim (cases_Bool (owner_publishes p object)) [
         | inl is ↦
             rw is (put own (with_published (state_of p own) false) (known-withdrawn p.owner own (state_of p own) (known_of own)))
         | inr is_not ↦ rw is_not are
       ]
 
-  pub are-told : (pair : Pair) (from : List ℕ) (version : ℕ) (pointer : Pointer) → 1 ≤ pointer.level
+  pub are-lay_applied : (pair : Pair) (from : List ℕ) (version : ℕ) (pointer : Pointer) → 1 ≤ pointer.level
       → pointer.level ≤ length pair.object → IsPointers (lay_applied p pair from version pointer)
-  are-told pair from version pointer least most =
-      put pair (told (state_of p pair) from version pointer)
-      (known-told p.owner pair (state_of p pair) (known_of pair) from version pointer least most)
+  are-lay_applied pair from version pointer least most =
+      put pair (with_lay (state_of p pair) from version pointer)
+      (known-with_lay p.owner pair (state_of p pair) (known_of pair) from version pointer least most)
 
   -- a change of each state, which leaves the pairs
-  change_all : (f : Pair × PairState → PairState) → ((e : Pair × PairState) → IsKnown p.owner e → IsKnown p.owner (e.0, f e))
+  change_all : (f : Pair × PairState → PairState) → ((e : Pair × PairState) → IsPairState p.owner e → IsPairState p.owner (e.0, f e))
       → IsPointers (record p { pairs = map (λ e. (e.0, f e)) p.pairs })
   change_all f keeps = record {
     ascending = subst (IsStrictlySortedBy pair_cmp) (sym (same_keys p.pairs)) are.ascending;
@@ -182,4 +209,4 @@ module _ (p : PointersValue) (are : IsPointers p) where
 
 pub are-none : (owner : List ℕ) → IsPointers (no_pointers owner)
 unfolding IsStrictlySortedBy
-are-none owner = record { ascending = tt; known = All-nil (IsKnown owner) }
+are-none owner = record { ascending = tt; known = All-nil (IsPairState owner) }

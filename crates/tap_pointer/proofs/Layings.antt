@@ -14,23 +14,23 @@ use Rattle.tap_pointer.specs.declared.lay.Lay.{Lay}
 use Rattle.tap_pointer.specs.declared.laying.Laying.{Laying}
 use Rattle.tap_pointer.specs.declared.pair.Pair.{Pair}
 use Rattle.tap_pointer.specs.declared.state.PairState.{PairState}
-use Rattle.tap_pointer.specs.Pointers.{PointersValue, is_held, is_held_or_laid, span, with_laid}
-use Rattle.tap_pointer.specs.Reconcile.{AreLaid, hop_from, is_to, laying_at, layings, layings_to_none, layings_to_wanted, numbered, reconciled, told_off, told_on, wanted_hop, with_wanted}
+use Rattle.tap_pointer.specs.Pointers.{PointersValue, is_held, is_held_or_laid, held_or_laid_count, with_laid}
+use Rattle.tap_pointer.specs.Reconcile.{AreLaid, hop_from, is_to, laying_at, layings, layings_to_none, layings_to_wanted, lays_numbered, reconciled, told_off, told_on, wanted_hop, with_wanted}
 use Rattle.tap_pointer.proofs.Levels.{no_level}
 
 -- the numbers of more Lays follow those of the first
-pub numbered-append : (last : ℕ) (first second : List Laying)
-    → numbered last (first ++ second) ≡ numbered last first ++ numbered (last + length first) second
-numbered-append last [] second = let same : last + 0 ≡ last = omega arith in rw same refl
-numbered-append last (laying ∷ first) second =
+pub lays_numbered-append : (last : ℕ) (first second : List Laying)
+    → lays_numbered last (first ++ second) ≡ lays_numbered last first ++ lays_numbered (last + length first) second
+lays_numbered-append last [] second = let same : last + 0 ≡ last = omega arith in rw same refl
+lays_numbered-append last (laying ∷ first) second =
     let after : (last + 1) + length first ≡ last + length (laying ∷ first) = omega arith in
-    let rest = numbered-append (last + 1) first second in
-    ap (λ lays. numbered last (laying ∷ []) ++ lays)
-    (rest ∙ ap (λ n. numbered (last + 1) first ++ numbered n second) after)
+    let rest = lays_numbered-append (last + 1) first second in
+    ap (λ lays. lays_numbered last (laying ∷ []) ++ lays)
+    (rest ∙ ap (λ n. lays_numbered (last + 1) first ++ lays_numbered n second) after)
 
-pub length-numbered : (last : ℕ) (layings : List Laying) → length (numbered last layings) ≡ length layings
-length-numbered last [] = refl
-length-numbered last (laying ∷ layings) = let rest = length-numbered (last + 1) layings in omega (arith, rest)
+pub length-lays_numbered : (last : ℕ) (layings : List Laying) → length (lays_numbered last layings) ≡ length layings
+length-lays_numbered last [] = refl
+length-lays_numbered last (laying ∷ layings) = let rest = length-lays_numbered (last + 1) layings in omega (arith, rest)
 
 -- a hop is to its own node, at its own level
 same_name : (name : List ℕ) → pointwise nat_eq name name ≡ true
@@ -40,7 +40,7 @@ same_name (digit ∷ name) = let head : nat_eq digit digit ≡ true = eq-eqb dig
 pub to_itself : (hop : Hop) → is_to hop hop ≡ true
 to_itself hop = same_name hop.to
 
-same_level : (hop : Hop) → (hop.level == hop.level) ≡ true
+pub same_level : (hop : Hop) → (hop.level == hop.level) ≡ true
 same_level hop = eq-eqb hop.level hop.level refl
 
 -- a pair that is laid as wanted takes no Lay
@@ -73,20 +73,20 @@ module _ (t : TableValue) where
 
   -- a pair takes at most two Lays, and none if it is neither held nor laid
   pub few_here : (e : Pair × PairState) (rest : List (Pair × PairState))
-      → length (layings e.0 e.1.laid (wanted_hop t e)) + 2 * span rest ≤ 2 * span (e ∷ rest)
+      → length (layings e.0 e.1.laid (wanted_hop t e)) + 2 * held_or_laid_count rest ≤ 2 * held_or_laid_count (e ∷ rest)
   few_here e rest =
       elim (cases_Bool (is_held_or_laid e.1)) [
         | inl known ↦
-            let more : span (e ∷ rest) ≡ 1 + span rest = rw known (omega arith) in
+            let more : held_or_laid_count (e ∷ rest) ≡ 1 + held_or_laid_count rest = rw known (omega arith) in
             omega (arith, more, at_most_two e.0 e.1.laid (wanted_hop t e))
         | inr unknown ↦
-            let same : span (e ∷ rest) ≡ span rest = rw unknown refl in
+            let same : held_or_laid_count (e ∷ rest) ≡ held_or_laid_count rest = rw unknown refl in
             let none : length (layings e.0 e.1.laid (wanted_hop t e)) ≡ 0 = ap length (none_if_unknown e unknown) in
             omega (arith, same, none)
       ]
 
   -- all pairs take at most two Lays for each that is held or laid
-  pub few_layings : (pairs : List (Pair × PairState)) → length (layings_to_wanted t pairs) ≤ 2 * span pairs
+  pub few_layings : (pairs : List (Pair × PairState)) → length (layings_to_wanted t pairs) ≤ 2 * held_or_laid_count pairs
   few_layings [] = omega arith
   few_layings (e ∷ pairs) =
       let both = length-append (layings e.0 e.1.laid (wanted_hop t e)) (layings_to_wanted t pairs) in
@@ -117,33 +117,34 @@ module _ (t : TableValue) where
 
 -- a pair takes at most one Lay to be laid nowhere, and none if it isn't laid
 pub few_to_none_here : (e : Pair × PairState) (rest : List (Pair × PairState))
-    → length (layings e.0 e.1.laid None) + span rest ≤ span (e ∷ rest)
+    → length (layings e.0 e.1.laid None) + held_or_laid_count rest ≤ held_or_laid_count (e ∷ rest)
 few_to_none_here e rest = by_laid e.1.laid refl
   where
     known : (hop : Hop) → e.1.laid ≡ Some hop → is_held_or_laid e.1 ≡ true
     known hop is = or_right (is_held e.1) (is_some e.1.laid) (ap is_some is)
 
-    at_least : (known : Bool) → is_held_or_laid e.1 ≡ known → span rest ≤ span (e ∷ rest)
+    at_least : (known : Bool) → is_held_or_laid e.1 ≡ known → held_or_laid_count rest ≤ held_or_laid_count (e ∷ rest)
     at_least true is = rw is (omega arith)
     at_least false is = rw is (omega arith)
 
-    by_laid : (laid : Option Hop) → e.1.laid ≡ laid → length (layings e.0 e.1.laid None) + span rest ≤ span (e ∷ rest)
+    by_laid : (laid : Option Hop) → e.1.laid ≡ laid
+        → length (layings e.0 e.1.laid None) + held_or_laid_count rest ≤ held_or_laid_count (e ∷ rest)
     by_laid None is =
         let none : length (layings e.0 e.1.laid None) ≡ 0 = rw is refl in
         omega (arith, none, at_least (is_held_or_laid e.1) refl)
     by_laid (Some hop) is =
         let one : length (layings e.0 e.1.laid None) ≡ 1 = rw is refl in
-        let more : span (e ∷ rest) ≡ 1 + span rest = rw (known hop is) (omega arith) in
+        let more : held_or_laid_count (e ∷ rest) ≡ 1 + held_or_laid_count rest = rw (known hop is) (omega arith) in
         omega (arith, one, more)
 
 -- the Lays of one pair, and then those of the others
-pub numbered_step : (lays all : List Lay) (last : ℕ) (here later : List Laying) → lays ++ numbered last (here ++ later) ≡ all
-    → (lays ++ numbered last here) ++ numbered (last + length here) later ≡ all
+pub numbered_step : (lays all : List Lay) (last : ℕ) (here later : List Laying) → lays ++ lays_numbered last (here ++ later) ≡ all
+    → (lays ++ lays_numbered last here) ++ lays_numbered (last + length here) later ≡ all
 numbered_step lays all last here later is =
-    append_assoc lays (numbered last here) (numbered (last + length here) later)
-    ∙ ap (λ more. lays ++ more) (sym (numbered-append last here later)) ∙ is
+    append_assoc lays (lays_numbered last here) (lays_numbered (last + length here) later)
+    ∙ ap (λ more. lays ++ more) (sym (lays_numbered-append last here later)) ∙ is
 
 pub length_step : (lays : List Lay) (first last : ℕ) (here : List Laying) → last ≡ first + length lays
-    → last + length here ≡ first + length (lays ++ numbered last here)
+    → last + length here ≡ first + length (lays ++ lays_numbered last here)
 length_step lays first last here is =
-    omega (arith, is, length-append lays (numbered last here), length-numbered last here)
+    omega (arith, is, length-append lays (lays_numbered last here), length-lays_numbered last here)

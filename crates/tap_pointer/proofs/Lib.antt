@@ -1,3 +1,4 @@
+pub mod Due
 pub mod Entries
 pub mod Known
 pub mod Laws
@@ -5,5 +6,6 @@ pub mod Layings
 pub mod Least
 pub mod Levels
 pub mod Lookups
+pub mod NamesHeld
 pub mod OnePair
 pub mod Retained

@@ -1,3 +1,4 @@
+pub mod Due
 pub mod Pair
 pub mod Pointers
 pub mod Reconcile

@@ -54,8 +54,8 @@ abbrev pub own_pair : PointersValue → List ℕ → Pair
 own_pair p object = pair_of object p.owner
 
 -- whether the owner publishes an object
-abbrev pub publishes : PointersValue → List ℕ → Bool
-publishes p object = (state_of p (own_pair p object)).published
+abbrev pub owner_publishes : PointersValue → List ℕ → Bool
+owner_publishes p object = (state_of p (own_pair p object)).published
 
 -- what is known of a pair once the owner publishes its object, and once it doesn't any more
 abbrev pub with_published : PairState → Bool → PairState
@@ -73,15 +73,15 @@ published p object = let own = own_pair p object in with_state p own (with_publi
 abbrev pub withdrawn : PointersValue → List ℕ → PointersValue
 withdrawn p object =
     let own = own_pair p object in
-    (if publishes p object then with_state p own (with_published (state_of p own) false) else p)
+    (if owner_publishes p object then with_state p own (with_published (state_of p own) false) else p)
 
 -- the pointers once the owner has withdrawn every object
 abbrev pub all_withdrawn : PointersValue → PointersValue
 all_withdrawn p = record p { pairs = map (λ e. (e.0, with_published e.1 false)) p.pairs }
 
 -- what is known of a pair after a Lay from a sender: the sender's register takes it if its version is newer
-abbrev pub told : PairState → List ℕ → ℕ → Pointer → PairState
-told state from version pointer = record state { registers = applied name_cmp state.registers from version pointer }
+abbrev pub with_lay : PairState → List ℕ → ℕ → Pointer → PairState
+with_lay state from version pointer = record state { registers = applied name_cmp state.registers from version pointer }
 
 -- whether a Lay is newer than what the sender's register has
 abbrev pub is_news : PointersValue → Pair → List ℕ → ℕ → Bool
@@ -89,7 +89,7 @@ is_news p pair from version = is_newer name_cmp (state_of p pair).registers from
 
 -- the pointers after a Lay; one that isn't newer changes nothing
 abbrev pub lay_applied : PointersValue → Pair → List ℕ → ℕ → Pointer → PointersValue
-lay_applied p pair from version pointer = with_state p pair (told (state_of p pair) from version pointer)
+lay_applied p pair from version pointer = with_state p pair (with_lay (state_of p pair) from version pointer)
 
 -- whether a pair is held: the owner publishes it, or the register of a sender is on
 abbrev pub is_held : PairState → Bool
@@ -116,8 +116,8 @@ abbrev pub pairs_held : PointersValue → List Pair
 pairs_held p = held_among p.pairs
 
 -- how many pairs are held or laid
-abbrev pub span : List (Pair × PairState) → ℕ
-span pairs = length (filter (λ e. is_held_or_laid e.1) pairs)
+abbrev pub held_or_laid_count : List (Pair × PairState) → ℕ
+held_or_laid_count pairs = length (filter (λ e. is_held_or_laid e.1) pairs)
 
 -- whether a pair was held or laid before a change of what is known of it, and whether it is afterwards
 abbrev pub change_between : PairState → PairState → Change
@@ -137,7 +137,7 @@ least_server p object = server_among p.pairs object
 
 -- what is kept of each pair: the owner alone publishes, as the pair's server, and each register has a level from 1 to the
 -- number of digits
-pub record IsKnown (owner : List ℕ) (e : Pair × PairState) : Type 0 where
+pub record IsPairState (owner : List ℕ) (e : Pair × PairState) : Type 0 where
   pub own : e.1.published ≡ true → e.0.server ≡ owner
   pub levels_from : All (λ r. 1 ≤ r.value.level) e.1.registers
   pub levels_to : All (λ r. r.value.level ≤ length e.0.object) e.1.registers
@@ -145,4 +145,4 @@ pub record IsKnown (owner : List ℕ) (e : Pair × PairState) : Type 0 where
 -- what pointers keep: the pairs ascend
 pub record IsPointers (p : PointersValue) : Type 0 where
   pub ascending : IsStrictlySortedBy pair_cmp (keys_of p.pairs)
-  pub known : All (IsKnown p.owner) p.pairs
+  pub known : All (IsPairState p.owner) p.pairs

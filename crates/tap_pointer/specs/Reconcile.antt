@@ -71,9 +71,9 @@ lay_numbered version l = record {
 }
 
 -- these Lays, with the numbers after this one
-abbrev pub numbered : ℕ → List Laying → List Lay
-numbered last [] = []
-numbered last (laying ∷ others) = lay_numbered (last + 1) laying ∷ numbered (last + 1) others
+abbrev pub lays_numbered : ℕ → List Laying → List Lay
+lays_numbered last [] = []
+lays_numbered last (laying ∷ others) = lay_numbered (last + 1) laying ∷ lays_numbered (last + 1) others
 
 -- what all pairs take, in their order, to be laid as wanted, and to be laid nowhere
 abbrev pub layings_to_wanted : TableValue → List (Pair × PairState) → List Laying
@@ -88,14 +88,14 @@ with_wanted t e = (e.0, with_laid e.1 (wanted_hop t e))
 
 -- Reconciling: the Lays, with the numbers after this one, and the pointers afterwards.
 abbrev pub reconcile_lays : TableValue → ℕ → PointersValue → List Lay
-reconcile_lays t last p = numbered last (layings_to_wanted t p.pairs)
+reconcile_lays t last p = lays_numbered last (layings_to_wanted t p.pairs)
 
 abbrev pub reconciled : TableValue → PointersValue → PointersValue
 reconciled t p = record p { pairs = map (with_wanted t) p.pairs }
 
 -- Clearing: the Lays, with the numbers after this one, and the pointers afterwards.
 abbrev pub clear_lays : ℕ → PointersValue → List Lay
-clear_lays last p = numbered last (layings_to_none p.pairs)
+clear_lays last p = lays_numbered last (layings_to_none p.pairs)
 
 abbrev pub cleared : PointersValue → PointersValue
 cleared p = record p { pairs = [] }

@@ -4,7 +4,7 @@ ghost use Rattle.std.specs.Map.{lookup};
 ghost use Rattle.tap_name.specs.Order.{name_cmp};
 ghost use Rattle.tap_register.specs.Registers.{is_newer};
 ghost use Rattle.tap_pointer.specs.Pair.{pair_cmp};
-ghost use Rattle.tap_pointer.specs.Pointers.{change_between, span, state_among, told, with_laid, with_published};
+ghost use Rattle.tap_pointer.specs.Pointers.{change_between, held_or_laid_count, state_among, with_lay, with_laid, with_published};
 
 use crate::hop::Hop;
 use crate::pair::Pair;
@@ -22,16 +22,16 @@ pub(crate) struct Change {
 }
 
 impl Change {
-    // How many pairs are held or laid after it. There were `span`, and there are at most `most` now.
-    pub(crate) fn span_after(self, span: usize, most: usize) -> usize
-        requires from { (if self.was then 1 else 0) ≤ span }
-        requires to { span + (if self.is then 1 else 0) ≤ most + (if self.was then 1 else 0) }
-        ensures { result + (if self.was then 1 else 0) ≡ span + (if self.is then 1 else 0) }
+    // How many pairs are held or laid after it. There were `before`, and there are at most `most` now.
+    pub(crate) fn count_after(self, before: usize, most: usize) -> usize
+        requires from { (if self.was then 1 else 0) ≤ before }
+        requires to { before + (if self.is then 1 else 0) ≤ most + (if self.was then 1 else 0) }
+        ensures { result + (if self.was then 1 else 0) ≡ before + (if self.is then 1 else 0) }
     {
         match (self.was, self.is) {
-            (true, false) => span - 1,
-            (false, true) => span + 1,
-            _ => span,
+            (true, false) => before - 1,
+            (false, true) => before + 1,
+            _ => before,
         }
     }
 }
@@ -89,9 +89,9 @@ pub(crate) fn take(
 ) -> Result<(bool, Change), NoMemory>
     ensures answer { IfOk result (λ r. r.0 ≡ is_newer name_cmp (state_among pairs.old.entries pair).registers from version) }
     ensures change { IfOk result (λ r. r.1 ≡ change_between (state_among pairs.old.entries pair)
-        (told (state_among pairs.old.entries pair) from version pointer)) }
+        (with_lay (state_among pairs.old.entries pair) from version pointer)) }
     ensures after { OnOk result (pairs.new.entries
-        ≡ insert_entry pair_cmp pairs.old.entries pair (told (state_among pairs.old.entries pair) from version pointer)) }
+        ≡ insert_entry pair_cmp pairs.old.entries pair (with_lay (state_among pairs.old.entries pair) from version pointer)) }
     ensures same { OnErr result (pairs.new.entries ≡ pairs.old.entries) }
     ensures ordered { IsOrdered pair_cmp pairs.old }
 {
@@ -123,14 +123,14 @@ pub(crate) fn lay(
 }
 
 // How many pairs are held or laid.
-pub(crate) fn span_of(pairs: &BTreeMap<Pair, PairState>) -> usize
-    ensures { result ≡ span pairs.now.entries }
+pub(crate) fn held_or_laid_count(pairs: &BTreeMap<Pair, PairState>) -> usize
+    ensures { result ≡ held_or_laid_count pairs.now.entries }
 {
-    let mut span = 0;
+    let mut count = 0;
     for (_, state) in pairs {
         if state.is_held_or_laid() {
-            span += 1;
+            count += 1;
         }
     }
-    span
+    count
 }

@@ -1,7 +1,7 @@
 ghost use Rattle.std.specs.Prelude.{◌≡◌, ◌+◌, ◌≤◌, true, ◌++◌, length, All, Some, OnOk};
 ghost use Rattle.tap_name.specs.Name.{IsName};
 ghost use Rattle.tap_pointer.specs.Pointers.{is_held_or_laid};
-ghost use Rattle.tap_pointer.specs.Reconcile.{hop_of, is_same_hop, is_to, laying_at, layings, numbered, told_off, told_on, wanted_hop};
+ghost use Rattle.tap_pointer.specs.Reconcile.{hop_of, is_same_hop, is_to, laying_at, layings, lays_numbered, told_off, told_on, wanted_hop};
 
 use crate::hop::Hop;
 use crate::lay::Lay;
@@ -77,7 +77,7 @@ pub(crate) fn push_layings(
     wanted: &Option<Hop>,
 ) -> Result<(), NoMemory>
     requires { stamp.old + length (layings pair.now laid.now wanted.now) ≤ u32.MAX }
-    ensures added { OnOk result (lays.new.items ≡ lays.old.items ++ numbered stamp.old (layings pair.now laid.now wanted.now)) }
+    ensures added { OnOk result (lays.new.items ≡ lays.old.items ++ lays_numbered stamp.old (layings pair.now laid.now wanted.now)) }
     ensures stamped { OnOk result (stamp.new ≡ stamp.old + length (layings pair.now laid.now wanted.now)) }
 {
     push_laying(lays, stamp, pair, told_off(laid, wanted), false)?;
@@ -93,7 +93,7 @@ fn push_laying(
     on: bool,
 ) -> Result<(), NoMemory>
     requires { stamp.old + length (laying_at pair.now on hop) ≤ u32.MAX }
-    ensures added { OnOk result (lays.new.items ≡ lays.old.items ++ numbered stamp.old (laying_at pair.now on hop)) }
+    ensures added { OnOk result (lays.new.items ≡ lays.old.items ++ lays_numbered stamp.old (laying_at pair.now on hop)) }
     ensures stamped { OnOk result (stamp.new ≡ stamp.old + length (laying_at pair.now on hop)) }
 {
     let Some(hop) = hop else {

@@ -1,8 +1,8 @@
 ghost use Rattle.std.specs.Prelude.{◌≡◌, ◌+◌, ◌*◌, ◌<◌, ◌≤◌, if◌then◌else◌, not, length, map, slice_get, Some, IfOk, OnOk, OnErr};
-ghost use Rattle.tap_pointer.specs.Pointers.{IsPointers, all_withdrawn, is_news, lay_applied, least_server, no_pointers, own_pair, pair_of, pairs_held, pointer_at, published, publishes, span, withdrawn};
+ghost use Rattle.tap_pointer.specs.Pointers.{IsPointers, all_withdrawn, is_news, lay_applied, least_server, no_pointers, own_pair, pair_of, pairs_held, pointer_at, published, owner_publishes, held_or_laid_count, withdrawn};
 ghost use Rattle.tap_pointer.specs.Reconcile.{AreLaid, AreLaidBut, AreNamesHeld, clear_lays, cleared, reconcile_lays, reconciled};
 
-use crate::change::{lay, publish, span_of, take, withdraw};
+use crate::change::{held_or_laid_count, lay, publish, take, withdraw};
 use crate::held::Held;
 use crate::lay::Lay;
 use crate::laying::{push_layings, wanted_hop};
@@ -33,18 +33,18 @@ pub struct Pointers {
     alloc: Global,
     owner: Name,
     pairs: BTreeMap<Pair, PairState>,
-    spanned: usize,
+    held_or_laid: usize,
 }
 
 impl Model for Pointers {
     ghost use Rattle.std.specs.Prelude.{◌≡◌, All};
-    ghost use Rattle.tap_pointer.specs.Pointers.{IsKnown, PointersValue, span};
+    ghost use Rattle.tap_pointer.specs.Pointers.{IsPairState, PointersValue, held_or_laid_count};
 
     ghost Value = { PointersValue };
 
     ghost view = { λ p. record { owner = p.owner; pairs = p.pairs.entries } };
 
-    ghost invariant = { λ p. (All (IsKnown p.owner) p.pairs.entries) × (p.spanned ≡ span p.pairs.entries) };
+    ghost invariant = { λ p. (All (IsPairState p.owner) p.pairs.entries) × (p.held_or_laid ≡ held_or_laid_count p.pairs.entries) };
 }
 
 impl Pointers {
@@ -56,7 +56,7 @@ impl Pointers {
             alloc,
             owner,
             pairs: BTreeMap::new(alloc),
-            spanned: 0,
+            held_or_laid: 0,
         }
     }
 
@@ -71,7 +71,7 @@ impl Pointers {
 
     /// Whether the node publishes an object.
     pub fn publishes(&self, object: Name) -> bool
-        ensures { result ≡ publishes self.now object }
+        ensures { result ≡ owner_publishes self.now object }
     {
         match self.pairs.get(&self.own(object)) {
             Some(state) => state.published,
@@ -91,26 +91,26 @@ impl Pointers {
 
     /// Publishes an object, and answers whether the node didn't publish it before. A refused call changes nothing.
     pub fn publish(&mut self, object: Name) -> Result<bool, NoMemory>
-        ensures answer { IfOk result (λ first. first ≡ not (publishes self.old object)) }
+        ensures answer { IfOk result (λ first. first ≡ not (owner_publishes self.old object)) }
         ensures after { OnOk result (self.new ≡ published self.old object) }
         ensures same { OnErr result (self.new ≡ self.old) }
     {
         let own = self.own(object);
         let (first, change) = publish(&mut self.pairs, self.alloc, own)?;
-        self.spanned = change.span_after(self.spanned, self.pairs.len());
+        self.held_or_laid = change.count_after(self.held_or_laid, self.pairs.len());
         Ok(first)
     }
 
     /// Withdraws an object, and answers whether the node published it. It takes no memory.
     pub fn withdraw(&mut self, object: Name) -> bool
-        ensures answer { result ≡ publishes self.old object }
+        ensures answer { result ≡ owner_publishes self.old object }
         ensures after { self.new ≡ withdrawn self.old object }
     {
         let own = self.own(object);
         let Some((published, change)) = withdraw(&mut self.pairs, &own) else {
             return false;
         };
-        self.spanned = change.span_after(self.spanned, self.pairs.len());
+        self.held_or_laid = change.count_after(self.held_or_laid, self.pairs.len());
         published
     }
 
@@ -119,7 +119,7 @@ impl Pointers {
         ensures { self.new ≡ all_withdrawn self.old }
     {
         withdraw_all(&mut self.pairs);
-        self.spanned = span_of(&self.pairs);
+        self.held_or_laid = held_or_laid_count(&self.pairs);
     }
 
     /// Takes a Lay of a pair from a sender, and answers whether its version is newer than what the sender's register has.
@@ -144,7 +144,7 @@ impl Pointers {
         let pair = Pair { object, server };
         let pointer = Pointer { level, on };
         let (newer, change) = take(&mut self.pairs, self.alloc, pair, from, version, pointer)?;
-        self.spanned = change.span_after(self.spanned, self.pairs.len());
+        self.held_or_laid = change.count_after(self.held_or_laid, self.pairs.len());
         Ok(newer)
     }
 
@@ -162,7 +162,7 @@ impl Pointers {
     pub fn reconcile(&mut self, table: &Table, stamp: &mut Stamp) -> Result<List<Lay>, NoMemory>
         requires owner { table.now.owner ≡ self.old.owner }
         requires names { AreNamesHeld table.now.settings self.old }
-        requires numbers { stamp.old + 2 * span self.old.pairs ≤ u32.MAX }
+        requires numbers { stamp.old + 2 * held_or_laid_count self.old.pairs ≤ u32.MAX }
         ensures answer { IfOk result (λ lays. lays ≡ reconcile_lays table.now stamp.old self.old) }
         ensures after { OnOk result (self.new ≡ reconciled table.now self.old) }
         ensures stamped { IfOk result (λ lays. stamp.new ≡ stamp.old + length lays) }
@@ -170,7 +170,7 @@ impl Pointers {
     {
         let lays = lays_to_wanted(self.alloc, &self.pairs, table, stamp)?;
         lay_all(&mut self.pairs, table);
-        self.spanned = span_of(&self.pairs);
+        self.held_or_laid = held_or_laid_count(&self.pairs);
         Ok(List::from_vec(lays))
     }
 
@@ -205,7 +205,7 @@ impl Pointers {
         let wanted = wanted_hop(table, &pair, state);
         push_layings(&mut lays, stamp, &pair, &state.laid, &wanted)?;
         let change = lay(&mut self.pairs, &pair, &wanted).unwrap();
-        self.spanned = change.span_after(self.spanned, self.pairs.len());
+        self.held_or_laid = change.count_after(self.held_or_laid, self.pairs.len());
         Ok(List::from_vec(lays))
     }
 
@@ -217,18 +217,18 @@ impl Pointers {
     ///
     /// Rule: docs/PROTOCOL.md, "Pointers".
     pub fn clear(&mut self, stamp: &mut Stamp) -> Result<List<Lay>, NoMemory>
-        requires numbers { stamp.old + span self.old.pairs ≤ u32.MAX }
+        requires numbers { stamp.old + held_or_laid_count self.old.pairs ≤ u32.MAX }
         ensures answer { IfOk result (λ lays. lays ≡ clear_lays stamp.old self.old) }
         ensures after { OnOk result (self.new ≡ cleared self.old) }
         ensures stamped { IfOk result (λ lays. stamp.new ≡ stamp.old + length lays) }
     {
         let lays = lays_to_none(self.alloc, &self.pairs, stamp)?;
         self.pairs.clear();
-        self.spanned = 0;
+        self.held_or_laid = 0;
         Ok(List::from_vec(lays))
     }
 
-    /// The least server held for an object, `None` exactly where no pair of the object is held.
+    /// The least server held for an object, `None` exactly if no pair of the object is held.
     ///
     /// Rule: docs/PROTOCOL.md, "Pointers".
     pub fn lookup(&self, object: Name) -> Option<Name>
@@ -271,9 +271,9 @@ impl Pointers {
 
     /// How many pairs are held or laid. It is kept, so this takes the same time for any number.
     pub fn span(&self) -> usize
-        ensures { result ≡ span self.now.pairs }
+        ensures { result ≡ held_or_laid_count self.now.pairs }
     {
-        self.spanned
+        self.held_or_laid
     }
 
     // A pair that is held, by its place.

@@ -2,7 +2,7 @@ ghost use Rattle.std.specs.Prelude.{◌≡◌, true, [], IfOk, OnOk, OnErr};
 ghost use Rattle.std.specs.List.{list_any};
 ghost use Rattle.tap_name.specs.Order.{name_cmp};
 ghost use Rattle.tap_register.specs.Registers.{is_newer};
-ghost use Rattle.tap_pointer.specs.Pointers.{change_between, is_held, is_held_or_laid, level_held, nothing_known, told, with_laid, with_published};
+ghost use Rattle.tap_pointer.specs.Pointers.{change_between, is_held, is_held_or_laid, level_held, nothing_known, with_lay, with_laid, with_published};
 
 use crate::change::Change;
 use crate::hop::Hop;
@@ -73,8 +73,8 @@ impl PairState {
         pointer: Pointer,
     ) -> Result<(bool, Change), NoMemory>
         ensures answer { IfOk result (λ r. r.0 ≡ is_newer name_cmp self.old.registers from version) }
-        ensures change { IfOk result (λ r. r.1 ≡ change_between self.old (told self.old from version pointer)) }
-        ensures after { OnOk result (self.new ≡ told self.old from version pointer) }
+        ensures change { IfOk result (λ r. r.1 ≡ change_between self.old (with_lay self.old from version pointer)) }
+        ensures after { OnOk result (self.new ≡ with_lay self.old from version pointer) }
         ensures same { OnErr result (self.new ≡ self.old) }
     {
         let was = self.is_held_or_laid();

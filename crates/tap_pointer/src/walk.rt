@@ -1,7 +1,7 @@
 ghost use Rattle.std.specs.Prelude.{◌≡◌, ◌+◌, ◌*◌, ◌≤◌, true, false, [], length, map, slice_get, All, IfOk};
 ghost use Rattle.tap_name.specs.Name.{IsName};
-ghost use Rattle.tap_pointer.specs.Pointers.{held_among, is_held_or_laid, is_of, pair_of, span, server_among, with_published};
-ghost use Rattle.tap_pointer.specs.Reconcile.{layings_to_none, layings_to_wanted, numbered, with_wanted};
+ghost use Rattle.tap_pointer.specs.Pointers.{held_among, is_held_or_laid, is_of, pair_of, held_or_laid_count, server_among, with_published};
+ghost use Rattle.tap_pointer.specs.Reconcile.{layings_to_none, layings_to_wanted, lays_numbered, with_wanted};
 
 use crate::lay::Lay;
 use crate::laying::{push_layings, wanted_hop};
@@ -22,8 +22,8 @@ pub(crate) fn lays_to_wanted(
 ) -> Result<Vec<Lay>, NoMemory>
     requires names { All (λ e. is_held_or_laid e.1 ≡ true → IsName table.now.settings e.0.object) pairs.now.entries }
     requires levels { All (λ e. All (λ r. r.value.level ≤ length e.0.object) e.1.registers) pairs.now.entries }
-    requires numbers { stamp.old + 2 * span pairs.now.entries ≤ u32.MAX }
-    ensures value { IfOk result (λ lays. lays.items ≡ numbered stamp.old (layings_to_wanted table.now pairs.now.entries)) }
+    requires numbers { stamp.old + 2 * held_or_laid_count pairs.now.entries ≤ u32.MAX }
+    ensures value { IfOk result (λ lays. lays.items ≡ lays_numbered stamp.old (layings_to_wanted table.now pairs.now.entries)) }
     ensures stamped { IfOk result (λ lays. stamp.new ≡ stamp.old + length lays.items) }
 {
     let mut lays = Vec::new(alloc);
@@ -52,8 +52,8 @@ pub(crate) fn lays_to_none(
     pairs: &BTreeMap<Pair, PairState>,
     stamp: &mut Stamp,
 ) -> Result<Vec<Lay>, NoMemory>
-    requires numbers { stamp.old + span pairs.now.entries ≤ u32.MAX }
-    ensures value { IfOk result (λ lays. lays.items ≡ numbered stamp.old (layings_to_none pairs.now.entries)) }
+    requires numbers { stamp.old + held_or_laid_count pairs.now.entries ≤ u32.MAX }
+    ensures value { IfOk result (λ lays. lays.items ≡ lays_numbered stamp.old (layings_to_none pairs.now.entries)) }
     ensures stamped { IfOk result (λ lays. stamp.new ≡ stamp.old + length lays.items) }
 {
     let mut lays = Vec::new(alloc);

@@ -4,7 +4,7 @@ use Rattle.std.specs.Map.{lookup, set_value}
 use Rattle.std.proofs.lemmas.Map.Steps.{set_value_same}
 use Rattle.std.proofs.lemmas.Result.{on_err_weaker, on_ok_weaker}
 use Rattle.tap_pointer.specs.Pair.{pair_cmp}
-use Rattle.tap_pointer.specs.Pointers.{told}
+use Rattle.tap_pointer.specs.Pointers.{with_lay}
 use Rattle.tap_pointer.proofs.Known.{written_state}
 use Rattle.tap_pointer.proofs.change.take.Goals as goal
 
@@ -13,7 +13,7 @@ returns-in-Some-clause-after c =
     let after = c.take.new.self in
     on_ok_weaker c.take.result
     (λ is. written_state c.args.pairs.now.entries c.args.pair c.get_mut.ensures.ordered c.in-Some.state.now after
-    (c.get_mut.follows.lender after).entries (λ s. told s c.args.from c.args.version c.args.pointer)
+    (c.get_mut.follows.lender after).entries (λ s. with_lay s c.args.from c.args.version c.args.pointer)
     (sym c.in-Some.ensures.value) (c.get_mut.follows.holds after).0 is)
     c.take.ensures.after
 

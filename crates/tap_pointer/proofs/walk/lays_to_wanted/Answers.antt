@@ -3,8 +3,8 @@ use Rattle.std.specs.Map.Iter.{deref_pair}
 use Rattle.std.proofs.lemmas.List.Elements.{All-tail}
 use Rattle.std.proofs.lemmas.Map.Iter.{rest_more}
 use Rattle.tap_name.specs.Name.{IsName}
-use Rattle.tap_pointer.specs.Pointers.{is_held_or_laid, span}
-use Rattle.tap_pointer.specs.Reconcile.{layings, layings_to_wanted, numbered, wanted_hop}
+use Rattle.tap_pointer.specs.Pointers.{is_held_or_laid, held_or_laid_count}
+use Rattle.tap_pointer.specs.Reconcile.{layings, layings_to_wanted, lays_numbered, wanted_hop}
 use Rattle.tap_pointer.proofs.Layings.{few_here, length_step, numbered_step}
 use Rattle.tap_pointer.proofs.walk.lays_to_wanted.Goals as goal
 
@@ -18,7 +18,7 @@ push_layings-requires c =
     rest_more deref_pair _ _ c.next.result (c.in-Some.pair, c.in-Some.state) c.in-Some.is c.next.ensures.steps in
     let lays : length (layings pair state.laid c.wanted_hop-wanted.result) ≡ length (layings pair state.laid (wanted_hop t (pair, state))) =
     ap (λ hop. length (layings pair state.laid hop)) c.wanted_hop-wanted.ensures in
-    let spans : span c.loop-pair.pair-iterator ≡ span ((pair, state) ∷ rest) = ap span left in
+    let spans : held_or_laid_count c.loop-pair.pair-iterator ≡ held_or_laid_count ((pair, state) ∷ rest) = ap held_or_laid_count left in
     omega (arith, lays, spans, few_here t (pair, state) rest, c.loop-pair.invariant.2)
 
 pub loop-pair-preserved : goal.loop-pair-preserved
@@ -32,14 +32,15 @@ loop-pair-preserved c =
     let here = layings pair state.laid (wanted_hop t (pair, state)) in
     let left : c.loop-pair.pair-iterator ≡ (pair, state) ∷ rest =
     rest_more deref_pair _ _ c.next.result (c.in-Some.pair, c.in-Some.state) c.in-Some.is c.next.ensures.steps in
-    let pushed : c.push_layings.new.lays.items ≡ lays ++ numbered stamp here =
-    c.in_ok-push_layings.ensures.added ∙ ap (λ hop. lays ++ numbered stamp (layings pair state.laid hop)) c.wanted_hop-wanted.ensures in
+    let pushed : c.push_layings.new.lays.items ≡ lays ++ lays_numbered stamp here =
+    c.in_ok-push_layings.ensures.added
+    ∙ ap (λ hop. lays ++ lays_numbered stamp (layings pair state.laid hop)) c.wanted_hop-wanted.ensures in
     let stamped : c.push_layings.new.stamp ≡ stamp + length here =
     c.in_ok-push_layings.ensures.stamped ∙ ap (λ hop. stamp + length (layings pair state.laid hop)) c.wanted_hop-wanted.ensures in
-    let spans : span c.loop-pair.pair-iterator ≡ span ((pair, state) ∷ rest) = ap span left in
+    let spans : held_or_laid_count c.loop-pair.pair-iterator ≡ held_or_laid_count ((pair, state) ∷ rest) = ap held_or_laid_count left in
     rw (pushed, stamped) (
-      numbered_step lays (numbered c.args.stamp.now (layings_to_wanted t c.args.pairs.now.entries)) stamp here
-          (layings_to_wanted t rest) (ap (λ es. lays ++ numbered stamp (layings_to_wanted t es)) (sym left) ∙ c.loop-pair.invariant.0),
+      numbered_step lays (lays_numbered c.args.stamp.now (layings_to_wanted t c.args.pairs.now.entries)) stamp here
+          (layings_to_wanted t rest) (ap (λ es. lays ++ lays_numbered stamp (layings_to_wanted t es)) (sym left) ∙ c.loop-pair.invariant.0),
       length_step lays c.args.stamp.now stamp here c.loop-pair.invariant.1,
       omega (arith, spans, few_here t (pair, state) rest, c.loop-pair.invariant.2),
       All-tail (λ e. is_held_or_laid e.1 ≡ true → IsName t.settings e.0.object) (pair, state) rest

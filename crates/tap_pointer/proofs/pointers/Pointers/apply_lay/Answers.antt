@@ -1,24 +1,24 @@
-use Rattle.tap_pointer.specs.Pointers.{pair_of, pointer_at, state_among, told}
-use Rattle.tap_pointer.proofs.Known.{count_from, count_to, known-among, known-told, put_keeps}
+use Rattle.tap_pointer.specs.Pointers.{pair_of, pointer_at, state_among, with_lay}
+use Rattle.tap_pointer.proofs.Known.{count_from, count_to, known-among, known-with_lay, put_keeps}
 use Rattle.tap_pointer.proofs.pointers.Pointers.apply_lay.Goals as goal
 
-pub span_after-self-inside-requires-clause-from : goal.span_after-self-inside-requires-clause-from
-span_after-self-inside-requires-clause-from c =
+pub count_after-self-inside-requires-clause-from : goal.count_after-self-inside-requires-clause-from
+count_after-self-inside-requires-clause-from c =
     let pairs = c.self.inside.pairs.entries in
     let pair = pair_of c.args.object c.args.server in
     let pointer = pointer_at c.args.level c.args.on in
-    count_from pairs pair c.take.ensures.ordered (told (state_among pairs pair) c.args.from c.args.version pointer)
+    count_from pairs pair c.take.ensures.ordered (with_lay (state_among pairs pair) c.args.from c.args.version pointer)
     c.in_ok-newer.change c.in_ok-newer.ensures.change c.take.new.pairs.entries c.in_ok-newer.ensures.after
-    c.self.inside.spanned c.self.invariant.1
+    c.self.inside.held_or_laid c.self.invariant.1
 
-pub span_after-self-inside-requires-clause-to : goal.span_after-self-inside-requires-clause-to
-span_after-self-inside-requires-clause-to c =
+pub count_after-self-inside-requires-clause-to : goal.count_after-self-inside-requires-clause-to
+count_after-self-inside-requires-clause-to c =
     let pairs = c.self.inside.pairs.entries in
     let pair = pair_of c.args.object c.args.server in
     let pointer = pointer_at c.args.level c.args.on in
-    count_to pairs pair c.take.ensures.ordered (told (state_among pairs pair) c.args.from c.args.version pointer)
+    count_to pairs pair c.take.ensures.ordered (with_lay (state_among pairs pair) c.args.from c.args.version pointer)
     c.in_ok-newer.change c.in_ok-newer.ensures.change c.take.new.pairs.entries c.in_ok-newer.ensures.after
-    c.self.inside.spanned c.self.invariant.1 c.len.result c.len.ensures.len
+    c.self.inside.held_or_laid c.self.invariant.1 c.len.result c.len.ensures.len
 
 pub invariant_of-self-2 : goal.invariant_of-self-2
 invariant_of-self-2 c =
@@ -27,9 +27,9 @@ invariant_of-self-2 c =
     let pair = pair_of c.args.object c.args.server in
     let pointer = pointer_at c.args.level c.args.on in
     let known =
-    known-told owner pair (state_among pairs pair) (known-among owner pair pairs c.self.invariant.0)
+    known-with_lay owner pair (state_among pairs pair) (known-among owner pair pairs c.self.invariant.0)
     c.args.from c.args.version pointer c.requires.from c.requires.to in
-    put_keeps pairs pair c.take.ensures.ordered (told (state_among pairs pair) c.args.from c.args.version pointer)
+    put_keeps pairs pair c.take.ensures.ordered (with_lay (state_among pairs pair) c.args.from c.args.version pointer)
     c.in_ok-newer.change c.in_ok-newer.ensures.change c.take.new.pairs.entries c.in_ok-newer.ensures.after
-    c.self.inside.spanned c.self.invariant.1
-    owner c.span_after-self-inside.result c.span_after-self-inside.ensures c.self.invariant.0 known
+    c.self.inside.held_or_laid c.self.invariant.1
+    owner c.count_after-self-inside.result c.count_after-self-inside.ensures c.self.invariant.0 known

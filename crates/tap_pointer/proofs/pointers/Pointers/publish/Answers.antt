@@ -3,19 +3,19 @@ use Rattle.tap_pointer.specs.Pointers.{state_among, with_published}
 use Rattle.tap_pointer.proofs.Known.{count_from, count_to, known-among, known-published, put_keeps}
 use Rattle.tap_pointer.proofs.pointers.Pointers.publish.Goals as goal
 
-pub span_after-self-inside-requires-clause-from : goal.span_after-self-inside-requires-clause-from
-span_after-self-inside-requires-clause-from c =
+pub count_after-self-inside-requires-clause-from : goal.count_after-self-inside-requires-clause-from
+count_after-self-inside-requires-clause-from c =
     let pairs = c.self.inside.pairs.entries in
     let own = c.own-own.result in
     count_from pairs own c.publish.ensures.ordered (with_published (state_among pairs own) true) c.in_ok-first.change
-    c.in_ok-first.ensures.change c.publish.new.pairs.entries c.in_ok-first.ensures.after c.self.inside.spanned c.self.invariant.1
+    c.in_ok-first.ensures.change c.publish.new.pairs.entries c.in_ok-first.ensures.after c.self.inside.held_or_laid c.self.invariant.1
 
-pub span_after-self-inside-requires-clause-to : goal.span_after-self-inside-requires-clause-to
-span_after-self-inside-requires-clause-to c =
+pub count_after-self-inside-requires-clause-to : goal.count_after-self-inside-requires-clause-to
+count_after-self-inside-requires-clause-to c =
     let pairs = c.self.inside.pairs.entries in
     let own = c.own-own.result in
     count_to pairs own c.publish.ensures.ordered (with_published (state_among pairs own) true) c.in_ok-first.change
-    c.in_ok-first.ensures.change c.publish.new.pairs.entries c.in_ok-first.ensures.after c.self.inside.spanned c.self.invariant.1
+    c.in_ok-first.ensures.change c.publish.new.pairs.entries c.in_ok-first.ensures.after c.self.inside.held_or_laid c.self.invariant.1
     c.len.result c.len.ensures.len
 
 pub invariant_of-self-2 : goal.invariant_of-self-2
@@ -26,5 +26,5 @@ invariant_of-self-2 c =
     let served : own.server ≡ owner = ap (λ p. p.server) c.own-own.ensures ∙ sym (ap (λ v. v.owner) c.self.view_is) in
     let known = known-published owner own (state_among pairs own) (known-among owner own pairs c.self.invariant.0) served in
     put_keeps pairs own c.publish.ensures.ordered (with_published (state_among pairs own) true) c.in_ok-first.change
-    c.in_ok-first.ensures.change c.publish.new.pairs.entries c.in_ok-first.ensures.after c.self.inside.spanned c.self.invariant.1
-    owner c.span_after-self-inside.result c.span_after-self-inside.ensures c.self.invariant.0 known
+    c.in_ok-first.ensures.change c.publish.new.pairs.entries c.in_ok-first.ensures.after c.self.inside.held_or_laid c.self.invariant.1
+    owner c.count_after-self-inside.result c.count_after-self-inside.ensures c.self.invariant.0 known

@@ -1,6 +1,6 @@
 use Rattle.std.proofs.Common.{◌≡◌, sym, subst}
 use Rattle.std.specs.List.{All}
-use Rattle.tap_pointer.specs.Pointers.{IsKnown, with_laid}
+use Rattle.tap_pointer.specs.Pointers.{IsPairState, with_laid}
 use Rattle.tap_pointer.specs.Reconcile.{wanted_hop}
 use Rattle.tap_pointer.proofs.Known.{known-laid, known-map}
 use Rattle.tap_pointer.proofs.Layings.{all_laid}
@@ -10,10 +10,10 @@ pub invariant_of-self : goal.invariant_of-self
 invariant_of-self c =
     let owner = c.self.inside.owner in
     let t = c.args.table.now in (
-      subst (All (IsKnown owner)) (sym c.lay_all.ensures)
+      subst (All (IsPairState owner)) (sym c.lay_all.ensures)
           (known-map owner (λ e. with_laid e.1 (wanted_hop t e)) (λ e known. known-laid owner e.0 e.1 known (wanted_hop t e))
           c.self.inside.pairs.entries c.self.invariant.0),
-      c.span_of-self-inside.ensures,
+      c.held_or_laid_count-self-inside.ensures,
     )
 
 pub returns-clause-laid : goal.returns-clause-laid

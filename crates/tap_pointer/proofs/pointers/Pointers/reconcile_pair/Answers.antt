@@ -5,8 +5,8 @@ use Rattle.std.specs.Map.{lookup}
 use Rattle.tap_name.specs.Name.{IsName}
 use Rattle.tap_pointer.specs.declared.hop.Hop.{Hop}
 use Rattle.tap_pointer.specs.Pair.{pair_cmp}
-use Rattle.tap_pointer.specs.Pointers.{IsKnown, is_held_or_laid, pair_of, state_among, with_laid}
-use Rattle.tap_pointer.specs.Reconcile.{AreLaid, AreLaidBut, AreNamesHeld, layings, numbered, wanted_hop}
+use Rattle.tap_pointer.specs.Pointers.{IsPairState, is_held_or_laid, pair_of, state_among, with_laid}
+use Rattle.tap_pointer.specs.Reconcile.{AreLaid, AreLaidBut, AreNamesHeld, layings, lays_numbered, wanted_hop}
 use Rattle.tap_pointer.proofs.Known.{All-found, count_from, count_to, known-among, known-laid, lays_pair, put_keeps, some_if_found}
 use Rattle.tap_pointer.proofs.Layings.{all_laid}
 use Rattle.tap_pointer.proofs.OnePair.{laid_as_wanted, laid_if_absent, none_if_absent, settles}
@@ -20,7 +20,7 @@ returns-in_default-clause-answer c =
     let pairs = c.self.inside.pairs.entries in
     let others = subst (AreLaidBut t pair) (sym c.self.view_is) c.requires.others in
     let none = none_if_absent t pair pairs (sym c.in_default.ensures.value) others in
-    rw (← c.self.view_is) (c.from_vec.ensures ∙ c.new-lays.ensures.items ∙ sym (ap (numbered c.args.stamp.now) none.0))
+    rw (← c.self.view_is) (c.from_vec.ensures ∙ c.new-lays.ensures.items ∙ sym (ap (lays_numbered c.args.stamp.now) none.0))
 
 pub returns-in_default-clause-after : goal.returns-in_default-clause-after
 returns-in_default-clause-after c =
@@ -50,7 +50,7 @@ wanted_hop-wanted-requires-clause-name c =
 pub wanted_hop-wanted-requires-clause-levels : goal.wanted_hop-wanted-requires-clause-levels
 wanted_hop-wanted-requires-clause-levels c =
     let known =
-    All-found (IsKnown c.self.inside.owner) (pair_of c.args.object c.args.server) c.in-Some.state.now
+    All-found (IsPairState c.self.inside.owner) (pair_of c.args.object c.args.server) c.in-Some.state.now
     c.self.inside.pairs.entries c.self.invariant.0 (sym c.in-Some.ensures.value) in
     known.levels_to
 
@@ -60,8 +60,8 @@ unwrap-change-requires c =
     some_if_found (lookup (is_at (pair_cmp pair)) c.self.inside.pairs.entries) c.in-Some.state.now c.lay.result
     (sym c.in-Some.ensures.value) c.lay.ensures.absent
 
-pub span_after-self-inside-requires-clause-from : goal.span_after-self-inside-requires-clause-from
-span_after-self-inside-requires-clause-from c =
+pub count_after-self-inside-requires-clause-from : goal.count_after-self-inside-requires-clause-from
+count_after-self-inside-requires-clause-from c =
     let pair = pair_of c.args.object c.args.server in
     let pairs = c.self.inside.pairs.entries in
     let hop = c.wanted_hop-wanted.result in
@@ -69,10 +69,10 @@ span_after-self-inside-requires-clause-from c =
     let new = c.lay.new.pairs.entries in
     let lays = lays_pair pairs new pair hop c.lay.result change c.unwrap-change.ensures c.lay.ensures.change c.lay.ensures.after in
     count_from pairs pair c.lay.ensures.ordered (with_laid (state_among pairs pair) hop) change lays.is new lays.after
-    c.self.inside.spanned c.self.invariant.1
+    c.self.inside.held_or_laid c.self.invariant.1
 
-pub span_after-self-inside-requires-clause-to : goal.span_after-self-inside-requires-clause-to
-span_after-self-inside-requires-clause-to c =
+pub count_after-self-inside-requires-clause-to : goal.count_after-self-inside-requires-clause-to
+count_after-self-inside-requires-clause-to c =
     let pair = pair_of c.args.object c.args.server in
     let pairs = c.self.inside.pairs.entries in
     let hop = c.wanted_hop-wanted.result in
@@ -80,7 +80,7 @@ span_after-self-inside-requires-clause-to c =
     let new = c.lay.new.pairs.entries in
     let lays = lays_pair pairs new pair hop c.lay.result change c.unwrap-change.ensures c.lay.ensures.change c.lay.ensures.after in
     count_to pairs pair c.lay.ensures.ordered (with_laid (state_among pairs pair) hop) change lays.is new lays.after
-    c.self.inside.spanned c.self.invariant.1 c.len.result c.len.ensures.len
+    c.self.inside.held_or_laid c.self.invariant.1 c.len.result c.len.ensures.len
 
 pub invariant_of-self : goal.invariant_of-self
 invariant_of-self c =
@@ -93,8 +93,8 @@ invariant_of-self c =
     let lays = lays_pair pairs new pair hop c.lay.result change c.unwrap-change.ensures c.lay.ensures.change c.lay.ensures.after in
     let known = known-laid owner pair (state_among pairs pair) (known-among owner pair pairs c.self.invariant.0) hop in
     put_keeps pairs pair c.lay.ensures.ordered (with_laid (state_among pairs pair) hop) change lays.is new lays.after
-    c.self.inside.spanned c.self.invariant.1
-    owner c.span_after-self-inside.result c.span_after-self-inside.ensures c.self.invariant.0 known
+    c.self.inside.held_or_laid c.self.invariant.1
+    owner c.count_after-self-inside.result c.count_after-self-inside.ensures c.self.invariant.0 known
 
 pub returns-clause-answer : goal.returns-clause-answer
 returns-clause-answer c =
@@ -108,8 +108,8 @@ returns-clause-answer c =
     let laying = λ (hop : Option Hop). layings pair state.laid hop in
     rw (← c.self.view_is)
     (c.from_vec-2.ensures ∙ c.in_ok-push_layings.ensures.added
-    ∙ ap (λ items. items ++ numbered stamp (laying c.wanted_hop-wanted.result)) c.new-lays.ensures.items
-    ∙ ap (numbered stamp) (ap laying c.wanted_hop-wanted.ensures ∙ sym settled.lays))
+    ∙ ap (λ items. items ++ lays_numbered stamp (laying c.wanted_hop-wanted.result)) c.new-lays.ensures.items
+    ∙ ap (lays_numbered stamp) (ap laying c.wanted_hop-wanted.ensures ∙ sym settled.lays))
 
 pub returns-clause-after : goal.returns-clause-after
 returns-clause-after c =

@@ -8,19 +8,19 @@ use Rattle.tap_pointer.proofs.Known.{count_from, count_to, known-among, known-wi
 use Rattle.tap_pointer.proofs.Laws.{withdrawn_put}
 use Rattle.tap_pointer.proofs.pointers.Pointers.withdraw.Goals as goal
 
-pub span_after-self-inside-requires-clause-from : goal.span_after-self-inside-requires-clause-from
-span_after-self-inside-requires-clause-from c =
+pub count_after-self-inside-requires-clause-from : goal.count_after-self-inside-requires-clause-from
+count_after-self-inside-requires-clause-from c =
     let pairs = c.self.inside.pairs.entries in
     let own = c.own-own.result in
     count_from pairs own c.withdraw.ensures.ordered (with_published (state_among pairs own) false) c.in-Some.change
-    c.in-Some.ensures.change c.withdraw.new.pairs.entries c.in-Some.ensures.after c.self.inside.spanned c.self.invariant.1
+    c.in-Some.ensures.change c.withdraw.new.pairs.entries c.in-Some.ensures.after c.self.inside.held_or_laid c.self.invariant.1
 
-pub span_after-self-inside-requires-clause-to : goal.span_after-self-inside-requires-clause-to
-span_after-self-inside-requires-clause-to c =
+pub count_after-self-inside-requires-clause-to : goal.count_after-self-inside-requires-clause-to
+count_after-self-inside-requires-clause-to c =
     let pairs = c.self.inside.pairs.entries in
     let own = c.own-own.result in
     count_to pairs own c.withdraw.ensures.ordered (with_published (state_among pairs own) false) c.in-Some.change
-    c.in-Some.ensures.change c.withdraw.new.pairs.entries c.in-Some.ensures.after c.self.inside.spanned c.self.invariant.1
+    c.in-Some.ensures.change c.withdraw.new.pairs.entries c.in-Some.ensures.after c.self.inside.held_or_laid c.self.invariant.1
     c.len.result c.len.ensures.len
 
 pub invariant_of-self-2 : goal.invariant_of-self-2
@@ -30,8 +30,8 @@ invariant_of-self-2 c =
     let own = c.own-own.result in
     let known = known-withdrawn owner own (state_among pairs own) (known-among owner own pairs c.self.invariant.0) in
     put_keeps pairs own c.withdraw.ensures.ordered (with_published (state_among pairs own) false) c.in-Some.change
-    c.in-Some.ensures.change c.withdraw.new.pairs.entries c.in-Some.ensures.after c.self.inside.spanned c.self.invariant.1
-    owner c.span_after-self-inside.result c.span_after-self-inside.ensures c.self.invariant.0 known
+    c.in-Some.ensures.change c.withdraw.new.pairs.entries c.in-Some.ensures.after c.self.inside.held_or_laid c.self.invariant.1
+    owner c.count_after-self-inside.result c.count_after-self-inside.ensures c.self.invariant.0 known
 
 pub returns-clause-after : goal.returns-clause-after
 returns-clause-after c =
