@@ -43,11 +43,11 @@ use Rattle.tap_multicast.specs.Covers.{CoversValue, level_kept, with_cover}
 use Rattle.tap_pointer.specs.declared.pair.Pair.{Pair}
 use Rattle.tap_pointer.specs.declared.state.PairState.{PairState}
 use Rattle.tap_pointer.specs.Pair.{pair_cmp, pair_cmp-total}
-use Rattle.tap_pointer.specs.Pointers.{IsPointers, PointersValue, all_withdrawn, lay_applied, least_server, no_pointers, nothing_known, own_pair, pair_of, pointer_at, published, publishes, state_of, told, with_published, with_state, withdrawn}
+use Rattle.tap_pointer.specs.Pointers.{IsPointers, PointersValue, all_withdrawn, lay_applied, least_server, no_pointers, nothing_known, own_pair, owner_publishes, pair_of, pointer_at, published, state_of, with_lay, with_published, with_state, withdrawn}
 use Rattle.tap_pointer.specs.Reconcile.{reconciled, with_wanted}
 use Rattle.tap_pointer.proofs.Entries.{All-put, sorted-put}
 use Rattle.tap_pointer.proofs.Known.{All-found, pair_cmp-equal}
-use Rattle.tap_pointer.proofs.Laws.{are-all_withdrawn, are-none, are-published, are-reconciled, are-told, are-withdrawn}
+use Rattle.tap_pointer.proofs.Laws.{are-all_withdrawn, are-lay_applied, are-none, are-published, are-reconciled, are-withdrawn}
 use Rattle.tap_table.specs.declared.next.Next.{Next}
 use Rattle.tap_table.specs.declared.next.Next.TheVariants.{Root, Hop}
 use Rattle.tap_table.specs.Levels.{is_kept}
@@ -196,16 +196,16 @@ module _ (node : NodeState) (is : IsNode node) where
       (λ other tied. subst (λ (o : Pair). IsName (settings_of node) o.object) (pair_cmp-equal pair other tied) is_name)
       node.pointers.pairs is.objects
 
-  with_lay : (from object server : List ℕ) (level version : ℕ) (on : Bool) → IsName (settings_of node) object → 1 ≤ level
+  with_taken_lay : (from object server : List ℕ) (level version : ℕ) (on : Bool) → IsName (settings_of node) object → 1 ≤ level
       → level ≤ (settings_of node).digits
       → AreKept (settings_of node) (name_of node)
       (lay_applied node.pointers (pair_of object server) from version (pointer_at level on)) node.covers node.casts node.cast_numbers
       node.cast_sessions.opened
-  with_lay from object server level version on is_name least most =
+  with_taken_lay from object server level version on is_name least most =
       let pair = pair_of object server in
       with_pointers _
-      (are-told node.pointers is.pointers pair from version (pointer_at level on) least (rw is_name.len most)) refl
-      (put_named pair (told (state_of node.pointers pair) from version (pointer_at level on)) is_name)
+      (are-lay_applied node.pointers is.pointers pair from version (pointer_at level on) least (rw is_name.len most)) refl
+      (put_named pair (with_lay (state_of node.pointers pair) from version (pointer_at level on)) is_name)
 
   with_published_object : (object : List ℕ) → IsName (settings_of node) object
       → AreKept (settings_of node) (name_of node) (published node.pointers object) node.covers node.casts node.cast_numbers
@@ -224,14 +224,14 @@ module _ (node : NodeState) (is : IsNode node) where
     unpublished = with_state node.pointers own (with_published (state_of node.pointers own) false)
 
     named_if_published : (found : Option PairState) → lookup (is_at (pair_cmp own)) node.pointers.pairs ≡ found
-        → publishes node.pointers object ≡ true → IsName (settings_of node) object
+        → owner_publishes node.pointers object ≡ true → IsName (settings_of node) object
     named_if_published None found is_published =
         let nothing : state_of node.pointers own ≡ nothing_known = ap (λ (f : Option PairState). unwrap_or f nothing_known) found in
         let wrong : false ≡ true = sym (ap (λ (s : PairState). s.published) nothing) ∙ is_published in absurd (true≢false (sym wrong))
     named_if_published (Some state) found is_published =
         All-found (HasName (settings_of node)) own state node.pointers.pairs is.objects found
 
-    withdrawn_as : (is : Bool) → publishes node.pointers object ≡ is
+    withdrawn_as : (is : Bool) → owner_publishes node.pointers object ≡ is
         → AreKept (settings_of node) (name_of node) (withdrawn node.pointers object) node.covers node.casts node.cast_numbers
         node.cast_sessions.opened
     withdrawn_as true is_published =
@@ -244,7 +244,7 @@ module _ (node : NodeState) (is : IsNode node) where
 
     with_withdrawn_object : AreKept (settings_of node) (name_of node) (withdrawn node.pointers object) node.covers node.casts
         node.cast_numbers node.cast_sessions.opened
-    with_withdrawn_object = withdrawn_as (publishes node.pointers object) refl
+    with_withdrawn_object = withdrawn_as (owner_publishes node.pointers object) refl
 
   with_all_withdrawn : AreKept (settings_of node) (name_of node) (all_withdrawn node.pointers) node.covers node.casts node.cast_numbers
       node.cast_sessions.opened
@@ -439,7 +439,7 @@ module _ (node : NodeState) (is : IsNode node) where
         refl refl is.sessions is.cast_sessions same
     core_kept (Lay object server level version on) is_body taken =
         keeps _ is.ties refl refl is.sessions is.cast_sessions
-        (with_lay from object server level version on is_body.0 is_body.2.0 is_body.2.1)
+        (with_taken_lay from object server level version on is_body.0 is_body.2.0 is_body.2.1)
     core_kept (Find ticket object asker level) is_body taken =
         found_kept ticket object asker level (least_server node.pointers object)
     core_kept (Answer ticket server) is_body taken = keeps _ is.ties refl refl is.sessions is.cast_sessions same
@@ -471,7 +471,7 @@ module _ (node : NodeState) (is : IsNode node) where
         refl refl is.sessions is.cast_sessions same
     leaving_kept (Lay object server level version on) is_body taken =
         keeps _ is.ties refl refl is.sessions is.cast_sessions
-        (with_lay from object server level version on is_body.0 is_body.2.0 is_body.2.1)
+        (with_taken_lay from object server level version on is_body.0 is_body.2.0 is_body.2.1)
     leaving_kept (Find ticket object asker level) is_body taken =
         found_kept ticket object asker level (least_server node.pointers object)
     leaving_kept (Answer ticket server) is_body taken = keeps _ is.ties refl refl is.sessions is.cast_sessions same

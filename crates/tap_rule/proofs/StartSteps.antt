@@ -7,7 +7,7 @@ use Rattle.tap_depart.specs.Leaving.{started_leaving}
 use Rattle.tap_pointer.specs.declared.pair.Pair.{Pair}
 use Rattle.tap_pointer.specs.declared.state.PairState.{PairState}
 use Rattle.tap_pointer.specs.Pointers.{with_published}
-use Rattle.tap_pointer.specs.Reconcile.{layings, layings_to_none, numbered}
+use Rattle.tap_pointer.specs.Reconcile.{layings, layings_to_none, lays_numbered}
 use Rattle.tap_wire.specs.declared.frame.Body.TheVariants.{Gone as GoneFrame}
 use Rattle.tap_rule.specs.Node.{NodeState}
 use Rattle.tap_rule.specs.Node.Status.{Gone}
@@ -65,7 +65,7 @@ module _ (node : NodeState) (acted : Acted) where
     waits = λ some. absurd (some (eqb-true (length (holders_on node.ties)) 0 is));
     finishes = λ none.
         end_step node Gone GoneFrame _ acted (λ runs. runs)
-        (ap (numbered (node.stamp + length (words_at_end node))) (clearing_withdrawn node.pointers.pairs)) carried;
+        (ap (lays_numbered (node.stamp + length (words_at_end node))) (clearing_withdrawn node.pointers.pairs)) carried;
   }
   leaves_as false is carried = record {
     waits = λ some. (
