@@ -17,7 +17,7 @@ use Rattle.tap_name.specs.Order.{name_cmp}
 use Rattle.tap_table.specs.declared.tie.Tie.{Tie}
 use Rattle.tap_join.specs.Hello.{words_of}
 use Rattle.tap_rule.specs.Sending.{by_receiver, inserted_by_receiver, link_frame}
-use Rattle.tap_turn.proofs.Stable.{Rises, not_itself, rises_sorted, stable_same}
+use Rattle.tap_turn.proofs.Stable.{Rises, rises_sorted, stable_same}
 
 -- the receiver of one word is below that of another
 abbrev pub is_before : Tie → Tie → Bool
@@ -61,7 +61,7 @@ inserted_rises word (first ∷ others) rises =
           let here = after_is word first ∙ e in
           rw e (
             All-cons (λ other. is_before other word ≡ false) first others here (λ k d within.
-            before_orders.chain (get_or others k d) first word (rises.0 k d within) here),
+                before_orders.chain (get_or others k d) first word (rises.0 k d within) here),
             rises,
           )
     ]
@@ -96,7 +96,8 @@ inserted_ties x word (first ∷ others) =
           rw e (elim (cases_Bool (ties is_before x first)) [
             | inl tie ↦
                 let no = apart x first word (after_is word first ∙ e) tie in
-                let rest : filter (ties is_before x) (inserted_by_receiver word others) ≡ filter (ties is_before x) others = rw no at rest in
+                let more = inserted_by_receiver word others in
+                let rest : filter (ties is_before x) more ≡ filter (ties is_before x) others = rw no at rest in
                 rw (tie, no) (ap (λ l. first ∷ l) rest)
             | inr other ↦ rw other rest
           ])
@@ -112,7 +113,7 @@ by_receiver_ties x (word ∷ words) =
     first : (x word : Tie) (some others : List Tie) → filter (ties is_before x) some ≡ filter (ties is_before x) others
         → filter (ties is_before x) (word ∷ some) ≡ filter (ties is_before x) (word ∷ others)
     first x word some others same =
-        elim (cases_Bool (ties is_before x word)) [ | inl e ↦ rw e (ap (λ l. word ∷ l) same) | inr e ↦ rw e same ]
+        elim (cases_Bool (ties is_before x word)) [ inl e ↦ rw e (ap (λ l. word ∷ l) same) | inr e ↦ rw e same ]
 
 -- what a stable sort by receiver gives
 pub sorted_by_receiver : (words after : List Tie) → IsSortedBy is_before after → IsStableBy is_before words after
@@ -125,7 +126,7 @@ sorted_by_receiver words after up stable =
 pub sorted_by_closure : {F : Type 0} {g : Mut F (Bor Tie × (Bor Tie × Unit {0})) Ordering} {f : F} (words after : List Tie)
     → IsSortedByClosure g f after → IsStableByClosure g f words after
     → ((a : Bor Tie × (Bor Tie × Unit {0})) (r : Ordering) (f' : F) → Called g f a r f'
-        → (r ≡ name_cmp a.0.now.to a.1.0.now.to) × (f' ≡ f))
+    → (r ≡ name_cmp a.0.now.to a.1.0.now.to) × (f' ≡ f))
     → after ≡ by_receiver words
 sorted_by_closure {g = g} {f = f} words after up stable answers =
     let compares : ComparesAs g is_before f =

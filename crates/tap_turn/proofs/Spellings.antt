@@ -1,5 +1,5 @@
--- When the frames of a step have spellings, and that they are those of the rule.
-use Rattle.std.proofs.Common.{◌≡◌, ℕ, ◌+◌, ◌≤◌, List, [], ◌∷◌, All, map, refl}
+-- When the frames of a step have spellings.
+use Rattle.std.proofs.Common.{ℕ, ◌≤◌, List, [], ◌∷◌, All, map}
 use Rattle.std.proofs.lemmas.List.Elements.{All-head, All-map, All-tail}
 use Rattle.tap_name.specs.Settings.{SettingsValue}
 use Rattle.tap_name.specs.Name.{IsName}
@@ -12,7 +12,7 @@ use Rattle.tap_wire.specs.Spelling.{IsBody, IsFrame, IsLevel, IsTell}
 use Rattle.tap_multicast.specs.declared.target.Target.{Target}
 use Rattle.tap_cast.specs.declared.target.CastTarget.{CastTarget}
 use Rattle.tap_pointer.specs.declared.lay.Lay.{Lay}
-use Rattle.tap_rule.specs.Reaction.{Message, message, to_each}
+use Rattle.tap_rule.specs.Reaction.{message, to_each}
 use Rattle.tap_rule.specs.Sending.{by_receiver, lay_frame, link_frame, message_frame}
 use Rattle.tap_turn.specs.declared.cast_fields.CastFields.{CastFields}
 use Rattle.tap_turn.specs.Spelled.{HaveSpellings}

@@ -1,11 +1,10 @@
 -- A stable sort gives one list: two lists in order in which elements that tie stand alike are the same.
-use Rattle.std.proofs.Common.{◌≡◌, ◌+◌, Bool, true, false, suc, List, [], ◌∷◌, get_or, length, All, arith, ap, sym, refl, ◌∙◌, inl, inr}
-use Rattle.std.specs.Prelude.{not, ◌&&◌}
+use Rattle.std.proofs.Common.{◌≡◌, ◌+◌, Bool, true, false, suc, List, [], ◌∷◌, get_or, All, arith, ap, sym, refl, ◌∙◌, inl, inr}
 use Rattle.std.specs.Cmp.{IsStrictWeakOrder}
 use Rattle.std.specs.List.{filter}
 use Rattle.std.specs.List.Sorted.{IsSortedBy, ties}
 use Rattle.std.proofs.lemmas.Bool.{cases_Bool, true≢false}
-use Rattle.std.proofs.lemmas.List.Elements.{All-cons, All-head, All-nil, All-tail}
+use Rattle.std.proofs.lemmas.List.Elements.{All-cons, All-head, All-tail}
 use Rattle.std.proofs.lemmas.List.Sorted.{sorted_far}
 
 module _ {X : Type 0} (lt : X → X → Bool) (order : IsStrictWeakOrder lt) where
@@ -15,7 +14,7 @@ module _ {X : Type 0} (lt : X → X → Bool) (order : IsStrictWeakOrder lt) whe
   Rises (x ∷ xs) = All (λ y. lt y x ≡ false) xs × Rises xs
 
   pub not_itself : (x : X) → lt x x ≡ false
-  not_itself x = elim (cases_Bool (lt x x)) [ | inl e ↦ order.one_way x x e | inr e ↦ e ]
+  not_itself x = elim (cases_Bool (lt x x)) [ inl e ↦ order.one_way x x e | inr e ↦ e ]
 
   -- what a sort ensures
   pub rises_sorted : (xs : List X) → IsSortedBy lt xs → Rises xs

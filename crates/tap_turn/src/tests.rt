@@ -43,7 +43,7 @@ fn links(rt: HostRuntime) -> Result<(), Fail> {
     let words = vec![in rt.alloc();
         tie(far, 7, true),
         tie(near, 258, false),
-        tie(near, 9, true)
+        tie(near, 9, true),
     ]?;
     let mut list = FrameList::new(rt.alloc());
     list.send_links(&settings, &from, List::from_vec(words))?;
@@ -66,12 +66,8 @@ fn one_link(rt: HostRuntime) -> Result<(), Fail> {
     let to = read_name(&settings, b"301")?;
     let mut list = FrameList::new(rt.alloc());
     list.send_link(&settings, &from, None)?;
-    let word = tie(to, 1, false);
-    list.send_link(&settings, &from, Some(word))?;
-    let words = vec![in rt.alloc(); word]?;
-    list.send_links(&settings, &from, List::from_vec(words))?;
-    let frame: &[u8] = &[1, 8, 0, 5, 0, 1, 2, 3, 0, 1, 0, 0, 0, 1, 0];
-    check(&rt, list, &[frame, frame]);
+    list.send_link(&settings, &from, Some(tie(to, 1, false)))?;
+    check(&rt, list, &[&[1, 8, 0, 5, 0, 1, 2, 3, 0, 1, 0, 0, 0, 1, 0]]);
     Ok(())
 }
 
@@ -114,10 +110,7 @@ fn tells(rt: HostRuntime) -> Result<(), Fail> {
     let near = read_name(&settings, b"010")?;
     let far = read_name(&settings, b"301")?;
     let joiner = read_name(&settings, b"120")?;
-    let targets = vec![in rt.alloc();
-        Target { to: near, level: 3 },
-        Target { to: far, level: 1 }
-    ]?;
+    let targets = vec![in rt.alloc(); Target { to: near, level: 3 }, Target { to: far, level: 1 }]?;
     let fields = TellFields {
         joiner,
         prefix: 0,
@@ -150,7 +143,7 @@ fn casts(rt: HostRuntime) -> Result<(), Fail> {
     let far = read_name(&settings, b"301")?;
     let targets = vec![in rt.alloc();
         CastTarget { to: near, level: 3 },
-        CastTarget { to: far, level: 1 }
+        CastTarget { to: far, level: 1 },
     ]?;
     let fields = CastFields {
         cast: 6,

@@ -1,4 +1,4 @@
-use Rattle.std.proofs.Common.{◌≡◌, [], ◌∷◌, ◌++◌, arith, ap, map, refl, subst, sym, ◌∙◌}
+use Rattle.std.proofs.Common.{[], ◌∷◌, ◌++◌, arith, ap, map, refl, subst, sym, ◌∙◌}
 use Rattle.tap_wire.specs.Spelling.{IsFrame, spelling}
 use Rattle.tap_rule.specs.Sending.{link_frame}
 use Rattle.tap_turn.specs.Spelled.{spelled}

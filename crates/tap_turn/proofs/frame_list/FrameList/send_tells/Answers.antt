@@ -1,4 +1,4 @@
-use Rattle.std.proofs.Common.{◌≡◌, List, [], ◌∷◌, ◌++◌, arith, ap, map, refl, subst, sym, ◌∙◌}
+use Rattle.std.proofs.Common.{List, [], ◌∷◌, ◌++◌, arith, ap, map, refl, subst, sym, ◌∙◌}
 use Rattle.tap_wire.specs.declared.frame.Frame.{Frame}
 use Rattle.tap_wire.specs.Spelling.{IsFrame, spelling, tell_frame}
 use Rattle.tap_multicast.specs.declared.target.Target.{Target}
