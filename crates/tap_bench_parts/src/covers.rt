@@ -69,7 +69,12 @@ fn fill(table: &mut Table, digits: usize) -> Result<()> {
         let place = number / digits.max(1);
         let turn = place / 15;
         let settings = table.settings();
-        let name = name_in(&settings, number % digits.max(1), (place % 15 + 1) as u8, (turn % 16) as u8)?;
+        let name = name_in(
+            &settings,
+            number % digits.max(1),
+            (place % 15 + 1) as u8,
+            (turn % 16) as u8,
+        )?;
         link(table, name, turn < 2)?;
     }
     bail!("too few links")

@@ -3,7 +3,7 @@ use Rattle.std.specs.Prelude.{◌≡◌, ℕ, List, length, Option, None, Some}
 use Rattle.tap_session.specs.declared.parent.Parent.{Parent}
 use Rattle.tap_session.specs.declared.parent.Parent.TheVariants.{Root, Node}
 use Rattle.tap_session.specs.Session.{Session}
-use Rattle.tap_rule.specs.Node.{NodeState, session_at}
+use Rattle.tap_rule.specs.Node.{NodeState, join_session_at}
 use Rattle.tap_safety.specs.Remembered.{OpenSession}
 use Rattle.tap_safety.specs.System.{System}
 use Rattle.tap_safety.specs.Sessions.{IsOpen}
@@ -24,6 +24,6 @@ pub record IsKeptSo (kept : Session) (session : OpenSession) : Type 0 where
 
 pub record AreCountedSo (s : System) : Type 0 where
   pub kept : (x : List ℕ) (k : ℕ) (session : OpenSession) (state : NodeState) → IsOpen s x k session → s.node x ≡ Some state
-      → (kept : Session) × (session_at state k ≡ Some kept) × IsKeptSo kept session
-  pub open_at : (x : List ℕ) (k : ℕ) (state : NodeState) (kept : Session) → s.node x ≡ Some state → session_at state k ≡ Some kept
+      → (kept : Session) × (join_session_at state k ≡ Some kept) × IsKeptSo kept session
+  pub open_at : (x : List ℕ) (k : ℕ) (state : NodeState) (kept : Session) → s.node x ≡ Some state → join_session_at state k ≡ Some kept
       → (session : OpenSession) × IsOpen s x k session

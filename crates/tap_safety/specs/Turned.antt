@@ -6,7 +6,7 @@ use Rattle.tap_session.specs.Session.{Session}
 use Rattle.tap_wire.specs.declared.frame.Body.{Body}
 use Rattle.tap_wire.specs.declared.frame.Body.TheVariants.{Seek, Tell, Heard, Ack}
 use Rattle.tap_wire.specs.declared.frame.Frame.{Frame}
-use Rattle.tap_rule.specs.Node.{NodeState, session_at}
+use Rattle.tap_rule.specs.Node.{NodeState, join_session_at}
 use Rattle.tap_safety.specs.Remembered.{OpenSession, Token}
 use Rattle.tap_safety.specs.Remembered.Token.{Child}
 use Rattle.tap_safety.specs.Sessions.{for_child, for_way, is_place, session_named, ways_of}
@@ -25,12 +25,12 @@ pub record Taking : Type 0 where
 -- the session that it opened, if it opened one
 abbrev pub opened_by : Taking → Option Session
 opened_by t =
-    if t.after.sessions.opened == t.before.sessions.opened then None else session_at t.after t.after.sessions.opened
+    if t.after.sessions.opened == t.before.sessions.opened then None else join_session_at t.after t.after.sessions.opened
 
 -- the number of the session that it closed, if it closed one
 abbrev pub closed_by : Body → NodeState → Option ℕ
-closed_by (Heard session) after = if is_none (session_at after session) then Some session else None
-closed_by (Ack session) after = if is_none (session_at after session) then Some session else None
+closed_by (Heard session) after = if is_none (join_session_at after session) then Some session else None
+closed_by (Ack session) after = if is_none (join_session_at after session) then Some session else None
 closed_by other after = None
 
 -- whose the session is that is opened for such a frame
