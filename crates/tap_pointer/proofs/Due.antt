@@ -81,7 +81,7 @@ one_sent last pair on (Some due) hop is =
 
 due_sent : (last : ℕ) (pair : Pair) (laid wanted : Option Hop) (on : Bool) (hop : Hop) → hop_due on laid wanted ≡ Some hop
     → (version : ℕ) × Contains (lays_numbered last (layings pair laid wanted))
-        (lay_numbered version (record { pair = pair; hop = hop; on = on }))
+    (lay_numbered version (record { pair = pair; hop = hop; on = on }))
 due_sent last pair laid wanted true hop due =
     let off = laying_at pair false (told_off laid wanted) in
     let on = laying_at pair true (told_on laid wanted) in
@@ -162,7 +162,7 @@ module _ (wanted : Pair × PairState → Option Hop) where
   all_sent : (last : ℕ) (pairs : List (Pair × PairState)) (pair : Pair) (state : PairState) (on : Bool) (hop : Hop)
       → lookup (is_at (pair_cmp pair)) pairs ≡ Some state → hop_due on state.laid (wanted (pair, state)) ≡ Some hop
       → (version : ℕ) × Contains (lays_numbered last (layings_to pairs))
-          (lay_numbered version (record { pair = pair; hop = hop; on = on }))
+      (lay_numbered version (record { pair = pair; hop = hop; on = on }))
   all_sent last [] pair state on hop found due = let wrong : None ≡ Some state = found in absurd (cc)
   all_sent last (e ∷ pairs) pair state on hop found due =
       by_order (λ rest. all_sent (last + length (layings e.0 e.1.laid (wanted e))) pairs pair state on hop rest due)
