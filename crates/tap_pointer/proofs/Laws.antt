@@ -1,23 +1,22 @@
 -- What each call leaves: what is known of every pair afterwards, and what pointers keep.
-use Rattle.std.proofs.Common.{◌≡◌, ℕ, ◌≤◌, Bool, true, false, List, [], ◌∷◌, length, map, Option, None, Some, refl, sym, ap, subst, ◌∙◌, inl, inr, if◌then◌else◌}
+use Rattle.std.proofs.Common.{◌≡◌, ℕ, ◌≤◌, Bool, true, false, List, [], ◌∷◌, length, map, Option, Some, refl, sym, ap, subst, ◌∙◌, inl, inr, if◌then◌else◌}
 use Rattle.std.specs.BTreeMap.{insert_entry, is_at}
-use Rattle.std.specs.List.{All, AllByRecursion}
+use Rattle.std.specs.List.{All}
 use Rattle.std.specs.List.Sorted.{IsStrictlySortedBy}
 use Rattle.std.specs.Map.{keys_of, lookup}
 use Rattle.std.specs.Option.{unwrap_or}
-use Rattle.std.specs.Ordering.{is_eq, is_gt, ordering_then}
+use Rattle.std.specs.Ordering.{is_eq}
 use Rattle.std.specs.declared.cmp.Ordering.{Ordering}
 use Rattle.std.specs.declared.cmp.Ordering.TheVariants.{Less, Equal, Greater}
 use Rattle.std.proofs.lemmas.Bool.{cases_Bool}
 use Rattle.std.proofs.lemmas.List.Elements.{All-cons, All-head, All-nil, All-tail}
 use Rattle.tap_table.specs.Table.{TableValue}
-use Rattle.tap_pointer.specs.declared.lay.Lay.{Lay}
 use Rattle.tap_pointer.specs.declared.pair.Pair.{Pair}
 use Rattle.tap_pointer.specs.declared.state.PairState.{PairState}
 use Rattle.tap_pointer.specs.declared.state.Pointer.{Pointer}
 use Rattle.tap_pointer.specs.Pair.{pair_cmp, pair_cmp-total}
 use Rattle.tap_pointer.specs.Pointers.{IsPairState, IsPointers, PointersValue, all_withdrawn, lay_applied, no_pointers, nothing_known, own_pair, published, owner_publishes, state_of, with_lay, with_laid, with_published, with_state, withdrawn}
-use Rattle.tap_pointer.specs.Reconcile.{AreLaid, AreLaidBut, cleared, layings_to_wanted, lays_numbered, reconcile_lays, reconciled, wanted_hop, with_wanted}
+use Rattle.tap_pointer.specs.Reconcile.{AreLaid, AreLaidBut, lays_numbered, reconcile_lays, reconciled, wanted_hop}
 use Rattle.tap_pointer.proofs.Entries.{All-put, lookup-put, put_same, sorted-put}
 use Rattle.tap_pointer.proofs.Known.{known-among, known-laid, known-map, known-put, known-published, known-with_lay, known-withdrawn, pair_cmp-equal}
 use Rattle.tap_pointer.proofs.Layings.{all_laid, none_if_laid}

@@ -1,11 +1,8 @@
 -- The Lays that it takes to have a pair laid as wanted: how many there are, and when there are none.
-use Rattle.std.proofs.Common.{◌≡◌, ℕ, ◌+◌, ◌*◌, ◌≤◌, Bool, true, false, ◌||◌, ◌==◌, nat_eq, List, [], ◌∷◌, ◌++◌, length, filter, map, Option, None, Some, refl, sym, ap, ◌∙◌, inl, inr, arith, if◌then◌else◌, append_assoc, length-append, eqb, eq-eqb}
-use Rattle.std.specs.BTreeMap.{is_at}
+use Rattle.std.proofs.Common.{◌≡◌, ℕ, ◌+◌, ◌*◌, ◌≤◌, Bool, true, false, ◌==◌, nat_eq, List, [], ◌∷◌, ◌++◌, length, map, Option, None, Some, refl, sym, ap, ◌∙◌, inl, inr, arith, append_assoc, length-append, eq-eqb}
 use Rattle.std.specs.Cmp.Lexicographic.{pointwise}
-use Rattle.std.specs.List.{All, flat_map}
-use Rattle.std.specs.Map.{lookup, set_value}
+use Rattle.std.specs.List.{All}
 use Rattle.std.specs.Option.{is_some}
-use Rattle.std.specs.Ordering.{is_eq}
 use Rattle.std.proofs.lemmas.Bool.{cases_Bool, or_parts, or_right}
 use Rattle.std.proofs.lemmas.List.Elements.{All-cons, All-head, All-nil, All-tail}
 use Rattle.tap_table.specs.Table.{TableValue}
@@ -14,8 +11,8 @@ use Rattle.tap_pointer.specs.declared.lay.Lay.{Lay}
 use Rattle.tap_pointer.specs.declared.laying.Laying.{Laying}
 use Rattle.tap_pointer.specs.declared.pair.Pair.{Pair}
 use Rattle.tap_pointer.specs.declared.state.PairState.{PairState}
-use Rattle.tap_pointer.specs.Pointers.{PointersValue, is_held, is_held_or_laid, held_or_laid_count, with_laid}
-use Rattle.tap_pointer.specs.Reconcile.{AreLaid, hop_from, is_to, laying_at, layings, layings_to_none, layings_to_wanted, lays_numbered, reconciled, told_off, told_on, wanted_hop, with_wanted}
+use Rattle.tap_pointer.specs.Pointers.{is_held, is_held_or_laid, held_or_laid_count, with_laid}
+use Rattle.tap_pointer.specs.Reconcile.{hop_from, is_to, laying_at, layings, layings_to_wanted, lays_numbered, told_off, told_on, wanted_hop, with_wanted}
 use Rattle.tap_pointer.proofs.Levels.{no_level}
 
 -- the numbers of more Lays follow those of the first

@@ -1,13 +1,12 @@
 -- A lookup: the pairs of one object stand side by side, from where that of the empty name would stand.
-use Rattle.std.proofs.Common.{◌≡◌, ℕ, Bool, true, false, List, [], ◌∷◌, filter, Option, None, Some, refl, sym, ap, ◌∙◌, inl, inr}
+use Rattle.std.proofs.Common.{◌≡◌, ℕ, Bool, true, false, List, [], ◌∷◌, filter, None, Some, refl, sym, ap, ◌∙◌, inl, inr}
 use Rattle.std.specs.Bool.{⊤}
 use Rattle.std.specs.BTreeMap.Range.{range_contains}
 use Rattle.std.specs.Cmp.Lexicographic.{nat_list_cmp_total, texts_ties}
 use Rattle.std.specs.List.{All, AllByRecursion}
 use Rattle.std.specs.List.Sorted.{IsStrictlySortedBy}
 use Rattle.std.specs.Map.{keys_of}
-use Rattle.std.specs.Option.{option_map}
-use Rattle.std.specs.Ordering.{is_eq, is_le, ordering_reverse, ordering_then}
+use Rattle.std.specs.Ordering.{is_eq, is_le, ordering_reverse}
 use Rattle.std.specs.declared.cmp.Ordering.{Ordering}
 use Rattle.std.specs.declared.cmp.Ordering.TheVariants.{Less, Equal, Greater}
 use Rattle.std.specs.declared.ops.Bound.TheVariants.{Included, Unbounded}
@@ -19,7 +18,7 @@ use Rattle.tap_name.proofs.Orders.{name_cmp-equal, name_cmp-itself}
 use Rattle.tap_pointer.specs.declared.pair.Pair.{Pair}
 use Rattle.tap_pointer.specs.declared.state.PairState.{PairState}
 use Rattle.tap_pointer.specs.Pair.{pair_cmp}
-use Rattle.tap_pointer.specs.Pointers.{held_among, is_held, is_of, server_among}
+use Rattle.tap_pointer.specs.Pointers.{is_held, is_of, server_among}
 
 module _ (object : List ℕ) where
   -- the first pair is the answer if it is held and of the object, and else the answer is among the others

@@ -1,5 +1,5 @@
 -- The order of pairs of an object and a server.
-use Rattle.std.specs.Prelude.{◌≡◌, ◌&&◌, nat_eq, List}
+use Rattle.std.specs.Prelude.{◌≡◌, ◌&&◌, nat_eq}
 use Rattle.std.specs.Cmp.{IsTotalOrder}
 use Rattle.std.specs.Cmp.Lexicographic.{nat_list_cmp_total, pointwise, texts_ties}
 use Rattle.std.specs.Ordering.{is_eq, ordering_then}

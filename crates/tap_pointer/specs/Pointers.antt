@@ -1,5 +1,5 @@
 -- The pointers of a node: what it knows of each pair of an object and a server.
-use Rattle.std.specs.Prelude.{◌≡◌, ℕ, ◌≤◌, min, nat_eq, ◌||◌, Bool, true, false, if◌then◌else◌, List, [], ◌∷◌, length, map, filter, find, All, Option, None, Some}
+use Rattle.std.specs.Prelude.{◌≡◌, ℕ, ◌≤◌, min, nat_eq, ◌||◌, Bool, true, false, if◌then◌else◌, List, [], length, map, filter, find, All, Option, None, Some}
 use Rattle.std.specs.BTreeMap.{insert_entry, is_at}
 use Rattle.std.specs.Cmp.Lexicographic.{pointwise}
 use Rattle.std.specs.List.{list_any, reduce}

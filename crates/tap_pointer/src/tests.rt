@@ -269,6 +269,9 @@ fn play(
             replacement,
         } => {
             let leaver = read_name(&settings, leaver.as_bytes())?;
+            if leaver == table.owner() {
+                return Err("the owner")?;
+            }
             table.mark_leaving(leaver);
             link(table, replacement)?;
             reconcile(pointers, table, stamp)

@@ -18,4 +18,4 @@ settle-requires-clause-others c =
     let after = c.in_ok-publish.ensures.after in
     let server : c.owner-server.result ≡ p.owner = c.owner-server.ensures.value ∙ ap (λ v. v.owner) after in
     let others = subst (AreLaidBut t (own_pair p c.args.object)) (sym after) (published_lays_others t c.args.object p c.requires.laid) in
-    subst (λ (s : List ℕ). AreLaidBut t (pair_of c.args.object s) c.publish.new.pointers) (sym server) others
+    subst (λ (s : List ℕ). AreLaidBut t (pair_of c.args.object s) c.publish.new.self) (sym server) others

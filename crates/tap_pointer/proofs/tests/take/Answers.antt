@@ -1,5 +1,5 @@
 use Rattle.std.proofs.Common.{sym, subst}
-use Rattle.tap_pointer.specs.Pointers.{pair_of, pointer_at}
+use Rattle.tap_pointer.specs.Pointers.{pointer_at}
 use Rattle.tap_pointer.specs.Reconcile.{AreLaidBut, AreNamesHeld}
 use Rattle.tap_pointer.proofs.Laws.{lay_applied_lays_others}
 use Rattle.tap_pointer.proofs.NamesHeld.{names-lay_applied}

@@ -16,9 +16,10 @@ settle-requires-clause-others c =
     let t = c.args.table.now in
     let p = c.args.pointers.now in
     let after = c.withdraw.ensures.after in
-    let server : c.owner-server.result ≡ p.owner = c.owner-server.ensures.value ∙ ap (λ v. v.owner) after ∙ withdrawn_owner p c.args.object in
+    let server : c.owner-server.result ≡ p.owner =
+    c.owner-server.ensures.value ∙ ap (λ v. v.owner) after ∙ withdrawn_owner p c.args.object in
     let others = subst (AreLaidBut t (own_pair p c.args.object)) (sym after) (withdrawn_lays_others t c.args.object p c.requires.laid) in
-    subst (λ (s : List ℕ). AreLaidBut t (pair_of c.args.object s) c.withdraw.new.pointers) (sym server) others
+    subst (λ (s : List ℕ). AreLaidBut t (pair_of c.args.object s) c.withdraw.new.self) (sym server) others
 
 pub settle-requires-clause-owner : goal.settle-requires-clause-owner
 settle-requires-clause-owner c =

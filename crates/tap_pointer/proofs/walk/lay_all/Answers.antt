@@ -1,4 +1,4 @@
-use Rattle.std.proofs.Common.{◌≡◌, ◌≤◌, true, length, All, sym, subst, rules, of_calls}
+use Rattle.std.proofs.Common.{◌≡◌, ◌≤◌, true, length, All, subst, rules, of_calls}
 use Rattle.tap_name.specs.Name.{IsName}
 use Rattle.tap_pointer.specs.Pointers.{is_held_or_laid, with_laid}
 use Rattle.tap_pointer.specs.Reconcile.{wanted_hop}
