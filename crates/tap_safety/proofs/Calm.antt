@@ -66,8 +66,7 @@ still_told_but s s' x b level keeps takes apart = record { reached = reached; me
           | inr is ↦ absurd (apart (rw is.1 at r.core))
         ]
 
-module _ (p : SettingsValue) (s s' : System) (keeps : Keeps s s') (none : AddsNone s s') (calm : AddsNoCover s s')
-    (told : StillTold s s') where
+module _ (p : SettingsValue) (s s' : System) (keeps : Keeps s s') (none : AddsNone s s') (calm : AddsNoCover s s') where
   surrogate_same : (b : List ℕ) → surrogate_of s' b ≡ surrogate_of s b
   surrogate_same b = ap (λ surrogate. unwrap_or surrogate []) (calm.surrogate b)
 
@@ -80,7 +79,7 @@ module _ (p : SettingsValue) (s s' : System) (keeps : Keeps s s') (none : AddsNo
   in_was : (b x : List ℕ) → IsIn s' b x → IsIn s b x
   in_was b x inside = record { reach = rw (prefix_same b) at inside.reach }
 
-  covered_calm : Covered p s → Covered p s'
+  pub covered_calm : Covered p s → Covered p s'
   covered_calm covered = record {
     each = λ w b level core joiner covers.
         let is = covered.each w b level (none.cores w core) (none.joiners b joiner) (calm.was w b level covers) in
@@ -111,16 +110,16 @@ module _ (p : SettingsValue) (s s' : System) (keeps : Keeps s s') (none : AddsNo
     pin = calm.pins w e (none.cores w pair.core) pair.pin;
   }
 
-  meet_calm : Meet s → Meet s'
-  meet_calm meet = record {
+  pub meet_calm : ((w d y : List ℕ) → StaysJoiner s s' d → StaysJoiner s s' y → IsMet s w d y → IsMet s' w d y) → Meet s → Meet s'
+  meet_calm met meet = record {
     first = λ w b e pair inside.
-        told.met w b e (stays b pair.joiner) (stays e pair.other) (meet.first w b e (pair_was w b e pair) (in_was b e inside));
+        met w b e (stays b pair.joiner) (stays e pair.other) (meet.first w b e (pair_was w b e pair) (in_was b e inside));
     second = λ w b e pair inside.
-        told.met w e b (stays e pair.other) (stays b pair.joiner) (meet.second w b e (pair_was w b e pair) (in_was e b inside));
+        met w e b (stays e pair.other) (stays b pair.joiner) (meet.second w b e (pair_was w b e pair) (in_was e b inside));
   }
 
-  cover_calm : Cover p s → Cover p s'
-  cover_calm cover = record {
+  cover_calm : StillTold s s' → Cover p s → Cover p s'
+  cover_calm told cover = record {
     served = λ w b e level claim.
         let was : IsClaim p s w b e level = record {
           core = none.cores w claim.core;
@@ -136,11 +135,11 @@ module _ (p : SettingsValue) (s s' : System) (keeps : Keeps s s') (none : AddsNo
         ];
   }
 
-  pub filled_calm : AreFilled p s → AreFilled p s'
-  filled_calm filled = record {
+  pub filled_calm : StillTold s s' → AreFilled p s → AreFilled p s'
+  filled_calm told filled = record {
     covered = covered_calm filled.covered;
-    meet = meet_calm filled.meet;
-    cover = cover_calm filled.cover;
+    meet = meet_calm told.met filled.meet;
+    cover = cover_calm told filled.cover;
     low = low_kept s s' keeps none filled.low;
     hole_free = hole_free_kept p s s' keeps none filled.hole_free;
   }

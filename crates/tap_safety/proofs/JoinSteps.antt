@@ -34,7 +34,7 @@ use Rattle.tap_safety.proofs.SessionsKept.{
   new_place,
   opens_child_turns,
 }
-use Rattle.tap_safety.proofs.Turns.{Turns, WasOpen}
+use Rattle.tap_safety.specs.Turns.{Turns, WasOpen}
 
 -- a Done belongs to no session
 done_apart : (w b x : List ℕ) (k : ℕ) → Belongs (record { from = w; to = b; body = Done }) x k → ⊥
@@ -57,18 +57,23 @@ module _ (s s' : System) (number : ℕ) (f : Frame) (sent : List (ℕ × Frame))
 
 module _ (s s' : System) (number : ℕ) (f : Frame) (sent : List (ℕ × Frame)) (ex : Exchanges s s' number f sent)
     (none : NoDoneAmong sent) where
-  done_was : (w b : List ℕ) (m : ℕ) → AmongFrames m (record { from = w; to = b; body = Done }) s'.frames
+  pub done_was : (w b : List ℕ) (m : ℕ) → AmongFrames m (record { from = w; to = b; body = Done }) s'.frames
       → AmongFrames m (record { from = w; to = b; body = Done }) s.frames
   done_was w b m among =
       elim (ex.was m (record { from = w; to = b; body = Done }) among) [ inl old ↦ old | inr new ↦ absurd (none m w b new) ]
 
-  old_done : (w b : List ℕ) → IsUnderWay s' w b Done → IsUnderWay s w b Done ⊎ IsJoiner s' b
+  pub old_done : (w b : List ℕ) → IsUnderWay s' w b Done → IsUnderWay s w b Done ⊎ IsJoiner s' b
   old_done w b way = inl (record { number = way.number; among = done_was w b way.number way.among })
 
 -- where a session was open, none is new
 not_new_place : (s s' : System) (sent : List (ℕ × Frame)) (y : List ℕ) (m : ℕ) (o : OpenSession) → WasOpen s s' sent y m o
     → s.session y m ≡ None → ⊥
 not_new_place s s' sent y m o was none = let there = was.is in let no : Some was.old ≡ None = sym there ∙ none in cc
+
+-- a session that is open isn't gone
+still_open : (s' : System) (y w : List ℕ) (m k : ℕ) {c : OpenSession} → y ≡ w → m ≡ k → IsOpen s' w k c → s'.session y m ≡ None → ⊥
+still_open s' y w m k {c = c} node number is gone =
+    let there : s'.session y m ≡ Some c = rw (node, number) is in let no : None ≡ Some c = sym gone ∙ there in cc
 
 -- ---- a frame is answered at once
 
@@ -92,10 +97,7 @@ module _ (s s' : System) (number : ℕ) (f : Frame) (w : List ℕ) (k : ℕ) (se
       root_stays : (y : List ℕ) (m : ℕ) (o : OpenSession) → IsOpen s y m o → o.parent ≡ None → s'.session y m ≡ None → ⊥
       root_stays y m o is top gone =
           elim (step.others y m) [
-            | inl here ↦
-                let at : s'.session y m ≡ Some _ = rw (here.0, here.1) step.is in
-                let no : None ≡ Some _ = sym gone ∙ at in
-                cc
+            | inl here ↦ still_open s' y w m k here.0 here.1 step.is gone
             | inr same ↦ let no : None ≡ Some o = sym gone ∙ same ∙ is in cc
           ]
 
@@ -133,16 +135,10 @@ module _ (s s' : System) (number : ℕ) (f : Frame) (w : List ℕ) (k : ℕ) (x 
       root_stays : (y : List ℕ) (m : ℕ) (o : OpenSession) → IsOpen s y m o → o.parent ≡ None → s'.session y m ≡ None → ⊥
       root_stays y m o is top gone =
           elim (step.others y m) [
-            | inl here ↦
-                let at : s'.session y m ≡ Some _ = rw (here.0, here.1) step.parent_is in
-                let no : None ≡ Some _ = sym gone ∙ at in
-                cc
+            | inl here ↦ still_open s' y w m k here.0 here.1 step.parent_is gone
             | inr more ↦
                 elim more [
-                  | inl here ↦
-                      let at : s'.session y m ≡ Some _ = rw (here.0, here.1) step.child in
-                      let no : None ≡ Some _ = sym gone ∙ at in
-                      cc
+                  | inl here ↦ still_open s' y x m l here.0 here.1 step.child gone
                   | inr same ↦ let no : None ≡ Some o = sym gone ∙ same ∙ is in cc
                 ]
           ]
@@ -178,10 +174,7 @@ module _ (s s' : System) (number : ℕ) (f : Frame) (x : List ℕ) (k : ℕ) (w 
                 cc
             | inr more ↦
                 elim more [
-                  | inl here ↦
-                      let at : s'.session y n ≡ Some _ = rw (here.0, here.1) step.parent_is in
-                      let no : None ≡ Some _ = sym gone ∙ at in
-                      cc
+                  | inl here ↦ still_open s' y w n m here.0 here.1 step.parent_is gone
                   | inr same ↦ let no : None ≡ Some o = sym gone ∙ same ∙ is in cc
                 ]
           ]

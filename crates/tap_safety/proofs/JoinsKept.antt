@@ -6,7 +6,7 @@ use Rattle.tap_safety.specs.Remembered.{OpenSession}
 use Rattle.tap_safety.specs.System.{System, AmongFrames, IsJoiner, IsUnderWay}
 use Rattle.tap_safety.specs.Sessions.{AreExact, Belongs, IsOpen, IsRootless}
 use Rattle.tap_safety.specs.Joins.{AreOfJoiners, EndsOnce, HasNoDone, HasOneDone, HasRoot, about}
-use Rattle.tap_safety.proofs.Turns.{GoesOn, IsClosed, IsNew, Turns, WasOpen}
+use Rattle.tap_safety.specs.Turns.{GoesOn, IsClosed, IsNewlyOpen, Turns, WasOpen}
 
 -- an open session is one
 pub one_session : (s : System) (y : List ℕ) (m : ℕ) (o c : OpenSession) → IsOpen s y m o → IsOpen s y m c → o ≡ c

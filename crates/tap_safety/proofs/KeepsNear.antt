@@ -30,7 +30,7 @@ module _ (s s' : System) (cores : (y : List ℕ) → IsCoreNode s y → IsCoreNo
     (slots : (y z : List ℕ) → IsCoreNode s z → Has s y z → HasInSlot s' y z)
     (heard : (v b z : List ℕ) → HelloNames s v b z
     → HelloNames s' v b z ⊎ ((IsJoiner s z → Has s' b z) × (IsCoreNode s z → HasInSlot s' b z)))
-    (surrogate : (b : List ℕ) → s'.surrogate b ≡ s.surrogate b) where
+    (surrogate : (b : List ℕ) → StaysJoiner s s' b → s'.surrogate b ≡ s.surrogate b) where
   given_by : (b e z : List ℕ) → lcp b e < lcp e z → HasInSlot s' b z → IsGiven s' b e
   given_by b e z near slot = record {
     by = slot.to;
@@ -69,7 +69,7 @@ module _ (s s' : System) (cores : (y : List ℕ) → IsCoreNode s y → IsCoreNo
     has = λ y b joiner other has. record { kind = has.kind; link = joined y b has.kind joiner.was has.link };
     given = λ b e joiner given. given_kept b e given;
     filled = λ y e core other near. filled_kept y e near;
-    prefix = λ b joiner. ap (λ surrogate. lcp (unwrap_or surrogate []) b) (surrogate b);
+    prefix = λ b joiner. ap (λ surrogate. lcp (unwrap_or surrogate []) b) (surrogate b joiner);
     named = λ v b y joiner other is.
         elim (heard v b y is) [ inl still ↦ inr still | inr taken ↦ inl (taken.0 other.was) ];
   }

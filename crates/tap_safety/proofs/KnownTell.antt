@@ -21,7 +21,7 @@ module _ (p : SettingsValue) (s s' : System) (number : ℕ) (w x : List ℕ) (te
   abbrev taken_tell : Frame
   taken_tell = record { from = w; to = x; body = tell_body tell watch }
 
-  keeps : Keeps s s'
+  pub keeps : Keeps s s'
   keeps =
       keeps_all s s' (core_kept s s' x step.before step.after step.at step.status)
       (links_same s s' x step.before step.after step.at step.links)
@@ -29,13 +29,13 @@ module _ (p : SettingsValue) (s s' : System) (number : ℕ) (w x : List ℕ) (te
       (λ fields same. let no : hello_body fields ≡ tell_body tell watch = same in cc))
       step.surrogate
 
-  adds_none : AddsNone s s'
+  pub adds_none : AddsNone s s'
   adds_none = record {
     cores = core_was s s' x step.before step.after step.at step.status;
     joiners = joiner_was s s' x step.before step.after step.at step.status step.surrogate;
   }
 
-  takes_one : TakesOne s s' x tell.joiner tell.level
+  pub takes_one : TakesOne s s' x tell.joiner tell.level
   takes_one = record {
     told = told_but_one s s' number w x tell watch step.sent step.taken;
     joiner = λ joiner. absurd (core_or_joiner s x is.core joiner);

@@ -33,4 +33,14 @@ pub mod SoftKept
 pub mod JoinsKept
 pub mod JoinSteps
 pub mod SeekingKept
+pub mod FrameSeeking
+pub mod PlacesKept
+pub mod SoftSteps
+pub mod DoneCalm
+pub mod Exchanged
+pub mod FrameWords
+pub mod TellFilled
+pub mod RootSteps
+pub mod SeatSoft
+pub mod JoinSeeking
 pub mod StepLaws

@@ -126,7 +126,7 @@ module _ (s s' : System) (number : ℕ) (t x : List ℕ) (step : TakesRelease s 
       slots
       (λ v b z named. inl (frame_no_hello s s' number release step.step (λ hello same. let no : Release ≡ hello_body hello = same in cc)
       v b z named))
-      step.step.surrogate
+      (λ u stays. step.step.surrogate u)
 
   -- no pin is new
   pin_back : (u : List ℕ) → link_to is u ≡ Some Pin → link_to was u ≡ Some Pin
@@ -200,7 +200,7 @@ module _ (s s' : System) (number : ℕ) (n x : List ℕ) (step : TakesForget s s
       (record { kind = has.kind; link = forget_link y z has.kind (λ sender. no_core (rw sender at core)) has.link }))
       (λ v b z named. inl (frame_no_hello s s' number forget step.step (λ hello same. let no : Forget ≡ hello_body hello = same in cc)
       v b z named))
-      step.step.surrogate
+      (λ u stays. step.step.surrogate u)
 
   forget_pin_back : (u : List ℕ) → link_to step.step.after u ≡ Some Pin → link_to step.step.before u ≡ Some Pin
   forget_pin_back u now =
@@ -307,7 +307,7 @@ module _ (s s' : System) (number : ℕ) (w b : List ℕ) (hello : HelloFields) (
       keeps_near s s' hello_cores (λ y d kind joiner link. hello_link y d kind link)
       (λ y z core has.
       stays_in_slot s s' y z (hello_cores z core) (record { kind = has.kind; link = hello_link y z has.kind has.link }))
-      heard step.step.surrogate
+      heard (λ u stays. step.step.surrogate u)
 
   pub hello_filled : (p : SettingsValue) → AreFilled p s → AreFilled p s'
   hello_filled p filled =

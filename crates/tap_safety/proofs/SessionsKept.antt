@@ -42,7 +42,8 @@ use Rattle.tap_safety.proofs.Exchange.{
   is_place-here,
   is_place-same,
 }
-use Rattle.tap_safety.proofs.Turns.{GoesOn, IsClosed, IsNew, Turns, WasOpen, turned_exact}
+use Rattle.tap_safety.specs.Turns.{GoesOn, IsClosed, IsNewlyOpen, Turns, WasOpen}
+use Rattle.tap_safety.proofs.Turns.{turned_exact}
 
 -- ---- places
 
@@ -313,7 +314,7 @@ module _ (s s' : System) (number : ℕ) (f : Frame) (w : List ℕ) (k : ℕ) (x 
   is_new y m o here is = let at : s'.session y m ≡ Some new = rw (here.0, here.1) step.child in cc
 
   -- the new session is awaited in place of the frame
-  child_awaited : AmongTokens (Child x l) parent_now.awaits
+  pub child_awaited : AmongTokens (Child x l) parent_now.awaits
   child_awaited =
       let awaited = sound.frames number f w k step.frames.taken step.belongs in
       let was = awaited.is in
@@ -336,7 +337,7 @@ module _ (s s' : System) (number : ℕ) (f : Frame) (w : List ℕ) (k : ℕ) (x 
         depth = ap (λ session. session.depth) same;
       }
 
-  child_origin : (y : List ℕ) (m : ℕ) (o : OpenSession) → IsOpen s' y m o → WasOpen s s' sent y m o ⊎ IsNew s s' sent y m o
+  child_origin : (y : List ℕ) (m : ℕ) (o : OpenSession) → IsOpen s' y m o → WasOpen s s' sent y m o ⊎ IsNewlyOpen s s' sent y m o
   child_origin y m o is =
       elim (step.others y m) [
         | inl here ↦
@@ -406,10 +407,10 @@ module _ (s s' : System) (number : ℕ) (f : Frame) (x : List ℕ) (l : ℕ) (se
   left_root : (y : List ℕ) (m : ℕ) (o : OpenSession) → IsOpen s' y m o → Belongs f y m → AmongTokens (Way number) o.awaits → ⊥
   left_root y m o is belongs token = step.apart y m belongs
 
-  is_root : (y : List ℕ) (m : ℕ) (o : OpenSession) → (y ≡ x) × (m ≡ l) → IsOpen s' y m o → o ≡ step.root
+  pub is_root : (y : List ℕ) (m : ℕ) (o : OpenSession) → (y ≡ x) × (m ≡ l) → IsOpen s' y m o → o ≡ step.root
   is_root y m o here is = let at : s'.session y m ≡ Some step.root = rw (here.0, here.1) step.is in cc
 
-  root_place : (y : List ℕ) (m : ℕ) (o : OpenSession) → IsOpen s' y m o → s.session y m ≡ None → (y ≡ x) × (m ≡ l)
+  pub root_place : (y : List ℕ) (m : ℕ) (o : OpenSession) → IsOpen s' y m o → s.session y m ≡ None → (y ≡ x) × (m ≡ l)
   root_place y m o is none =
       elim (step.others y m) [ inl here ↦ here | inr same ↦ let no : Some o ≡ None = sym is ∙ same ∙ none in cc ]
 
@@ -500,7 +501,7 @@ module _ (s s' : System) (number : ℕ) (f : Frame) (x : List ℕ) (k : ℕ) (w 
       ]
 
   -- the session that is closed was awaited
-  awaited_up : AmongTokens (Child x k) step.before.awaits
+  pub awaited_up : AmongTokens (Child x k) step.before.awaits
   awaited_up =
       let up = sound.parents x k step.closes.session w m step.closes.was step.above in
       let is = up.is in

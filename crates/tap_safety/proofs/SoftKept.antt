@@ -1,5 +1,5 @@
 -- Who is named stays core or soft, if the links that are new and the messages that are sent are sound.
-use Rattle.std.proofs.Common.{◌≡◌, inl, inr, ℕ, true, false, List, [], ◌∷◌, ◌⊎◌, Option, None, Some, refl, sym, ap, ◌∙◌}
+use Rattle.std.proofs.Common.{◌≡◌, inl, inr, ℕ, Bool, true, false, List, [], ◌∷◌, ◌⊎◌, Option, None, Some, refl, sym, ap, ◌∙◌}
 use Rattle.std.proofs.lemmas.Bool.{cases_Bool, true≢false}
 use Rattle.tap_name.specs.declared.slot.Offered.{Offered}
 use Rattle.tap_name.specs.declared.slot.Slot.{Slot}
@@ -46,33 +46,41 @@ use Rattle.tap_safety.specs.FrameSteps.{
 }
 use Rattle.tap_safety.proofs.FrameKeeps.{frame_cores}
 use Rattle.tap_safety.proofs.LinkKeeps.{release_core}
-use Rattle.tap_safety.proofs.StartKeeps.{join_cores, node_was, old_node}
 use Rattle.tap_safety.proofs.TellKeeps.{core_kept, node_after, node_before}
 use Rattle.tap_safety.proofs.Told.{among_either, among_sent, taken_under_way, was_under_way}
+
+-- what is so of words of links, of Lays and of each message is so of all that is sent
+pub sent_each : (x : List ℕ) (words : List Tie) (messages : List Message) (sent : List Frame) → AreSent x words messages sent
+    → (P : List ℕ → List ℕ → Body → Type 0) → ((to : List ℕ) (version : ℕ) (on : Bool) → P x to (Link version on))
+    → ((to object server : List ℕ) (level version : ℕ) (on : Bool) → P x to (Lay object server level version on))
+    → ((m : Message) → IsAmong m messages → P x m.to m.body) → (from to : List ℕ) (body : Body) → IsSent sent from to body
+    → P from to body
+sent_each x words messages sent are P links lays named from to body is =
+    elim (are.each (record { from = from; to = to; body = body }) is) [
+      | inl link ↦
+          ends (link_frame x link.word) (record { from = from; to = to; body = body }) (sym link.is)
+          (links link.word.to link.word.version link.word.on)
+      | inr more ↦
+          elim more [
+            | inl message ↦
+                ends (message_frame x message.message) (record { from = from; to = to; body = body }) (sym message.is)
+                (named message.message message.among)
+            | inr lay ↦
+                ends (lay_frame x lay.lay) (record { from = from; to = to; body = body }) (sym lay.is)
+                (lays lay.lay.to lay.lay.object lay.lay.server lay.lay.level lay.lay.version lay.lay.on)
+          ]
+    ]
+  where
+    ends : (one two : Frame) → one ≡ two → P one.from one.to one.body → P two.from two.to two.body
+    ends one two same so = rw (← same) so
 
 -- what is sent is sound, if the messages are
 pub sent_sound : (s : System) (x : List ℕ) (words : List Tie) (messages : List Message) (sent : List Frame)
     → AreSent x words messages sent → AreSound s x messages → (from to : List ℕ) (body : Body) → IsSent sent from to body
     → IsSoundBody s from to body
-sent_sound s x words messages sent are sound from to body is =
-    elim (are.each (record { from = from; to = to; body = body }) is) [
-      | inl link ↦
-          let said : body ≡ Link link.word.version link.word.on = ap (λ f. f.body) link.is in
-          rw said tt
-      | inr more ↦
-          elim more [
-            | inl named ↦
-                let frame : message_frame x named.message ≡ record { from = from; to = to; body = body } = sym named.is in
-                let is_sound = sound named.message named.among in
-                let ends : (f : Frame) → message_frame x named.message ≡ f → IsSoundBody s f.from f.to f.body =
-                λ f same. rw (← same) is_sound in
-                ends (record { from = from; to = to; body = body }) frame
-            | inr lay ↦
-                let said : body ≡ Lay lay.lay.object lay.lay.server lay.lay.level lay.lay.version lay.lay.on =
-                ap (λ f. f.body) lay.is in
-                rw said tt
-          ]
-    ]
+sent_sound s x words messages sent are sound =
+    sent_each x words messages sent are (λ from to body. IsSoundBody s from to body) (λ to version on. tt)
+    (λ to object server level version on. tt) sound
 
 -- a message of a list of one
 pub only_message : (m one : Message) → IsAmong m (one ∷ []) → m ≡ one
@@ -132,7 +140,8 @@ module _ (s s' : System) (number : ℕ) (frame : Frame) (step : TakesFrame s s' 
         | inr there ↦ record { state = ceased.state; is = there; ceased = ceased.ceased }
       ]))
 
-  pub frame_soft : ((t : List ℕ) (kind : Kind) → link_to step.after t ≡ Some kind → (link_to step.before t ≡ Some kind) ⊎ IsSoundLink s' t kind)
+  pub frame_soft : ((t : List ℕ) (kind : Kind) → link_to step.after t ≡ Some kind
+      → (link_to step.before t ≡ Some kind) ⊎ IsSoundLink s' t kind)
       → AreSound s' frame.to step.messages → NamesSoft s → NamesSoft s'
   frame_soft new sound soft = soft_kept s s' (frame_cores s s' number frame step) frame_softs links ways soft
     where

@@ -25,7 +25,8 @@ module _ (s s' : System) (sent : List Frame) (has : HasSent s s' sent) where
   pub way_stays : (from to : List ℕ) (body : Body) → IsUnderWay s from to body → IsUnderWay s' from to body
   way_stays from to body way = record {
     number = way.number;
-    among = rw has.after (among_left way.number (record { from = from; to = to; body = body }) s.frames (numbered_from s.next sent) way.among);
+    among = rw has.after
+        (among_left way.number (record { from = from; to = to; body = body }) s.frames (numbered_from s.next sent) way.among);
   }
 
   pub named_stays : (v b z : List ℕ) → HelloNames s v b z → HelloNames s' v b z
@@ -68,7 +69,7 @@ module _ (s s' : System) (x : List ℕ) (start : StartsPlainly s s' x) where
 
 module _ (s s' : System) (x : List ℕ) (start : StartsJoin s s' x) where
   -- a node that was there is as it was
-  old_node : (y : List ℕ) (state : NodeState) → s.node y ≡ Some state → s'.node y ≡ Some state
+  pub old_node : (y : List ℕ) (state : NodeState) → s.node y ≡ Some state → s'.node y ≡ Some state
   old_node y state is =
       elim (start.others y) [
         | inr same ↦ same ∙ is
@@ -76,7 +77,7 @@ module _ (s s' : System) (x : List ℕ) (start : StartsJoin s s' x) where
       ]
 
   -- a node is the new one, or was there
-  node_was : (y : List ℕ) (state : NodeState) → s'.node y ≡ Some state → ((y ≡ x) × (state ≡ start.after)) ⊎ (s.node y ≡ Some state)
+  pub node_was : (y : List ℕ) (state : NodeState) → s'.node y ≡ Some state → ((y ≡ x) × (state ≡ start.after)) ⊎ (s.node y ≡ Some state)
   node_was y state is =
       elim (start.others y) [
         | inr same ↦ inr (sym same ∙ is)
@@ -86,7 +87,7 @@ module _ (s s' : System) (x : List ℕ) (start : StartsJoin s s' x) where
             inl (here, same)
       ]
 
-  join_cores : (y : List ℕ) → IsCoreNode s y → IsCoreNode s' y
+  pub join_cores : (y : List ℕ) → IsCoreNode s y → IsCoreNode s' y
   join_cores y core = record { state = core.state; is = old_node y core.state core.is; core = core.core }
 
   join_links : (y z : List ℕ) (kind : Kind) → HasLink s y z kind → HasLink s' y z kind
@@ -116,7 +117,7 @@ module _ (s s' : System) (x : List ℕ) (start : StartsJoin s s' x) where
             cc
       ]
 
-  join_covers_was : (y b : List ℕ) (level : ℕ) → Covers s' y b level → Covers s y b level
+  pub join_covers_was : (y b : List ℕ) (level : ℕ) → Covers s' y b level → Covers s y b level
   join_covers_was y b level covers =
       elim (node_was y covers.state covers.is) [
         | inr there ↦ record { state = covers.state; is = there; cover = covers.cover }

@@ -22,7 +22,7 @@ among_either n f (x ∷ xs) ys (inl is) = inl (inl is)
 among_either n f (x ∷ xs) ys (inr later) =
     elim (among_either n f xs ys later) [ inl one ↦ inl (inr one) | inr two ↦ inr two ]
 
-among_out : (n m : ℕ) (f g : Frame) (front back sent : List (ℕ × Frame)) → AmongFrames n f (front ++ (m, g) ∷ back)
+pub among_out : (n m : ℕ) (f g : Frame) (front back sent : List (ℕ × Frame)) → AmongFrames n f (front ++ (m, g) ∷ back)
     → AmongFrames n f (front ++ (back ++ sent)) ⊎ ((n ≡ m) × (f ≡ g))
 among_out n m f g [] back sent (inl is) = inr is
 among_out n m f g [] back sent (inr later) = inl (among_left n f back sent later)
@@ -38,7 +38,7 @@ among_numbered n (frame ∷ frames) x t body (inl is) = (n, inl (refl, is))
 among_numbered n (frame ∷ frames) x t body (inr later) =
     let rest = among_numbered (n + 1) frames x t body later in (rest.0, inr rest.1)
 
-among_was : (n m : ℕ) (f g : Frame) (front back sent : List (ℕ × Frame)) → AmongFrames n f (front ++ (back ++ sent))
+pub among_was : (n m : ℕ) (f g : Frame) (front back sent : List (ℕ × Frame)) → AmongFrames n f (front ++ (back ++ sent))
     → AmongFrames n f (front ++ (m, g) ∷ back) ⊎ AmongFrames n f sent
 among_was n m f g [] back sent among = elim (among_either n f back sent among) [ inl old ↦ inl (inr old) | inr new ↦ inr new ]
 among_was n m f g (x ∷ xs) back sent (inl is) = inl (inl is)
@@ -51,7 +51,7 @@ among_sent n [] m f among = absurd among
 among_sent n (frame ∷ frames) m f (inl is) = inl is.1
 among_sent n (frame ∷ frames) m f (inr later) = inr (among_sent (n + 1) frames m f later)
 
-among_there : (n : ℕ) (f : Frame) (front back : List (ℕ × Frame)) → AmongFrames n f (front ++ (n, f) ∷ back)
+pub among_there : (n : ℕ) (f : Frame) (front back : List (ℕ × Frame)) → AmongFrames n f (front ++ (n, f) ∷ back)
 among_there n f [] back = inl (refl, refl)
 among_there n f (x ∷ xs) back = inr (among_there n f xs back)
 

@@ -1,5 +1,5 @@
 -- What the sessions, the frames and the stamps keep beside, so that the parts of the invariant follow from themselves.
-use Rattle.std.specs.Prelude.{◌≡◌, ℕ, ◌+◌, ◌<◌, ◌≤◌, List, [], Some}
+use Rattle.std.specs.Prelude.{◌≡◌, ℕ, ◌+◌, ◌<◌, ◌≤◌, List, [], None, Some}
 use Rattle.tap_name.specs.declared.slot.Slot.{Slot}
 use Rattle.tap_wire.specs.declared.frame.Frame.{Frame}
 use Rattle.tap_wire.specs.declared.frame.TellFields.{TellFields}
@@ -8,7 +8,7 @@ use Rattle.tap_rule.specs.Node.Status.{Joining, Core, Leaving, Gone, Ceased}
 use Rattle.tap_safety.specs.Frames.{tell_body}
 use Rattle.tap_safety.specs.Remembered.{OpenSession, Word}
 use Rattle.tap_safety.specs.System.{System, AmongFrames, IsCoreNode, IsUnderWay}
-use Rattle.tap_safety.specs.Sessions.{IsOpen}
+use Rattle.tap_safety.specs.Sessions.{Belongs, IsOpen}
 use Rattle.tap_safety.specs.Seeking.{HasNode}
 use Rattle.tap_safety.specs.Ties.{word_frame}
 
@@ -67,3 +67,24 @@ pub record AreStamped (s : System) : Type 0 where
 pub record HasCore (s : System) : Type 0 where
   pub name : List ℕ
   pub core : IsCoreNode s name
+
+-- nodes that hold sessions go on to, and have opened no fewer; and a session that is opened has its place
+pub record KeepsPlaces (s s' : System) : Type 0 where
+  pub nodes : (y : List ℕ) (k : ℕ) (state : NodeState) → s.node y ≡ Some state → holds_sessions state.status
+      → (now : NodeState) × (s'.node y ≡ Some now) × holds_sessions now.status × (state.sessions.opened ≤ now.sessions.opened)
+  pub new : (y : List ℕ) (m : ℕ) (o : OpenSession) → IsOpen s' y m o → s.session y m ≡ None → HasPlace s' y m o
+
+-- each Tell that is sent is one deeper than its session, at a level above its prefix
+pub record SendsDeeper (s' : System) (sent : List (ℕ × Frame)) : Type 0 where
+  pub depth : (from to : List ℕ) (fields : TellFields) (watch : List Slot) (m : ℕ) (session : OpenSession)
+      → AmongFrames m (record { from = from; to = to; body = tell_body fields watch }) sent → IsOpen s' from fields.session session
+      → fields.depth ≡ session.depth + 1
+  pub level : (from to : List ℕ) (fields : TellFields) (watch : List Slot) (m : ℕ)
+      → AmongFrames m (record { from = from; to = to; body = tell_body fields watch }) sent → fields.prefix < fields.level
+
+-- a frame is sent in this session
+pub record SendsIn (sent : List (ℕ × Frame)) (x : List ℕ) (k : ℕ) : Type 0 where
+  pub number : ℕ
+  pub frame : Frame
+  pub among : AmongFrames number frame sent
+  pub belongs : Belongs frame x k

@@ -69,8 +69,8 @@ pub record WhileLeaving (s : System) (leaver : Leaver) (state : NodeState) : Typ
   pub settled : (t : List ℕ) (kind : Kind) → link_to state t ≡ Some kind → kind ≡ Settled
   pub linked : (y : List ℕ) (kind : Kind) → HasLink s y leaver.name kind → Among y leaver.holders
 
--- Departure, with S10 to S12. While a node departs, no node joins, no table has a pin, no other node leaves or is marked, and only such frames
--- are under way; the leaver leaves or is gone, and then each link to it is marked, and its Gone is under way.
+-- Departure, with S10 to S12. While a node departs, no node joins, no table has a pin, no other node leaves or is marked, and only such
+-- frames are under way; the leaver leaves or is gone, and then each link to it is marked, and its Gone is under way.
 pub record WhileDeparting (s : System) (leaver : Leaver) : Type 0 where
   pub joining : (x : List ℕ) → status_of s x ≡ Some Joining → ⊥
   pub pins : (x t : List ℕ) → HasLink s x t Pin → ⊥

@@ -17,8 +17,8 @@ about_of other from to = None
 abbrev pub about : Frame → Option (List ℕ)
 about f = about_of f.body f.from f.to
 
--- Each open session is of a joiner; a root session is its surrogate's, of depth 0; a frame of a session is about its joiner; and a Done goes
--- to a joiner.
+-- Each open session is of a joiner; a root session is its surrogate's, of depth 0; a frame of a session is about its joiner; and a Done
+-- goes to a joiner.
 pub record AreOfJoiners (s : System) : Type 0 where
   pub opened : (x : List ℕ) (k : ℕ) (session : OpenSession) → IsOpen s x k session → IsJoiner s session.joiner
   pub root : (x : List ℕ) (k : ℕ) (session : OpenSession) → IsOpen s x k session → session.parent ≡ None
@@ -73,3 +73,12 @@ pub record SendsDone (sent : List (ℕ × Frame)) (b : List ℕ) : Type 0 where
   pub number : ℕ
   pub among : AmongFrames number (record { from = from; to = b; body = Done }) sent
   pub only : (m : ℕ) (w c : List ℕ) → AmongFrames m (record { from = w; to = c; body = Done }) sent → (m ≡ number) × (c ≡ b)
+
+-- b is a joiner now, with this surrogate, and wasn't; the other joiners are as before, with their surrogates
+pub record JoinerIsNew (s s' : System) (x b : List ℕ) : Type 0 where
+  pub on : (d : List ℕ) → IsJoiner s d → IsJoiner s' d
+  pub was : (d : List ℕ) → IsJoiner s' d → IsJoiner s d ⊎ (d ≡ b)
+  pub surrogates : (d : List ℕ) → IsJoiner s d → s'.surrogate d ≡ s.surrogate d
+  pub new : IsJoiner s' b
+  pub fresh : IsJoiner s b → ⊥
+  pub seated : s'.surrogate b ≡ Some x

@@ -10,13 +10,15 @@ pub mod Tells
 pub mod FrameSteps
 pub mod TellStep
 pub mod DoneStep
-pub mod SeekStep
 pub mod Sessions
 pub mod SessionSteps
+pub mod Turns
 pub mod Joins
 pub mod Ties
 pub mod Seeking
+pub mod SeekStep
 pub mod Bookkeeping
+pub mod SeekerSteps
 pub mod Ceased
 pub mod WordSteps
 pub mod Move

@@ -1,12 +1,17 @@
 -- A Seek is taken at the joiner's surrogate: what its Hello names.
-use Rattle.std.specs.Prelude.{◌≡◌, ℕ, ◌<◌, ◌≤◌, List, Some, true}
+use Rattle.std.specs.Prelude.{◌≡◌, ℕ, ◌<◌, ◌≤◌, List, ◌⊎◌, Some, true}
 use Rattle.tap_name.specs.Name.{IsName}
 use Rattle.tap_name.specs.Prefix.{lcp}
 use Rattle.tap_name.specs.Settings.{SettingsValue}
 use Rattle.tap_link.specs.declared.kind.Kind.TheVariants.{Pin, Settled, Leaving as Marked}
 use Rattle.tap_rule.specs.Node.{NodeState, link_to}
 use Rattle.tap_safety.specs.Frames.{HelloFields, hello_body}
-use Rattle.tap_safety.specs.System.{System, IsCoreNode, HasLink, IsUnderWay, AmongOffered}
+use Rattle.tap_safety.specs.Seeking.{IsSeeker, IsUnknown}
+use Rattle.tap_safety.specs.Step.{ChangesAt, IsTaken}
+use Rattle.tap_safety.specs.System.{System, Covers, IsCoreNode, HasLink, IsUnderWay, AmongOffered}
+use Rattle.tap_safety.specs.TellStep.{CoversAnew}
+use Rattle.tap_wire.specs.declared.frame.Body.TheVariants.{Seek}
+use Rattle.tap_wire.specs.declared.frame.Frame.{Frame}
 use Rattle.tap_safety.specs.Parts.{HoleFree, SettledCore}
 
 -- a Hello offers a settled link of the slot of t
@@ -41,3 +46,25 @@ pub record JoinerIsGreeted (p : SettingsValue) (s s' : System) (x b : List ℕ) 
   pub core : IsCoreNode s x
   pub joins : IsCoreNode s b → ⊥
   pub greets : IsGreeted p s s' x b
+
+-- x becomes the surrogate of b: it covers it anew from their common prefix on, and greets it
+pub record SeatsJoiner (p : SettingsValue) (s s' : System) (number : ℕ) (w x b : List ℕ) : Type 0 where
+  pub before : NodeState
+  pub after : NodeState
+  pub sent : List Frame
+  pub taken : IsTaken s s' number (record { from = w; to = x; body = Seek b }) sent
+  pub at : ChangesAt s s' x before after
+  pub covers : CoversAnew before after sent x b (lcp x b) (lcp x b)
+  pub greets : IsGreeted p s s' x b
+  pub seated : s'.surrogate b ≡ Some x
+  pub others : (d : List ℕ) → (d ≡ b) ⊎ (s'.surrogate d ≡ s.surrogate d)
+
+-- what holds before: nothing names b, which covers nobody
+pub record BeforeSeat (p : SettingsValue) (s : System) (x b : List ℕ) : Type 0 where
+  pub names : (y : List ℕ) → IsCoreNode s y → IsName p y
+  pub settled : SettledCore s
+  pub unmarked : (y t : List ℕ) → HasLink s y t Marked → ⊥
+  pub core : IsCoreNode s x
+  pub seeker : IsSeeker s b
+  pub unknown : IsUnknown s b
+  pub idle : (d : List ℕ) (level : ℕ) → Covers s b d level → ⊥

@@ -36,10 +36,11 @@ pub record IsUnknown (s : System) (x : List ℕ) : Type 0 where
   pub offered : (w b : List ℕ) → HelloNames s w b x → ⊥
   pub covered : (y : List ℕ) (level : ℕ) → Covers s y x level → ⊥
 
--- Seeking: of each seeker one Seek is under way, and nothing else names it; and each cover is of a known name
+-- Seeking: of each seeker one Seek is under way, and nothing else names it; it covers nobody; and each cover is of a known name
 pub record Seeking (s : System) : Type 0 where
   pub seeks : (x : List ℕ) → IsSeeker s x → HasOneSeek s x
   pub unknown : (x : List ℕ) → IsSeeker s x → IsUnknown s x
+  pub idle : (x d : List ℕ) (level : ℕ) → IsSeeker s x → Covers s x d level → ⊥
   pub covers : (y b : List ℕ) (level : ℕ) → Covers s y b level → HasNode s b
 
 -- S1, seekers: a Seek under way is of a seeker

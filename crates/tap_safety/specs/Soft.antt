@@ -5,12 +5,14 @@ use Rattle.tap_link.specs.declared.kind.Kind.{Kind}
 use Rattle.tap_link.specs.declared.kind.Kind.TheVariants.{Pin, Settled, Leaving as Marked}
 use Rattle.tap_join.specs.Hello.{hello_names}
 use Rattle.tap_wire.specs.declared.frame.Body.{Body}
-use Rattle.tap_wire.specs.declared.frame.Body.TheVariants.{Hello, Leave, Release}
-use Rattle.tap_rule.specs.Node.{NodeState}
+use Rattle.tap_wire.specs.declared.frame.Body.TheVariants.{Hello, Leave, Release, Seek, Tell}
+use Rattle.tap_wire.specs.declared.frame.Frame.{Frame}
+use Rattle.tap_rule.specs.Node.{NodeState, link_to}
 use Rattle.tap_rule.specs.Node.Status.{Ceased as HasCeased}
 use Rattle.tap_rule.specs.Reaction.{Message}
 use Rattle.tap_rule.specs.Sent.{IsAmong}
 use Rattle.tap_safety.specs.Frames.{HelloFields, hello_body}
+use Rattle.tap_safety.specs.Step.{IsSent}
 use Rattle.tap_safety.specs.System.{System, HasLink, IsCoreNode, IsJoiner, IsUnderWay}
 
 -- there is a node of this name that has ceased
@@ -49,17 +51,39 @@ IsSoundLink s t Pin = IsSoft s t
 IsSoundLink s t Settled = IsCoreNode s t
 IsSoundLink s t Marked = ⊥
 
+-- each new link is to such a node
+abbrev pub AddsSoundLinks : System → NodeState → NodeState → Type 0
+AddsSoundLinks s before after =
+    (t : List ℕ) (kind : Kind) → link_to after t ≡ Some kind → (link_to before t ≡ Some kind) ⊎ IsSoundLink s t kind
+
 abbrev pub IsSoundReplacement : System → Option (List ℕ) → Type 0
 IsSoundReplacement s None = Unit
 IsSoundReplacement s (Some r) = IsCoreNode s r
 
 -- a frame with these ends may say this
 abbrev pub IsSoundBody : System → List ℕ → List ℕ → Body → Type 0
-IsSoundBody s from to (Hello session core links) = (offered : Offered) → IsAmong offered (hello_names from core links) → IsSoundOffer s to offered
+IsSoundBody s from to (Hello session core links) =
+    (offered : Offered) → IsAmong offered (hello_names from core links) → IsSoundOffer s to offered
 IsSoundBody s from to Release = IsCoreNode s from
 IsSoundBody s from to (Leave replacement) = IsSoundReplacement s replacement
 IsSoundBody s from to other = Unit
 
+-- each frame that is sent
+abbrev pub SendsSound : System → List Frame → Type 0
+SendsSound s sent = (from to : List ℕ) (body : Body) → IsSent sent from to body → IsSoundBody s from to body
+
 -- each message that x sends
 abbrev pub AreSound : System → List ℕ → List Message → Type 0
 AreSound s x messages = (m : Message) → IsAmong m messages → IsSoundBody s x m.to m.body
+
+-- a frame with these ends sends nobody on, and names soft nodes alone
+abbrev pub IsQuietBody : System → List ℕ → List ℕ → Body → Type 0
+IsQuietBody s from to (Seek joiner) = ⊥
+IsQuietBody s from to (Tell joiner prefix level session depth watch) = ⊥
+IsQuietBody s from to (Hello session core links) =
+    IsSoft s from × IsSoft s to × ((offered : Offered) → IsAmong offered links → IsSoft s offered.name)
+IsQuietBody s from to other = Unit
+
+-- each message that x sends
+abbrev pub AreQuiet : System → List ℕ → List Message → Type 0
+AreQuiet s x messages = (m : Message) → IsAmong m messages → IsQuietBody s x m.to m.body

@@ -1,6 +1,6 @@
 -- Links in both directions: the last word of each node to each other one, and where it stands.
 use Rattle.std.specs.Prelude.{◌≡◌, ℕ, ◌<◌, ◌≤◌, Bool, true, false, List, ◌⊎◌, Option, None, Some}
-use Rattle.std.specs.Option.{option_map}
+use Rattle.tap_register.specs.declared.registers.Entry.{Entry}
 use Rattle.tap_link.specs.declared.kind.Kind.{Kind}
 use Rattle.tap_link.specs.declared.kind.Kind.TheVariants.{Pin}
 use Rattle.tap_wire.specs.declared.frame.Frame.{Frame}
@@ -18,9 +18,14 @@ abbrev pub link_in : Option NodeState → List ℕ → Option Kind
 link_in None t = None
 link_in (Some node) t = link_to node t
 
+-- the word that a register's entry keeps
+abbrev pub word_kept : Option (Entry (List ℕ) Bool) → Option Word
+word_kept None = None
+word_kept (Some e) = Some (record { version = e.version; on = e.value })
+
 abbrev pub register_in : Option NodeState → List ℕ → Option Word
 register_in None x = None
-register_in (Some node) x = option_map (λ e. record { version = e.version; on = e.value }) (word_of node x)
+register_in (Some node) x = word_kept (word_of node x)
 
 -- Of a name: the status of its node; the kind of its link to another; and what its register of holders has of another; each if
 -- there is one.

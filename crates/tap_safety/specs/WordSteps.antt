@@ -1,9 +1,14 @@
 -- A node changes links, and says so.
-use Rattle.std.specs.Prelude.{◌≡◌, ℕ, ◌<◌, ◌≤◌, true, false, List, ◌⊎◌, Option, None, Some}
+use Rattle.std.specs.Prelude.{◌≡◌, ℕ, ◌<◌, Bool, true, false, List, ◌⊎◌, None, Some}
 use Rattle.tap_link.specs.declared.kind.Kind.{Kind}
 use Rattle.tap_link.specs.declared.kind.Kind.TheVariants.{Pin}
+use Rattle.tap_table.specs.declared.tie.Tie.{Tie}
+use Rattle.tap_wire.specs.declared.frame.Frame.{Frame}
+use Rattle.tap_rule.specs.Node.{NodeState, link_to, word_of}
 use Rattle.tap_rule.specs.Node.Status.{Ceased as HasCeased}
-use Rattle.tap_wire.specs.declared.frame.Body.TheVariants.{Forget}
+use Rattle.tap_rule.specs.Reaction.{Message}
+use Rattle.tap_rule.specs.Sent.{IsAmong}
+use Rattle.tap_wire.specs.declared.frame.Body.TheVariants.{Forget, Link, Release}
 use Rattle.tap_safety.specs.Remembered.{Word}
 use Rattle.tap_safety.specs.System.{System, IsUnderWay}
 use Rattle.tap_safety.specs.Ties.{IsOnWay, link_of, register_of, release_frame, status_of, word_frame}
@@ -34,3 +39,22 @@ pub record SaysWords (s s' : System) (x : List ℕ) : Type 0 where
 pub record KeepsForgets (s s' : System) (x : List ℕ) : Type 0 where
   pub still : (n y : List ℕ) → IsUnderWay s n y Forget → IsUnderWay s' n y Forget ⊎ ((y ≡ x) × (link_of s' y n ≡ Some Pin → ⊥))
   pub was : (n y : List ℕ) → IsUnderWay s' n y Forget → IsUnderWay s n y Forget ⊎ (status_of s' n ≡ Some HasCeased)
+
+-- Of a node and the words that it sends: a link that changes has its word, which says whether it is there, with a number that the node's
+-- stamp had not yet given; there is one word at most to each name; and its register stays.
+pub record SaysLinks (before after : NodeState) (words : List Tie) : Type 0 where
+  pub unsaid : (t : List ℕ) → ((word : Tie) → IsAmong word words → word.to ≡ t → ⊥) → link_to after t ≡ link_to before t
+  pub on : (word : Tie) → IsAmong word words → (kind : Kind) → link_to after word.to ≡ Some kind → word.on ≡ true
+  pub off : (word : Tie) → IsAmong word words → link_to after word.to ≡ None → word.on ≡ false
+  pub newer : (word : Tie) → IsAmong word words → before.stamp < word.version
+  pub once : (one two : Tie) → IsAmong one words → IsAmong two words → one.to ≡ two.to → one ≡ two
+  pub register : (holder : List ℕ) → word_of after holder ≡ word_of before holder
+
+-- of a frame that is taken and the messages that are sent: no Link and no Forget is among them, and if it is a Release or a Forget, the
+-- node doesn't pin its sender any more
+pub record SaysNoMore (frame : Frame) (after : NodeState) (messages : List Message) : Type 0 where
+  pub link : (version : ℕ) (on : Bool) → frame.body ≡ Link version on → ⊥
+  pub release : frame.body ≡ Release → link_to after frame.from ≡ Some Pin → ⊥
+  pub forget : frame.body ≡ Forget → link_to after frame.from ≡ Some Pin → ⊥
+  pub no_link : (m : Message) → IsAmong m messages → (version : ℕ) (on : Bool) → m.body ≡ Link version on → ⊥
+  pub no_forget : (m : Message) → IsAmong m messages → m.body ≡ Forget → ⊥

@@ -3,6 +3,18 @@ ghost use Rattle.tap_safety.specs.StepLaws.{FilledKeptByForget, FilledKeptByHell
 ghost use Rattle.tap_safety.specs.StepLaws.{FilledKeptByRelease, FilledKeptByStart, FilledKeptByTellCeased, FilledKeptByTellJoining};
 ghost use Rattle.tap_safety.specs.StepLaws.{SessionsKeptByClosing, SessionsKeptByHandingOn, SessionsKeptByLastAnswer};
 ghost use Rattle.tap_safety.specs.StepLaws.{SessionsKeptByOthers, SessionsKeptByRoot};
+ghost use Rattle.tap_safety.specs.StepLaws.{FilledKeptByDone, JoinersStayByFrame, SeekingKeptByFrame, SoftKeptByDone, SoftKeptByJoin};
+ghost use Rattle.tap_safety.specs.StepLaws.{SoftKeptByKnownTell, SoftKeptByStart, SoftKeptByTell, TellsKeptByFrame};
+ghost use Rattle.tap_safety.specs.StepLaws.{AwaitKeptByClosing, AwaitKeptByHandingOn, AwaitKeptByLastAnswer, AwaitKeptByOpening};
+ghost use Rattle.tap_safety.specs.StepLaws.{AwaitKeptByOthers, AwaitKeptByRoot, ClosingTurns, DepthsKeptByTurn, HandingOnTurns};
+ghost use Rattle.tap_safety.specs.StepLaws.{LastAnswerTurns, OpeningTurns, PlacesKeptByTurn, RootTurns};
+ghost use Rattle.tap_safety.specs.StepLaws.{FilledKeptByKnownTell, FilledKeptByTell, FramesAreExchanged};
+ghost use Rattle.tap_safety.specs.StepLaws.{SeekingKeptByJoin, WordsSaidByFrame};
+ghost use Rattle.tap_safety.specs.StepLaws.{JoinerIsNewBySeat, JoinsKeptByRoot, SoftKeptBySeat};
+ghost use Rattle.tap_safety.specs.StepLaws.{CeasedKeptByWords, TiesKeptByWords, VersionsKeptByWords};
+ghost use Rattle.tap_safety.specs.StepLaws.{JoinsKeptByClosing, JoinsKeptByHandingOn, JoinsKeptByLastAnswer, JoinsKeptByOpening};
+ghost use Rattle.tap_safety.specs.StepLaws.{SeekingKept, SoftKeptByForget, SoftKeptByHello, SoftKeptByPlainFrame, SoftKeptByRelease};
+ghost use Rattle.tap_safety.specs.StepLaws.{SoftKeptByTellCeased, SoftKeptByTellJoining, TellsKept};
 ghost use Rattle.tap_safety.specs.Laws.{CoverKeptByDone, HoleFreeKeptByDone, LowKeptByDone, LowOfNewJoiner};
 ghost use Rattle.tap_safety.specs.Laws.{CoverKeptByTell, CoveredKeptByTell, HoleFreeKeptByTell, LowKeptByTell, MeetKeptByTell};
 ghost use Rattle.tap_safety.specs.Laws.{NoSessionWithoutRoot, OnlyTheLastFrameIsLeft, OnlyTheRootIsLeft, SessionsKeptByOpening};
@@ -20,19 +32,23 @@ pub fn move_law()
     ensures found { NumberIsFound }
     ensures numbers { NumbersKeptByFrame }
     ensures more { NumbersKeptByStart }
+    ensures exchanged { FramesAreExchanged }
 {}
 
 /// A frame that is neither a Tell nor a Hello, at a node that keeps its links and its covers, as Heard, Ack, Link and a Seek that goes
-/// on do: tables without holes, and what leads to them, are kept.
+/// on do: tables without holes, and what leads to them, are kept, and that links and frames name core nodes or soft ones, if the
+/// messages do.
 ///
 /// It does nothing: its contract is the law.
 ///
 /// Rule: docs/PROTOCOL.md, "Steps of a node".
 pub fn plain_frame_law()
-    ensures { FilledKeptByPlainFrame }
+    ensures filled { FilledKeptByPlainFrame }
+    ensures soft { SoftKeptByPlainFrame }
 {}
 
-/// A Tell at a node that is joining or has ceased: tables without holes, and what leads to them, are kept.
+/// A Tell at a node that is joining or has ceased: tables without holes, and what leads to them, are kept, and that links and frames
+/// name core nodes or soft ones.
 ///
 /// It does nothing: its contract is the law.
 ///
@@ -40,33 +56,38 @@ pub fn plain_frame_law()
 pub fn tell_elsewhere_law()
     ensures joining { FilledKeptByTellJoining }
     ensures ceased { FilledKeptByTellCeased }
+    ensures joining_soft { SoftKeptByTellJoining }
+    ensures ceased_soft { SoftKeptByTellCeased }
 {}
 
-/// A Hello: tables without holes, and what leads to them, are kept.
+/// A Hello: tables without holes, and what leads to them, are kept, and that links and frames name core nodes or soft ones.
 ///
 /// It does nothing: its contract is the law.
 ///
 /// Rule: docs/PROTOCOL.md, "Hello".
 pub fn hello_law()
-    ensures { FilledKeptByHello }
+    ensures filled { FilledKeptByHello }
+    ensures soft { SoftKeptByHello }
 {}
 
-/// A Release: tables without holes, and what leads to them, are kept.
+/// A Release: tables without holes, and what leads to them, are kept, and that links and frames name core nodes or soft ones.
 ///
 /// It does nothing: its contract is the law.
 ///
 /// Rule: docs/PROTOCOL.md, "Release".
 pub fn release_law()
-    ensures { FilledKeptByRelease }
+    ensures filled { FilledKeptByRelease }
+    ensures soft { SoftKeptByRelease }
 {}
 
-/// A Forget: tables without holes, and what leads to them, are kept.
+/// A Forget: tables without holes, and what leads to them, are kept, and that links and frames name core nodes or soft ones.
 ///
 /// It does nothing: its contract is the law.
 ///
 /// Rule: docs/PROTOCOL.md, "Forget".
 pub fn forget_law()
-    ensures { FilledKeptByForget }
+    ensures filled { FilledKeptByForget }
+    ensures soft { SoftKeptByForget }
 {}
 
 /// A start that leaves a node what it is, and the start of a join: tables without holes, and what leads to them, are kept.
@@ -77,6 +98,9 @@ pub fn forget_law()
 pub fn start_law()
     ensures plain { FilledKeptByStart }
     ensures join { FilledKeptByJoin }
+    ensures join_seeking { SeekingKeptByJoin }
+    ensures plain_soft { SoftKeptByStart }
+    ensures join_soft { SoftKeptByJoin }
 {}
 
 /// A Tell that a core node takes anew: each node that is to be told is told, or has met the joiner; the covers are as before, but
@@ -93,6 +117,10 @@ pub fn tell_law()
     ensures low { LowKeptByTell }
     ensures hole_free { HoleFreeKeptByTell }
     ensures known { CoverKeptByKnownTell }
+    ensures filled { FilledKeptByTell }
+    ensures known_filled { FilledKeptByKnownTell }
+    ensures soft { SoftKeptByTell }
+    ensures known_soft { SoftKeptByKnownTell }
 {}
 
 /// A Done that a joiner takes: the new core node's slot is filled at each other core node, and each other's slot at it; each joiner
@@ -105,16 +133,21 @@ pub fn done_law()
     ensures hole_free { HoleFreeKeptByDone }
     ensures cover { CoverKeptByDone }
     ensures low { LowKeptByDone }
+    ensures filled { FilledKeptByDone }
+    ensures soft { SoftKeptByDone }
 {}
 
 /// A Seek that is taken at the joiner's surrogate: with its Hello the joiner is given the slot of each core node with which it shares
-/// at most its prefix.
+/// at most its prefix; that links and frames name core nodes or soft ones is kept, and the joiner is the only new
+/// one.
 ///
 /// It does nothing: its contract is the law.
 ///
 /// Rule: docs/PROTOCOL.md, "Seek".
 pub fn seek_law()
-    ensures { LowOfNewJoiner }
+    ensures low { LowOfNewJoiner }
+    ensures joiner { JoinerIsNewBySeat }
+    ensures soft { SoftKeptBySeat }
 {}
 
 /// The sessions of a join: they stay exact if one is opened for a frame that is taken, the root's among them, if a frame is answered or
@@ -132,14 +165,41 @@ pub fn sessions_law()
     ensures closed { SessionsKeptByClosing }
     ensures last { SessionsKeptByLastAnswer }
     ensures others { SessionsKeptByOthers }
+    ensures joins_handed_on { JoinsKeptByHandingOn }
+    ensures joins_opened { JoinsKeptByOpening }
+    ensures joins_seated { JoinsKeptByRoot }
+    ensures joins_closed { JoinsKeptByClosing }
+    ensures joins_last { JoinsKeptByLastAnswer }
     ensures rootless { NoSessionWithoutRoot }
     ensures root { OnlyTheRootIsLeft }
     ensures frame { OnlyTheLastFrameIsLeft }
     ensures quiet { QuietOnceDone }
 {}
 
-/// A Link that is taken: the last word of each node to each other one still stands where the links ask for it, and no word is above
-/// it.
+/// The bookkeeping of sessions: each kind of step is a turn of them, and a turn keeps their places and the depths of Tells; and each open
+/// session still awaits an answer.
+///
+/// It does nothing: its contract is the law.
+///
+/// Rule: docs/PROTOCOL.md, "Covers of a node".
+pub fn bookkeeping_law()
+    ensures handed_on { HandingOnTurns }
+    ensures opened { OpeningTurns }
+    ensures seated { RootTurns }
+    ensures closed { ClosingTurns }
+    ensures last { LastAnswerTurns }
+    ensures places { PlacesKeptByTurn }
+    ensures depths { DepthsKeptByTurn }
+    ensures await_handed_on { AwaitKeptByHandingOn }
+    ensures await_opened { AwaitKeptByOpening }
+    ensures await_seated { AwaitKeptByRoot }
+    ensures await_closed { AwaitKeptByClosing }
+    ensures await_last { AwaitKeptByLastAnswer }
+    ensures await_others { AwaitKeptByOthers }
+{}
+
+/// A Link that is taken, and a step that says of each link that it changes: the last word of each node to each other one still stands if
+/// the links ask for it, and no word is above it; and what is said to nodes that join or have ceased is.
 ///
 /// It does nothing: its contract is the law.
 ///
@@ -147,4 +207,22 @@ pub fn sessions_law()
 pub fn ties_law()
     ensures ties { TiesKeptByLink }
     ensures versions { VersionsKeptByLink }
+    ensures said { WordsSaidByFrame }
+    ensures words { TiesKeptByWords }
+    ensures words_versions { VersionsKeptByWords }
+    ensures words_ceased { CeasedKeptByWords }
+{}
+
+/// A step that starts nobody and makes known only nodes that are started: joining nodes that aren't started stay unknown but for their one
+/// Seek; and Tells stay such, if it leaves covers, joiners and core nodes.
+///
+/// It does nothing: its contract is the law.
+///
+/// Rule: docs/PROTOCOL.md, "Seek".
+pub fn seeking_law()
+    ensures seeking { SeekingKept }
+    ensures tells { TellsKept }
+    ensures frame { SeekingKeptByFrame }
+    ensures tells_frame { TellsKeptByFrame }
+    ensures joiners { JoinersStayByFrame }
 {}

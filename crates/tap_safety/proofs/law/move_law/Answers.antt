@@ -1,4 +1,4 @@
-use Rattle.tap_safety.proofs.StepLaws.{delivery_law, found_law, numbers_frame_law, numbers_start_law, start_is_law}
+use Rattle.tap_safety.proofs.StepLaws.{exchanged_law, delivery_law, found_law, numbers_frame_law, numbers_start_law, start_is_law}
 use Rattle.tap_safety.proofs.law.move_law.Goals as goal
 
 pub returns-clause-delivery : goal.returns-clause-delivery
@@ -15,3 +15,6 @@ returns-clause-numbers c = numbers_frame_law
 
 pub returns-clause-more : goal.returns-clause-more
 returns-clause-more c = numbers_start_law
+
+pub returns-clause-exchanged : goal.returns-clause-exchanged
+returns-clause-exchanged c = exchanged_law

@@ -1,5 +1,6 @@
 use Rattle.tap_safety.proofs.SessionLaws.{frame_law, opened_law, quiet_law, root_law, rootless_law}
-use Rattle.tap_safety.proofs.StepLaws.{closing_law, handing_on_law, last_answer_law, others_law, root_opened_law}
+use Rattle.tap_safety.proofs.StepLaws.{joins_root_law, closing_law, handing_on_law, last_answer_law, others_law, root_opened_law}
+use Rattle.tap_safety.proofs.StepLaws.{joins_closing_law, joins_handing_on_law, joins_last_law, joins_opening_law}
 use Rattle.tap_safety.proofs.law.sessions_law.Goals as goal
 
 pub returns-clause-opened : goal.returns-clause-opened
@@ -31,3 +32,18 @@ returns-clause-last c = last_answer_law
 
 pub returns-clause-others : goal.returns-clause-others
 returns-clause-others c = others_law
+
+pub returns-clause-joins_handed_on : goal.returns-clause-joins_handed_on
+returns-clause-joins_handed_on c = joins_handing_on_law
+
+pub returns-clause-joins_opened : goal.returns-clause-joins_opened
+returns-clause-joins_opened c = joins_opening_law
+
+pub returns-clause-joins_closed : goal.returns-clause-joins_closed
+returns-clause-joins_closed c = joins_closing_law
+
+pub returns-clause-joins_last : goal.returns-clause-joins_last
+returns-clause-joins_last c = joins_last_law
+
+pub returns-clause-joins_seated : goal.returns-clause-joins_seated
+returns-clause-joins_seated c = joins_root_law

@@ -1,0 +1,17 @@
+use Rattle.tap_safety.proofs.StepLaws.{joiners_frame_law, seeking_frame_law, tells_frame_law, seeking_law, tells_law}
+use Rattle.tap_safety.proofs.law.seeking_law.Goals as goal
+
+pub returns-clause-seeking : goal.returns-clause-seeking
+returns-clause-seeking c = seeking_law
+
+pub returns-clause-tells : goal.returns-clause-tells
+returns-clause-tells c = tells_law
+
+pub returns-clause-frame : goal.returns-clause-frame
+returns-clause-frame c = seeking_frame_law
+
+pub returns-clause-tells_frame : goal.returns-clause-tells_frame
+returns-clause-tells_frame c = tells_frame_law
+
+pub returns-clause-joiners : goal.returns-clause-joiners
+returns-clause-joiners c = joiners_frame_law
