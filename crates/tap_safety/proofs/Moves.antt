@@ -61,9 +61,7 @@ pub record IsSplit (number : ℕ) (frame : Frame) (frames : List (ℕ × Frame))
 
 pub split : (number : ℕ) (frame : Frame) (frames : List (ℕ × Frame)) → numbered_frame number frames ≡ Some frame
     → IsSplit number frame frames
-unfolding numbered_frame
-
-unfolding without_frame
+unfolding numbered_frame without_frame
 split number frame [] is = cc
 split number frame (f ∷ fs) is =
     elim (cases_Bool (eqb f.0 number)) [
