@@ -1,0 +1,3 @@
+pub mod ByRule
+pub mod InSession
+pub mod Laws

@@ -1,0 +1,8 @@
+//! The steps of which the laws of systems speak are those that the rule of a node makes.
+//!
+//! No code is here. Each function states that a step by the rule is such a step.
+#![tactic(auto)]
+
+mod law;
+
+pub use law::{done_moves, seek_moves, sessions_move, tell_moves};
