@@ -4,3 +4,13 @@ pub mod CoverMade
 pub mod Made
 pub mod SeekMade
 pub mod InSession
+pub mod Exchanged
+pub mod Plain
+pub mod FramesMade
+pub mod SessionsMade
+pub mod AnswersMade
+pub mod OutsideMade
+pub mod LinkMade
+pub mod MovesMade
+pub mod StartsMade
+pub mod InvariantMoves

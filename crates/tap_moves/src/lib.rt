@@ -5,4 +5,7 @@
 
 mod law;
 
-pub use law::{done_moves, seek_moves, sessions_move, tell_moves};
+pub use law::{
+    deliveries_keep, deliveries_keep_sessions, done_moves, frames_move, invariant_keeps,
+    link_moves, seek_moves, sessions_move, starts_keep, tell_moves,
+};
