@@ -1,0 +1,306 @@
+-- What a delivered frame keeps, from the invariant.
+use Rattle.std.proofs.Common.{◌≡◌, ◌⊎◌, ℕ, ◌+◌, ◌<◌, ◌≤◌, true, false, List, [], ◌∷◌, All, Option, None, Some, arith, ap, refl, sym, subst, ◌∙◌, inl, inr}
+use Rattle.std.proofs.lemmas.Bool.{cases_Bool, cases_lt}
+use Rattle.std.proofs.lemmas.List.Elements.{All-cons, All-nil}
+use Rattle.tap_name.specs.Name.{IsName}
+use Rattle.tap_name.specs.Prefix.{lcp}
+use Rattle.tap_name.specs.Settings.{SettingsValue}
+use Rattle.tap_name.specs.declared.slot.Offered.{Offered}
+use Rattle.tap_name.specs.declared.slot.Slot.{Slot}
+use Rattle.tap_link.specs.declared.kind.Kind.{Kind}
+use Rattle.tap_link.specs.declared.kind.Kind.TheVariants.{Leaving as Marked, Pin, Settled}
+use Rattle.tap_wire.specs.declared.frame.Body.{Body}
+use Rattle.tap_wire.specs.declared.frame.Body.TheVariants.{Ack, Done, Forget, Heard, Hello, Link, Release, Seek, Tell}
+use Rattle.tap_wire.specs.declared.frame.TellFields.{TellFields}
+use Rattle.tap_rule.specs.Laws.{frame_to}
+use Rattle.tap_rule.specs.Node.{NodeState, name_of, settings_of}
+use Rattle.tap_rule.specs.Node.Status.{Core, Joining, Leaving}
+use Rattle.tap_rule.specs.Sent.{IsAmong}
+use Rattle.tap_safety.specs.Departing.{may_be_then}
+use Rattle.tap_safety.specs.DoneStep.{BeforeDone, IsSound}
+use Rattle.tap_safety.specs.Frames.{HelloFields, hello_body, tell_body}
+use Rattle.tap_safety.specs.Invariant.{Invariant}
+use Rattle.tap_safety.specs.SeekStep.{BeforeSeek, IsGreeted, JoinerIsGreeted}
+use Rattle.tap_safety.specs.Sessions.{AreExact}
+use Rattle.tap_safety.specs.Remembered.{Leaver}
+use Rattle.tap_safety.specs.Seeking.{HasNode, IsSeeker}
+use Rattle.tap_safety.specs.Soft.{IsSoft}
+use Rattle.tap_safety.specs.System.{System, Covers, HasLink, IsCoreNode, IsJoiner, IsTold, IsUnderWay}
+use Rattle.tap_safety.specs.Tells.{IsSoundTell}
+use Rattle.tap_safety.specs.TellStep.{BeforeTell, IsTellOf}
+use Rattle.tap_safety.specs.Words.{Pins}
+use Rattle.tap_safety.proofs.CoverKept.{core_or_joiner}
+use Rattle.tap_safety.proofs.SeekLaws.{low_law}
+use Rattle.tap_safety.proofs.SessionLaws.{quiet_law}
+use Rattle.tap_name.proofs.Prefixes.{lcp-whole}
+use Rattle.tap_join.specs.Seek.{sought}
+use Rattle.tap_join.specs.declared.sought.Sought.{Sought}
+use Rattle.tap_join.specs.declared.sought.Sought.TheVariants.{Forward, Surrogate}
+use Rattle.tap_moves.specs.Delivered.{IsArriving, after_delivery}
+use Rattle.tap_moves.specs.SessionsLaws.{BeforeTaking}
+use Rattle.tap_moves.specs.InvariantLaws.{AreNodes, DoneFills, ForgetFills, FrameExact, HelloFills, IsDelivery, LinkTies, OtherTellFills, PlainFills, ReleaseFills, SeekGives, TellFills}
+use Rattle.tap_moves.proofs.MovesMade.{ack_keeps_sessions, by_rule, ceased_tell_keeps, done_keeps, forget_keeps, heard_keeps_sessions, hello_keeps, hello_keeps_sessions, joining_tell_keeps, link_keeps, outside_keeps_sessions, plain_keeps, release_keeps, seek_keeps_sessions, tell_keeps, tell_keeps_sessions}
+use Rattle.tap_moves.proofs.SeekMade.{seek_greets}
+
+-- ---- names
+
+-- a node's name is a name
+name_at : (p : SettingsValue) (s : System) → AreNodes p s → (x : List ℕ) (node : NodeState) → s.node x ≡ Some node → IsName p x
+name_at p s are x node at =
+    let is = are.nodes x node at in
+    subst (λ q. IsName q x) is.settings (subst (IsName (settings_of node)) is.name is.is_node.ties.table.owner)
+
+core_name : (p : SettingsValue) (s : System) → AreNodes p s → (x : List ℕ) → IsCoreNode s x → IsName p x
+core_name p s are x core = name_at p s are x core.state core.is
+
+joiner_name : (p : SettingsValue) (s : System) → AreNodes p s → (x : List ℕ) → IsJoiner s x → IsName p x
+joiner_name p s are x joiner = name_at p s are x joiner.state joiner.is
+
+known_name : (p : SettingsValue) (s : System) → AreNodes p s → (x : List ℕ) → HasNode s x → IsName p x
+known_name p s are x known = name_at p s are x known.state known.is
+
+soft_name : (p : SettingsValue) (s : System) → AreNodes p s → (x : List ℕ) → IsSoft s x → IsName p x
+soft_name p s are x (inl joiner) = joiner_name p s are x joiner
+soft_name p s are x (inr (inl core)) = core_name p s are x core
+soft_name p s are x (inr (inr ceased)) = name_at p s are x ceased.state ceased.is
+
+-- what holds of what is among a list holds of all of it
+all_of : {A : Type 0} (P : A → Type 0) (xs : List A) → ((x : A) → IsAmong x xs → P x) → All P xs
+all_of P [] each = All-nil P
+all_of P (x ∷ xs) each = All-cons P x xs (each x (inl refl)) (all_of P xs (λ y among. each y (inr among)))
+
+module _ (p : SettingsValue) (s : System) (number : ℕ) (node : NodeState) (from : List ℕ) (body : Body)
+    (is : IsDelivery p s number node from body) where
+  abbrev own : List ℕ
+  own = name_of node
+
+  due : IsArriving s number node from body
+  due = record {
+    numbers = is.invariant.numbered;
+    among = is.among;
+    at = is.at;
+    is_node = (is.nodes.nodes own node is.at).is_node;
+    known = is.known;
+  }
+
+  way : IsUnderWay s from own body
+  way = record { number = number; among = is.among }
+
+  -- a name by the settings is one by the node's
+  of_node : (x : List ℕ) → IsName p x → IsName (settings_of node) x
+  of_node x name = subst (λ q. IsName q x) (sym (is.nodes.nodes own node is.at).settings) name
+
+  sender_name : IsName (settings_of node) from
+  sender_name = of_node from (known_name p s is.nodes from (is.invariant.ends.known number (frame_to node from body) is.among).0)
+
+  -- while such a frame is under way nobody departs, so no link is marked
+  unmarked : (may_be_then body → ⊥) → (x t : List ℕ) → HasLink s x t Marked → ⊥
+  unmarked never x t link = by_departing s.departing refl
+    where
+      by_departing : (departing : Option Leaver) → s.departing ≡ departing → ⊥
+      by_departing None none = is.invariant.departure.marked x t none link
+      by_departing (Some leaver) departs = never ((is.invariant.departure.during leaver departs).frames from own body way)
+
+-- two names that aren't one share less than all digits
+less_than_all : (p : SettingsValue) (a b : List ℕ) → IsName p a → IsName p b → (a ≡ b → ⊥) → lcp a b < p.digits
+less_than_all p a b one two apart =
+    let one_len = one.len in
+    let two_len = two.len in
+    elim (cases_lt (lcp a b) p.digits) [
+      | inl less ↦ less
+      | inr all ↦ absurd (apart (lcp-whole a b (one_len ∙ sym two_len) (omega arith)))
+    ]
+
+-- the node of a joiner joins
+joins_here : (s : System) (node : NodeState) → IsJoiner s (name_of node) → s.node (name_of node) ≡ Some node → node.status ≡ Joining
+joins_here s node joiner at =
+    let is = joiner.is in
+    let same : joiner.state ≡ node = cc in
+    sym (ap (λ (n : NodeState). n.status) same) ∙ joiner.joining
+
+-- a Tell under way is sound
+sound_tell : (p : SettingsValue) (s : System) (b x : List ℕ) (level : ℕ) → (told : IsTold s b x level)
+    → IsSoundTell p s told.from x told.fields → IsSound p s b x level
+sound_tell p s b x level told sound = record {
+  from = told.from;
+  core = sound.core;
+  cover = sound.cover;
+  covers = subst (λ joiner. Covers s told.from joiner sound.cover) told.joiner sound.covers;
+  level_is = sym told.level_is ∙ sound.level;
+  apart = sound.near;
+}
+
+-- what a Hello offers has a name
+offered_name : (p : SettingsValue) (s : System) → AreNodes p s → (offered : Offered) → (offered.settled ≡ true → IsCoreNode s offered.name)
+    → (offered.settled ≡ false → IsSoft s offered.name) → IsName p offered.name
+offered_name p s are offered core soft =
+    elim (cases_Bool offered.settled) [
+      | inl settled ↦ core_name p s are offered.name (core settled)
+      | inr joining ↦ soft_name p s are offered.name (soft joining)
+    ]
+
+-- a link to a joiner is a pin
+pin_on : (p : SettingsValue) (s : System) (unmarked : (x t : List ℕ) → HasLink s x t Marked → ⊥)
+    (settled : (x t : List ℕ) → HasLink s x t Settled → IsCoreNode s t) (x b : List ℕ) → IsJoiner s b → (kind : Kind) → HasLink s x b kind
+    → Pins s x b
+pin_on p s unmarked settled x b joiner Pin link = link
+pin_on p s unmarked settled x b joiner Settled link = absurd (core_or_joiner s b (settled x b link) joiner)
+pin_on p s unmarked settled x b joiner Marked link = absurd (unmarked x b link)
+
+pub tell_fills : TellFills
+tell_fills p s number node from tell watch is at anew =
+    let body = tell_body tell watch in
+    let inv = is.invariant in
+    let sound = inv.tells.each from (name_of node) tell watch (way p s number node from body is) in
+    let none = unmarked p s number node from body is (λ never. never) in
+    let joiner = joiner_name p s is.nodes tell.joiner sound.joiner in
+    let here = name_at p s is.nodes (name_of node) node is.at in
+    let before : BeforeTell p s = record {
+      names = core_name p s is.nodes;
+      settled = record { settled = inv.soft.settled };
+      unmarked = none;
+      covered = inv.filled.covered;
+      hole_free = inv.filled.hole_free;
+      cover = inv.filled.cover;
+    } in
+    let of : IsTellOf p s (name_of node) tell.joiner tell.prefix tell.level = record {
+      core = record { state = node; is = is.at; core = inl at };
+      joiner = sound.joiner;
+      apart = less_than_all p (name_of node) tell.joiner here joiner sound.apart;
+      inside = sound.inside;
+      prefix_is = sound.prefix;
+      above = inv.deeper.level from (name_of node) tell watch (way p s number node from body is);
+      most = omega (arith, sound.level, sound.near);
+    } in
+    tell_keeps p s number node from tell watch (due p s number node from body is) at
+    (of_node p s number node from body is tell.joiner joiner) anew before of inv.filled.meet inv.filled.low
+
+pub done_fills : DoneFills
+done_fills p s number node from is goes_on =
+    let inv = is.invariant in
+    let here = way p s number node from Done is in
+    let none = unmarked p s number node from Done is (λ never. never) in
+    let joiner = inv.of_joiners.dones from (name_of node) here in
+    let before : BeforeDone p s = record {
+      core_names = core_name p s is.nodes;
+      joiner_names = joiner_name p s is.nodes;
+      pinned = λ x b joins has. pin_on p s none inv.soft.settled x b joins has.kind has.link;
+      sound = λ b x level joins told. sound_tell p s b x level told (inv.tells.each told.from x told.fields told.watch told.way);
+      covered = inv.filled.covered;
+      meet = inv.filled.meet;
+      cover = inv.filled.cover;
+      low = inv.filled.low;
+      hole_free = inv.filled.hole_free;
+    } in
+    done_keeps p s number node from (due p s number node from Done is) (joins_here s node joiner is.at) goes_on before
+    (quiet_law s from (name_of node) inv.exact inv.of_joiners inv.ends_once joiner here)
+
+pub plain_fills : PlainFills
+plain_fills p s number node from body is plain =
+    plain_keeps p s number node from body (due p s number node from body is) plain is.invariant.filled
+
+pub other_tell_fills : OtherTellFills
+other_tell_fills p s number node from tell watch is (inl at) =
+    let body = tell_body tell watch in
+    let sound = is.invariant.tells.each from (name_of node) tell watch (way p s number node from body is) in
+    let name = of_node p s number node from body is tell.joiner (joiner_name p s is.nodes tell.joiner sound.joiner) in
+    joining_tell_keeps p s number node from tell watch (due p s number node from body is) at name is.invariant.filled
+other_tell_fills p s number node from tell watch is (inr at) =
+    ceased_tell_keeps p s number node from tell watch (due p s number node from (tell_body tell watch) is) at is.invariant.filled
+
+pub hello_fills : HelloFills
+hello_fills p s number node from hello is at =
+    let body = hello_body hello in
+    let inv = is.invariant in
+    let offers = inv.soft.hellos from (name_of node) hello (way p s number node from body is) in
+    let name : (offered : Offered) → IsAmong offered hello.links → IsName (settings_of node) offered.name = λ offered among.
+    let sound = offers offered (inr among) in
+    of_node p s number node from body is offered.name (offered_name p s is.nodes offered sound.core sound.soft) in
+    hello_keeps p s number node from hello (due p s number node from body is) at (sender_name p s number node from body is)
+    (all_of (λ (o : Offered). IsName (settings_of node) o.name) hello.links name) inv.soft inv.filled
+
+pub release_fills : ReleaseFills
+release_fills p s number node from is at =
+    release_keeps p s number node from (due p s number node from Release is) at (sender_name p s number node from Release is)
+    is.invariant.soft is.invariant.filled
+
+pub forget_fills : ForgetFills
+forget_fills p s number node from is at =
+    forget_keeps p s number node from (due p s number node from Forget is) at (sender_name p s number node from Forget is)
+    is.invariant.ceased is.invariant.filled
+
+pub link_ties : LinkTies
+link_ties p s number node from word is heard laid =
+    link_keeps p s number node from word (due p s number node from (Link word.version word.on) is) is.invariant.stamped heard laid
+    is.invariant.ties is.invariant.versions
+
+-- ---- Seek, and sessions
+
+-- who seeks isn't core
+seeker_not_core : (s : System) (b : List ℕ) → IsSeeker s b → IsCoreNode s b → ⊥
+seeker_not_core s b seeker core =
+    let one = seeker.is in
+    let other = core.is in
+    let same : seeker.state ≡ core.state = cc in
+    let joining : core.state.status ≡ Joining = sym (ap (λ (n : NodeState). n.status) same) ∙ seeker.joining in
+    elim core.core [
+      | inl is ↦ let wrong : Joining ≡ Core = sym joining ∙ is in cc
+      | inr is ↦ let wrong : Joining ≡ Leaving = sym joining ∙ is in cc
+    ]
+
+pub seek_gives : SeekGives
+seek_gives p s number node from joiner prefix is at found e core near =
+    let s' = after_delivery p s number in
+    let inv = is.invariant in
+    let seeker = inv.seekers.seeks from (name_of node) joiner (way p s number node from (Seek joiner) is) in
+    let name = of_node p s number node from (Seek joiner) is joiner (name_at p s is.nodes joiner seeker.state seeker.is) in
+    let taken = by_rule p s number node from (Seek joiner) (due p s number node from (Seek joiner) is) in
+    let greeted : IsGreeted p s s' (name_of node) joiner =
+    subst (λ q. IsGreeted q s s' (name_of node) joiner) (is.nodes.nodes (name_of node) node is.at).settings
+    (seek_greets s s' number node from joiner prefix taken at name found) in
+    let before : BeforeSeek p s = record {
+      names = core_name p s is.nodes;
+      settled = record { settled = inv.soft.settled };
+      unmarked = unmarked p s number node from (Seek joiner) is (λ never. never);
+      hole_free = inv.filled.hole_free;
+    } in
+    let step : JoinerIsGreeted p s s' (name_of node) joiner = record {
+      before = before;
+      core = record { state = node; is = is.at; core = inl at };
+      joins = λ c. seeker_not_core s joiner seeker c;
+      greets = greeted;
+    } in
+    low_law p s s' (name_of node) joiner step e core near
+
+before_taking : (p : SettingsValue) (s : System) → Invariant p s → BeforeTaking s
+before_taking p s inv =
+    record { exact = inv.exact; joiners = inv.of_joiners; deeper = inv.deeper; places = inv.places; numbers = inv.numbered }
+
+seek_exact : (p : SettingsValue) (s : System) (number : ℕ) (node : NodeState) (from joiner : List ℕ)
+    → IsDelivery p s number node from (Seek joiner) → node.status ≡ Core → (found : Sought) → sought node.ties.table joiner ≡ found
+    → AreExact (after_delivery p s number)
+seek_exact p s number node from joiner is at (Forward next) found =
+    outside_keeps_sessions p s number node from (Seek joiner) (due p s number node from (Seek joiner) is) (next, found)
+    (before_taking p s is.invariant)
+seek_exact p s number node from joiner is at (Surrogate prefix) found =
+    seek_keeps_sessions p s number node from joiner prefix (due p s number node from (Seek joiner) is) at found
+    (is.invariant.seekers.seeks from (name_of node) joiner (way p s number node from (Seek joiner) is)) (before_taking p s is.invariant)
+
+pub frame_exact : FrameExact
+frame_exact p s number node from (Tell joiner prefix level session depth watch) is there =
+    let tell : TellFields = record { joiner = joiner; prefix = prefix; level = level; session = session; depth = depth } in
+    tell_keeps_sessions p s number node from tell watch (due p s number node from (tell_body tell watch) is) there
+    (before_taking p s is.invariant)
+frame_exact p s number node from (Hello session core links) is there =
+    let hello : HelloFields = record { session = session; is_core = core; links = links } in
+    hello_keeps_sessions p s number node from hello (due p s number node from (hello_body hello) is) there (before_taking p s is.invariant)
+frame_exact p s number node from (Heard session) is there =
+    heard_keeps_sessions p s number node from session (due p s number node from (Heard session) is) (before_taking p s is.invariant)
+    is.invariant.counted
+frame_exact p s number node from (Ack session) is there =
+    ack_keeps_sessions p s number node from session (due p s number node from (Ack session) is) (before_taking p s is.invariant)
+    is.invariant.counted
+frame_exact p s number node from (Seek joiner) is there =
+    seek_exact p s number node from joiner is there (sought node.ties.table joiner) refl
+frame_exact p s number node from body is there =
+    outside_keeps_sessions p s number node from body (due p s number node from body is) there (before_taking p s is.invariant)

@@ -1,0 +1,16 @@
+pub mod Got
+pub mod Nearness
+pub mod CoverMade
+pub mod Made
+pub mod SeekMade
+pub mod InSession
+pub mod Exchanged
+pub mod Plain
+pub mod FramesMade
+pub mod SessionsMade
+pub mod AnswersMade
+pub mod OutsideMade
+pub mod LinkMade
+pub mod MovesMade
+pub mod StartsMade
+pub mod InvariantMoves

@@ -1,0 +1,49 @@
+-- The primary of the slot in which a name stands, by the digits that the names share.
+use Rattle.std.proofs.Common.{◌≡◌, ◌≢◌, ℕ, ◌<◌, List, Some, get_or, nat_eq, arith, ap, sym, ◌∙◌}
+use Rattle.std.specs.List.{common_prefix_len}
+use Rattle.tap_name.specs.declared.slot.Slot.{Slot}
+use Rattle.tap_name.specs.Name.{IsName}
+use Rattle.tap_name.specs.Prefix.{lcp}
+use Rattle.tap_name.specs.Settings.{SettingsValue}
+use Rattle.tap_name.proofs.Prefixes.{lcp-is, lcp-more}
+use Rattle.tap_link.specs.declared.kind.Kind.TheVariants.{Settled}
+use Rattle.tap_table.specs.Table.{IsTable, TableValue, kind_in, place_of}
+use Rattle.tap_table.proofs.Found.{linked_is_name}
+use Rattle.tap_table.proofs.Primaries.{primary_near}
+use Rattle.tap_table.proofs.Slots.{place_inside}
+use Rattle.tap_multicast.proofs.Linked.{primary_near-stands}
+
+-- names of one slot share as much with its owner
+same_level : (own t first : List ℕ) → place_of own first ≡ place_of own t → lcp own first ≡ lcp own t
+same_level own t first place = lcp-is own first ∙ ap (λ (s : Slot). s.level) place ∙ sym (lcp-is own t)
+
+-- and more with each other
+same_slot_near : (p : SettingsValue) (own t first : List ℕ) → IsName p t → IsName p first → lcp own t < p.digits
+    → place_of own first ≡ place_of own t → lcp own t < lcp t first
+same_slot_near p own t first one two inside place =
+    let digit : get_or first (common_prefix_len nat_eq own first) 0 ≡ get_or t (common_prefix_len nat_eq own t) 0 =
+    ap (λ (s : Slot). s.digit) place in
+    let here : get_or t (lcp own t) 0 ≡ get_or t (common_prefix_len nat_eq own t) 0 = ap (λ l. get_or t l 0) (lcp-is own t) in
+    let there : get_or first (common_prefix_len nat_eq own first) 0 ≡ get_or first (lcp own t) 0 =
+    ap (λ l. get_or first l 0) (sym (lcp-is own first) ∙ same_level own t first place) in
+    let one_len = one.len in
+    let two_len = two.len in
+    lcp-more own t first (omega arith) (omega arith) (same_level own t first place) (here ∙ sym digit ∙ there)
+
+module _ (table : TableValue) (valid : IsTable table) where
+  -- another name shares less than all digits with the owner
+  pub name_inside : (t : List ℕ) → IsName table.settings t → t ≢ table.owner → lcp table.owner t < table.settings.digits
+  name_inside t name other =
+      let inside = place_inside table.settings table.owner t valid.owner name other in
+      omega (arith, lcp-is table.owner t, inside.0)
+
+  -- a slot's primary is settled, shares as much with the owner as a name of the slot, and more with that name
+  pub primary_stands_near : (t first : List ℕ) → IsName table.settings t → t ≢ table.owner → primary_near table t ≡ Some first
+      → (kind_in table first ≡ Some Settled) × (lcp table.owner first ≡ lcp table.owner t) × (lcp table.owner t < lcp t first)
+  primary_stands_near t first name other is =
+      let stands = primary_near-stands table valid t first name other is in
+      let first_name = linked_is_name table valid first Settled stands.0 in (
+        stands.0,
+        same_level table.owner t first stands.1,
+        same_slot_near table.settings table.owner t first name first_name (name_inside t name other) stands.1,
+      )

@@ -1,0 +1,104 @@
+-- The laws of the invariant: if its parts hold, they hold once a frame under way is delivered, with nothing asked for between.
+use Rattle.std.specs.Prelude.{◌≡◌, ◌⊎◌, ℕ, ◌≤◌, false, List, Some}
+use Rattle.tap_name.specs.Prefix.{lcp}
+use Rattle.tap_name.specs.Settings.{SettingsValue}
+use Rattle.tap_name.specs.declared.slot.Slot.{Slot}
+use Rattle.tap_pointer.specs.Reconcile.{AreLaid}
+use Rattle.tap_wire.specs.declared.frame.Body.{Body}
+use Rattle.tap_wire.specs.declared.frame.Body.TheVariants.{Ack, Done, Forget, Heard, Hello, Link, Release, Seek, Tell}
+use Rattle.tap_wire.specs.declared.frame.TellFields.{TellFields}
+use Rattle.tap_join.specs.Seek.{sought}
+use Rattle.tap_join.specs.declared.sought.Sought.TheVariants.{Surrogate}
+use Rattle.tap_rule.specs.Kept.{IsNode}
+use Rattle.tap_rule.specs.Laws.{frame_to}
+use Rattle.tap_rule.specs.Node.{NodeState, name_of, settings_of}
+use Rattle.tap_rule.specs.Node.Status.{Ceased as HasCeased, Core, Joining}
+use Rattle.tap_rule.specs.Strange.{is_strange}
+use Rattle.tap_safety.specs.Filled.{AreFilled}
+use Rattle.tap_safety.specs.Frames.{HelloFields, hello_body, tell_body}
+use Rattle.tap_safety.specs.Invariant.{Invariant}
+use Rattle.tap_safety.specs.Parts.{Cover, HoleFree, Low}
+use Rattle.tap_safety.specs.Remembered.{Word}
+use Rattle.tap_safety.specs.Sessions.{AreExact}
+use Rattle.tap_safety.specs.System.{System, AmongFrames, IsCoreNode}
+use Rattle.tap_safety.specs.Ties.{Ties, Versions, hears_words}
+use Rattle.tap_safety.specs.Words.{IsGiven}
+use Rattle.tap_moves.specs.Delivered.{after_delivery}
+use Rattle.tap_moves.specs.FrameLaws.{IsPlain}
+use Rattle.tap_moves.specs.Laws.{IsAnew}
+use Rattle.tap_moves.specs.SessionsLaws.{IsOutside}
+
+-- each node keeps what nodes keep, and stands under its name, with these settings
+pub record IsNodeOf (p : SettingsValue) (x : List ℕ) (node : NodeState) : Type 0 where
+  pub is_node : IsNode node
+  pub name : name_of node ≡ x
+  pub settings : settings_of node ≡ p
+
+pub record AreNodes (p : SettingsValue) (s : System) : Type 0 where
+  pub nodes : (x : List ℕ) (node : NodeState) → s.node x ≡ Some node → IsNodeOf p x node
+
+-- The invariant holds, and a frame of this number, sender and body is under way to this node, to which it isn't strange.
+pub record IsDelivery (p : SettingsValue) (s : System) (number : ℕ) (node : NodeState) (from : List ℕ) (body : Body) : Type 0 where
+  pub invariant : Invariant p s
+  pub nodes : AreNodes p s
+  pub among : AmongFrames number (frame_to node from body) s.frames
+  pub at : s.node (name_of node) ≡ Some node
+  pub known : is_strange node (frame_to node from body) ≡ false
+
+abbrev pub TellFills : Type 0
+TellFills = (p : SettingsValue) (s : System) (number : ℕ) (node : NodeState) (from : List ℕ) (tell : TellFields) (watch : List Slot)
+    → IsDelivery p s number node from (tell_body tell watch) → node.status ≡ Core → IsAnew node tell.joiner tell.level
+    → AreFilled p (after_delivery p s number)
+
+abbrev pub DoneFills : Type 0
+DoneFills = (p : SettingsValue) (s : System) (number : ℕ) (node : NodeState) (from : List ℕ) → IsDelivery p s number node from Done
+    → node.abandoned ≡ false
+    → HoleFree p (after_delivery p s number) × Cover p (after_delivery p s number) × Low (after_delivery p s number)
+
+abbrev pub PlainFills : Type 0
+PlainFills = (p : SettingsValue) (s : System) (number : ℕ) (node : NodeState) (from : List ℕ) (body : Body)
+    → IsDelivery p s number node from body → IsPlain node body → AreFilled p (after_delivery p s number)
+
+abbrev pub OtherTellFills : Type 0
+OtherTellFills = (p : SettingsValue) (s : System) (number : ℕ) (node : NodeState) (from : List ℕ) (tell : TellFields) (watch : List Slot)
+    → IsDelivery p s number node from (tell_body tell watch) → (node.status ≡ Joining) ⊎ (node.status ≡ HasCeased)
+    → AreFilled p (after_delivery p s number)
+
+abbrev pub HelloFills : Type 0
+HelloFills = (p : SettingsValue) (s : System) (number : ℕ) (node : NodeState) (from : List ℕ) (hello : HelloFields)
+    → IsDelivery p s number node from (hello_body hello) → node.status ≡ Joining → AreFilled p (after_delivery p s number)
+
+abbrev pub ReleaseFills : Type 0
+ReleaseFills = (p : SettingsValue) (s : System) (number : ℕ) (node : NodeState) (from : List ℕ) → IsDelivery p s number node from Release
+    → (node.status ≡ Joining) ⊎ (node.status ≡ Core) → AreFilled p (after_delivery p s number)
+
+abbrev pub ForgetFills : Type 0
+ForgetFills = (p : SettingsValue) (s : System) (number : ℕ) (node : NodeState) (from : List ℕ) → IsDelivery p s number node from Forget
+    → (node.status ≡ Joining) ⊎ (node.status ≡ Core) → AreFilled p (after_delivery p s number)
+
+-- a Link, at a node whose pairs are laid as wanted
+abbrev pub LinkTies : Type 0
+LinkTies = (p : SettingsValue) (s : System) (number : ℕ) (node : NodeState) (from : List ℕ) (word : Word)
+    → IsDelivery p s number node from (Link word.version word.on) → hears_words (Some node.status)
+    → AreLaid node.ties.table node.pointers → Ties (after_delivery p s number) × Versions (after_delivery p s number)
+
+-- a Seek at the joiner's surrogate: the new joiner is given the slot of each core node with which it shares at most its prefix
+abbrev pub SeekGives : Type 0
+SeekGives = (p : SettingsValue) (s : System) (number : ℕ) (node : NodeState) (from joiner : List ℕ) (prefix : ℕ)
+    → IsDelivery p s number node from (Seek joiner) → node.status ≡ Core → sought node.ties.table joiner ≡ Surrogate prefix
+    → (e : List ℕ) → IsCoreNode s e → lcp joiner e ≤ lcp (name_of node) joiner → IsGiven (after_delivery p s number) joiner e
+
+-- a frame of a join where a rule takes it, or one of no session
+abbrev pub IsTakenThere : NodeState → Body → Type 0
+IsTakenThere node (Tell joiner prefix level session depth watch) =
+    (node.status ≡ Core) ⊎ ((node.status ≡ Joining) ⊎ (node.status ≡ HasCeased))
+IsTakenThere node (Hello session core links) = node.status ≡ Joining
+IsTakenThere node (Heard session) = Unit {0}
+IsTakenThere node (Ack session) = Unit {0}
+IsTakenThere node (Seek joiner) = node.status ≡ Core
+IsTakenThere node other = IsOutside node other
+
+-- the sessions are exact after it
+abbrev pub FrameExact : Type 0
+FrameExact = (p : SettingsValue) (s : System) (number : ℕ) (node : NodeState) (from : List ℕ) (body : Body)
+    → IsDelivery p s number node from body → IsTakenThere node body → AreExact (after_delivery p s number)

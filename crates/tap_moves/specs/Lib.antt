@@ -1,0 +1,9 @@
+pub mod ByRule
+pub mod InSession
+pub mod Laws
+pub mod FrameLaws
+pub mod SessionsLaws
+pub mod TiesLaws
+pub mod Delivered
+pub mod MovesLaws
+pub mod InvariantLaws

@@ -1,0 +1,159 @@
+ghost use Rattle.tap_wire.specs.declared.frame.Body.TheVariants.{Ack, Heard};
+ghost use Rattle.tap_moves.specs.FrameLaws.{CeasedTellIsMade, ForgetIsMade, GivingUpIsMade, HelloIsMade, JoinIsMade, JoiningTellIsMade, PlainIsMade, QuietStartIsMade, ReleaseIsMade};
+ghost use Rattle.tap_moves.specs.Laws.{CeasedAnswers, DoneIsMade, KnownTellIsMade, NewTellIsMade, SeekCovers, SeekGreets, SeekOpens, TellInSession};
+ghost use Rattle.tap_moves.specs.MovesLaws.{AnswerKeepsSessions, CeasedTellKeeps, DeliveryIsByRule, DoneKeeps, ForgetKeeps, GivingUpKeeps, HelloKeeps, HelloKeepsSessions, JoinKeeps, JoiningTellKeeps, LinkKeeps, OutsideKeepsSessions, PlainKeeps, QuietStartKeeps, ReleaseKeeps, SeekKeepsSessions, TellKeeps, TellKeepsSessions};
+ghost use Rattle.tap_moves.specs.InvariantLaws.{DoneFills, ForgetFills, FrameExact, HelloFills, LinkTies, OtherTellFills, PlainFills, ReleaseFills, SeekGives, TellFills};
+ghost use Rattle.tap_moves.specs.SessionsLaws.{AnswerClosesChild, AnswerClosesRoot, AnswerHandsOn, AnswerKeepsExact, HandsOnByHello, HandsOnByTell, OpensChildByTell, OpensRootBySeek, OutsideLeavesSessions};
+ghost use Rattle.tap_moves.specs.TiesLaws.{LinkIsMade};
+
+/// A Done that a joining node takes by its rule, if its join wasn't given up, is one of which the laws of Dones speak: the node is core,
+/// and keeps its links and its covers.
+///
+/// It does nothing: its contract is the law.
+///
+/// Rule: docs/PROTOCOL.md, "Done".
+pub fn done_moves()
+    ensures { DoneIsMade }
+{}
+
+/// A Tell that a core node takes by its rule is one of which the laws of Tells speak. If it covers the joiner at most at that level
+/// already, no link and no cover changes. Else the joiner is pinned and covered at that level, each pin and each slot's primary of the
+/// levels that are newly reached is told, and at a first cover each pin from the prefix on, and the joiner is greeted with all pins.
+///
+/// It does nothing: its contract is the law.
+///
+/// Rule: docs/PROTOCOL.md, "Tell" and "Covers of a node".
+pub fn tell_moves()
+    ensures known { KnownTellIsMade }
+    ensures anew { NewTellIsMade }
+{}
+
+/// A Seek that the joiner's surrogate takes by its rule: it covers the joiner at the digits that the two share, and greets it with all its
+/// pins and the primary of each slot of the levels up to those.
+///
+/// It does nothing: its contract is the law.
+///
+/// Rule: docs/PROTOCOL.md, "Seek" and "Covers of a node".
+pub fn seek_moves()
+    ensures covers { SeekCovers }
+    ensures greets { SeekGreets }
+{}
+
+/// The other frames that a node takes by its rule, and what it starts: answers, Links, Seeks that go on, and what is about pointers and
+/// casts, leave its status, its links and its covers; a Tell at a joining node pins its joiner, and at one that has ceased changes nothing;
+/// a Hello links its names, a Release settles or drops a pin, and a Forget drops one; and who starts to join has no link.
+///
+/// It does nothing: its contract is the law.
+///
+/// Rule: docs/PROTOCOL.md, "Steps of a node".
+pub fn frames_move()
+    ensures plain { PlainIsMade }
+    ensures ceased { CeasedTellIsMade }
+    ensures joining { JoiningTellIsMade }
+    ensures hello { HelloIsMade }
+    ensures release { ReleaseIsMade }
+    ensures forget { ForgetIsMade }
+    ensures starts { QuietStartIsMade }
+    ensures gives_up { GivingUpIsMade }
+    ensures joins { JoinIsMade }
+{}
+
+/// A Link that a node takes by its rule, if its pairs are laid as wanted, is one of which the laws of ties speak: of what is known only
+/// its register of the sender changes, and nothing is sent but a Release.
+///
+/// It does nothing: its contract is the law.
+///
+/// Rule: docs/PROTOCOL.md, "Link".
+pub fn link_moves()
+    ensures { LinkIsMade }
+{}
+
+/// What a frame makes a node send in sessions. A Tell or a Seek opens its next session, and what is sent in one is sent in that; or it
+/// opens none, and the one answer goes to the session of the Tell. The surrogate always opens the joiner's root session. What is
+/// remembered of sessions then is as the laws of sessions ask: one that is opened for a Tell, or for a Seek; a Tell or a Hello that is
+/// answered at once; an answer that isn't the last one of its session, or that closes it; and a frame of no session.
+///
+/// It does nothing: its contract is the law.
+///
+/// Rule: docs/PROTOCOL.md, "Covers of a node" and "Tell" and "Seek" and "Heard and Ack".
+pub fn sessions_move()
+    ensures tell { TellInSession }
+    ensures ceased { CeasedAnswers }
+    ensures seek { SeekOpens }
+    ensures child { OpensChildByTell }
+    ensures at_once { HandsOnByTell }
+    ensures root { OpensRootBySeek }
+    ensures heard { AnswerHandsOn Heard }
+    ensures ack { AnswerHandsOn Ack }
+    ensures heard_root { AnswerClosesRoot Heard }
+    ensures ack_root { AnswerClosesRoot Ack }
+    ensures heard_child { AnswerClosesChild Heard }
+    ensures ack_child { AnswerClosesChild Ack }
+    ensures heard_exact { AnswerKeepsExact Heard }
+    ensures ack_exact { AnswerKeepsExact Ack }
+    ensures hello { HandsOnByHello }
+    ensures outside { OutsideLeavesSessions }
+{}
+
+/// Of each kind of frame: what leads to tables without holes, and words that stand, are kept when it is delivered.
+///
+/// It does nothing: its contract is the law.
+///
+/// Rule: docs/PROTOCOL.md, "Steps of a node".
+pub fn deliveries_keep()
+    ensures by_rule { DeliveryIsByRule }
+    ensures done { DoneKeeps }
+    ensures tell { TellKeeps }
+    ensures plain { PlainKeeps }
+    ensures joining { JoiningTellKeeps }
+    ensures ceased { CeasedTellKeeps }
+    ensures hello { HelloKeeps }
+    ensures release { ReleaseKeeps }
+    ensures forget { ForgetKeeps }
+    ensures link { LinkKeeps }
+{}
+
+/// Of each kind of frame of a join, and of those of pointers and casts: the sessions are exact after it is delivered, if they were.
+///
+/// It does nothing: its contract is the law.
+///
+/// Rule: docs/PROTOCOL.md, "Covers of a node".
+pub fn deliveries_keep_sessions()
+    ensures tell { TellKeepsSessions }
+    ensures heard { AnswerKeepsSessions Heard }
+    ensures ack { AnswerKeepsSessions Ack }
+    ensures hello { HelloKeepsSessions }
+    ensures seek { SeekKeepsSessions }
+    ensures outside { OutsideKeepsSessions }
+{}
+
+/// Of what a node starts, but a departure: what leads to tables without holes is kept, and so are sessions that are exact.
+///
+/// It does nothing: its contract is the law.
+///
+/// Rule: docs/PROTOCOL.md, "Steps of a node".
+pub fn starts_keep()
+    ensures quiet { QuietStartKeeps }
+    ensures gives_up { GivingUpKeeps }
+    ensures join { JoinKeeps }
+{}
+
+/// If the invariant holds of a system whose nodes are nodes, then once a frame under way is delivered that isn't strange to its receiver,
+/// what leads to tables without holes still holds, the sessions are exact, and after a Link the words of links stand; a new joiner is given
+/// each slot up to its prefix.
+///
+/// It does nothing: its contract is the law.
+///
+/// Rule: docs/PROTOCOL.md, "Steps of a node".
+pub fn invariant_keeps()
+    ensures tell { TellFills }
+    ensures done { DoneFills }
+    ensures plain { PlainFills }
+    ensures other_tell { OtherTellFills }
+    ensures hello { HelloFills }
+    ensures release { ReleaseFills }
+    ensures forget { ForgetFills }
+    ensures link { LinkTies }
+    ensures seek { SeekGives }
+    ensures exact { FrameExact }
+{}

@@ -1,0 +1,11 @@
+//! The steps of which the laws of systems speak are those that the rule of a node makes.
+//!
+//! No code is here. Each function states that a step by the rule is such a step.
+#![tactic(auto)]
+
+mod law;
+
+pub use law::{
+    deliveries_keep, deliveries_keep_sessions, done_moves, frames_move, invariant_keeps,
+    link_moves, seek_moves, sessions_move, starts_keep, tell_moves,
+};
