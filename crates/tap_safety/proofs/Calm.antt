@@ -1,11 +1,11 @@
 -- A step that makes no node core, starts no joiner and adds no cover and no pin of a core node keeps what is about tables without holes.
-use Rattle.std.proofs.Common.{◌≡◌, inl, inr, ℕ, ◌<◌, ◌≤◌, List, [], ◌⊎◌, arith, refl, sym, ap, ◌∙◌}
+use Rattle.std.proofs.Common.{◌≡◌, inl, inr, ℕ, List, [], ap}
 use Rattle.std.specs.Option.{unwrap_or}
 use Rattle.tap_name.specs.Prefix.{lcp}
 use Rattle.tap_name.specs.Settings.{SettingsValue}
-use Rattle.tap_safety.specs.System.{System, Covers, HasLink, HelloNames, IsCoreNode, IsJoiner, IsTold}
-use Rattle.tap_safety.specs.Words.{Has, IsIn, IsReached, Pins, prefix_of, surrogate_of}
-use Rattle.tap_safety.specs.Parts.{Cover, CoverIs, Covered, CoversAndPins, HoleFree, IsClaim, IsMet, Low, Meet}
+use Rattle.tap_safety.specs.System.{System, Covers, IsCoreNode, IsJoiner}
+use Rattle.tap_safety.specs.Words.{IsIn, IsReached, Pins, prefix_of, surrogate_of}
+use Rattle.tap_safety.specs.Parts.{Cover, Covered, CoversAndPins, IsClaim, IsMet, Meet}
 use Rattle.tap_safety.specs.Filled.{AreFilled}
 use Rattle.tap_safety.proofs.Kept.{AddsNone, Keeps, StaysJoiner, TakesNoTell, TakesOne, hole_free_kept, low_kept, met_kept, met_stays}
 

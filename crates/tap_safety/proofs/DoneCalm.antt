@@ -1,9 +1,8 @@
 -- A Done keeps Covered and Meet: the new core node covers nobody.
-use Rattle.std.proofs.Common.{◌≡◌, inl, inr, ℕ, ◌≤◌, List, [], ◌⊎◌, Some, sym, ap, ◌∙◌}
+use Rattle.std.proofs.Common.{◌≡◌, inl, inr, ℕ, List, [], sym, ap, ◌∙◌}
 use Rattle.std.specs.Option.{unwrap_or}
 use Rattle.tap_name.specs.Prefix.{lcp}
 use Rattle.tap_name.specs.Settings.{SettingsValue}
-use Rattle.tap_link.specs.declared.kind.Kind.TheVariants.{Pin}
 use Rattle.tap_safety.specs.System.{System, Covers, IsCoreNode, IsJoiner}
 use Rattle.tap_safety.specs.Words.{IsIn, prefix_of, surrogate_of}
 use Rattle.tap_safety.specs.Parts.{Covered, CoversAndPins, Meet}

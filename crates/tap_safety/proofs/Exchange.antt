@@ -1,9 +1,8 @@
 -- What a session awaits after other tokens have come in place of a frame or of a session.
-use Rattle.std.proofs.Common.{◌≡◌, inl, inr, ℕ, true, false, List, [], ◌∷◌, ◌++◌, ◌⊎◌, refl, sym, ap, ◌∙◌, eqb}
-use Rattle.std.proofs.lemmas.Bool.{and_from, and_left, and_parts, and_right, cases_Bool, eq-eqb, eqb-false, eqb-true, ne_eqb, true≢false}
+use Rattle.std.proofs.Common.{◌≡◌, inl, inr, ℕ, true, false, List, [], ◌∷◌, ◌++◌, ◌⊎◌, sym, ap, ◌∙◌, eqb}
+use Rattle.std.proofs.lemmas.Bool.{and_from, and_parts, cases_Bool, eq-eqb, eqb-false, eqb-true, ne_eqb, true≢false}
 use Rattle.std.proofs.lemmas.Slice.Eq.{bytes_eq-Decides}
 use Rattle.std.specs.Prelude.{bytes_eq}
-use Rattle.tap_wire.specs.declared.frame.Frame.{Frame}
 use Rattle.tap_safety.specs.Remembered.{Token}
 use Rattle.tap_safety.specs.Remembered.Token.{Way, Child}
 use Rattle.tap_safety.specs.Sessions.{AmongTokens, for_child, for_way, is_place}

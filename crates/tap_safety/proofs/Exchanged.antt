@@ -1,5 +1,5 @@
 -- A frame that is taken goes for good, and what is sent comes with new numbers.
-use Rattle.std.proofs.Common.{◌≡◌, inl, inr, ℕ, ◌+◌, ◌<◌, ◌≤◌, List, [], ◌∷◌, ◌++◌, ◌⊎◌, length, arith, refl, sym}
+use Rattle.std.proofs.Common.{◌≡◌, inl, inr, ℕ, ◌+◌, ◌<◌, List, [], ◌∷◌, ◌++◌, ◌⊎◌, length, arith, refl}
 use Rattle.tap_wire.specs.declared.frame.Frame.{Frame}
 use Rattle.tap_safety.specs.System.{System, AmongFrames}
 use Rattle.tap_safety.specs.Step.{AreNumbered, Ascend, IsTaken, numbered_from}

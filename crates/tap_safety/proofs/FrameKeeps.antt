@@ -1,34 +1,22 @@
 -- What the steps at one node keep that make no node core, start no joiner and change no cover.
-use Rattle.std.proofs.Common.{◌≡◌, inl, inr, ℕ, ◌<◌, true, false, List, ◌⊎◌, None, Some, refl, sym, ap, ◌∙◌}
-use Rattle.tap_name.specs.Prefix.{lcp}
+use Rattle.std.proofs.Common.{◌≡◌, inl, inr, ℕ, List, ◌⊎◌, None, Some, sym, ap, ◌∙◌}
 use Rattle.tap_name.specs.Settings.{SettingsValue}
-use Rattle.tap_name.specs.declared.slot.Offered.{Offered}
 use Rattle.tap_name.specs.declared.slot.Slot.{Slot}
 use Rattle.tap_link.specs.declared.kind.Kind.{Kind}
-use Rattle.tap_link.specs.declared.kind.Kind.TheVariants.{Pin, Settled}
+use Rattle.tap_link.specs.declared.kind.Kind.TheVariants.{Pin}
 use Rattle.tap_multicast.specs.Covers.{level_kept}
-use Rattle.tap_wire.specs.declared.frame.Body.TheVariants.{Forget, Release}
 use Rattle.tap_wire.specs.declared.frame.Frame.{Frame}
 use Rattle.tap_wire.specs.declared.frame.TellFields.{TellFields}
-use Rattle.tap_rule.specs.Node.{NodeState, Status, link_to}
+use Rattle.tap_rule.specs.Node.{NodeState, link_to}
 use Rattle.tap_rule.specs.Node.Status.{Joining, Core, Leaving, Ceased as HasCeased}
 use Rattle.tap_safety.specs.Frames.{HelloFields, hello_body, tell_body}
-use Rattle.tap_safety.specs.System.{System, Covers, HasLink, HelloNames, IsCoreNode, IsJoiner, IsTold}
-use Rattle.tap_safety.specs.Words.{Has, Pins}
+use Rattle.tap_safety.specs.System.{System, Covers, HasLink, HelloNames, IsCoreNode, IsJoiner}
+use Rattle.tap_safety.specs.Words.{Pins}
 use Rattle.tap_safety.specs.Step.{ChangesAt}
-use Rattle.tap_safety.specs.FrameSteps.{
-  LinksStay,
-  TakesForget,
-  TakesFrame,
-  TakesPlainly,
-  TakesRelease,
-  TakesTellCeased,
-  TakesTellJoining,
-}
+use Rattle.tap_safety.specs.FrameSteps.{TakesFrame, TakesPlainly, TakesTellCeased, TakesTellJoining}
 use Rattle.tap_safety.specs.Filled.{AreFilled}
-use Rattle.tap_safety.proofs.Calm.{AddsNoCover, StillTold, filled_calm, still_told, still_told_but}
+use Rattle.tap_safety.proofs.Calm.{AddsNoCover, filled_calm, still_told, still_told_but}
 use Rattle.tap_safety.proofs.KeepsAll.{keeps_all}
-use Rattle.tap_safety.proofs.KeepsNear.{HasInSlot, keeps_near}
 use Rattle.tap_safety.proofs.Kept.{AddsNone, Keeps, TakesNoTell, TakesOne}
 use Rattle.tap_safety.proofs.TellKeeps.{
   core_kept,

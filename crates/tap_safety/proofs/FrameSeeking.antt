@@ -1,25 +1,21 @@
 -- Seekers and Tells after a frame whose taker stays what it is, and sends nobody on.
-use Rattle.std.proofs.Common.{◌≡◌, inl, inr, ℕ, List, ◌⊎◌, Option, None, Some, refl, sym, ap, ◌∙◌}
+use Rattle.std.proofs.Common.{◌≡◌, inl, inr, ℕ, List, ◌⊎◌, Some, sym, ap, ◌∙◌}
 use Rattle.tap_name.specs.Settings.{SettingsValue}
-use Rattle.tap_name.specs.declared.slot.Slot.{Slot}
 use Rattle.tap_link.specs.declared.kind.Kind.{Kind}
 use Rattle.tap_link.specs.declared.kind.Kind.TheVariants.{Pin, Settled, Leaving as Marked}
 use Rattle.tap_wire.specs.declared.frame.Body.{Body}
 use Rattle.tap_wire.specs.declared.frame.Body.TheVariants.{Seek}
 use Rattle.tap_wire.specs.declared.frame.Frame.{Frame}
-use Rattle.tap_wire.specs.declared.frame.TellFields.{TellFields}
-use Rattle.tap_rule.specs.Node.{NodeState, link_to}
-use Rattle.tap_rule.specs.Node.Status.{Joining}
-use Rattle.tap_safety.specs.Frames.{HelloFields, hello_body, tell_body}
-use Rattle.tap_safety.specs.System.{System, AmongFrames, Covers, HasLink, IsCoreNode, IsJoiner, IsTold, IsUnderWay}
+use Rattle.tap_rule.specs.Node.{link_to}
+use Rattle.tap_safety.specs.Frames.{hello_body, tell_body}
+use Rattle.tap_safety.specs.System.{System, IsJoiner, IsTold, IsUnderWay}
 use Rattle.tap_safety.specs.Words.{Has}
-use Rattle.tap_safety.specs.Step.{IsSent, numbered_from}
+use Rattle.tap_safety.specs.Step.{numbered_from}
 use Rattle.tap_safety.specs.Seeking.{HasNode, IsSeeker}
 use Rattle.tap_safety.specs.Soft.{AreQuiet, IsQuietBody, IsSoft, IsSoundLink}
-use Rattle.tap_safety.specs.SeekerSteps.{AmongSeeks, AreSoftEnds, LeavesSeekers, LeavesTells}
+use Rattle.tap_safety.specs.SeekerSteps.{AmongSeeks, LeavesSeekers, LeavesTells}
 use Rattle.tap_safety.specs.FrameSteps.{TakesFrame}
 use Rattle.tap_safety.specs.Joins.{JoinersStay}
-use Rattle.tap_safety.specs.Tells.{IsSoundTell}
 use Rattle.tap_safety.proofs.FrameKeeps.{covers_on, frame_adds_none, frame_cores}
 use Rattle.tap_safety.proofs.SoftKept.{frame_softs, sent_each}
 use Rattle.tap_safety.proofs.TellKeeps.{covers_same, node_after, node_before}
@@ -54,7 +50,7 @@ module _ (s s' : System) (number : ℕ) (frame : Frame) (step : TakesFrame s s' 
   }
 
   -- so are seekers
-  seeker_on : (x : List ℕ) → IsSeeker s x → IsSeeker s' x
+  pub seeker_on : (x : List ℕ) → IsSeeker s x → IsSeeker s' x
   seeker_on x seeker =
       let waits = step.surrogate x ∙ seeker.waits in
       elim (node_after s s' frame.to step.before step.after step.at x seeker.state seeker.is) [
@@ -66,7 +62,7 @@ module _ (s s' : System) (number : ℕ) (frame : Frame) (step : TakesFrame s s' 
         | inr there ↦ record { state = seeker.state; is = there; joining = seeker.joining; waits = waits }
       ]
 
-  seeker_was : (x : List ℕ) → IsSeeker s' x → IsSeeker s x
+  pub seeker_was : (x : List ℕ) → IsSeeker s' x → IsSeeker s x
   seeker_was x seeker =
       let waits = sym (step.surrogate x) ∙ seeker.waits in
       elim (node_before s s' frame.to step.before step.after step.at x seeker.state seeker.is) [
@@ -78,7 +74,7 @@ module _ (s s' : System) (number : ℕ) (frame : Frame) (step : TakesFrame s s' 
         | inr there ↦ record { state = seeker.state; is = there; joining = seeker.joining; waits = waits }
       ]
 
-  node_on : (y : List ℕ) → HasNode s y → HasNode s' y
+  pub node_on : (y : List ℕ) → HasNode s y → HasNode s' y
   node_on y node =
       elim (node_after s s' frame.to step.before step.after step.at y node.state node.is) [
         | inl here ↦ record { state = step.after; is = here.2 }

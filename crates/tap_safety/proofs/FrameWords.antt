@@ -1,5 +1,5 @@
 -- A frame whose taker says of each link that it changes: what is then said of links and stands.
-use Rattle.std.proofs.Common.{◌≡◌, inl, inr, ℕ, ◌+◌, ◌<◌, ◌≤◌, Bool, true, false, List, [], ◌∷◌, ◌⊎◌, Option, None, Some, arith, refl, sym, ap, ◌∙◌}
+use Rattle.std.proofs.Common.{◌≡◌, inl, inr, ℕ, Bool, List, [], ◌∷◌, ◌⊎◌, Option, None, Some, arith, refl, sym, ap, ◌∙◌}
 use Rattle.std.proofs.lemmas.Bool.{cases_Bool, true≢false}
 use Rattle.std.proofs.lemmas.Slice.Eq.{bytes_eq-Decides}
 use Rattle.std.specs.Prelude.{bytes_eq}
@@ -9,17 +9,15 @@ use Rattle.tap_table.specs.declared.tie.Tie.{Tie}
 use Rattle.tap_wire.specs.declared.frame.Body.{Body}
 use Rattle.tap_wire.specs.declared.frame.Body.TheVariants.{Forget, Link, Release}
 use Rattle.tap_wire.specs.declared.frame.Frame.{Frame}
-use Rattle.tap_rule.specs.Node.{NodeState, link_to, word_of}
-use Rattle.tap_rule.specs.Reaction.{Message}
-use Rattle.tap_rule.specs.Sending.{link_frame, message_frame}
-use Rattle.tap_rule.specs.Sent.{AreSent, IsAmong}
+use Rattle.tap_rule.specs.Node.{link_to}
+use Rattle.tap_rule.specs.Sent.{IsAmong}
 use Rattle.tap_safety.specs.Remembered.{Word}
-use Rattle.tap_safety.specs.System.{System, IsUnderWay}
+use Rattle.tap_safety.specs.System.{System}
 use Rattle.tap_safety.specs.Step.{IsSent}
 use Rattle.tap_safety.specs.Moved.{HasDone, last_after, word_after}
 use Rattle.tap_safety.specs.Bookkeeping.{AreStamped, has_table}
 use Rattle.tap_safety.specs.FrameSteps.{TakesFrame}
-use Rattle.tap_safety.specs.Ties.{IsOnWay, link_in, link_of, register_in, register_of, release_frame, status_in, status_of, word_frame, word_kept}
+use Rattle.tap_safety.specs.Ties.{IsOnWay, link_in, link_of, register_in, register_of, status_in, status_of, word_frame, word_kept}
 use Rattle.tap_safety.specs.WordSteps.{IsSaid, KeepsForgets, SaysLinks, SaysNoMore, SaysWords}
 use Rattle.tap_safety.proofs.Told.{sent_under_way, still_under_way, was_under_way}
 

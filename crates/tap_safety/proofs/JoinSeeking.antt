@@ -1,27 +1,22 @@
 -- Seekers stay unknown when a new name starts to join, and when a Seek goes on.
-use Rattle.std.proofs.Common.{◌≡◌, inl, inr, ℕ, ◌+◌, ◌<◌, true, false, List, [], ◌∷◌, ◌++◌, ◌⊎◌, Option, None, Some, refl, sym, ap, ◌∙◌}
+use Rattle.std.proofs.Common.{◌≡◌, inl, inr, ℕ, List, [], ◌∷◌, ◌++◌, ◌⊎◌, None, Some, refl, sym, ap, ◌∙◌}
 use Rattle.std.proofs.lemmas.Bool.{cases_Bool}
 use Rattle.tap_name.specs.Settings.{SettingsValue}
-use Rattle.tap_name.specs.declared.slot.Offered.{Offered}
 use Rattle.tap_link.specs.declared.kind.Kind.{Kind}
 use Rattle.tap_link.specs.declared.kind.Kind.TheVariants.{Pin, Settled, Leaving as Marked}
-use Rattle.tap_multicast.specs.Covers.{level_kept}
 use Rattle.tap_wire.specs.declared.frame.Body.{Body}
 use Rattle.tap_wire.specs.declared.frame.Body.TheVariants.{Seek}
 use Rattle.tap_wire.specs.declared.frame.Frame.{Frame}
-use Rattle.tap_rule.specs.Node.{NodeState, link_to}
+use Rattle.tap_rule.specs.Node.{link_to}
 use Rattle.tap_safety.specs.Frames.{HelloFields, hello_body, tell_body}
-use Rattle.tap_safety.specs.System.{System, AmongFrames, Covers, HasLink, HelloNames, IsCoreNode, IsJoiner, IsTold, IsUnderWay}
+use Rattle.tap_safety.specs.System.{System, AmongFrames, HasLink, HelloNames, IsTold, IsUnderWay}
 use Rattle.tap_safety.specs.Words.{Has}
-use Rattle.tap_safety.specs.Step.{AreNumbered, IsSent, numbered_from}
+use Rattle.tap_safety.specs.Step.{numbered_from}
 use Rattle.tap_safety.specs.Seeking.{AreOfSeekers, HasNode, HasOneSeek, IsSeeker, IsUnknown, Seeking}
-use Rattle.tap_safety.specs.Soft.{IsSoft, NamesSoft}
-use Rattle.tap_safety.specs.Tells.{TellsAreSound}
-use Rattle.tap_safety.specs.Bookkeeping.{HaveEnds}
+use Rattle.tap_safety.specs.Soft.{IsSoft}
 use Rattle.tap_safety.specs.FrameSteps.{StartsJoin}
 use Rattle.tap_safety.specs.SeekerSteps.{BeforeJoin, SeeksBy, seek_frame}
 use Rattle.tap_safety.proofs.LinkKeeps.{offered_named}
-use Rattle.tap_safety.proofs.SoftSteps.{start_ways}
 use Rattle.tap_safety.proofs.StartKeeps.{join_cores, join_covers_was, node_was, old_node}
 use Rattle.tap_safety.proofs.Told.{among_either, among_left, among_right}
 

@@ -1,5 +1,5 @@
 -- Whose the sessions are, and that each join has one end, by the kinds of steps.
-use Rattle.std.proofs.Common.{◌≡◌, inl, inr, ℕ, ◌+◌, true, false, List, [], ◌∷◌, ◌⊎◌, Option, None, Some, refl, sym, ap, ◌∙◌}
+use Rattle.std.proofs.Common.{◌≡◌, inl, inr, ℕ, List, [], ◌⊎◌, Option, None, Some, refl, sym, ap, ◌∙◌}
 use Rattle.std.proofs.lemmas.Bool.{cases_Bool, true≢false}
 use Rattle.std.proofs.lemmas.Slice.Eq.{bytes_eq-Decides}
 use Rattle.std.specs.Prelude.{bytes_eq}
@@ -8,19 +8,8 @@ use Rattle.tap_wire.specs.declared.frame.Frame.{Frame}
 use Rattle.tap_safety.specs.Remembered.{OpenSession}
 use Rattle.tap_safety.specs.System.{System, AmongFrames, IsJoiner, IsUnderWay}
 use Rattle.tap_safety.specs.Sessions.{AreExact, Belongs, IsOpen, IsRootless}
-use Rattle.tap_safety.specs.SessionSteps.{ClosesChild, ClosesRoot, Exchanges, HandsOn, LeavesSessions, OpensChild, OpensRoot}
-use Rattle.tap_safety.specs.Joins.{
-  AreAbout,
-  AreOfJoiners,
-  EndsOnce,
-  HasNoDone,
-  HasOneDone,
-  HasRoot,
-  JoinersStay,
-  NoDoneAmong,
-  SendsDone,
-  about,
-}
+use Rattle.tap_safety.specs.SessionSteps.{ClosesChild, ClosesRoot, Exchanges, HandsOn, LeavesSessions, OpensChild}
+use Rattle.tap_safety.specs.Joins.{AreAbout, AreOfJoiners, EndsOnce, HasNoDone, HasOneDone, HasRoot, JoinersStay, NoDoneAmong, SendsDone}
 use Rattle.tap_safety.proofs.JoinsKept.{ends_kept, of_joiners_kept, one_session}
 use Rattle.tap_safety.proofs.SessionsKept.{
   closed_origin,
@@ -34,7 +23,7 @@ use Rattle.tap_safety.proofs.SessionsKept.{
   new_place,
   opens_child_turns,
 }
-use Rattle.tap_safety.specs.Turns.{Turns, WasOpen}
+use Rattle.tap_safety.specs.Turns.{WasOpen}
 
 -- a Done belongs to no session
 done_apart : (w b x : List ℕ) (k : ℕ) → Belongs (record { from = w; to = b; body = Done }) x k → ⊥

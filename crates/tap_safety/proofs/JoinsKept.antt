@@ -1,12 +1,12 @@
 -- Whose the sessions are, what they await, where they stand, and that each join has one end: what turns of sessions keep of it.
-use Rattle.std.proofs.Common.{◌≡◌, inl, inr, ℕ, ◌+◌, ◌≤◌, List, [], ◌∷◌, ◌⊎◌, Option, None, Some, arith, refl, sym, ap, ◌∙◌}
+use Rattle.std.proofs.Common.{◌≡◌, inl, inr, ℕ, List, ◌⊎◌, None, Some, sym, ap, ◌∙◌}
 use Rattle.tap_wire.specs.declared.frame.Body.TheVariants.{Done}
 use Rattle.tap_wire.specs.declared.frame.Frame.{Frame}
 use Rattle.tap_safety.specs.Remembered.{OpenSession}
 use Rattle.tap_safety.specs.System.{System, AmongFrames, IsJoiner, IsUnderWay}
 use Rattle.tap_safety.specs.Sessions.{AreExact, Belongs, IsOpen, IsRootless}
 use Rattle.tap_safety.specs.Joins.{AreOfJoiners, EndsOnce, HasNoDone, HasOneDone, HasRoot, about}
-use Rattle.tap_safety.specs.Turns.{GoesOn, IsClosed, IsNewlyOpen, Turns, WasOpen}
+use Rattle.tap_safety.specs.Turns.{Turns}
 
 -- an open session is one
 pub one_session : (s : System) (y : List ℕ) (m : ℕ) (o c : OpenSession) → IsOpen s y m o → IsOpen s y m c → o ≡ c

@@ -1,11 +1,11 @@
 -- A step that keeps the links to joiners, and in the slot of each core link a link to a core node, keeps what follows from them.
-use Rattle.std.proofs.Common.{◌≡◌, inl, inr, ℕ, ◌+◌, ◌<◌, List, [], ◌⊎◌, arith, refl, ap}
+use Rattle.std.proofs.Common.{◌≡◌, inl, inr, ℕ, ◌+◌, ◌<◌, List, [], ◌⊎◌, arith, ap}
 use Rattle.std.specs.Option.{unwrap_or}
 use Rattle.tap_name.specs.Prefix.{lcp}
-use Rattle.tap_name.proofs.Prefixes.{lcp-least, lcp-sym, lcp-triangle}
+use Rattle.tap_name.proofs.Prefixes.{lcp-least, lcp-triangle}
 use Rattle.tap_link.specs.declared.kind.Kind.{Kind}
 use Rattle.tap_safety.specs.System.{System, HasLink, HelloNames, IsCoreNode, IsJoiner}
-use Rattle.tap_safety.specs.Words.{Has, IsGiven, Knows, Pins}
+use Rattle.tap_safety.specs.Words.{Has, IsGiven}
 use Rattle.tap_safety.specs.Parts.{HasNear}
 use Rattle.tap_safety.proofs.Kept.{Keeps, StaysJoiner}
 

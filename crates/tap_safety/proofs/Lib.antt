@@ -39,8 +39,10 @@ pub mod SoftSteps
 pub mod DoneCalm
 pub mod Exchanged
 pub mod FrameWords
+pub mod SeekFilled
 pub mod TellFilled
 pub mod RootSteps
 pub mod SeatSoft
+pub mod SeekOn
 pub mod JoinSeeking
 pub mod StepLaws

@@ -1,25 +1,21 @@
 -- What a Hello, a Release and a Forget keep.
-use Rattle.std.proofs.Common.{◌≡◌, inl, inr, ℕ, ◌<◌, true, false, List, [], ◌∷◌, ◌++◌, ◌⊎◌, Option, None, Some, refl, sym, ap, ◌∙◌}
+use Rattle.std.proofs.Common.{◌≡◌, inl, inr, ℕ, true, List, [], ◌∷◌, ◌⊎◌, Option, None, Some, refl, sym, ap, ◌∙◌}
 use Rattle.std.proofs.lemmas.Bool.{cases_Bool}
-use Rattle.tap_name.specs.Prefix.{lcp}
 use Rattle.tap_name.specs.Settings.{SettingsValue}
 use Rattle.tap_name.specs.declared.slot.Offered.{Offered}
-use Rattle.tap_name.specs.declared.slot.Slot.{Slot}
 use Rattle.tap_link.specs.declared.kind.Kind.{Kind}
 use Rattle.tap_link.specs.declared.kind.Kind.TheVariants.{Pin, Settled}
 use Rattle.tap_wire.specs.declared.frame.Body.TheVariants.{Forget, Release}
 use Rattle.tap_wire.specs.declared.frame.Frame.{Frame}
-use Rattle.tap_wire.specs.declared.frame.TellFields.{TellFields}
 use Rattle.tap_rule.specs.Node.{NodeState, Status, link_to}
 use Rattle.tap_rule.specs.Node.Status.{Ceased as HasCeased}
 use Rattle.tap_rule.specs.Sent.{IsAmong}
 use Rattle.tap_safety.specs.Frames.{HelloFields, hello_body, tell_body}
-use Rattle.tap_safety.specs.System.{System, AmongFrames, AmongOffered, HasLink, HelloNames, IsCoreNode, IsJoiner, IsUnderWay}
-use Rattle.tap_safety.specs.Words.{Has, Pins}
-use Rattle.tap_safety.specs.Step.{IsTaken}
+use Rattle.tap_safety.specs.System.{System, AmongOffered, HasLink, HelloNames, IsCoreNode, IsJoiner, IsUnderWay}
+use Rattle.tap_safety.specs.Words.{Has}
 use Rattle.tap_safety.specs.Soft.{NamesSoft, Offers}
 use Rattle.tap_safety.specs.Ties.{status_in, status_of}
-use Rattle.tap_safety.specs.FrameSteps.{ComesFrom, HasSettledNear, TakesForget, TakesHello, TakesRelease, kind_offered}
+use Rattle.tap_safety.specs.FrameSteps.{HasSettledNear, TakesForget, TakesHello, TakesRelease, kind_offered}
 use Rattle.tap_safety.specs.Filled.{AreFilled}
 use Rattle.tap_safety.proofs.Calm.{filled_calm, still_told}
 use Rattle.tap_safety.proofs.CoverKept.{core_or_joiner}

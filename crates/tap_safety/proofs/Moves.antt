@@ -1,5 +1,5 @@
 -- What a move leaves of frames, nodes and words.
-use Rattle.std.proofs.Common.{◌≡◌, inl, inr, ℕ, ◌+◌, ◌<◌, ◌≤◌, true, false, List, [], ◌∷◌, ◌++◌, ◌⊎◌, Option, None, Some, length, arith, refl, sym, ap, ◌∙◌, eqb}
+use Rattle.std.proofs.Common.{◌≡◌, inl, inr, ℕ, ◌+◌, ◌<◌, ◌≤◌, true, false, List, [], ◌∷◌, ◌++◌, ◌⊎◌, Option, Some, length, arith, refl, sym, ap, ◌∙◌, eqb}
 use Rattle.std.proofs.lemmas.Bool.{cases_Bool, eqb-true, eq-eqb, ne_eqb}
 use Rattle.std.proofs.lemmas.List.{append_assoc}
 use Rattle.std.proofs.lemmas.Slice.Eq.{bytes_eq-Decides}
@@ -7,26 +7,14 @@ use Rattle.std.specs.Prelude.{bytes_eq}
 use Rattle.tap_name.specs.Settings.{SettingsValue}
 use Rattle.tap_wire.specs.declared.frame.Frame.{Frame}
 use Rattle.tap_rule.specs.Node.{NodeState}
-use Rattle.tap_rule.specs.Event.{Acted, Start}
+use Rattle.tap_rule.specs.Event.{Start}
 use Rattle.tap_rule.specs.Event.Event.{Starts, Takes}
 use Rattle.tap_rule.specs.Act.{act}
 use Rattle.tap_safety.specs.Remembered.{Word}
 use Rattle.tap_safety.specs.System.{System, AmongFrames}
-use Rattle.tap_safety.specs.Step.{AreNumbered, Ascend, ChangesAt, HasSent, IsTaken, numbered_from, with_at}
+use Rattle.tap_safety.specs.Step.{AreNumbered, Ascend, HasSent, IsTaken, numbered_from, with_at}
 use Rattle.tap_safety.specs.Move.Move.{Begins, Delivers}
-use Rattle.tap_safety.specs.Moved.{
-  HasDone,
-  IsDelivered,
-  IsStarted,
-  has_begun,
-  has_taken,
-  last_after,
-  moved,
-  numbered_frame,
-  starter,
-  without_frame,
-  words_with,
-}
+use Rattle.tap_safety.specs.Moved.{IsDelivered, IsStarted, has_begun, has_taken, last_after, moved, numbered_frame, starter, without_frame, words_with}
 
 -- ---- one name changes
 

@@ -6,7 +6,7 @@ use Rattle.tap_link.specs.declared.kind.Kind.TheVariants.{Pin}
 use Rattle.tap_wire.specs.declared.frame.Body.{Body}
 use Rattle.tap_wire.specs.declared.frame.Body.TheVariants.{Seek}
 use Rattle.tap_rule.specs.Node.{link_to}
-use Rattle.tap_safety.specs.System.{System, IsCoreNode, IsJoiner, IsUnderWay}
+use Rattle.tap_safety.specs.System.{System, IsJoiner, IsUnderWay}
 use Rattle.tap_safety.specs.Seeking.{IsSeeker}
 use Rattle.tap_safety.specs.Soft.{IsSoft, IsSoundBody, IsSoundLink, NamesSoft, SendsSound}
 use Rattle.tap_safety.specs.SeekStep.{SeatsJoiner}

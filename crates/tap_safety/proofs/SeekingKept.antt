@@ -1,19 +1,14 @@
 -- Seekers stay unknown, and Tells sound, where a step that changes no cover sends no Seek and no Tell.
-use Rattle.std.proofs.Common.{◌≡◌, inl, inr, ℕ, ◌+◌, ◌<◌, List, [], ◌∷◌, ◌⊎◌, Option, None, Some, refl, sym, ap, ◌∙◌}
+use Rattle.std.proofs.Common.{◌≡◌, inl, inr, ℕ, List, [], None, Some, refl, sym, ap, ◌∙◌}
 use Rattle.std.specs.Option.{unwrap_or}
 use Rattle.tap_name.specs.Prefix.{lcp}
 use Rattle.tap_name.specs.Settings.{SettingsValue}
-use Rattle.tap_name.specs.declared.slot.Slot.{Slot}
-use Rattle.tap_link.specs.declared.kind.Kind.{Kind}
-use Rattle.tap_name.specs.declared.slot.Offered.{Offered}
 use Rattle.tap_wire.specs.declared.frame.Body.TheVariants.{Seek}
 use Rattle.tap_wire.specs.declared.frame.TellFields.{TellFields}
 use Rattle.tap_rule.specs.Node.Status.{Joining, Ceased as HasCeased}
-use Rattle.tap_rule.specs.Sent.{IsAmong}
-use Rattle.tap_safety.specs.Frames.{HelloFields, hello_body, tell_body}
 use Rattle.tap_safety.specs.Seeking.{AreOfSeekers, HasNode, HasOneSeek, IsSeeker, IsUnknown, Seeking}
-use Rattle.tap_safety.specs.System.{System, AmongFrames, Covers, HelloNames, IsCoreNode, IsJoiner, IsTold, IsUnderWay}
-use Rattle.tap_safety.specs.Words.{Has, IsIn, prefix_of}
+use Rattle.tap_safety.specs.System.{System, HelloNames, IsJoiner, IsUnderWay}
+use Rattle.tap_safety.specs.Words.{prefix_of}
 use Rattle.tap_safety.proofs.FrameKeeps.{core_not, one_state}
 use Rattle.tap_safety.proofs.LinkKeeps.{offered_among}
 use Rattle.tap_safety.specs.Soft.{IsSoft}

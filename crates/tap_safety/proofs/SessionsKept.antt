@@ -1,25 +1,11 @@
 -- The sessions are exact after each kind of step.
-use Rattle.std.proofs.Common.{◌≡◌, inl, inr, ℕ, ◌+◌, true, false, List, [], ◌∷◌, ◌⊎◌, Option, None, Some, refl, sym, ap, ◌∙◌}
+use Rattle.std.proofs.Common.{◌≡◌, inl, inr, ℕ, true, List, [], ◌∷◌, ◌⊎◌, Option, None, Some, refl, sym, ap, ◌∙◌}
 use Rattle.std.proofs.lemmas.Bool.{cases_Bool, true≢false}
 use Rattle.tap_wire.specs.declared.frame.Frame.{Frame}
 use Rattle.tap_safety.specs.Remembered.{OpenSession, Token}
 use Rattle.tap_safety.specs.Remembered.Token.{Way, Child}
 use Rattle.tap_safety.specs.System.{System, AmongFrames}
-use Rattle.tap_safety.specs.Sessions.{
-  AmongTokens,
-  AreExact,
-  Awaits,
-  Belongs,
-  HasFrame,
-  HasParent,
-  IsOpen,
-  for_child,
-  for_way,
-  is_place,
-  is_placed,
-  session_named,
-  ways_of,
-}
+use Rattle.tap_safety.specs.Sessions.{AmongTokens, AreExact, Belongs, HasFrame, HasParent, IsOpen, for_child, for_way, is_placed, session_named, ways_of}
 use Rattle.tap_safety.specs.SessionSteps.{
   ClosesChild,
   ClosesRoot,
@@ -42,7 +28,7 @@ use Rattle.tap_safety.proofs.Exchange.{
   is_place-here,
   is_place-same,
 }
-use Rattle.tap_safety.specs.Turns.{GoesOn, IsClosed, IsNewlyOpen, Turns, WasOpen}
+use Rattle.tap_safety.specs.Turns.{GoesOn, IsNewlyOpen, Turns, WasOpen}
 use Rattle.tap_safety.proofs.Turns.{turned_exact}
 
 -- ---- places

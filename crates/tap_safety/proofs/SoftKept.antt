@@ -1,53 +1,28 @@
 -- Who is named stays core or soft, if the links that are new and the messages that are sent are sound.
-use Rattle.std.proofs.Common.{◌≡◌, inl, inr, ℕ, Bool, true, false, List, [], ◌∷◌, ◌⊎◌, Option, None, Some, refl, sym, ap, ◌∙◌}
-use Rattle.std.proofs.lemmas.Bool.{cases_Bool, true≢false}
+use Rattle.std.proofs.Common.{◌≡◌, inl, inr, ℕ, Bool, true, false, List, [], ◌∷◌, ◌⊎◌, None, Some, refl, sym, ap, ◌∙◌}
+use Rattle.std.proofs.lemmas.Bool.{true≢false}
 use Rattle.tap_name.specs.declared.slot.Offered.{Offered}
 use Rattle.tap_name.specs.declared.slot.Slot.{Slot}
 use Rattle.tap_link.specs.declared.kind.Kind.{Kind}
-use Rattle.tap_link.specs.declared.kind.Kind.TheVariants.{Pin, Settled, Leaving as Marked}
-use Rattle.tap_join.specs.Hello.{hello_names}
+use Rattle.tap_link.specs.declared.kind.Kind.TheVariants.{Pin, Settled}
 use Rattle.tap_table.specs.declared.tie.Tie.{Tie}
 use Rattle.tap_wire.specs.declared.frame.Body.{Body}
 use Rattle.tap_wire.specs.declared.frame.Body.TheVariants.{Ack, Forget, Heard, Hello, Lay, Leave, Link, Release}
 use Rattle.tap_wire.specs.declared.frame.Frame.{Frame}
 use Rattle.tap_wire.specs.declared.frame.TellFields.{TellFields}
 use Rattle.tap_rule.specs.Node.{NodeState, link_to}
-use Rattle.tap_rule.specs.Node.Status.{Ceased as HasCeased}
 use Rattle.tap_rule.specs.Reaction.{Message, message}
 use Rattle.tap_rule.specs.Sending.{lay_frame, link_frame, message_frame}
 use Rattle.tap_rule.specs.Sent.{AreSent, IsAmong}
 use Rattle.tap_safety.specs.Frames.{HelloFields, hello_body, tell_body}
 use Rattle.tap_safety.specs.System.{System, HasLink, IsCoreNode, IsJoiner, IsUnderWay}
-use Rattle.tap_safety.specs.Step.{HasSent, IsSent, numbered_from}
-use Rattle.tap_safety.specs.Soft.{
-  AreSound,
-  IsCeased,
-  IsSoft,
-  IsSoundBody,
-  IsSoundLink,
-  IsSoundOffer,
-  IsSoundReplacement,
-  NamesSoft,
-  Offers,
-}
-use Rattle.tap_safety.specs.FrameSteps.{
-  ComesFrom,
-  LinksStay,
-  StartsJoin,
-  StartsPlainly,
-  TakesForget,
-  TakesFrame,
-  TakesHello,
-  TakesPlainly,
-  TakesRelease,
-  TakesTellCeased,
-  TakesTellJoining,
-  kind_offered,
-}
+use Rattle.tap_safety.specs.Step.{IsSent}
+use Rattle.tap_safety.specs.Soft.{AreSound, IsSoft, IsSoundBody, IsSoundLink, IsSoundOffer, NamesSoft}
+use Rattle.tap_safety.specs.FrameSteps.{LinksStay, TakesForget, TakesFrame, TakesHello, TakesPlainly, TakesRelease, TakesTellCeased, TakesTellJoining, kind_offered}
 use Rattle.tap_safety.proofs.FrameKeeps.{frame_cores}
 use Rattle.tap_safety.proofs.LinkKeeps.{release_core}
-use Rattle.tap_safety.proofs.TellKeeps.{core_kept, node_after, node_before}
-use Rattle.tap_safety.proofs.Told.{among_either, among_sent, taken_under_way, was_under_way}
+use Rattle.tap_safety.proofs.TellKeeps.{node_after, node_before}
+use Rattle.tap_safety.proofs.Told.{taken_under_way, was_under_way}
 
 -- what is so of words of links, of Lays and of each message is so of all that is sent
 pub sent_each : (x : List ℕ) (words : List Tie) (messages : List Message) (sent : List Frame) → AreSent x words messages sent

@@ -1,5 +1,5 @@
 -- Who is named stays core or soft by a Tell at a core node, a Seek at the surrogate, a Done, and starts.
-use Rattle.std.proofs.Common.{◌≡◌, inl, inr, ℕ, List, [], ◌∷◌, ◌⊎◌, Option, None, Some, refl, sym, ap, ◌∙◌}
+use Rattle.std.proofs.Common.{◌≡◌, inl, inr, ℕ, List, ◌⊎◌, None, Some, sym, ap, ◌∙◌}
 use Rattle.tap_name.specs.declared.slot.Slot.{Slot}
 use Rattle.tap_link.specs.declared.kind.Kind.{Kind}
 use Rattle.tap_link.specs.declared.kind.Kind.TheVariants.{Pin}
@@ -8,10 +8,10 @@ use Rattle.tap_wire.specs.declared.frame.Body.TheVariants.{Done}
 use Rattle.tap_wire.specs.declared.frame.Frame.{Frame}
 use Rattle.tap_wire.specs.declared.frame.TellFields.{TellFields}
 use Rattle.tap_rule.specs.Node.{NodeState, link_to}
-use Rattle.tap_rule.specs.Node.Status.{Core, Joining, Ceased as HasCeased}
+use Rattle.tap_rule.specs.Node.Status.{Joining, Ceased as HasCeased}
 use Rattle.tap_safety.specs.Frames.{tell_body}
-use Rattle.tap_safety.specs.System.{System, AmongFrames, HasLink, IsCoreNode, IsJoiner, IsUnderWay}
-use Rattle.tap_safety.specs.Step.{ChangesAt, HasSent, IsSent, IsTaken, numbered_from}
+use Rattle.tap_safety.specs.System.{System, HasLink, IsJoiner, IsUnderWay}
+use Rattle.tap_safety.specs.Step.{ChangesAt, HasSent, IsSent, numbered_from}
 use Rattle.tap_safety.specs.Soft.{AreSound, IsSoft, IsSoundBody, IsSoundLink, NamesSoft, SendsSound}
 use Rattle.tap_safety.specs.DoneStep.{TakesDone}
 use Rattle.tap_safety.specs.TellStep.{TakesKnownTell, TakesTell}

@@ -1,5 +1,5 @@
 -- What starts keep that leave a node what it is, and the start of a join.
-use Rattle.std.proofs.Common.{◌≡◌, inl, inr, ℕ, List, ◌⊎◌, None, Some, refl, sym, ◌∙◌}
+use Rattle.std.proofs.Common.{◌≡◌, inl, inr, ℕ, List, ◌⊎◌, None, Some, sym, ◌∙◌}
 use Rattle.tap_name.specs.Settings.{SettingsValue}
 use Rattle.tap_link.specs.declared.kind.Kind.{Kind}
 use Rattle.tap_link.specs.declared.kind.Kind.TheVariants.{Pin}
@@ -8,15 +8,15 @@ use Rattle.tap_wire.specs.declared.frame.Body.{Body}
 use Rattle.tap_wire.specs.declared.frame.Frame.{Frame}
 use Rattle.tap_rule.specs.Node.{NodeState, link_to}
 use Rattle.tap_rule.specs.Node.Status.{Joining, Core, Leaving}
-use Rattle.tap_safety.specs.System.{System, AmongFrames, Covers, HasLink, HelloNames, IsCoreNode, IsJoiner, IsTold, IsUnderWay}
+use Rattle.tap_safety.specs.System.{System, Covers, HasLink, HelloNames, IsCoreNode, IsJoiner, IsUnderWay}
 use Rattle.tap_safety.specs.Words.{Pins}
 use Rattle.tap_safety.specs.Step.{HasSent, numbered_from}
 use Rattle.tap_safety.specs.FrameSteps.{StartsJoin, StartsPlainly}
 use Rattle.tap_safety.specs.Filled.{AreFilled}
-use Rattle.tap_safety.proofs.Calm.{AddsNoCover, filled_calm, still_told}
+use Rattle.tap_safety.proofs.Calm.{filled_calm, still_told}
 use Rattle.tap_safety.proofs.FrameKeeps.{covers_on, pins_back}
 use Rattle.tap_safety.proofs.KeepsAll.{keeps_all}
-use Rattle.tap_safety.proofs.Kept.{AddsNone, Keeps, TakesNoTell}
+use Rattle.tap_safety.proofs.Kept.{Keeps, TakesNoTell}
 use Rattle.tap_safety.proofs.TellKeeps.{core_kept, core_was, covers_same, joiner_was, links_same}
 use Rattle.tap_safety.proofs.Told.{among_left}
 

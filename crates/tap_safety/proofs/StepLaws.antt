@@ -1,5 +1,5 @@
 -- What the steps keep that change no cover, and what moves are.
-use Rattle.tap_safety.specs.StepLaws.{JoinerIsNewBySeat, JoinsKeptByRoot, SoftKeptBySeat}
+use Rattle.tap_safety.specs.StepLaws.{JoinerIsNewBySeat, JoinsKeptByRoot, SeekingKeptBySeek, SoftKeptBySeat}
 use Rattle.tap_safety.specs.StepLaws.{CeasedKeptByWords, TiesKeptByWords, VersionsKeptByWords}
 use Rattle.tap_safety.specs.StepLaws.{JoinsKeptByClosing, JoinsKeptByHandingOn, JoinsKeptByLastAnswer, JoinsKeptByOpening}
 use Rattle.tap_safety.specs.StepLaws.{SeekingKept, SoftKeptByForget, SoftKeptByHello, SoftKeptByPlainFrame, SoftKeptByRelease}
@@ -9,7 +9,7 @@ use Rattle.tap_safety.specs.StepLaws.{SoftKeptByKnownTell, SoftKeptByStart, Soft
 use Rattle.tap_safety.specs.StepLaws.{AwaitKeptByClosing, AwaitKeptByHandingOn, AwaitKeptByLastAnswer, AwaitKeptByOpening}
 use Rattle.tap_safety.specs.StepLaws.{AwaitKeptByOthers, AwaitKeptByRoot, ClosingTurns, DepthsKeptByTurn, HandingOnTurns}
 use Rattle.tap_safety.specs.StepLaws.{LastAnswerTurns, OpeningTurns, PlacesKeptByTurn, RootTurns}
-use Rattle.tap_safety.specs.StepLaws.{FilledKeptByKnownTell, FilledKeptByTell, FramesAreExchanged, SeekingKeptByJoin, WordsSaidByFrame}
+use Rattle.tap_safety.specs.StepLaws.{FilledKeptByKnownTell, FilledKeptBySeat, FilledKeptByTell, FramesAreExchanged, SeekingKeptByJoin, WordsSaidByFrame}
 use Rattle.tap_safety.specs.StepLaws.{
   DeliveryIsStep,
   FilledKeptByForget,
@@ -36,8 +36,10 @@ use Rattle.tap_safety.proofs.JoinSeeking.{join_seekers, join_seeking}
 use Rattle.tap_safety.proofs.DoneCalm.{filled_done}
 use Rattle.tap_safety.proofs.FrameWords.{frame_forgets, frame_says}
 use Rattle.tap_safety.proofs.RootSteps.{root_ends, root_joiners}
+use Rattle.tap_safety.proofs.SeekOn.{goes_on_seekers, goes_on_seeking}
 use Rattle.tap_safety.proofs.SeatSoft.{joiner_is_new, seat_soft}
 use Rattle.tap_safety.proofs.TellFilled.{filled_known, filled_tell}
+use Rattle.tap_safety.proofs.SeekFilled.{filled_seat}
 use Rattle.tap_safety.proofs.FrameSeeking.{frame_joiners_stay, frame_leaves_seekers, frame_leaves_tells}
 use Rattle.tap_safety.proofs.SoftSteps.{done_soft, join_soft, known_soft, start_soft, tell_soft}
 use Rattle.tap_safety.proofs.JoinSteps.{closes_child_ends, closes_child_joiners, closes_root_ends, closes_root_joiners}
@@ -245,6 +247,9 @@ words_said_law s s' number frame step done says no_more stamped table = (
   frame_forgets s s' number frame step done says no_more stamped table,
 )
 
+pub filled_seat_law : FilledKeptBySeat
+filled_seat_law p s s' number w x b step before filled = filled_seat p s s' number w x b step before filled
+
 pub filled_tell_law : FilledKeptByTell
 filled_tell_law p s s' t filled = filled_tell p s s' t filled
 
@@ -262,3 +267,7 @@ joiner_seat_law p s s' number w x b step seeker = joiner_is_new p s s' number w 
 
 pub soft_seat_law : SoftKeptBySeat
 soft_seat_law p s s' number w x b step seeker sound soft = seat_soft p s s' number w x b step seeker sound soft
+
+pub seek_on_law : SeekingKeptBySeek
+seek_on_law s s' number w x b t goes are =
+    (goes_on_seeking s s' number w x b t goes are, goes_on_seekers s s' number w x b t goes are)

@@ -1,5 +1,5 @@
 -- A Tell at a core node keeps tables without holes, and what leads to them.
-use Rattle.std.proofs.Common.{◌≡◌, inl, inr, ℕ, List, sym, ◌∙◌}
+use Rattle.std.proofs.Common.{sym, ◌∙◌}
 use Rattle.tap_name.specs.Settings.{SettingsValue}
 use Rattle.tap_safety.specs.System.{System}
 use Rattle.tap_safety.specs.Filled.{AreFilled}

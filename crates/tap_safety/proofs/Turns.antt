@@ -1,8 +1,8 @@
 -- Sessions are exact after a step, if each open one goes on or is closed, each was open or is new, and what is sent is awaited.
-use Rattle.std.proofs.Common.{◌≡◌, inl, inr, ℕ, List, ◌⊎◌, None, Some, arith, refl, sym, ◌∙◌}
+use Rattle.std.proofs.Common.{◌≡◌, inl, inr, ℕ, List, None, Some, arith, sym, ◌∙◌}
 use Rattle.tap_wire.specs.declared.frame.Frame.{Frame}
 use Rattle.tap_safety.specs.Remembered.{OpenSession}
-use Rattle.tap_safety.specs.Remembered.Token.{Way, Child}
+use Rattle.tap_safety.specs.Remembered.Token.{Way}
 use Rattle.tap_safety.specs.System.{System, AmongFrames}
 use Rattle.tap_safety.specs.Sessions.{AreExact, Awaits, Belongs, HasFrame, HasParent, IsOpen}
 use Rattle.tap_safety.specs.Turns.{Turns}

@@ -1,12 +1,11 @@
 -- Ties, their versions and what is said to nodes that join or have ceased are kept by a step that says of each link that it changes.
-use Rattle.std.proofs.Common.{◌≡◌, inl, inr, ℕ, ◌<◌, ◌≤◌, Bool, true, false, List, ◌⊎◌, Option, None, Some, arith, refl, sym, ap, ◌∙◌}
+use Rattle.std.proofs.Common.{◌≡◌, inl, inr, ℕ, ◌<◌, Bool, true, false, List, ◌⊎◌, Option, None, Some, arith, refl, sym, ap, ◌∙◌}
 use Rattle.tap_link.specs.declared.kind.Kind.{Kind}
 use Rattle.tap_link.specs.declared.kind.Kind.TheVariants.{Pin}
-use Rattle.tap_rule.specs.Node.{NodeState, Status, link_to}
-use Rattle.tap_rule.specs.Node.Status.{Joining, Core, Ceased as HasCeased}
-use Rattle.tap_wire.specs.declared.frame.Body.TheVariants.{Forget}
+use Rattle.tap_rule.specs.Node.{NodeState}
+use Rattle.tap_rule.specs.Node.Status.{Core}
 use Rattle.tap_safety.specs.Remembered.{Word}
-use Rattle.tap_safety.specs.System.{System, HasLink, IsUnderWay}
+use Rattle.tap_safety.specs.System.{System, HasLink}
 use Rattle.tap_safety.specs.Words.{Pins}
 use Rattle.tap_safety.specs.Ceased.{Ceased, CoreOrJoining, IsRegistered, SaysSo}
 use Rattle.tap_safety.specs.Ties.{

@@ -14,7 +14,7 @@ use Rattle.tap_safety.specs.Words.{Has}
 use Rattle.tap_safety.specs.Seeking.{HasNode, IsSeeker}
 use Rattle.tap_safety.specs.Soft.{IsSoft, NamesSoft}
 use Rattle.tap_safety.specs.Bookkeeping.{HaveEnds}
-use Rattle.tap_safety.specs.FrameSteps.{StartsJoin}
+use Rattle.tap_safety.specs.FrameSteps.{LinksStay, StartsJoin, TakesFrame}
 use Rattle.tap_safety.specs.Tells.{IsSoundTell, TellsAreSound}
 
 -- the ends of a Hello, and whom it offers, are soft
@@ -67,3 +67,10 @@ pub record BeforeJoin (p : SettingsValue) (s : System) : Type 0 where
   pub tells : TellsAreSound p s
   pub ends : HaveEnds s
   pub unmarked : (x t : List ℕ) → HasLink s x t Marked → ⊥
+
+-- A Seek goes on: its taker stays what it is, with its links, and sends it to a core node, and nothing else.
+pub record SeekGoesOn (s s' : System) (number : ℕ) (w x b t : List ℕ) : Type 0 where
+  pub step : TakesFrame s s' number (record { from = w; to = x; body = Seek b })
+  pub links : LinksStay step.before step.after
+  pub sent : step.sent ≡ record { from = x; to = t; body = Seek b } ∷ []
+  pub core : IsCoreNode s t

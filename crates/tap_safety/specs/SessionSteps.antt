@@ -1,11 +1,10 @@
 -- What the kinds of steps do with the sessions of joins.
 use Rattle.std.specs.Prelude.{◌≡◌, ℕ, ◌+◌, List, [], ◌∷◌, ◌⊎◌, None, Some}
 use Rattle.tap_wire.specs.declared.frame.Frame.{Frame}
-use Rattle.tap_wire.specs.declared.frame.Body.TheVariants.{Done}
 use Rattle.tap_safety.specs.Remembered.{OpenSession, Token}
 use Rattle.tap_safety.specs.Remembered.Token.{Way, Child}
-use Rattle.tap_safety.specs.System.{System, AmongFrames, IsUnderWay}
-use Rattle.tap_safety.specs.Sessions.{AmongTokens, Belongs, HasFrame, IsOpen, IsRootless, for_child, for_way, ways_of}
+use Rattle.tap_safety.specs.System.{System, AmongFrames}
+use Rattle.tap_safety.specs.Sessions.{AmongTokens, Belongs, IsOpen, IsRootless, for_child, for_way, ways_of}
 
 -- A frame is taken, and these are sent: no other frame goes, none else comes, and numbers stay apart.
 pub record Exchanges (s s' : System) (number : ℕ) (f : Frame) (sent : List (ℕ × Frame)) : Type 0 where

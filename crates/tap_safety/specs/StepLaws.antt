@@ -17,10 +17,10 @@ use Rattle.tap_safety.specs.Bookkeeping.{AreStamped, Await, HavePlaces, KeepsPla
 use Rattle.tap_safety.specs.Joins.{AreAbout, AreOfJoiners, EndsOnce, JoinerIsNew, JoinersStay, NoDoneAmong, SendsDone}
 use Rattle.tap_safety.specs.SessionSteps.{ClosesChild, ClosesRoot, Exchanges, HandsOn, LeavesSessions, OpensChild, OpensRoot}
 use Rattle.tap_safety.specs.Seeking.{AreOfSeekers, IsSeeker, Seeking}
-use Rattle.tap_safety.specs.SeekerSteps.{BeforeJoin, LeavesSeekers, LeavesTells, SeeksBy}
+use Rattle.tap_safety.specs.SeekerSteps.{BeforeJoin, LeavesSeekers, LeavesTells, SeekGoesOn, SeeksBy}
 use Rattle.tap_safety.specs.Soft.{AddsSoundLinks, AreQuiet, AreSound, NamesSoft, SendsSound}
 use Rattle.tap_safety.specs.DoneStep.{DoneIsTaken, TakesDone}
-use Rattle.tap_safety.specs.SeekStep.{SeatsJoiner}
+use Rattle.tap_safety.specs.SeekStep.{BeforeSeat, SeatsJoiner}
 use Rattle.tap_safety.specs.TellStep.{KnownTellIsTaken, TakesKnownTell, TakesTell, TellIsTaken}
 use Rattle.tap_safety.specs.Tells.{TellsAreSound}
 use Rattle.tap_safety.specs.Ties.{Ties, Versions}
@@ -296,7 +296,12 @@ WordsSaidByFrame = (s s' : System) (number : ℕ) (frame : Frame) → (step : Ta
     → SaysNoMore frame step.after step.messages → AreStamped s → has_table step.before.status
     → SaysWords s s' frame.to × KeepsForgets s s' frame.to
 
--- a Tell at a core node
+-- a Seek at the surrogate
+abbrev pub FilledKeptBySeat : Type 0
+FilledKeptBySeat = (p : SettingsValue) (s s' : System) (number : ℕ) (w x b : List ℕ) → SeatsJoiner p s s' number w x b
+    → BeforeSeat p s x b → AreFilled p s → AreFilled p s'
+
+-- and a Tell at a core node
 abbrev pub FilledKeptByTell : Type 0
 FilledKeptByTell = (p : SettingsValue) (s s' : System) → TellIsTaken p s s' → AreFilled p s → AreFilled p s'
 
@@ -317,3 +322,8 @@ JoinerIsNewBySeat = (p : SettingsValue) (s s' : System) (number : ℕ) (w x b : 
 abbrev pub SoftKeptBySeat : Type 0
 SoftKeptBySeat = (p : SettingsValue) (s s' : System) (number : ℕ) (w x b : List ℕ) → (step : SeatsJoiner p s s' number w x b)
     → IsSeeker s b → SendsSound s' step.sent → NamesSoft s → NamesSoft s'
+
+-- a Seek that goes on
+abbrev pub SeekingKeptBySeek : Type 0
+SeekingKeptBySeek = (s s' : System) (number : ℕ) (w x b t : List ℕ) → SeekGoesOn s s' number w x b t → AreNumbered s
+    → (Seeking s → Seeking s') × (AreOfSeekers s → AreOfSeekers s')

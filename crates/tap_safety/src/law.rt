@@ -8,9 +8,9 @@ ghost use Rattle.tap_safety.specs.StepLaws.{SoftKeptByKnownTell, SoftKeptByStart
 ghost use Rattle.tap_safety.specs.StepLaws.{AwaitKeptByClosing, AwaitKeptByHandingOn, AwaitKeptByLastAnswer, AwaitKeptByOpening};
 ghost use Rattle.tap_safety.specs.StepLaws.{AwaitKeptByOthers, AwaitKeptByRoot, ClosingTurns, DepthsKeptByTurn, HandingOnTurns};
 ghost use Rattle.tap_safety.specs.StepLaws.{LastAnswerTurns, OpeningTurns, PlacesKeptByTurn, RootTurns};
-ghost use Rattle.tap_safety.specs.StepLaws.{FilledKeptByKnownTell, FilledKeptByTell, FramesAreExchanged};
+ghost use Rattle.tap_safety.specs.StepLaws.{FilledKeptByKnownTell, FilledKeptBySeat, FilledKeptByTell, FramesAreExchanged};
 ghost use Rattle.tap_safety.specs.StepLaws.{SeekingKeptByJoin, WordsSaidByFrame};
-ghost use Rattle.tap_safety.specs.StepLaws.{JoinerIsNewBySeat, JoinsKeptByRoot, SoftKeptBySeat};
+ghost use Rattle.tap_safety.specs.StepLaws.{JoinerIsNewBySeat, JoinsKeptByRoot, SeekingKeptBySeek, SoftKeptBySeat};
 ghost use Rattle.tap_safety.specs.StepLaws.{CeasedKeptByWords, TiesKeptByWords, VersionsKeptByWords};
 ghost use Rattle.tap_safety.specs.StepLaws.{JoinsKeptByClosing, JoinsKeptByHandingOn, JoinsKeptByLastAnswer, JoinsKeptByOpening};
 ghost use Rattle.tap_safety.specs.StepLaws.{SeekingKept, SoftKeptByForget, SoftKeptByHello, SoftKeptByPlainFrame, SoftKeptByRelease};
@@ -138,14 +138,15 @@ pub fn done_law()
 {}
 
 /// A Seek that is taken at the joiner's surrogate: with its Hello the joiner is given the slot of each core node with which it shares
-/// at most its prefix; that links and frames name core nodes or soft ones is kept, and the joiner is the only new
-/// one.
+/// at most its prefix; tables without holes, and what leads to them, are kept, and that links and frames name core nodes or soft ones;
+/// and the joiner is the only new one.
 ///
 /// It does nothing: its contract is the law.
 ///
 /// Rule: docs/PROTOCOL.md, "Seek".
 pub fn seek_law()
     ensures low { LowOfNewJoiner }
+    ensures filled { FilledKeptBySeat }
     ensures joiner { JoinerIsNewBySeat }
     ensures soft { SoftKeptBySeat }
 {}
@@ -223,6 +224,7 @@ pub fn seeking_law()
     ensures seeking { SeekingKept }
     ensures tells { TellsKept }
     ensures frame { SeekingKeptByFrame }
+    ensures goes_on { SeekingKeptBySeek }
     ensures tells_frame { TellsKeptByFrame }
     ensures joiners { JoinersStayByFrame }
 {}

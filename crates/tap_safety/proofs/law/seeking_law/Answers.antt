@@ -1,4 +1,4 @@
-use Rattle.tap_safety.proofs.StepLaws.{joiners_frame_law, seeking_frame_law, tells_frame_law, seeking_law, tells_law}
+use Rattle.tap_safety.proofs.StepLaws.{seek_on_law, joiners_frame_law, seeking_frame_law, tells_frame_law, seeking_law, tells_law}
 use Rattle.tap_safety.proofs.law.seeking_law.Goals as goal
 
 pub returns-clause-seeking : goal.returns-clause-seeking
@@ -15,3 +15,6 @@ returns-clause-tells_frame c = tells_frame_law
 
 pub returns-clause-joiners : goal.returns-clause-joiners
 returns-clause-joiners c = joiners_frame_law
+
+pub returns-clause-goes_on : goal.returns-clause-goes_on
+returns-clause-goes_on c = seek_on_law
