@@ -14,3 +14,4 @@ pub mod LinkMade
 pub mod MovesMade
 pub mod StartsMade
 pub mod InvariantMoves
+pub mod NodesMade

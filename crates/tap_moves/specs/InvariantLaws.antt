@@ -4,8 +4,10 @@ use Rattle.tap_name.specs.Prefix.{lcp}
 use Rattle.tap_name.specs.Settings.{SettingsValue}
 use Rattle.tap_name.specs.declared.slot.Slot.{Slot}
 use Rattle.tap_pointer.specs.Reconcile.{AreLaid}
+use Rattle.tap_wire.specs.Spelling.{IsFrame}
 use Rattle.tap_wire.specs.declared.frame.Body.{Body}
 use Rattle.tap_wire.specs.declared.frame.Body.TheVariants.{Ack, Done, Forget, Heard, Hello, Link, Release, Seek, Tell}
+use Rattle.tap_wire.specs.declared.frame.Frame.{Frame}
 use Rattle.tap_wire.specs.declared.frame.TellFields.{TellFields}
 use Rattle.tap_join.specs.Seek.{sought}
 use Rattle.tap_join.specs.declared.sought.Sought.TheVariants.{Surrogate}
@@ -20,6 +22,7 @@ use Rattle.tap_safety.specs.Invariant.{Invariant}
 use Rattle.tap_safety.specs.Parts.{Cover, HoleFree, Low}
 use Rattle.tap_safety.specs.Remembered.{Word}
 use Rattle.tap_safety.specs.Sessions.{AreExact}
+use Rattle.tap_safety.specs.Step.{AreNumbered}
 use Rattle.tap_safety.specs.System.{System, AmongFrames, IsCoreNode}
 use Rattle.tap_safety.specs.Ties.{Ties, Versions, hears_words}
 use Rattle.tap_safety.specs.Words.{IsGiven}
@@ -102,3 +105,8 @@ IsTakenThere node other = IsOutside node other
 abbrev pub FrameExact : Type 0
 FrameExact = (p : SettingsValue) (s : System) (number : ℕ) (node : NodeState) (from : List ℕ) (body : Body)
     → IsDelivery p s number node from body → IsTakenThere node body → AreExact (after_delivery p s number)
+
+-- each node is one, under its name, once a frame that has a spelling is delivered
+abbrev pub NodesKept : Type 0
+NodesKept = (p : SettingsValue) (s : System) (number : ℕ) (frame : Frame) (node : NodeState) → AreNodes p s → AreNumbered s
+    → AmongFrames number frame s.frames → s.node frame.to ≡ Some node → IsFrame p frame → AreNodes p (after_delivery p s number)

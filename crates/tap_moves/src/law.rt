@@ -2,7 +2,7 @@ ghost use Rattle.tap_wire.specs.declared.frame.Body.TheVariants.{Ack, Heard};
 ghost use Rattle.tap_moves.specs.FrameLaws.{CeasedTellIsMade, ForgetIsMade, GivingUpIsMade, HelloIsMade, JoinIsMade, JoiningTellIsMade, PlainIsMade, QuietStartIsMade, ReleaseIsMade};
 ghost use Rattle.tap_moves.specs.Laws.{CeasedAnswers, DoneIsMade, KnownTellIsMade, NewTellIsMade, SeekCovers, SeekGreets, SeekOpens, TellInSession};
 ghost use Rattle.tap_moves.specs.MovesLaws.{AnswerKeepsSessions, CeasedTellKeeps, DeliveryIsByRule, DoneKeeps, ForgetKeeps, GivingUpKeeps, HelloKeeps, HelloKeepsSessions, JoinKeeps, JoiningTellKeeps, LinkKeeps, OutsideKeepsSessions, PlainKeeps, QuietStartKeeps, ReleaseKeeps, SeekKeepsSessions, TellKeeps, TellKeepsSessions};
-ghost use Rattle.tap_moves.specs.InvariantLaws.{DoneFills, ForgetFills, FrameExact, HelloFills, LinkTies, OtherTellFills, PlainFills, ReleaseFills, SeekGives, TellFills};
+ghost use Rattle.tap_moves.specs.InvariantLaws.{DoneFills, ForgetFills, FrameExact, HelloFills, LinkTies, NodesKept, OtherTellFills, PlainFills, ReleaseFills, SeekGives, TellFills};
 ghost use Rattle.tap_moves.specs.SessionsLaws.{AnswerClosesChild, AnswerClosesRoot, AnswerHandsOn, AnswerKeepsExact, HandsOnByHello, HandsOnByTell, OpensChildByTell, OpensRootBySeek, OutsideLeavesSessions};
 ghost use Rattle.tap_moves.specs.TiesLaws.{LinkIsMade};
 
@@ -156,4 +156,5 @@ pub fn invariant_keeps()
     ensures link { LinkTies }
     ensures seek { SeekGives }
     ensures exact { FrameExact }
+    ensures nodes { NodesKept }
 {}

@@ -1,3 +1,4 @@
+use Rattle.tap_moves.proofs.NodesMade.{nodes_kept}
 use Rattle.tap_moves.proofs.InvariantMoves.{done_fills, forget_fills, frame_exact, hello_fills, link_ties, other_tell_fills, plain_fills, release_fills, seek_gives, tell_fills}
 use Rattle.tap_moves.proofs.law.invariant_keeps.Goals as goal
 
@@ -30,3 +31,6 @@ returns-clause-seek c = seek_gives
 
 pub returns-clause-exact : goal.returns-clause-exact
 returns-clause-exact c = frame_exact
+
+pub returns-clause-nodes : goal.returns-clause-nodes
+returns-clause-nodes c = nodes_kept
