@@ -69,7 +69,8 @@ JoiningTellKeeps = (p : SettingsValue) (s : System) (number : ℕ) (node : NodeS
 
 abbrev pub CeasedTellKeeps : Type 0
 CeasedTellKeeps = (p : SettingsValue) (s : System) (number : ℕ) (node : NodeState) (from : List ℕ) (tell : TellFields) (watch : List Slot)
-    → IsArriving s number node from (tell_body tell watch) → node.status ≡ HasCeased → AreFilled p s → AreFilled p (after_delivery p s number)
+    → IsArriving s number node from (tell_body tell watch) → node.status ≡ HasCeased
+    → AreFilled p s → AreFilled p (after_delivery p s number)
 
 -- Hellos, Releases and Forgets
 abbrev pub HelloKeeps : Type 0
@@ -117,7 +118,8 @@ OutsideKeepsSessions = (p : SettingsValue) (s : System) (number : ℕ) (node : N
 -- and the Seek of a seeker, at its surrogate
 abbrev pub SeekKeepsSessions : Type 0
 SeekKeepsSessions = (p : SettingsValue) (s : System) (number : ℕ) (node : NodeState) (from joiner : List ℕ) (prefix : ℕ)
-    → IsArriving s number node from (Seek joiner) → node.status ≡ Core → sought node.ties.table joiner ≡ Surrogate prefix → IsSeeker s joiner
+    → IsArriving s number node from (Seek joiner) → node.status ≡ Core → sought node.ties.table joiner ≡ Surrogate prefix
+    → IsSeeker s joiner
     → BeforeTaking s → AreExact (after_delivery p s number)
 
 -- what leads to tables without holes is kept, and sessions that are exact

@@ -138,14 +138,14 @@ pub fn starts_keep()
     ensures join { JoinKeeps }
 {}
 
-/// If the invariant holds of a system whose nodes are nodes, then once a frame under way is delivered that isn't strange to its receiver,
-/// what leads to tables without holes still holds, the sessions are exact, and after a Link the words of links stand; a new joiner is given
-/// each slot up to its prefix.
+/// If the invariant holds, and each node is one that steps keep valid, then once a frame under way is delivered that isn't strange to its
+/// receiver: what leads to tables without holes holds, and after a Done Hole-free, Cover and Low; the sessions are exact; after a Link the
+/// words of links stand; and a new joiner is given each slot up to its prefix.
 ///
 /// It does nothing: its contract is the law.
 ///
 /// Rule: docs/PROTOCOL.md, "Steps of a node".
-pub fn invariant_keeps()
+pub fn deliveries_from_invariant()
     ensures tell { TellFills }
     ensures done { DoneFills }
     ensures plain { PlainFills }

@@ -6,6 +6,6 @@
 mod law;
 
 pub use law::{
-    deliveries_keep, deliveries_keep_sessions, done_moves, frames_move, invariant_keeps,
+    deliveries_from_invariant, deliveries_keep, deliveries_keep_sessions, done_moves, frames_move,
     link_moves, seek_moves, sessions_move, starts_keep, tell_moves,
 };

@@ -403,7 +403,8 @@ module _ (p : SettingsValue) (s s' : System) (number : ℕ) (w x b : List ℕ) (
       } in
       by_kind near level reaches near.kind refl
     where
-      by_kind : (near : HasNear s x e) → lcp x near.to ≡ lcp x e → IsNewlyCovered step.before x b (lcp x b) near.to → (kind : Kind) → near.kind ≡ kind
+      by_kind : (near : HasNear s x e) → lcp x near.to ≡ lcp x e → IsNewlyCovered step.before x b (lcp x b) near.to
+          → (kind : Kind) → near.kind ≡ kind
           → IsReached s' b e (lcp x e)
       by_kind near level reaches Pin kind =
           let here = step.at.was in

@@ -12,11 +12,11 @@ use Rattle.tap_safety.specs.Sessions.{Belongs, IsOpen}
 use Rattle.tap_safety.specs.Seeking.{HasNode}
 use Rattle.tap_safety.specs.Ties.{word_frame}
 
--- S3: an open session awaits an answer
+-- an open session awaits an answer
 pub record Await (s : System) : Type 0 where
   pub some : (x : List ℕ) (k : ℕ) (session : OpenSession) → IsOpen s x k session → session.awaits ≡ [] → ⊥
 
--- S4 and S5: a Tell under way is one deeper than its session, and its level is above its prefix
+-- a Tell under way is one deeper than its session, and its level is above its prefix
 pub record TellsAreDeeper (s : System) : Type 0 where
   pub depth : (from to : List ℕ) (fields : TellFields) (watch : List Slot) (session : OpenSession)
       → IsUnderWay s from to (tell_body fields watch) → IsOpen s from fields.session session → fields.depth ≡ session.depth + 1
@@ -31,7 +31,7 @@ holds_sessions Leaving = ⊥
 holds_sessions Gone = ⊥
 holds_sessions Ceased = Unit
 
--- S6 and S7, of an open session: it is of a core, joining or ceased node, which has opened as many; and its parent is another node's
+-- an open session is of a core, joining or ceased node, which has opened as many; and its parent is another node's
 pub record HasPlace (s : System) (x : List ℕ) (k : ℕ) (session : OpenSession) : Type 0 where
   pub state : NodeState
   pub is : s.node x ≡ Some state
@@ -42,7 +42,7 @@ pub record HasPlace (s : System) (x : List ℕ) (k : ℕ) (session : OpenSession
 pub record HavePlaces (s : System) : Type 0 where
   pub places : (x : List ℕ) (k : ℕ) (session : OpenSession) → IsOpen s x k session → HasPlace s x k session
 
--- S8: no frame goes to its sender, and its ends are known; so is who has sent a word
+-- no frame goes to its sender, and its ends are known; so is who has sent a word
 pub record HaveEnds (s : System) : Type 0 where
   pub apart : (number : ℕ) (f : Frame) → AmongFrames number f s.frames → f.from ≡ f.to → ⊥
   pub known : (number : ℕ) (f : Frame) → AmongFrames number f s.frames → HasNode s f.from × HasNode s f.to
@@ -56,14 +56,14 @@ has_table Leaving = Unit
 has_table Gone = ⊥
 has_table Ceased = ⊥
 
--- S9, beside Versions: a word is under way once, and while a node has a table its stamp is no less than its words' versions
+-- a word is under way once, and while a node has a table its stamp is no less than its words' versions
 pub record AreStamped (s : System) : Type 0 where
   pub once : (x t : List ℕ) (word : Word) (m number : ℕ) → AmongFrames m (word_frame x t word) s.frames
       → AmongFrames number (word_frame x t word) s.frames → m ≡ number
   pub stamp : (x t : List ℕ) (word : Word) (state : NodeState) → s.node x ≡ Some state → has_table state.status
       → s.last x t ≡ Some word → word.version ≤ state.stamp
 
--- S13: some node is core
+-- some node is core
 pub record HasCore (s : System) : Type 0 where
   pub name : List ℕ
   pub core : IsCoreNode s name

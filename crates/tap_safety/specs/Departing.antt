@@ -18,7 +18,7 @@ use Rattle.tap_safety.specs.Ties.{link_of, status_of}
 abbrev pub Departs : System → Leaver → Type 0
 Departs s leaver = s.departing ≡ Some leaver
 
--- such a frame may be under way while a node departs: none of a join, and no lookup; nor, S12, a cast
+-- what may be under way while a node departs: no frame of a join, of a lookup or of a cast
 abbrev pub may_be_then : Body → Type 0
 may_be_then (Seek joiner) = ⊥
 may_be_then (Tell joiner prefix level session depth watch) = ⊥
@@ -69,7 +69,7 @@ pub record WhileLeaving (s : System) (leaver : Leaver) (state : NodeState) : Typ
   pub settled : (t : List ℕ) (kind : Kind) → link_to state t ≡ Some kind → kind ≡ Settled
   pub linked : (y : List ℕ) (kind : Kind) → HasLink s y leaver.name kind → Among y leaver.holders
 
--- Departure, with S10 to S12. While a node departs, no node joins, no table has a pin, no other node leaves or is marked, and only such
+-- While a node departs, no node joins, no table has a pin, no other node leaves or is marked, and only such
 -- frames are under way; the leaver leaves or is gone, and then each link to it is marked, and its Gone is under way.
 pub record WhileDeparting (s : System) (leaver : Leaver) : Type 0 where
   pub joining : (x : List ℕ) → status_of s x ≡ Some Joining → ⊥

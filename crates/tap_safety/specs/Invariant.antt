@@ -24,11 +24,11 @@ pub record Invariant (p : SettingsValue) (s : System) : Type 0 where
   pub counted : AreCountedSo s
   -- Covered, Meet, Cover, Low and Hole-free
   pub filled : AreFilled p s
-  -- Ceased, Ties, and Departure with S10 to S12
+  -- Ceased, Ties and Departure
   pub ceased : Ceased s
   pub ties : Ties s
   pub departure : Departure s
-  -- S1 to S9, S13, and the numbers of the frames
+  -- seekers, ends of joins, bookkeeping, versions, and the numbers of the frames
   pub seekers : AreOfSeekers s
   pub ends_once : EndsOnce s
   pub await : Await s

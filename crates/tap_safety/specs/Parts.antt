@@ -7,7 +7,7 @@ use Rattle.tap_link.specs.declared.kind.Kind.TheVariants.{Settled}
 use Rattle.tap_safety.specs.System.{System, IsCoreNode, IsJoiner, HasLink, Covers, IsTold, HelloNames}
 use Rattle.tap_safety.specs.Words.{surrogate_of, prefix_of, IsIn, Pins, Has, IsGiven, IsServed}
 
--- what is so where w covers the joiner b at a level
+-- what is so if w covers the joiner b at a level
 pub record CoverIs (p : SettingsValue) (s : System) (w b : List ℕ) (level : ℕ) : Type 0 where
   pub inside : IsIn s b w
   pub pin : Pins s w b
@@ -71,6 +71,6 @@ pub record HasNear (s : System) (x e : List ℕ) : Type 0 where
 pub record HoleFree (p : SettingsValue) (s : System) : Type 0 where
   pub filled : (x e : List ℕ) → IsCoreNode s x → IsCoreNode s e → lcp x e < p.digits → HasNear s x e
 
--- Settled, its first sentence: a settled link is to a core node
+-- settled links: each is to a core node
 pub record SettledCore (s : System) : Type 0 where
   pub settled : (x t : List ℕ) → HasLink s x t Settled → IsCoreNode s t

@@ -43,6 +43,6 @@ pub record Seeking (s : System) : Type 0 where
   pub idle : (x d : List ℕ) (level : ℕ) → IsSeeker s x → Covers s x d level → ⊥
   pub covers : (y b : List ℕ) (level : ℕ) → Covers s y b level → HasNode s b
 
--- S1, seekers: a Seek under way is of a seeker
+-- a Seek under way is of a seeker
 pub record AreOfSeekers (s : System) : Type 0 where
   pub seeks : (from to x : List ℕ) → IsUnderWay s from to (Seek x) → IsSeeker s x

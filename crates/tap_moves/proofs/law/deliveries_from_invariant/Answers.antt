@@ -1,6 +1,6 @@
 use Rattle.tap_moves.proofs.NodesMade.{nodes_kept}
 use Rattle.tap_moves.proofs.InvariantMoves.{done_fills, forget_fills, frame_exact, hello_fills, link_ties, other_tell_fills, plain_fills, release_fills, seek_gives, tell_fills}
-use Rattle.tap_moves.proofs.law.invariant_keeps.Goals as goal
+use Rattle.tap_moves.proofs.law.deliveries_from_invariant.Goals as goal
 
 pub returns-clause-tell : goal.returns-clause-tell
 returns-clause-tell c = tell_fills
