@@ -81,7 +81,12 @@ fn make_each(rt: &(impl AllocGlobal + Clock + Print)) -> Result<()> {
 }
 
 // Times the call of this name.
-fn time(rt: &(impl AllocGlobal + Clock + Print), wanted: &str, size: u32, count: u32) -> Result<()> {
+fn time(
+    rt: &(impl AllocGlobal + Clock + Print),
+    wanted: &str,
+    size: u32,
+    count: u32,
+) -> Result<()> {
     for (name, call) in CALLS {
         if name == wanted {
             let run = make(rt, call, size, count)?;

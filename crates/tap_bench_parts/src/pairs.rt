@@ -54,7 +54,11 @@ pub(crate) fn touch_one(rt: &(impl AllocGlobal + Clock), pairs: u32, count: u32)
 
 /// Changes the primary of a slot of level 0 and changes it back, so many times, and reconciles all pairs after each of the
 /// two.
-pub(crate) fn change_a_primary(rt: &(impl AllocGlobal + Clock), pairs: u32, count: u32) -> Result<Run> {
+pub(crate) fn change_a_primary(
+    rt: &(impl AllocGlobal + Clock),
+    pairs: u32,
+    count: u32,
+) -> Result<Run> {
     let settings = settings(8)?;
     let owner = same_digits(&settings, 0)?;
     let table = full(rt.alloc(), &settings, owner)?;

@@ -16,7 +16,9 @@ pub(crate) fn same_digits(settings: &Settings, digit: u8) -> Result<Name>
     ensures { IfOk result (IsName settings.now) }
 {
     let digits = [digit; 40];
-    Name::from_digits(settings, &digits[..settings.digits() as usize]).map_err(|_| anyhow!("a name"))
+    Name::from_digits(settings, &digits[..settings.digits() as usize]).map_err(|_| anyhow!(
+        "a name"
+    ))
 }
 
 /// The name that has zeros alone but for one digit at this level, and its last digit.
