@@ -3,7 +3,7 @@ ghost use Rattle.tap_multicast.specs.Covers.{MayCover, MayWatch};
 
 use crate::Run;
 use crate::tables::{empty, link, name_in, same_digits, settings};
-use anyhow::{Result, anyhow, bail};
+use anyhow::{Context, Result, anyhow, bail};
 use std::alloc::Global;
 use std::rt::Clock;
 use std::time::Instant;
@@ -48,16 +48,25 @@ fn covers_of(alloc: Global, table: &Table, joiner: Name, watch: &Watch, count: u
     let mut gave = 0u64;
     for _turn in 0..count {
         let mut covers = Covers::new(alloc);
-        match covers.cover(joiner, 0, 0, watch, table) {
-            Ok(Covered::Now { offer, targets, .. }) => {
-                gave = gave.saturating_add(offer.len() as u64);
-                gave = gave.saturating_add(targets.len() as u64);
-            }
-            Ok(Covered::Already) => bail!("covered before"),
-            Err(_) => bail!("no memory"),
-        }
+        let covered = covers
+            .cover(joiner, 0, 0, watch, table)
+            .map_err(|_| anyhow!("no memory"))?;
+        gave = gave.saturating_add(given(covered).context("covered before")?);
     }
     Ok(gave)
+}
+
+// How many links a cover offers and nodes it tells.
+fn given(covered: Covered) -> Option<u64> {
+    match covered {
+        Covered::Already => None,
+        Covered::Now {
+            first: _first,
+            offer,
+            targets,
+            left: _left,
+        } => Some((offer.len() as u64).saturating_add(targets.len() as u64)),
+    }
 }
 
 // Adds links in all slots in turn until there are 255: up to two settled ones in a slot, and then pins.
