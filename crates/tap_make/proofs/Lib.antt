@@ -1,0 +1,5 @@
+pub mod Growing
+pub mod Naming
+pub mod Scripted
+pub mod Marked
+pub mod Limits
