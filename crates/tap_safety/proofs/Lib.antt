@@ -44,5 +44,6 @@ pub mod TellFilled
 pub mod RootSteps
 pub mod SeatSoft
 pub mod SeekOn
+pub mod FromInvariant
 pub mod JoinSeeking
 pub mod StepLaws

@@ -1,4 +1,5 @@
 -- What the steps keep that change no cover, and what moves are.
+use Rattle.tap_safety.specs.StepLaws.{InvariantGivesBefore, InvariantGivesQuiet, InvariantGivesSeat, InvariantGivesTell}
 use Rattle.tap_safety.specs.StepLaws.{JoinerIsNewBySeat, JoinsKeptByRoot, SeekingKeptBySeek, SoftKeptBySeat}
 use Rattle.tap_safety.specs.StepLaws.{CeasedKeptByWords, TiesKeptByWords, VersionsKeptByWords}
 use Rattle.tap_safety.specs.StepLaws.{JoinsKeptByClosing, JoinsKeptByHandingOn, JoinsKeptByLastAnswer, JoinsKeptByOpening}
@@ -36,6 +37,7 @@ use Rattle.tap_safety.proofs.JoinSeeking.{join_seekers, join_seeking}
 use Rattle.tap_safety.proofs.DoneCalm.{filled_done}
 use Rattle.tap_safety.proofs.FrameWords.{frame_forgets, frame_says}
 use Rattle.tap_safety.proofs.RootSteps.{root_ends, root_joiners}
+use Rattle.tap_safety.proofs.FromInvariant.{before_done, before_seat, before_tell, quiet_of, tell_of}
 use Rattle.tap_safety.proofs.SeekOn.{goes_on_seekers, goes_on_seeking}
 use Rattle.tap_safety.proofs.SeatSoft.{joiner_is_new, seat_soft}
 use Rattle.tap_safety.proofs.TellFilled.{filled_known, filled_tell}
@@ -271,3 +273,15 @@ soft_seat_law p s s' number w x b step seeker sound soft = seat_soft p s s' numb
 pub seek_on_law : SeekingKeptBySeek
 seek_on_law s s' number w x b t goes are =
     (goes_on_seeking s s' number w x b t goes are, goes_on_seekers s s' number w x b t goes are)
+
+pub gives_tell_law : InvariantGivesTell
+gives_tell_law p s from x fields watch invariant way core = tell_of p s invariant from x fields watch way core
+
+pub gives_quiet_law : InvariantGivesQuiet
+gives_quiet_law p s w e invariant done = quiet_of p s invariant w e done
+
+pub gives_before_law : InvariantGivesBefore
+gives_before_law p s invariant none = (before_tell p s invariant none, before_done p s invariant none)
+
+pub gives_seat_law : InvariantGivesSeat
+gives_seat_law p s from x b invariant none way core = before_seat p s invariant none from x b way core

@@ -1,5 +1,7 @@
 -- What the sessions, the frames and the stamps keep beside, so that the parts of the invariant follow from themselves.
 use Rattle.std.specs.Prelude.{◌≡◌, ℕ, ◌+◌, ◌<◌, ◌≤◌, List, [], None, Some}
+use Rattle.tap_name.specs.Name.{IsName}
+use Rattle.tap_name.specs.Settings.{SettingsValue}
 use Rattle.tap_name.specs.declared.slot.Slot.{Slot}
 use Rattle.tap_wire.specs.declared.frame.Frame.{Frame}
 use Rattle.tap_wire.specs.declared.frame.TellFields.{TellFields}
@@ -88,3 +90,7 @@ pub record SendsIn (sent : List (ℕ × Frame)) (x : List ℕ) (k : ℕ) : Type 
   pub frame : Frame
   pub among : AmongFrames number frame sent
   pub belongs : Belongs frame x k
+
+-- each node has a name of the settings
+pub record HaveNames (p : SettingsValue) (s : System) : Type 0 where
+  pub each : (x : List ℕ) → HasNode s x → IsName p x

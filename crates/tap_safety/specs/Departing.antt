@@ -1,18 +1,16 @@
 -- What is so while a node departs, and that nothing of it is left otherwise.
 use Rattle.std.specs.Prelude.{◌≡◌, ℕ, ◌<◌, true, List, [], ◌⊎◌, Option, None, Some}
 use Rattle.tap_name.specs.Prefix.{lcp}
-use Rattle.tap_name.specs.Settings.{SettingsValue}
 use Rattle.tap_name.specs.Names.{Among}
 use Rattle.tap_link.specs.declared.kind.Kind.{Kind}
 use Rattle.tap_link.specs.declared.kind.Kind.TheVariants.{Pin, Settled, Leaving as Marked}
 use Rattle.tap_wire.specs.declared.frame.Body.{Body}
 use Rattle.tap_wire.specs.declared.frame.Body.TheVariants.{Ack, Answer, Cast, CastAck, Done, Find, Forget, Gone, Heard, Hello, Leave, Left, Link, Release, Seek, Tell}
-use Rattle.tap_wire.specs.declared.frame.Frame.{Frame}
 use Rattle.tap_rule.specs.Node.{NodeState, link_to}
-use Rattle.tap_rule.specs.Node.Status.{Ceased as HasCeased, Gone as HasGone, Joining, Leaving}
+use Rattle.tap_rule.specs.Node.Status.{Gone as HasGone, Joining, Leaving}
 use Rattle.tap_safety.specs.Remembered.{Leaver}
 use Rattle.tap_safety.specs.System.{System, AmongFrames, HasLink, IsCoreNode, IsUnderWay}
-use Rattle.tap_safety.specs.Ties.{link_of, status_of}
+use Rattle.tap_safety.specs.Ties.{status_of}
 
 -- this node departs
 abbrev pub Departs : System → Leaver → Type 0

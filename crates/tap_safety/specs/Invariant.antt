@@ -10,7 +10,7 @@ use Rattle.tap_safety.specs.Tells.{TellsAreSound}
 use Rattle.tap_safety.specs.Filled.{AreFilled}
 use Rattle.tap_safety.specs.Ceased.{Ceased}
 use Rattle.tap_safety.specs.Ties.{Ties, Versions}
-use Rattle.tap_safety.specs.Bookkeeping.{AreStamped, Await, HasCore, HaveEnds, HavePlaces, TellsAreDeeper}
+use Rattle.tap_safety.specs.Bookkeeping.{AreStamped, Await, HasCore, HaveEnds, HaveNames, HavePlaces, TellsAreDeeper}
 use Rattle.tap_safety.specs.Counted.{AreCountedSo}
 use Rattle.tap_safety.specs.Departing.{Departure}
 
@@ -39,3 +39,5 @@ pub record Invariant (p : SettingsValue) (s : System) : Type 0 where
   pub stamped : AreStamped s
   pub has_core : HasCore s
   pub numbered : AreNumbered s
+  -- names
+  pub names : HaveNames p s

@@ -24,8 +24,8 @@ pub mod WordSteps
 pub mod Move
 pub mod Turned
 pub mod Moved
-pub mod StepLaws
 pub mod Counted
 pub mod Departing
 pub mod Invariant
+pub mod StepLaws
 pub mod Laws

@@ -1,5 +1,5 @@
 -- The laws of moves, and of the steps that change no cover.
-use Rattle.std.specs.Prelude.{◌≡◌, ℕ, List, [], Some}
+use Rattle.std.specs.Prelude.{◌≡◌, ℕ, List, [], None, Some}
 use Rattle.tap_name.specs.Settings.{SettingsValue}
 use Rattle.tap_name.specs.declared.slot.Slot.{Slot}
 use Rattle.tap_wire.specs.declared.frame.Body.TheVariants.{Done, Seek}
@@ -7,8 +7,8 @@ use Rattle.tap_wire.specs.declared.frame.Frame.{Frame}
 use Rattle.tap_wire.specs.declared.frame.TellFields.{TellFields}
 use Rattle.tap_rule.specs.Node.{NodeState}
 use Rattle.tap_rule.specs.Event.{Start}
-use Rattle.tap_safety.specs.Frames.{HelloFields}
-use Rattle.tap_safety.specs.System.{System, AmongFrames, IsJoiner}
+use Rattle.tap_safety.specs.Frames.{HelloFields, tell_body}
+use Rattle.tap_safety.specs.System.{System, AmongFrames, IsCoreNode, IsJoiner, IsUnderWay}
 use Rattle.tap_safety.specs.Step.{AreNumbered, HasSent, IsTaken, numbered_from}
 use Rattle.tap_safety.specs.Moved.{HasDone, IsDelivered, IsStarted, numbered_frame, starter}
 use Rattle.tap_safety.specs.Sessions.{AreExact, for_way, ways_of}
@@ -19,13 +19,14 @@ use Rattle.tap_safety.specs.SessionSteps.{ClosesChild, ClosesRoot, Exchanges, Ha
 use Rattle.tap_safety.specs.Seeking.{AreOfSeekers, IsSeeker, Seeking}
 use Rattle.tap_safety.specs.SeekerSteps.{BeforeJoin, LeavesSeekers, LeavesTells, SeekGoesOn, SeeksBy}
 use Rattle.tap_safety.specs.Soft.{AddsSoundLinks, AreQuiet, AreSound, NamesSoft, SendsSound}
-use Rattle.tap_safety.specs.DoneStep.{DoneIsTaken, TakesDone}
+use Rattle.tap_safety.specs.DoneStep.{BeforeDone, DoneIsTaken, NothingOnWay, TakesDone}
 use Rattle.tap_safety.specs.SeekStep.{BeforeSeat, SeatsJoiner}
-use Rattle.tap_safety.specs.TellStep.{KnownTellIsTaken, TakesKnownTell, TakesTell, TellIsTaken}
+use Rattle.tap_safety.specs.TellStep.{BeforeTell, IsTellOf, KnownTellIsTaken, TakesKnownTell, TakesTell, TellIsTaken}
 use Rattle.tap_safety.specs.Tells.{TellsAreSound}
 use Rattle.tap_safety.specs.Ties.{Ties, Versions}
 use Rattle.tap_safety.specs.WordSteps.{KeepsForgets, SaysLinks, SaysNoMore, SaysWords}
 use Rattle.tap_safety.specs.Ceased.{Ceased}
+use Rattle.tap_safety.specs.Invariant.{Invariant}
 use Rattle.tap_safety.specs.Filled.{AreFilled}
 use Rattle.tap_safety.specs.FrameSteps.{
   StartsJoin,
@@ -327,3 +328,19 @@ SoftKeptBySeat = (p : SettingsValue) (s s' : System) (number : ℕ) (w x b : Lis
 abbrev pub SeekingKeptBySeek : Type 0
 SeekingKeptBySeek = (s s' : System) (number : ℕ) (w x b t : List ℕ) → SeekGoesOn s s' number w x b t → AreNumbered s
     → (Seeking s → Seeking s') × (AreOfSeekers s → AreOfSeekers s')
+
+-- ---- what the laws of steps ask for, from the invariant
+
+abbrev pub InvariantGivesTell : Type 0
+InvariantGivesTell = (p : SettingsValue) (s : System) (from x : List ℕ) (fields : TellFields) (watch : List Slot) → Invariant p s
+    → IsUnderWay s from x (tell_body fields watch) → IsCoreNode s x → IsTellOf p s x fields.joiner fields.prefix fields.level
+
+abbrev pub InvariantGivesQuiet : Type 0
+InvariantGivesQuiet = (p : SettingsValue) (s : System) (w e : List ℕ) → Invariant p s → IsUnderWay s w e Done → NothingOnWay s e
+
+abbrev pub InvariantGivesBefore : Type 0
+InvariantGivesBefore = (p : SettingsValue) (s : System) → Invariant p s → s.departing ≡ None → BeforeTell p s × BeforeDone p s
+
+abbrev pub InvariantGivesSeat : Type 0
+InvariantGivesSeat = (p : SettingsValue) (s : System) (from x b : List ℕ) → Invariant p s → s.departing ≡ None
+    → IsUnderWay s from x (Seek b) → IsCoreNode s x → BeforeSeat p s x b

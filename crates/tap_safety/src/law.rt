@@ -10,6 +10,7 @@ ghost use Rattle.tap_safety.specs.StepLaws.{AwaitKeptByOthers, AwaitKeptByRoot, 
 ghost use Rattle.tap_safety.specs.StepLaws.{LastAnswerTurns, OpeningTurns, PlacesKeptByTurn, RootTurns};
 ghost use Rattle.tap_safety.specs.StepLaws.{FilledKeptByKnownTell, FilledKeptBySeat, FilledKeptByTell, FramesAreExchanged};
 ghost use Rattle.tap_safety.specs.StepLaws.{SeekingKeptByJoin, WordsSaidByFrame};
+ghost use Rattle.tap_safety.specs.StepLaws.{InvariantGivesBefore, InvariantGivesQuiet, InvariantGivesSeat, InvariantGivesTell};
 ghost use Rattle.tap_safety.specs.StepLaws.{JoinerIsNewBySeat, JoinsKeptByRoot, SeekingKeptBySeek, SoftKeptBySeat};
 ghost use Rattle.tap_safety.specs.StepLaws.{CeasedKeptByWords, TiesKeptByWords, VersionsKeptByWords};
 ghost use Rattle.tap_safety.specs.StepLaws.{JoinsKeptByClosing, JoinsKeptByHandingOn, JoinsKeptByLastAnswer, JoinsKeptByOpening};
@@ -175,6 +176,18 @@ pub fn sessions_law()
     ensures root { OnlyTheRootIsLeft }
     ensures frame { OnlyTheLastFrameIsLeft }
     ensures quiet { QuietOnceDone }
+{}
+
+/// What the laws of Tells, Dones and Seeks ask for before the step: the invariant gives it, if nobody departs.
+///
+/// It does nothing: its contract is the law.
+///
+/// Rule: docs/PROTOCOL.md, "Steps of a node".
+pub fn invariant_law()
+    ensures tell { InvariantGivesTell }
+    ensures quiet { InvariantGivesQuiet }
+    ensures before { InvariantGivesBefore }
+    ensures seat { InvariantGivesSeat }
 {}
 
 /// The bookkeeping of sessions: each kind of step is a turn of them, and a turn keeps their places and the depths of Tells; and each open
