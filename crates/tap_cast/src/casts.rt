@@ -1,5 +1,4 @@
 ghost use Rattle.std.specs.Prelude.{◌≡◌, ◌==◌, ◌≤◌, ℕ, [], if◌then◌else◌, not, Some, IfOk, OnOk, OnErr};
-ghost use Rattle.tap_table.specs.Levels.{is_kept, sent_from};
 ghost use Rattle.tap_cast.specs.Casts.{level_of_cast, turn_of, with_cast};
 
 use crate::target::CastTarget;
@@ -8,7 +7,7 @@ use std::alloc::Global;
 use std::collections::BTreeMap;
 use std::marker::Model;
 use tap_name::List;
-use tap_table::{NoMemory, Table};
+use tap_table::{NoMemory, Table, is_kept, sent_from};
 
 /// What a copy of a cast makes a node do.
 ///
@@ -79,31 +78,16 @@ impl Casts {
         if is_kept(kept, level) {
             return Ok(CastTurn::Already);
         }
-        let targets = cast_targets(self.alloc, table, level, sent_from(table, kept))?;
+        let targets = cast_targets(
+            self.alloc,
+            table,
+            level,
+            sent_from(table.settings().digits(), kept),
+        )?;
         self.levels.insert(cast, level)?;
         Ok(CastTurn::Now {
             first: kept.is_none(),
             targets: List::from_vec(targets),
         })
-    }
-}
-
-// Whether a level at most this one is kept.
-fn is_kept(kept: Option<u8>, level: u8) -> bool
-    ensures { result ≡ is_kept kept level }
-{
-    match kept {
-        Some(kept) => kept <= level,
-        None => false,
-    }
-}
-
-// The level from which on the cast was sent already.
-fn sent_from(table: &Table, kept: Option<u8>) -> u8
-    ensures { result ≡ sent_from table.now.settings.digits kept }
-{
-    match kept {
-        Some(kept) => kept,
-        None => table.settings().digits(),
     }
 }

@@ -21,7 +21,7 @@ ended_here : (ends : Bool) (item : Record) (items kept last : List Record) → k
 ended_here true item items kept last is = refl
 ended_here false item items kept last is = ap (λ l. item ∷ l) is
 
--- the records are those without their ending, and the ending_among
+-- the records are those without their ending, and the ending
 pub without_ending-whole : (carried : Bool) (items : List Record) → without_ending carried items ++ ending_among carried items ≡ items
 without_ending-whole carried [] = refl
 without_ending-whole carried (item ∷ items) =
@@ -150,7 +150,7 @@ module _ (log : List Record) (first : Record) (after : List Record) (group : IsG
       ap (λ c. drop (if c then 2 else 1) (log ++ first ∷ after)) carried_as_before
       ∙ drop-append-le (beginning log) log (first ∷ after) begins_within
 
-  -- a whole group is the last one of the longer log, which has no ending_among
+  -- a whole group is the last one of the longer log, which has no ending
   pub groups_of-group : is_ended log ≡ false → is_ended (first ∷ after) ≡ false
       → groups_of (log ++ first ∷ after) ≡ groups_of log ++ (first ∷ after) ∷ []
   groups_of-group going whole =

@@ -12,7 +12,7 @@ use Rattle.tap_history.proofs.Parts.{parted-group, without_ending-whole}
 
 -- ---- the ending
 
--- the records from here are no ending: so the ending_among stands later
+-- the records from here are no ending: so the ending stands later
 pub ending_later : (carried : Bool) (items : List Record) (at : ℕ) → at < length items → is_ending carried (drop at items) ≡ false
     → ending_among carried (drop at items) ≡ ending_among carried (drop (at + 1) items)
 ending_later carried [] at within fails = absurd (omega arith)

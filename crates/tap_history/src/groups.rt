@@ -72,7 +72,7 @@ fn is_cut(carried: bool, first: &Record, last: &Record) -> bool
     can_be_cut(carried, first) && is_spent(last)
 }
 
-// Whether the records are an ending_among.
+// Whether the records are an ending.
 fn is_ending(carried: bool, items: &[Record]) -> bool
     ensures { result ≡ is_ending carried items.now }
 {
@@ -83,7 +83,7 @@ fn is_ending(carried: bool, items: &[Record]) -> bool
     }
 }
 
-// The ending_among of the records.
+// The ending of the records.
 fn ending_among(carried: bool, items: &[Record]) -> &[Record]
     ensures { result.now ≡ ending_among carried items.now }
 {
@@ -95,7 +95,7 @@ fn ending_among(carried: bool, items: &[Record]) -> &[Record]
     &[]
 }
 
-/// The ending_among of a log: `Finished`; or `Spent`, with the record that began the group that it cuts short, if it does. It is
+/// The ending of a log: `Finished`; or `Spent`, with the record that began the group that it cuts short, if it does. It is
 /// empty if the run goes on, or if memory ran out. This goes over the whole log.
 ///
 /// Rule: docs/FORMATS.md, "Groups and moments".
@@ -105,7 +105,7 @@ pub fn ending_of(records: &[Record]) -> &[Record]
     ending_among(is_carried(records), after_beginning(records))
 }
 
-// The records without their ending_among.
+// The records without their ending.
 fn without_ending(carried: bool, items: &[Record]) -> &[Record]
     ensures { result.now ≡ without_ending carried items.now }
 {
@@ -128,7 +128,7 @@ fn first_size(carried: bool, items: &[Record]) -> usize
     items.len()
 }
 
-/// The groups of a log, in their order: the records between its beginning and its ending_among, parted in front of each that
+/// The groups of a log, in their order: the records between its beginning and its ending, parted in front of each that
 /// begins a group. This is for tests and small logs: it goes over the whole log, and keeps the place of each group.
 ///
 /// Rule: docs/FORMATS.md, "Groups and moments".

@@ -194,14 +194,14 @@ module _ {K : Type 0} (cmp : K → K → Ordering) where
       ∙ gap-insert links target kind at gap.within gap.below gap.above
 
   -- what an edit at the link makes
-  pub found-kind_of : (links : List (Entry K)) (target : K) (at : ℕ) (x : Entry K) → StandsAt cmp links target at → slice_get links at ≡ Some x
-      → kind_of cmp links target ≡ Some x.kind
+  pub found-kind_of : (links : List (Entry K)) (target : K) (at : ℕ) (x : Entry K) → StandsAt cmp links target at
+      → slice_get links at ≡ Some x → kind_of cmp links target ≡ Some x.kind
   found-kind_of links target at x found got =
       at-kind_of links target at x found.within found.below (found.here x)
       ∙ ap (λ (e : Entry K). Some e.kind) (get_or_from_got links at x x got)
 
-  pub found-target : (links : List (Entry K)) (target : K) (at : ℕ) (x : Entry K) → StandsAt cmp links target at → slice_get links at ≡ Some x
-      → cmp target x.target ≡ Equal
+  pub found-target : (links : List (Entry K)) (target : K) (at : ℕ) (x : Entry K) → StandsAt cmp links target at
+      → slice_get links at ≡ Some x → cmp target x.target ≡ Equal
   found-target links target at x found got = rw (get_or_from_got links at x x got) at (found.here x)
 
   pub remove-without : (links : List (Entry K)) (target : K) (at : ℕ) (x : Entry K) → StandsAt cmp links target at
@@ -215,7 +215,8 @@ module _ {K : Type 0} (cmp : K → K → Ordering) where
       ap (λ (e : Entry K). set links at (record e { kind = kind })) (sym (get_or_from_got links at x x got))
       ∙ at-set links target kind at x found.within found.below (found.here x) (λ k d gt h. found.above k d (omega arith) h)
 
-  pub found-is_some : (links : List (Entry K)) (target : K) (at : ℕ) → StandsAt cmp links target at → is_none (kind_of cmp links target) ≡ false
+  pub found-is_some : (links : List (Entry K)) (target : K) (at : ℕ) → StandsAt cmp links target at
+      → is_none (kind_of cmp links target) ≡ false
   found-is_some [] target at found = absurd (omega (arith, found.within))
   found-is_some (e ∷ es) target at found =
       ap is_none (at-kind_of (e ∷ es) target at e found.within found.below (found.here e))

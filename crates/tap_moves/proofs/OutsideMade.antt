@@ -191,8 +191,8 @@ hello_hands_on s s' number node from hello before taken remembers at =
     hands_on_as s s' number node from (hello_body hello) before taken remembers
     (ap (λ (o : SessionsValue). o.opened) step.sessions) from hello.session refl refl
     (λ f y n among belongs.
-    let found = sent_in (name_of node) (hello_words node from hello.is_core hello.links) (message from (Heard hello.session) ∷ []) acted.sent
-    step.sent f y n among belongs in
+    let found = sent_in (name_of node) (hello_words node from hello.is_core hello.links)
+    (message from (Heard hello.session) ∷ []) acted.sent step.sent f y n among belongs in
     let is : Belongs (message_frame (name_of node) (message from (Heard hello.session))) y n =
     rw (only_one found.0 (message from (Heard hello.session)) found.1) at found.2 in
     let same = one_place from y hello.session n is in

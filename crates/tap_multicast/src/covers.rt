@@ -1,5 +1,4 @@
 ghost use Rattle.std.specs.Prelude.{◌≡◌, [], IfOk, OnOk, OnErr};
-ghost use Rattle.tap_table.specs.Levels.{is_kept, sent_from};
 ghost use Rattle.tap_multicast.specs.Covers.{MayCover, cover_of, covered, level_kept, with_cover};
 
 use crate::cover::Cover;
@@ -10,7 +9,7 @@ use std::alloc::Global;
 use std::collections::BTreeMap;
 use std::marker::Model;
 use tap_name::{List, Name, Offered};
-use tap_table::{NoMemory, Table};
+use tap_table::{NoMemory, Table, is_kept, sent_from};
 use tap_watch::Watch;
 
 /// What a word of a joiner makes a core node do.
@@ -116,25 +115,5 @@ impl Covers {
             targets: List::from_vec(targets),
             left,
         })
-    }
-}
-
-// Whether a level at most this one is kept.
-fn is_kept(kept: Option<u8>, level: u8) -> bool
-    ensures { result ≡ is_kept kept level }
-{
-    match kept {
-        Some(kept) => kept <= level,
-        None => false,
-    }
-}
-
-// The level from which on the word was sent on before.
-fn sent_from(digits: u8, kept: Option<u8>) -> u8
-    ensures { result ≡ sent_from digits kept }
-{
-    match kept {
-        Some(kept) => kept,
-        None => digits,
     }
 }

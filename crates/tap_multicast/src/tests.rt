@@ -225,7 +225,7 @@ const FURTHER: [Further; 2] = [
 ];
 
 #[test]
-fn the_first_cover(rt: HostRuntime) -> Result<(), Fail> {
+fn a_first_cover_introduces_and_offers(rt: HostRuntime) -> Result<(), Fail> {
     let settings = Settings::new(4, 3, 2).ok_or("settings")?;
     for case in CASES.iter() {
         let joiner = read_name(&settings, case.joiner.as_bytes())?;
@@ -254,7 +254,7 @@ fn the_first_cover(rt: HostRuntime) -> Result<(), Fail> {
 
 // A word at a lesser level goes over the levels between, and leaves the watch; one that isn't lesser does nothing.
 #[test]
-fn further_covers(rt: HostRuntime) -> Result<(), Fail> {
+fn a_later_cover_tells_of_new_levels_alone(rt: HostRuntime) -> Result<(), Fail> {
     let settings = Settings::new(4, 3, 2).ok_or("settings")?;
     for case in FURTHER.iter() {
         let joiner = read_name(&settings, case.joiner.as_bytes())?;

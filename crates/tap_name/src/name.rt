@@ -129,7 +129,7 @@ impl Name {
         ensures value { result ≡ name_of_digits settings.now digits.now }
         ensures valid { IfOk result (IsName settings.now) }
 
-        // Digits are taken exactly where they are a name of the settings, which is then that name.
+        // Digits are taken exactly if they are a name of the settings, which is then that name.
         ensures exact { (name : List ℕ) → ((result ≡ Ok name) ↔ ((digits.now ≡ name) × IsName settings.now name)) }
     {
         if digits.len() != settings.digits() as usize {
@@ -170,7 +170,7 @@ pub fn text_of_digit(digit: u8) -> u8
     if digit < 10 { b'0' + digit } else { 87 + digit }
 }
 
-// The value of a printed digit, and 16 where the byte is none.
+// The value of a printed digit, and 16 if the byte is none.
 fn digit_value(byte: u8) -> u8
     ensures { result ≡ digit_of_text byte }
 {
@@ -208,7 +208,7 @@ pub fn read_name(settings: &Settings, text: &[u8]) -> Result<Name, NameFault>
     ensures value { result ≡ name_of_text settings.now text.now }
     ensures valid { IfOk result (IsName settings.now) }
 
-    // A text is read exactly where it is the text of a name of the settings, as that name.
+    // A text is read exactly if it is the text of a name of the settings, as that name.
     ensures exact { (name : List ℕ) → ((result ≡ Ok name) ↔ ((text.now ≡ text_of_name name) × IsName settings.now name)) }
 {
     // A digit below this base prints as one byte, which is read as that digit alone.

@@ -31,7 +31,7 @@ impl Model for Settings {
 }
 
 impl Settings {
-    /// The settings of these numbers, `None` exactly where one is outside its limits.
+    /// The settings of these numbers, `None` exactly if one is outside its limits.
     pub fn new(base: u8, digits: u8, width: u8) -> Option<Settings>
         ensures { let given : SettingsValue = record { base = base; digits = digits; width = width } in SomeIff result (AreWithinLimits given) given }
     {

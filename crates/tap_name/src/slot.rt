@@ -64,7 +64,7 @@ pub struct Offered {
 }
 
 /// The place of `b` in the table of `a`: the length of their longest common prefix, and the digit of `b` after it.
-/// `None` exactly where the names are equal.
+/// `None` exactly if the names are equal.
 ///
 /// Rule: docs/PROTOCOL.md, "Slots and tables".
 pub fn slot_of(a: &Name, b: &Name) -> Option<Slot>

@@ -1,6 +1,7 @@
 //! The table of a node: its links to other nodes, in their slots, and the next hop towards an object.
 #![tactic(auto)]
 
+mod levels;
 mod memory;
 mod next;
 mod off;
@@ -15,6 +16,7 @@ mod tests;
 mod tie;
 mod ties;
 
+pub use levels::{is_kept, sent_from};
 pub use memory::NoMemory;
 pub use next::Next;
 pub use row::Row;

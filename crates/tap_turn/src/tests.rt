@@ -35,7 +35,7 @@ fn tie(to: Name, version: u32, on: bool) -> Tie
 
 // The Links ascend by receiver, and two to one receiver stay in their order.
 #[test]
-fn links(rt: HostRuntime) -> Result<(), Fail> {
+fn links_ascend_by_receiver(rt: HostRuntime) -> Result<(), Fail> {
     let settings = Settings::new(4, 3, 2).ok_or("settings")?;
     let from = read_name(&settings, b"012")?;
     let far = read_name(&settings, b"301")?;
@@ -60,7 +60,7 @@ fn links(rt: HostRuntime) -> Result<(), Fail> {
 }
 
 #[test]
-fn one_link(rt: HostRuntime) -> Result<(), Fail> {
+fn a_word_is_sent_as_its_link(rt: HostRuntime) -> Result<(), Fail> {
     let settings = Settings::new(4, 3, 2).ok_or("settings")?;
     let from = read_name(&settings, b"012")?;
     let to = read_name(&settings, b"301")?;
@@ -73,7 +73,7 @@ fn one_link(rt: HostRuntime) -> Result<(), Fail> {
 
 // A frame of nine digits, and the same to two names.
 #[test]
-fn messages(rt: HostRuntime) -> Result<(), Fail> {
+fn messages_keep_their_order(rt: HostRuntime) -> Result<(), Fail> {
     let settings = Settings::new(2, 9, 1).ok_or("settings")?;
     let from = read_name(&settings, b"000000001")?;
     let one = read_name(&settings, b"000000010")?;
@@ -102,7 +102,7 @@ fn messages(rt: HostRuntime) -> Result<(), Fail> {
 
 // The node 012 tells of the joiner 120 with the prefix 0.
 #[test]
-fn tells(rt: HostRuntime) -> Result<(), Fail> {
+fn each_tell_has_the_level_of_its_target(rt: HostRuntime) -> Result<(), Fail> {
     let settings = Settings::new(4, 3, 2).ok_or("settings")?;
     let from = read_name(&settings, b"012")?;
     let mut watch = Watch::new(rt.alloc());
@@ -136,7 +136,7 @@ fn tells(rt: HostRuntime) -> Result<(), Fail> {
 }
 
 #[test]
-fn casts(rt: HostRuntime) -> Result<(), Fail> {
+fn each_cast_has_the_level_of_its_target(rt: HostRuntime) -> Result<(), Fail> {
     let settings = Settings::new(4, 3, 2).ok_or("settings")?;
     let from = read_name(&settings, b"012")?;
     let near = read_name(&settings, b"010")?;
@@ -169,7 +169,7 @@ fn casts(rt: HostRuntime) -> Result<(), Fail> {
 }
 
 #[test]
-fn lays(rt: HostRuntime) -> Result<(), Fail> {
+fn lays_keep_their_order(rt: HostRuntime) -> Result<(), Fail> {
     let settings = Settings::new(4, 3, 2).ok_or("settings")?;
     let from = read_name(&settings, b"012")?;
     let near = read_name(&settings, b"010")?;

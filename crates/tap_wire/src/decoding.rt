@@ -106,7 +106,7 @@ pub fn decode_head(settings: &Settings, bytes: &[u8]) -> Result<Head, HeadFault>
     ensures value { result ≡ head_of settings.now bytes.now }
     // Of bytes that are a frame it is that frame's head.
     ensures whole { (frame : Frame) → frame_of settings.now bytes.now ≡ Ok frame → result ≡ Ok (head_of_frame frame) }
-    // Each refusal comes exactly where it is the refusal of the whole frame.
+    // Each refusal comes exactly if it is the refusal of the whole frame.
     ensures agrees { (fault : HeadFault) → (result ≡ Err fault) ↔ (frame_of settings.now bytes.now ≡ Err (fault_of_head fault)) }
 {
     let opening = opening_of(settings, bytes)?;

@@ -3,7 +3,7 @@ use Rattle.std.proofs.lemmas.List.Elements.{All-cons, All-nil, All-same}
 use Rattle.tap_name.specs.Name.{IsName}
 use Rattle.tap_table.specs.declared.tie.Tie.{Tie}
 use Rattle.tap_turn.proofs.Spellings.{links_spelled}
-use Rattle.tap_turn.proofs.tests.links.Goals as goal
+use Rattle.tap_turn.proofs.tests.links_ascend_by_receiver.Goals as goal
 
 pub send_links-requires : goal.send_links-requires
 send_links-requires g c =

@@ -3,7 +3,7 @@ use Rattle.std.proofs.lemmas.List.Elements.{All-cons, All-nil}
 use Rattle.tap_name.specs.Name.{IsName}
 use Rattle.tap_table.specs.declared.tie.Tie.{Tie}
 use Rattle.tap_turn.proofs.Spellings.{links_spelled}
-use Rattle.tap_turn.proofs.tests.one_link.Goals as goal
+use Rattle.tap_turn.proofs.tests.a_word_is_sent_as_its_link.Goals as goal
 
 pub send_link-requires : goal.send_link-requires
 send_link-requires g c =
