@@ -41,7 +41,7 @@ pub fn frames_law()
 ///
 /// It does nothing: its contract is the law.
 ///
-/// Rule: docs/PROTOCOL.md, "Seek" and "Tell" and "Covers of a node" and "Hello" and "Done" and "The start of a join" and "Giving a join up".
+/// Rule: docs/PROTOCOL.md, "Seek", "Tell", "Covers of a node", "Hello", "Done", "The start of a join" and "Giving a join up".
 pub fn joins_law()
     ensures seek { SeekLaw }
     ensures tell { TellLaw }
