@@ -16,3 +16,4 @@ pub mod CastSteps
 pub mod PointerSteps
 pub mod CeasedSteps
 pub mod Fit
+pub mod HasRule

@@ -1,5 +1,5 @@
 -- The laws of the rule: what a step changes, and what it sends.
-use Rattle.std.specs.Prelude.{◌≡◌, ◌↔◌, ◌⊎◌, ◌≤◌, ◌+◌, Bool, ℕ, true, false, List, [], ◌∷◌, length, None, Some, Option}
+use Rattle.std.specs.Prelude.{◌≡◌, ◌≢◌, ◌↔◌, ◌⊎◌, ◌≤◌, ◌+◌, Bool, ℕ, true, false, List, [], ◌∷◌, length, None, Some, Option}
 use Rattle.tap_name.specs.Name.{IsName}
 use Rattle.tap_name.specs.Names.{AreDistinct, AreNames}
 use Rattle.tap_name.specs.Settings.{AreWithinLimits, SettingsValue}
@@ -27,6 +27,7 @@ use Rattle.tap_pointer.specs.Reconcile.{AreLaid, reconcile_lays, reconciled}
 use Rattle.tap_rule.specs.FrameRules.{rule_of_frame}
 use Rattle.tap_rule.specs.StartRules.{rule_of_start}
 use Rattle.tap_rule.specs.Act.{act}
+use Rattle.tap_rule.specs.HasRule.{HasRule, HasStartRule}
 use Rattle.tap_rule.specs.Kept.{IsNode, IsStart, KeepsNode}
 use Rattle.tap_rule.specs.Sent.{AreSent, AreSentInOrder}
 use Rattle.tap_rule.specs.Event.Start.{Abandon, Publish, Withdraw, Cast as CastStart, Find as FindStart, Join as JoinStart, Leave as LeaveStart}
@@ -309,3 +310,23 @@ abbrev pub JoiningCastLaw : Type 0
 JoiningCastLaw = (node : NodeState) (from : List ℕ) (cast level session depth : ℕ) (word : List ℕ) → node.status ≡ Joining
     → is_strange node (frame_to node from (Cast cast level session depth word)) ≡ false
     → AnsweredCastStep node (message from (CastAck session)) (act node (Takes (frame_to node from (Cast cast level session depth word))))
+
+-- a frame and a start have a rule exactly if the table of all rules says so; without one nothing changes, and a start isn't refused,
+-- nor is a frame that isn't strange
+abbrev pub HasRuleLaw : Type 0
+HasRuleLaw = (node : NodeState) (from : List ℕ) (body : Body)
+    → (rule_of_frame node.status node from body ≢ None) ↔ HasRule node.status body
+
+abbrev pub HasStartRuleLaw : Type 0
+HasStartRuleLaw = (node : NodeState) (start : Start)
+    → (rule_of_start node.status node start ≢ None) ↔ HasStartRule node.status start
+
+abbrev pub WithoutRuleLaw : Type 0
+WithoutRuleLaw = (node : NodeState) (frame : Frame) → (HasRule node.status frame.body → ⊥)
+    → IsIgnored node (act node (Takes frame)) × ((act node (Takes frame)).strange ≡ is_strange node frame)
+
+abbrev pub WithoutStartRuleLaw : Type 0
+WithoutStartRuleLaw = (node : NodeState) (start : Start) → (HasStartRule node.status start → ⊥)
+    → IsIgnored node (act node (Starts start)) × ((act node (Starts start)).strange ≡ false)
+
+-- what the frame of a message, of a word and of a Lay says, 

@@ -14,6 +14,7 @@ pub mod FrameRules
 pub mod StartRules
 pub mod Sending
 pub mod Act
+pub mod HasRule
 pub mod Sent
 pub mod Completed
 pub mod Fit
