@@ -17,3 +17,4 @@ pub mod PointerSteps
 pub mod CeasedSteps
 pub mod Fit
 pub mod HasRule
+pub mod Said

@@ -1,5 +1,5 @@
 -- The laws of the rule: what a step changes, and what it sends.
-use Rattle.std.specs.Prelude.{◌≡◌, ◌≢◌, ◌↔◌, ◌⊎◌, ◌≤◌, ◌+◌, Bool, ℕ, true, false, List, [], ◌∷◌, length, None, Some, Option}
+use Rattle.std.specs.Prelude.{◌≡◌, ◌≢◌, ◌↔◌, ◌⊎◌, ◌≤◌, ◌+◌, Bool, ℕ, true, false, List, [], ◌∷◌, ◌++◌, length, None, Some, Option}
 use Rattle.tap_name.specs.Name.{IsName}
 use Rattle.tap_name.specs.Names.{AreDistinct, AreNames}
 use Rattle.tap_name.specs.Settings.{AreWithinLimits, SettingsValue}
@@ -19,7 +19,9 @@ pub use Rattle.tap_rule.specs.Node.{IsRunning}
 use Rattle.tap_rule.specs.Event.{Acted, Event, Start}
 use Rattle.tap_rule.specs.Event.Event.{Starts, Takes}
 use Rattle.tap_rule.specs.Event.News.{Nothing}
-use Rattle.tap_rule.specs.Reaction.{Reaction, message}
+use Rattle.tap_rule.specs.Reaction.{Reaction, message, to_each}
+use Rattle.tap_rule.specs.Sending.{lay_frame, link_frame, message_frame}
+use Rattle.tap_rule.specs.Casts.{cast_news, cast_of}
 use Rattle.tap_rule.specs.Strange.{is_strange}
 use Rattle.tap_pointer.specs.declared.lay.Lay as lay
 use Rattle.tap_pointer.specs.Pointers.{pair_of, published, withdrawn}
@@ -28,6 +30,7 @@ use Rattle.tap_rule.specs.FrameRules.{rule_of_frame}
 use Rattle.tap_rule.specs.StartRules.{rule_of_start}
 use Rattle.tap_rule.specs.Act.{act}
 use Rattle.tap_rule.specs.HasRule.{HasRule, HasStartRule}
+use Rattle.tap_rule.specs.Said.{IsCastNews, IsFrameOf, IsOneEach}
 use Rattle.tap_rule.specs.Kept.{IsNode, IsStart, KeepsNode}
 use Rattle.tap_rule.specs.Sent.{AreSent, AreSentInOrder}
 use Rattle.tap_rule.specs.Event.Start.{Abandon, Publish, Withdraw, Cast as CastStart, Find as FindStart, Join as JoinStart, Leave as LeaveStart}
@@ -329,4 +332,26 @@ abbrev pub WithoutStartRuleLaw : Type 0
 WithoutStartRuleLaw = (node : NodeState) (start : Start) → (HasStartRule node.status start → ⊥)
     → IsIgnored node (act node (Starts start)) × ((act node (Starts start)).strange ≡ false)
 
--- what the frame of a message, of a word and of a Lay says, 
+-- what the frame of a message, of a word and of a Lay says, and what is said to each of these names
+abbrev pub MessageFrameLaw : Type 0
+MessageFrameLaw = (from to : List ℕ) (body : Body) → IsFrameOf from to body (message_frame from (message to body))
+
+abbrev pub LinkFrameLaw : Type 0
+LinkFrameLaw = (from to : List ℕ) (version : ℕ) (on : Bool)
+    → IsFrameOf from to (Link version on) (link_frame from (record { to = to; version = version; on = on }))
+
+abbrev pub LayFrameLaw : Type 0
+LayFrameLaw = (from to object server : List ℕ) (level version : ℕ) (on : Bool)
+    → IsFrameOf from to (Lay object server level version on)
+    (lay_frame from (record { to = to; object = object; server = server; level = level; version = version; on = on }))
+
+abbrev pub ToEachLaw : Type 0
+ToEachLaw = (body : Body) (names : List (List ℕ)) → IsOneEach body names (to_each body names)
+
+-- the news of a cast, and the cast of the session that was opened after as many as these
+abbrev pub CastNewsLaw : Type 0
+CastNewsLaw = (cast : ℕ) (reached closed : Bool) → IsCastNews cast reached closed (cast_news cast reached closed)
+
+abbrev pub CastOfLaw : Type 0
+CastOfLaw = (node : NodeState) (before after : List ℕ) (cast : ℕ) → node.cast_numbers ≡ before ++ cast ∷ after
+    → cast_of node (length before + 1) ≡ cast

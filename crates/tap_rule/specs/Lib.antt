@@ -15,6 +15,7 @@ pub mod StartRules
 pub mod Sending
 pub mod Act
 pub mod HasRule
+pub mod Said
 pub mod Sent
 pub mod Completed
 pub mod Fit
