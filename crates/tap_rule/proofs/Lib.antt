@@ -18,3 +18,4 @@ pub mod CeasedSteps
 pub mod Fit
 pub mod HasRule
 pub mod Said
+pub mod Begins

@@ -31,6 +31,7 @@ use Rattle.tap_rule.specs.StartRules.{rule_of_start}
 use Rattle.tap_rule.specs.Act.{act}
 use Rattle.tap_rule.specs.HasRule.{HasRule, HasStartRule}
 use Rattle.tap_rule.specs.Said.{IsCastNews, IsFrameOf, IsOneEach}
+use Rattle.tap_rule.specs.Begins.{BeginsAtRest, BeginsToJoin}
 use Rattle.tap_rule.specs.Kept.{IsNode, IsStart, KeepsNode}
 use Rattle.tap_rule.specs.Sent.{AreSent, AreSentInOrder}
 use Rattle.tap_rule.specs.Event.Start.{Abandon, Publish, Withdraw, Cast as CastStart, Find as FindStart, Join as JoinStart, Leave as LeaveStart}
@@ -355,3 +356,11 @@ CastNewsLaw = (cast : ℕ) (reached closed : Bool) → IsCastNews cast reached c
 abbrev pub CastOfLaw : Type 0
 CastOfLaw = (node : NodeState) (before after : List ℕ) (cast : ℕ) → node.cast_numbers ≡ before ++ cast ∷ after
     → cast_of node (length before + 1) ≡ cast
+
+-- how a node begins that starts to join, and how one of the members does
+abbrev pub BeginsToJoinLaw : Type 0
+BeginsToJoinLaw = (p : SettingsValue) (name : List ℕ) → BeginsToJoin p name (joiner p name)
+
+abbrev pub BeginsAtRestLaw : Type 0
+BeginsAtRestLaw = (p : SettingsValue) (members : List (List ℕ)) (name : List ℕ)
+    → BeginsAtRest p members name (member_at_rest p members name)

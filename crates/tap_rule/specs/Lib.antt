@@ -16,6 +16,7 @@ pub mod Sending
 pub mod Act
 pub mod HasRule
 pub mod Said
+pub mod Begins
 pub mod Sent
 pub mod Completed
 pub mod Fit
