@@ -349,7 +349,7 @@ LayFrameLaw = (from to object server : List ℕ) (level version : ℕ) (on : Boo
 abbrev pub ToEachLaw : Type 0
 ToEachLaw = (body : Body) (names : List (List ℕ)) → IsOneEach body names (to_each body names)
 
--- the news of a cast, and the cast of the session that was opened after as many as these
+-- the news of a cast; and the cast of a session, by how many were opened before it
 abbrev pub CastNewsLaw : Type 0
 CastNewsLaw = (cast : ℕ) (reached closed : Bool) → IsCastNews cast reached closed (cast_news cast reached closed)
 

@@ -19,7 +19,7 @@ pub record IsOneEach (body : Body) (names : List (List ℕ)) (messages : List Me
   pub receivers : map (λ message. message.to) messages ≡ names
   pub said : All (λ message. message.body ≡ body) messages
 
--- the news of a cast: none if it neither has reached the node nor is closed, and else both of it
+-- the news of a cast: none if it neither has reached the node nor is closed, and else which of the two it is
 pub record IsCastNews (cast : ℕ) (reached closed : Bool) (news : News) : Type 0 where
   pub nothing : (news ≡ Nothing) ↔ ((reached ≡ false) × (closed ≡ false))
   pub noted : (reached ≡ true) ⊎ (closed ≡ true) → news ≡ Cast cast reached closed
