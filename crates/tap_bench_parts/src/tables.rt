@@ -21,7 +21,7 @@ pub(crate) fn same_digits(settings: &Settings, digit: u8) -> Result<Name>
     ))
 }
 
-/// The name that has zeros alone but for one digit at this level, and its last digit.
+/// The name of zeros, with this last digit and then this digit at a level.
 pub(crate) fn name_in(settings: &Settings, level: usize, digit: u8, last: u8) -> Result<Name>
     ensures { IfOk result (IsName settings.now) }
 {
@@ -34,7 +34,7 @@ pub(crate) fn name_in(settings: &Settings, level: usize, digit: u8, last: u8) ->
     Name::from_digits(settings, &digits[..count]).map_err(|_| anyhow!("a name"))
 }
 
-/// Adds a link to a table: a settled one if its slot has room, or a pin.
+/// Adds a link to a table: a settled one if its slot has room, or a pin. The owner gets no link to itself.
 pub(crate) fn link(table: &mut Table, name: Name, settled: bool) -> Result<()>
     requires { IsName table.old.settings name }
     ensures owner { OnOk result (table.new.owner ≡ table.old.owner) }
