@@ -105,27 +105,10 @@ fn change(
     requires names { AreNamesHeld table.now.settings pointers.old }
 {
     for _turn in 0..count {
-        change_once(pointers, changed, table, stamp)?;
+        reconcile(pointers, changed, stamp)?;
+        reconcile(pointers, table, stamp)?;
     }
     Ok(())
-}
-
-// The same, once.
-fn change_once(
-    pointers: &mut Pointers,
-    changed: &Table,
-    table: &Table,
-    stamp: &mut Stamp,
-) -> Result<()>
-    requires owner { table.now.owner ≡ pointers.old.owner }
-    requires same { changed.now.owner ≡ table.now.owner }
-    requires settings { changed.now.settings ≡ table.now.settings }
-    requires names { AreNamesHeld table.now.settings pointers.old }
-    ensures owner { OnOk result (table.now.owner ≡ pointers.new.owner) }
-    ensures names { OnOk result (AreNamesHeld table.now.settings pointers.new) }
-{
-    reconcile(pointers, changed, stamp)?;
-    reconcile(pointers, table, stamp)
 }
 
 // The table of a node with a link in each slot.
