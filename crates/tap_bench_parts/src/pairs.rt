@@ -1,7 +1,8 @@
 ghost use Rattle.std.specs.Prelude.{◌≡◌, IfOk, OnOk};
 ghost use Rattle.tap_name.specs.Name.{IsName};
 ghost use Rattle.tap_pointer.specs.Pointers.{own_pair};
-ghost use Rattle.tap_pointer.specs.Reconcile.{AreLaid, AreLaidBut, AreNamesHeld};
+ghost use Rattle.tap_pointer.specs.Reconcile.{AreLaidBut, AreNamesHeld};
+ghost use Rattle.tap_bench_parts.specs.Settled.{AreSettled};
 
 use crate::Run;
 use crate::tables::{empty, link, name_in, same_digits, settings};
@@ -79,10 +80,8 @@ fn touch(
     object: Name,
     count: u32,
 ) -> Result<()>
-    requires owner { table.now.owner ≡ pointers.old.owner }
+    requires settled { AreSettled table.now pointers.old }
     requires name { IsName table.now.settings object }
-    requires names { AreNamesHeld table.now.settings pointers.old }
-    requires laid { AreLaid table.now pointers.old }
 {
     for _turn in 0..count {
         withdraw(pointers, table, stamp, object)?;
@@ -99,10 +98,9 @@ fn change(
     stamp: &mut Stamp,
     count: u32,
 ) -> Result<()>
-    requires owner { table.now.owner ≡ pointers.old.owner }
-    requires same { changed.now.owner ≡ table.now.owner }
+    requires settled { AreSettled table.now pointers.old }
+    requires owner { changed.now.owner ≡ table.now.owner }
     requires settings { changed.now.settings ≡ table.now.settings }
-    requires names { AreNamesHeld table.now.settings pointers.old }
 {
     for _turn in 0..count {
         reconcile(pointers, changed, stamp)?;
@@ -152,9 +150,7 @@ fn object_of(settings: &Settings, number: u32) -> Result<Name>
 
 // A node that has published so many objects, one after the other, and reconciled after each.
 fn published(alloc: Global, table: &Table, stamp: &mut Stamp, pairs: u32) -> Result<Pointers>
-    ensures owner { IfOk result (λ pointers. table.now.owner ≡ pointers.owner) }
-    ensures names { IfOk result (AreNamesHeld table.now.settings) }
-    ensures laid { IfOk result (AreLaid table.now) }
+    ensures { IfOk result (AreSettled table.now) }
 {
     let settings = table.settings();
     let mut pointers = Pointers::new(alloc, table.owner());
@@ -167,13 +163,9 @@ fn published(alloc: Global, table: &Table, stamp: &mut Stamp, pairs: u32) -> Res
 
 // Publishes an object, and reconciles its pair.
 fn publish(pointers: &mut Pointers, table: &Table, stamp: &mut Stamp, object: Name) -> Result<()>
-    requires owner { table.now.owner ≡ pointers.old.owner }
+    requires settled { AreSettled table.now pointers.old }
     requires name { IsName table.now.settings object }
-    requires names { AreNamesHeld table.now.settings pointers.old }
-    requires laid { AreLaid table.now pointers.old }
-    ensures owner { OnOk result (table.now.owner ≡ pointers.new.owner) }
-    ensures names { OnOk result (AreNamesHeld table.now.settings pointers.new) }
-    ensures laid { OnOk result (AreLaid table.now pointers.new) }
+    ensures { OnOk result (AreSettled table.now pointers.new) }
 {
     let Ok(_first) = pointers.publish(object) else {
         bail!("no memory");
@@ -183,13 +175,9 @@ fn publish(pointers: &mut Pointers, table: &Table, stamp: &mut Stamp, object: Na
 
 // Withdraws an object, and reconciles its pair.
 fn withdraw(pointers: &mut Pointers, table: &Table, stamp: &mut Stamp, object: Name) -> Result<()>
-    requires owner { table.now.owner ≡ pointers.old.owner }
+    requires settled { AreSettled table.now pointers.old }
     requires name { IsName table.now.settings object }
-    requires names { AreNamesHeld table.now.settings pointers.old }
-    requires laid { AreLaid table.now pointers.old }
-    ensures owner { OnOk result (table.now.owner ≡ pointers.new.owner) }
-    ensures names { OnOk result (AreNamesHeld table.now.settings pointers.new) }
-    ensures laid { OnOk result (AreLaid table.now pointers.new) }
+    ensures { OnOk result (AreSettled table.now pointers.new) }
 {
     pointers.withdraw(object);
     settle(pointers, table, stamp, object)
@@ -200,9 +188,7 @@ fn settle(pointers: &mut Pointers, table: &Table, stamp: &mut Stamp, object: Nam
     requires owner { table.now.owner ≡ pointers.old.owner }
     requires names { AreNamesHeld table.now.settings pointers.old }
     requires others { AreLaidBut table.now (own_pair pointers.old object) pointers.old }
-    ensures owner { OnOk result (table.now.owner ≡ pointers.new.owner) }
-    ensures names { OnOk result (AreNamesHeld table.now.settings pointers.new) }
-    ensures laid { OnOk result (AreLaid table.now pointers.new) }
+    ensures { OnOk result (AreSettled table.now pointers.new) }
 {
     if 4_000_000_000 < stamp.last() {
         bail!("too many Lays");
@@ -218,8 +204,7 @@ fn settle(pointers: &mut Pointers, table: &Table, stamp: &mut Stamp, object: Nam
 fn reconcile(pointers: &mut Pointers, table: &Table, stamp: &mut Stamp) -> Result<()>
     requires owner { table.now.owner ≡ pointers.old.owner }
     requires names { AreNamesHeld table.now.settings pointers.old }
-    ensures owner { OnOk result (table.now.owner ≡ pointers.new.owner) }
-    ensures names { OnOk result (AreNamesHeld table.now.settings pointers.new) }
+    ensures { OnOk result (AreSettled table.now pointers.new) }
 {
     if 4_000_000_000 < stamp.last() || 10_000_000 < pointers.span() {
         bail!("too many Lays");

@@ -1,9 +1,5 @@
-use Rattle.std.proofs.Common.{◌≡◌}
-use Rattle.tap_pointer.specs.Reconcile.{AreNamesHeld}
+use Rattle.tap_bench_parts.specs.Settled.{AreSettled}
 use Rattle.tap_bench_parts.proofs.pairs.change.Given as goal
 
 abbrev pub invariant-loop-turn : goal.invariant-loop-turn
-invariant-loop-turn l = record {
-  owner : l.table.owner ≡ l.pointers.owner;
-  names : AreNamesHeld l.table.settings l.pointers;
-}
+invariant-loop-turn l = AreSettled l.table l.pointers

@@ -9,10 +9,10 @@ pub settle-requires-clause-names : goal.settle-requires-clause-names
 settle-requires-clause-names c =
     let settings = c.args.table.now.settings in
     subst (AreNamesHeld settings) (sym c.in-Ok.ensures.after)
-    (names-published settings c.args.pointers.now c.requires.names c.args.object c.requires.name)
+    (names-published settings c.args.pointers.now c.requires.settled.names c.args.object c.requires.name)
 
 pub settle-requires-clause-others : goal.settle-requires-clause-others
 settle-requires-clause-others c =
     let t = c.args.table.now in
     let p = c.args.pointers.now in
-    subst (λ q. AreLaidBut t (own_pair q c.args.object) q) (sym c.in-Ok.ensures.after) (published_lays_others t c.args.object p c.requires.laid)
+    subst (λ q. AreLaidBut t (own_pair q c.args.object) q) (sym c.in-Ok.ensures.after) (published_lays_others t c.args.object p c.requires.settled.laid)

@@ -1,10 +1,5 @@
-use Rattle.std.proofs.Common.{◌≡◌}
-use Rattle.tap_pointer.specs.Reconcile.{AreLaid, AreNamesHeld}
+use Rattle.tap_bench_parts.specs.Settled.{AreSettled}
 use Rattle.tap_bench_parts.proofs.pairs.touch.Given as goal
 
 abbrev pub invariant-loop-turn : goal.invariant-loop-turn
-invariant-loop-turn l = record {
-  owner : l.table.owner ≡ l.pointers.owner;
-  names : AreNamesHeld l.table.settings l.pointers;
-  laid : AreLaid l.table l.pointers;
-}
+invariant-loop-turn l = AreSettled l.table l.pointers
