@@ -4,4 +4,5 @@ use Rattle.tap_multicast.specs.Covers.{MayWatch}
 use Rattle.tap_bench_parts.proofs.covers.is_of_level_0.Given as goal
 
 abbrev pub invariant-loop-slot : goal.invariant-loop-slot
-invariant-loop-slot l = (k : ℕ) (d : Slot) → k < l.slot-index → k < length l.slot-items → MayWatch l.base 0 (get_or l.slot-items k d)
+invariant-loop-slot l =
+    (k : ℕ) (d : Slot) → k < l.slot-index → k < length l.slot-items → MayWatch l.base 0 (get_or l.slot-items k d)

@@ -15,4 +15,5 @@ pub settle-requires-clause-others : goal.settle-requires-clause-others
 settle-requires-clause-others c =
     let t = c.args.table.now in
     let p = c.args.pointers.now in
-    subst (λ q. AreLaidBut t (own_pair q c.args.object) q) (sym c.in-Ok.ensures.after) (published_lays_others t c.args.object p c.requires.settled.laid)
+    subst (λ q. AreLaidBut t (own_pair q c.args.object) q) (sym c.in-Ok.ensures.after)
+    (published_lays_others t c.args.object p c.requires.settled.laid)
