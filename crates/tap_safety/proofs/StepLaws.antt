@@ -33,6 +33,7 @@ use Rattle.tap_safety.specs.StepLaws.{
 }
 use Rattle.tap_safety.proofs.FrameKeeps.{ceased_filled, joining_filled, plain_filled}
 use Rattle.tap_safety.proofs.Exchanged.{exchanged}
+  StrayIsLost,
 use Rattle.tap_safety.proofs.JoinSeeking.{join_seekers, join_seeking}
 use Rattle.tap_safety.proofs.DoneCalm.{filled_done}
 use Rattle.tap_safety.proofs.FrameWords.{frame_forgets, frame_says}
@@ -65,6 +66,9 @@ start_is_law p s x start node is = starts p s x start node is
 
 pub found_law : NumberIsFound
 found_law s number frame are among = found number frame 0 s.frames s.next are.numbers among
+
+pub stray_law : StrayIsLost
+stray_law p s number frame is nobody = lost p s number frame is nobody
 
 pub numbers_frame_law : NumbersKeptByFrame
 numbers_frame_law s s' number frame sent taken are = numbers_taken s s' number frame sent taken are

@@ -8,6 +8,7 @@ use Rattle.tap_rule.specs.Node.Status.{Joining, Core}
 use Rattle.tap_rule.specs.Event.{Start}
 use Rattle.tap_rule.specs.Event.Start.{Join, Abandon, Leave}
 use Rattle.tap_safety.specs.System.{System, AmongFrames, IsCoreNode}
+use Rattle.tap_safety.specs.Seeking.{HasNode}
 
 -- a node starts something, or the frame of this number is taken
 pub data Move : Type 0 where
@@ -49,12 +50,13 @@ may_start p s x Abandon = MayGiveUp s x
 may_start p s x Leave = MayLeave s x
 may_start p s x other = MayAct s x
 
--- a frame of this number is under way
-pub record HasNumber (s : System) (number : ℕ) : Type 0 where
+-- a frame of this number is under way, and its receiver is a node
+pub record MayArrive (s : System) (number : ℕ) : Type 0 where
   pub frame : Frame
   pub among : AmongFrames number frame s.frames
+  pub receiver : HasNode s frame.to
 
 -- the move is possible
 abbrev pub may_move : SettingsValue → System → Move → Type 0
 may_move p s (Begins x start) = may_start p s x start
-may_move p s (Delivers number) = HasNumber s number
+may_move p s (Delivers number) = MayArrive s number

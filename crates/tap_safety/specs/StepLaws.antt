@@ -9,8 +9,8 @@ use Rattle.tap_rule.specs.Node.{NodeState}
 use Rattle.tap_rule.specs.Event.{Start}
 use Rattle.tap_safety.specs.Frames.{HelloFields, tell_body}
 use Rattle.tap_safety.specs.System.{System, AmongFrames, IsCoreNode, IsJoiner, IsUnderWay}
-use Rattle.tap_safety.specs.Step.{AreNumbered, HasSent, IsTaken, numbered_from}
-use Rattle.tap_safety.specs.Moved.{HasDone, IsDelivered, IsStarted, numbered_frame, starter}
+use Rattle.tap_safety.specs.Step.{AreNumbered, Ascend, HasSent, IsTaken, numbered_from}
+use Rattle.tap_safety.specs.Moved.{HasDone, IsDelivered, IsLost, IsStarted, numbered_frame, starter}
 use Rattle.tap_safety.specs.Sessions.{AreExact, for_way, ways_of}
 use Rattle.tap_safety.specs.Turns.{Turns}
 use Rattle.tap_safety.specs.Bookkeeping.{AreStamped, Await, HavePlaces, KeepsPlaces, SendsDeeper, SendsIn, TellsAreDeeper, has_table}
@@ -48,6 +48,11 @@ DeliveryIsStep = (p : SettingsValue) (s : System) (number : ℕ) (frame : Frame)
     → numbered_frame number s.frames ≡ Some frame → s.node frame.to ≡ Some node → IsDelivered p s number frame node
 
 -- who starts something acts by its rule
+-- a frame to a name without a node is taken by nobody
+abbrev pub StrayIsLost : Type 0
+StrayIsLost = (p : SettingsValue) (s : System) (number : ℕ) (frame : Frame) → numbered_frame number s.frames ≡ Some frame
+    → s.node frame.to ≡ None → IsLost p s number frame
+
 abbrev pub StartIsStep : Type 0
 StartIsStep = (p : SettingsValue) (s : System) (x : List ℕ) (start : Start) (node : NodeState) → starter p s x start ≡ Some node
     → IsStarted p s x start node

@@ -1,4 +1,4 @@
-ghost use Rattle.tap_safety.specs.StepLaws.{DeliveryIsStep, NumberIsFound, NumbersKeptByFrame, NumbersKeptByStart, StartIsStep};
+ghost use Rattle.tap_safety.specs.StepLaws.{DeliveryIsStep, NumberIsFound, NumbersKeptByFrame, NumbersKeptByStart, StartIsStep, StrayIsLost};
 ghost use Rattle.tap_safety.specs.StepLaws.{FilledKeptByForget, FilledKeptByHello, FilledKeptByJoin, FilledKeptByPlainFrame};
 ghost use Rattle.tap_safety.specs.StepLaws.{FilledKeptByRelease, FilledKeptByStart, FilledKeptByTellCeased, FilledKeptByTellJoining};
 ghost use Rattle.tap_safety.specs.StepLaws.{SessionsKeptByClosing, SessionsKeptByHandingOn, SessionsKeptByLastAnswer};
@@ -21,8 +21,8 @@ ghost use Rattle.tap_safety.specs.Laws.{CoverKeptByTell, CoveredKeptByTell, Hole
 ghost use Rattle.tap_safety.specs.Laws.{NoSessionWithoutRoot, OnlyTheLastFrameIsLeft, OnlyTheRootIsLeft, SessionsKeptByOpening};
 ghost use Rattle.tap_safety.specs.Laws.{CoverKeptByKnownTell, QuietOnceDone, TiesKeptByLink, VersionsKeptByLink};
 
-/// A move: a frame that is delivered is taken by its receiver, and who starts something acts by its rule; no other node changes, and
-/// frames keep numbers that ascend, by which they are found.
+/// A move: a frame that is delivered is taken by its receiver, or by nobody if that is no node, and who starts something acts by its rule;
+/// no other node changes, and frames keep numbers that ascend, by which they are found.
 ///
 /// It does nothing: its contract is the law.
 ///
@@ -32,6 +32,7 @@ pub fn move_law()
     ensures start { StartIsStep }
     ensures found { NumberIsFound }
     ensures numbers { NumbersKeptByFrame }
+    ensures lost { StrayIsLost }
     ensures more { NumbersKeptByStart }
     ensures exchanged { FramesAreExchanged }
 {}
