@@ -25,6 +25,8 @@ pub mod Exchange
 pub mod Turns
 pub mod SessionsKept
 pub mod SessionLaws
+pub mod Apart
+pub mod AwaitedKept
 pub mod TiesKept
 pub mod VersionsKept
 pub mod TiesLaws

@@ -9,6 +9,8 @@ use Rattle.tap_safety.specs.StepLaws.{FilledKeptByDone, JoinersStayByFrame, Seek
 use Rattle.tap_safety.specs.StepLaws.{SoftKeptByKnownTell, SoftKeptByStart, SoftKeptByTell, TellsKeptByFrame}
 use Rattle.tap_safety.specs.StepLaws.{AwaitKeptByClosing, AwaitKeptByHandingOn, AwaitKeptByLastAnswer, AwaitKeptByOpening}
 use Rattle.tap_safety.specs.StepLaws.{AwaitKeptByOthers, AwaitKeptByRoot, ClosingTurns, DepthsKeptByTurn, HandingOnTurns}
+use Rattle.tap_safety.specs.StepLaws.{AwaitedKeptByClosing, AwaitedKeptByHandingOn, AwaitedKeptByLastAnswer, AwaitedKeptByOpening}
+use Rattle.tap_safety.specs.StepLaws.{AwaitedKeptByOthers, AwaitedKeptByRoot, NumbersAreNew}
 use Rattle.tap_safety.specs.StepLaws.{LastAnswerTurns, OpeningTurns, PlacesKeptByTurn, RootTurns}
 use Rattle.tap_safety.specs.StepLaws.{FilledKeptByKnownTell, FilledKeptBySeat, FilledKeptByTell, FramesAreExchanged, SeekingKeptByJoin, WordsSaidByFrame}
 use Rattle.tap_safety.specs.StepLaws.{
@@ -51,7 +53,8 @@ use Rattle.tap_safety.proofs.SeekingKept.{seekers_kept, seeking_kept, tells_kept
 use Rattle.tap_safety.proofs.SoftKept.{ceased_soft, forget_soft, hello_soft, joining_soft, plain_soft, release_soft}
 use Rattle.tap_safety.proofs.WordsKept.{words_ceased, words_ties, words_versions}
 use Rattle.tap_safety.proofs.LinkKeeps.{forget_filled, forget_way, hello_filled, release_filled}
-use Rattle.tap_safety.proofs.Moves.{delivers, found, numbers_sent, numbers_taken, starts}
+use Rattle.tap_safety.proofs.AwaitedKept.{closed_awaited, handed_on_awaited, last_awaited, left_awaited, opened_awaited, root_awaited}
+use Rattle.tap_safety.proofs.Moves.{ascend_numbered, delivers, found, lost, numbers_sent, numbers_taken, starts}
 use Rattle.tap_safety.proofs.PlacesKept.{closes_child_await, closes_root_await, deeper_kept, hands_on_await, leaves_await}
 use Rattle.tap_safety.proofs.PlacesKept.{opens_child_await, opens_root_await, places_kept}
 use Rattle.tap_safety.proofs.SessionsKept.{closes_child_turns, closes_root_turns, hands_on_turns, opens_child_turns, opens_root_turns}
@@ -119,6 +122,29 @@ others_law s s' step sound = left_exact s s' step sound
 pub joins_handing_on_law : JoinsKeptByHandingOn
 joins_handing_on_law s s' number f w k sent step sound stay none about_them =
     (hands_on_joiners s s' number f w k sent step sound stay none about_them, hands_on_ends s s' number f w k sent step sound stay none)
+pub awaited_handing_on_law : AwaitedKeptByHandingOn
+awaited_handing_on_law s s' number f w k sent step new exact numbered sound =
+    handed_on_awaited s s' number f w k sent step s'.next exact numbered new sound
+
+pub awaited_opening_law : AwaitedKeptByOpening
+awaited_opening_law s s' number f w k x l sent step new sound = opened_awaited s s' number f w k x l sent step s'.next new sound
+
+pub awaited_root_law : AwaitedKeptByRoot
+awaited_root_law s s' number f x l sent step new sound = root_awaited s s' number f x l sent step s'.next new sound
+
+pub awaited_closing_law : AwaitedKeptByClosing
+awaited_closing_law s s' number f x k w m sent step new exact numbered sound =
+    closed_awaited s s' number f x k w m sent step s'.next exact numbered new sound
+
+pub awaited_last_law : AwaitedKeptByLastAnswer
+awaited_last_law s s' number f x k sent step sound = last_awaited s s' number f x k sent step sound
+
+pub awaited_others_law : AwaitedKeptByOthers
+awaited_others_law s s' step sound = left_awaited s s' step sound
+
+pub numbers_new_law : NumbersAreNew
+numbers_new_law s s' number frame sent taken = rw taken.next (ascend_numbered s.next sent)
+
 
 pub joins_opening_law : JoinsKeptByOpening
 joins_opening_law s s' number f w k x l sent step sound stay none about_them = (

@@ -5,6 +5,7 @@ use Rattle.tap_safety.specs.Step.{AreNumbered}
 use Rattle.tap_safety.specs.Soft.{NamesSoft}
 use Rattle.tap_safety.specs.Seeking.{AreOfSeekers, Seeking}
 use Rattle.tap_safety.specs.Sessions.{AreExact}
+use Rattle.tap_safety.specs.Awaited.{AreAwaitedOnce}
 use Rattle.tap_safety.specs.Joins.{AreOfJoiners, EndsOnce}
 use Rattle.tap_safety.specs.Tells.{TellsAreSound}
 use Rattle.tap_safety.specs.Filled.{AreFilled}
@@ -19,6 +20,7 @@ pub record Invariant (p : SettingsValue) (s : System) : Type 0 where
   pub soft : NamesSoft s
   pub seeking : Seeking s
   pub exact : AreExact s
+  pub awaited : AreAwaitedOnce s
   pub of_joiners : AreOfJoiners s
   pub tells : TellsAreSound p s
   pub counted : AreCountedSo s

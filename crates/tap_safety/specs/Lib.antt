@@ -12,6 +12,7 @@ pub mod TellStep
 pub mod DoneStep
 pub mod Sessions
 pub mod SessionSteps
+pub mod Awaited
 pub mod Turns
 pub mod Joins
 pub mod Ties

@@ -12,6 +12,7 @@ use Rattle.tap_safety.specs.System.{System, AmongFrames, IsCoreNode, IsJoiner, I
 use Rattle.tap_safety.specs.Step.{AreNumbered, Ascend, HasSent, IsTaken, numbered_from}
 use Rattle.tap_safety.specs.Moved.{HasDone, IsDelivered, IsLost, IsStarted, numbered_frame, starter}
 use Rattle.tap_safety.specs.Sessions.{AreExact, for_way, ways_of}
+use Rattle.tap_safety.specs.Awaited.{AreAwaitedOnce}
 use Rattle.tap_safety.specs.Turns.{Turns}
 use Rattle.tap_safety.specs.Bookkeeping.{AreStamped, Await, HavePlaces, KeepsPlaces, SendsDeeper, SendsIn, TellsAreDeeper, has_table}
 use Rattle.tap_safety.specs.Joins.{AreAbout, AreOfJoiners, EndsOnce, JoinerIsNew, JoinersStay, NoDoneAmong, SendsDone}
@@ -122,6 +123,36 @@ SessionsKeptByLastAnswer = (s s' : System) (number : ℕ) (f : Frame) (x : List 
 
 abbrev pub SessionsKeptByOthers : Type 0
 SessionsKeptByOthers = (s s' : System) → LeavesSessions s s' → AreExact s → AreExact s'
+
+-- Each session that is open awaits each answer once, of sessions that are there: kept by the same kinds, if what is sent has new numbers.
+abbrev pub AwaitedKeptByHandingOn : Type 0
+AwaitedKeptByHandingOn = (s s' : System) (number : ℕ) (f : Frame) (w : List ℕ) (k : ℕ) (sent : List (ℕ × Frame))
+    → HandsOn s s' number f w k sent → Ascend s.next sent s'.next → AreExact s → AreNumbered s → AreAwaitedOnce s → AreAwaitedOnce s'
+
+abbrev pub AwaitedKeptByOpening : Type 0
+AwaitedKeptByOpening = (s s' : System) (number : ℕ) (f : Frame) (w : List ℕ) (k : ℕ) (x : List ℕ) (l : ℕ) (sent : List (ℕ × Frame))
+    → OpensChild s s' number f w k x l sent → Ascend s.next sent s'.next → AreAwaitedOnce s → AreAwaitedOnce s'
+
+abbrev pub AwaitedKeptByRoot : Type 0
+AwaitedKeptByRoot = (s s' : System) (number : ℕ) (f : Frame) (x : List ℕ) (l : ℕ) (sent : List (ℕ × Frame))
+    → OpensRoot s s' number f x l sent → Ascend s.next sent s'.next → AreAwaitedOnce s → AreAwaitedOnce s'
+
+abbrev pub AwaitedKeptByClosing : Type 0
+AwaitedKeptByClosing = (s s' : System) (number : ℕ) (f : Frame) (x : List ℕ) (k : ℕ) (w : List ℕ) (m : ℕ) (sent : List (ℕ × Frame))
+    → ClosesChild s s' number f x k w m sent → Ascend s.next sent s'.next → AreExact s → AreNumbered s → AreAwaitedOnce s
+    → AreAwaitedOnce s'
+
+abbrev pub AwaitedKeptByLastAnswer : Type 0
+AwaitedKeptByLastAnswer = (s s' : System) (number : ℕ) (f : Frame) (x : List ℕ) (k : ℕ) (sent : List (ℕ × Frame))
+    → ClosesRoot s s' number f x k sent → AreAwaitedOnce s → AreAwaitedOnce s'
+
+abbrev pub AwaitedKeptByOthers : Type 0
+AwaitedKeptByOthers = (s s' : System) → LeavesSessions s s' → AreAwaitedOnce s → AreAwaitedOnce s'
+
+-- what a step sends has such numbers
+abbrev pub NumbersAreNew : Type 0
+NumbersAreNew = (s s' : System) (number : ℕ) (frame : Frame) (sent : List Frame) → IsTaken s s' number frame sent
+    → Ascend s.next (numbered_from s.next sent) s'.next
 
 -- ---- whose the sessions are, and the one end of each join
 

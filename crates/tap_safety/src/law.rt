@@ -5,6 +5,8 @@ ghost use Rattle.tap_safety.specs.StepLaws.{SessionsKeptByClosing, SessionsKeptB
 ghost use Rattle.tap_safety.specs.StepLaws.{SessionsKeptByOthers, SessionsKeptByRoot};
 ghost use Rattle.tap_safety.specs.StepLaws.{FilledKeptByDone, JoinersStayByFrame, SeekingKeptByFrame, SoftKeptByDone, SoftKeptByJoin};
 ghost use Rattle.tap_safety.specs.StepLaws.{SoftKeptByKnownTell, SoftKeptByStart, SoftKeptByTell, TellsKeptByFrame};
+ghost use Rattle.tap_safety.specs.StepLaws.{AwaitedKeptByClosing, AwaitedKeptByHandingOn, AwaitedKeptByLastAnswer, AwaitedKeptByOpening};
+ghost use Rattle.tap_safety.specs.StepLaws.{AwaitedKeptByOthers, AwaitedKeptByRoot, NumbersAreNew};
 ghost use Rattle.tap_safety.specs.StepLaws.{AwaitKeptByClosing, AwaitKeptByHandingOn, AwaitKeptByLastAnswer, AwaitKeptByOpening};
 ghost use Rattle.tap_safety.specs.StepLaws.{AwaitKeptByOthers, AwaitKeptByRoot, ClosingTurns, DepthsKeptByTurn, HandingOnTurns};
 ghost use Rattle.tap_safety.specs.StepLaws.{LastAnswerTurns, OpeningTurns, PlacesKeptByTurn, RootTurns};
@@ -180,6 +182,22 @@ pub fn sessions_law()
 {}
 
 /// What the laws of Tells, Dones and Seeks ask for before the step: the invariant gives it, if nobody departs.
+/// Each open session awaits each answer once, and no session that isn't there, after each kind of step: a frame is answered, a session is
+/// opened below another or as a root, one is closed by its last answer, or a step leaves them alone.
+///
+/// It does nothing: its contract is the law.
+///
+/// Rule: docs/PROTOCOL.md, "Covers of a node".
+pub fn awaits_law()
+    ensures handed_on { AwaitedKeptByHandingOn }
+    ensures opened { AwaitedKeptByOpening }
+    ensures seated { AwaitedKeptByRoot }
+    ensures closed { AwaitedKeptByClosing }
+    ensures last { AwaitedKeptByLastAnswer }
+    ensures others { AwaitedKeptByOthers }
+    ensures numbers { NumbersAreNew }
+{}
+
 ///
 /// It does nothing: its contract is the law.
 ///
