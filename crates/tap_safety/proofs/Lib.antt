@@ -46,6 +46,7 @@ pub mod TellFilled
 pub mod RootSteps
 pub mod SeatSoft
 pub mod SeekOn
+pub mod CoverSeeking
 pub mod FromInvariant
 pub mod JoinSeeking
 pub mod StepLaws

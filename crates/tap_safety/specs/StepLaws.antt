@@ -18,7 +18,7 @@ use Rattle.tap_safety.specs.Bookkeeping.{AreStamped, Await, HavePlaces, KeepsPla
 use Rattle.tap_safety.specs.Joins.{AreAbout, AreOfJoiners, EndsOnce, JoinerIsNew, JoinersStay, NoDoneAmong, SendsDone}
 use Rattle.tap_safety.specs.SessionSteps.{ClosesChild, ClosesRoot, Exchanges, HandsOn, LeavesSessions, OpensChild, OpensRoot}
 use Rattle.tap_safety.specs.Seeking.{AreOfSeekers, IsSeeker, Seeking}
-use Rattle.tap_safety.specs.SeekerSteps.{BeforeJoin, LeavesSeekers, LeavesTells, SeekGoesOn, SeeksBy}
+use Rattle.tap_safety.specs.SeekerSteps.{BeforeJoin, LeavesSeekers, LeavesTells, SeekGoesOn, SeeksBy, SendsCovers}
 use Rattle.tap_safety.specs.Soft.{AddsSoundLinks, AreQuiet, AreSound, NamesSoft, SendsSound}
 use Rattle.tap_safety.specs.DoneStep.{BeforeDone, DoneIsTaken, NothingOnWay, TakesDone}
 use Rattle.tap_safety.specs.SeekStep.{BeforeSeat, SeatsJoiner}
@@ -48,12 +48,12 @@ abbrev pub DeliveryIsStep : Type 0
 DeliveryIsStep = (p : SettingsValue) (s : System) (number : ℕ) (frame : Frame) (node : NodeState)
     → numbered_frame number s.frames ≡ Some frame → s.node frame.to ≡ Some node → IsDelivered p s number frame node
 
--- who starts something acts by its rule
 -- a frame to a name without a node is taken by nobody
 abbrev pub StrayIsLost : Type 0
 StrayIsLost = (p : SettingsValue) (s : System) (number : ℕ) (frame : Frame) → numbered_frame number s.frames ≡ Some frame
     → s.node frame.to ≡ None → IsLost p s number frame
 
+-- who starts something acts by its rule
 abbrev pub StartIsStep : Type 0
 StartIsStep = (p : SettingsValue) (s : System) (x : List ℕ) (start : Start) (node : NodeState) → starter p s x start ≡ Some node
     → IsStarted p s x start node
@@ -364,6 +364,30 @@ SoftKeptBySeat = (p : SettingsValue) (s s' : System) (number : ℕ) (w x b : Lis
 abbrev pub SeekingKeptBySeek : Type 0
 SeekingKeptBySeek = (s s' : System) (number : ℕ) (w x b t : List ℕ) → SeekGoesOn s s' number w x b t → AreNumbered s
     → (Seeking s → Seeking s') × (AreOfSeekers s → AreOfSeekers s')
+
+-- a Tell at a core node, a Seek at the surrogate, and a Done: joining nodes that aren't started stay unknown, and Tells sound, if what is
+-- sent is so
+abbrev pub KeepsSeekers : System → System → Type 0
+KeepsSeekers s s' = (Seeking s → Seeking s') × (AreOfSeekers s → AreOfSeekers s')
+
+abbrev pub SeekingKeptByTell : Type 0
+SeekingKeptByTell = (p : SettingsValue) (s s' : System) (number : ℕ) (w x : List ℕ) (tell : TellFields) (watch : List Slot)
+    → (step : TakesTell s s' number w x tell watch) → IsCoreNode s x → IsJoiner s tell.joiner → SendsCovers p s' step.sent
+    → KeepsSeekers s s' × (TellsAreSound p s → TellsAreSound p s')
+
+abbrev pub SeekingKeptByKnownTell : Type 0
+SeekingKeptByKnownTell = (p : SettingsValue) (s s' : System) (number : ℕ) (w x : List ℕ) (tell : TellFields) (watch : List Slot)
+    → (step : TakesKnownTell s s' number w x tell watch) → IsCoreNode s x → IsJoiner s tell.joiner → SendsCovers p s' step.sent
+    → KeepsSeekers s s' × (TellsAreSound p s → TellsAreSound p s')
+
+abbrev pub SeekingKeptBySeat : Type 0
+SeekingKeptBySeat = (p : SettingsValue) (s s' : System) (number : ℕ) (w x b : List ℕ) → (step : SeatsJoiner p s s' number w x b)
+    → IsCoreNode s x → IsSeeker s b → SendsCovers p s' step.sent → AreNumbered s → Seeking s
+    → Seeking s' × (AreOfSeekers s → AreOfSeekers s') × (TellsAreSound p s → TellsAreSound p s')
+
+abbrev pub SeekingKeptByDone : Type 0
+SeekingKeptByDone = (p : SettingsValue) (s s' : System) (number : ℕ) (w e : List ℕ) → (step : TakesDone s s' number w e)
+    → NothingOnWay s e → SendsCovers p s' step.sent → KeepsSeekers s s' × (TellsAreSound p s → TellsAreSound p s')
 
 -- ---- what the laws of steps ask for, from the invariant
 

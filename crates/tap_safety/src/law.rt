@@ -12,6 +12,7 @@ ghost use Rattle.tap_safety.specs.StepLaws.{AwaitKeptByOthers, AwaitKeptByRoot, 
 ghost use Rattle.tap_safety.specs.StepLaws.{LastAnswerTurns, OpeningTurns, PlacesKeptByTurn, RootTurns};
 ghost use Rattle.tap_safety.specs.StepLaws.{FilledKeptByKnownTell, FilledKeptBySeat, FilledKeptByTell, FramesAreExchanged};
 ghost use Rattle.tap_safety.specs.StepLaws.{SeekingKeptByJoin, WordsSaidByFrame};
+ghost use Rattle.tap_safety.specs.StepLaws.{SeekingKeptByDone, SeekingKeptByKnownTell, SeekingKeptBySeat, SeekingKeptByTell};
 ghost use Rattle.tap_safety.specs.StepLaws.{InvariantGivesBefore, InvariantGivesQuiet, InvariantGivesSeat, InvariantGivesTell};
 ghost use Rattle.tap_safety.specs.StepLaws.{JoinerIsNewBySeat, JoinsKeptByRoot, SeekingKeptBySeek, SoftKeptBySeat};
 ghost use Rattle.tap_safety.specs.StepLaws.{CeasedKeptByWords, TiesKeptByWords, VersionsKeptByWords};
@@ -31,10 +32,10 @@ ghost use Rattle.tap_safety.specs.Laws.{CoverKeptByKnownTell, QuietOnceDone, Tie
 /// Rule: docs/PROTOCOL.md, "Steps of a node".
 pub fn move_law()
     ensures delivery { DeliveryIsStep }
+    ensures lost { StrayIsLost }
     ensures start { StartIsStep }
     ensures found { NumberIsFound }
     ensures numbers { NumbersKeptByFrame }
-    ensures lost { StrayIsLost }
     ensures more { NumbersKeptByStart }
     ensures exchanged { FramesAreExchanged }
 {}
@@ -181,7 +182,6 @@ pub fn sessions_law()
     ensures quiet { QuietOnceDone }
 {}
 
-/// What the laws of Tells, Dones and Seeks ask for before the step: the invariant gives it, if nobody departs.
 /// Each open session awaits each answer once, and no session that isn't there, after each kind of step: a frame is answered, a session is
 /// opened below another or as a root, one is closed by its last answer, or a step leaves them alone.
 ///
@@ -198,6 +198,7 @@ pub fn awaits_law()
     ensures numbers { NumbersAreNew }
 {}
 
+/// What the laws of Tells, Dones and Seeks ask for before the step: the invariant gives it, if nobody departs.
 ///
 /// It does nothing: its contract is the law.
 ///
@@ -247,7 +248,8 @@ pub fn ties_law()
 {}
 
 /// A step that starts nobody and makes known only nodes that are started: joining nodes that aren't started stay unknown but for their one
-/// Seek; and Tells stay such, if it leaves covers, joiners and core nodes.
+/// Seek; and Tells stay such, if it leaves covers, joiners and core nodes. Both are kept by a Tell at a core node, a Seek at the
+/// surrogate, and a Done, if what is sent is so.
 ///
 /// It does nothing: its contract is the law.
 ///
@@ -259,4 +261,8 @@ pub fn seeking_law()
     ensures goes_on { SeekingKeptBySeek }
     ensures tells_frame { TellsKeptByFrame }
     ensures joiners { JoinersStayByFrame }
+    ensures tell { SeekingKeptByTell }
+    ensures known { SeekingKeptByKnownTell }
+    ensures seat { SeekingKeptBySeat }
+    ensures done { SeekingKeptByDone }
 {}
