@@ -14,6 +14,8 @@ use Rattle.tap_safety.specs.Ties.{Ties, Versions}
 use Rattle.tap_safety.specs.Bookkeeping.{AreStamped, Await, HasCore, HaveEnds, HaveNames, HavePlaces, TellsAreDeeper}
 use Rattle.tap_safety.specs.Counted.{AreCountedSo}
 use Rattle.tap_safety.specs.Departing.{Departure}
+use Rattle.tap_safety.specs.Notices.{Notices}
+use Rattle.tap_safety.specs.Spelled.{AreAtMost, AreSpelled, most_names}
 
 pub record Invariant (p : SettingsValue) (s : System) : Type 0 where
   -- Settled, Seeking, Sessions
@@ -30,6 +32,7 @@ pub record Invariant (p : SettingsValue) (s : System) : Type 0 where
   pub ceased : Ceased s
   pub ties : Ties s
   pub departure : Departure s
+  pub notices : Notices s
   -- seekers, ends of joins, bookkeeping, versions, and the numbers of the frames
   pub seekers : AreOfSeekers s
   pub ends_once : EndsOnce s
@@ -41,5 +44,7 @@ pub record Invariant (p : SettingsValue) (s : System) : Type 0 where
   pub stamped : AreStamped s
   pub has_core : HasCore s
   pub numbered : AreNumbered s
-  -- names
+  -- names and spellings
   pub names : HaveNames p s
+  pub few : AreAtMost s most_names
+  pub spelled : AreSpelled p s

@@ -22,11 +22,13 @@ pub mod Bookkeeping
 pub mod SeekerSteps
 pub mod Ceased
 pub mod WordSteps
+pub mod Spelled
 pub mod Move
 pub mod Turned
 pub mod Moved
 pub mod Counted
 pub mod Departing
+pub mod Notices
 pub mod Invariant
 pub mod StepLaws
 pub mod Laws

@@ -9,16 +9,18 @@ use Rattle.tap_rule.specs.Event.{Start}
 use Rattle.tap_rule.specs.Event.Start.{Join, Abandon, Leave}
 use Rattle.tap_safety.specs.System.{System, AmongFrames, IsCoreNode}
 use Rattle.tap_safety.specs.Seeking.{HasNode}
+use Rattle.tap_safety.specs.Spelled.{AreAtMost}
 
 -- a node starts something, or the frame of this number is taken
 pub data Move : Type 0 where
   Begins : List ℕ → Start → Move
   Delivers : ℕ → Move
 
--- a new name may join, by a core node, while nobody departs
+-- a new name may join, by a core node, while nobody departs, if one more name has room
 pub record MayJoin (p : SettingsValue) (s : System) (x via : List ℕ) : Type 0 where
   pub name : IsName p x
   pub fresh : s.node x ≡ None
+  pub room : AreAtMost s 255
   pub core : IsCoreNode s via
   pub none_departs : s.departing ≡ None
 
