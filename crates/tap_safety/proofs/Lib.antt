@@ -46,6 +46,8 @@ pub mod TellFilled
 pub mod RootSteps
 pub mod SeatSoft
 pub mod SeekOn
+pub mod Known
+pub mod Peace
 pub mod CoverSeeking
 pub mod FromInvariant
 pub mod JoinSeeking

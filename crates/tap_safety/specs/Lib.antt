@@ -31,4 +31,5 @@ pub mod Departing
 pub mod Notices
 pub mod Invariant
 pub mod StepLaws
+pub mod KnownLaws
 pub mod Laws

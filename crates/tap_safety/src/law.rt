@@ -1,3 +1,6 @@
+ghost use Rattle.tap_safety.specs.KnownLaws.{CoreKept, EndsKeptByFrame, EndsKeptByStart, FewKept, FewKeptByJoin, NamesKept};
+ghost use Rattle.tap_safety.specs.KnownLaws.{FrameIsAtPeace, NoticesKeptAtPeace, PeaceIsKept, SpelledKeptByFrame, SpelledKeptByStart};
+ghost use Rattle.tap_safety.specs.KnownLaws.{StampsKeptByFrame, StampsKeptByStart};
 ghost use Rattle.tap_safety.specs.StepLaws.{DeliveryIsStep, NumberIsFound, NumbersKeptByFrame, NumbersKeptByStart, StartIsStep, StrayIsLost};
 ghost use Rattle.tap_safety.specs.StepLaws.{FilledKeptByForget, FilledKeptByHello, FilledKeptByJoin, FilledKeptByPlainFrame};
 ghost use Rattle.tap_safety.specs.StepLaws.{FilledKeptByRelease, FilledKeptByStart, FilledKeptByTellCeased, FilledKeptByTellJoining};
@@ -230,6 +233,37 @@ pub fn bookkeeping_law()
     ensures await_closed { AwaitKeptByClosing }
     ensures await_last { AwaitKeptByLastAnswer }
     ensures await_others { AwaitKeptByOthers }
+{}
+
+/// Whatever the kind of step: nodes have names of the settings, there are no more of them, or by a join one more; frames have spellings,
+/// if those that are sent have; their ends are known, and apart; some node is core; and words are stamped.
+///
+/// It does nothing: its contract is the law.
+///
+/// Rule: docs/PROTOCOL.md, "Steps of a node".
+pub fn known_law()
+    ensures names { NamesKept }
+    ensures few { FewKept }
+    ensures one_more { FewKeptByJoin }
+    ensures spelled_frame { SpelledKeptByFrame }
+    ensures spelled_start { SpelledKeptByStart }
+    ensures ends_frame { EndsKeptByFrame }
+    ensures ends_start { EndsKeptByStart }
+    ensures core { CoreKept }
+    ensures stamps_frame { StampsKeptByFrame }
+    ensures stamps_start { StampsKeptByStart }
+{}
+
+/// While nobody departs: a frame that is delivered leaves it so; a step that sends no notice keeps what is said of notices, and of
+/// departures, if it marks no link.
+///
+/// It does nothing: its contract is the law.
+///
+/// Rule: docs/PROTOCOL.md, "The start of a departure".
+pub fn peace_law()
+    ensures delivery { PeaceIsKept }
+    ensures notices { NoticesKeptAtPeace }
+    ensures frame { FrameIsAtPeace }
 {}
 
 /// A Link that is taken, and a step that says of each link that it changes: the last word of each node to each other one still stands if
