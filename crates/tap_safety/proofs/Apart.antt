@@ -28,7 +28,7 @@ append_apart (token ∷ others) two (fresh, first) second disjoint = (
 -- ---- in place of a frame
 
 -- a frame that isn't awaited is replaced by nothing
-for_way-none : (number : ℕ) (new tokens : List Token) → (AmongTokens (Way number) tokens → ⊥) → for_way number new tokens ≡ tokens
+pub for_way-none : (number : ℕ) (new tokens : List Token) → (AmongTokens (Way number) tokens → ⊥) → for_way number new tokens ≡ tokens
 unfolding for_way
 for_way-none number new [] none = cc
 for_way-none number new (Way other ∷ tokens) none =
@@ -69,7 +69,7 @@ for_way-apart number new (Child y l ∷ tokens) (first, apart) fresh disjoint = 
 
 -- ---- in place of a session
 
-for_child-none : (x : List ℕ) (k : ℕ) (new tokens : List Token) → (AmongTokens (Child x k) tokens → ⊥)
+pub for_child-none : (x : List ℕ) (k : ℕ) (new tokens : List Token) → (AmongTokens (Child x k) tokens → ⊥)
     → for_child x k new tokens ≡ tokens
 unfolding for_child
 for_child-none x k new [] none = cc

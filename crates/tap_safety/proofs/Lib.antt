@@ -46,6 +46,7 @@ pub mod TellFilled
 pub mod RootSteps
 pub mod SeatSoft
 pub mod SeekOn
+pub mod CountedKept
 pub mod Known
 pub mod Peace
 pub mod CoverSeeking

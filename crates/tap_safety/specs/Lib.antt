@@ -27,6 +27,7 @@ pub mod Move
 pub mod Turned
 pub mod Moved
 pub mod Counted
+pub mod CountSteps
 pub mod Departing
 pub mod Notices
 pub mod Invariant

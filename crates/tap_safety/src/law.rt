@@ -1,3 +1,5 @@
+ghost use Rattle.tap_safety.specs.CountSteps.{CountedKeptByAnswer, CountedKeptByAnswering, CountedKeptByClosing, CountedKeptByLastAnswer};
+ghost use Rattle.tap_safety.specs.CountSteps.{CountedKeptByOpening, CountedKeptByOthers, CountedKeptByRoot};
 ghost use Rattle.tap_safety.specs.KnownLaws.{CoreKept, EndsKeptByFrame, EndsKeptByStart, FewKept, FewKeptByJoin, NamesKept};
 ghost use Rattle.tap_safety.specs.KnownLaws.{FrameIsAtPeace, NoticesKeptAtPeace, PeaceIsKept, SpelledKeptByFrame, SpelledKeptByStart};
 ghost use Rattle.tap_safety.specs.KnownLaws.{StampsKeptByFrame, StampsKeptByStart};
@@ -199,6 +201,22 @@ pub fn awaits_law()
     ensures last { AwaitedKeptByLastAnswer }
     ensures others { AwaitedKeptByOthers }
     ensures numbers { NumbersAreNew }
+{}
+
+/// The sessions that are remembered are those that the nodes keep, waiting for as many answers as are awaited, after each kind of step: a
+/// frame is answered, or is an answer, a session is opened below another or as a root, one is closed, or none changes.
+///
+/// It does nothing: its contract is the law.
+///
+/// Rule: docs/PROTOCOL.md, "Covers of a node".
+pub fn counts_law()
+    ensures answering { CountedKeptByAnswering }
+    ensures answer { CountedKeptByAnswer }
+    ensures opened { CountedKeptByOpening }
+    ensures seated { CountedKeptByRoot }
+    ensures closed { CountedKeptByClosing }
+    ensures last { CountedKeptByLastAnswer }
+    ensures others { CountedKeptByOthers }
 {}
 
 /// What the laws of Tells, Dones and Seeks ask for before the step: the invariant gives it, if nobody departs.
