@@ -1,18 +1,14 @@
 -- What the frames, the names and the stamps of a system keep, whatever the kind of step.
-use Rattle.std.proofs.Common.{◌≡◌, inl, inr, ℕ, ◌+◌, ◌<◌, ◌≤◌, Bool, List, [], ◌∷◌, ◌++◌, ◌⊎◌, Option, None, Some, length, arith, refl, sym, ap, ◌∙◌}
-use Rattle.tap_name.specs.Name.{IsName}
-use Rattle.tap_name.specs.Names.{Among}
+use Rattle.std.proofs.Common.{◌≡◌, inl, inr, ℕ, ◌+◌, ◌≤◌, List, [], ◌∷◌, ◌⊎◌, Some, arith, sym, ap, ◌∙◌}
 use Rattle.tap_name.specs.Settings.{SettingsValue}
-use Rattle.tap_wire.specs.declared.frame.Body.TheVariants.{Link}
 use Rattle.tap_wire.specs.declared.frame.Frame.{Frame}
 use Rattle.tap_rule.specs.Node.{NodeState}
-use Rattle.tap_rule.specs.Sent.{IsAmong}
 use Rattle.tap_safety.specs.Remembered.{Word}
 use Rattle.tap_safety.specs.System.{System, AmongFrames, IsCoreNode}
-use Rattle.tap_safety.specs.Bookkeeping.{AreStamped, HaveEnds, HaveNames, has_table}
+use Rattle.tap_safety.specs.Bookkeeping.{AreStamped, HaveEnds, has_table}
 use Rattle.tap_safety.specs.Moved.{HasDone, last_after}
 use Rattle.tap_safety.specs.Seeking.{HasNode}
-use Rattle.tap_safety.specs.Spelled.{AreAtMost, AreSpelled, SendsSpelled}
+use Rattle.tap_safety.specs.Spelled.{AreSpelled, SendsSpelled}
 use Rattle.tap_safety.specs.Step.{ChangesAt, HasSent, IsTaken, numbered_from}
 use Rattle.tap_safety.specs.Ties.{Versions, word_frame}
 use Rattle.tap_safety.specs.KnownLaws.{
@@ -31,8 +27,6 @@ use Rattle.tap_safety.specs.KnownLaws.{
   StampsKeptByStart,
 }
 use Rattle.tap_safety.proofs.FrameWords.{last_cases}
-use Rattle.tap_safety.proofs.Moves.{ascend_from, ascend_numbered}
-use Rattle.tap_safety.proofs.TellKeeps.{node_before}
 use Rattle.tap_safety.proofs.Told.{among_either, among_sent, among_was}
 
 -- ---- nodes

@@ -1,10 +1,10 @@
 -- What a step keeps of departures while nobody departs.
-use Rattle.std.proofs.Common.{◌≡◌, inl, inr, ℕ, List, [], ◌∷◌, ◌⊎◌, Option, None, Some, refl, sym, ap, ◌∙◌}
+use Rattle.std.proofs.Common.{◌≡◌, inl, inr, ℕ, List, [], ◌∷◌, Option, None, Some, refl, sym, ap, ◌∙◌}
 use Rattle.tap_link.specs.declared.kind.Kind.TheVariants.{Leaving as Marked}
 use Rattle.tap_wire.specs.declared.frame.Body.{Body}
 use Rattle.tap_wire.specs.declared.frame.Body.TheVariants.{Gone, Leave, Left}
 use Rattle.tap_wire.specs.declared.frame.Frame.{Frame}
-use Rattle.tap_rule.specs.Node.{NodeState, link_to}
+use Rattle.tap_rule.specs.Node.{NodeState}
 use Rattle.tap_rule.specs.Node.Status.{Leaving}
 use Rattle.tap_safety.specs.Remembered.{Leaver}
 use Rattle.tap_safety.specs.System.{System, HasLink, IsUnderWay}
@@ -15,8 +15,9 @@ use Rattle.tap_rule.specs.Event.Event.{Takes}
 use Rattle.tap_safety.specs.Moved.{delivered, departing_with, has_taken, moved, numbered_frame, received, without}
 use Rattle.tap_safety.specs.Notices.{AreNoNotices, IsAtPeace, IsAwaiting, IsNotice, Notices}
 use Rattle.tap_safety.specs.Soft.{AddsSoundLinks}
-use Rattle.tap_safety.specs.Ties.{status_in, status_of}
+use Rattle.tap_safety.specs.Ties.{status_of}
 use Rattle.tap_safety.specs.KnownLaws.{FrameIsAtPeace, NoticesKeptAtPeace, PeaceIsKept}
+use Rattle.tap_safety.proofs.LinkKeeps.{some_state, status_at}
 use Rattle.tap_safety.proofs.SoftKept.{sent_each}
 use Rattle.tap_safety.proofs.SoftSteps.{links_sound}
 use Rattle.tap_safety.proofs.TellKeeps.{node_before}
@@ -47,10 +48,8 @@ module _ (s s' : System) (peace : IsAtPeace s s') (notices : Notices s) where
   no_notice x t body way is = notices.none x t body peace.was (peace.ways x t body way is) is
 
   nobody_awaits : (x a : List ℕ) → IsAwaiting s' x a → ⊥
-  unfolding status_of
   nobody_awaits x a awaiting =
-      let status : status_in (s'.node x) ≡ Some awaiting.state.status = rw awaiting.is refl in
-      peace.leaving x (status ∙ ap (λ status. Some status) awaiting.leaving)
+      peace.leaving x (status_at s' x awaiting.state awaiting.is ∙ ap (λ status. Some status) awaiting.leaving)
 
   nobody_departs : (leaver : Leaver) → s'.departing ≡ Some leaver → ⊥
   nobody_departs leaver departs = let no : None ≡ Some leaver = sym peace.is ∙ departs in cc
@@ -74,26 +73,17 @@ notices_law s s' peace notices = notices_kept s s' peace notices
 module _ (s s' : System) (number : ℕ) (frame : Frame) (step : TakesFrame s s' number frame) (none : AreNoNotices step.messages)
     (sound : AddsSoundLinks s' step.before step.after) (was : s.departing ≡ None) (is : s'.departing ≡ None) (departure : Departure s) where
   nobody_leaves : (x : List ℕ) → status_of s' x ≡ Some Leaving → ⊥
-  unfolding status_of
-  nobody_leaves x leaving = by (s'.node x) refl leaving
-    where
-      at_node : (state : NodeState) → s'.node x ≡ Some state → state.status ≡ Leaving → ⊥
-      at_node state node leaves =
-          elim (node_before s s' frame.to step.before step.after step.at x state node) [
-            | inl here ↦
-                let same = here.1 in
-                let status = step.stays.status in
-                let old : step.before.status ≡ Leaving = cc in
-                let there : status_in (s.node x) ≡ Some step.before.status = rw here.2 refl in
-                departure.leaving x was (there ∙ ap (λ status. Some status) old)
-            | inr there ↦
-                let old : status_in (s.node x) ≡ Some state.status = rw there refl in
-                departure.leaving x was (old ∙ ap (λ status. Some status) leaves)
-          ]
-
-      by : (node : Option NodeState) → s'.node x ≡ node → status_in node ≡ Some Leaving → ⊥
-      by None node status = let no : None ≡ Some Leaving = status in cc
-      by (Some state) node status = at_node state node (cc)
+  nobody_leaves x leaving =
+      let node = some_state s' x Leaving leaving in
+      elim (node_before s s' frame.to step.before step.after step.at x node.0 node.1) [
+        | inl here ↦
+            let same = here.1 in
+            let status = step.stays.status in
+            let leaves = node.2 in
+            let old : step.before.status ≡ Leaving = cc in
+            departure.leaving x was (status_at s x step.before here.2 ∙ ap (λ status. Some status) old)
+        | inr there ↦ departure.leaving x was (status_at s x node.0 there ∙ ap (λ status. Some status) node.2)
+      ]
 
   no_notice_comes : (x t : List ℕ) (body : Body) → IsUnderWay s' x t body → IsNotice body → IsUnderWay s x t body
   no_notice_comes x t body way notice =
