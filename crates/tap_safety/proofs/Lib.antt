@@ -47,6 +47,8 @@ pub mod RootSteps
 pub mod SeatSoft
 pub mod SeekOn
 pub mod CountedKept
+pub mod AtRest
+pub mod Rest
 pub mod Known
 pub mod Peace
 pub mod CoverSeeking

@@ -31,6 +31,8 @@ pub mod CountSteps
 pub mod Departing
 pub mod Notices
 pub mod Invariant
+pub mod AtRest
+pub mod Rest
 pub mod StepLaws
 pub mod KnownLaws
 pub mod Laws

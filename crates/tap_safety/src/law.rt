@@ -1,3 +1,5 @@
+ghost use Rattle.tap_safety.specs.AtRest.{InvariantAtRest};
+ghost use Rattle.tap_safety.specs.Rest.{RestHolds};
 ghost use Rattle.tap_safety.specs.CountSteps.{CountedKeptByAnswer, CountedKeptByAnswering, CountedKeptByClosing, CountedKeptByLastAnswer};
 ghost use Rattle.tap_safety.specs.CountSteps.{CountedKeptByOpening, CountedKeptByOthers, CountedKeptByRoot};
 ghost use Rattle.tap_safety.specs.KnownLaws.{CoreKept, EndsKeptByFrame, EndsKeptByStart, FewKept, FewKeptByJoin, NamesKept};
@@ -217,6 +219,17 @@ pub fn counts_law()
     ensures closed { CountedKeptByClosing }
     ensures last { CountedKeptByLastAnswer }
     ensures others { CountedKeptByOthers }
+{}
+
+/// The members with which an overlay begins, each core with its ties at rest, and nothing under way, have the invariant; and whatever
+/// system has it, nothing of joins and departures is left in it while no frame is under way.
+///
+/// It does nothing: its contract is the law.
+///
+/// Rule: docs/PROTOCOL.md, "Nodes".
+pub fn rest_law()
+    ensures members { InvariantAtRest }
+    ensures rest { RestHolds }
 {}
 
 /// What the laws of Tells, Dones and Seeks ask for before the step: the invariant gives it, if nobody departs.
