@@ -29,7 +29,7 @@ use Rattle.tap_table.proofs.Least.{is_slot-from, is_slot-to}
 use Rattle.tap_table.proofs.Near.{tied_itself, tied_names}
 use Rattle.tap_multicast.specs.Covers.{level_kept}
 use Rattle.tap_rule.specs.Node.{NodeState, Status, join_session_at, link_to, member_at_rest}
-use Rattle.tap_rule.specs.Node.Status.{Ceased as HasCeased, Core, Joining, Leaving}
+use Rattle.tap_rule.specs.Node.Status.{Ceased as HasCeased, Core, Gone, Joining, Leaving}
 use Rattle.tap_safety.specs.AtRest.{AreMembers, InvariantAtRest, system_at_rest, word_at_rest}
 use Rattle.tap_safety.specs.Bookkeeping.{HasCore}
 use Rattle.tap_safety.specs.Filled.{AreFilled}
@@ -420,6 +420,12 @@ module _ (p : SettingsValue) (members : List (List ℕ)) (are : AreMembers p mem
       once = λ x t said m k among. absurd among;
       stamp = λ x t said state is table last.
           let zero_is : said.version ≡ 0 = ap (λ w. w.version) (last_node x t said last).1 in omega arith;
+    };
+    ended = record {
+      none = λ x t kind link. (
+        λ gone. let no : Gone ≡ Core = (status_is x Gone gone).1 in cc,
+        λ ceased. let no : HasCeased ≡ Core = (status_is x HasCeased ceased).1 in cc,
+      );
     };
     has_core = some_core members refl;
     numbered = record { numbers = omega arith };

@@ -1,8 +1,9 @@
 -- What the frames, the names and the stamps of a system keep, whatever the kind of step.
-use Rattle.std.proofs.Common.{◌≡◌, inl, inr, ℕ, ◌+◌, ◌≤◌, List, [], ◌∷◌, ◌⊎◌, Some, arith, sym, ap, ◌∙◌}
+use Rattle.std.proofs.Common.{◌≡◌, inl, inr, ℕ, ◌+◌, ◌≤◌, List, [], ◌∷◌, ◌⊎◌, Option, Some, arith, sym, ap, ◌∙◌}
 use Rattle.tap_name.specs.Settings.{SettingsValue}
 use Rattle.tap_wire.specs.declared.frame.Frame.{Frame}
-use Rattle.tap_rule.specs.Node.{NodeState}
+use Rattle.tap_rule.specs.Node.{NodeState, Status}
+use Rattle.tap_rule.specs.Node.Status.{Ceased, Gone}
 use Rattle.tap_safety.specs.Remembered.{Word}
 use Rattle.tap_safety.specs.System.{System, AmongFrames, IsCoreNode}
 use Rattle.tap_safety.specs.Bookkeeping.{AreStamped, HaveEnds, has_table}
@@ -10,9 +11,10 @@ use Rattle.tap_safety.specs.Moved.{HasDone, last_after}
 use Rattle.tap_safety.specs.Seeking.{HasNode}
 use Rattle.tap_safety.specs.Spelled.{AreSpelled, SendsSpelled}
 use Rattle.tap_safety.specs.Step.{ChangesAt, HasSent, IsTaken, numbered_from}
-use Rattle.tap_safety.specs.Ties.{Versions, word_frame}
+use Rattle.tap_safety.specs.Ties.{Versions, status_of, word_frame}
 use Rattle.tap_safety.specs.KnownLaws.{
   CoreKept,
+  EndedKept,
   EndsKeptByFrame,
   EndsKeptByStart,
   FewKept,
@@ -26,6 +28,7 @@ use Rattle.tap_safety.specs.KnownLaws.{
   StampsKeptByFrame,
   StampsKeptByStart,
 }
+use Rattle.tap_safety.proofs.LinkKeeps.{status_at}
 use Rattle.tap_safety.proofs.FrameWords.{last_cases}
 use Rattle.tap_safety.proofs.Told.{among_either, among_sent, among_was}
 
@@ -82,6 +85,30 @@ core_kept s s' x after sent done stays has =
           | inl here ↦ inl here
           | inr same ↦ inr (record { state = core.state; is = same ∙ core.is; core = core.core })
         ]
+
+pub ended_kept : EndedKept
+ended_kept s s' x after sent done none ended = record {
+  none = λ y t kind link.
+      elim (done.others y) [
+        | inl here ↦
+            let there : s'.node y ≡ Some after = rw here done.is in
+            let is = link.is in
+            let same : link.state ≡ after = cc in
+            let apart = none t kind (rw same at link.link) in
+            let status = status_at s' y after there in (
+              λ gone. apart.0 (same_status after.status Gone (sym status ∙ gone)),
+              λ ceased. apart.1 (same_status after.status Ceased (sym status ∙ ceased)),
+            )
+        | inr same ↦
+            let was = ended.none y t kind (record { state = link.state; is = sym same ∙ link.is; link = link.link }) in
+            let status : status_of s' y ≡ status_of s y =
+            status_at s' y link.state link.is ∙ sym (status_at s y link.state (sym same ∙ link.is)) in
+            (λ gone. was.0 (sym status ∙ gone), λ ceased. was.1 (sym status ∙ ceased))
+      ];
+}
+  where
+    same_status : (one two : Status) → ◌≡◌ {A = Option Status} (Some one) (Some two) → one ≡ two
+    same_status one two same = cc
 
 -- ---- frames
 

@@ -7,7 +7,7 @@ use Rattle.tap_link.specs.declared.kind.Kind.{Kind}
 use Rattle.tap_link.specs.declared.kind.Kind.TheVariants.{Pin}
 use Rattle.tap_wire.specs.declared.frame.Frame.{Frame}
 use Rattle.tap_rule.specs.Node.{NodeState, Status}
-use Rattle.tap_rule.specs.Node.Status.{Ceased as HasCeased, Core, Joining, Leaving}
+use Rattle.tap_rule.specs.Node.Status.{Ceased as HasCeased, Core, Gone, Joining, Leaving}
 use Rattle.tap_safety.specs.Remembered.{Leaver, OpenSession, Token}
 use Rattle.tap_safety.specs.Remembered.Token.{Way, Child}
 use Rattle.tap_safety.specs.System.{System, AmongFrames}
@@ -197,6 +197,16 @@ module _ (p : SettingsValue) (s : System) (invariant : Invariant p s) (rest : s.
             | inr forget ↦ no_frame forget.number _ forget.among
           ]
 
+  unpinned : (x t : List ℕ) → Pins s x t → ⊥
+  unpinned x t pin = by pin.state.status refl
+    where
+      by : (status : Status) → pin.state.status ≡ status → ⊥
+      by Joining is = nobody_joins x (status_seen s x pin.state Joining pin.is is)
+      by Core is = no_pin x t (status_seen s x pin.state Core pin.is is) pin
+      by Leaving is = nobody_leaves x (status_seen s x pin.state Leaving pin.is is)
+      by Gone is = (invariant.ended.none x t Pin pin).0 (status_seen s x pin.state Gone pin.is is)
+      by HasCeased is = (invariant.ended.none x t Pin pin).1 (status_seen s x pin.state HasCeased pin.is is)
+
   -- ---- holders
 
   module _ (x t : List ℕ) (core : status_of s t ≡ Some Core) where
@@ -232,7 +242,7 @@ module _ (p : SettingsValue) (s : System) (invariant : Invariant p s) (rest : s.
     sessions = no_session;
     joining = nobody_joins;
     leaving = nobody_leaves;
-    pins = no_pin;
+    pins = unpinned;
     holders = λ x t core. (registered x t core, linked x t core);
   }
 

@@ -4,10 +4,12 @@ use Rattle.tap_name.specs.Name.{IsName}
 use Rattle.tap_name.specs.Settings.{SettingsValue}
 use Rattle.tap_wire.specs.declared.frame.Body.TheVariants.{Link}
 use Rattle.tap_wire.specs.declared.frame.Frame.{Frame}
-use Rattle.tap_rule.specs.Node.{NodeState}
+use Rattle.tap_link.specs.declared.kind.Kind.{Kind}
+use Rattle.tap_rule.specs.Node.{NodeState, link_to}
+use Rattle.tap_rule.specs.Node.Status.{Ceased, Gone}
 use Rattle.tap_rule.specs.Sent.{IsAmong}
 use Rattle.tap_safety.specs.System.{System, IsCoreNode}
-use Rattle.tap_safety.specs.Bookkeeping.{AreStamped, HasCore, HaveEnds, HaveNames, has_table}
+use Rattle.tap_safety.specs.Bookkeeping.{AreStamped, EndedHaveNone, HasCore, HaveEnds, HaveNames, has_table}
 use Rattle.tap_safety.specs.Departing.{Departure}
 use Rattle.tap_safety.specs.FrameSteps.{TakesFrame}
 use Rattle.tap_safety.specs.Move.Move.{Delivers}
@@ -64,6 +66,14 @@ EndsKeptByStart = (s s' : System) (x : List ℕ) (after : NodeState) (sent : Lis
 abbrev pub CoreKept : Type 0
 CoreKept = (s s' : System) (x : List ℕ) (after : NodeState) (sent : List Frame) → HasDone s s' x after sent
     → (IsCoreNode s x → IsCoreNode s' x) ⊎ ((y : List ℕ) × IsCoreNode s y × (y ≡ x → ⊥)) → HasCore s → HasCore s'
+
+-- ---- ended nodes
+
+-- a node that has ended has no link, if the one that acts has none once it has ended
+abbrev pub EndedKept : Type 0
+EndedKept = (s s' : System) (x : List ℕ) (after : NodeState) (sent : List Frame) → HasDone s s' x after sent
+    → ((t : List ℕ) (kind : Kind) → link_to after t ≡ Some kind → (after.status ≡ Gone → ⊥) × (after.status ≡ Ceased → ⊥))
+    → EndedHaveNone s → EndedHaveNone s'
 
 -- ---- stamps
 

@@ -10,13 +10,13 @@ use Rattle.tap_safety.specs.Ceased.{IsRegistered}
 use Rattle.tap_safety.specs.Ties.{status_of}
 use Rattle.tap_safety.specs.Invariant.{Invariant}
 
--- No session is open, nobody joins and nobody leaves; a core node has no pin; and of two nodes, the second one core, the first is a holder that
+-- No session is open, nobody joins and nobody leaves; no node has a pin; and of two nodes, the second one core, the first is a holder that
 -- is on exactly if it has a link to the second.
 pub record Rest (s : System) : Type 0 where
   pub sessions : (x : List ℕ) (k : ℕ) (session : OpenSession) → IsOpen s x k session → ⊥
   pub joining : (x : List ℕ) → status_of s x ≡ Some Joining → ⊥
   pub leaving : (x : List ℕ) → status_of s x ≡ Some Leaving → ⊥
-  pub pins : (x t : List ℕ) → status_of s x ≡ Some Core → Pins s x t → ⊥
+  pub pins : (x t : List ℕ) → Pins s x t → ⊥
   pub holders : (x t : List ℕ) → status_of s t ≡ Some Core → Has s x t ↔ IsRegistered s x t
 
 abbrev pub RestHolds : Type 0

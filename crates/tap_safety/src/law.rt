@@ -2,7 +2,8 @@ ghost use Rattle.tap_safety.specs.AtRest.{InvariantAtRest};
 ghost use Rattle.tap_safety.specs.Rest.{RestHolds};
 ghost use Rattle.tap_safety.specs.CountSteps.{CountedKeptByAnswer, CountedKeptByAnswering, CountedKeptByClosing, CountedKeptByLastAnswer};
 ghost use Rattle.tap_safety.specs.CountSteps.{CountedKeptByOpening, CountedKeptByOthers, CountedKeptByRoot};
-ghost use Rattle.tap_safety.specs.KnownLaws.{CoreKept, EndsKeptByFrame, EndsKeptByStart, FewKept, FewKeptByJoin, NamesKept};
+ghost use Rattle.tap_safety.specs.KnownLaws.{CoreKept, EndedKept, EndsKeptByFrame, EndsKeptByStart, FewKept, FewKeptByJoin, NamesKept};
+ghost use Rattle.tap_safety.specs.KnownLaws.{DepartsUntilRest, FrameLeavesNotices, NoticesKeptBySteps};
 ghost use Rattle.tap_safety.specs.KnownLaws.{FrameIsAtPeace, NoticesKeptAtPeace, PeaceIsKept, SpelledKeptByFrame, SpelledKeptByStart};
 ghost use Rattle.tap_safety.specs.KnownLaws.{StampsKeptByFrame, StampsKeptByStart};
 ghost use Rattle.tap_safety.specs.StepLaws.{DeliveryIsStep, NumberIsFound, NumbersKeptByFrame, NumbersKeptByStart, StartIsStep, StrayIsLost};
@@ -267,7 +268,8 @@ pub fn bookkeeping_law()
 {}
 
 /// Whatever the kind of step: nodes have names of the settings, there are no more of them, or by a join one more; frames have spellings,
-/// if those that are sent have; their ends are known, and apart; some node is core; and words are stamped.
+/// if those that are sent have; their ends are known, and apart; some node is core; a node that has ended has no link;
+/// and words are stamped.
 ///
 /// It does nothing: its contract is the law.
 ///
@@ -281,6 +283,7 @@ pub fn known_law()
     ensures ends_frame { EndsKeptByFrame }
     ensures ends_start { EndsKeptByStart }
     ensures core { CoreKept }
+    ensures ended { EndedKept }
     ensures stamps_frame { StampsKeptByFrame }
     ensures stamps_start { StampsKeptByStart }
 {}
