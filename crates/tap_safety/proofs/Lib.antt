@@ -51,6 +51,7 @@ pub mod AtRest
 pub mod Rest
 pub mod Known
 pub mod Peace
+pub mod NoticesKept
 pub mod CoverSeeking
 pub mod FromInvariant
 pub mod JoinSeeking

@@ -1,5 +1,5 @@
 -- The laws of what the frames, the names and the stamps of a system keep, whatever the kind of step.
-use Rattle.std.specs.Prelude.{◌≡◌, ◌⊎◌, ℕ, ◌+◌, ◌<◌, ◌≤◌, Bool, List, [], ◌∷◌, None}
+use Rattle.std.specs.Prelude.{◌≡◌, ◌⊎◌, ℕ, ◌+◌, ◌<◌, ◌≤◌, Bool, List, [], ◌∷◌, None, Some}
 use Rattle.tap_name.specs.Name.{IsName}
 use Rattle.tap_name.specs.Settings.{SettingsValue}
 use Rattle.tap_wire.specs.declared.frame.Body.TheVariants.{Link}
@@ -14,7 +14,7 @@ use Rattle.tap_safety.specs.Departing.{Departure}
 use Rattle.tap_safety.specs.FrameSteps.{TakesFrame}
 use Rattle.tap_safety.specs.Move.Move.{Delivers}
 use Rattle.tap_safety.specs.Moved.{HasDone, moved}
-use Rattle.tap_safety.specs.Notices.{AreNoNotices, IsAtPeace, Notices}
+use Rattle.tap_safety.specs.Notices.{AreNoNotices, IsAtPeace, IsNoticeless, LeavesNotices, Notices, UntilRest}
 use Rattle.tap_safety.specs.Seeking.{HasNode}
 use Rattle.tap_safety.specs.Soft.{AddsSoundLinks}
 use Rattle.tap_safety.specs.Spelled.{AreAtMost, AreSpelled, SendsSpelled}
@@ -108,6 +108,17 @@ PeaceIsKept = (p : SettingsValue) (s : System) (number : ℕ) → s.departing �
 
 abbrev pub NoticesKeptAtPeace : Type 0
 NoticesKeptAtPeace = (s s' : System) → IsAtPeace s s' → Notices s → Notices s'
+
+-- whoever departs does so until no frame is under way
+abbrev pub DepartsUntilRest : Type 0
+DepartsUntilRest = (p : SettingsValue) (s : System) (number : ℕ) → UntilRest s (moved p s (Delivers number))
+
+abbrev pub NoticesKeptBySteps : Type 0
+NoticesKeptBySteps = (s s' : System) → LeavesNotices s s' → Notices s → Notices s'
+
+abbrev pub FrameLeavesNotices : Type 0
+FrameLeavesNotices = (s s' : System) (number : ℕ) (frame : Frame) → (step : TakesFrame s s' number frame)
+    → IsNoticeless s s' number frame step → LeavesNotices s s'
 
 -- a frame whose taker stays what it is, marks no link and sends no notice is such a step, and nobody departs or is marked after it
 abbrev pub FrameIsAtPeace : Type 0

@@ -1,7 +1,8 @@
 -- The notices of a departure: who sends them, and to whom.
-use Rattle.std.specs.Prelude.{◌≡◌, ℕ, true, List, ◌⊎◌, Option, None, Some}
+use Rattle.std.specs.Prelude.{◌≡◌, ℕ, true, false, List, [], ◌⊎◌, Option, None, Some}
 use Rattle.tap_name.specs.Names.{Among}
 use Rattle.tap_link.specs.declared.kind.Kind.TheVariants.{Leaving as Marked}
+use Rattle.tap_table.specs.declared.tie.Tie.{Tie}
 use Rattle.tap_wire.specs.declared.frame.Body.{Body}
 use Rattle.tap_wire.specs.declared.frame.Body.TheVariants.{Gone, Leave, Left, Link}
 use Rattle.tap_wire.specs.declared.frame.Frame.{Frame}
@@ -12,6 +13,7 @@ use Rattle.tap_rule.specs.Sent.{IsAmong}
 use Rattle.tap_safety.specs.Remembered.{Leaver}
 use Rattle.tap_safety.specs.System.{System, AmongFrames, IsUnderWay}
 use Rattle.tap_safety.specs.Departing.{Departs}
+use Rattle.tap_safety.specs.FrameSteps.{LinksStay, TakesFrame}
 use Rattle.tap_safety.specs.Ties.{link_of, status_of}
 
 -- a Leave, a Left or a Gone
@@ -66,3 +68,31 @@ pub record IsAtPeace (s s' : System) : Type 0 where
 -- no message is a notice
 abbrev pub AreNoNotices : List Message → Type 0
 AreNoNotices messages = (m : Message) → IsAmong m messages → IsNotice m.body → ⊥
+
+-- whoever departs does so until no frame is under way
+abbrev pub UntilRest : System → System → Type 0
+UntilRest s s' = (s'.departing ≡ None → (s.departing ≡ None) ⊎ (s'.frames ≡ []))
+    × ((leaver : Leaver) → s'.departing ≡ Some leaver → s.departing ≡ Some leaver)
+
+-- No notice goes or comes, whoever departs does so until no frame is under way, and nobody awaits other answers; the links to the leaver
+-- stay, and each word of a new link that comes is to a node that neither leaves nor has ceased.
+pub record LeavesNotices (s s' : System) : Type 0 where
+  pub until_rest : UntilRest s s'
+  pub awaits : (x a : List ℕ) → IsAwaiting s x a → IsAwaiting s' x a
+  pub awaited : (x a : List ℕ) → IsAwaiting s' x a → IsAwaiting s x a
+  pub still : (m : ℕ) (f : Frame) → IsNotice f.body → AmongFrames m f s.frames → AmongFrames m f s'.frames
+  pub was : (m : ℕ) (f : Frame) → IsNotice f.body → AmongFrames m f s'.frames → AmongFrames m f s.frames
+  pub status : (x : List ℕ) → status_of s' x ≡ status_of s x
+  pub links : (leaver : Leaver) (a : List ℕ) → Departs s leaver → link_of s' a leaver.name ≡ link_of s a leaver.name
+  pub words : (x t : List ℕ) (version : ℕ) → IsUnderWay s' x t (Link version true) → IsUnderWay s x t (Link version true)
+      ⊎ ((status_of s' t ≡ Some Leaving → ⊥) × (status_of s' t ≡ Some HasCeased → ⊥))
+
+-- a frame that is no notice, whose taker keeps its links and whom it awaits, and says of no new link
+pub record IsNoticeless (s s' : System) (number : ℕ) (frame : Frame) (step : TakesFrame s s' number frame) : Type 0 where
+  pub until_rest : UntilRest s s'
+  pub links : LinksStay step.before step.after
+  pub awaited : step.after.awaited ≡ step.before.awaited
+  pub taken : IsNotice frame.body → ⊥
+  pub messages : AreNoNotices step.messages
+  pub words : (m : Message) → IsAmong m step.messages → (version : ℕ) → m.body ≡ Link version true → ⊥
+  pub off : (tie : Tie) → IsAmong tie step.words → tie.on ≡ false

@@ -289,7 +289,8 @@ pub fn known_law()
 {}
 
 /// While nobody departs: a frame that is delivered leaves it so; a step that sends no notice keeps what is said of notices, and of
-/// departures, if it marks no link.
+/// departures, if it marks no link. Whoever departs does so until no frame is under way, and what is said of notices is kept meanwhile
+/// by a frame that is none, whose taker keeps its links, sends no notice, and says of no new link.
 ///
 /// It does nothing: its contract is the law.
 ///
@@ -298,6 +299,9 @@ pub fn peace_law()
     ensures delivery { PeaceIsKept }
     ensures notices { NoticesKeptAtPeace }
     ensures frame { FrameIsAtPeace }
+    ensures until_rest { DepartsUntilRest }
+    ensures steps { NoticesKeptBySteps }
+    ensures other_frame { FrameLeavesNotices }
 {}
 
 /// A Link that is taken, and a step that says of each link that it changes: the last word of each node to each other one still stands if
