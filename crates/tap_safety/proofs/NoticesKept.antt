@@ -1,16 +1,13 @@
 -- What is said of notices is kept by a step that takes none and sends none.
-use Rattle.std.proofs.Common.{◌≡◌, inl, inr, ℕ, ◌+◌, true, false, List, [], ◌∷◌, ◌⊎◌, Option, None, Some, refl, sym, ap, ◌∙◌}
+use Rattle.std.proofs.Common.{◌≡◌, inl, inr, ℕ, true, false, List, [], ◌∷◌, ◌⊎◌, Option, None, Some, refl, sym, ap, ◌∙◌}
 use Rattle.std.proofs.lemmas.Bool.{true≢false}
-use Rattle.tap_name.specs.Settings.{SettingsValue}
-use Rattle.tap_table.specs.declared.tie.Tie.{Tie}
 use Rattle.tap_wire.specs.declared.frame.Body.{Body}
 use Rattle.tap_wire.specs.declared.frame.Body.TheVariants.{Gone, Leave, Left, Link}
 use Rattle.tap_wire.specs.declared.frame.Frame.{Frame}
 use Rattle.tap_rule.specs.Act.{act}
 use Rattle.tap_rule.specs.Event.Event.{Takes}
-use Rattle.tap_rule.specs.Node.{NodeState, link_to}
-use Rattle.tap_rule.specs.Sending.{lay_frame, link_frame, message_frame}
-use Rattle.tap_rule.specs.Sent.{IsAmong}
+use Rattle.tap_rule.specs.Node.{NodeState}
+use Rattle.tap_rule.specs.Sending.{lay_frame}
 use Rattle.tap_safety.specs.Remembered.{Leaver}
 use Rattle.tap_safety.specs.System.{System, AmongFrames, IsUnderWay}
 use Rattle.tap_safety.specs.FrameSteps.{TakesFrame}
