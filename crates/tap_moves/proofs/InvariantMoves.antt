@@ -13,8 +13,8 @@ use Rattle.tap_wire.specs.declared.frame.Body.{Body}
 use Rattle.tap_wire.specs.declared.frame.Body.TheVariants.{Ack, Done, Forget, Heard, Hello, Link, Release, Seek, Tell}
 use Rattle.tap_wire.specs.declared.frame.TellFields.{TellFields}
 use Rattle.tap_rule.specs.Laws.{frame_to}
-use Rattle.tap_rule.specs.Node.{NodeState, name_of, settings_of}
-use Rattle.tap_rule.specs.Node.Status.{Core, Joining, Leaving}
+use Rattle.tap_rule.specs.Node.{IsRunning, NodeState, Status, name_of, settings_of}
+use Rattle.tap_rule.specs.Node.Status.{Ceased, Core, Gone, Joining, Leaving}
 use Rattle.tap_rule.specs.Sent.{IsAmong}
 use Rattle.tap_safety.specs.Departing.{may_be_then}
 use Rattle.tap_safety.specs.DoneStep.{BeforeDone, IsSound}
@@ -28,6 +28,7 @@ use Rattle.tap_safety.specs.Soft.{IsSoft}
 use Rattle.tap_safety.specs.System.{System, Covers, HasLink, IsCoreNode, IsJoiner, IsTold, IsUnderWay}
 use Rattle.tap_safety.specs.Tells.{IsSoundTell}
 use Rattle.tap_safety.specs.TellStep.{BeforeTell, IsTellOf}
+use Rattle.tap_safety.specs.Ties.{hears_words}
 use Rattle.tap_safety.specs.Words.{Pins}
 use Rattle.tap_safety.proofs.CoverKept.{core_or_joiner}
 use Rattle.tap_safety.proofs.SeekLaws.{low_law}
@@ -38,7 +39,9 @@ use Rattle.tap_join.specs.declared.sought.Sought.{Sought}
 use Rattle.tap_join.specs.declared.sought.Sought.TheVariants.{Forward, Surrogate}
 use Rattle.tap_moves.specs.Delivered.{IsArriving, after_delivery}
 use Rattle.tap_moves.specs.SessionsLaws.{BeforeTaking}
-use Rattle.tap_moves.specs.InvariantLaws.{AreNodes, DoneFills, ForgetFills, FrameExact, HelloFills, IsDelivery, LinkTies, OtherTellFills, PlainFills, ReleaseFills, SeekGives, TellFills}
+use Rattle.tap_moves.specs.InvariantLaws.{DoneFills, ForgetFills, FrameExact, HelloFills, IsDelivery, LinkTies, OtherTellFills, PlainFills, ReleaseFills, SeekGives, TellFills}
+use Rattle.tap_moves.specs.Spelled.{AreNodes}
+use Rattle.tap_moves.proofs.Got.{all_among}
 use Rattle.tap_moves.proofs.MovesMade.{ack_keeps_sessions, by_rule, ceased_tell_keeps, done_keeps, forget_keeps, heard_keeps_sessions, hello_keeps, hello_keeps_sessions, joining_tell_keeps, link_keeps, outside_keeps_sessions, plain_keeps, release_keeps, seek_keeps_sessions, tell_keeps, tell_keeps_sessions}
 use Rattle.tap_moves.proofs.SeekMade.{seek_greets}
 
@@ -63,11 +66,6 @@ soft_name : (p : SettingsValue) (s : System) → AreNodes p s → (x : List ℕ)
 soft_name p s are x (inl joiner) = joiner_name p s are x joiner
 soft_name p s are x (inr (inl core)) = core_name p s are x core
 soft_name p s are x (inr (inr ceased)) = name_at p s are x ceased.state ceased.is
-
--- what holds of what is among a list holds of all of it
-all_of : {A : Type 0} (P : A → Type 0) (xs : List A) → ((x : A) → IsAmong x xs → P x) → All P xs
-all_of P [] each = All-nil P
-all_of P (x ∷ xs) each = All-cons P x xs (each x (inl refl)) (all_of P xs (λ y among. each y (inr among)))
 
 module _ (p : SettingsValue) (s : System) (number : ℕ) (node : NodeState) (from : List ℕ) (body : Body)
     (is : IsDelivery p s number node from body) where
@@ -217,7 +215,7 @@ hello_fills p s number node from hello is at =
     let sound = offers offered (inr among) in
     of_node p s number node from body is offered.name (offered_name p s is.nodes offered sound.core sound.soft) in
     hello_keeps p s number node from hello (due p s number node from body is) at (sender_name p s number node from body is)
-    (all_of (λ (o : Offered). IsName (settings_of node) o.name) hello.links name) inv.soft inv.filled
+    (all_among (λ (o : Offered). IsName (settings_of node) o.name) hello.links name) inv.soft inv.filled
 
 pub release_fills : ReleaseFills
 release_fills p s number node from is at =
@@ -229,8 +227,17 @@ forget_fills p s number node from is at =
     forget_keeps p s number node from (due p s number node from Forget is) at (sender_name p s number node from Forget is)
     is.invariant.ceased is.invariant.filled
 
+-- who hears words hasn't ended
+hears_runs : (status : Status) → hears_words (Some status) → IsRunning status
+hears_runs Joining heard = tt
+hears_runs Core heard = tt
+hears_runs Leaving heard = tt
+hears_runs Gone heard = absurd heard
+hears_runs Ceased heard = absurd heard
+
 pub link_ties : LinkTies
-link_ties p s number node from word is heard laid =
+link_ties p s number node from word is heard =
+    let laid = (is.nodes.nodes (name_of node) node is.at).laid (hears_runs node.status heard) in
     link_keeps p s number node from word (due p s number node from (Link word.version word.on) is) is.invariant.stamped heard laid
     is.invariant.ties is.invariant.versions
 

@@ -14,4 +14,8 @@ pub mod LinkMade
 pub mod MovesMade
 pub mod StartsMade
 pub mod InvariantMoves
-pub mod NodesMade
+pub mod Spelled
+pub mod FewLinks
+pub mod SpelledJoins
+pub mod SpelledRules
+pub mod PartsMade

@@ -3,22 +3,21 @@ use Rattle.std.specs.Prelude.{◌≡◌, ◌⊎◌, ℕ, ◌≤◌, false, List,
 use Rattle.tap_name.specs.Prefix.{lcp}
 use Rattle.tap_name.specs.Settings.{SettingsValue}
 use Rattle.tap_name.specs.declared.slot.Slot.{Slot}
-use Rattle.tap_pointer.specs.Reconcile.{AreLaid}
-use Rattle.tap_wire.specs.Spelling.{IsFrame}
 use Rattle.tap_wire.specs.declared.frame.Body.{Body}
 use Rattle.tap_wire.specs.declared.frame.Body.TheVariants.{Ack, Done, Forget, Heard, Hello, Link, Release, Seek, Tell}
 use Rattle.tap_wire.specs.declared.frame.Frame.{Frame}
 use Rattle.tap_wire.specs.declared.frame.TellFields.{TellFields}
 use Rattle.tap_join.specs.Seek.{sought}
 use Rattle.tap_join.specs.declared.sought.Sought.TheVariants.{Surrogate}
-use Rattle.tap_rule.specs.Kept.{IsNode}
+use Rattle.tap_rule.specs.Event.{Start}
 use Rattle.tap_rule.specs.Laws.{frame_to}
-use Rattle.tap_rule.specs.Node.{NodeState, name_of, settings_of}
+use Rattle.tap_rule.specs.Node.{NodeState, name_of}
 use Rattle.tap_rule.specs.Node.Status.{Ceased as HasCeased, Core, Joining}
 use Rattle.tap_rule.specs.Strange.{is_strange}
 use Rattle.tap_safety.specs.Filled.{AreFilled}
 use Rattle.tap_safety.specs.Frames.{HelloFields, hello_body, tell_body}
 use Rattle.tap_safety.specs.Invariant.{Invariant}
+use Rattle.tap_safety.specs.Move.{may_start}
 use Rattle.tap_safety.specs.Parts.{Cover, HoleFree, Low}
 use Rattle.tap_safety.specs.Remembered.{Word}
 use Rattle.tap_safety.specs.Sessions.{AreExact}
@@ -26,24 +25,18 @@ use Rattle.tap_safety.specs.Step.{AreNumbered}
 use Rattle.tap_safety.specs.System.{System, AmongFrames, IsCoreNode}
 use Rattle.tap_safety.specs.Ties.{Ties, Versions, hears_words}
 use Rattle.tap_safety.specs.Words.{IsGiven}
-use Rattle.tap_moves.specs.Delivered.{after_delivery}
+use Rattle.tap_moves.specs.Delivered.{after_delivery, after_start}
 use Rattle.tap_moves.specs.FrameLaws.{IsPlain}
 use Rattle.tap_moves.specs.Laws.{IsAnew}
 use Rattle.tap_moves.specs.SessionsLaws.{IsOutside}
+use Rattle.tap_moves.specs.Spelled.{AreNodes, FramesAreSpelled, IsNamedStart}
 
--- each node keeps what nodes keep, and stands under its name, with these settings
-pub record IsNodeOf (p : SettingsValue) (x : List ℕ) (node : NodeState) : Type 0 where
-  pub is_node : IsNode node
-  pub name : name_of node ≡ x
-  pub settings : settings_of node ≡ p
-
-pub record AreNodes (p : SettingsValue) (s : System) : Type 0 where
-  pub nodes : (x : List ℕ) (node : NodeState) → s.node x ≡ Some node → IsNodeOf p x node
-
--- The invariant holds, and a frame of this number, sender and body is under way to this node, to which it isn't strange.
+-- The invariant holds, each node is one, each frame has a spelling, and a frame of this number, sender and body is under way to this
+-- node, to which it isn't strange.
 pub record IsDelivery (p : SettingsValue) (s : System) (number : ℕ) (node : NodeState) (from : List ℕ) (body : Body) : Type 0 where
   pub invariant : Invariant p s
   pub nodes : AreNodes p s
+  pub frames : FramesAreSpelled p s
   pub among : AmongFrames number (frame_to node from body) s.frames
   pub at : s.node (name_of node) ≡ Some node
   pub known : is_strange node (frame_to node from body) ≡ false
@@ -79,11 +72,11 @@ abbrev pub ForgetFills : Type 0
 ForgetFills = (p : SettingsValue) (s : System) (number : ℕ) (node : NodeState) (from : List ℕ) → IsDelivery p s number node from Forget
     → (node.status ≡ Joining) ⊎ (node.status ≡ Core) → AreFilled p (after_delivery p s number)
 
--- a Link, at a node whose pairs are laid as wanted
+-- a Link, at a node that hears words
 abbrev pub LinkTies : Type 0
 LinkTies = (p : SettingsValue) (s : System) (number : ℕ) (node : NodeState) (from : List ℕ) (word : Word)
     → IsDelivery p s number node from (Link word.version word.on) → hears_words (Some node.status)
-    → AreLaid node.ties.table node.pointers → Ties (after_delivery p s number) × Versions (after_delivery p s number)
+    → Ties (after_delivery p s number) × Versions (after_delivery p s number)
 
 -- a Seek at the joiner's surrogate: the new joiner is given the slot of each core node with which it shares at most its prefix
 abbrev pub SeekGives : Type 0
@@ -106,7 +99,14 @@ abbrev pub FrameExact : Type 0
 FrameExact = (p : SettingsValue) (s : System) (number : ℕ) (node : NodeState) (from : List ℕ) (body : Body)
     → IsDelivery p s number node from body → IsTakenThere node body → AreExact (after_delivery p s number)
 
--- each node is one, under its name, once a frame that has a spelling is delivered
-abbrev pub NodesKept : Type 0
-NodesKept = (p : SettingsValue) (s : System) (number : ℕ) (frame : Frame) (node : NodeState) → AreNodes p s → AreNumbered s
-    → AmongFrames number frame s.frames → s.node frame.to ≡ Some node → IsFrame p frame → AreNodes p (after_delivery p s number)
+-- a frame of whatever kind that a node takes, whatever its status: each node stays one, and each frame has a spelling
+abbrev pub PartsKept : Type 0
+PartsKept = (p : SettingsValue) (s : System) (number : ℕ) (frame : Frame) (node : NodeState) → AreNodes p s → FramesAreSpelled p s
+    → AreNumbered s → AmongFrames number frame s.frames → s.node frame.to ≡ Some node
+    → AreNodes p (after_delivery p s number) × FramesAreSpelled p (after_delivery p s number)
+
+-- and so they are once a node has started what it may start, a departure too
+abbrev pub StartKeepsParts : Type 0
+StartKeepsParts = (p : SettingsValue) (s : System) (x : List ℕ) (start : Start) → AreNodes p s → FramesAreSpelled p s
+    → may_start p s x start → IsNamedStart p start
+    → AreNodes p (after_start p s x start) × FramesAreSpelled p (after_start p s x start)

@@ -2,7 +2,7 @@ ghost use Rattle.tap_wire.specs.declared.frame.Body.TheVariants.{Ack, Heard};
 ghost use Rattle.tap_moves.specs.FrameLaws.{CeasedTellIsMade, ForgetIsMade, GivingUpIsMade, HelloIsMade, JoinIsMade, JoiningTellIsMade, PlainIsMade, QuietStartIsMade, ReleaseIsMade};
 ghost use Rattle.tap_moves.specs.Laws.{CeasedAnswers, DoneIsMade, KnownTellIsMade, NewTellIsMade, SeekCovers, SeekGreets, SeekOpens, TellInSession};
 ghost use Rattle.tap_moves.specs.MovesLaws.{AnswerKeepsSessions, CeasedTellKeeps, DeliveryIsByRule, DoneKeeps, ForgetKeeps, GivingUpKeeps, HelloKeeps, HelloKeepsSessions, JoinKeeps, JoiningTellKeeps, LinkKeeps, OutsideKeepsSessions, PlainKeeps, QuietStartKeeps, ReleaseKeeps, SeekKeepsSessions, TellKeeps, TellKeepsSessions};
-ghost use Rattle.tap_moves.specs.InvariantLaws.{DoneFills, ForgetFills, FrameExact, HelloFills, LinkTies, NodesKept, OtherTellFills, PlainFills, ReleaseFills, SeekGives, TellFills};
+ghost use Rattle.tap_moves.specs.InvariantLaws.{DoneFills, ForgetFills, FrameExact, HelloFills, LinkTies, OtherTellFills, PartsKept, PlainFills, ReleaseFills, SeekGives, StartKeepsParts, TellFills};
 ghost use Rattle.tap_moves.specs.SessionsLaws.{AnswerClosesChild, AnswerClosesRoot, AnswerHandsOn, AnswerKeepsExact, HandsOnByHello, HandsOnByTell, OpensChildByTell, OpensRootBySeek, OutsideLeavesSessions};
 ghost use Rattle.tap_moves.specs.TiesLaws.{LinkIsMade};
 
@@ -138,9 +138,22 @@ pub fn starts_keep()
     ensures join { JoinKeeps }
 {}
 
-/// If the invariant holds, and each node is one that steps keep valid, then once a frame under way is delivered that isn't strange to its
-/// receiver: what leads to tables without holes holds, and after a Done Hole-free, Cover and Low; the sessions are exact; after a Link the
-/// words of links stand; and a new joiner is given each slot up to its prefix.
+/// What moves keep of each node and of each frame, whatever its kind and whatever the status of its receiver: each node keeps what nodes
+/// keep, stands under its own name, speaks of names alone, and has its pairs laid as wanted while it runs; and each frame under way has a
+/// spelling. A frame that is delivered keeps this, be it strange or not, and so does whatever a node may start, if an object is a name and
+/// what is cast is a word.
+///
+/// It does nothing: its contract is the law.
+///
+/// Rule: docs/PROTOCOL.md, "Nodes" and "Steps of a node".
+pub fn parts_kept()
+    ensures frames { PartsKept }
+    ensures starts { StartKeepsParts }
+{}
+
+/// If the invariant holds, each node is one that steps keep valid, and each frame has a spelling, then once a frame under way is delivered
+/// that isn't strange to its receiver: what leads to tables without holes holds, and after a Done Hole-free, Cover and Low; the sessions
+/// are exact; after a Link the words of links stand; and a new joiner is given each slot up to its prefix.
 ///
 /// It does nothing: its contract is the law.
 ///
@@ -156,5 +169,5 @@ pub fn deliveries_from_invariant()
     ensures link { LinkTies }
     ensures seek { SeekGives }
     ensures exact { FrameExact }
-    ensures nodes { NodesKept }
 {}
+

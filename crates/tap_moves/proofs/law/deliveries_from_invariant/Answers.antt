@@ -1,4 +1,3 @@
-use Rattle.tap_moves.proofs.NodesMade.{nodes_kept}
 use Rattle.tap_moves.proofs.InvariantMoves.{done_fills, forget_fills, frame_exact, hello_fills, link_ties, other_tell_fills, plain_fills, release_fills, seek_gives, tell_fills}
 use Rattle.tap_moves.proofs.law.deliveries_from_invariant.Goals as goal
 
@@ -31,6 +30,3 @@ returns-clause-seek c = seek_gives
 
 pub returns-clause-exact : goal.returns-clause-exact
 returns-clause-exact c = frame_exact
-
-pub returns-clause-nodes : goal.returns-clause-nodes
-returns-clause-nodes c = nodes_kept
