@@ -36,7 +36,7 @@ use Rattle.tap_safety.specs.FrameSteps.{ComesFrom, HasSettledNear}
 use Rattle.tap_moves.specs.ByRule.{taken_at}
 use Rattle.tap_moves.specs.FrameLaws.{AreOfferedNames, CeasedTellIsMade, ForgetIsMade, HelloIsMade, JoiningTellIsMade, ReleaseIsMade}
 use Rattle.tap_moves.proofs.CoverMade.{none_or_pin}
-use Rattle.tap_moves.proofs.Got.{among_got}
+use Rattle.tap_moves.proofs.Got.{among_all, among_got}
 use Rattle.tap_moves.proofs.Nearness.{primary_stands_near}
 use Rattle.tap_moves.proofs.Plain.{takes_frame}
 
@@ -93,11 +93,6 @@ joining_tell_is_made s s' number node from tell watch taken surrogates at name =
 
 -- ---- a Hello
 
-all_among : {A : Type 0} (P : A → Type 0) (x : A) (xs : List A) → All P xs → IsAmong x xs → P x
-all_among P x [] all among = absurd among
-all_among P x (y ∷ ys) all (inl is) = subst P (sym is) (All-head P y ys all)
-all_among P x (y ∷ ys) all (inr later) = all_among P x ys (All-tail P y ys all) later
-
 near_at : (one other t f : List ℕ) → one ≡ other → lcp one t < lcp t f → lcp other t < lcp t f
 near_at one other t f same near = subst (λ own. lcp own t < lcp t f) same near
 
@@ -142,8 +137,8 @@ module _ (node : NodeState) (from : List ℕ) (hello : HelloFields) (ties : AreT
         let all = all_named (settings_of node) (name_of node) node.ties (ties, refl, refl) from hello.is_core hello.links sender names in
         let serves = hello_serves (settings_of node) (name_of node) node.ties (ties, refl, refl) from hello.is_core hello.links sender names
         in
-        served (all_among (λ (o : Offered). IsName (settings_of node) o.name) offered offered_names all among) apart
-        (all_among (λ (o : Offered). o.name ≢ name_of node → IsServed left_ties o) offered offered_names serves among apart)
+        served (among_all (λ (o : Offered). IsName (settings_of node) o.name) offered_names all offered among) apart
+        (among_all (λ (o : Offered). o.name ≢ name_of node → IsServed left_ties o) offered_names serves offered among apart)
 
   -- each link stays, and a new one comes from a name
   kept : (t : List ℕ) (kind : Kind) → link_to node t ≡ Some kind → kind_in left_ties.table t ≡ Some kind

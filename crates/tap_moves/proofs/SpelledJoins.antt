@@ -391,6 +391,13 @@ module _ (node : NodeState) (is : IsNode node) (has : KnowsNames (settings_of no
         (welcomes (with_pin node tell.joiner) from tell))
     greeted_spelled tell watch body taken before = by_before before
       where
+        no_links : AreLinks (settings_of node) []
+        no_links = record {
+          names = λ k d inside. absurd (omega arith);
+          ascending = λ i j d before inside. absurd (omega arith);
+          few = omega arith;
+        }
+
         few : length (targets_by_name (table_pinned node.ties.table tell.joiner)) ≤ 255
         few =
             few-pinned node (frame_to node from (tell_of tell watch)) is.ties taken tell.joiner body.joiner_is
@@ -414,13 +421,6 @@ module _ (node : NodeState) (is : IsNode node) (has : KnowsNames (settings_of no
               few = few;
             })
             (one_message (settings_of node) tell.joiner (Hello (next_number node) false []) body.joiner_is (omega arith, no_links))
-
-        no_links : AreLinks (settings_of node) []
-        no_links = record {
-          names = λ k d inside. absurd (omega arith);
-          ascending = λ i j d before inside. absurd (omega arith);
-          few = omega arith;
-        }
 
     pub meets_spelled : (tell : TellFields) (watch : List Slot) → IsBody (settings_of node) (tell_of tell watch)
         → is_strange node (frame_to node from (tell_of tell watch)) ≡ false → IsSpelled (settings_of node) (meets node from tell)

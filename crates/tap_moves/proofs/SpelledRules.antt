@@ -253,8 +253,8 @@ module _ (node : NodeState) (is : IsNode node) (has : KnowsNames (settings_of no
       record {
         to = holders_named node.ties is.ties k d inside;
         body = some_named p (replacement_for node.ties.table (get_or (holders_on node.ties) k d)) (λ name given.
-        (replacement_fits node.ties.table is.ties.table (get_or (holders_on node.ties) k d) (holders_named node.ties is.ties k d inside)
-        name given).is_name);
+            (replacement_fits node.ties.table is.ties.table (get_or (holders_on node.ties) k d) (holders_named node.ties is.ties k d inside)
+            name given).is_name);
       }))
 
   leaves_spelled : (last : Bool) → IsSpelled p (cond last (finishes (with_departure node))

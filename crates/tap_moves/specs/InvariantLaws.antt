@@ -2,23 +2,20 @@
 use Rattle.std.specs.Prelude.{◌≡◌, ◌⊎◌, ℕ, ◌≤◌, false, List, Some}
 use Rattle.tap_name.specs.Prefix.{lcp}
 use Rattle.tap_name.specs.Settings.{SettingsValue}
-use Rattle.tap_name.specs.declared.slot.Slot.{Slot}
 use Rattle.tap_wire.specs.declared.frame.Body.{Body}
 use Rattle.tap_wire.specs.declared.frame.Body.TheVariants.{Ack, Done, Forget, Heard, Hello, Link, Release, Seek, Tell}
 use Rattle.tap_wire.specs.declared.frame.Frame.{Frame}
-use Rattle.tap_wire.specs.declared.frame.TellFields.{TellFields}
 use Rattle.tap_join.specs.Seek.{sought}
 use Rattle.tap_join.specs.declared.sought.Sought.TheVariants.{Surrogate}
 use Rattle.tap_rule.specs.Event.{Start}
 use Rattle.tap_rule.specs.Laws.{frame_to}
 use Rattle.tap_rule.specs.Node.{NodeState, name_of}
 use Rattle.tap_rule.specs.Node.Status.{Ceased as HasCeased, Core, Joining}
+use Rattle.tap_rule.specs.QuietSteps.{IsQuiet}
 use Rattle.tap_rule.specs.Strange.{is_strange}
 use Rattle.tap_safety.specs.Filled.{AreFilled}
-use Rattle.tap_safety.specs.Frames.{HelloFields, hello_body, tell_body}
 use Rattle.tap_safety.specs.Invariant.{Invariant}
 use Rattle.tap_safety.specs.Move.{may_start}
-use Rattle.tap_safety.specs.Parts.{Cover, HoleFree, Low}
 use Rattle.tap_safety.specs.Remembered.{Word}
 use Rattle.tap_safety.specs.Sessions.{AreExact}
 use Rattle.tap_safety.specs.Step.{AreNumbered}
@@ -26,8 +23,6 @@ use Rattle.tap_safety.specs.System.{System, AmongFrames, IsCoreNode}
 use Rattle.tap_safety.specs.Ties.{Ties, Versions, hears_words}
 use Rattle.tap_safety.specs.Words.{IsGiven}
 use Rattle.tap_moves.specs.Delivered.{after_delivery, after_start}
-use Rattle.tap_moves.specs.FrameLaws.{IsPlain}
-use Rattle.tap_moves.specs.Laws.{IsAnew}
 use Rattle.tap_moves.specs.SessionsLaws.{IsOutside}
 use Rattle.tap_moves.specs.Spelled.{AreNodes, FramesAreSpelled, IsNamedStart}
 
@@ -41,36 +36,24 @@ pub record IsDelivery (p : SettingsValue) (s : System) (number : ℕ) (node : No
   pub at : s.node (name_of node) ≡ Some node
   pub known : is_strange node (frame_to node from body) ≡ false
 
-abbrev pub TellFills : Type 0
-TellFills = (p : SettingsValue) (s : System) (number : ℕ) (node : NodeState) (from : List ℕ) (tell : TellFields) (watch : List Slot)
-    → IsDelivery p s number node from (tell_body tell watch) → node.status ≡ Core → IsAnew node tell.joiner tell.level
-    → AreFilled p (after_delivery p s number)
+-- a frame of a join where a rule takes it, but the Done of a join that was given up; and those of pointers and casts
+abbrev pub IsFilledThere : NodeState → Body → Type 0
+IsFilledThere node (Tell joiner prefix level session depth watch) =
+    (node.status ≡ Core) ⊎ ((node.status ≡ Joining) ⊎ (node.status ≡ HasCeased))
+IsFilledThere node (Hello session core links) = node.status ≡ Joining
+IsFilledThere node (Seek joiner) = node.status ≡ Core
+IsFilledThere node Done = node.abandoned ≡ false
+IsFilledThere node Release = (node.status ≡ Joining) ⊎ (node.status ≡ Core)
+IsFilledThere node Forget = (node.status ≡ Joining) ⊎ (node.status ≡ Core)
+IsFilledThere node (Heard session) = Unit {0}
+IsFilledThere node (Ack session) = Unit {0}
+IsFilledThere node (Link version on) = Unit {0}
+IsFilledThere node other = IsQuiet other
 
-abbrev pub DoneFills : Type 0
-DoneFills = (p : SettingsValue) (s : System) (number : ℕ) (node : NodeState) (from : List ℕ) → IsDelivery p s number node from Done
-    → node.abandoned ≡ false
-    → HoleFree p (after_delivery p s number) × Cover p (after_delivery p s number) × Low (after_delivery p s number)
-
-abbrev pub PlainFills : Type 0
-PlainFills = (p : SettingsValue) (s : System) (number : ℕ) (node : NodeState) (from : List ℕ) (body : Body)
-    → IsDelivery p s number node from body → IsPlain node body → AreFilled p (after_delivery p s number)
-
-abbrev pub OtherTellFills : Type 0
-OtherTellFills = (p : SettingsValue) (s : System) (number : ℕ) (node : NodeState) (from : List ℕ) (tell : TellFields) (watch : List Slot)
-    → IsDelivery p s number node from (tell_body tell watch) → (node.status ≡ Joining) ⊎ (node.status ≡ HasCeased)
-    → AreFilled p (after_delivery p s number)
-
-abbrev pub HelloFills : Type 0
-HelloFills = (p : SettingsValue) (s : System) (number : ℕ) (node : NodeState) (from : List ℕ) (hello : HelloFields)
-    → IsDelivery p s number node from (hello_body hello) → node.status ≡ Joining → AreFilled p (after_delivery p s number)
-
-abbrev pub ReleaseFills : Type 0
-ReleaseFills = (p : SettingsValue) (s : System) (number : ℕ) (node : NodeState) (from : List ℕ) → IsDelivery p s number node from Release
-    → (node.status ≡ Joining) ⊎ (node.status ≡ Core) → AreFilled p (after_delivery p s number)
-
-abbrev pub ForgetFills : Type 0
-ForgetFills = (p : SettingsValue) (s : System) (number : ℕ) (node : NodeState) (from : List ℕ) → IsDelivery p s number node from Forget
-    → (node.status ≡ Joining) ⊎ (node.status ≡ Core) → AreFilled p (after_delivery p s number)
+-- what leads to tables without holes holds after it
+abbrev pub FrameFills : Type 0
+FrameFills = (p : SettingsValue) (s : System) (number : ℕ) (node : NodeState) (from : List ℕ) (body : Body)
+    → IsDelivery p s number node from body → IsFilledThere node body → AreFilled p (after_delivery p s number)
 
 -- a Link, at a node that hears words
 abbrev pub LinkTies : Type 0

@@ -1,8 +1,8 @@
 ghost use Rattle.tap_wire.specs.declared.frame.Body.TheVariants.{Ack, Heard};
 ghost use Rattle.tap_moves.specs.FrameLaws.{CeasedTellIsMade, ForgetIsMade, GivingUpIsMade, HelloIsMade, JoinIsMade, JoiningTellIsMade, PlainIsMade, QuietStartIsMade, ReleaseIsMade};
 ghost use Rattle.tap_moves.specs.Laws.{CeasedAnswers, DoneIsMade, KnownTellIsMade, NewTellIsMade, SeekCovers, SeekGreets, SeekOpens, TellInSession};
-ghost use Rattle.tap_moves.specs.MovesLaws.{AnswerKeepsSessions, CeasedTellKeeps, DeliveryIsByRule, DoneKeeps, ForgetKeeps, GivingUpKeeps, HelloKeeps, HelloKeepsSessions, JoinKeeps, JoiningTellKeeps, LinkKeeps, OutsideKeepsSessions, PlainKeeps, QuietStartKeeps, ReleaseKeeps, SeekKeepsSessions, TellKeeps, TellKeepsSessions};
-ghost use Rattle.tap_moves.specs.InvariantLaws.{DoneFills, ForgetFills, FrameExact, HelloFills, LinkTies, OtherTellFills, PartsKept, PlainFills, ReleaseFills, SeekGives, StartKeepsParts, TellFills};
+ghost use Rattle.tap_moves.specs.MovesLaws.{AnswerKeepsSessions, CeasedTellKeeps, DeliveryIsByRule, DoneKeeps, ForgetKeeps, GivingUpKeeps, HelloKeeps, HelloKeepsSessions, JoinKeeps, JoiningTellKeeps, KnownTellKeeps, LinkKeeps, OutsideKeepsSessions, PlainKeeps, QuietStartKeeps, ReleaseKeeps, SeekKeeps, SeekKeepsSessions, TellKeeps, TellKeepsSessions};
+ghost use Rattle.tap_moves.specs.InvariantLaws.{FrameExact, FrameFills, LinkTies, PartsKept, SeekGives, StartKeepsParts};
 ghost use Rattle.tap_moves.specs.SessionsLaws.{AnswerClosesChild, AnswerClosesRoot, AnswerHandsOn, AnswerKeepsExact, HandsOnByHello, HandsOnByTell, OpensChildByTell, OpensRootBySeek, OutsideLeavesSessions};
 ghost use Rattle.tap_moves.specs.TiesLaws.{LinkIsMade};
 
@@ -104,6 +104,8 @@ pub fn deliveries_keep()
     ensures by_rule { DeliveryIsByRule }
     ensures done { DoneKeeps }
     ensures tell { TellKeeps }
+    ensures known_tell { KnownTellKeeps }
+    ensures seek { SeekKeeps }
     ensures plain { PlainKeeps }
     ensures joining { JoiningTellKeeps }
     ensures ceased { CeasedTellKeeps }
@@ -152,22 +154,15 @@ pub fn parts_kept()
 {}
 
 /// If the invariant holds, each node is one that steps keep valid, and each frame has a spelling, then once a frame under way is delivered
-/// that isn't strange to its receiver: what leads to tables without holes holds, and after a Done Hole-free, Cover and Low; the sessions
-/// are exact; after a Link the words of links stand; and a new joiner is given each slot up to its prefix.
+/// that isn't strange to its receiver: what leads to tables without holes holds, but after the Done of a join that was given up; the
+/// sessions are exact; after a Link the words of links stand; and a new joiner is given each slot up to its prefix.
 ///
 /// It does nothing: its contract is the law.
 ///
 /// Rule: docs/PROTOCOL.md, "Steps of a node".
 pub fn deliveries_from_invariant()
-    ensures tell { TellFills }
-    ensures done { DoneFills }
-    ensures plain { PlainFills }
-    ensures other_tell { OtherTellFills }
-    ensures hello { HelloFills }
-    ensures release { ReleaseFills }
-    ensures forget { ForgetFills }
+    ensures fills { FrameFills }
     ensures link { LinkTies }
     ensures seek { SeekGives }
     ensures exact { FrameExact }
 {}
-
