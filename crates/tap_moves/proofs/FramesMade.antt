@@ -5,6 +5,7 @@ use Rattle.std.proofs.lemmas.List.Elements.{All-head, All-tail}
 use Rattle.tap_name.specs.Name.{IsName}
 use Rattle.tap_name.specs.Prefix.{lcp}
 use Rattle.tap_name.specs.declared.slot.Offered.{Offered}
+use Rattle.tap_name.specs.declared.slot.Slot.{Slot}
 use Rattle.tap_link.specs.declared.kind.Kind.{Kind}
 use Rattle.tap_link.specs.declared.kind.Kind.TheVariants.{Leaving, Pin, Settled}
 use Rattle.tap_link.specs.LinkSet.{is_pinned}
@@ -30,6 +31,8 @@ use Rattle.tap_rule.proofs.CarriedOut.{frame_law}
 use Rattle.tap_rule.proofs.JoinSteps.{hello_law, meet_law, tell_fits}
 use Rattle.tap_rule.proofs.LinkSteps.{forget_law, release_law}
 use Rattle.tap_rule.specs.Ceasing.{acknowledges}
+use Rattle.tap_rule.specs.Node.Status.{Joining}
+use Rattle.tap_rule.specs.Strange.{is_strange}
 use Rattle.tap_rule.specs.FrameRules.{frame_at_ceased, frame_at_joining}
 use Rattle.tap_safety.specs.Frames.{HelloFields, hello_body, tell_body}
 use Rattle.tap_safety.specs.FrameSteps.{ComesFrom, HasSettledNear}
@@ -55,10 +58,10 @@ ceased_tell_is_made s s' number node from tell watch taken surrogates at =
     }
 
 -- what a joining node sends at a Tell: its word, if the link is new, and a Hello to the joiner, or an Ack
-record MeetsSo (node : NodeState) (from : List ℕ) (tell : TellFields) (sent : List Frame) : Type 0 where
-  messages : List Message
-  are : AreSent (name_of node) (words_of (pin_word node tell.joiner)) messages sent
-  answers : (messages ≡ message from (Ack tell.session) ∷ [])
+pub record MeetsSo (node : NodeState) (from : List ℕ) (tell : TellFields) (sent : List Frame) : Type 0 where
+  pub messages : List Message
+  pub are : AreSent (name_of node) (words_of (pin_word node tell.joiner)) messages sent
+  pub answers : (messages ≡ message from (Ack tell.session) ∷ [])
       ⊎ ((session : ℕ) × (messages ≡ message tell.joiner (Hello session false []) ∷ []))
 
 meets_so : (node : NodeState) (from : List ℕ) (tell : TellFields) (acted : Acted) (before : Bool)
@@ -73,13 +76,19 @@ meets_so node from tell acted false carried = record {
   answers = inr (node.sessions.opened + 1, refl);
 }
 
-pub joining_tell_is_made : JoiningTellIsMade
+pub meets_sent : (node : NodeState) (from : List ℕ) (tell : TellFields) (watch : List Slot)
+    → is_strange node (frame_to node from (tell_body tell watch)) ≡ false → node.status ≡ Joining
+    → MeetsSo node from tell (taken_at node from (tell_body tell watch)).sent
 unfolding frame_at_joining
+meets_sent node from tell watch known at =
+    let carried = frame_law node (frame_to node from (tell_body tell watch)) (meets node from tell) known (rw at refl) in
+    meets_so node from tell (taken_at node from (tell_body tell watch)) (has_name node.greeted tell.joiner) carried
+
+pub joining_tell_is_made : JoiningTellIsMade
 joining_tell_is_made s s' number node from tell watch taken surrogates at name =
     let step = meet_law node from tell watch taken.is_node.ties name at taken.known in
     let fits = tell_fits node from tell watch taken.known in
-    let carried = frame_law node (frame_to node from (tell_body tell watch)) (meets node from tell) taken.known (rw at refl) in
-    let sent = meets_so node from tell (taken_at node from (tell_body tell watch)) (has_name node.greeted tell.joiner) carried in
+    let sent = meets_sent node from tell watch taken.known at in
     record {
       step =
           takes_frame s s' number node from (tell_body tell watch) taken surrogates step.status step.covers

@@ -40,12 +40,16 @@ use Rattle.tap_join.specs.declared.sought.Sought.{Sought}
 use Rattle.tap_join.specs.declared.sought.Sought.TheVariants.{Forward, Surrogate}
 use Rattle.tap_moves.specs.Delivered.{IsArriving, after_delivery}
 use Rattle.tap_moves.specs.SessionsLaws.{BeforeTaking}
-use Rattle.tap_moves.specs.InvariantLaws.{FrameExact, FrameFills, IsDelivery, LinkTies, SeekGives}
+use Rattle.tap_moves.specs.InvariantLaws.{FrameExact, FrameFills, FrameSays, IsDelivery, LinkTies, SeekGives}
 use Rattle.tap_moves.specs.FrameLaws.{IsPlain}
 use Rattle.tap_moves.specs.Laws.{IsAnew}
 use Rattle.tap_moves.specs.Spelled.{AreNodes}
 use Rattle.tap_moves.proofs.Got.{all_among}
 use Rattle.tap_moves.proofs.MovesMade.{ack_keeps_sessions, by_rule, ceased_tell_keeps, done_keeps, forget_keeps, heard_keeps_sessions, hello_keeps, hello_keeps_sessions, joining_tell_keeps, known_tell_keeps, link_keeps, outside_keeps_sessions, plain_keeps, release_keeps, seek_keeps, seek_keeps_sessions, tell_keeps, tell_keeps_sessions}
+use Rattle.tap_moves.specs.TiesLaws.{WordsStand}
+use Rattle.tap_moves.proofs.WordsMade.{answer_words_kept, hello_words_kept, known_words_kept, quiet_words_kept, seek_words_kept, tell_words_kept}
+use Rattle.tap_multicast.proofs.KeptLevels.{kept_exactly}
+use Rattle.tap_rule.proofs.AnswerSteps.{ack_law, heard_law}
 use Rattle.tap_moves.proofs.SeekMade.{seek_greets}
 
 -- ---- names
@@ -148,6 +152,14 @@ pin_on p s unmarked settled x b joiner Pin link = link
 pin_on p s unmarked settled x b joiner Settled link = absurd (core_or_joiner s b (settled x b link) joiner)
 pin_on p s unmarked settled x b joiner Marked link = absurd (unmarked x b link)
 
+-- and so have all that are offered
+hello_names_are : (p : SettingsValue) (s : System) (number : ℕ) (node : NodeState) (from : List ℕ) (hello : HelloFields)
+    → IsDelivery p s number node from (hello_body hello) → All (λ (o : Offered). IsName (settings_of node) o.name) hello.links
+hello_names_are p s number node from hello is =
+    all_among (λ (o : Offered). IsName (settings_of node) o.name) hello.links (λ offered among.
+    let sound = is.invariant.soft.hellos from (name_of node) hello (way p s number node from (hello_body hello) is) offered (inr among) in
+    of_node p s number node from (hello_body hello) is offered.name (offered_name p s is.nodes offered sound.core sound.soft))
+
 -- ---- tables without holes
 
 module _ (p : SettingsValue) (s : System) (number : ℕ) (node : NodeState) (from : List ℕ) where
@@ -244,14 +256,9 @@ module _ (p : SettingsValue) (s : System) (number : ℕ) (node : NodeState) (fro
 
   hello_fills : (hello : HelloFields) → IsDelivery p s number node from (hello_body hello) → node.status ≡ Joining → AreFilled p after
   hello_fills hello is at =
-      let body = hello_body hello in
-      let inv = is.invariant in
-      let offers = inv.soft.hellos from (name_of node) hello (way p s number node from body is) in
-      let name : (offered : Offered) → IsAmong offered hello.links → IsName (settings_of node) offered.name = λ offered among.
-      let sound = offers offered (inr among) in
-      of_node p s number node from body is offered.name (offered_name p s is.nodes offered sound.core sound.soft) in
-      hello_keeps p s number node from hello (due p s number node from body is) at (sender_name p s number node from body is)
-      (all_among (λ (o : Offered). IsName (settings_of node) o.name) hello.links name) inv.soft inv.filled
+      hello_keeps p s number node from hello (due p s number node from (hello_body hello) is) at
+      (sender_name p s number node from (hello_body hello) is) (hello_names_are p s number node from hello is) is.invariant.soft
+      is.invariant.filled
 
   -- a Seek at a core node goes on, or the node is the joiner's surrogate
   module _ (joiner : List ℕ) (is : IsDelivery p s number node from (Seek joiner)) (at : node.status ≡ Core) where
@@ -319,6 +326,44 @@ link_ties p s number node from word is heard =
     let laid = (is.nodes.nodes (name_of node) node is.at).laid (hears_runs node.status heard) in
     link_keeps p s number node from word (due p s number node from (Link word.version word.on) is) is.invariant.stamped heard laid
     is.invariant.ties is.invariant.versions
+
+-- the words of links stand while frames are delivered that leave them, or say so
+stand_of : (p : SettingsValue) (s : System) → Invariant p s → WordsStand s
+stand_of p s inv = record { ties = inv.ties; versions = inv.versions; ceased = inv.ceased }
+
+tell_says : (p : SettingsValue) (s : System) (number : ℕ) (node : NodeState) (from : List ℕ) (tell : TellFields) (watch : List Slot)
+    → IsDelivery p s number node from (tell_body tell watch)
+    → (node.status ≡ Joining) ⊎ ((node.status ≡ Core) × ((kept : ℕ) × (level_of node tell.joiner ≡ Some kept) × (kept ≤ tell.level)))
+    → WordsStand (after_delivery p s number)
+tell_says p s number node from tell watch is (inl at) =
+    tell_words_kept p s number node from tell watch (due p s number node from (tell_body tell watch) is) at
+    (told_name p s number node from tell watch is) is.invariant.stamped (stand_of p s is.invariant)
+tell_says p s number node from tell watch is (inr known) =
+    known_words_kept p s number node from tell watch (due p s number node from (tell_body tell watch) is) known.0
+    (told_name p s number node from tell watch is) ((kept_exactly (level_of node tell.joiner) tell.level).1 known.1)
+    is.invariant.stamped (stand_of p s is.invariant)
+
+pub frame_says : FrameSays
+frame_says p s number node from (Tell joiner prefix level session depth watch) is there =
+    let tell : TellFields = record { joiner = joiner; prefix = prefix; level = level; session = session; depth = depth } in
+    tell_says p s number node from tell watch is there
+frame_says p s number node from (Hello session core links) is there =
+    let hello : HelloFields = record { session = session; is_core = core; links = links } in
+    hello_words_kept p s number node from hello (due p s number node from (hello_body hello) is) there
+    (sender_name p s number node from (hello_body hello) is) (hello_names_are p s number node from hello is) is.invariant.stamped
+    (stand_of p s is.invariant)
+frame_says p s number node from (Heard session) is there =
+    answer_words_kept p s number node from Heard session tt heard_law (due p s number node from (Heard session) is) there
+    is.invariant.stamped (stand_of p s is.invariant)
+frame_says p s number node from (Ack session) is there =
+    answer_words_kept p s number node from Ack session tt ack_law (due p s number node from (Ack session) is) there
+    is.invariant.stamped (stand_of p s is.invariant)
+frame_says p s number node from (Seek joiner) is there =
+    seek_words_kept p s number node from joiner there.1.0 (due p s number node from (Seek joiner) is) there.0 there.1.1
+    is.invariant.stamped (stand_of p s is.invariant)
+frame_says p s number node from body is there =
+    quiet_words_kept p s number node from body there.0 (due p s number node from body is) there.1 is.invariant.stamped
+    (stand_of p s is.invariant)
 
 -- ---- Seek, and sessions
 

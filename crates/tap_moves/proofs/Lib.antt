@@ -12,6 +12,7 @@ pub mod AnswersMade
 pub mod OutsideMade
 pub mod LinkMade
 pub mod MovesMade
+pub mod WordsMade
 pub mod StartsMade
 pub mod InvariantMoves
 pub mod Spelled

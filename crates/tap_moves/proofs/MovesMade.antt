@@ -87,7 +87,7 @@ module _ (p : SettingsValue) (s : System) (number : ℕ) (node : NodeState) (fro
   abbrev frame : Frame
   frame = frame_to node from body
 
-  is_found : numbered_frame number s.frames ≡ Some frame
+  pub is_found : numbered_frame number s.frames ≡ Some frame
   is_found = found number frame 0 s.frames s.next due.numbers.numbers due.among
 
   pub by_rule : TakesByRule s (after_delivery p s number) number node from body
@@ -134,7 +134,7 @@ done_keeps p s number node from due at joined before quiet =
     filled_done_law p s s' is
 
 -- a Tell starts none
-tell_starts_none : (p : SettingsValue) (s : System) (number : ℕ) (node : NodeState) (from : List ℕ) (tell : TellFields) (watch : List Slot)
+pub tell_starts_none : (p : SettingsValue) (s : System) (number : ℕ) (node : NodeState) (from : List ℕ) (tell : TellFields) (watch : List Slot)
     → IsArriving s number node from (tell_body tell watch)
     → OpensOrAnswers node (Node from tell.session) tell.depth (taken_at node from (tell_body tell watch))
     → StartsNone s (after_delivery p s number)

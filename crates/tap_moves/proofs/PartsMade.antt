@@ -32,12 +32,13 @@ use Rattle.tap_rule.proofs.CarriedOut.{frame_law, start_law, strange_law, unrule
 use Rattle.tap_rule.proofs.Kept.{joiner_law, kept_law, start_kept_law}
 use Rattle.tap_rule.proofs.Laid.{laid_law}
 use Rattle.tap_safety.specs.Move.{MayJoin, may_start}
+use Rattle.tap_safety.specs.Move.Move.{Begins, Delivers}
 use Rattle.tap_safety.specs.Moved.{IsStarted, starter}
 use Rattle.tap_safety.specs.Step.{AreNumbered, ChangesAt, HasSent, IsTaken, numbered_from}
 use Rattle.tap_safety.specs.System.{System, AmongFrames, IsCoreNode}
 use Rattle.tap_safety.proofs.Moves.{delivers, found, starts}
 use Rattle.tap_moves.specs.Delivered.{after_delivery, after_start}
-use Rattle.tap_moves.specs.InvariantLaws.{PartsKept, StartKeepsParts}
+use Rattle.tap_moves.specs.InvariantLaws.{MoveKeepsParts, PartsKept, StartKeepsParts}
 use Rattle.tap_moves.specs.Spelled.{AreNamedPairs, AreNodes, FramesAreSpelled, HaveParents, IsNamedPair, IsNamedStart, IsNodeOf, IsParent, KnowsNames}
 use Rattle.tap_moves.proofs.Exchanged.{exchanges, in_either, sent_numbered}
 use Rattle.tap_moves.proofs.FewLinks.{none_linked}
@@ -304,3 +305,11 @@ start_keeps_parts p s x (Find ticket object) nodes frames may named =
     start_keeps p s x (Find ticket object) may.state nodes frames of may.is (subst (λ q. IsName q object) (sym of.settings) named)
 start_keeps_parts p s x (StartCast cast level word) nodes frames may named =
     start_keeps p s x (StartCast cast level word) may.state nodes frames (nodes.nodes x may.state may.is) may.is named
+
+-- ---- moves
+
+pub move_keeps_parts : MoveKeepsParts
+move_keeps_parts p s (Begins x start) nodes frames numbers ends may named = start_keeps_parts p s x start nodes frames may named
+move_keeps_parts p s (Delivers number) nodes frames numbers ends may named =
+    let receiver = (ends.known number may.frame may.among).1 in
+    parts_kept p s number may.frame receiver.state nodes frames numbers may.among receiver.is

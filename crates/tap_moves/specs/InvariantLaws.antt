@@ -1,21 +1,25 @@
 -- The laws of the invariant: if its parts hold, they hold once a frame under way is delivered, with nothing asked for between.
-use Rattle.std.specs.Prelude.{◌≡◌, ◌⊎◌, ℕ, ◌≤◌, false, List, Some}
+use Rattle.std.specs.Prelude.{◌≡◌, ◌⊎◌, ℕ, ◌≤◌, false, List, None, Some}
 use Rattle.tap_name.specs.Prefix.{lcp}
 use Rattle.tap_name.specs.Settings.{SettingsValue}
 use Rattle.tap_wire.specs.declared.frame.Body.{Body}
 use Rattle.tap_wire.specs.declared.frame.Body.TheVariants.{Ack, Done, Forget, Heard, Hello, Link, Release, Seek, Tell}
 use Rattle.tap_wire.specs.declared.frame.Frame.{Frame}
 use Rattle.tap_join.specs.Seek.{sought}
-use Rattle.tap_join.specs.declared.sought.Sought.TheVariants.{Surrogate}
+use Rattle.tap_join.specs.declared.sought.Sought.TheVariants.{Forward, Surrogate}
 use Rattle.tap_rule.specs.Event.{Start}
+use Rattle.tap_rule.specs.Event.Start.{Join, Leave}
 use Rattle.tap_rule.specs.Laws.{frame_to}
-use Rattle.tap_rule.specs.Node.{NodeState, name_of}
+use Rattle.tap_rule.specs.Node.{NodeState, level_of, name_of}
 use Rattle.tap_rule.specs.Node.Status.{Ceased as HasCeased, Core, Joining}
 use Rattle.tap_rule.specs.QuietSteps.{IsQuiet}
 use Rattle.tap_rule.specs.Strange.{is_strange}
+use Rattle.tap_safety.specs.Bookkeeping.{HaveEnds, has_table}
 use Rattle.tap_safety.specs.Filled.{AreFilled}
 use Rattle.tap_safety.specs.Invariant.{Invariant}
-use Rattle.tap_safety.specs.Move.{may_start}
+use Rattle.tap_safety.specs.Move.{Move, may_move, may_start}
+use Rattle.tap_safety.specs.Move.Move.{Begins, Delivers}
+use Rattle.tap_safety.specs.Moved.{moved}
 use Rattle.tap_safety.specs.Remembered.{Word}
 use Rattle.tap_safety.specs.Sessions.{AreExact}
 use Rattle.tap_safety.specs.Step.{AreNumbered}
@@ -25,6 +29,7 @@ use Rattle.tap_safety.specs.Words.{IsGiven}
 use Rattle.tap_moves.specs.Delivered.{after_delivery, after_start}
 use Rattle.tap_moves.specs.SessionsLaws.{IsOutside}
 use Rattle.tap_moves.specs.Spelled.{AreNodes, FramesAreSpelled, IsNamedStart}
+use Rattle.tap_moves.specs.TiesLaws.{WordsStand}
 
 -- The invariant holds, each node is one, each frame has a spelling, and a frame of this number, sender and body is under way to this
 -- node, to which it isn't strange.
@@ -61,6 +66,22 @@ LinkTies = (p : SettingsValue) (s : System) (number : ℕ) (node : NodeState) (f
     → IsDelivery p s number node from (Link word.version word.on) → hears_words (Some node.status)
     → Ties (after_delivery p s number) × Versions (after_delivery p s number)
 
+-- another frame that changes no link, or whose taker says so of each link that it changes: at a node that has a table, an answer, a Hello,
+-- a Seek that goes on, a Tell at a joining node or of a joiner that is covered so already, and those of pointers and casts
+abbrev pub IsSaidThere : NodeState → Body → Type 0
+IsSaidThere node (Tell joiner prefix level session depth watch) =
+    (node.status ≡ Joining) ⊎ ((node.status ≡ Core) × ((kept : ℕ) × (level_of node joiner ≡ Some kept) × (kept ≤ level)))
+IsSaidThere node (Hello session core links) = node.status ≡ Joining
+IsSaidThere node (Heard session) = (node.status ≡ Joining) ⊎ (node.status ≡ Core)
+IsSaidThere node (Ack session) = (node.status ≡ Joining) ⊎ (node.status ≡ Core)
+IsSaidThere node (Seek joiner) = (node.status ≡ Core) × ((next : List ℕ) × (sought node.ties.table joiner ≡ Forward next))
+IsSaidThere node other = IsQuiet other × has_table node.status
+
+-- the words of links stand after it
+abbrev pub FrameSays : Type 0
+FrameSays = (p : SettingsValue) (s : System) (number : ℕ) (node : NodeState) (from : List ℕ) (body : Body)
+    → IsDelivery p s number node from body → IsSaidThere node body → WordsStand (after_delivery p s number)
+
 -- a Seek at the joiner's surrogate: the new joiner is given the slot of each core node with which it shares at most its prefix
 abbrev pub SeekGives : Type 0
 SeekGives = (p : SettingsValue) (s : System) (number : ℕ) (node : NodeState) (from joiner : List ℕ) (prefix : ℕ)
@@ -93,3 +114,24 @@ abbrev pub StartKeepsParts : Type 0
 StartKeepsParts = (p : SettingsValue) (s : System) (x : List ℕ) (start : Start) → AreNodes p s → FramesAreSpelled p s
     → may_start p s x start → IsNamedStart p start
     → AreNodes p (after_start p s x start) × FramesAreSpelled p (after_start p s x start)
+
+-- what a move brings: a frame brings nothing that isn't under way already
+abbrev pub IsNamedMove : SettingsValue → Move → Type 0
+IsNamedMove p (Begins x start) = IsNamedStart p start
+IsNamedMove p (Delivers number) = Unit {0}
+
+-- so they are after every possible move, if the frames are numbered and their receivers known
+abbrev pub MoveKeepsParts : Type 0
+MoveKeepsParts = (p : SettingsValue) (s : System) (move : Move) → AreNodes p s → FramesAreSpelled p s → AreNumbered s → HaveEnds s
+    → may_move p s move → IsNamedMove p move → AreNodes p (moved p s move) × FramesAreSpelled p (moved p s move)
+
+-- whoever starts to join wasn't started before; a departure isn't meant
+abbrev pub IsNew : System → List ℕ → Start → Type 0
+IsNew s x (Join via) = s.surrogate x ≡ None
+IsNew s x Leave = ⊥
+IsNew s x _ = Unit {0}
+
+-- what leads to tables without holes holds once a node has started what it may start, and the sessions are exact
+abbrev pub StartFills : Type 0
+StartFills = (p : SettingsValue) (s : System) (x : List ℕ) (start : Start) → Invariant p s → AreNodes p s → may_start p s x start
+    → IsNew s x start → AreFilled p (after_start p s x start) × AreExact (after_start p s x start)

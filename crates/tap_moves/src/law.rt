@@ -2,7 +2,7 @@ ghost use Rattle.tap_wire.specs.declared.frame.Body.TheVariants.{Ack, Heard};
 ghost use Rattle.tap_moves.specs.FrameLaws.{CeasedTellIsMade, ForgetIsMade, GivingUpIsMade, HelloIsMade, JoinIsMade, JoiningTellIsMade, PlainIsMade, QuietStartIsMade, ReleaseIsMade};
 ghost use Rattle.tap_moves.specs.Laws.{CeasedAnswers, DoneIsMade, KnownTellIsMade, NewTellIsMade, SeekCovers, SeekGreets, SeekOpens, TellInSession};
 ghost use Rattle.tap_moves.specs.MovesLaws.{AnswerKeepsSessions, CeasedTellKeeps, DeliveryIsByRule, DoneKeeps, ForgetKeeps, GivingUpKeeps, HelloKeeps, HelloKeepsSessions, JoinKeeps, JoiningTellKeeps, KnownTellKeeps, LinkKeeps, OutsideKeepsSessions, PlainKeeps, QuietStartKeeps, ReleaseKeeps, SeekKeeps, SeekKeepsSessions, TellKeeps, TellKeepsSessions};
-ghost use Rattle.tap_moves.specs.InvariantLaws.{FrameExact, FrameFills, LinkTies, PartsKept, SeekGives, StartKeepsParts};
+ghost use Rattle.tap_moves.specs.InvariantLaws.{FrameExact, FrameFills, FrameSays, LinkTies, MoveKeepsParts, PartsKept, SeekGives, StartFills, StartKeepsParts};
 ghost use Rattle.tap_moves.specs.SessionsLaws.{AnswerClosesChild, AnswerClosesRoot, AnswerHandsOn, AnswerKeepsExact, HandsOnByHello, HandsOnByTell, OpensChildByTell, OpensRootBySeek, OutsideLeavesSessions};
 ghost use Rattle.tap_moves.specs.TiesLaws.{LinkIsMade};
 
@@ -129,7 +129,8 @@ pub fn deliveries_keep_sessions()
     ensures outside { OutsideKeepsSessions }
 {}
 
-/// Of what a node starts, but a departure: what leads to tables without holes is kept, and so are sessions that are exact.
+/// Of what a node starts, but a departure: what leads to tables without holes is kept, and so are sessions that are exact; so both hold
+/// after it if the invariant holds before.
 ///
 /// It does nothing: its contract is the law.
 ///
@@ -138,12 +139,13 @@ pub fn starts_keep()
     ensures quiet { QuietStartKeeps }
     ensures gives_up { GivingUpKeeps }
     ensures join { JoinKeeps }
+    ensures from_invariant { StartFills }
 {}
 
 /// What moves keep of each node and of each frame, whatever its kind and whatever the status of its receiver: each node keeps what nodes
 /// keep, stands under its own name, speaks of names alone, and has its pairs laid as wanted while it runs; and each frame under way has a
 /// spelling. A frame that is delivered keeps this, be it strange or not, and so does whatever a node may start, if an object is a name and
-/// what is cast is a word.
+/// what is cast is a word. So does every possible move, if frames are numbered and their receivers known.
 ///
 /// It does nothing: its contract is the law.
 ///
@@ -151,11 +153,13 @@ pub fn starts_keep()
 pub fn parts_kept()
     ensures frames { PartsKept }
     ensures starts { StartKeepsParts }
+    ensures moves { MoveKeepsParts }
 {}
 
 /// If the invariant holds, each node is one that steps keep valid, and each frame has a spelling, then once a frame under way is delivered
 /// that isn't strange to its receiver: what leads to tables without holes holds, but after the Done of a join that was given up; the
-/// sessions are exact; after a Link the words of links stand; and a new joiner is given each slot up to its prefix.
+/// sessions are exact; the words of links stand after a Link, and after each frame whose taker says of each link that it changes; and a
+/// new joiner is given each slot up to its prefix.
 ///
 /// It does nothing: its contract is the law.
 ///
@@ -163,6 +167,7 @@ pub fn parts_kept()
 pub fn deliveries_from_invariant()
     ensures fills { FrameFills }
     ensures link { LinkTies }
+    ensures words { FrameSays }
     ensures seek { SeekGives }
     ensures exact { FrameExact }
 {}

@@ -1,4 +1,4 @@
-use Rattle.tap_moves.proofs.InvariantMoves.{frame_exact, frame_fills, link_ties, seek_gives}
+use Rattle.tap_moves.proofs.InvariantMoves.{frame_exact, frame_fills, frame_says, link_ties, seek_gives}
 use Rattle.tap_moves.proofs.law.deliveries_from_invariant.Goals as goal
 
 pub returns-clause-fills : goal.returns-clause-fills
@@ -12,3 +12,6 @@ returns-clause-seek c = seek_gives
 
 pub returns-clause-exact : goal.returns-clause-exact
 returns-clause-exact c = frame_exact
+
+pub returns-clause-words : goal.returns-clause-words
+returns-clause-words c = frame_says
