@@ -1,6 +1,5 @@
 -- A frame that isn't strange leaves a node no more links than it may have.
-use Rattle.std.proofs.Common.{◌≡◌, ◌≢◌, ◌⊎◌, ℕ, zero, suc, ◌≤◌, Bool, List, [], ◌∷◌, length, get_or, map, slice_get, Option, None, Some, All, false, arith, refl, sym, ap, subst, ◌∙◌, inl, inr}
-use Rattle.std.specs.Prelude.{IfSome}
+use Rattle.std.proofs.Common.{◌≡◌, ◌≢◌, ◌⊎◌, ℕ, zero, suc, ◌≤◌, Bool, List, [], ◌∷◌, length, get_or, map, slice_get, Option, None, Some, All, false, refl, sym, ap, subst, ◌∙◌, inl, inr}
 use Rattle.std.specs.Ordering.{is_eq}
 use Rattle.std.proofs.lemmas.Bool.{cases_Bool}
 use Rattle.tap_name.specs.Name.{IsName}
@@ -14,7 +13,7 @@ use Rattle.tap_link.specs.declared.kind.Kind.{Kind}
 use Rattle.tap_link.proofs.TargetKinds.{kind_forgotten, kind_released, kind_removed}
 use Rattle.tap_table.specs.ByName.{targets_by_name}
 use Rattle.tap_table.specs.Table.{IsTable, TableValue, empty_table, forgotten, has_room_near, kind_in, pinned, released, removed}
-use Rattle.tap_table.specs.Ties.{AreTies, TiesValue}
+use Rattle.tap_table.specs.Ties.{AreTies}
 use Rattle.tap_table.proofs.Found.{linked_is_name, linked_is_other}
 use Rattle.tap_table.proofs.Kept.{IsTable-forgotten, IsTable-pinned, IsTable-released, IsTable-removed}
 use Rattle.tap_table.proofs.LookUps.{by_rule, kind_in-forgotten, kind_in-pinned, kind_in-released, kind_in-removed}

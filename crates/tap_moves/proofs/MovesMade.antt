@@ -1,5 +1,5 @@
 -- A delivered frame is taken by the rule, and what holds before holds after it.
-use Rattle.std.proofs.Common.{◌≡◌, ◌⊎◌, ℕ, ◌+◌, List, Option, None, Some, ap, refl, sym, subst, ◌∙◌, inl, inr}
+use Rattle.std.proofs.Common.{◌≡◌, ◌⊎◌, ℕ, ◌+◌, List, Option, None, Some, ap, refl, subst, ◌∙◌, inl, inr}
 use Rattle.tap_name.specs.Settings.{SettingsValue}
 use Rattle.tap_session.specs.declared.parent.Parent.{Parent}
 use Rattle.tap_session.specs.declared.parent.Parent.TheVariants.{Node, Root}

@@ -1,18 +1,18 @@
 -- Each node stays one that speaks of names, and each frame has a spelling, once a frame is delivered and once something is started.
-use Rattle.std.proofs.Common.{◌≡◌, ◌⊎◌, arith, ℕ, ◌+◌, Bool, List, [], ◌∷◌, ◌++◌, length, map, Option, None, Some, All, true, false, refl, sym, ap, subst, ◌∙◌, inl, inr}
+use Rattle.std.proofs.Common.{◌≡◌, ◌⊎◌, arith, ℕ, Bool, List, ◌++◌, length, map, Option, None, Some, All, true, false, refl, sym, ap, subst, ◌∙◌, inl, inr}
 use Rattle.std.specs.Prelude.{IfSome}
 use Rattle.std.proofs.lemmas.Bool.{cases_Bool}
-use Rattle.std.proofs.lemmas.List.Elements.{All-append, All-head, All-map, All-nil, All-tail}
+use Rattle.std.proofs.lemmas.List.Elements.{All-append, All-map, All-nil}
 use Rattle.tap_name.specs.Name.{IsName}
 use Rattle.tap_name.specs.Settings.{AreWithinLimits, SettingsValue}
 use Rattle.tap_table.specs.declared.tie.Tie.{Tie}
-use Rattle.tap_table.specs.Table.{IsTable, TableValue}
+use Rattle.tap_table.specs.Table.{TableValue}
 use Rattle.tap_pointer.specs.Reconcile.{AreLaid, reconcile_lays, reconciled, wanted_hop}
 use Rattle.tap_wire.specs.declared.frame.Body.{Body}
 use Rattle.tap_wire.specs.declared.frame.Body.TheVariants.{Ack, Cast, Heard, Link, Tell}
 use Rattle.tap_wire.specs.declared.frame.Frame.{Frame}
 use Rattle.tap_wire.specs.Spelling.{IsFrame}
-use Rattle.tap_rule.specs.Act.{act, carried_out, completed, follows, ignores, refuses}
+use Rattle.tap_rule.specs.Act.{act, carried_out, completed, follows, ignores}
 use Rattle.tap_rule.specs.Event.{Acted, Event, Start}
 use Rattle.tap_rule.specs.Event.Event.{Starts, Takes}
 use Rattle.tap_rule.specs.Event.Start.{Abandon, Cast as StartCast, Find, Join, Leave, Publish, Withdraw}
@@ -21,30 +21,28 @@ use Rattle.tap_rule.specs.Kept.{IsNode, IsStart, KeepsNode}
 use Rattle.tap_rule.specs.Node.{IsRunning, NodeState, Status, joiner, name_of, settings_of}
 use Rattle.tap_rule.specs.Node.Status.{Ceased, Core, Gone, Joining, Leaving}
 use Rattle.tap_rule.specs.Pointers.{reconciles, with_reconciled}
-use Rattle.tap_rule.specs.Reaction.{Message, Reaction}
+use Rattle.tap_rule.specs.Reaction.{Reaction}
 use Rattle.tap_rule.specs.Sending.{by_receiver, frames_of, lay_frame, link_frame, message_frame}
-use Rattle.tap_rule.specs.Sent.{IsAmong}
 use Rattle.tap_rule.specs.StartRules.{rule_of_start}
 use Rattle.tap_rule.specs.Strange.{is_strange}
 use Rattle.tap_rule.proofs.Among.{among-by_receiver_from}
 use Rattle.tap_rule.proofs.Completed.{runs_or_ended}
-use Rattle.tap_rule.proofs.CarriedOut.{frame_law, start_law, strange_law, unruled_law, unruled_start_law}
+use Rattle.tap_rule.proofs.CarriedOut.{frame_law, strange_law, unruled_law, unruled_start_law}
 use Rattle.tap_rule.proofs.Kept.{joiner_law, kept_law, start_kept_law}
 use Rattle.tap_rule.proofs.Laid.{laid_law}
-use Rattle.tap_safety.specs.Move.{MayJoin, may_start}
 use Rattle.tap_safety.specs.Move.Move.{Begins, Delivers}
-use Rattle.tap_safety.specs.Moved.{IsStarted, starter}
-use Rattle.tap_safety.specs.Step.{AreNumbered, ChangesAt, HasSent, IsTaken, numbered_from}
-use Rattle.tap_safety.specs.System.{System, AmongFrames, IsCoreNode}
+use Rattle.tap_safety.specs.Moved.{starter}
+use Rattle.tap_safety.specs.Step.{numbered_from}
+use Rattle.tap_safety.specs.System.{System, AmongFrames}
 use Rattle.tap_safety.proofs.Moves.{delivers, found, starts}
 use Rattle.tap_moves.specs.Delivered.{after_delivery, after_start}
 use Rattle.tap_moves.specs.InvariantLaws.{MoveKeepsParts, PartsKept, StartKeepsParts}
-use Rattle.tap_moves.specs.Spelled.{AreNamedPairs, AreNodes, FramesAreSpelled, HaveParents, IsNamedPair, IsNamedStart, IsNodeOf, IsParent, KnowsNames}
+use Rattle.tap_moves.specs.Spelled.{AreNamedPairs, AreNodes, FramesAreSpelled, IsNamedPair, IsNodeOf, IsParent, KnowsNames}
 use Rattle.tap_moves.proofs.Exchanged.{exchanges, in_either, sent_numbered}
 use Rattle.tap_moves.proofs.FewLinks.{none_linked}
 use Rattle.tap_moves.proofs.Got.{all_among, among_all}
 use Rattle.tap_moves.proofs.Spelled.{IsNamedLay, reconciled_lays, reconciled_pairs}
-use Rattle.tap_moves.proofs.SpelledJoins.{IsForName, IsSpelled, IsSpelledMessage, ended_knows}
+use Rattle.tap_moves.proofs.SpelledJoins.{IsForName, IsSpelled}
 use Rattle.tap_moves.proofs.SpelledRules.{SaysNames, frame_spelled, start_spelled}
 
 -- ---- one step

@@ -1,5 +1,5 @@
 -- Frames that leave a node what it is, with its links and covers.
-use Rattle.std.proofs.Common.{◌≡◌, ◌⊎◌, ℕ, Bool, List, [], ◌∷◌, Option, None, Some, true, false, ap, refl, sym, subst, inl, inr, ◌∙◌}
+use Rattle.std.proofs.Common.{◌≡◌, ℕ, Bool, List, [], ◌∷◌, Option, None, Some, false, ap, refl, sym, subst, ◌∙◌}
 use Rattle.tap_session.specs.Session.{SessionsValue}
 use Rattle.tap_multicast.specs.Covers.{level_kept}
 use Rattle.tap_table.specs.declared.tie.Tie.{Tie}

@@ -1,5 +1,5 @@
 -- Of what a node keeps: parents of sessions, pairs and hops that are names, and the Lays that reconciling sends.
-use Rattle.std.proofs.Common.{◌≡◌, ℕ, zero, suc, ◌+◌, ◌≤◌, ◌==◌, ◌-◌, Bool, cond, List, [], ◌∷◌, ◌++◌, length, map, drop, get_or, Option, None, Some, All, true, false, arith, refl, sym, ap, subst, ◌∙◌, inl, inr}
+use Rattle.std.proofs.Common.{◌≡◌, ℕ, ◌≤◌, ◌==◌, ◌-◌, Bool, List, [], ◌∷◌, length, map, drop, get_or, Option, None, Some, All, true, false, arith, refl, sym, ap, subst, ◌∙◌, inl, inr}
 use Rattle.std.specs.Prelude.{IfSome}
 use Rattle.std.specs.BTreeMap.{is_at}
 use Rattle.std.specs.List.Sorted.{IsStrictlySortedBy}
@@ -14,7 +14,7 @@ use Rattle.tap_session.specs.declared.sessions.Answered.TheVariants.{Open, Close
 use Rattle.tap_session.specs.Session.{Session, SessionsValue}
 use Rattle.tap_session.specs.Sessions.{after_answer, answer_to, answered_at, next_session, opened_with, session_of}
 use Rattle.tap_session.proofs.Transitions.{All-found as All-found_session}
-use Rattle.tap_table.specs.Next.{IsHop, next_from}
+use Rattle.tap_table.specs.Next.{next_from}
 use Rattle.tap_table.specs.declared.next.Next.{Next}
 use Rattle.tap_table.specs.declared.next.Next.TheVariants.{Hop as HopTo, Root}
 use Rattle.tap_table.specs.Table.{IsTable, TableValue}

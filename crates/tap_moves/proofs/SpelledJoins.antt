@@ -1,6 +1,6 @@
 -- What the rules of joins leave and send: nodes that speak of names, and frames that have spellings.
-use Rattle.std.proofs.Common.{◌≡◌, ◌≢◌, ◌⊎◌, ℕ, zero, suc, ◌+◌, ◌-◌, ◌*◌, ◌<◌, ◌≤◌, ◌==◌, Bool, cond, not, List, [], ◌∷◌, ◌++◌, length, map, filter, get_or, Option, None, Some, is_none, All, true, false, arith, refl, sym, ap, subst, ◌∙◌, inl, inr}
-use Rattle.std.specs.Prelude.{AllPairs, IfSome}
+use Rattle.std.proofs.Common.{◌≡◌, ◌≢◌, ℕ, ◌+◌, ◌-◌, ◌<◌, ◌≤◌, ◌==◌, Bool, cond, not, List, [], ◌∷◌, ◌++◌, length, map, filter, Option, None, Some, is_none, All, true, false, arith, refl, sym, ap, subst, ◌∙◌, inl, inr}
+use Rattle.std.specs.Prelude.{AllPairs}
 use Rattle.std.specs.Ordering.{nat_cmp}
 use Rattle.std.specs.Cmp.Lexicographic.{slice_cmp}
 use Rattle.std.specs.declared.cmp.Ordering.TheVariants.{Less}
@@ -10,7 +10,7 @@ use Rattle.std.proofs.lemmas.List.{get_or-map, length-map}
 use Rattle.std.proofs.lemmas.List.Elements.{All-append, All-cons, All-filter, All-head, All-map, All-nil, All-tail}
 use Rattle.tap_name.specs.Name.{IsName}
 use Rattle.tap_name.specs.Names.{has_name}
-use Rattle.tap_name.specs.Order.{AreAscending, IsBelow}
+use Rattle.tap_name.specs.Order.{AreAscending}
 use Rattle.tap_name.specs.Prefix.{lcp}
 use Rattle.tap_name.proofs.Prefixes.{lcp-is}
 use Rattle.tap_name.specs.Settings.{SettingsValue}
@@ -28,44 +28,42 @@ use Rattle.tap_session.specs.declared.sessions.Answered.TheVariants.{Closed, Ope
 use Rattle.tap_session.specs.Sessions.{answer_to, answered_at, session_of}
 use Rattle.tap_table.specs.ByName.{by_name, targets_by_name}
 use Rattle.tap_table.specs.Levels.{is_kept}
-use Rattle.tap_table.specs.Table.{IsTable, TableValue, kind_in, pinned as table_pinned}
+use Rattle.tap_table.specs.Table.{IsTable, TableValue, pinned as table_pinned}
 use Rattle.tap_table.specs.declared.tie.Tie.{Tie}
-use Rattle.tap_table.specs.Ties.{AreTies, TiesValue, holders_on, off_ties, pin_tells, pinned, stamp_after, tie_where}
+use Rattle.tap_table.specs.Ties.{AreTies, TiesValue, holders_on, off_ties, stamp_after, tie_where}
 use Rattle.tap_table.proofs.Kept.{IsTable-pinned}
 use Rattle.tap_table.proofs.LookUps.{kind_in-pinned, of_itself}
 use Rattle.tap_table.proofs.Slots.{place_inside}
-use Rattle.tap_watch.specs.Level.{full_slots}
 use Rattle.tap_watch.proofs.Watches.{IsWatch-full, length-full}
-use Rattle.tap_multicast.specs.declared.covers.Covered.TheVariants.{Already, Now}
+use Rattle.tap_multicast.specs.declared.covers.Covered.TheVariants.{Already}
 use Rattle.tap_multicast.specs.declared.target.Target.{Target}
-use Rattle.tap_multicast.specs.Covers.{MayCover, MayWatch, begun, cover_of, level_kept}
-use Rattle.tap_multicast.specs.Offer.{answers, is_offered, left, offer, offered_as, unanswered}
-use Rattle.tap_multicast.specs.Targets.{is_told, target_of, targets}
+use Rattle.tap_multicast.specs.Covers.{MayCover, begun, cover_of, level_kept}
+use Rattle.tap_multicast.specs.Offer.{answers, is_offered, left, offer, offered_as}
+use Rattle.tap_multicast.specs.Targets.{targets}
 use Rattle.tap_multicast.proofs.Offers.{IsOffered, offer_ascends, offers_are}
-use Rattle.tap_multicast.proofs.Regions.{MayBeTold, prefix_within, targets_near}
-use Rattle.tap_multicast.proofs.Telling.{IsTarget, targets_are}
+use Rattle.tap_multicast.proofs.Regions.{prefix_within, targets_near}
+use Rattle.tap_multicast.proofs.Telling.{targets_are}
 use Rattle.tap_table.proofs.Found.{linked_is_name}
 use Rattle.tap_join.specs.Hello.{hello_names, is_own, links_tell, offered_tells, with_offered, words_of}
 use Rattle.tap_join.specs.Seek.{sought}
 use Rattle.tap_join.specs.declared.sought.Sought.{Sought}
 use Rattle.tap_join.specs.declared.sought.Sought.TheVariants.{Forward, Surrogate}
 use Rattle.tap_join.proofs.Seeking.{forward_is, surrogate_is}
-use Rattle.tap_pointer.specs.Pointers.{no_pointers}
 use Rattle.tap_wire.specs.declared.frame.Body.{Body}
-use Rattle.tap_wire.specs.declared.frame.Body.TheVariants.{Ack, Done, Forget, Heard, Hello, Link, Release, Seek, Tell}
+use Rattle.tap_wire.specs.declared.frame.Body.TheVariants.{Ack, Done, Forget, Heard, Hello, Release, Seek}
 use Rattle.tap_wire.specs.declared.frame.TellFields.{TellFields}
 use Rattle.tap_wire.specs.Spelling.{AreLinks, AreSlots, IsBody, IsTell}
 use Rattle.tap_rule.specs.Event.{News}
 use Rattle.tap_rule.specs.Event.News.{Core as CoreNews, Nothing}
 use Rattle.tap_rule.specs.Answers.{answer_for, answer_sends, answered, next_number, with_session}
 use Rattle.tap_rule.specs.Ceasing.{ceases}
-use Rattle.tap_rule.specs.Covering.{Request, answers_awaited, covers, covers_as, first_request, greeting, pins_and_covers, request_of, seeks, seeks_as, spreads, tell_for, with_level}
+use Rattle.tap_rule.specs.Covering.{Request, answers_awaited, covers, covers_as, first_request, greeting, pins_and_covers, request_of, seeks_as, tell_for, with_level}
 use Rattle.tap_rule.specs.Joining.{becomes_core, hello_words, meets, takes_hello, welcomes, welcomes_once, with_greeting, with_hello}
 use Rattle.tap_rule.specs.Kept.{IsNode}
 use Rattle.tap_rule.specs.Laws.{frame_to, tell_of}
-use Rattle.tap_rule.specs.Node.{NodeState, Status, ended, joiner as joiner_at, link_to, name_of, settings_of}
+use Rattle.tap_rule.specs.Node.{NodeState, Status, ended, link_to, name_of, settings_of}
 use Rattle.tap_rule.specs.Node.Status.{Ceased, Core}
-use Rattle.tap_rule.specs.Reaction.{Message, Reaction, message, pin_word, sends, stays, to_each, with_news, with_pin, with_words}
+use Rattle.tap_rule.specs.Reaction.{Message, Reaction, message, pin_word, sends, to_each, with_news, with_pin, with_words}
 use Rattle.tap_rule.specs.Strange.{is_no_pin, is_strange}
 use Rattle.tap_rule.proofs.CoverSteps.{seek_fits}
 use Rattle.tap_rule.proofs.JoinSteps.{tell_fits}

@@ -1,11 +1,8 @@
 -- What each rule leaves and sends, by status: a node that speaks of names, and frames that have spellings.
-use Rattle.std.proofs.Common.{◌≡◌, ◌≢◌, ◌⊎◌, ℕ, zero, suc, ◌+◌, ◌<◌, ◌≤◌, ◌==◌, Bool, cond, List, [], ◌∷◌, ◌++◌, length, map, drop, get_or, slice_get, Option, None, Some, is_none, All, true, false, arith, refl, sym, ap, subst, ◌∙◌, inl, inr}
+use Rattle.std.proofs.Common.{◌≡◌, ℕ, ◌+◌, ◌≤◌, ◌==◌, Bool, cond, List, [], ◌∷◌, length, map, get_or, Option, None, Some, is_none, All, true, false, arith, refl, sym, ap, subst, ◌∙◌}
 use Rattle.std.specs.Prelude.{IfSome}
-use Rattle.std.proofs.lemmas.Bool.{cases_Bool}
-use Rattle.std.proofs.lemmas.List.Elements.{All-append, All-cons, All-head, All-map, All-nil, All-tail}
-use Rattle.std.proofs.lemmas.Option.{slice_get-get_or}
+use Rattle.std.proofs.lemmas.List.Elements.{All-cons, All-map, All-nil}
 use Rattle.tap_name.specs.Name.{IsName}
-use Rattle.tap_name.specs.Prefix.{lcp}
 use Rattle.tap_name.specs.Settings.{SettingsValue}
 use Rattle.tap_name.specs.Word.{IsWord}
 use Rattle.tap_name.proofs.Prefixes.{lcp-is}
@@ -16,7 +13,6 @@ use Rattle.tap_session.specs.declared.sessions.Answered.TheVariants.{Closed, Ope
 use Rattle.tap_session.specs.Sessions.{answer_to, answered_at, session_of}
 use Rattle.tap_table.specs.ByName.{targets_by_name}
 use Rattle.tap_table.specs.Levels.{is_kept, sent_from}
-use Rattle.tap_table.specs.Next.{next_from}
 use Rattle.tap_table.specs.declared.next.Next.{Next}
 use Rattle.tap_table.specs.declared.next.Next.TheVariants.{Hop, Root}
 use Rattle.tap_table.specs.declared.tie.Tie.{Tie}
@@ -28,11 +24,10 @@ use Rattle.tap_pointer.proofs.Laws.{are-all_withdrawn}
 use Rattle.tap_pointer.specs.Pointers.{IsPointers, PointersValue, all_withdrawn, lay_applied, least_server, pair_of, pointer_at, state_of, with_lay, with_published}
 use Rattle.tap_depart.specs.Leaving.{names_but, notice_for, started_leaving}
 use Rattle.tap_depart.specs.Replacement.{replacement_for}
-use Rattle.tap_depart.specs.Told.{told_leave, told_leave_tells}
+use Rattle.tap_depart.specs.Told.{told_leave}
 use Rattle.tap_depart.specs.declared.notice.Notice.{Notice}
 use Rattle.tap_depart.proofs.Notices.{told_is_new}
 use Rattle.tap_depart.proofs.Replacements.{replacement_fits}
-use Rattle.tap_cast.specs.declared.casts.CastTurn.{CastTurn}
 use Rattle.tap_cast.specs.declared.casts.CastTurn.TheVariants.{Already, Now}
 use Rattle.tap_cast.specs.declared.target.CastTarget.{CastTarget}
 use Rattle.tap_cast.specs.Casts.{level_of_cast, turn_of, with_cast}
@@ -42,10 +37,9 @@ use Rattle.tap_wire.specs.declared.frame.Body.{Body}
 use Rattle.tap_wire.specs.declared.frame.Body.TheVariants.{Ack, Answer, Cast, CastAck, Done, Find, Forget, Gone, Heard, Hello, Lay, Leave, Left, Link, Release, Seek, Tell}
 use Rattle.tap_wire.specs.declared.frame.TellFields.{TellFields}
 use Rattle.tap_wire.specs.Spelling.{IsBody, IsLevel}
-use Rattle.tap_rule.specs.Answers.{answered}
 use Rattle.tap_rule.specs.Casts.{Copy, cast_answer, cast_answered_as, cast_for, cast_news, cast_of, cast_spreads, casts_as, is_root, next_cast_session, with_cast_session}
 use Rattle.tap_rule.specs.Event.{News, Start}
-use Rattle.tap_rule.specs.Event.News.{Answered as AnsweredNews, Gone as GoneNews, Nothing}
+use Rattle.tap_rule.specs.Event.News.{Answered as AnsweredNews, Nothing}
 use Rattle.tap_rule.specs.Event.Start.{Abandon, Cast as StartCast, Find as StartFind, Join, Leave as StartLeave, Publish, Withdraw}
 use Rattle.tap_rule.specs.FrameRules.{frame_at_ceased, frame_at_core, frame_at_joining, frame_at_leaving, rule_of_frame}
 use Rattle.tap_rule.specs.Kept.{IsNode}
@@ -55,13 +49,13 @@ use Rattle.tap_rule.specs.Links.{forgets, hears_and_releases, is_new_link, relea
 use Rattle.tap_rule.specs.Node.{NodeState, Status, ended, joiner, name_of, settings_of}
 use Rattle.tap_rule.specs.Node.Status.{Ceased, Core, Gone as GoneStatus, Joining, Leaving}
 use Rattle.tap_rule.specs.Pointers.{asks_on, asks_with, finds_on, finds_with, next_hop}
-use Rattle.tap_rule.specs.Reaction.{Message, Reaction, message, sends, stays, to_each, with_news, with_ties, with_words}
+use Rattle.tap_rule.specs.Reaction.{Message, message, sends, stays, to_each, with_news, with_ties}
 use Rattle.tap_rule.specs.StartRules.{rule_of_start}
 use Rattle.tap_rule.specs.Strange.{is_strange}
 use Rattle.tap_rule.proofs.OneName.{not_own}
-use Rattle.tap_moves.specs.Spelled.{AreNamedPairs, HaveParents, IsNamedPair, IsNamedStart, IsParent, KnowsNames}
+use Rattle.tap_moves.specs.Spelled.{AreNamedPairs, IsNamedPair, IsNamedStart, IsParent, KnowsNames}
 use Rattle.tap_moves.proofs.FewLinks.{few-forgotten, few-released, few-removed, few-told, targets_named}
-use Rattle.tap_moves.proofs.Spelled.{IsNamedLay, cleared_named, closed_parent, laid_among, named-published, named-put, named-withdrawn, next_named, parents-answered, parents-opened, server_named}
+use Rattle.tap_moves.proofs.Spelled.{cleared_named, closed_parent, laid_among, named-published, named-put, named-withdrawn, next_named, parents-answered, parents-opened, server_named}
 use Rattle.tap_moves.proofs.SpelledJoins.{IsForName, IsSpelled, IsSpelledMessage, answered_spelled, done_spelled, each_message, ended_knows, hello_spelled, holders_named, knows_alike, knows_links, meets_spelled, no_messages, off_named, one_message, seeks_spelled, sends_spelled, told_spelled, word_named, words_spelled}
 
 -- a name that there may be

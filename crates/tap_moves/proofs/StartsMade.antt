@@ -1,5 +1,5 @@
 -- What a node starts: what holds before holds after it.
-use Rattle.std.proofs.Common.{◌≡◌, ◌⊎◌, ℕ, List, [], ◌∷◌, ◌++◌, Option, None, Some, ap, refl, sym, subst, ◌∙◌, inl, inr}
+use Rattle.std.proofs.Common.{◌≡◌, ℕ, List, [], ◌∷◌, Some, ap, refl, subst, ◌∙◌, inl, inr}
 use Rattle.tap_name.specs.Settings.{SettingsValue}
 use Rattle.tap_wire.specs.declared.frame.Body.TheVariants.{Seek}
 use Rattle.tap_wire.specs.declared.frame.Frame.{Frame}
@@ -15,12 +15,11 @@ use Rattle.tap_rule.proofs.QuietSteps.{quiet_start_law}
 use Rattle.tap_rule.proofs.StartSteps.{give_up_law, seek_start_law}
 use Rattle.tap_safety.specs.Filled.{AreFilled}
 use Rattle.tap_safety.specs.Invariant.{Invariant}
-use Rattle.tap_safety.specs.Move.Move.{Begins}
-use Rattle.tap_safety.specs.Moved.{IsStarted, moved, starter}
+use Rattle.tap_safety.specs.Moved.{IsStarted, starter}
 use Rattle.tap_safety.specs.Sessions.{AreExact, Belongs}
 use Rattle.tap_safety.specs.SessionSteps.{LeavesSessions}
-use Rattle.tap_safety.specs.Step.{AreNumbered, ChangesAt, HasSent, numbered_from}
-use Rattle.tap_safety.specs.System.{System, AmongFrames}
+use Rattle.tap_safety.specs.Step.{AreNumbered, HasSent, numbered_from}
+use Rattle.tap_safety.specs.System.{System}
 use Rattle.tap_safety.proofs.Moves.{ascend_one, numbers_sent, starts}
 use Rattle.tap_safety.proofs.StepLaws.{join_filled_law, others_law, start_filled_law}
 use Rattle.tap_moves.specs.ByRule.{BeginsByRule, StartsByRule}

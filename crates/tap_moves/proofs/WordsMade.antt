@@ -1,6 +1,6 @@
 -- A frame whose taker says of each link that it changes: what is said stands, once it is delivered.
-use Rattle.std.proofs.Common.{◌≡◌, ◌⊎◌, ℕ, zero, suc, ◌+◌, ◌<◌, ◌≤◌, Bool, true, false, List, [], ◌∷◌, Option, None, Some, is_none, slice_get, All, arith, ap, refl, sym, subst, ◌∙◌, inl, inr}
-use Rattle.std.proofs.lemmas.Bool.{cases_Bool, cases_lt}
+use Rattle.std.proofs.Common.{◌≡◌, ◌⊎◌, ℕ, zero, suc, ◌+◌, true, false, List, [], ◌∷◌, Option, None, Some, is_none, slice_get, All, arith, ap, refl, sym, subst, ◌∙◌, inl, inr}
+use Rattle.std.proofs.lemmas.Bool.{cases_lt}
 use Rattle.tap_name.specs.Name.{IsName}
 use Rattle.tap_name.specs.Order.{name_cmp}
 use Rattle.tap_name.specs.Settings.{SettingsValue}
@@ -8,7 +8,6 @@ use Rattle.tap_name.specs.declared.slot.Slot.{Slot}
 use Rattle.tap_link.specs.declared.kind.Kind.{Kind}
 use Rattle.tap_link.specs.declared.kind.Kind.TheVariants.{Pin}
 use Rattle.tap_register.specs.Registers.{entry_of}
-use Rattle.tap_session.specs.declared.parent.Parent.{Parent}
 use Rattle.tap_session.specs.declared.parent.Parent.TheVariants.{Node, Root}
 use Rattle.tap_session.specs.declared.sessions.Answered.{Answered}
 use Rattle.tap_session.specs.declared.sessions.Answered.TheVariants.{Closed, Open, Unknown}
@@ -19,34 +18,30 @@ use Rattle.tap_table.specs.Table.{kind_in}
 use Rattle.tap_table.specs.Ties.{AreTies, TiesValue, tie_where}
 use Rattle.tap_table.specs.declared.tie.Tie.{Tie}
 use Rattle.tap_join.specs.Hello.{after_hello, hello_names, hello_tells, words_of}
-use Rattle.tap_join.proofs.Hellos.{HasLink, hello_links_stay, holders_stay}
+use Rattle.tap_join.proofs.Hellos.{hello_links_stay, holders_stay}
 use Rattle.tap_join.proofs.Told.{TellsNew, hello_tells_new}
 use Rattle.tap_join.specs.Seek.{sought}
 use Rattle.tap_join.specs.declared.sought.Sought.TheVariants.{Forward}
 use Rattle.tap_wire.specs.declared.frame.Body.{Body}
-use Rattle.tap_wire.specs.declared.frame.Body.TheVariants.{Ack, Answer, Cast, CastAck, Done, Find, Forget, Heard, Hello, Lay, Link, Release, Seek, Tell}
+use Rattle.tap_wire.specs.declared.frame.Body.TheVariants.{Ack, Answer, Cast, CastAck, Done, Find, Forget, Heard, Hello, Lay, Link, Release, Seek}
 use Rattle.tap_wire.specs.declared.frame.Frame.{Frame}
 use Rattle.tap_wire.specs.declared.frame.TellFields.{TellFields}
-use Rattle.tap_rule.specs.Answers.{answer_for, answer_sends}
+use Rattle.tap_rule.specs.Answers.{answer_sends}
 use Rattle.tap_rule.specs.FrameRules.{frame_at_core, rule_of_frame}
-use Rattle.tap_rule.specs.Laws.{AnswerLaw, frame_to, tell_of}
+use Rattle.tap_rule.specs.Laws.{AnswerLaw, frame_to}
 use Rattle.tap_rule.specs.Node.{NodeState, Status, join_session_at, level_of, link_to, name_of, settings_of}
 use Rattle.tap_rule.specs.Node.Status.{Ceased as HasCeased, Core, Joining}
 use Rattle.tap_rule.specs.QuietSteps.{IsQuiet}
 use Rattle.tap_rule.specs.Reaction.{Message, message, pin_word, sends, with_pin, with_words}
 use Rattle.tap_rule.specs.Sending.{link_frame, message_frame}
 use Rattle.tap_rule.specs.Sent.{AreSent, IsAmong}
-use Rattle.tap_rule.specs.Strange.{is_strange}
-use Rattle.tap_rule.proofs.AnswerSteps.{ack_law, heard_law}
 use Rattle.tap_rule.proofs.CarriedOut.{frame_law}
 use Rattle.tap_rule.proofs.CoverSteps.{tell_law}
 use Rattle.tap_rule.proofs.JoinSteps.{hello_law, meet_law, tell_fits}
 use Rattle.tap_rule.proofs.QuietSteps.{quiet_law}
 use Rattle.tap_safety.specs.Bookkeeping.{AreStamped, has_table}
-use Rattle.tap_safety.specs.Ceased.{Ceased}
 use Rattle.tap_safety.specs.Frames.{HelloFields, hello_body, tell_body}
 use Rattle.tap_safety.specs.System.{System}
-use Rattle.tap_safety.specs.Ties.{Ties, Versions}
 use Rattle.tap_safety.specs.WordSteps.{SaysLinks, SaysNoMore}
 use Rattle.tap_safety.proofs.Moves.{delivers}
 use Rattle.tap_safety.proofs.StepLaws.{ceased_words_law, ties_words_law, versions_words_law, words_said_law}

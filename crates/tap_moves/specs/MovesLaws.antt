@@ -30,7 +30,7 @@ use Rattle.tap_safety.specs.Step.{AreNumbered}
 use Rattle.tap_safety.specs.System.{System}
 use Rattle.tap_safety.specs.TellStep.{BeforeTell, IsTellOf}
 use Rattle.tap_safety.specs.Ties.{Ties, Versions, hears_words}
-use Rattle.tap_moves.specs.ByRule.{StartsNone, TakesByRule}
+use Rattle.tap_moves.specs.ByRule.{TakesByRule}
 use Rattle.tap_moves.specs.Delivered.{IsArriving, after_delivery, after_start}
 use Rattle.tap_moves.specs.FrameLaws.{AreOfferedNames, IsPlain}
 use Rattle.tap_moves.specs.Laws.{IsAnew}
