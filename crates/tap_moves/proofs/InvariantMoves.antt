@@ -23,7 +23,7 @@ use Rattle.tap_safety.specs.SeekStep.{BeforeSeat, BeforeSeek, IsGreeted, JoinerI
 use Rattle.tap_safety.specs.Sessions.{AreExact}
 use Rattle.tap_safety.specs.Remembered.{Leaver}
 use Rattle.tap_safety.specs.Seeking.{HasNode, IsSeeker}
-use Rattle.tap_safety.specs.Soft.{IsSoft}
+use Rattle.tap_safety.specs.Soft.{IsSoft, NamesSoft}
 use Rattle.tap_safety.specs.System.{System, Covers, HasLink, IsCoreNode, IsJoiner, IsTold, IsUnderWay}
 use Rattle.tap_safety.specs.Tells.{IsSoundTell}
 use Rattle.tap_safety.specs.TellStep.{BeforeTell, IsTellOf}
@@ -38,13 +38,14 @@ use Rattle.tap_join.specs.declared.sought.Sought.{Sought}
 use Rattle.tap_join.specs.declared.sought.Sought.TheVariants.{Forward, Surrogate}
 use Rattle.tap_moves.specs.Delivered.{IsArriving, after_delivery}
 use Rattle.tap_moves.specs.SessionsLaws.{BeforeTaking}
-use Rattle.tap_moves.specs.InvariantLaws.{FrameExact, FrameFills, FrameSays, IsDelivery, LinkTies, SeekGives}
+use Rattle.tap_moves.specs.InvariantLaws.{FrameExact, FrameFills, FrameSays, FrameSoft, IsDelivery, LinkTies, SeekGives}
 use Rattle.tap_moves.specs.FrameLaws.{IsPlain}
 use Rattle.tap_moves.specs.Laws.{IsAnew}
 use Rattle.tap_moves.specs.Spelled.{AreNodes}
 use Rattle.tap_moves.proofs.Got.{all_among}
 use Rattle.tap_moves.proofs.MovesMade.{ack_keeps_sessions, by_rule, ceased_tell_keeps, done_keeps, forget_keeps, heard_keeps_sessions, hello_keeps, hello_keeps_sessions, joining_tell_keeps, known_tell_keeps, link_keeps, outside_keeps_sessions, plain_keeps, release_keeps, seek_keeps, seek_keeps_sessions, tell_keeps, tell_keeps_sessions}
 use Rattle.tap_moves.specs.TiesLaws.{WordsStand}
+use Rattle.tap_moves.proofs.SoftMade.{ack_soft, ceased_soft, forget_soft, heard_soft, hello_soft, joining_soft, link_soft, quiet_soft, release_soft, seek_soft}
 use Rattle.tap_moves.proofs.WordsMade.{answer_words_kept, hello_words_kept, known_words_kept, quiet_words_kept, seek_words_kept, tell_words_kept}
 use Rattle.tap_multicast.proofs.KeptLevels.{kept_exactly}
 use Rattle.tap_rule.proofs.AnswerSteps.{ack_law, heard_law}
@@ -362,6 +363,60 @@ frame_says p s number node from (Seek joiner) is there =
 frame_says p s number node from body is there =
     quiet_words_kept p s number node from body there.0 (due p s number node from body is) there.1 is.invariant.stamped
     (stand_of p s is.invariant)
+
+-- ---- soft names
+
+-- a soft node that joins was started
+joiner_here : (s : System) (node : NodeState) → IsSoft s (name_of node) → s.node (name_of node) ≡ Some node → node.status ≡ Joining
+    → IsJoiner s (name_of node)
+joiner_here s node (inl joiner) at joins = joiner
+joiner_here s node (inr (inl core)) at joins =
+    let is = core.is in
+    let same : core.state ≡ node = cc in
+    elim core.core [
+      | inl there ↦ let wrong : Joining ≡ Core = sym joins ∙ ap (λ (n : NodeState). n.status) (sym same) ∙ there in absurd (cc)
+      | inr there ↦ let wrong : Joining ≡ Leaving = sym joins ∙ ap (λ (n : NodeState). n.status) (sym same) ∙ there in absurd (cc)
+    ]
+joiner_here s node (inr (inr ceased)) at joins =
+    let is = ceased.is in
+    let same : ceased.state ≡ node = cc in
+    let wrong : Joining ≡ HasCeased = sym joins ∙ ap (λ (n : NodeState). n.status) (sym same) ∙ ceased.ceased in
+    absurd (cc)
+
+tell_soft : (p : SettingsValue) (s : System) (number : ℕ) (node : NodeState) (from : List ℕ) (tell : TellFields) (watch : List Slot)
+    → IsDelivery p s number node from (tell_body tell watch) → (node.status ≡ Joining) ⊎ (node.status ≡ HasCeased)
+    → NamesSoft (after_delivery p s number)
+tell_soft p s number node from tell watch is (inl at) =
+    let sound = told p s number node from tell watch is in
+    joining_soft p s number node from tell watch (due p s number node from (tell_body tell watch) is) at
+    (told_name p s number node from tell watch is) sound.joiner (joiner_here s node sound.soft is.at at) sound.apart is.invariant.soft
+tell_soft p s number node from tell watch is (inr at) =
+    ceased_soft p s number node from tell watch (due p s number node from (tell_body tell watch) is) at is.invariant.soft
+
+pub frame_soft : FrameSoft
+frame_soft p s number node from (Tell joiner prefix level session depth watch) is there =
+    let tell : TellFields = record { joiner = joiner; prefix = prefix; level = level; session = session; depth = depth } in
+    tell_soft p s number node from tell watch is there
+frame_soft p s number node from (Hello session core links) is there =
+    let hello : HelloFields = record { session = session; is_core = core; links = links } in
+    hello_soft p s number node from hello (due p s number node from (hello_body hello) is) there
+    (sender_name p s number node from (hello_body hello) is) (hello_names_are p s number node from hello is) is.invariant.soft
+frame_soft p s number node from (Seek joiner) is there =
+    seek_soft p s number node from joiner there.0 (due p s number node from (Seek joiner) is) there.1 is.invariant.soft
+frame_soft p s number node from Release is there =
+    release_soft p s number node from (due p s number node from Release is) there (sender_name p s number node from Release is)
+    is.invariant.soft
+frame_soft p s number node from Forget is there =
+    forget_soft p s number node from (due p s number node from Forget is) there (sender_name p s number node from Forget is)
+    is.invariant.soft
+frame_soft p s number node from (Heard session) is there =
+    heard_soft p s number node from session (due p s number node from (Heard session) is) is.invariant.soft
+frame_soft p s number node from (Ack session) is there =
+    ack_soft p s number node from session (due p s number node from (Ack session) is) is.invariant.soft
+frame_soft p s number node from (Link version on) is there =
+    link_soft p s number node from version on (due p s number node from (Link version on) is) is.invariant.soft
+frame_soft p s number node from body is there =
+    quiet_soft p s number node from body there there (due p s number node from body is) is.invariant.soft
 
 -- ---- Seek, and sessions
 

@@ -13,6 +13,7 @@ pub mod OutsideMade
 pub mod LinkMade
 pub mod MovesMade
 pub mod WordsMade
+pub mod SoftMade
 pub mod StartsMade
 pub mod InvariantMoves
 pub mod Spelled

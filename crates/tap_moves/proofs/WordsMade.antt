@@ -218,6 +218,14 @@ early_table : (status : Status) → (status ≡ Joining) ⊎ (status ≡ Core) �
 early_table status (inl at) = rw at tt
 early_table status (inr at) = rw at tt
 
+-- what a core node does at a Tell of a joiner that it covers so already
+known_rule : (node : NodeState) (from : List ℕ) (tell : TellFields) (watch : List Slot) → node.status ≡ Core
+    → is_kept (level_of node tell.joiner) tell.level ≡ true → rule_of_frame node.status node from (tell_body tell watch)
+    ≡ Some (with_words (words_of (pin_word node tell.joiner))
+    (sends (with_pin node tell.joiner) (message from (Ack tell.session) ∷ [])))
+unfolding frame_at_core
+known_rule node from tell watch at test = rw (at, test) refl
+
 -- ---- by the kind of a frame
 
 module _ (p : SettingsValue) (s : System) (number : ℕ) (node : NodeState) (from : List ℕ) where
@@ -328,12 +336,12 @@ module _ (p : SettingsValue) (s : System) (number : ℕ) (node : NodeState) (fro
   pub known_words_kept : (tell : TellFields) (watch : List Slot) → IsArriving s number node from (tell_body tell watch)
       → node.status ≡ Core → IsName (settings_of node) tell.joiner → is_kept (level_of node tell.joiner) tell.level ≡ true → AreStamped s
       → WordsStand s → WordsStand after
-  unfolding frame_at_core
   known_words_kept tell watch due at name test stamped stand =
       let frame = frame_to node from (tell_body tell watch) in
       let words = words_of (pin_word node tell.joiner) in
       let messages = message from (Ack tell.session) ∷ [] in
-      let carried = frame_law node frame (with_words words (sends (with_pin node tell.joiner) messages)) due.known (rw (at, test) refl) in
+      let carried = frame_law node frame (with_words words (sends (with_pin node tell.joiner) messages)) due.known
+      (known_rule node from tell watch at test) in
       let step = tell_law node from tell watch due.is_node.ties name at due.known in
       let state = (taken_at node from (tell_body tell watch)).state in
       let linked = none_or_pin (link_to node tell.joiner) (tell_fits node from tell watch due.known).pin in

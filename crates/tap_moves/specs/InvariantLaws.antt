@@ -22,6 +22,7 @@ use Rattle.tap_safety.specs.Move.Move.{Begins, Delivers}
 use Rattle.tap_safety.specs.Moved.{moved}
 use Rattle.tap_safety.specs.Remembered.{Word}
 use Rattle.tap_safety.specs.Sessions.{AreExact}
+use Rattle.tap_safety.specs.Soft.{NamesSoft}
 use Rattle.tap_safety.specs.Step.{AreNumbered}
 use Rattle.tap_safety.specs.System.{System, AmongFrames, IsCoreNode}
 use Rattle.tap_safety.specs.Ties.{Ties, Versions, hears_words}
@@ -81,6 +82,24 @@ IsSaidThere node other = IsQuiet other × has_table node.status
 abbrev pub FrameSays : Type 0
 FrameSays = (p : SettingsValue) (s : System) (number : ℕ) (node : NodeState) (from : List ℕ) (body : Body)
     → IsDelivery p s number node from body → IsSaidThere node body → WordsStand (after_delivery p s number)
+
+-- another frame whose taker says of nobody that it is core, but by a Release: a Tell at a joining node or one that has ceased, a Hello, a
+-- Release, a Forget, an answer, a Link, a Seek that goes on, and those of pointers and casts
+abbrev pub IsSoftThere : NodeState → Body → Type 0
+IsSoftThere node (Tell joiner prefix level session depth watch) = (node.status ≡ Joining) ⊎ (node.status ≡ HasCeased)
+IsSoftThere node (Hello session core links) = node.status ≡ Joining
+IsSoftThere node (Seek joiner) = (next : List ℕ) × (sought node.ties.table joiner ≡ Forward next)
+IsSoftThere node Release = (node.status ≡ Joining) ⊎ (node.status ≡ Core)
+IsSoftThere node Forget = (node.status ≡ Joining) ⊎ (node.status ≡ Core)
+IsSoftThere node (Heard session) = Unit {0}
+IsSoftThere node (Ack session) = Unit {0}
+IsSoftThere node (Link version on) = Unit {0}
+IsSoftThere node other = IsQuiet other
+
+-- settled links are to core nodes after it, and pins to soft ones
+abbrev pub FrameSoft : Type 0
+FrameSoft = (p : SettingsValue) (s : System) (number : ℕ) (node : NodeState) (from : List ℕ) (body : Body)
+    → IsDelivery p s number node from body → IsSoftThere node body → NamesSoft (after_delivery p s number)
 
 -- a Seek at the joiner's surrogate: the new joiner is given the slot of each core node with which it shares at most its prefix
 abbrev pub SeekGives : Type 0

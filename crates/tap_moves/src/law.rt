@@ -2,7 +2,7 @@ ghost use Rattle.tap_wire.specs.declared.frame.Body.TheVariants.{Ack, Heard};
 ghost use Rattle.tap_moves.specs.FrameLaws.{CeasedTellIsMade, ForgetIsMade, GivingUpIsMade, HelloIsMade, JoinIsMade, JoiningTellIsMade, PlainIsMade, QuietStartIsMade, ReleaseIsMade};
 ghost use Rattle.tap_moves.specs.Laws.{CeasedAnswers, DoneIsMade, KnownTellIsMade, NewTellIsMade, SeekCovers, SeekGreets, SeekOpens, TellInSession};
 ghost use Rattle.tap_moves.specs.MovesLaws.{AnswerKeepsSessions, CeasedTellKeeps, DeliveryIsByRule, DoneKeeps, ForgetKeeps, GivingUpKeeps, HelloKeeps, HelloKeepsSessions, JoinKeeps, JoiningTellKeeps, KnownTellKeeps, LinkKeeps, OutsideKeepsSessions, PlainKeeps, QuietStartKeeps, ReleaseKeeps, SeekKeeps, SeekKeepsSessions, TellKeeps, TellKeepsSessions};
-ghost use Rattle.tap_moves.specs.InvariantLaws.{FrameExact, FrameFills, FrameSays, LinkTies, MoveKeepsParts, PartsKept, SeekGives, StartFills, StartKeepsParts};
+ghost use Rattle.tap_moves.specs.InvariantLaws.{FrameExact, FrameFills, FrameSays, FrameSoft, LinkTies, MoveKeepsParts, PartsKept, SeekGives, StartFills, StartKeepsParts};
 ghost use Rattle.tap_moves.specs.SessionsLaws.{AnswerClosesChild, AnswerClosesRoot, AnswerHandsOn, AnswerKeepsExact, HandsOnByHello, HandsOnByTell, OpensChildByTell, OpensRootBySeek, OutsideLeavesSessions};
 ghost use Rattle.tap_moves.specs.TiesLaws.{LinkIsMade};
 
@@ -157,9 +157,10 @@ pub fn parts_kept()
 {}
 
 /// If the invariant holds, each node is one that steps keep valid, and each frame has a spelling, then once a frame under way is delivered
-/// that isn't strange to its receiver: what leads to tables without holes holds, but after the Done of a join that was given up; the
-/// sessions are exact; the words of links stand after a Link, and after each frame whose taker says of each link that it changes; and a
-/// new joiner is given each slot up to its prefix.
+/// that isn't strange to its receiver: after each frame of a join, of pointers and of casts, but the Done of a join that was given up, what
+/// leads to tables without holes holds, and the sessions are exact; the words of links stand after a Link, and after each other frame
+/// whose taker says of each link that it changes; settled links are to core nodes and pins to soft ones, but after a Tell at a core node, a
+/// Seek at the surrogate and a Done; and a new joiner is given each slot up to its prefix.
 ///
 /// It does nothing: its contract is the law.
 ///
@@ -168,6 +169,7 @@ pub fn deliveries_from_invariant()
     ensures fills { FrameFills }
     ensures link { LinkTies }
     ensures words { FrameSays }
+    ensures soft { FrameSoft }
     ensures seek { SeekGives }
     ensures exact { FrameExact }
 {}

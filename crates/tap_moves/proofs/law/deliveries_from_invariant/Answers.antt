@@ -1,4 +1,4 @@
-use Rattle.tap_moves.proofs.InvariantMoves.{frame_exact, frame_fills, frame_says, link_ties, seek_gives}
+use Rattle.tap_moves.proofs.InvariantMoves.{frame_exact, frame_fills, frame_says, frame_soft, link_ties, seek_gives}
 use Rattle.tap_moves.proofs.law.deliveries_from_invariant.Goals as goal
 
 pub returns-clause-fills : goal.returns-clause-fills
@@ -15,3 +15,6 @@ returns-clause-exact c = frame_exact
 
 pub returns-clause-words : goal.returns-clause-words
 returns-clause-words c = frame_says
+
+pub returns-clause-soft : goal.returns-clause-soft
+returns-clause-soft c = frame_soft
