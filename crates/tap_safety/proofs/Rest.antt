@@ -19,12 +19,8 @@ use Rattle.tap_safety.specs.Sessions.{IsOpen}
 use Rattle.tap_safety.specs.Soft.{IsSoft}
 use Rattle.tap_safety.specs.Ties.{hears_words, link_of, status_of}
 use Rattle.tap_safety.specs.Words.{Has, Pins}
-use Rattle.tap_safety.proofs.LinkKeeps.{some_state, status_at}
+use Rattle.tap_safety.proofs.LinkKeeps.{some_state, status_seen}
 use Rattle.tap_safety.proofs.WordsKept.{at_link, link_at}
-
-status_seen : (s : System) (x : List ℕ) (state : NodeState) (status : Status) → s.node x ≡ Some state → state.status ≡ status
-    → status_of s x ≡ Some status
-status_seen s x state status is so = status_at s x state is ∙ ap (λ status. Some status) so
 
 -- ---- how deep sessions are at most
 
