@@ -21,6 +21,7 @@ use Rattle.tap_safety.specs.KnownLaws.{
   FewKeptByJoin,
   LinksAreOnce,
   NamesKept,
+  SeatsNodes,
   SendsAway,
   SpelledKeptByFrame,
   SpelledKeptByStart,
@@ -141,7 +142,7 @@ spelled_start p s s' sent has = spelled p s s' sent (came_start s s' sent has)
 -- ---- ends
 
 module _ (s s' : System) (x : List ℕ) (after : NodeState) (sent : List Frame) (came : Came s s' sent) (done : HasDone s s' x after sent)
-    (away : SendsAway s x sent) (ends : HaveEnds s) where
+    (away : SendsAway s x sent) (seats : SeatsNodes s s') (ends : HaveEnds s) where
   here : HasNode s' x
   here = record { state = after; is = done.is }
 
@@ -153,6 +154,18 @@ module _ (s s' : System) (x : List ℕ) (after : NodeState) (sent : List Frame) 
       elim (came m f among) [
         | inl old ↦ let both = ends.known m f old in (node_on f.from both.0, node_on f.to both.1)
         | inr new ↦ let goes = away f (among_sent s.next sent m f new) in (rw goes.0 here, node_on f.to goes.2)
+      ]
+
+  heard : (y t : List ℕ) (word : Word) → s'.last y t ≡ Some word → HasNode s' t
+  heard y t word last =
+      elim (done.others_words y t) [
+        | inr same ↦ node_on t (ends.receivers y t word (sym same ∙ last))
+        | inl same ↦
+            let now : last_after sent t (s.last x t) ≡ Some word = sym (done.words t) ∙ (rw same at last) in
+            elim (last_cases sent t (s.last x t)) [
+              | inl none ↦ node_on t (ends.receivers x t word (sym none.0 ∙ now))
+              | inr some ↦ node_on t (away (word_frame some.2.from t some.0) some.2.among).2
+            ]
       ]
 
   ends_kept : HaveEnds s'
@@ -168,6 +181,8 @@ module _ (s s' : System) (x : List ℕ) (after : NodeState) (sent : List Frame) 
           | inl same ↦ rw same here
           | inr same ↦ node_on y (ends.senders y t word (sym same ∙ is))
         ];
+    receivers = heard;
+    surrogates = λ b w is. elim (seats b w is) [ inl old ↦ node_on b (ends.surrogates b w old) | inr node ↦ node_on b node ];
   }
 
 pub ends_frame : EndsKeptByFrame

@@ -52,13 +52,17 @@ SpelledKeptByStart = (p : SettingsValue) (s s' : System) (sent : List Frame) →
 abbrev pub SendsAway : System → List ℕ → List Frame → Type 0
 SendsAway s x sent = (f : Frame) → IsAmong f sent → (f.from ≡ x) × (f.to ≡ x → ⊥) × HasNode s f.to
 
+-- who gets a surrogate is a node
+abbrev pub SeatsNodes : System → System → Type 0
+SeatsNodes s s' = (b x : List ℕ) → s'.surrogate b ≡ Some x → (s.surrogate b ≡ Some x) ⊎ HasNode s b
+
 abbrev pub EndsKeptByFrame : Type 0
 EndsKeptByFrame = (s s' : System) (number : ℕ) (frame : Frame) (x : List ℕ) (after : NodeState) (sent : List Frame)
-    → IsTaken s s' number frame sent → HasDone s s' x after sent → SendsAway s x sent → HaveEnds s → HaveEnds s'
+    → IsTaken s s' number frame sent → HasDone s s' x after sent → SendsAway s x sent → SeatsNodes s s' → HaveEnds s → HaveEnds s'
 
 abbrev pub EndsKeptByStart : Type 0
 EndsKeptByStart = (s s' : System) (x : List ℕ) (after : NodeState) (sent : List Frame) → HasSent s s' sent → HasDone s s' x after sent
-    → SendsAway s x sent → HaveEnds s → HaveEnds s'
+    → SendsAway s x sent → SeatsNodes s s' → HaveEnds s → HaveEnds s'
 
 -- ---- a core node
 
