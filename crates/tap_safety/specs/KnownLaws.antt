@@ -105,6 +105,12 @@ abbrev pub StampsKeptByStart : Type 0
 StampsKeptByStart = (s s' : System) (x : List ℕ) (before after : NodeState) (sent : List Frame) → HasSent s s' sent
     → ChangesAt s s' x before after → HasDone s s' x after sent → Stamps before after x sent → Versions s → AreStamped s → AreStamped s'
 
+-- and by the start of a join, at which a new name sends no Link
+abbrev pub StampsKeptByJoin : Type 0
+StampsKeptByJoin = (s s' : System) (x : List ℕ) (after : NodeState) (sent : List Frame) → HasSent s s' sent → HasDone s s' x after sent
+    → s.node x ≡ None → ((w t : List ℕ) (version : ℕ) (on : Bool) → IsSent sent w t (Link version on) → ⊥) → HaveEnds s → AreStamped s
+    → AreStamped s'
+
 -- ---- while nobody departs
 
 abbrev pub PeaceIsKept : Type 0

@@ -5,7 +5,7 @@ ghost use Rattle.tap_safety.specs.CountSteps.{CountedKeptByOpening, CountedKeptB
 ghost use Rattle.tap_safety.specs.KnownLaws.{CoreKept, EndedKept, EndsKeptByFrame, EndsKeptByStart, FewKept, FewKeptByJoin, NamesKept};
 ghost use Rattle.tap_safety.specs.KnownLaws.{DepartsUntilRest, FrameLeavesNotices, NoticesKeptBySteps};
 ghost use Rattle.tap_safety.specs.KnownLaws.{FrameIsAtPeace, NoticesKeptAtPeace, PeaceIsKept, SpelledKeptByFrame, SpelledKeptByStart};
-ghost use Rattle.tap_safety.specs.KnownLaws.{StampsKeptByFrame, StampsKeptByStart};
+ghost use Rattle.tap_safety.specs.KnownLaws.{StampsKeptByFrame, StampsKeptByJoin, StampsKeptByStart};
 ghost use Rattle.tap_safety.specs.StepLaws.{DeliveryIsStep, NumberIsFound, NumbersKeptByFrame, NumbersKeptByStart, StartIsStep, StrayIsLost};
 ghost use Rattle.tap_safety.specs.StepLaws.{FilledKeptByForget, FilledKeptByHello, FilledKeptByJoin, FilledKeptByPlainFrame};
 ghost use Rattle.tap_safety.specs.StepLaws.{FilledKeptByRelease, FilledKeptByStart, FilledKeptByTellCeased, FilledKeptByTellJoining};
@@ -286,6 +286,7 @@ pub fn known_law()
     ensures ended { EndedKept }
     ensures stamps_frame { StampsKeptByFrame }
     ensures stamps_start { StampsKeptByStart }
+    ensures stamps_join { StampsKeptByJoin }
 {}
 
 /// While nobody departs: a frame that is delivered leaves it so; a step that sends no notice keeps what is said of notices, and of
