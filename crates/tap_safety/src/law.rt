@@ -1,4 +1,5 @@
 ghost use Rattle.tap_safety.specs.AtRest.{InvariantAtRest};
+ghost use Rattle.tap_safety.specs.FewSessions.{FewSessionsAtRest, FewSessionsKept};
 ghost use Rattle.tap_safety.specs.Rest.{RestHolds};
 ghost use Rattle.tap_safety.specs.CountSteps.{CountedKeptByAnswer, CountedKeptByAnswering, CountedKeptByClosing, CountedKeptByLastAnswer};
 ghost use Rattle.tap_safety.specs.CountSteps.{CountedKeptByOpening, CountedKeptByOthers, CountedKeptByRoot};
@@ -231,6 +232,17 @@ pub fn counts_law()
 pub fn rest_law()
     ensures members { InvariantAtRest }
     ensures rest { RestHolds }
+{}
+
+/// Beside the invariant: each node has few sessions of one joiner open, at the beginning, and after a step that opens none, if each node
+/// may have as many as before.
+///
+/// It does nothing: its contract is the law.
+///
+/// Rule: docs/PROTOCOL.md, "Tell".
+pub fn few_sessions_law()
+    ensures members { FewSessionsAtRest }
+    ensures others { FewSessionsKept }
 {}
 
 /// What the laws of Tells, Dones and Seeks ask for before the step: the invariant gives it, if nobody departs.
