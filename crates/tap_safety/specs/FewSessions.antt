@@ -1,5 +1,5 @@
 -- How many sessions of one joiner a node has open at most, beside the invariant.
-use Rattle.std.specs.Prelude.{◌≡◌, ℕ, ◌+◌, ◌-◌, ◌≤◌, Bool, if◌then◌else◌, List, length, Option, None, Some}
+use Rattle.std.specs.Prelude.{◌≡◌, ℕ, ◌+◌, ◌-◌, ◌≤◌, Bool, if◌then◌else◌, List, ◌⊎◌, length, Option, None, Some}
 use Rattle.tap_name.specs.Names.{has_name}
 use Rattle.tap_name.specs.Settings.{SettingsValue}
 use Rattle.tap_multicast.specs.Covers.{level_kept}
@@ -48,3 +48,10 @@ MayHaveAsMany p s s' = (x b : List ℕ) (now : NodeState) → s'.node x ≡ Some
 abbrev pub FewSessionsKept : Type 0
 FewSessionsKept = (p : SettingsValue) (s s' : System) → ((x b : List ℕ) (k : ℕ) → IsOpenOf s' x b k → IsOpenOf s x b k)
     → MayHaveAsMany p s s' → SessionsAreFew p s → SessionsAreFew p s'
+
+-- and so does one that opens a session of b at x, with this number, if x may then have one more
+abbrev pub FewSessionsKeptByOpening : Type 0
+FewSessionsKeptByOpening = (p : SettingsValue) (s s' : System) (x b : List ℕ) (l : ℕ)
+    → ((y d : List ℕ) (k : ℕ) → IsOpenOf s' y d k → IsOpenOf s y d k ⊎ ((y ≡ x) × (d ≡ b) × (k ≡ l))) → MayHaveAsMany p s s'
+    → ((was now : NodeState) → s.node x ≡ Some was → s'.node x ≡ Some now → most_at p was b + 1 ≤ most_at p now b)
+    → SessionsAreFew p s → SessionsAreFew p s'

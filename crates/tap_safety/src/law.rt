@@ -1,5 +1,5 @@
 ghost use Rattle.tap_safety.specs.AtRest.{InvariantAtRest};
-ghost use Rattle.tap_safety.specs.FewSessions.{FewSessionsAtRest, FewSessionsKept};
+ghost use Rattle.tap_safety.specs.FewSessions.{FewSessionsAtRest, FewSessionsKept, FewSessionsKeptByOpening};
 ghost use Rattle.tap_safety.specs.Rest.{RestHolds};
 ghost use Rattle.tap_safety.specs.CountSteps.{CountedKeptByAnswer, CountedKeptByAnswering, CountedKeptByClosing, CountedKeptByLastAnswer};
 ghost use Rattle.tap_safety.specs.CountSteps.{CountedKeptByOpening, CountedKeptByOthers, CountedKeptByRoot};
@@ -235,7 +235,7 @@ pub fn rest_law()
 {}
 
 /// Beside the invariant: each node has few sessions of one joiner open, at the beginning, and after a step that opens none, if each node
-/// may have as many as before.
+/// may have as many as before, or one, if its node may have one more.
 ///
 /// It does nothing: its contract is the law.
 ///
@@ -243,6 +243,7 @@ pub fn rest_law()
 pub fn few_sessions_law()
     ensures members { FewSessionsAtRest }
     ensures others { FewSessionsKept }
+    ensures opened { FewSessionsKeptByOpening }
 {}
 
 /// What the laws of Tells, Dones and Seeks ask for before the step: the invariant gives it, if nobody departs.
