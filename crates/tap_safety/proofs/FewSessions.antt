@@ -4,8 +4,9 @@ use Rattle.std.proofs.lemmas.Bool.{cases_Bool, true≢false}
 use Rattle.std.proofs.lemmas.Slice.Eq.{bytes_eq-Decides}
 use Rattle.std.specs.Prelude.{bytes_eq}
 use Rattle.tap_rule.specs.Node.{NodeState}
-use Rattle.tap_safety.specs.FewSessions.{FewSessionsAtRest, FewSessionsKept, FewSessionsKeptByOpening, HasFewSessions, most_at}
+use Rattle.tap_safety.specs.FewSessions.{FewSessionsAtRest, FewSessionsKept, FewSessionsKeptByOpening, HasFewSessions, IsOpenOf, most_at}
 use Rattle.tap_safety.specs.Remembered.{OpenSession}
+use Rattle.tap_safety.specs.System.{System}
 
 pub few_at_rest : FewSessionsAtRest
 few_at_rest p members are = record {
@@ -16,14 +17,20 @@ few_at_rest p members are = record {
   };
 }
 
+has_none : (s : System) (x b : List ℕ) (most : ℕ) → ((k : ℕ) → IsOpenOf s x b k → ⊥) → HasFewSessions s x b most
+has_none s x b most none = record { numbers = []; few = omega arith; all = λ k of. absurd (none k of) }
+
 pub few_sessions_kept : FewSessionsKept
 few_sessions_kept p s s' were as_many few = record {
   each = λ x b now is.
-      let before = as_many x b now is in
-      let old = few.each x b before.0 before.1 in
-      let less = old.few in
-      let more = before.2 in
-      record { numbers = old.numbers; few = omega arith; all = λ k of. old.all k (were x b k of) };
+      elim (as_many x b now is) [
+        | inl none ↦ has_none s' x b (most_at p now b) none
+        | inr before ↦
+            let old = few.each x b before.0 before.1 in
+            let less = old.few in
+            let more = before.2 in
+            record { numbers = old.numbers; few = omega arith; all = λ k of. old.all k (were x b k of) }
+      ];
 }
 
 pub few_sessions_opened : FewSessionsKeptByOpening
@@ -47,21 +54,24 @@ few_sessions_opened p s s' x b l comes as_many more few = record { each = each }
 
     each : (y d : List ℕ) (now : NodeState) → s'.node y ≡ Some now → HasFewSessions s' y d (most_at p now d)
     each y d now is =
-        let before = as_many y d now is in
-        let old = few.each y d before.0 before.1 in
-        let less = old.few in
-        let enough = before.2 in
-        elim (there y d) [
-          | inl here ↦
-              let one = rises y d before.0 now here.0 here.1 before.1 is in
-              record {
-                numbers = l ∷ old.numbers;
-                few = omega arith;
-                all = λ k of. elim (comes y d k of) [ inl was ↦ inr (old.all k was) | inr new ↦ inl new.2 ];
-              }
-          | inr apart ↦ record {
-            numbers = old.numbers;
-            few = omega arith;
-            all = λ k of. elim (comes y d k of) [ inl was ↦ old.all k was | inr new ↦ absurd (apart new.0 new.1) ];
-          }
+        elim (as_many y d now is) [
+          | inl none ↦ has_none s' y d (most_at p now d) none
+          | inr before ↦
+              let old = few.each y d before.0 before.1 in
+              let less = old.few in
+              let enough = before.2 in
+              elim (there y d) [
+                | inl here ↦
+                    let one = rises y d before.0 now here.0 here.1 before.1 is in
+                    record {
+                      numbers = l ∷ old.numbers;
+                      few = omega arith;
+                      all = λ k of. elim (comes y d k of) [ inl was ↦ inr (old.all k was) | inr new ↦ inl new.2 ];
+                    }
+                | inr apart ↦ record {
+                  numbers = old.numbers;
+                  few = omega arith;
+                  all = λ k of. elim (comes y d k of) [ inl was ↦ old.all k was | inr new ↦ absurd (apart new.0 new.1) ];
+                }
+              ]
         ]

@@ -39,10 +39,10 @@ pub record SessionsAreFew (p : SettingsValue) (s : System) : Type 0 where
 abbrev pub FewSessionsAtRest : Type 0
 FewSessionsAtRest = (p : SettingsValue) (members : List (List ℕ)) → AreMembers p members → SessionsAreFew p (system_at_rest p members)
 
--- each node was one, and may have as many sessions as before
+-- of each joiner a node has no session open, or it was a node before, and may have as many as then
 abbrev pub MayHaveAsMany : SettingsValue → System → System → Type 0
 MayHaveAsMany p s s' = (x b : List ℕ) (now : NodeState) → s'.node x ≡ Some now
-    → (was : NodeState) × (s.node x ≡ Some was) × (most_at p was b ≤ most_at p now b)
+    → ((k : ℕ) → IsOpenOf s' x b k → ⊥) ⊎ ((was : NodeState) × (s.node x ≡ Some was) × (most_at p was b ≤ most_at p now b))
 
 -- a step that opens no session keeps them few
 abbrev pub FewSessionsKept : Type 0

@@ -235,7 +235,7 @@ pub fn rest_law()
 {}
 
 /// Beside the invariant: each node has few sessions of one joiner open, at the beginning, and after a step that opens none, if each node
-/// may have as many as before, or one, if its node may have one more.
+/// that has some may have as many as before, or one, if its node may have one more.
 ///
 /// It does nothing: its contract is the law.
 ///
