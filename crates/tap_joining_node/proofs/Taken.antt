@@ -63,7 +63,8 @@ module _ (node : NodeState) (joins : node.status ≡ Joining) (alone : node.poin
       let joining : r.state.status ≡ Joining = keeps.status ∙ joins in
       follows_quietly node r after before sent news (subst IsRunning (sym joining) tt) keeps.lays laid steps
 
-  pub tell_follows : (tell : TellFields) (watch : List Slot) → frame.body ≡ tell_of tell watch → Steps (meets node frame.from tell) → Follows
+  pub tell_follows : (tell : TellFields) (watch : List Slot) → frame.body ≡ tell_of tell watch → Steps (meets node frame.from tell)
+      → Follows
   unfolding frame_at_joining
   tell_follows tell watch is steps = rw is (follows (meets node frame.from tell) (meets_keeps node frame.from tell) steps)
 

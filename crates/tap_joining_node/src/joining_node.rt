@@ -217,7 +217,7 @@ impl JoiningNode {
         Ok(News::Nothing)
     }
 
-    // Heard or Ack.
+    // Heard or Ack: a session has one answer more, and after the last one its parent is answered.
     fn answered(&mut self, sent: &mut FrameList, session: u32) -> Result<News, NoMemory>
         requires { HaveParents self.old.joining.ties.table.settings self.old.sessions }
         ensures { IfOk result (λ news. StepsAs (joining_state self.old) (answered (joining_state self.old) session)

@@ -12,7 +12,8 @@ use Rattle.tap_joining_node.proofs.joining_node.JoiningNode.becomes_core.Goals a
 
 pub send_each-requires-clause-to : goal.send_each-requires-clause-to
 send_each-requires-clause-to c =
-    rw (c.in_ok-holders.ensures, c.ties.ensures, c.sender-sender.ensures.value) (holders_named c.args.self.joining.ties c.sender-sender.ensures.valid)
+    rw (c.in_ok-holders.ensures, c.ties.ensures, c.sender-sender.ensures.value)
+    (holders_named c.args.self.joining.ties c.sender-sender.ensures.valid)
 
 pub returns : goal.returns
 returns c =
@@ -20,4 +21,5 @@ returns c =
     let sender = rw c.sender-sender.ensures.value at c.in_ok-send_each.ensures in
     let frames = rw (c.in_ok-holders.ensures, c.ties.ensures) at sender in
     rw (c.finish.ensures, c.requires)
-    (messages_step node (becomes_core node).state (to_each Release (holders_on node.ties)) RuleCore c.args.sent.now c.send_each.new.sent frames)
+    (messages_step node (becomes_core node).state (to_each Release (holders_on node.ties)) RuleCore c.args.sent.now
+    c.send_each.new.sent frames)

@@ -11,33 +11,37 @@ use Rattle.tap_joining_node.proofs.joining_node.JoiningNode.take.Goals as goal
 
 pub meets-requires-clause-other : goal.meets-requires-clause-other
 meets-requires-clause-other c =
+    let told = c.in-Tell in
     tells_other (joining_state c.args.self.now) c.args.frame.now c.requires.may
-    (record { joiner = c.in-Tell.joiner; prefix = c.in-Tell.prefix; level = c.in-Tell.level; session = c.in-Tell.session; depth = c.in-Tell.depth })
-    c.in-Tell.watch c.in-Tell.is
+    (record { joiner = told.joiner; prefix = told.prefix; level = told.level; session = told.session; depth = told.depth })
+    told.watch told.is
 
 pub returns-in-Tell : goal.returns-in-Tell
 returns-in-Tell c =
+    let told = c.in-Tell in
     IfOk-weaker c.meets.result _ _
     (λ news steps.
     tell_follows (joining_state c.args.self.now) refl (c.requires.may.sound.alone refl) c.args.frame.now (joining_state c.meets.new.self)
-    c.args.sent.now c.meets.new.sent news (record { joiner = c.in-Tell.joiner; prefix = c.in-Tell.prefix; level = c.in-Tell.level; session = c.in-Tell.session; depth = c.in-Tell.depth })
-    c.in-Tell.watch c.in-Tell.is steps)
+    c.args.sent.now c.meets.new.sent news
+    (record { joiner = told.joiner; prefix = told.prefix; level = told.level; session = told.session; depth = told.depth })
+    told.watch told.is steps)
     c.meets.ensures
 
 pub returns-in-Hello : goal.returns-in-Hello
 returns-in-Hello c =
     IfOk-weaker c.takes_hello.result _ _
     (λ news steps.
-    hello_follows (joining_state c.args.self.now) refl (c.requires.may.sound.alone refl) c.args.frame.now (joining_state c.takes_hello.new.self)
-    c.args.sent.now c.takes_hello.new.sent news c.in-Hello.session c.in-Hello.core c.in-Hello.links c.in-Hello.is steps)
+    hello_follows (joining_state c.args.self.now) refl (c.requires.may.sound.alone refl) c.args.frame.now
+    (joining_state c.takes_hello.new.self) c.args.sent.now c.takes_hello.new.sent news
+    c.in-Hello.session c.in-Hello.core c.in-Hello.links c.in-Hello.is steps)
     c.takes_hello.ensures
 
 pub returns-in-Release : goal.returns-in-Release
 returns-in-Release c =
     IfOk-weaker c.releases.result _ _
     (λ news steps.
-    release_follows (joining_state c.args.self.now) refl (c.requires.may.sound.alone refl) c.args.frame.now (joining_state c.releases.new.self)
-    c.args.sent.now c.releases.new.sent news c.in-Release.is steps)
+    release_follows (joining_state c.args.self.now) refl (c.requires.may.sound.alone refl) c.args.frame.now
+    (joining_state c.releases.new.self) c.args.sent.now c.releases.new.sent news c.in-Release.is steps)
     c.releases.ensures
 
 pub returns-in_ok-hears-in-Link : goal.returns-in_ok-hears-in-Link
@@ -59,16 +63,16 @@ pub returns-in-Cast : goal.returns-in-Cast
 returns-in-Cast c =
     IfOk-weaker c.answers_cast.result _ _
     (λ news steps.
-    cast_follows (joining_state c.args.self.now) refl (c.requires.may.sound.alone refl) c.args.frame.now (joining_state c.answers_cast.new.self)
-    c.args.sent.now c.answers_cast.new.sent news _ _ c.in-Cast.session _ _ c.in-Cast.is steps)
+    cast_follows (joining_state c.args.self.now) refl (c.requires.may.sound.alone refl) c.args.frame.now
+    (joining_state c.answers_cast.new.self) c.args.sent.now c.answers_cast.new.sent news _ _ c.in-Cast.session _ _ c.in-Cast.is steps)
     c.answers_cast.ensures
 
 pub returns-in-Heard : goal.returns-in-Heard
 returns-in-Heard c =
     IfOk-weaker c.answered.result _ _
     (λ news steps.
-    answer_follows (joining_state c.args.self.now) refl (c.requires.may.sound.alone refl) c.args.frame.now (joining_state c.answered.new.self)
-    c.args.sent.now c.answered.new.sent news c.in-Heard.session c.in-Heard.is steps)
+    answer_follows (joining_state c.args.self.now) refl (c.requires.may.sound.alone refl) c.args.frame.now
+    (joining_state c.answered.new.self) c.args.sent.now c.answered.new.sent news c.in-Heard.session c.in-Heard.is steps)
     c.answered.ensures
 
 pub returns-in-Seek : goal.returns-in-Seek
