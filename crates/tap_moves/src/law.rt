@@ -145,7 +145,7 @@ pub fn starts_keep()
 /// What moves keep of each node and of each frame, whatever its kind and whatever the status of its receiver: each node keeps what nodes
 /// keep, stands under its own name, speaks of names alone, and has its pairs laid as wanted while it runs; and each frame under way has a
 /// spelling. A frame that is delivered keeps this, be it strange or not, and so does whatever a node may start, if an object is a name and
-/// what is cast is a word. So does every possible move, if frames are numbered and their receivers known.
+/// what is cast is a word. So does every possible move, if frames are numbered.
 ///
 /// It does nothing: its contract is the law.
 ///
@@ -156,8 +156,8 @@ pub fn parts_kept()
     ensures moves { MoveKeepsParts }
 {}
 
-/// If the invariant holds, each node is one that steps keep valid, and each frame has a spelling, then once a frame under way is delivered
-/// that isn't strange to its receiver: after each frame of a join, of pointers and of casts, but the Done of a join that was given up, what
+/// If the invariant holds, and each node is one that steps keep valid, then once a frame under way is delivered that isn't strange to its
+/// receiver: after each frame of a join, of pointers and of casts, but the Done of a join that was given up, what
 /// leads to tables without holes holds, and the sessions are exact; the words of links stand after a Link, and after each other frame
 /// whose taker says of each link that it changes; settled links are to core nodes and pins to soft ones, but after a Tell at a core node, a
 /// Seek at the surrogate and a Done; and a new joiner is given each slot up to its prefix.
