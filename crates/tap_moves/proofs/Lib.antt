@@ -16,6 +16,7 @@ pub mod WordsMade
 pub mod SoftMade
 pub mod StartsMade
 pub mod InvariantMoves
+pub mod SessionMoves
 pub mod Spelled
 pub mod FewLinks
 pub mod SpelledJoins
