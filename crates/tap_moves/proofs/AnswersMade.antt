@@ -191,7 +191,7 @@ module _ (body : ℕ → Body)
             w,
             m,
             child s s' number node from k a w m before taken remembers status is waits
-            (parent ∙ ap (parent_at last.session.joiner) above) last above,
+                (parent ∙ ap (parent_at last.session.joiner) above) last above,
           )
 
 pub heard_is_taken : AnswerIsTaken Heard

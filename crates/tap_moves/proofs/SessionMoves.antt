@@ -4,6 +4,7 @@ use Rattle.tap_name.specs.Settings.{SettingsValue}
 use Rattle.tap_name.specs.declared.slot.Slot.{Slot}
 use Rattle.tap_session.specs.declared.parent.Parent.TheVariants.{Node, Root}
 use Rattle.tap_session.specs.Session.{SessionsValue}
+use Rattle.tap_session.specs.Sessions.{session_of}
 use Rattle.tap_join.specs.Seek.{sought}
 use Rattle.tap_join.specs.declared.sought.Sought.{Sought}
 use Rattle.tap_join.specs.declared.sought.Sought.TheVariants.{Forward, Surrogate}
@@ -12,12 +13,15 @@ use Rattle.tap_wire.specs.declared.frame.Body.TheVariants.{Ack, Done, Forget, He
 use Rattle.tap_wire.specs.declared.frame.Frame.{Frame}
 use Rattle.tap_wire.specs.declared.frame.TellFields.{TellFields}
 use Rattle.tap_rule.specs.Ceasing.{acknowledges, ceases}
-use Rattle.tap_rule.specs.Event.{Acted}
+use Rattle.tap_rule.specs.Act.{act}
+use Rattle.tap_rule.specs.Event.{Acted, Start}
+use Rattle.tap_rule.specs.Event.Event.{Starts, Takes}
+use Rattle.tap_rule.specs.Event.Start.{Abandon, Cast, Find, Join, Leave, Publish, Withdraw}
 use Rattle.tap_rule.specs.FrameRules.{frame_at_ceased, frame_at_core, frame_at_joining, frame_at_leaving, rule_of_frame}
 use Rattle.tap_rule.specs.Joining.{becomes_core}
 use Rattle.tap_rule.specs.JoinSteps.{SeeksAs}
 use Rattle.tap_rule.specs.Laws.{AnswerLaw, frame_to}
-use Rattle.tap_rule.specs.Node.{NodeState, Status, name_of}
+use Rattle.tap_rule.specs.Node.{NodeState, Status, joiner, name_of}
 use Rattle.tap_rule.specs.Node.Status.{Ceased, Core, Gone, Joining, Leaving}
 use Rattle.tap_rule.specs.QuietSteps.{IsQuiet}
 use Rattle.tap_rule.specs.Reaction.{Reaction}
@@ -29,126 +33,153 @@ use Rattle.tap_rule.proofs.JoinSteps.{hello_law, meet_law}
 use Rattle.tap_rule.proofs.OneName.{not_own}
 use Rattle.tap_rule.proofs.QuietSteps.{quiet_law}
 use Rattle.tap_safety.specs.Awaited.{AreAwaitedOnce}
-use Rattle.tap_safety.specs.Bookkeeping.{HasPlace, HavePlaces, KeepsPlaces, holds_sessions}
+use Rattle.tap_safety.specs.Bookkeeping.{HasPlace, HavePlaces, KeepsPlaces, TellsAreDeeper, holds_sessions}
 use Rattle.tap_safety.specs.Frames.{HelloFields, hello_body, tell_body}
+use Rattle.tap_safety.specs.Invariant.{Invariant}
+use Rattle.tap_safety.specs.Move.{may_start}
+use Rattle.tap_safety.specs.Moved.{starter}
 use Rattle.tap_safety.specs.Remembered.{OpenSession}
+use Rattle.tap_safety.specs.Seeking.{HasNode}
+use Rattle.tap_safety.specs.Spelled.{most_names}
 use Rattle.tap_safety.specs.Sessions.{AreExact, IsOpen, ways_of}
 use Rattle.tap_safety.specs.SessionSteps.{LeavesSessions, OpensChild, OpensRoot, child_of}
 use Rattle.tap_safety.specs.Step.{AreNumbered, Ascend, ChangesAt}
-use Rattle.tap_safety.specs.System.{System}
+use Rattle.tap_safety.specs.System.{System, IsCoreNode, IsUnderWay}
 use Rattle.tap_safety.specs.Turns.{Turns}
-use Rattle.tap_safety.proofs.StepLaws.{awaited_closing_law, awaited_handing_on_law, awaited_last_law, awaited_opening_law, awaited_others_law, awaited_root_law, closing_turns_law, handing_on_turns_law, last_turns_law, numbers_new_law, opening_turns_law, places_law, root_turns_law}
+use Rattle.tap_safety.proofs.CountedKept.{counted_others}
+use Rattle.tap_safety.proofs.Known.{core_kept, few_join, few_kept, names_kept}
+use Rattle.tap_safety.proofs.Moves.{delivers, found, numbers_sent, numbers_taken, starts}
+use Rattle.tap_safety.proofs.StepLaws.{await_others_law, awaited_closing_law, awaited_handing_on_law, awaited_last_law, awaited_opening_law, awaited_others_law, awaited_root_law, closing_turns_law, handing_on_turns_law, last_turns_law, numbers_new_law, opening_turns_law, places_law, root_turns_law}
 use Rattle.tap_moves.specs.ByRule.{taken_at}
-use Rattle.tap_moves.specs.Delivered.{after_delivery}
+use Rattle.tap_moves.specs.Delivered.{after_delivery, after_start}
 use Rattle.tap_moves.specs.InSession.{OpensOrAnswers}
 use Rattle.tap_moves.specs.InvariantLaws.{IsDelivery}
-use Rattle.tap_moves.specs.SessionMoves.{FrameAwaits, FramePlaces, FrameSteps, IsLastOpened, IsOfKind, SessionStep, StepsSessions}
+use Rattle.tap_moves.specs.SessionMoves.{AreBooked, AreNamed, FrameAwaits, FrameCore, FrameNames, FramePlaces, FrameSteps, GoesOnAs, IsLastOpened, IsOfKind, OutsideBooks, SessionStep, StartNames, StepsSessions}
 use Rattle.tap_moves.specs.SessionMoves.SessionStep.{ClosesBelow, ClosesTop, Hands, LeavesAll, OpensBelow, OpensTop}
 use Rattle.tap_moves.specs.SessionsLaws.{IsOutside, sent_at}
+use Rattle.tap_moves.specs.Spelled.{AreNodes, IsNamedStart}
 use Rattle.tap_moves.proofs.AnswersMade.{AnswerIsTaken, IsAnswered, ack_is_taken, heard_is_taken}
 use Rattle.tap_moves.proofs.InSession.{ceased_answers, one_place, seek_opens, tell_in_session}
 use Rattle.tap_moves.proofs.InvariantMoves.{before_taking, due, name_at, of_node, told_name, way}
-use Rattle.tap_moves.proofs.MovesMade.{by_rule, remembers}
-use Rattle.tap_moves.proofs.OutsideMade.{hello_hands_on, outside_aside, outside_leaves}
+use Rattle.tap_moves.proofs.MovesMade.{by_rule, is_found, remembers}
+use Rattle.tap_moves.proofs.OutsideMade.{hello_hands_on, outside_leaves}
+use Rattle.tap_moves.proofs.PartsMade.{parts_kept, start_keeps_parts}
 use Rattle.tap_moves.proofs.SessionsMade.{hands_on, opens_child, opens_root}
 
--- ---- a node that holds sessions goes on to
+-- ---- a node goes on as it was
 
-holds_same : (one other : Status) → other ≡ one → holds_sessions one → holds_sessions other
-holds_same one other same holds = subst holds_sessions (sym same) holds
+goes_on_same : (one other : Status) → other ≡ one → GoesOnAs one other
+goes_on_same one other same =
+    record { holds = subst holds_sessions (sym same); core = subst (λ n. (n ≡ Core) ⊎ (n ≡ Leaving)) (sym same) }
+
+-- a joining node isn't core
+joining_no_core : (status : Status) → status ≡ Joining → (status ≡ Core) ⊎ (status ≡ Leaving) → ⊥
+joining_no_core status joins (inl core) = let wrong : Joining ≡ Core = sym joins ∙ core in absurd (cc)
+joining_no_core status joins (inr leaving) = let wrong : Joining ≡ Leaving = sym joins ∙ leaving in absurd (cc)
+
+-- a node is left so: it goes on as it was, with its sessions
+record IsLeft (node after : NodeState) : Type 0 where
+  status : GoesOnAs node.status after.status
+  sessions : after.sessions ≡ node.sessions
 
 -- so it is by a rule, if there is one
-abbrev IsHeldBy : NodeState → Option Reaction → Type 0
-IsHeldBy node None = Unit {0}
-IsHeldBy node (Some r) = holds_sessions node.status → holds_sessions r.state.status
+abbrev IsLeftBy : NodeState → Option Reaction → Type 0
+IsLeftBy node None = Unit {0}
+IsLeftBy node (Some r) = IsLeft node r.state
 
-held_by : (node : NodeState) (from : List ℕ) (body : Body) → is_strange node (frame_to node from body) ≡ false
-    → IsHeldBy node (rule_of_frame node.status node from body) → holds_sessions node.status
-    → holds_sessions (taken_at node from body).state.status
-held_by node from body known held holds = step (rule_of_frame node.status node from body) refl held
+left_same : (node after : NodeState) → after.status ≡ node.status → after.sessions ≡ node.sessions → IsLeft node after
+left_same node after status sessions = record { status = goes_on_same node.status after.status status; sessions = sessions }
+
+left_by : (node : NodeState) (from : List ℕ) (body : Body) → is_strange node (frame_to node from body) ≡ false
+    → IsLeftBy node (rule_of_frame node.status node from body) → IsLeft node (taken_at node from body).state
+left_by node from body known left = step (rule_of_frame node.status node from body) refl left
   where
-    step : (rule : Option Reaction) → rule_of_frame node.status node from body ≡ rule → IsHeldBy node rule
-        → holds_sessions (taken_at node from body).state.status
-    step None is held =
-        holds_same node.status (taken_at node from body).state.status
-        (ap (λ (n : NodeState). n.status) (unruled_law node (frame_to node from body) is).state) holds
-    step (Some r) is held =
-        holds_same r.state.status (taken_at node from body).state.status (frame_law node (frame_to node from body) r known is).status
-        (held holds)
+    step : (rule : Option Reaction) → rule_of_frame node.status node from body ≡ rule → IsLeftBy node rule
+        → IsLeft node (taken_at node from body).state
+    step None is left =
+        let same = (unruled_law node (frame_to node from body) is).state in
+        left_same node (taken_at node from body).state (ap (λ (n : NodeState). n.status) same) (ap (λ (n : NodeState). n.sessions) same)
+    step (Some r) is left =
+        let carried = frame_law node (frame_to node from body) r known is in
+        record {
+          status = subst (λ n. GoesOnAs node.status n) (sym carried.status) left.status;
+          sessions = carried.sessions ∙ left.sessions;
+        }
 
-done_ends : (node : NodeState) (given_up : Bool) → IsHeldBy node (Some (if given_up then ceases node else becomes_core node))
-done_ends node true holds = tt
-done_ends node false holds = tt
+done_ends : (node : NodeState) (given_up : Bool) → node.status ≡ Joining
+    → IsLeftBy node (Some (if given_up then ceases node else becomes_core node))
+done_ends node true joins =
+    record { status = record { holds = λ holds. tt; core = λ core. absurd (joining_no_core node.status joins core) }; sessions = refl }
+done_ends node false joins = record { status = record { holds = λ holds. tt; core = λ core. inl refl }; sessions = refl }
 
-done_held : (status : Status) (node : NodeState) (from : List ℕ) → IsHeldBy node (rule_of_frame status node from Done)
+done_left : (status : Status) (node : NodeState) (from : List ℕ) → node.status ≡ status
+    → IsLeftBy node (rule_of_frame status node from Done)
 unfolding frame_at_joining frame_at_core frame_at_leaving frame_at_ceased
-done_held Joining node from = done_ends node node.abandoned
-done_held Core node from = tt
-done_held Leaving node from = tt
-done_held Gone node from = tt
-done_held Ceased node from = tt
+done_left Joining node from at = done_ends node node.abandoned at
+done_left Core node from at = tt
+done_left Leaving node from at = tt
+done_left Gone node from at = tt
+done_left Ceased node from at = tt
 
-release_held : (status : Status) (node : NodeState) (from : List ℕ) → IsHeldBy node (rule_of_frame status node from Release)
+release_left : (status : Status) (node : NodeState) (from : List ℕ) → IsLeftBy node (rule_of_frame status node from Release)
 unfolding frame_at_joining frame_at_core frame_at_leaving frame_at_ceased
-release_held Joining node from = λ holds. holds
-release_held Core node from = λ holds. holds
-release_held Leaving node from = tt
-release_held Gone node from = tt
-release_held Ceased node from = tt
+release_left Joining node from = left_same node _ refl refl
+release_left Core node from = left_same node _ refl refl
+release_left Leaving node from = tt
+release_left Gone node from = tt
+release_left Ceased node from = tt
 
-forget_held : (status : Status) (node : NodeState) (from : List ℕ) → IsHeldBy node (rule_of_frame status node from Forget)
+forget_left : (status : Status) (node : NodeState) (from : List ℕ) → IsLeftBy node (rule_of_frame status node from Forget)
 unfolding frame_at_joining frame_at_core frame_at_leaving frame_at_ceased
-forget_held Joining node from = λ holds. holds
-forget_held Core node from = λ holds. holds
-forget_held Leaving node from = tt
-forget_held Gone node from = tt
-forget_held Ceased node from = tt
+forget_left Joining node from = left_same node _ refl refl
+forget_left Core node from = left_same node _ refl refl
+forget_left Leaving node from = tt
+forget_left Gone node from = tt
+forget_left Ceased node from = tt
 
-link_held : (status : Status) (node : NodeState) (from : List ℕ) (version : ℕ) (on : Bool)
-    → IsHeldBy node (rule_of_frame status node from (Link version on))
+link_left : (status : Status) (node : NodeState) (from : List ℕ) (version : ℕ) (on : Bool)
+    → IsLeftBy node (rule_of_frame status node from (Link version on))
 unfolding frame_at_joining frame_at_core frame_at_leaving frame_at_ceased
-link_held Joining node from version on = λ holds. holds
-link_held Core node from version on = λ holds. holds
-link_held Leaving node from version on = λ holds. holds
-link_held Gone node from version on = tt
-link_held Ceased node from version on = λ holds. holds
+link_left Joining node from version on = left_same node _ refl refl
+link_left Core node from version on = left_same node _ refl refl
+link_left Leaving node from version on = left_same node _ refl refl
+link_left Gone node from version on = tt
+link_left Ceased node from version on = left_same node _ refl refl
 
-seek_held : (status : Status) (node : NodeState) (from joiner next : List ℕ) → sought node.ties.table joiner ≡ Forward next
-    → IsHeldBy node (rule_of_frame status node from (Seek joiner))
+seek_left : (status : Status) (node : NodeState) (from joiner next : List ℕ) → sought node.ties.table joiner ≡ Forward next
+    → IsLeftBy node (rule_of_frame status node from (Seek joiner))
 unfolding frame_at_joining frame_at_core frame_at_leaving frame_at_ceased
-seek_held Joining node from joiner next is = tt
-seek_held Core node from joiner next is = rw is (λ holds. holds)
-seek_held Leaving node from joiner next is = tt
-seek_held Gone node from joiner next is = tt
-seek_held Ceased node from joiner next is = tt
+seek_left Joining node from joiner next is = tt
+seek_left Core node from joiner next is = rw is (left_same node _ refl refl)
+seek_left Leaving node from joiner next is = tt
+seek_left Gone node from joiner next is = tt
+seek_left Ceased node from joiner next is = tt
 
-outside_holds : (node : NodeState) (from : List ℕ) (body : Body) → is_strange node (frame_to node from body) ≡ false
-    → IsOutside node body → holds_sessions node.status → holds_sessions (taken_at node from body).state.status
-outside_holds node from Done known outside = held_by node from Done known (done_held node.status node from)
-outside_holds node from Release known outside = held_by node from Release known (release_held node.status node from)
-outside_holds node from Forget known outside = held_by node from Forget known (forget_held node.status node from)
-outside_holds node from (Link version on) known outside =
-    held_by node from (Link version on) known (link_held node.status node from version on)
-outside_holds node from (Seek joiner) known outside =
-    held_by node from (Seek joiner) known (seek_held node.status node from joiner outside.0 outside.1)
-outside_holds node from body known outside =
-    holds_same node.status (taken_at node from body).state.status (quiet_law node (frame_to node from body) outside).status
+outside_left : (node : NodeState) (from : List ℕ) (body : Body) → is_strange node (frame_to node from body) ≡ false
+    → IsOutside node body → IsLeft node (taken_at node from body).state
+outside_left node from Done known outside = left_by node from Done known (done_left node.status node from refl)
+outside_left node from Release known outside = left_by node from Release known (release_left node.status node from)
+outside_left node from Forget known outside = left_by node from Forget known (forget_left node.status node from)
+outside_left node from (Link version on) known outside =
+    left_by node from (Link version on) known (link_left node.status node from version on)
+outside_left node from (Seek joiner) known outside =
+    left_by node from (Seek joiner) known (seek_left node.status node from joiner outside.0 outside.1)
+outside_left node from body known outside =
+    let step = quiet_law node (frame_to node from body) outside in
+    left_same node (taken_at node from body).state step.status step.sessions
 
 -- ---- the kind of each step
 
-opened_in : SessionsValue → ℕ
-opened_in sessions = sessions.opened
-
 -- an answer
 answered_steps : (s s' : System) (number : ℕ) (f : Frame) (own : List ℕ) (k : ℕ) (before after : NodeState) (sent : List (ℕ × Frame))
-    → (holds_sessions before.status → holds_sessions after.status) → after.sessions.opened ≡ before.sessions.opened
-    → IsAnswered s s' number f own k sent → StepsSessions s s' number f before after sent
-answered_steps s s' number f own k before after sent holds same (inl hands) =
-    record { kind = Hands own k; is = hands; last = tt; holds = holds; opened = omega (arith, same) }
-answered_steps s s' number f own k before after sent holds same (inr (inl root)) =
-    record { kind = ClosesTop own k; is = root; last = tt; holds = holds; opened = omega (arith, same) }
-answered_steps s s' number f own k before after sent holds same (inr (inr child)) =
-    record { kind = ClosesBelow own k child.0 child.1; is = child.2; last = tt; holds = holds; opened = omega (arith, same) }
+    → GoesOnAs before.status after.status → after.sessions.opened ≡ before.sessions.opened → IsAnswered s s' number f own k sent
+    → StepsSessions s s' number f before after sent
+answered_steps s s' number f own k before after sent status same (inl hands) =
+    record { kind = Hands own k; is = hands; last = tt; status = status; opened = omega (arith, same) }
+answered_steps s s' number f own k before after sent status same (inr (inl root)) =
+    record { kind = ClosesTop own k; is = root; last = tt; status = status; opened = omega (arith, same) }
+answered_steps s s' number f own k before after sent status same (inr (inr child)) =
+    record { kind = ClosesBelow own k child.0 child.1; is = child.2; last = tt; status = status; opened = omega (arith, same) }
 
 module _ (p : SettingsValue) (s : System) (number : ℕ) (node : NodeState) (from : List ℕ) where
   abbrev after : System
@@ -161,10 +192,10 @@ module _ (p : SettingsValue) (s : System) (number : ℕ) (node : NodeState) (fro
 
   -- a Tell, for which a session is opened, or which is answered at once
   tell_opens : (tell : TellFields) (watch : List Slot) → IsDelivery p s number node from (tell_body tell watch)
-      → holds_sessions (taken_at node from (tell_body tell watch)).state.status
+      → holds_sessions node.status → (taken_at node from (tell_body tell watch)).state.status ≡ node.status
       → OpensOrAnswers node (Node from tell.session) tell.depth (taken_at node from (tell_body tell watch))
       → Steps (tell_body tell watch)
-  tell_opens tell watch is holds (inl opens) =
+  tell_opens tell watch is holds same (inl opens) =
       let body = tell_body tell watch in
       let here = due p s number node from body is in
       let now : (taken_at node from body).state.sessions.opened ≡ node.sessions.opened + 1 =
@@ -174,11 +205,11 @@ module _ (p : SettingsValue) (s : System) (number : ℕ) (node : NodeState) (fro
         is =
             opens_child s after number node from tell watch (before_taking p s is.invariant) (by_rule p s number node from body here)
             (remembers p s number node from body here) opens;
-        last = (refl, sym now, holds, not_own node (frame_to node from body) is.known);
-        holds = λ before. holds;
+        last = (refl, sym now, subst holds_sessions (sym same) holds, not_own node (frame_to node from body) is.known);
+        status = goes_on_same node.status (taken_at node from body).state.status same;
         opened = omega (arith, now);
       }
-  tell_opens tell watch is holds (inr answers) =
+  tell_opens tell watch is holds same (inr answers) =
       let body = tell_body tell watch in
       let here = due p s number node from body is in
       let now : (taken_at node from body).state.sessions.opened ≡ node.sessions.opened =
@@ -189,7 +220,7 @@ module _ (p : SettingsValue) (s : System) (number : ℕ) (node : NodeState) (fro
             hands_on s after number node from tell watch (before_taking p s is.invariant) (by_rule p s number node from body here)
             (remembers p s number node from body here) answers;
         last = tt;
-        holds = λ before. holds;
+        status = goes_on_same node.status (taken_at node from body).state.status same;
         opened = omega (arith, now);
       }
 
@@ -204,15 +235,15 @@ module _ (p : SettingsValue) (s : System) (number : ℕ) (node : NodeState) (fro
   tell_steps tell watch is (inl at) =
       let ties = (due p s number node from (tell_body tell watch) is).is_node.ties in
       let step = tell_law node from tell watch ties (told_name p s number node from tell watch is) at is.known in
-      tell_opens tell watch is (subst holds_sessions (sym (step.status ∙ at)) tt)
+      tell_opens tell watch is (subst holds_sessions (sym at) tt) step.status
       (tell_in_session node from tell watch (inl at) is.known)
   tell_steps tell watch is (inr (inl at)) =
       let ties = (due p s number node from (tell_body tell watch) is).is_node.ties in
       let step = meet_law node from tell watch ties (told_name p s number node from tell watch is) at is.known in
-      tell_opens tell watch is (subst holds_sessions (sym (step.status ∙ at)) tt)
+      tell_opens tell watch is (subst holds_sessions (sym at) tt) step.status
       (tell_in_session node from tell watch (inr at) is.known)
   tell_steps tell watch is (inr (inr at)) =
-      tell_opens tell watch is (subst holds_sessions (sym (ceased_stays tell watch is.known at ∙ at)) tt)
+      tell_opens tell watch is (subst holds_sessions (sym at) tt) (ceased_stays tell watch is.known at)
       (inr (ceased_answers node from tell watch at is.known))
 
   -- an answer
@@ -225,7 +256,7 @@ module _ (p : SettingsValue) (s : System) (number : ℕ) (node : NodeState) (fro
       (remembers p s number node from (body k) here) is.among in
       let step = law node from k taken.is_node.sessions found.0 is.known in
       answered_steps s after number (frame_to node from (body k)) (name_of node) k node (taken_at node from (body k)).state
-      (sent_at s node from (body k)) (holds_same node.status (taken_at node from (body k)).state.status step.joins.status) step.opened
+      (sent_at s node from (body k)) (goes_on_same node.status (taken_at node from (body k)).state.status step.joins.status) step.opened
       found.1
 
   -- a Hello
@@ -243,7 +274,7 @@ module _ (p : SettingsValue) (s : System) (number : ℕ) (node : NodeState) (fro
             hello_hands_on s after number node from hello (before_taking p s is.invariant) (by_rule p s number node from body here)
             (remembers p s number node from body here) at;
         last = tt;
-        holds = holds_same node.status (taken_at node from body).state.status step.joins.status;
+        status = goes_on_same node.status (taken_at node from body).state.status step.joins.status;
         opened = omega (arith, now);
       }
 
@@ -251,14 +282,16 @@ module _ (p : SettingsValue) (s : System) (number : ℕ) (node : NodeState) (fro
   outside_steps : (body : Body) → IsDelivery p s number node from body → IsOutside node body → Steps body
   outside_steps body is outside =
       let here = due p s number node from body is in
-      let same = (outside_aside node from body is.known outside).opened_same in
+      let left = outside_left node from body is.known outside in
+      let same : (taken_at node from body).state.sessions.opened ≡ node.sessions.opened =
+      ap (λ (o : SessionsValue). o.opened) left.sessions in
       record {
         kind = LeavesAll;
         is =
             outside_leaves s after number node from body (before_taking p s is.invariant) (by_rule p s number node from body here)
             (remembers p s number node from body here) outside;
         last = tt;
-        holds = outside_holds node from body is.known outside;
+        status = left.status;
         opened = omega (arith, same);
       }
 
@@ -278,15 +311,15 @@ module _ (p : SettingsValue) (s : System) (number : ℕ) (node : NodeState) (fro
       let seeker = is.invariant.seekers.seeks from (name_of node) joiner (way p s number node from body is) in
       let name = of_node p s number node from body is joiner (name_at p s is.nodes joiner seeker.state seeker.is) in
       let step = subst (SeeksAs node joiner acted) found (seek_law node from joiner here.is_node.ties name at is.known) in
-      let holds = subst holds_sessions (sym (seated_status joiner acted prefix step ∙ at)) tt in
+      let same = seated_status joiner acted prefix step in
       let now : acted.state.sessions.opened ≡ node.sessions.opened + 1 = ap (λ (o : SessionsValue). o.opened) opens.sessions in
       record {
         kind = OpensTop (name_of node) (node.sessions.opened + 1);
         is =
             opens_root s after number node from joiner (before_taking p s is.invariant) (by_rule p s number node from body here)
             (remembers p s number node from body here) seeker opens;
-        last = (refl, sym now, holds);
-        holds = λ before. holds;
+        last = (refl, sym now, subst holds_sessions (sym (same ∙ at)) tt);
+        status = goes_on_same node.status acted.state.status same;
         opened = omega (arith, now);
       }
 
@@ -318,7 +351,7 @@ module _ (s s' : System) (number : ℕ) (f : Frame) (sent : List (ℕ × Frame))
   kind_awaited LeavesAll step new exact numbered once = awaited_others_law s s' step once
 
   -- the sessions turn, or none changes
-  kind_turns : (kind : SessionStep) → IsOfKind kind s s' number f sent → AreExact s → Turns s s' sent ⊎ LeavesSessions s s'
+  pub kind_turns : (kind : SessionStep) → IsOfKind kind s s' number f sent → AreExact s → Turns s s' sent ⊎ LeavesSessions s s'
   kind_turns (Hands w k) step exact = inl (handing_on_turns_law s s' number f w k sent step exact)
   kind_turns (OpensBelow w k x l) step exact = inl (opening_turns_law s s' number f w k x l sent step exact)
   kind_turns (OpensTop x l) step exact = inl (root_turns_law s s' number f x l sent step exact)
@@ -432,7 +465,7 @@ module _ (s s' : System) (number : ℕ) (f : Frame) (before after : NodeState) (
           let same : state ≡ before = cc in
           let mine : holds_sessions before.status = rw (← same) holds in
           let no_fewer : state.sessions.opened ≤ after.sessions.opened = rw same step.opened in
-          (after, ap s'.node here ∙ at.is, step.holds mine, no_fewer)
+          (after, ap s'.node here ∙ at.is, step.status.holds mine, no_fewer)
       | inr other ↦ (state, other ∙ is, holds, omega arith)
     ];
     new = λ y m o is none. new_places step.kind step.is step.last y m o is none;
@@ -461,3 +494,109 @@ frame_places p s number node from body is there =
     let taken = by_rule p s number node from body (due p s number node from body is) in
     steps_places s (after_delivery p s number) number (frame_to node from body) node (taken_at node from body).state
     (sent_at s node from body) taken.at (frame_steps p s number node from body is there) is.invariant.exact is.invariant.places
+
+-- ---- a core node
+
+core_stays : (s s' : System) (x : List ℕ) (before after : NodeState) → ChangesAt s s' x before after
+    → GoesOnAs before.status after.status → IsCoreNode s x → IsCoreNode s' x
+core_stays s s' x before after at goes core =
+    let was = core.is in
+    let here = at.was in
+    let same : core.state ≡ before = cc in
+    record { state = after; is = at.is; core = goes.core (subst (λ (n : NodeState). (n.status ≡ Core) ⊎ (n.status ≡ Leaving)) same core.core) }
+
+pub frame_core : FrameCore
+frame_core p s number node from body is there =
+    let s' = after_delivery p s number in
+    let here = due p s number node from body is in
+    let frame = frame_to node from body in
+    let acted = taken_at node from body in
+    let step = delivers p s number frame node (is_found p s number node from body here) is.at in
+    let goes = (frame_steps p s number node from body is there).status in
+    core_kept s s' (name_of node) acted.state acted.sent step.done
+    (inl (core_stays s s' (name_of node) node acted.state step.at goes)) is.invariant.has_core
+
+-- ---- frames of no session
+
+pub left_deeper : (s s' : System) → LeavesSessions s s' → TellsAreDeeper s → TellsAreDeeper s'
+left_deeper s s' leaves deeper = record {
+  depth = λ from to fields watch session way is.
+      deeper.depth from to fields watch session (was from to fields watch way) (sym (leaves.sessions from fields.session) ∙ is);
+  level = λ from to fields watch way. deeper.level from to fields watch (was from to fields watch way);
+}
+  where
+    was : (from to : List ℕ) (fields : TellFields) (watch : List Slot) → IsUnderWay s' from to (tell_body fields watch)
+        → IsUnderWay s from to (tell_body fields watch)
+    was from to fields watch way = record {
+      number = way.number;
+      among =
+          leaves.was way.number (record { from = from; to = to; body = tell_body fields watch }) from fields.session way.among refl;
+    }
+
+pub outside_books : OutsideBooks
+outside_books p s number node from body is outside =
+    let s' = after_delivery p s number in
+    let taken = by_rule p s number node from body (due p s number node from body is) in
+    let left = outside_left node from body is.known outside in
+    let leaves = outside_leaves s s' number node from body (before_taking p s is.invariant) taken
+    (remembers p s number node from body (due p s number node from body is)) outside in
+    record {
+      await = await_others_law s s' leaves is.invariant.await;
+      counted =
+          counted_others s s' (name_of node) node (taken_at node from body).state leaves taken.at
+          (λ n. ap (λ (sessions : SessionsValue). session_of sessions.sessions n) left.sessions) is.invariant.counted;
+      deeper = left_deeper s s' leaves is.invariant.deeper;
+    }
+
+-- ---- names
+
+pub frame_names : FrameNames
+frame_names p s number frame node inv nodes among at =
+    let s' = after_delivery p s number in
+    let acted = act node (Takes frame) in
+    let step = delivers p s number frame node (found number frame 0 s.frames s.next inv.numbered.numbers among) at in
+    let here : HasNode s frame.to = record { state = node; is = at } in
+    record {
+      names = names_kept p s s' frame.to acted.state acted.sent step.done (inv.names.each frame.to here) inv.names;
+      few = few_kept s s' frame.to acted.state acted.sent most_names step.done here inv.few;
+      spelled = (parts_kept p s number frame node nodes inv.spelled inv.numbered among at).1;
+      numbered = numbers_taken s s' number frame acted.sent step.taken inv.numbered;
+    }
+
+-- a node that starts something, and one that starts to join
+started_names : (p : SettingsValue) (s : System) (x : List ℕ) (start : Start) (node : NodeState) → starter p s x start ≡ Some node
+    → s.node x ≡ Some node → Invariant p s → AreNodes p s → may_start p s x start → IsNamedStart p start
+    → AreNamed p (after_start p s x start)
+started_names p s x start node is at inv nodes may named =
+    let s' = after_start p s x start in
+    let acted = act node (Starts start) in
+    let step = starts p s x start node is in
+    let here : HasNode s x = record { state = node; is = at } in
+    record {
+      names = names_kept p s s' x acted.state acted.sent step.done (inv.names.each x here) inv.names;
+      few = few_kept s s' x acted.state acted.sent most_names step.done here inv.few;
+      spelled = (start_keeps_parts p s x start nodes inv.spelled may named).1;
+      numbered = numbers_sent s s' acted.sent step.sent inv.numbered;
+    }
+
+pub start_names : StartNames
+start_names p s x (Join via) inv nodes may named =
+    let s' = after_start p s x (Join via) in
+    let acted = act (joiner p x) (Starts (Join via)) in
+    let step = starts p s x (Join via) (joiner p x) refl in
+    record {
+      names = names_kept p s s' x acted.state acted.sent step.done may.name inv.names;
+      few = few_join s s' x acted.state acted.sent 255 step.done may.room;
+      spelled = (start_keeps_parts p s x (Join via) nodes inv.spelled may named).1;
+      numbered = numbers_sent s s' acted.sent step.sent inv.numbered;
+    }
+start_names p s x Abandon inv nodes may named = started_names p s x Abandon may.state may.is may.is inv nodes may named
+start_names p s x Leave inv nodes may named = started_names p s x Leave may.acts.state may.acts.is may.acts.is inv nodes may named
+start_names p s x (Publish object) inv nodes may named =
+    started_names p s x (Publish object) may.state may.is may.is inv nodes may named
+start_names p s x (Withdraw object) inv nodes may named =
+    started_names p s x (Withdraw object) may.state may.is may.is inv nodes may named
+start_names p s x (Find ticket object) inv nodes may named =
+    started_names p s x (Find ticket object) may.state may.is may.is inv nodes may named
+start_names p s x (Cast cast level word) inv nodes may named =
+    started_names p s x (Cast cast level word) may.state may.is may.is inv nodes may named

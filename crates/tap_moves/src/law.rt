@@ -3,7 +3,7 @@ ghost use Rattle.tap_moves.specs.FrameLaws.{CeasedTellIsMade, ForgetIsMade, Givi
 ghost use Rattle.tap_moves.specs.Laws.{CeasedAnswers, DoneIsMade, KnownTellIsMade, NewTellIsMade, SeekCovers, SeekGreets, SeekOpens, TellInSession};
 ghost use Rattle.tap_moves.specs.MovesLaws.{AnswerKeepsSessions, CeasedTellKeeps, DeliveryIsByRule, DoneKeeps, ForgetKeeps, GivingUpKeeps, HelloKeeps, HelloKeepsSessions, JoinKeeps, JoiningTellKeeps, KnownTellKeeps, LinkKeeps, OutsideKeepsSessions, PlainKeeps, QuietStartKeeps, ReleaseKeeps, SeekKeeps, SeekKeepsSessions, TellKeeps, TellKeepsSessions};
 ghost use Rattle.tap_moves.specs.InvariantLaws.{FrameExact, FrameFills, FrameSays, FrameSoft, LinkTies, MoveKeepsParts, PartsKept, SeekGives, StartFills, StartKeepsParts};
-ghost use Rattle.tap_moves.specs.SessionMoves.{FrameAwaits, FramePlaces, FrameSteps};
+ghost use Rattle.tap_moves.specs.SessionMoves.{FrameAwaits, FrameCore, FrameNames, FramePlaces, FrameSteps, OutsideBooks, StartNames};
 ghost use Rattle.tap_moves.specs.SessionsLaws.{AnswerClosesChild, AnswerClosesRoot, AnswerHandsOn, AnswerKeepsExact, HandsOnByHello, HandsOnByTell, OpensChildByTell, OpensRootBySeek, OutsideLeavesSessions};
 ghost use Rattle.tap_moves.specs.TiesLaws.{LinkIsMade};
 
@@ -178,7 +178,8 @@ pub fn deliveries_from_invariant()
 /// If the invariant holds, and each node is one that steps keep valid, then a frame that is delivered where a rule takes it does one of six
 /// things with the sessions of joins: one awaits what is sent in place of the frame, one is opened or closed, below another or as the root
 /// of its joiner, or none changes. After it each session awaits each answer once, of sessions that are open, and has its place: at a node
-/// that may have it open and has opened as many, below another node's.
+/// that may have it open and has opened as many, below another node's; and some node is core. After a frame of no session each session
+/// awaits an answer, as many as its node waits for, and each Tell is one deeper than its session.
 ///
 /// It does nothing: its contract is the law.
 ///
@@ -187,4 +188,18 @@ pub fn sessions_from_invariant()
     ensures steps { FrameSteps }
     ensures awaited { FrameAwaits }
     ensures places { FramePlaces }
+    ensures core { FrameCore }
+    ensures outside { OutsideBooks }
+{}
+
+/// If the invariant holds, and each node is one that steps keep valid, then once a frame of whatever kind is delivered, whatever the status
+/// of its receiver, and once a node has started what it may start, nodes have names of the settings, at most as many as there may be, frames
+/// have spellings, and their numbers ascend.
+///
+/// It does nothing: its contract is the law.
+///
+/// Rule: docs/PROTOCOL.md, "Nodes" and "Steps of a node".
+pub fn names_from_invariant()
+    ensures frames { FrameNames }
+    ensures starts { StartNames }
 {}
