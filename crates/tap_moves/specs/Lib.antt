@@ -9,3 +9,4 @@ pub mod MovesLaws
 pub mod Spelled
 pub mod InvariantLaws
 pub mod SessionMoves
+pub mod CalmMoves

@@ -3,6 +3,7 @@ ghost use Rattle.tap_moves.specs.FrameLaws.{CeasedTellIsMade, ForgetIsMade, Givi
 ghost use Rattle.tap_moves.specs.Laws.{CeasedAnswers, DoneIsMade, KnownTellIsMade, NewTellIsMade, SeekCovers, SeekGreets, SeekOpens, TellInSession};
 ghost use Rattle.tap_moves.specs.MovesLaws.{AnswerKeepsSessions, CeasedTellKeeps, DeliveryIsByRule, DoneKeeps, ForgetKeeps, GivingUpKeeps, HelloKeeps, HelloKeepsSessions, JoinKeeps, JoiningTellKeeps, KnownTellKeeps, LinkKeeps, OutsideKeepsSessions, PlainKeeps, QuietStartKeeps, ReleaseKeeps, SeekKeeps, SeekKeepsSessions, TellKeeps, TellKeepsSessions};
 ghost use Rattle.tap_moves.specs.InvariantLaws.{FrameExact, FrameFills, FrameSays, FrameSoft, LinkTies, MoveKeepsParts, PartsKept, SeekGives, StartFills, StartKeepsParts};
+ghost use Rattle.tap_moves.specs.CalmMoves.{FrameDeeper, FramePeaceful, FrameSeeks};
 ghost use Rattle.tap_moves.specs.SessionMoves.{FrameAwaits, FrameCore, FrameNames, FramePlaces, FrameSteps, OutsideBooks, StartNames};
 ghost use Rattle.tap_moves.specs.SessionsLaws.{AnswerClosesChild, AnswerClosesRoot, AnswerHandsOn, AnswerKeepsExact, HandsOnByHello, HandsOnByTell, OpensChildByTell, OpensRootBySeek, OutsideLeavesSessions};
 ghost use Rattle.tap_moves.specs.TiesLaws.{LinkIsMade};
@@ -193,8 +194,8 @@ pub fn sessions_from_invariant()
 {}
 
 /// If the invariant holds, and each node is one that steps keep valid, then once a frame of whatever kind is delivered, whatever the status
-/// of its receiver, and once a node has started what it may start, nodes have names of the settings, at most as many as there may be, frames
-/// have spellings, and their numbers ascend.
+/// of its receiver, and once a node has started what it may start, nodes have names of the settings, at most as many as there may be,
+/// frames have spellings, and their numbers ascend.
 ///
 /// It does nothing: its contract is the law.
 ///
@@ -202,4 +203,17 @@ pub fn sessions_from_invariant()
 pub fn names_from_invariant()
     ensures frames { FrameNames }
     ensures starts { StartNames }
+{}
+
+/// If the invariant holds, and each node is one that steps keep valid, then after an answer, a Link, a Tell at a node that has ceased, and
+/// each frame of pointers and casts that isn't strange: who isn't started is known to nobody but its one Seek, Tells are sound, and each is
+/// one deeper than its session. If nobody departs, nobody does afterwards, and no notice is under way.
+///
+/// It does nothing: its contract is the law.
+///
+/// Rule: docs/PROTOCOL.md, "Steps of a node".
+pub fn calm_from_invariant()
+    ensures seeks { FrameSeeks }
+    ensures peace { FramePeaceful }
+    ensures deeper { FrameDeeper }
 {}
