@@ -1,5 +1,5 @@
 -- What a frame that sends nobody on and changes no link keeps of seekers, of Tells and of notices.
-use Rattle.std.proofs.Common.{◌≡◌, ◌⊎◌, ℕ, Bool, true, false, List, [], ◌∷◌, None, if◌then◌else◌, refl, sym, subst, inl, inr}
+use Rattle.std.proofs.Common.{◌≡◌, ℕ, Bool, true, false, List, [], ◌∷◌, if◌then◌else◌, sym, subst, inl, inr}
 use Rattle.tap_name.specs.Settings.{SettingsValue}
 use Rattle.tap_name.specs.declared.slot.Slot.{Slot}
 use Rattle.tap_table.specs.declared.tie.Tie.{Tie}
@@ -33,7 +33,7 @@ use Rattle.tap_safety.specs.System.{System, AmongFrames}
 use Rattle.tap_safety.proofs.Peace.{frame_peace_law, notices_law, peace_kept}
 use Rattle.tap_safety.proofs.SoftKept.{not_new, sent_each}
 use Rattle.tap_safety.proofs.StepLaws.{depths_law, seeking_frame_law, tells_frame_law}
-use Rattle.tap_moves.specs.CalmMoves.{AreSought, FrameDeeper, FramePeaceful, FrameSeeks, IsCalmThere, IsPeaceful}
+use Rattle.tap_moves.specs.CalmMoves.{FrameDeeper, FramePeaceful, FrameSeeks, IsCalmThere}
 use Rattle.tap_moves.specs.ByRule.{taken_at}
 use Rattle.tap_moves.specs.Delivered.{after_delivery}
 use Rattle.tap_moves.specs.FrameLaws.{IsPlain, messages_by, words_by}

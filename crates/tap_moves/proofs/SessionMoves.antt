@@ -2,7 +2,7 @@
 use Rattle.std.proofs.Common.{◌≡◌, ◌⊎◌, ℕ, ◌+◌, ◌≤◌, Bool, List, Option, None, Some, true, false, if◌then◌else◌, arith, ap, refl, sym, subst, ◌∙◌, inl, inr}
 use Rattle.tap_name.specs.Settings.{SettingsValue}
 use Rattle.tap_name.specs.declared.slot.Slot.{Slot}
-use Rattle.tap_session.specs.declared.parent.Parent.TheVariants.{Node, Root}
+use Rattle.tap_session.specs.declared.parent.Parent.TheVariants.{Node}
 use Rattle.tap_session.specs.Session.{SessionsValue}
 use Rattle.tap_session.specs.Sessions.{session_of}
 use Rattle.tap_join.specs.Seek.{sought}
@@ -23,7 +23,6 @@ use Rattle.tap_rule.specs.JoinSteps.{SeeksAs}
 use Rattle.tap_rule.specs.Laws.{AnswerLaw, frame_to}
 use Rattle.tap_rule.specs.Node.{NodeState, Status, joiner, name_of}
 use Rattle.tap_rule.specs.Node.Status.{Ceased, Core, Gone, Joining, Leaving}
-use Rattle.tap_rule.specs.QuietSteps.{IsQuiet}
 use Rattle.tap_rule.specs.Reaction.{Reaction}
 use Rattle.tap_rule.specs.Strange.{is_strange}
 use Rattle.tap_rule.proofs.AnswerSteps.{ack_law, heard_law}
@@ -54,7 +53,7 @@ use Rattle.tap_moves.specs.ByRule.{taken_at}
 use Rattle.tap_moves.specs.Delivered.{after_delivery, after_start}
 use Rattle.tap_moves.specs.InSession.{OpensOrAnswers}
 use Rattle.tap_moves.specs.InvariantLaws.{IsDelivery}
-use Rattle.tap_moves.specs.SessionMoves.{AreBooked, AreNamed, FrameAwaits, FrameCore, FrameNames, FramePlaces, FrameSteps, GoesOnAs, IsLastOpened, IsOfKind, OutsideBooks, SessionStep, StartNames, StepsSessions}
+use Rattle.tap_moves.specs.SessionMoves.{AreNamed, FrameAwaits, FrameCore, FrameNames, FramePlaces, FrameSteps, GoesOnAs, IsLastOpened, IsOfKind, OutsideBooks, SessionStep, StartNames, StepsSessions}
 use Rattle.tap_moves.specs.SessionMoves.SessionStep.{ClosesBelow, ClosesTop, Hands, LeavesAll, OpensBelow, OpensTop}
 use Rattle.tap_moves.specs.SessionsLaws.{IsOutside, sent_at}
 use Rattle.tap_moves.specs.Spelled.{AreNodes, IsNamedStart}
