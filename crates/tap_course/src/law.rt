@@ -1,0 +1,21 @@
+ghost use Rattle.tap_course.specs.Laws.{CourseFrames, CourseGrows};
+
+/// A beginning within the limits is the course of a run, of a system whose members are at rest. With one more group that may follow,
+/// a course is one again, and its system is the one before, after the move that the group makes.
+///
+/// It does nothing: its contract is the law.
+///
+/// Rule: docs/FORMATS.md, "The course of a run".
+pub fn course_law()
+    ensures { CourseGrows }
+{}
+
+/// The frames under way are those that the log has as outstanding, in order and with the bytes of their records, and the next one is
+/// numbered by how many were sent.
+///
+/// It does nothing: its contract is the law.
+///
+/// Rule: docs/FORMATS.md, "The course of a run".
+pub fn frames_law()
+    ensures { CourseFrames }
+{}
