@@ -4,21 +4,26 @@ use Rattle.std.proofs.lemmas.List.Elements.{All-append, All-cons, All-head, All-
 use Rattle.tap_name.specs.Settings.{SettingsValue}
 use Rattle.tap_name.specs.Root.{root}
 use Rattle.tap_scenario.specs.declared.step.Step.{Step}
-use Rattle.tap_scenario.specs.declared.step.Step.TheVariants.{Publish, Withdraw, Find, Abandon, Cast, Walk, Root, Table, Pointers, Garble, Cut}
+use Rattle.tap_scenario.specs.declared.step.Step.TheVariants.{Publish, Withdraw, Find, Abandon, Cast, Walk, Root, Table, Pointers, Garble, Cut, Deliver, Settle, SettleNewest, SettleMixed, Tick, Lose, Repeat, RootSet}
 use Rattle.std.specs.Option.{option_map}
-use Rattle.std.specs.Prelude.{option_and_then}
+use Rattle.std.specs.Prelude.{map, option_and_then}
 use Rattle.tap_wire.specs.declared.fault.WireFault.{WireFault}
 use Rattle.tap_wire.specs.declared.frame.Frame.{Frame}
 use Rattle.tap_log.specs.declared.record.NodeWord.{NodeWord}
 use Rattle.tap_log.specs.declared.record.Record.{Record}
-use Rattle.tap_log.specs.declared.record.Record.TheVariants.{Step as StepRecord, Taken, Refused, RootOf, TableOf, PointersOf, Garbled, Reached, Closed}
+use Rattle.tap_log.specs.declared.record.Record.TheVariants.{Step as StepRecord, Taken, Refused, Walked, RootOf, TableOf, Reached, Closed}
 use Rattle.tap_log.specs.declared.record.Refusal.{Refusal}
-use Rattle.tap_log.specs.Kinds.{begins_group, is_carried}
+use Rattle.tap_log.specs.Kinds.{asked_ticket, begins_group, core_name, gone_name, is_carried, sent_number, taken_number}
 use Rattle.tap_log.specs.Laws.{at_most_one}
 use Rattle.tap_history.specs.Core.{core_of}
 use Rattle.tap_history.specs.GroupLaws.{IsGroup}
 use Rattle.tap_history.specs.Groups.{ends_log, is_ended}
 use Rattle.tap_history.specs.Refusals.{first_refusal}
+use Rattle.tap_history.specs.Steps.{actor_of}
+use Rattle.tap_log.specs.declared.record.LinkLine.{LinkLine}
+use Rattle.tap_table.specs.Table.{rows}
+use Rattle.tap_surrogate.specs.Nodes.{core_links}
+use Rattle.tap_surrogate.specs.Walk.{walk}
 use Rattle.tap_rule.specs.Node.{NodeState}
 use Rattle.tap_rule.specs.Event.{Acted, Event, News, Start}
 use Rattle.tap_rule.specs.Event.News.{Nothing, Core as IsCore, Gone as IsGone, Answered as IsAnswered, Cast as IsCast}
@@ -27,12 +32,12 @@ use Rattle.tap_safety.specs.Moved.{numbered_frame, starter}
 use Rattle.tap_rule.specs.Event.Event.{Starts, Takes}
 use Rattle.tap_safety.specs.System.{System}
 use Rattle.tap_log.specs.Counts.{sent_count}
-use Rattle.tap_course.specs.Starts.{announced}
+use Rattle.tap_course.specs.Starts.{announced, start_of_step}
 use Rattle.tap_course.specs.Acts.{acted_records, if_so, news_after, news_before, sent_records}
-use Rattle.tap_course.specs.Observed.{observed, table_record, pointers_record, word_of_status, link_line}
-use Rattle.tap_course.specs.Damage.{copied_number, damage_record, fault_of_copy, garbled}
-use Rattle.tap_course.specs.Group.{accepted_records, received_records, records_of_act, records_unless, start_at, started_records, step_records, taken_records}
-use Rattle.tap_course.specs.Course.{FollowStep, FollowTaken, IsRefused, MayFollow, is_choice}
+use Rattle.tap_course.specs.Observed.{link_line, nodes_of, observed, pointers_record, table_record, word_of_status}
+use Rattle.tap_course.specs.Damage.{copied_number, fault_of_copy, garbled}
+use Rattle.tap_course.specs.Group.{accepted_records, received_records, records_of_act, records_unless, start_at, started_records}
+use Rattle.tap_course.specs.Course.{FollowStep, IsRefused, MayFollow, is_choice, move_of_start}
 
 -- this record stands within a group
 abbrev pub Within : Record → Type 0
@@ -80,7 +85,7 @@ act_within : (p : SettingsValue) (before : List Record) (name : List ℕ) (node 
 act_within p before name None event = All-nil Within
 act_within p before name (Some node) event = acted_within p (sent_count before) name (act node event)
 
--- ---- what follows a `Step`
+-- ---- what is said of a start first
 
 announced_within : (before : List Record) (step : Step) → All Within (announced before step)
 unfolding begins_group ends_log announced
@@ -91,64 +96,167 @@ announced_within before (Abandon name) = one _ (refl, refl)
 announced_within before (Cast word prefix asker) = one _ (refl, refl)
 announced_within before step = All-nil Within
 
-started_within : (p : SettingsValue) (before : List Record) (s : System) (step : Step) (start : Option (List ℕ × Start))
-    → All Within (started_records p before s step start)
-started_within p before s step None = All-nil Within
-started_within p before s step (Some (name, start)) =
-    All-append Within (announced before step) (records_of_act p before name (starter p s name start) (Starts start))
-    (announced_within before step) (act_within p before name (starter p s name start) (Starts start))
+-- ---- what is only seen or refused
 
-root_within : (object : List ℕ) (name : Option (List ℕ)) → All Within (at_most_one (option_map (RootOf object) name))
-unfolding begins_group ends_log
-root_within object None = All-nil Within
-root_within object (Some name) = one _ (refl, refl)
+-- such a record tells of no frame, no lookup and no node, and stands within a group
+pub record IsQuiet (item : Record) : Type 0 where
+  pub within : Within item
+  pub sent : sent_number item ≡ None
+  pub taken : taken_number item ≡ None
+  pub asked : asked_ticket item ≡ None
+  pub core : core_name item ≡ None
+  pub gone : gone_name item ≡ None
 
-pointers_within : (name : List ℕ) (node : Option NodeState) → All Within (at_most_one (option_map (pointers_record name) node))
-unfolding begins_group ends_log
-pointers_within name None = All-nil Within
-pointers_within name (Some node) = one _ (refl, refl)
+pub quiet_within : (items : List Record) → All IsQuiet items → All Within items
+quiet_within items quiet = λ k d within. (quiet k d within).within
 
-table_within : (name : List ℕ) (node : Option NodeState) → All Within (at_most_one (option_and_then (table_record name) node))
-unfolding begins_group ends_log
-table_within name None = All-nil Within
-table_within name (Some node) = worded (word_of_status node.status)
-  where
-    worded : (word : Option NodeWord) → All Within (at_most_one (option_map (λ w. TableOf name w _) word))
-    worded None = All-nil Within
-    worded (Some word) = one _ (refl, refl)
+no_quiet : All IsQuiet []
+no_quiet = All-nil IsQuiet
 
-damage_within : (number : Option ℕ) (fault : Option WireFault) → All Within (at_most_one (garbled number fault))
-unfolding begins_group ends_log
-damage_within None fault = All-nil Within
-damage_within (Some number) None = All-nil Within
-damage_within (Some number) (Some fault) = one _ (refl, refl)
+one_quiet : (item : Record) → IsQuiet item → All IsQuiet (item ∷ [])
+one_quiet item quiet = All-cons IsQuiet item [] quiet no_quiet
 
-accepted_within : (p : SettingsValue) (before : List Record) (s : System) (step : Step) → All Within (accepted_records p before s step)
-unfolding begins_group ends_log accepted_records observed
-accepted_within p before s (Walk object asker) = one _ (refl, refl)
-accepted_within p before s (Root object) = root_within object (root p.base (core_of before) object)
-accepted_within p before s (Table name) = table_within name (s.node name)
-accepted_within p before s (Pointers name) = pointers_within name (s.node name)
-accepted_within p before s (Garble place at byte) =
-    damage_within (copied_number before (Garble place at byte)) (fault_of_copy p before (Garble place at byte))
-accepted_within p before s (Cut place bytes) =
-    damage_within (copied_number before (Cut place bytes)) (fault_of_copy p before (Cut place bytes))
-accepted_within p before s step = started_within p before s step (start_at before step)
+root_quiet : (object : List ℕ) (name : Option (List ℕ)) → All IsQuiet (at_most_one (option_map (RootOf object) name))
+unfolding begins_group ends_log sent_number taken_number asked_ticket core_name gone_name
+root_quiet object None = no_quiet
+root_quiet object (Some name) =
+    one_quiet _ (record { within = (refl, refl); sent = refl; taken = refl; asked = refl; core = refl; gone = refl })
 
-unless_within : (p : SettingsValue) (before : List Record) (s : System) (index : ℕ) (step : Step) (refusal : Option Refusal)
-    → All Within (records_unless p before s index step refusal)
-unfolding begins_group ends_log
-unless_within p before s index step (Some refusal) = one _ (refl, refl)
-unless_within p before s index step None = accepted_within p before s step
+pointers_quiet : (name : List ℕ) (node : Option NodeState) → All IsQuiet (at_most_one (option_map (pointers_record name) node))
+unfolding begins_group ends_log sent_number taken_number asked_ticket core_name gone_name
+pointers_quiet name None = no_quiet
+pointers_quiet name (Some node) =
+    one_quiet _ (record { within = (refl, refl); sent = refl; taken = refl; asked = refl; core = refl; gone = refl })
 
-step_within : (choice : Bool) (p : SettingsValue) (before : List Record) (s : System) (index : ℕ) (step : Step) (items : List Record)
-    → FollowStep choice p before s index step items → All Within items
-unfolding begins_group ends_log
-step_within true p before s index step items (inl none) = subst (All Within) (sym none) (All-nil Within)
-step_within true p before s index step items (inr refused) =
-    subst (All Within) (sym refused.is) (one (Refused index refused.refusal) (refl, refl))
-step_within false p before s index step items are =
-    subst (All Within) (sym are) (unless_within p before s index step (first_refusal before step))
+worded_quiet : (name : List ℕ) (links : List LinkLine) (word : Option NodeWord)
+    → All IsQuiet (at_most_one (option_map (λ w. TableOf name w links) word))
+unfolding begins_group ends_log sent_number taken_number asked_ticket core_name gone_name
+worded_quiet name links None = no_quiet
+worded_quiet name links (Some word) =
+    one_quiet _ (record { within = (refl, refl); sent = refl; taken = refl; asked = refl; core = refl; gone = refl })
+
+table_quiet : (name : List ℕ) (node : Option NodeState) → All IsQuiet (at_most_one (option_and_then (table_record name) node))
+table_quiet name None = no_quiet
+table_quiet name (Some node) = worded_quiet name (map link_line (rows node.ties.table)) (word_of_status node.status)
+
+damage_quiet : (number : Option ℕ) (fault : Option WireFault) → All IsQuiet (at_most_one (garbled number fault))
+unfolding begins_group ends_log sent_number taken_number asked_ticket core_name gone_name
+damage_quiet None fault = no_quiet
+damage_quiet (Some number) None = no_quiet
+damage_quiet (Some number) (Some fault) =
+    one_quiet _ (record { within = (refl, refl); sent = refl; taken = refl; asked = refl; core = refl; gone = refl })
+
+walk_quiet : (object : List ℕ) (path : List (List ℕ)) → IsQuiet (Walked object path)
+unfolding begins_group ends_log sent_number taken_number asked_ticket core_name gone_name
+walk_quiet object path =
+    record { within = (refl, refl); sent = refl; taken = refl; asked = refl; core = refl; gone = refl }
+
+refused_quiet : (index : ℕ) (refusal : Refusal) → IsQuiet (Refused index refusal)
+unfolding begins_group ends_log sent_number taken_number asked_ticket core_name gone_name
+refused_quiet index refusal =
+    record { within = (refl, refl); sent = refl; taken = refl; asked = refl; core = refl; gone = refl }
+
+-- ---- what follows a `Step`
+
+-- what follows tells of nothing but what is seen or refused, and the step moves nothing
+pub record IsIdle (log : List Record) (step : Step) (items : List Record) : Type 0 where
+  pub quiet : All IsQuiet items
+  pub still : move_of_start (first_refusal log step) (start_at log step) ≡ None
+
+-- the step is accepted, and has a node start something
+pub record IsStarting (p : SettingsValue) (log : List Record) (s : System) (step : Step) (items : List Record) : Type 0 where
+  pub name : List ℕ
+  pub start : Start
+  pub accepted : first_refusal log step ≡ None
+  pub at : start_at log step ≡ Some (name, start)
+  pub are : items ≡ announced log step ++ records_of_act p log name (starter p s name start) (Starts start)
+
+moves_nothing : (refusal : Option Refusal) (start : Option (List ℕ × Start)) → start ≡ None → move_of_start refusal start ≡ None
+moves_nothing (Some refusal) start none = refl
+moves_nothing None start none = ap (move_of_start None) none
+
+choice_starts_nothing : (log : List Record) (step : Step) → is_choice step ≡ true → start_at log step ≡ None
+unfolding is_choice actor_of start_of_step
+choice_starts_nothing log (Deliver place) choice = refl
+choice_starts_nothing log Settle choice = refl
+choice_starts_nothing log SettleNewest choice = refl
+choice_starts_nothing log (SettleMixed seed) choice = refl
+choice_starts_nothing log Tick choice = refl
+choice_starts_nothing log (Lose place) choice = refl
+choice_starts_nothing log (Repeat place) choice = refl
+choice_starts_nothing log (RootSet object asker) choice = refl
+choice_starts_nothing log step choice = absurd (cc)
+
+-- an accepted step only sees something, or has a node start something
+accepted_kind : (p : SettingsValue) (log : List Record) (s : System) (step : Step)
+    → (All IsQuiet (accepted_records p log s step) × (start_at log step ≡ None))
+    ⊎ (accepted_records p log s step ≡ started_records p log s step (start_at log step))
+unfolding accepted_records observed actor_of start_of_step
+accepted_kind p log s (Walk object asker) =
+    inl (one_quiet _ (walk_quiet object (walk p.base (core_links (nodes_of s)) asker object)), refl)
+accepted_kind p log s (Root object) = inl (root_quiet object (root p.base (core_of log) object), refl)
+accepted_kind p log s (Table name) = inl (table_quiet name (s.node name), refl)
+accepted_kind p log s (Pointers name) = inl (pointers_quiet name (s.node name), refl)
+accepted_kind p log s (Garble place at byte) =
+    inl (damage_quiet (copied_number log (Garble place at byte)) (fault_of_copy p log (Garble place at byte)), refl)
+accepted_kind p log s (Cut place bytes) =
+    inl (damage_quiet (copied_number log (Cut place bytes)) (fault_of_copy p log (Cut place bytes)), refl)
+accepted_kind p log s step = inr refl
+
+module _ (p : SettingsValue) (log : List Record) (s : System) (index : ℕ) (step : Step) (items : List Record) where
+  started_kind : (start : Option (List ℕ × Start)) → first_refusal log step ≡ None → start_at log step ≡ start
+      → items ≡ started_records p log s step start → IsIdle log step items ⊎ IsStarting p log s step items
+  started_kind None accepted at are = inl (record {
+    quiet = subst (All IsQuiet) (sym are) no_quiet;
+    still = moves_nothing (first_refusal log step) (start_at log step) at;
+  })
+  started_kind (Some (name, start)) accepted at are =
+      inr (record { name = name; start = start; accepted = accepted; at = at; are = are })
+
+  unless_kind : (refusal : Option Refusal) → first_refusal log step ≡ refusal → items ≡ records_unless p log s index step refusal
+      → IsIdle log step items ⊎ IsStarting p log s step items
+  unless_kind (Some refusal) is are = inl (record {
+    quiet = subst (All IsQuiet) (sym are) (one_quiet _ (refused_quiet index refusal));
+    still = ap (λ r. move_of_start r (start_at log step)) is;
+  })
+  unless_kind None is are =
+      elim (accepted_kind p log s step) [
+        | inl idle ↦ inl (record {
+            quiet = subst (All IsQuiet) (sym are) idle.0;
+            still = moves_nothing (first_refusal log step) (start_at log step) idle.1;
+          })
+        | inr started ↦ started_kind (start_at log step) is refl (are ∙ started)
+      ]
+
+  choice_kind : is_choice step ≡ true → (items ≡ []) ⊎ IsRefused index items → IsIdle log step items
+  choice_kind choice (inl none) = record {
+    quiet = subst (All IsQuiet) (sym none) no_quiet;
+    still = moves_nothing (first_refusal log step) (start_at log step) (choice_starts_nothing log step choice);
+  }
+  choice_kind choice (inr refused) = record {
+    quiet = subst (All IsQuiet) (sym refused.is) (one_quiet _ (refused_quiet index refused.refusal));
+    still = moves_nothing (first_refusal log step) (start_at log step) (choice_starts_nothing log step choice);
+  }
+
+  follow_kind : (choice : Bool) → is_choice step ≡ choice → FollowStep choice p log s index step items
+      → IsIdle log step items ⊎ IsStarting p log s step items
+  follow_kind true choice follow = inl (choice_kind choice follow)
+  follow_kind false choice follow = unless_kind (first_refusal log step) refl follow
+
+  -- a step that may be followed by these is idle, or starts something
+  pub step_kind : FollowStep (is_choice step) p log s index step items → IsIdle log step items ⊎ IsStarting p log s step items
+  step_kind follow = follow_kind (is_choice step) refl follow
+
+  step_within : FollowStep (is_choice step) p log s index step items → All Within items
+  step_within follow =
+      elim (step_kind follow) [
+        | inl idle ↦ quiet_within items idle.quiet
+        | inr starting ↦
+            subst (All Within) (sym starting.are)
+            (All-append Within (announced log step) (records_of_act p log starting.name (starter p s starting.name starting.start) (Starts starting.start))
+            (announced_within log step)
+            (act_within p log starting.name (starter p s starting.name starting.start) (Starts starting.start)))
+      ]
 
 -- ---- what follows a `Taken`
 
@@ -191,7 +299,7 @@ pub whole_group : (p : SettingsValue) (log : List Record) (s : System) (group : 
     → MayFollow p log s group → IsWhole log group
 unfolding MayFollow begins_group ends_log
 whole_group p log s (StepRecord index step ∷ items) begun uncarried may =
-    whole_with log (StepRecord index step) items begun uncarried refl refl (step_within (is_choice step) p log s index step items may)
+    whole_with log (StepRecord index step) items begun uncarried refl refl (step_within p log s index step items may)
 whole_group p log s (Taken number ∷ items) begun uncarried may =
     whole_with log (Taken number) items begun uncarried refl refl
     (subst (All Within) (sym may.are) (received_within p log s (numbered_frame number s.frames)))

@@ -1,6 +1,7 @@
 -- The laws of courses: what one more group makes of a course and its system, and what both say of frames and nodes.
 use Rattle.std.specs.Prelude.{◌≡◌, ℕ, false, List, [], ◌∷◌, ◌++◌, map, All, Some}
 use Rattle.tap_name.specs.Settings.{SettingsValue}
+use Rattle.tap_wire.specs.declared.frame.Frame.{Frame}
 use Rattle.tap_wire.specs.Spelling.{spelling}
 use Rattle.tap_log.specs.declared.record.Record.{Record}
 use Rattle.tap_log.specs.Counts.{sent_count}
@@ -27,11 +28,19 @@ pub record CourseGrows : Type 0 where
 
 -- ---- frames
 
+-- the numbers of these frames
+abbrev pub frame_numbers : List (ℕ × Frame) → List ℕ
+frame_numbers frames = map (λ f. f.0) frames
+
+-- the log has the frame's bytes under its number
+abbrev pub HasBytes : SettingsValue → List Record → ℕ × Frame → Type 0
+HasBytes p log f = bytes_of log f.0 ≡ Some (spelling p f.1)
+
 -- The frames under way are those outstanding in the log, in order, each with the bytes that its `Sent` has; and the next one is
 -- numbered by how many were sent.
 pub record FramesAgree (p : SettingsValue) (log : List Record) (s : System) : Type 0 where
-  pub numbers : map (λ f. f.0) s.frames ≡ outstanding log
-  pub bytes : All (λ f. bytes_of log f.0 ≡ Some (spelling p f.1)) s.frames
+  pub numbers : frame_numbers s.frames ≡ outstanding log
+  pub bytes : All (HasBytes p log) s.frames
   pub next : s.next ≡ sent_count log
 
 abbrev pub CourseFrames : Type 0
