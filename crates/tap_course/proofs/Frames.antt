@@ -99,7 +99,7 @@ numbers_without number low (f ∷ fs) high (least, later) = by_test (cases_Bool 
 
 -- ---- what the records of a step tell of frames
 
-none_of : {Y : Type 0} (h : Record → Option Y) (items : List Record) → All (λ item. h item ≡ None) items → filter_map h items ≡ []
+pub none_of : {Y : Type 0} (h : Record → Option Y) (items : List Record) → All (λ item. h item ≡ None) items → filter_map h items ≡ []
 none_of h [] none = refl
 none_of h (item ∷ items) none =
     ap (λ one. cons_option one (filter_map h items)) (All-head (λ i. h i ≡ None) item items none)
@@ -440,14 +440,21 @@ module _ (p : SettingsValue) (log : List Record) (s : System) (number : ℕ) (ne
 
 -- ---- a group that may follow
 
-step_moves : (log : List Record) (index : ℕ) (step : Step) (items : List Record)
+pub step_moves : (log : List Record) (index : ℕ) (step : Step) (items : List Record)
     → move_of_group log (StepRecord index step ∷ items) ≡ move_of_start (first_refusal log step) (start_at log step)
 unfolding move_of_group
 step_moves log index step items = refl
 
-taken_moves : (log : List Record) (number : ℕ) (items : List Record) → move_of_group log (Taken number ∷ items) ≡ Some (Delivers number)
+pub taken_moves : (log : List Record) (number : ℕ) (items : List Record) → move_of_group log (Taken number ∷ items) ≡ Some (Delivers number)
 unfolding move_of_group
 taken_moves log number items = refl
+
+pub starting_moves : (p : SettingsValue) (log : List Record) (s : System) (index : ℕ) (step : Step) (items : List Record)
+    → (starting : IsStarting p log s step items)
+    → move_of_group log (StepRecord index step ∷ items) ≡ Some (Begins starting.name starting.start)
+starting_moves p log s index step items starting =
+    step_moves log index step items ∙ ap (λ r. move_of_start r (start_at log step)) starting.accepted
+    ∙ ap (move_of_start None) starting.at
 
 module _ (p : SettingsValue) (log : List Record) (s : System) (next : s.next ≡ sent_count log) (numbered : AreNumbered s) where
   idle_exchange : (index : ℕ) (step : Step) (items : List Record) → IsIdle log step items
@@ -462,11 +469,7 @@ module _ (p : SettingsValue) (log : List Record) (s : System) (next : s.next ≡
   starting_exchange : (index : ℕ) (step : Step) (items : List Record) → IsStarting p log s step items
       → Exchanges p log (StepRecord index step ∷ items) s (moved_by p s (move_of_group log (StepRecord index step ∷ items)))
   starting_exchange index step items starting =
-      let does = records_of_act p log starting.name (starter p s starting.name starting.start) (Starts starting.start) in
-      let moves : move_of_group log (StepRecord index step ∷ items) ≡ Some (Begins starting.name starting.start) =
-      step_moves log index step items ∙ ap (λ r. move_of_start r (start_at log step)) starting.accepted
-      ∙ ap (move_of_start None) starting.at in
-      subst (λ m. Exchanges p log (StepRecord index step ∷ items) s (moved_by p s m)) (sym moves)
+      subst (λ m. Exchanges p log (StepRecord index step ∷ items) s (moved_by p s m)) (sym (starting_moves p log s index step items starting))
       (subst (λ l. Exchanges p log (StepRecord index step ∷ l) s (moved p s (Begins starting.name starting.start))) (sym starting.are)
       (start_exchange p log s index step starting.name starting.start next (starter p s starting.name starting.start) refl))
 
@@ -480,7 +483,7 @@ module _ (p : SettingsValue) (log : List Record) (s : System) (next : s.next ≡
   exchange (Taken number ∷ items) may =
       subst (λ m. Exchanges p log (Taken number ∷ items) s (moved_by p s m)) (sym (taken_moves log number items))
       (subst (λ l. Exchanges p log (Taken number ∷ l) s (moved p s (Delivers number))) (sym may.are)
-      (received_exchange p log s number next numbered (numbered_frame number s.frames) refl (true_is may.receiver)))
+      (received_exchange p log s number next numbered (numbered_frame number s.frames) refl may.receiver))
   exchange group may = absurd may
 
 -- ---- the frames of a course

@@ -17,7 +17,7 @@ use Rattle.tap_course.proofs.Within.{IsWhole, whole_group}
 
 -- ---- a log that begins with one record
 
-starts_uncarried : (log : List Record) (item : Record) → beginning_of log ≡ item ∷ [] → is_carried log ≡ false
+pub starts_uncarried : (log : List Record) (item : Record) → beginning_of log ≡ item ∷ [] → is_carried log ≡ false
 starts_uncarried [] item is = carried_none
 starts_uncarried (first ∷ []) item is = carried_alone first
 starts_uncarried (first ∷ next ∷ items) item is = one_alone (is_carried (first ∷ next ∷ items)) is
@@ -26,7 +26,7 @@ starts_uncarried (first ∷ next ∷ items) item is = one_alone (is_carried (fir
     one_alone true both = let two : 2 ≡ 1 = ap length both in absurd (omega (arith, two))
     one_alone false both = refl
 
-starts_begun : (log : List Record) (item : Record) → beginning_of log ≡ item ∷ [] → 1 ≤ length log
+pub starts_begun : (log : List Record) (item : Record) → beginning_of log ≡ item ∷ [] → 1 ≤ length log
 starts_begun [] item is =
     let nothing : [] ≡ item ∷ [] = sym (ap (λ c. take (if c then 2 else 1) []) carried_none) ∙ is in
     let none : 0 ≡ 1 = ap length nothing in absurd (omega (arith, none))
@@ -52,7 +52,7 @@ system_from-begin b groups = refl
 
 -- ---- one more group
 
-log_is : (b : Beginning) (log : List Record) → IsCourse b log → is_ended log ≡ false
+pub log_is : (b : Beginning) (log : List Record) → IsCourse b log → is_ended log ≡ false
     → begin_record b ∷ [] ++ records_of (groups_of log) ≡ log
 log_is b log course going = ap (λ l. l ++ records_of (groups_of log)) (sym course.begins) ∙ log_is_groups log going
 

@@ -5,7 +5,7 @@ use Rattle.tap_name.specs.Settings.{SettingsValue}
 use Rattle.tap_name.specs.Root.{root}
 use Rattle.tap_scenario.specs.declared.step.Step.{Step}
 use Rattle.tap_scenario.specs.declared.step.Step.TheVariants.{Publish, Withdraw, Find, Abandon, Cast, Walk, Root, Table, Pointers, Garble, Cut, Deliver, Settle, SettleNewest, SettleMixed, Tick, Lose, Repeat, RootSet}
-use Rattle.std.specs.Option.{option_map}
+use Rattle.std.specs.Option.{option_map, option_zip}
 use Rattle.std.specs.Prelude.{map, option_and_then}
 use Rattle.tap_wire.specs.declared.fault.WireFault.{WireFault}
 use Rattle.tap_wire.specs.declared.frame.Frame.{Frame}
@@ -13,7 +13,7 @@ use Rattle.tap_log.specs.declared.record.NodeWord.{NodeWord}
 use Rattle.tap_log.specs.declared.record.Record.{Record}
 use Rattle.tap_log.specs.declared.record.Record.TheVariants.{Step as StepRecord, Taken, Refused, Walked, RootOf, TableOf, Reached, Closed}
 use Rattle.tap_log.specs.declared.record.Refusal.{Refusal}
-use Rattle.tap_log.specs.Kinds.{asked_ticket, begins_group, core_name, gone_name, is_carried, sent_number, taken_number}
+use Rattle.tap_log.specs.Kinds.{accepts, asked_ticket, begins_group, core_name, gone_name, is_carried, sent_number, taken_number}
 use Rattle.tap_log.specs.Laws.{at_most_one}
 use Rattle.tap_history.specs.Core.{core_of}
 use Rattle.tap_history.specs.GroupLaws.{IsGroup}
@@ -37,7 +37,7 @@ use Rattle.tap_course.specs.Acts.{acted_records, if_so, news_after, news_before,
 use Rattle.tap_course.specs.Observed.{link_line, nodes_of, observed, pointers_record, table_record, word_of_status}
 use Rattle.tap_course.specs.Damage.{copied_number, fault_of_copy, garbled}
 use Rattle.tap_course.specs.Group.{accepted_records, received_records, records_of_act, records_unless, start_at, started_records}
-use Rattle.tap_course.specs.Course.{FollowStep, IsRefused, MayFollow, is_choice, move_of_start}
+use Rattle.tap_course.specs.Course.{FollowStep, FollowTaken, IsRefused, MayFollow, is_choice, move_of_start}
 
 -- this record stands within a group
 abbrev pub Within : Record → Type 0
@@ -158,10 +158,16 @@ refused_quiet index refusal =
 
 -- ---- what follows a `Step`
 
+-- these records, after a `Step`, accept it
+abbrev pub is_accepted : List Record → Bool
+is_accepted [] = false
+is_accepted (item ∷ items) = accepts false item
+
 -- what follows tells of nothing but what is seen or refused, and the step moves nothing
 pub record IsIdle (log : List Record) (step : Step) (items : List Record) : Type 0 where
   pub quiet : All IsQuiet items
   pub still : move_of_start (first_refusal log step) (start_at log step) ≡ None
+  pub plain : (is_accepted items ≡ false) ⊎ (actor_of step ≡ None)
 
 -- the step is accepted, and has a node start something
 pub record IsStarting (p : SettingsValue) (log : List Record) (s : System) (step : Step) (items : List Record) : Type 0 where
@@ -170,6 +176,10 @@ pub record IsStarting (p : SettingsValue) (log : List Record) (s : System) (step
   pub accepted : first_refusal log step ≡ None
   pub at : start_at log step ≡ Some (name, start)
   pub are : items ≡ announced log step ++ records_of_act p log name (starter p s name start) (Starts start)
+
+refused_unaccepted : (index : ℕ) (refusal : Refusal) → is_accepted (Refused index refusal ∷ []) ≡ false
+unfolding accepts
+refused_unaccepted index refusal = refl
 
 moves_nothing : (refusal : Option Refusal) (start : Option (List ℕ × Start)) → start ≡ None → move_of_start refusal start ≡ None
 moves_nothing (Some refusal) start none = refl
@@ -189,9 +199,9 @@ choice_starts_nothing log step choice = absurd (cc)
 
 -- an accepted step only sees something, or has a node start something
 accepted_kind : (p : SettingsValue) (log : List Record) (s : System) (step : Step)
-    → (All IsQuiet (accepted_records p log s step) × (start_at log step ≡ None))
+    → (All IsQuiet (accepted_records p log s step) × (actor_of step ≡ None))
     ⊎ (accepted_records p log s step ≡ started_records p log s step (start_at log step))
-unfolding accepted_records observed actor_of start_of_step
+unfolding accepted_records observed actor_of
 accepted_kind p log s (Walk object asker) =
     inl (one_quiet _ (walk_quiet object (walk p.base (core_links (nodes_of s)) asker object)), refl)
 accepted_kind p log s (Root object) = inl (root_quiet object (root p.base (core_of log) object), refl)
@@ -209,6 +219,7 @@ module _ (p : SettingsValue) (log : List Record) (s : System) (index : ℕ) (ste
   started_kind None accepted at are = inl (record {
     quiet = subst (All IsQuiet) (sym are) no_quiet;
     still = moves_nothing (first_refusal log step) (start_at log step) at;
+    plain = inl (ap is_accepted are);
   })
   started_kind (Some (name, start)) accepted at are =
       inr (record { name = name; start = start; accepted = accepted; at = at; are = are })
@@ -218,12 +229,14 @@ module _ (p : SettingsValue) (log : List Record) (s : System) (index : ℕ) (ste
   unless_kind (Some refusal) is are = inl (record {
     quiet = subst (All IsQuiet) (sym are) (one_quiet _ (refused_quiet index refusal));
     still = ap (λ r. move_of_start r (start_at log step)) is;
+    plain = inl (ap is_accepted are ∙ refused_unaccepted index refusal);
   })
   unless_kind None is are =
       elim (accepted_kind p log s step) [
         | inl idle ↦ inl (record {
             quiet = subst (All IsQuiet) (sym are) idle.0;
-            still = moves_nothing (first_refusal log step) (start_at log step) idle.1;
+            still = moves_nothing (first_refusal log step) (start_at log step) (ap (λ actor. option_zip actor (start_of_step log step)) idle.1);
+            plain = inr idle.1;
           })
         | inr started ↦ started_kind (start_at log step) is refl (are ∙ started)
       ]
@@ -232,10 +245,12 @@ module _ (p : SettingsValue) (log : List Record) (s : System) (index : ℕ) (ste
   choice_kind choice (inl none) = record {
     quiet = subst (All IsQuiet) (sym none) no_quiet;
     still = moves_nothing (first_refusal log step) (start_at log step) (choice_starts_nothing log step choice);
+    plain = inl (ap is_accepted none);
   }
   choice_kind choice (inr refused) = record {
     quiet = subst (All IsQuiet) (sym refused.is) (one_quiet _ (refused_quiet index refused.refusal));
     still = moves_nothing (first_refusal log step) (start_at log step) (choice_starts_nothing log step choice);
+    plain = inl (ap is_accepted refused.is ∙ refused_unaccepted index refused.refusal);
   }
 
   follow_kind : (choice : Bool) → is_choice step ≡ choice → FollowStep choice p log s index step items
@@ -247,7 +262,7 @@ module _ (p : SettingsValue) (log : List Record) (s : System) (index : ℕ) (ste
   pub step_kind : FollowStep (is_choice step) p log s index step items → IsIdle log step items ⊎ IsStarting p log s step items
   step_kind follow = follow_kind (is_choice step) refl follow
 
-  step_within : FollowStep (is_choice step) p log s index step items → All Within items
+  pub step_within : FollowStep (is_choice step) p log s index step items → All Within items
   step_within follow =
       elim (step_kind follow) [
         | inl idle ↦ quiet_within items idle.quiet
@@ -265,6 +280,11 @@ received_within : (p : SettingsValue) (before : List Record) (s : System) (frame
 received_within p before s None = All-nil Within
 received_within p before s (Some frame) = act_within p before frame.to (s.node frame.to) (Takes frame)
 
+pub taken_within : (p : SettingsValue) (before : List Record) (s : System) (number : ℕ) (items : List Record)
+    → FollowTaken p before s number items → All Within items
+taken_within p before s number items follow =
+    subst (All Within) (sym follow.are) (received_within p before s (numbered_frame number s.frames))
+
 -- ---- a whole group
 
 -- this is one whole group of the log, and doesn't end it
@@ -280,17 +300,22 @@ going_with first [] going all = going
 going_with first (next ∷ after) going all =
     going_with next after (All-head Within next after all).1 (All-tail Within next after all)
 
+-- records within a group follow its first one
+pub is_group : (log : List Record) (first : Record) (after : List Record) → 1 ≤ length log → is_carried log ≡ false
+    → begins_group false first ≡ true → All Within after → IsGroup log first after
+is_group log first after begun uncarried begins all = record {
+  begun = begun;
+  begins = ap (λ c. begins_group c first) uncarried ∙ begins;
+  alone = λ k d within. ap (λ c. begins_group c (get_or after k d)) uncarried ∙ (all k d within).0;
+}
+
 whole_with : (log : List Record) (first : Record) (after : List Record) → 1 ≤ length log → is_carried log ≡ false
     → begins_group false first ≡ true → ends_log first ≡ false → All Within after → IsWhole log (first ∷ after)
 whole_with log first after begun uncarried begins going all = record {
   first = first;
   after = after;
   is = refl;
-  whole = record {
-    begun = begun;
-    begins = ap (λ c. begins_group c first) uncarried ∙ begins;
-    alone = λ k d within. ap (λ c. begins_group c (get_or after k d)) uncarried ∙ (all k d within).0;
-  };
+  whole = is_group log first after begun uncarried begins all;
   going = going_with first after going all;
 }
 
@@ -302,5 +327,5 @@ whole_group p log s (StepRecord index step ∷ items) begun uncarried may =
     whole_with log (StepRecord index step) items begun uncarried refl refl (step_within p log s index step items may)
 whole_group p log s (Taken number ∷ items) begun uncarried may =
     whole_with log (Taken number) items begun uncarried refl refl
-    (subst (All Within) (sym may.are) (received_within p log s (numbered_frame number s.frames)))
+    (taken_within p log s number items may)
 whole_group p log s group begun uncarried may = absurd may

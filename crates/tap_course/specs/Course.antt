@@ -1,7 +1,7 @@
 -- The course of a run: the system that a log has come to, and which group may follow it.
 --
 -- Rule: docs/FORMATS.md, "The course of a run".
-use Rattle.std.specs.Prelude.{◌≡◌, ◌≤◌, ◌⊎◌, ℕ, Bool, true, false, IsTrue, List, [], ◌∷◌, ◌++◌, Option, None, Some, is_some}
+use Rattle.std.specs.Prelude.{◌≡◌, ◌≤◌, ◌⊎◌, ℕ, Bool, true, false, List, [], ◌∷◌, ◌++◌, Option, None, Some, is_some}
 use Rattle.tap_name.specs.Settings.{SettingsValue}
 use Rattle.tap_scenario.specs.declared.step.Step.{Step}
 use Rattle.tap_scenario.specs.declared.step.Step.TheVariants.{Deliver, Settle, SettleNewest, SettleMixed, Tick, Lose, Repeat, RootSet}
@@ -87,8 +87,8 @@ has_receiver s (Some frame) = is_some (s.node frame.to)
 
 -- These may follow a `Taken`: the frame was outstanding, and its receiver, which is there, acts by its rule.
 pub record FollowTaken (p : SettingsValue) (before : List Record) (s : System) (number : ℕ) (items : List Record) : Type 0 where
-  pub outstanding : IsTrue (has_number (outstanding before) number)
-  pub receiver : IsTrue (has_receiver s (numbered_frame number s.frames))
+  pub outstanding : has_number (outstanding before) number ≡ true
+  pub receiver : has_receiver s (numbered_frame number s.frames) ≡ true
   pub are : items ≡ taken_records p before s number
 
 -- the group may follow this log and this system

@@ -43,6 +43,22 @@ counts_as_core Leaving = true
 counts_as_core Gone = false
 counts_as_core Ceased = false
 
+-- a joining node
+abbrev pub is_joining_status : Status → Bool
+is_joining_status Joining = true
+is_joining_status Core = false
+is_joining_status Leaving = false
+is_joining_status Gone = false
+is_joining_status Ceased = false
+
+-- a node that has ended takes no part any more
+abbrev pub has_ended : Status → Bool
+has_ended Joining = false
+has_ended Core = false
+has_ended Leaving = false
+has_ended Gone = true
+has_ended Ceased = true
+
 -- the table of a node that hasn't ended
 abbrev pub table_of_node : NodeState → Option TableValue
 table_of_node node = option_map (λ word. node.ties.table) (word_of_status node.status)

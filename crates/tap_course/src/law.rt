@@ -1,4 +1,4 @@
-ghost use Rattle.tap_course.specs.Laws.{CourseFrames, CourseGrows};
+ghost use Rattle.tap_course.specs.Laws.{CourseFrames, CourseGrows, CourseNodes, OneCourse};
 
 /// A beginning within the limits is the course of a run, of a system whose members are at rest. With one more group that may follow,
 /// a course is one again, and its system is the one before, after the move that the group makes.
@@ -18,4 +18,22 @@ pub fn course_law()
 /// Rule: docs/FORMATS.md, "The course of a run".
 pub fn frames_law()
     ensures { CourseFrames }
+{}
+
+/// Who is core, who is present, who is gone, who was ever there, who is joining and who departs is the same in the log and in its system.
+///
+/// It does nothing: its contract is the law.
+///
+/// Rule: docs/FORMATS.md, "The course of a run".
+pub fn nodes_law()
+    ensures { CourseNodes }
+{}
+
+/// Two courses that begin alike, take the same frames and steps in the same order, and refuse the same of what they may choose, are one.
+///
+/// It does nothing: its contract is the law.
+///
+/// Rule: docs/FORMATS.md, "The course of a run".
+pub fn same_course_law()
+    ensures { OneCourse }
 {}

@@ -7,4 +7,4 @@
 
 mod law;
 
-pub use law::{course_law, frames_law};
+pub use law::{course_law, frames_law, nodes_law, same_course_law};
