@@ -1,6 +1,6 @@
 -- Who departs is the same in the log of a course and in its system.
-use Rattle.std.proofs.Common.{◌≡◌, ◌⊎◌, inl, inr, ℕ, ◌+◌, ◌<◌, ◌≤◌, Bool, true, false, not, List, [], ◌∷◌, ◌++◌, length, All, Option, None, Some, refl, ap, sym, subst, ◌∙◌, arith}
-use Rattle.std.specs.Prelude.{◌&&◌, is_some, nat_lt, if◌then◌else◌}
+use Rattle.std.proofs.Common.{◌≡◌, ◌⊎◌, inl, inr, ℕ, ◌+◌, ◌<◌, ◌≤◌, Bool, true, false, not, List, [], ◌∷◌, ◌++◌, length, All, Option, None, Some, refl, ap, sym, subst, ◌∙◌, arith, ltb-false}
+use Rattle.std.specs.Prelude.{◌&&◌, drop, is_some, nat_lt, if◌then◌else◌}
 use Rattle.std.proofs.lemmas.List.Elements.{All-cons}
 use Rattle.std.specs.List.{cons_option, filter_map, last_or}
 use Rattle.std.specs.Option.{option_map}
@@ -11,6 +11,7 @@ use Rattle.tap_scenario.specs.declared.step.Step.TheVariants.{Join, Depart, Publ
 use Rattle.tap_wire.specs.declared.frame.Frame.{Frame}
 use Rattle.tap_log.specs.declared.record.Record.{Record}
 use Rattle.tap_log.specs.declared.record.Record.TheVariants.{Step as StepRecord, Taken}
+use Rattle.tap_log.specs.declared.record.Refusal.TheVariants.{NotAtRest}
 use Rattle.tap_log.specs.Counts.{sent_count}
 use Rattle.tap_log.specs.Kinds.{is_carried}
 use Rattle.tap_history.specs.Core.{accepted_in, core_of}
@@ -18,7 +19,7 @@ use Rattle.tap_history.specs.Departing.{departing_of}
 use Rattle.tap_history.specs.Groups.{is_ended}
 use Rattle.tap_history.specs.GroupLaws.{IsGroup}
 use Rattle.tap_history.specs.Moments.{is_none, is_still, outstanding}
-use Rattle.tap_history.specs.Refusals.{first_refusal, is_and, is_joining, refuses_not_at_rest}
+use Rattle.tap_history.specs.Refusals.{first_refusal, is_joining, refusals, refuses_departing, refuses_no_such_node, refuses_not_at_rest, refuses_not_core}
 use Rattle.tap_history.specs.Steps.{actor_of, depart_name}
 use Rattle.tap_history.proofs.Growing.{record_changes_hold}
 use Rattle.tap_history.proofs.OneMoreGroup.{one_more_group_holds}
@@ -99,13 +100,16 @@ no_numbers (f ∷ fs) none = absurd (omega (arith, none))
 departs_at_rest : (log : List Record) (name : List ℕ) → first_refusal log (Depart name) ≡ None → length (outstanding log) ≡ 0
 unfolding refuses_not_at_rest depart_name
 departs_at_rest log name accepted =
-    let one = (first_none _ _ accepted).1 in
-    let two = (first_none _ _ one).1 in
-    let three = (first_none _ _ two).1 in
-    no_frames (length (outstanding log)) (cause_fails (nat_lt 0 (length (outstanding log))) _ (first_none _ _ three).0)
+    let step = Depart name in
+    let frames = length (outstanding log) in
+    let one = (first_none (refuses_no_such_node log step) (drop 1 (refusals log step)) accepted).1 in
+    let two = (first_none (refuses_not_core log step) (drop 2 (refusals log step)) one).1 in
+    let three = (first_none (refuses_departing log step) (drop 3 (refusals log step)) two).1 in
+    no_frames frames
+    (cause_fails (nat_lt 0 frames) (NotAtRest frames) (first_none (refuses_not_at_rest log step) (drop 4 (refusals log step)) three).0)
   where
     no_frames : (n : ℕ) → nat_lt 0 n ≡ false → n ≡ 0
-    no_frames n none = grind (arith, none)
+    no_frames n none = let least = ltb-false 0 n none in omega (arith, least)
 
 -- ---- a start
 
@@ -177,14 +181,10 @@ module _ (p : SettingsValue) (log : List Record) (s : System) (uncarried : is_ca
           (starts p s name starting.start node begins).sent.after ∙ ap (λ l. l ++ numbered_from s.next acted.sent) frames
 
       items_are : items ≡ acted_records p (sent_count log) name acted
+      unfolding announced
       items_are =
           starting.are ∙ ap (λ st. announced log st ++ records_of_act p log name (starter p s name starting.start) (Starts starting.start)) leaves
-          ∙ nothing_said ∙ ap (λ n. records_of_act p log name n (Starts starting.start)) begins
-        where
-          nothing_said : announced log (Depart name) ++ records_of_act p log name (starter p s name starting.start) (Starts starting.start)
-              ≡ records_of_act p log name (starter p s name starting.start) (Starts starting.start)
-          unfolding announced
-          nothing_said = refl
+          ∙ ap (λ n. records_of_act p log name n (Starts starting.start)) begins
 
       silent_departs : s'.frames ≡ [] → departing_of (log ++ StepRecord index step ∷ items) ≡ name_of_leaver s'.departing
       silent_departs empty =

@@ -1,6 +1,6 @@
 -- The frames under way, in a course, are those that its log has as outstanding.
 use Rattle.std.proofs.Common.{◌≡◌, ◌⊎◌, inl, inr, ℕ, zero, suc, ◌+◌, ◌<◌, ◌≤◌, Bool, true, false, not, nat_eq, eqb, List, [], ◌∷◌, ◌++◌, length, get_or, map, All, Option, None, Some, refl, ap, sym, subst, cond, ◌∙◌, arith, append-nil, append_assoc}
-use Rattle.std.specs.Prelude.{◌||◌, if◌then◌else◌, slice_get}
+use Rattle.std.specs.Prelude.{◌||◌, if◌then◌else◌, is_some, slice_get}
 use Rattle.std.specs.List.{cons_option, filter_map, range_with_len}
 use Rattle.std.proofs.lemmas.Bool.{cases_Bool, eq-eqb, eqb-true, ne_eqb}
 use Rattle.std.proofs.lemmas.List.Elements.{All-append, All-cons, All-head, All-nil, All-tail, filter_map-append}
@@ -92,10 +92,7 @@ numbers_without number low (f ∷ fs) high (least, later) = by_test (cases_Bool 
     by_test (inr apart) =
         ap (λ b. frame_numbers (if b then fs else f ∷ without_frame number fs)) apart
         ∙ ap (λ l. f.0 ∷ l) (numbers_without number (f.0 + 1) fs high later)
-        ∙ sym (ap (λ b. cond {A = List ℕ} (not (b || false)) (f.0 ∷ rest) rest) (ne_eqb number f.0 (λ same. absurd (apart_is same))))
-      where
-        apart_is : number ≡ f.0 → ⊥
-        apart_is same = let here = eq-eqb f.0 number (sym same) in absurd (cc)
+        ∙ sym (ap (λ b. cond {A = List ℕ} (not (b || false)) (f.0 ∷ rest) rest) (ne_eqb number f.0 (λ same. let here = eq-eqb f.0 number (sym same) in absurd (cc))))
 
 -- ---- what the records of a step tell of frames
 
@@ -146,22 +143,23 @@ pub record AreSending (p : SettingsValue) (number : ℕ) (frames : List Frame) (
   pub taken : filter_map taken_number items ≡ []
   pub asked : filter_map asked_ticket items ≡ []
 
+neither : (a b : Bool) → (a || b) ≡ false → (a ≡ false) × (b ≡ false)
+neither true b is = absurd (cc)
+neither false b is = (refl, is)
+
+not_sent : (number : ℕ) (items : List Record) → has_number (filter_map sent_number items) number ≡ false
+    → filter_map (sent_bytes number) items ≡ []
+unfolding sent_number sent_bytes
+not_sent number [] none = refl
+not_sent number (Sent sent bytes ∷ items) none =
+    let both = neither (nat_eq sent number) (has_number (filter_map sent_number items) number) none in
+    ap (λ b. cons_option (if b then Some bytes else None) (filter_map (sent_bytes number) items)) both.0
+    ∙ not_sent number items both.1
+not_sent number (item ∷ items) none = not_sent number items none
+
 -- a number that isn't among those sent has no bytes
 no_bytes : (items : List Record) (number : ℕ) → has_number (filter_map sent_number items) number ≡ false → bytes_of items number ≡ None
-no_bytes items number none = ap (λ l. slice_get l 0) (not_sent items none)
-  where
-    neither : (a b : Bool) → (a || b) ≡ false → (a ≡ false) × (b ≡ false)
-    neither true b is = absurd (cc)
-    neither false b is = (refl, is)
-    not_sent : (items : List Record) → has_number (filter_map sent_number items) number ≡ false
-        → filter_map (sent_bytes number) items ≡ []
-    unfolding sent_number sent_bytes
-    not_sent [] none = refl
-    not_sent (Sent sent bytes ∷ items) none =
-        let both = neither (nat_eq sent number) (has_number (filter_map sent_number items) number) none in
-        ap (λ b. cons_option (if b then Some bytes else None) (filter_map (sent_bytes number) items)) both.0
-        ∙ not_sent items both.1
-    not_sent (item ∷ items) none = not_sent items none
+no_bytes items number none = ap (λ l. slice_get l 0) (not_sent number items none)
 
 silent_bytes : (items : List Record) (number : ℕ) → filter_map sent_number items ≡ [] → bytes_of items number ≡ None
 silent_bytes items number none = no_bytes items number (ap (λ l. has_number l number) none)
@@ -275,7 +273,7 @@ announced_is log (Cast word prefix asker) = record { sent = refl; taken = refl; 
 announced_is log step = record { sent = refl; taken = refl; asked = refl }
 
 -- the first record, what is said, and what is done, if each of the first two sends nothing
-module _ (p : SettingsValue) (log : List Record) (s s' : System) (index : ℕ) (step : Step) (done : List Record) where
+module _ (log : List Record) (index : ℕ) (step : Step) (done : List Record) where
   abbrev whole : List Record
   whole = StepRecord index step ∷ (announced log step ++ done)
 
@@ -313,30 +311,30 @@ module _ (p : SettingsValue) (log : List Record) (s s' : System) (index : ℕ) (
 
 module _ (p : SettingsValue) (log : List Record) (s : System) (index : ℕ) (step : Step) (name : List ℕ) (start : Start)
     (next : s.next ≡ sent_count log) where
+  start_stays : starter p s name start ≡ None → moved p s (Begins name start) ≡ s
+  unfolding moved
+  start_stays is = rw is refl
+
   start_exchange : (node : Option NodeState) → starter p s name start ≡ node
       → Exchanges p log (StepRecord index step ∷ (announced log step ++ records_of_act p log name node (Starts start))) s
       (moved p s (Begins name start))
   start_exchange None is =
-      subst (Exchanges p log (StepRecord index step ∷ (announced log step ++ [])) s) (sym stays)
-      (silent_exchange p log _ s (asked_told p log s s index step [] refl) (sent_told p log s s index step []) (taken_told p log s s index step []))
-    where
-      stays : moved p s (Begins name start) ≡ s
-      unfolding moved
-      stays = rw is refl
+      subst (Exchanges p log (StepRecord index step ∷ (announced log step ++ [])) s) (sym (start_stays is))
+      (silent_exchange p log _ s (asked_told log index step [] refl) (sent_told log index step []) (taken_told log index step []))
   start_exchange (Some node) is =
       let acted = act node (Starts start) in
       let did = starts p s name start node is in
       let done = acted_records p (sent_count log) name acted in
       let does = acted_sending p (sent_count log) name acted in
-      let taken = taken_told p log s s index step done ∙ does.taken in
+      let taken = taken_told log index step done ∙ does.taken in
       record {
         sent = acted.sent;
         kept = s.frames;
-        sending = sent_told p log s s index step done ∙ does.sent ∙ ap (λ n. range_with_len n (length acted.sent)) (sym next);
+        sending = sent_told log index step done ∙ does.sent ∙ ap (λ n. range_with_len n (length acted.sent)) (sym next);
         bytes = subst (λ n. All (HasBytes p (StepRecord index step ∷ (announced log step ++ done))) (numbered_from n acted.sent)) (sym next)
-            (λ k d within. bytes_told p log s s index step done (get_or (numbered_from (sent_count log) acted.sent) k d).0 ∙ does.bytes k d within);
+            (λ k d within. bytes_told log index step done (get_or (numbered_from (sent_count log) acted.sent) k d).0 ∙ does.bytes k d within);
         below = subst (All (λ number. number < s.next)) (sym taken) (All-nil (λ number. number < s.next));
-        asked = asked_told p log s s index step done does.asked;
+        asked = asked_told log index step done does.asked;
         left = sym (numbers_all (frame_numbers s.frames)) ∙ ap (numbers_less (frame_numbers s.frames)) (sym taken);
         still = λ all. all;
         frames = did.sent.after;
@@ -400,12 +398,14 @@ module _ (p : SettingsValue) (log : List Record) (s : System) (number : ℕ) (ne
     unfolding sent_bytes
     bytes_done m = refl
 
+    frames_after : (moved p s (Delivers number)).frames ≡ without_frame number s.frames ++ numbered_from s.next acted.sent
+    unfolding moved
+    frames_after = rw (is, at) refl
+
     take_exchange : Exchanges p log (Taken number ∷ done) s (moved p s (Delivers number))
     take_exchange =
         let did = delivers p s number frame node is at in
         let cut = split number frame s.frames is in
-        let after : (moved p s (Delivers number)).frames ≡ without_frame number s.frames ++ numbered_from s.next acted.sent =
-        frames_after in
         record {
           sent = acted.sent;
           kept = without_frame number s.frames;
@@ -418,14 +418,10 @@ module _ (p : SettingsValue) (log : List Record) (s : System) (number : ℕ) (ne
           asked = none_asked log (Taken number ∷ done) (asks_none ∙ taking_sends.asked);
           left = numbers_without number 0 s.frames s.next numbered.numbers ∙ ap (numbers_less (frame_numbers s.frames)) (sym takes_one);
           still = left_of (HasBytes p log) number s.frames;
-          frames = after;
+          frames = frames_after;
           next = did.taken.next;
           numbered = numbers_taken s (moved p s (Delivers number)) number frame acted.sent did.taken;
         }
-      where
-        frames_after : (moved p s (Delivers number)).frames ≡ without_frame number s.frames ++ numbered_from s.next acted.sent
-        unfolding moved
-        frames_after = rw (is, at) refl
 
   -- the frame has a receiver, which acts
   received_exchange : (frame : Option Frame) → numbered_frame number s.frames ≡ frame → has_receiver s frame ≡ true
@@ -435,7 +431,7 @@ module _ (p : SettingsValue) (log : List Record) (s : System) (number : ℕ) (ne
     where
       by_node : (node : Option NodeState) → s.node frame.to ≡ node
           → Exchanges p log (Taken number ∷ records_of_act p log frame.to node (Takes frame)) s (moved p s (Delivers number))
-      by_node None at = let none : has_receiver s (Some frame) ≡ false = rw at refl in absurd (cc)
+      by_node None at = let none : has_receiver s (Some frame) ≡ false = ap is_some at in absurd (cc)
       by_node (Some node) at = take_exchange frame node is at
 
 -- ---- a group that may follow

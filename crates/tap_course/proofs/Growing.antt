@@ -1,17 +1,19 @@
 -- One more group of a course.
 use Rattle.std.proofs.Common.{◌≡◌, ℕ, ◌≤◌, Bool, true, false, List, [], ◌∷◌, ◌++◌, length, take, refl, ap, sym, subst, ◌∙◌, arith, append-nil, append_assoc}
-use Rattle.std.specs.Prelude.{if◌then◌else◌}
+use Rattle.std.specs.Prelude.{drop, slice_get, if◌then◌else◌}
 use Rattle.tap_name.specs.Settings.{SettingsValue}
 use Rattle.tap_log.specs.declared.record.Record.{Record}
-use Rattle.tap_log.specs.declared.record.Record.TheVariants.{Begin}
-use Rattle.tap_log.specs.Kinds.{is_carried}
+use Rattle.tap_log.specs.declared.record.Record.TheVariants.{Step as StepRecord, Taken}
+use Rattle.tap_log.specs.Kinds.{begins_group, is_carried}
 use Rattle.tap_log.proofs.Growing.{carried_alone, carried_none}
-use Rattle.tap_history.specs.Groups.{EachGroupFrom, beginning_of, ending_of, ends_log, groups_of, is_ended, records_of}
-use Rattle.tap_history.proofs.Ends.{log_in_groups_holds}
+use Rattle.tap_history.specs.Groups.{EachGroupFrom, after_beginning, beginning_of, ends_log, groups_of, is_ended, records_of}
+use Rattle.tap_history.specs.GroupLaws.{IsOpened}
+use Rattle.tap_history.specs.Moments.{ends_before, is_moment}
+use Rattle.tap_history.proofs.Ends.{holds_at_each_moment, log_in_groups_holds}
 use Rattle.tap_history.proofs.Parts.{EachGroup-push, beginning_of-group, groups_of-group, is_ended-append, log_is_groups}
 use Rattle.tap_safety.specs.System.{System}
 use Rattle.tap_course.specs.Beginning.{Beginning, IsWithinLimits, begin_record, system_at_rest}
-use Rattle.tap_course.specs.Course.{Follows, IsCourse, move_of_group, moved_by, system_after, system_from, system_of}
+use Rattle.tap_course.specs.Course.{Follows, IsCourse, MayFollow, move_of_group, moved_by, system_after, system_from, system_of}
 use Rattle.tap_course.specs.Laws.{CourseGrows}
 use Rattle.tap_course.proofs.Within.{IsWhole, whole_group}
 
@@ -139,6 +141,42 @@ module _ (b : Beginning) where
         (after_groups (begin_record b ∷ []) (groups_of log) (start_course course.limits) start_going
         (subst (λ l. EachGroupFrom (Follows b) l (groups_of log)) course.begins course.each) starts)
 
+-- ---- the moments of a course
+
+-- a group that may follow begins with a record that begins groups
+begins_first : (p : SettingsValue) (log : List Record) (s : System) (group rest : List Record) → MayFollow p log s group
+    → ends_before false (slice_get (group ++ rest) 0) ≡ true
+unfolding MayFollow begins_group
+begins_first p log s (StepRecord index step ∷ items) rest may = refl
+begins_first p log s (Taken number ∷ items) rest may = refl
+begins_first p log s group rest may = absurd may
+
+module _ (b : Beginning) (log : List Record) (course : IsCourse b log) (going : is_ended log ≡ false) where
+  first_begins : (before : List Record) (groups : List (List Record)) → EachGroupFrom (Follows b) before groups
+      → ends_before false (slice_get (records_of groups) 0) ≡ true
+  first_begins before [] each = refl
+  first_begins before (group ∷ groups) each = begins_first b.settings before (system_of before) group (records_of groups) each.0.may
+
+  opened : IsOpened log
+  opened =
+      let uncarried = starts_uncarried log (begin_record b) course.begins in
+      let later : after_beginning log ≡ records_of (groups_of log) =
+      ap (λ c. drop (if c then 2 else 1) log) uncarried ∙ ap (drop 1) (sym (log_is b log course going)) in
+      record {
+        begun = starts_begun log (begin_record b) course.begins;
+        next = ap (λ c. ends_before c (slice_get (after_beginning log) 0)) uncarried
+            ∙ ap (λ l. ends_before false (slice_get l 0)) later
+            ∙ first_begins (beginning_of log) (groups_of log) course.each;
+      }
+
+  at_moment : (m : ℕ) → is_moment log m ≡ true → IsCourse b (take m log) × (is_ended (take m log) ≡ false)
+  at_moment m is =
+      let Goes : List Record → Type 0 = λ l. IsCourse b l × (is_ended l ≡ false) in
+      holds_at_each_moment Goes (Follows b)
+      (λ before group goes follows.
+      (grown b before group goes.0 goes.1 follows, grown_going b before group goes.0 goes.1 follows))
+      log opened going (subst Goes (sym course.begins) (start_course b course.limits, start_going b)) course.each m is
+
 pub course_grows_holds : CourseGrows
 course_grows_holds = record {
   starts = start_course;
@@ -146,4 +184,5 @@ course_grows_holds = record {
   course = grown;
   going = grown_going;
   system = grown_system;
+  moments = at_moment;
 }

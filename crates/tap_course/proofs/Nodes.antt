@@ -1,6 +1,6 @@
 -- Who takes part in a run is the same in its log and in its system.
 use Rattle.std.proofs.Common.{◌≡◌, ◌⊎◌, inl, inr, ℕ, ◌+◌, Bool, true, false, not, List, [], ◌∷◌, ◌++◌, length, get_or, filter, All, Option, None, Some, refl, ap, sym, subst, cond, ◌∙◌, arith, append-nil}
-use Rattle.std.specs.Prelude.{◌&&◌, ◌||◌, bytes_eq, fold, is_some, if◌then◌else◌}
+use Rattle.std.specs.Prelude.{◌&&◌, ◌||◌, bytes_eq, drop, fold, is_some, if◌then◌else◌}
 use Rattle.std.specs.List.{cons_option, filter_map, list_any}
 use Rattle.std.specs.Option.{option_map, option_zip}
 use Rattle.std.proofs.lemmas.Bool.{cases_Bool}
@@ -15,13 +15,14 @@ use Rattle.tap_wire.specs.declared.frame.Frame.{Frame}
 use Rattle.tap_log.specs.declared.record.Record.{Record}
 use Rattle.tap_log.specs.declared.record.Record.TheVariants.{Begin, Step as StepRecord, Taken, Sent, Core as CoreRecord, Gone as GoneRecord, Reached, Closed}
 use Rattle.tap_log.specs.declared.record.Refusal.{Refusal}
+use Rattle.tap_log.specs.declared.record.Refusal.TheVariants.{NameTaken, NoSuchNode}
 use Rattle.tap_log.specs.Counts.{sent_count}
 use Rattle.tap_log.specs.Kinds.{accepts, begins_group, core_name, gone_name, is_carried, step_of}
 use Rattle.tap_history.specs.Core.{accepted_in, accepted_step, core_of, gone_of, present_of}
 use Rattle.tap_history.specs.Groups.{is_ended}
 use Rattle.tap_history.specs.GroupLaws.{IsGroup, accepted_of}
 use Rattle.tap_history.specs.Names.{names_of, with_name}
-use Rattle.tap_history.specs.Refusals.{first_refusal, first_some, is_and, is_joining, refused_if, refuses_name_taken, refuses_no_such_node}
+use Rattle.tap_history.specs.Refusals.{first_refusal, first_some, is_and, refusals, refused_if, refuses_departing, refuses_name_taken, refuses_no_such_node, refuses_not_at_rest, refuses_not_core}
 use Rattle.tap_history.specs.Steps.{actor_of, asked_node, depart_name, join_name}
 use Rattle.tap_history.proofs.Growing.{record_changes_hold}
 use Rattle.tap_history.proofs.Telling.{core_of-group, names_of-group, present_of-group}
@@ -50,6 +51,18 @@ use Rattle.tap_course.proofs.Growing.{by_groups, grown_system, start_system, sta
 use Rattle.tap_course.proofs.Frames.{none_of, starting_moves, step_moves, taken_moves}
 use Rattle.tap_course.proofs.Status.{IsNoted, frame_noted, start_noted, tells_core, tells_gone}
 
+or_false : (b : Bool) → (b || false) ≡ b
+or_false true = refl
+or_false false = refl
+
+or_true : (b : Bool) → (b || true) ≡ true
+or_true true = refl
+or_true false = refl
+
+and_false : (b : Bool) → (b && false) ≡ false
+and_false true = refl
+and_false false = refl
+
 -- ---- names among others
 
 name_is : (x y : List ℕ) → bytes_eq x y ≡ true → x ≡ y
@@ -67,15 +80,12 @@ without_has (name ∷ names) others x = by_test (cases_Bool (bytes_eq name x)) (
         → has_name (names_without (name ∷ names) others) x
         ≡ has_name (cond {A = List (List ℕ)} (not gone) (name ∷ rest) rest) x
     kept gone is = ap (λ b. has_name (cond {A = List (List ℕ)} (not b) (name ∷ rest) rest) x) is
-    nothing : (b : Bool) → (b && false) ≡ false
-    nothing true = refl
-    nothing false = refl
     by_test : (bytes_eq name x ≡ true) ⊎ (bytes_eq name x ≡ false) → (has_name others name ≡ true) ⊎ (has_name others name ≡ false)
         → has_name (names_without (name ∷ names) others) x ≡ (has_name (name ∷ names) x && not (has_name others x))
     by_test (inl same) (inl gone) =
         let there : has_name others x ≡ true = ap (has_name others) (sym (name_is name x same)) ∙ gone in
-        kept true gone ∙ without_has names others x ∙ ap (λ b. has_name names x && not b) there ∙ nothing (has_name names x)
-        ∙ sym (ap (λ b. (bytes_eq name x || has_name names x) && not b) there ∙ nothing (bytes_eq name x || has_name names x))
+        kept true gone ∙ without_has names others x ∙ ap (λ b. has_name names x && not b) there ∙ and_false (has_name names x)
+        ∙ sym (ap (λ b. (bytes_eq name x || has_name names x) && not b) there ∙ and_false (bytes_eq name x || has_name names x))
     by_test (inl same) (inr stays) =
         let there : has_name others x ≡ false = ap (has_name others) (sym (name_is name x same)) ∙ stays in
         kept false stays ∙ ap (λ b. b || has_name rest x) same
@@ -92,28 +102,14 @@ abbrev pub one_if : Bool → List ℕ → List (List ℕ)
 one_if there x = if there then x ∷ [] else []
 
 one_has : (there : Bool) (x y : List ℕ) → has_name (one_if there x) y ≡ (there && bytes_eq x y)
-one_has true x y = or_none (bytes_eq x y)
-  where
-    or_none : (b : Bool) → (b || false) ≡ b
-    or_none true = refl
-    or_none false = refl
+one_has true x y = or_false (bytes_eq x y)
 one_has false x y = refl
 
 with_has : (there : Bool) (names : List (List ℕ)) (x y : List ℕ)
     → has_name (fold with_name names (one_if there x)) y ≡ (has_name names y || (there && bytes_eq x y))
-with_has false names x y = sym (or_none (has_name names y))
-  where
-    or_none : (b : Bool) → (b || false) ≡ b
-    or_none true = refl
-    or_none false = refl
+with_has false names x y = sym (or_false (has_name names y))
 with_has true names x y = by_test (cases_Bool (has_name names x)) (cases_Bool (bytes_eq x y))
   where
-    or_true : (b : Bool) → (b || true) ≡ true
-    or_true true = refl
-    or_true false = refl
-    or_none : (b : Bool) → (b || false) ≡ b
-    or_none true = refl
-    or_none false = refl
     by_test : (has_name names x ≡ true) ⊎ (has_name names x ≡ false) → (bytes_eq x y ≡ true) ⊎ (bytes_eq x y ≡ false)
         → has_name (with_name names x) y ≡ (has_name names y || bytes_eq x y)
     by_test (inl known) (inl same) =
@@ -121,11 +117,25 @@ with_has true names x y = by_test (cases_Bool (has_name names x)) (cases_Bool (b
         ∙ sym (ap (has_name names) (name_is x y same)) ∙ known ∙ sym (ap (λ b. has_name names y || b) same ∙ or_true (has_name names y))
     by_test (inl known) (inr apart) =
         ap (λ b. has_name (if b then names else names ++ x ∷ []) y) known
-        ∙ sym (ap (λ b. has_name names y || b) apart ∙ or_none (has_name names y))
+        ∙ sym (ap (λ b. has_name names y || b) apart ∙ or_false (has_name names y))
     by_test (inr new) test =
         ap (λ b. has_name (if b then names else names ++ x ∷ []) y) new
         ∙ list_any-append (λ other. bytes_eq other y) names (x ∷ [])
-        ∙ ap (λ b. has_name names y || b) (or_none (bytes_eq x y))
+        ∙ ap (λ b. has_name names y || b) (or_false (bytes_eq x y))
+
+or_assoc : (a b c : Bool) → ((a || b) || c) ≡ (a || (b || c))
+or_assoc true b c = refl
+or_assoc false b c = refl
+
+more_has_name : (names others : List (List ℕ)) (x : List ℕ)
+    → has_name (fold with_name names others) x ≡ (has_name names x || has_name others x)
+more_has_name names [] x = sym (or_false (has_name names x))
+more_has_name names (other ∷ others) x =
+    more_has_name (with_name names other) others x ∙ ap (λ b. b || has_name others x) (with_has true names other x)
+    ∙ or_assoc (has_name names x) (bytes_eq other x) (has_name others x)
+
+each_once : (names : List (List ℕ)) (x : List ℕ) → has_name (fold with_name [] names) x ≡ has_name names x
+each_once names x = more_has_name [] names x
 
 -- ---- what a group does with nodes
 
@@ -527,8 +537,8 @@ pub asked_is_present : (log : List Record) (step : Step) (name : List ℕ) → f
     → has_name (present_of log) name ≡ true
 unfolding refuses_no_such_node
 asked_is_present log step name accepted asked =
-    let none = (first_none _ _ accepted).0 in
-    let fails = cause_fails (is_and (asked_node step) (λ x. not (has_name (present_of log) x))) _ none in
+    let none = (first_none (refuses_no_such_node log step) (drop 1 (refusals log step)) accepted).0 in
+    let fails = cause_fails (is_and (asked_node step) (λ x. not (has_name (present_of log) x))) NoSuchNode none in
     not_false (has_name (present_of log) name) (sym (ap (λ o. is_and o (λ x. not (has_name (present_of log) x))) asked) ∙ fails)
 
 -- an accepted join is under a new name
@@ -536,11 +546,12 @@ pub joiner_is_new : (log : List Record) (name via : List ℕ) → first_refusal 
     → has_name (names_of log) name ≡ false
 unfolding refuses_name_taken join_name
 joiner_is_new log name via accepted =
-    let one = (first_none _ _ accepted).1 in
-    let two = (first_none _ _ one).1 in
-    let three = (first_none _ _ two).1 in
-    let four = (first_none _ _ three).1 in
-    cause_fails (has_name (names_of log) name) _ (first_none _ _ four).0
+    let step = Join name via in
+    let one = (first_none (refuses_no_such_node log step) (drop 1 (refusals log step)) accepted).1 in
+    let two = (first_none (refuses_not_core log step) (drop 2 (refusals log step)) one).1 in
+    let three = (first_none (refuses_departing log step) (drop 3 (refusals log step)) two).1 in
+    let four = (first_none (refuses_not_at_rest log step) (drop 4 (refusals log step)) three).1 in
+    cause_fails (has_name (names_of log) name) NameTaken (first_none (refuses_name_taken log step) (drop 5 (refusals log step)) four).0
 
 -- ---- the node that starts something
 
@@ -774,17 +785,13 @@ module _ (log : List Record) (first : Record) (after : List Record) (group : IsG
   same true = refl
   same false = refl
 
-  or_none : (b : Bool) → (b || false) ≡ b
-  or_none true = refl
-  or_none false = refl
-
   idle_agree : Agree (log ++ first ∷ after) s
   idle_agree = record {
     core = λ y. core_has log first after group [] y false false false core gone joined ∙ same (has_name (core_of log) y) ∙ agree.core y;
     present = λ y.
         present_has log first after group [] y false false false core gone joined ∙ same (has_name (present_of log) y) ∙ agree.present y;
-    gone = λ y. gone_has log first after group [] y false false false core gone joined ∙ or_none (has_name (gone_of log) y) ∙ agree.gone y;
-    ever = λ y. ever_has log first after group [] y false false false core gone joined ∙ or_none (has_name (names_of log) y) ∙ agree.ever y;
+    gone = λ y. gone_has log first after group [] y false false false core gone joined ∙ or_false (has_name (gone_of log) y) ∙ agree.gone y;
+    ever = λ y. ever_has log first after group [] y false false false core gone joined ∙ or_false (has_name (names_of log) y) ∙ agree.ever y;
   }
 
 no_join : (step : Step) → actor_of step ≡ None → join_name step ≡ None
@@ -891,6 +898,10 @@ module _ (b : Beginning) where
   member_here true node core runs = (sym core, ap not (sym runs), sym runs, refl)
   member_here false node core runs = (refl, refl, refl, refl)
 
+  none_gone : gone_of (begin_record b ∷ []) ≡ []
+  unfolding gone_name
+  none_gone = refl
+
   begin_agree : Agree (begin_record b ∷ []) (system_at_rest b.settings b.members)
   begin_agree =
       let new = record_changes_hold.begins b.settings b.frames b.members in
@@ -901,25 +912,6 @@ module _ (b : Beginning) where
         gone = λ x. ap (λ l. has_name l x) none_gone ∙ (here x).2;
         ever = λ x. ap (λ l. has_name l x) new.names ∙ each_once b.members x ∙ (here x).3;
       }
-    where
-      none_gone : gone_of (begin_record b ∷ []) ≡ []
-      unfolding gone_name
-      none_gone = refl
-      more : (names others : List (List ℕ)) (x : List ℕ) → has_name (fold with_name names others) x ≡ (has_name names x || has_name others x)
-      more names [] x = or_false (has_name names x)
-        where
-          or_false : (b : Bool) → b ≡ (b || false)
-          or_false true = refl
-          or_false false = refl
-      more names (other ∷ others) x =
-          more (with_name names other) others x ∙ ap (λ b. b || has_name others x) (with_has true names other x)
-          ∙ or_assoc (has_name names x) (bytes_eq other x) (has_name others x)
-        where
-          or_assoc : (a b c : Bool) → ((a || b) || c) ≡ (a || (b || c))
-          or_assoc true b c = refl
-          or_assoc false b c = refl
-      each_once : (names : List (List ℕ)) (x : List ℕ) → has_name (fold with_name [] names) x ≡ has_name names x
-      each_once names x = more [] names x
 
   nodes_grow : (log group : List Record) → IsCourse b log → is_ended log ≡ false → Follows b log group
       → Agree log (system_of log) → Agree (log ++ group) (system_of (log ++ group))

@@ -82,8 +82,7 @@ stays_noted status r stays = record {
   core =
       ap counts_as_core stays.0
       ∙ same (counts_as_core status)
-      ∙ ap (λ b. (counts_as_core status || b) && not (tells_gone r.news)) (sym stays.1)
-      ∙ rest;
+      ∙ ap (λ b. (counts_as_core status || b) && not (tells_gone r.news)) (sym stays.1);
   ended = ap has_ended stays.0 ∙ or_none (has_ended status) ∙ ap (λ b. has_ended status || b) (sym stays.2);
 }
   where
@@ -93,9 +92,6 @@ stays_noted status r stays = record {
     same : (b : Bool) → b ≡ ((b || false) && not (tells_gone r.news))
     same true = ap not (sym stays.2)
     same false = refl
-    rest : ((counts_as_core status || tells_core r.news) && not (tells_gone r.news))
-        ≡ ((counts_as_core status || tells_core r.news) && not (tells_gone r.news))
-    rest = refl
 
 -- what a rule does, if there is one, is noted
 abbrev pub RuleNoted : Status → Option Reaction → Type 0
@@ -108,11 +104,10 @@ module _ (status : Status) where
   spread : (node : NodeState) (request : Request) (first : Bool) (offer : List Offered) (targets : List Target) (left : List Slot)
       → node.status ≡ status → Stays status (spreads node request first offer targets left)
   spread node request first offer targets left is =
-      by_test (answers_awaited first (length targets) == 0)
-    where
-      by_test : (alone : Bool) → Stays status (if alone then _ else _)
-      by_test true = (is, refl, refl)
-      by_test false = (is, refl, refl)
+      elim (cases_Bool (answers_awaited first (length targets) == 0)) [
+        | inl alone ↦ rw alone (is, refl, refl)
+        | inr others ↦ rw others (is, refl, refl)
+      ]
 
   covers_stay : (node : NodeState) (request : Request) (c : Covered) → node.status ≡ status → Stays status (covers_as node request c)
   covers_stay node request Already is = (is, refl, refl)
@@ -129,11 +124,11 @@ module _ (status : Status) where
   seeks_stay node joiner (Surrogate prefix) is = pins_stay node (first_request node joiner prefix) is
 
   meets_stay : (node : NodeState) (from : List ℕ) (tell : TellFields) → node.status ≡ status → Stays status (meets node from tell)
-  meets_stay node from tell is = by_test (has_name (with_pin node tell.joiner).greeted tell.joiner)
-    where
-      by_test : (known : Bool) → Stays status (with_words (words_of (pin_word node tell.joiner)) (if known then _ else _))
-      by_test true = (is, refl, refl)
-      by_test false = (is, refl, refl)
+  meets_stay node from tell is =
+      elim (cases_Bool (has_name node.greeted tell.joiner)) [
+        | inl known ↦ rw known (is, refl, refl)
+        | inr new ↦ rw new (is, refl, refl)
+      ]
 
   hop_stays : (node : NodeState) (ticket : ℕ) (object asker : List ℕ) (next : Next) → node.status ≡ status
       → Stays status (finds_on node ticket object asker next)
@@ -182,28 +177,28 @@ module _ (status : Status) where
 -- ---- rules that end a join or a departure
 
 is_done_noted : (node : NodeState) → node.status ≡ Joining → IsNoted Joining (is_done node).state.status (is_done node).news
-is_done_noted node is = by_test node.abandoned
-  where
-    by_test : (given_up : Bool) → RuleNoted Joining (Some (if given_up then _ else _))
-    by_test true = record { comes = λ core. refl; core = refl; ended = refl }
-    by_test false = record { comes = λ core. refl; core = refl; ended = refl }
+is_done_noted node is =
+    elim (cases_Bool node.abandoned) [
+      | inl given_up ↦ rw given_up (record { comes = λ core. refl; core = refl; ended = refl })
+      | inr stays ↦ rw stays (record { comes = λ core. refl; core = refl; ended = refl })
+    ]
 
 finishes_noted : (node : NodeState) (messages : List Message) (status : Status) → has_ended status ≡ false → counts_as_core status ≡ true
     → node.status ≡ Leaving
     → IsNoted status (finishes_or_sends node messages).state.status (finishes_or_sends node messages).news
-finishes_noted node messages status runs core is = by_test (length node.awaited == 0)
-  where
-    by_test : (alone : Bool) → RuleNoted status (Some (if alone then _ else _))
-    by_test true = record {
-      comes = λ became. runs;
-      core = ap (λ b. (b || false) && false) (sym core);
-      ended = ap (λ b. b || true) (sym runs);
-    }
-    by_test false = record {
-      comes = λ became. runs;
-      core = ap counts_as_core is ∙ ap (λ b. (b || false) && true) (sym core);
-      ended = ap has_ended is ∙ ap (λ b. b || false) (sym runs);
-    }
+finishes_noted node messages status runs core is =
+    elim (cases_Bool (length node.awaited == 0)) [
+      | inl alone ↦ rw alone (record {
+          comes = λ became. runs;
+          core = ap (λ b. (b || false) && false) (sym core);
+          ended = ap (λ b. b || true) (sym runs);
+        })
+      | inr others ↦ rw others (record {
+          comes = λ became. runs;
+          core = ap counts_as_core is ∙ ap (λ b. (b || false) && true) (sym core);
+          ended = ap has_ended is ∙ ap (λ b. b || false) (sym runs);
+        })
+    ]
 
 -- ---- frames and starts, by the status
 

@@ -1,5 +1,5 @@
 -- The laws of courses: what one more group makes of a course and its system, and what both say of frames and nodes.
-use Rattle.std.specs.Prelude.{◌≡◌, ℕ, Bool, true, false, not, List, [], ◌∷◌, ◌++◌, map, All, Option, None, Some, is_some, if◌then◌else◌}
+use Rattle.std.specs.Prelude.{◌≡◌, ℕ, Bool, true, false, not, List, [], ◌∷◌, ◌++◌, map, take, All, Option, None, Some, is_some, if◌then◌else◌}
 use Rattle.std.specs.Option.{option_map}
 use Rattle.tap_name.specs.Names.{has_name}
 use Rattle.tap_name.specs.Settings.{SettingsValue}
@@ -15,7 +15,7 @@ use Rattle.tap_history.specs.Groups.{groups_of, is_ended}
 use Rattle.tap_history.specs.Names.{names_of}
 use Rattle.tap_history.specs.Refusals.{is_joining}
 use Rattle.tap_rule.specs.Node.{NodeState}
-use Rattle.tap_history.specs.Moments.{outstanding}
+use Rattle.tap_history.specs.Moments.{is_moment, outstanding}
 use Rattle.tap_safety.specs.System.{System}
 use Rattle.tap_course.specs.Beginning.{Beginning, IsWithinLimits, begin_record, system_at_rest}
 use Rattle.tap_course.specs.Course.{Follows, IsCourse, is_choice, move_of_group, moved_by, system_of}
@@ -24,7 +24,7 @@ use Rattle.tap_course.specs.Observed.{has_ended, is_core_node, is_joining_status
 -- ---- one more group
 
 -- A beginning within the limits is a course, of a system at rest. With one more group that may follow, a course that hasn't ended is a
--- course that hasn't ended, and its system is the one before, after the group's move.
+-- course that hasn't ended, and its system is the one before, after the group's move. At each of its moments it is such a course too.
 pub record CourseGrows : Type 0 where
   pub starts : (b : Beginning) → IsWithinLimits b → IsCourse b (begin_record b ∷ [])
   pub at_rest : (b : Beginning) → system_of (begin_record b ∷ []) ≡ system_at_rest b.settings b.members
@@ -34,6 +34,8 @@ pub record CourseGrows : Type 0 where
       → is_ended (log ++ group) ≡ false
   pub system : (b : Beginning) (log group : List Record) → IsCourse b log → is_ended log ≡ false → Follows b log group
       → system_of (log ++ group) ≡ moved_by b.settings (system_of log) (move_of_group log group)
+  pub moments : (b : Beginning) (log : List Record) → IsCourse b log → is_ended log ≡ false → (m : ℕ) → is_moment log m ≡ true
+      → IsCourse b (take m log) × (is_ended (take m log) ≡ false)
 
 -- ---- frames
 
