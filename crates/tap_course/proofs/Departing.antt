@@ -231,7 +231,7 @@ module _ (p : SettingsValue) (log : List Record) (s : System) (begun : 1 ≤ len
       → SameDeparts (log ++ StepRecord index step ∷ items) s
   idle_departs index step items within idle after =
       let plain : (is_accepted items ≡ false) ⊎ (depart_name step ≡ None) =
-      elim idle.plain [ inl not_accepted ↦ inl not_accepted | inr none ↦ inr (no_departure step none) ] in
+      elim (idle.plain) [ inl not_accepted ↦ inl not_accepted | inr none ↦ inr (no_departure step none) ] in
       let group = is_group log (StepRecord index step) items begun uncarried (step_begins index step) within in
       record {
         departing =
@@ -287,8 +287,8 @@ module _ (p : SettingsValue) (log : List Record) (s : System) (begun : 1 ≤ len
   departs_step (StepRecord index step ∷ items) may after =
       let within = step_within p log s index step items may in
       let group = StepRecord index step ∷ items in
-      let Frames = λ (m : Option Move). frame_numbers (moved_by p s m).frames ≡ outstanding (log ++ group) in
-      let Departs = λ (m : Option Move). SameDeparts (log ++ group) (moved_by p s m) in
+      let Frames : Option Move → Type 0 = λ m. frame_numbers (moved_by p s m).frames ≡ outstanding (log ++ group) in
+      let Departs : Option Move → Type 0 = λ m. SameDeparts (log ++ group) (moved_by p s m) in
       elim (step_kind p log s index step items may) [
         | inl idle ↦
             let still = step_moves log index step items ∙ idle.still in
@@ -300,8 +300,8 @@ module _ (p : SettingsValue) (log : List Record) (s : System) (begun : 1 ≤ len
   departs_step (Taken number ∷ items) may after =
       let within = taken_within p log s number items may in
       let group = Taken number ∷ items in
-      let Frames = λ (m : Option Move). frame_numbers (moved_by p s m).frames ≡ outstanding (log ++ group) in
-      let Departs = λ (m : Option Move). SameDeparts (log ++ group) (moved_by p s m) in
+      let Frames : Option Move → Type 0 = λ m. frame_numbers (moved_by p s m).frames ≡ outstanding (log ++ group) in
+      let Departs : Option Move → Type 0 = λ m. SameDeparts (log ++ group) (moved_by p s m) in
       let moves = taken_moves log number items in
       subst Departs (sym moves)
       (taken_departs number items within (numbered_frame number s.frames) refl may.receiver (subst Frames moves after))

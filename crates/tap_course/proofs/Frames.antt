@@ -31,7 +31,7 @@ use Rattle.tap_safety.specs.Move.Move.{Begins, Delivers}
 use Rattle.tap_safety.specs.Moved.{moved, numbered_frame, starter, without_frame}
 use Rattle.tap_safety.specs.Step.{AreNumbered, Ascend, numbered_from}
 use Rattle.tap_safety.specs.System.{System}
-use Rattle.tap_safety.proofs.Moves.{delivers, numbers_sent, numbers_taken, split, starts}
+use Rattle.tap_safety.proofs.Moves.{ascend_below, delivers, numbers_sent, numbers_taken, starts}
 use Rattle.tap_course.specs.Beginning.{Beginning, begin_record, system_at_rest}
 use Rattle.tap_course.specs.Starts.{announced, next_ticket}
 use Rattle.tap_course.specs.Acts.{acted_records, if_so, news_after, news_before, sent_records}
@@ -78,21 +78,20 @@ numbers_without : (number low : ℕ) (fs : List (ℕ × Frame)) (high : ℕ) →
     → frame_numbers (without_frame number fs) ≡ numbers_less (frame_numbers fs) (number ∷ [])
 unfolding without_frame
 numbers_without number low [] high ascend = refl
-numbers_without number low (f ∷ fs) high (least, later) = by_test (cases_Bool (eqb f.0 number))
-  where
-    rest : List ℕ
-    rest = numbers_less (frame_numbers fs) (number ∷ [])
-    by_test : (eqb f.0 number ≡ true) ⊎ (eqb f.0 number ≡ false)
-        → frame_numbers (without_frame number (f ∷ fs)) ≡ numbers_less (frame_numbers (f ∷ fs)) (number ∷ [])
-    by_test (inl here) =
-        let same = eqb-true f.0 number here in
-        ap (λ b. frame_numbers (if b then fs else f ∷ without_frame number fs)) here
-        ∙ sym (none_left number (f.0 + 1) fs high (omega (arith, same)) later)
-        ∙ sym (ap (λ b. cond {A = List ℕ} (not (b || false)) (f.0 ∷ rest) rest) (eq-eqb number f.0 (sym same)))
-    by_test (inr apart) =
-        ap (λ b. frame_numbers (if b then fs else f ∷ without_frame number fs)) apart
-        ∙ ap (λ l. f.0 ∷ l) (numbers_without number (f.0 + 1) fs high later)
-        ∙ sym (ap (λ b. cond {A = List ℕ} (not (b || false)) (f.0 ∷ rest) rest) (ne_eqb number f.0 (λ same. let here = eq-eqb f.0 number (sym same) in absurd (cc))))
+numbers_without number low (f ∷ fs) high (least, later) =
+    let rest = numbers_less (frame_numbers fs) (number ∷ []) in
+    elim (cases_Bool (eqb f.0 number)) [
+      | inl here ↦
+          let same = eqb-true f.0 number here in
+          ap (λ b. frame_numbers (if b then fs else f ∷ without_frame number fs)) here
+          ∙ sym (none_left number (f.0 + 1) fs high (omega (arith, same)) later)
+          ∙ sym (ap (λ b. cond {A = List ℕ} (not (b || false)) (f.0 ∷ rest) rest) (eq-eqb number f.0 (sym same)))
+      | inr apart ↦
+          ap (λ b. frame_numbers (if b then fs else f ∷ without_frame number fs)) apart
+          ∙ ap (λ l. f.0 ∷ l) (numbers_without number (f.0 + 1) fs high later)
+          ∙ sym (ap (λ b. cond {A = List ℕ} (not (b || false)) (f.0 ∷ rest) rest)
+          (ne_eqb number f.0 (λ same. let here = eq-eqb f.0 number (sym same) in absurd (cc))))
+    ]
 
 -- ---- what the records of a step tell of frames
 
@@ -349,27 +348,26 @@ found_below : (number : ℕ) (frame : Frame) (low : ℕ) (fs : List (ℕ × Fram
     → numbered_frame number fs ≡ Some frame → number < high
 unfolding numbered_frame
 found_below number frame low [] high ascend is = absurd (cc)
-found_below number frame low (f ∷ fs) high (least, later) is = by_test (cases_Bool (eqb f.0 number))
-  where
-    end_above : (low : ℕ) (gs : List (ℕ × Frame)) → Ascend low gs high → low ≤ high
-    end_above low [] ascend = ascend
-    end_above low (g ∷ gs) (least, later) = let more = end_above (g.0 + 1) gs later in omega (arith, least, more)
-    by_test : (eqb f.0 number ≡ true) ⊎ (eqb f.0 number ≡ false) → number < high
-    by_test (inl here) =
-        let same = eqb-true f.0 number here in
-        let end = end_above (f.0 + 1) fs later in omega (arith, same, end)
-    by_test (inr apart) =
-        found_below number frame (f.0 + 1) fs high later (sym (ap (λ b. if b then Some f.1 else numbered_frame number fs) apart) ∙ is)
+found_below number frame low (f ∷ fs) high (least, later) is =
+    elim (cases_Bool (eqb f.0 number)) [
+      | inl here ↦
+          let same = eqb-true f.0 number here in
+          let end = ascend_below (f.0 + 1) fs high later in omega (arith, same, end)
+      | inr apart ↦
+          let found : numbered_frame number fs ≡ Some frame = rw apart at is in
+          found_below number frame (f.0 + 1) fs high later found
+    ]
 
 -- what holds of each frame holds of each that is left
 left_of : (P : ℕ × Frame → Type 0) (number : ℕ) (fs : List (ℕ × Frame)) → All P fs → All P (without_frame number fs)
 unfolding without_frame
 left_of P number [] all = all
-left_of P number (f ∷ fs) all = by_test (eqb f.0 number)
-  where
-    by_test : (here : Bool) → All P (if here then fs else f ∷ without_frame number fs)
-    by_test true = All-tail P f fs all
-    by_test false = All-cons P f (without_frame number fs) (All-head P f fs all) (left_of P number fs (All-tail P f fs all))
+left_of P number (f ∷ fs) all =
+    let rest = left_of P number fs (All-tail P f fs all) in
+    elim (cases_Bool (eqb f.0 number)) [
+      | inl here ↦ rw here (All-tail P f fs all)
+      | inr apart ↦ rw apart (All-cons P f (without_frame number fs) (All-head P f fs all) rest)
+    ]
 
 module _ (p : SettingsValue) (log : List Record) (s : System) (number : ℕ) (next : s.next ≡ sent_count log) (numbered : AreNumbered s) where
   module _ (frame : Frame) (node : NodeState) (is : numbered_frame number s.frames ≡ Some frame) (at : s.node frame.to ≡ Some node) where

@@ -39,7 +39,7 @@ use Rattle.tap_safety.specs.Move.Move.{Begins, Delivers}
 use Rattle.tap_safety.specs.Moved.{moved, numbered_frame, starter}
 use Rattle.tap_safety.specs.System.{System}
 use Rattle.tap_safety.proofs.Moves.{delivers, starts}
-use Rattle.tap_course.specs.Beginning.{Beginning, begin_record, system_at_rest}
+use Rattle.tap_course.specs.Beginning.{Beginning, begin_record, member_of, system_at_rest}
 use Rattle.tap_course.specs.Starts.{announced, start_of_step}
 use Rattle.tap_course.specs.Acts.{acted_records, if_so, news_after, news_before, sent_records}
 use Rattle.tap_course.specs.Group.{received_records, records_of_act, start_at}
@@ -68,34 +68,36 @@ and_false false = refl
 name_is : (x y : List ℕ) → bytes_eq x y ≡ true → x ≡ y
 name_is x y same = (bytes_eq-Decides x y).0 same
 
+without_one : (name : List ℕ) (names others : List (List ℕ)) (x : List ℕ)
+    → has_name (names_without names others) x ≡ (has_name names x && not (has_name others x))
+    → (bytes_eq name x ≡ true) ⊎ (bytes_eq name x ≡ false) → (has_name others name ≡ true) ⊎ (has_name others name ≡ false)
+    → has_name (names_without (name ∷ names) others) x ≡ (has_name (name ∷ names) x && not (has_name others x))
+without_one name names others x rest (inl same) (inl gone) =
+    let left = names_without names others in
+    let there : has_name others x ≡ true = ap (has_name others) (sym (name_is name x same)) ∙ gone in
+    ap (λ b. has_name (cond {A = List (List ℕ)} (not b) (name ∷ left) left) x) gone ∙ rest
+    ∙ ap (λ b. has_name names x && not b) there ∙ and_false (has_name names x)
+    ∙ sym (ap (λ b. (bytes_eq name x || has_name names x) && not b) there ∙ and_false (bytes_eq name x || has_name names x))
+without_one name names others x rest (inl same) (inr stays) =
+    let left = names_without names others in
+    let there : has_name others x ≡ false = ap (has_name others) (sym (name_is name x same)) ∙ stays in
+    ap (λ b. has_name (cond {A = List (List ℕ)} (not b) (name ∷ left) left) x) stays ∙ ap (λ b. b || has_name left x) same
+    ∙ sym (ap (λ b. (b || has_name names x) && not (has_name others x)) same ∙ ap not there)
+without_one name names others x rest (inr apart) (inl gone) =
+    let left = names_without names others in
+    ap (λ b. has_name (cond {A = List (List ℕ)} (not b) (name ∷ left) left) x) gone ∙ rest
+    ∙ sym (ap (λ b. (b || has_name names x) && not (has_name others x)) apart)
+without_one name names others x rest (inr apart) (inr stays) =
+    let left = names_without names others in
+    ap (λ b. has_name (cond {A = List (List ℕ)} (not b) (name ∷ left) left) x) stays ∙ ap (λ b. b || has_name left x) apart ∙ rest
+    ∙ sym (ap (λ b. (b || has_name names x) && not (has_name others x)) apart)
+
 -- the names without others
 without_has : (names others : List (List ℕ)) (x : List ℕ)
     → has_name (names_without names others) x ≡ (has_name names x && not (has_name others x))
 without_has [] others x = refl
-without_has (name ∷ names) others x = by_test (cases_Bool (bytes_eq name x)) (cases_Bool (has_name others name))
-  where
-    rest : List (List ℕ)
-    rest = names_without names others
-    kept : (gone : Bool) → has_name others name ≡ gone
-        → has_name (names_without (name ∷ names) others) x
-        ≡ has_name (cond {A = List (List ℕ)} (not gone) (name ∷ rest) rest) x
-    kept gone is = ap (λ b. has_name (cond {A = List (List ℕ)} (not b) (name ∷ rest) rest) x) is
-    by_test : (bytes_eq name x ≡ true) ⊎ (bytes_eq name x ≡ false) → (has_name others name ≡ true) ⊎ (has_name others name ≡ false)
-        → has_name (names_without (name ∷ names) others) x ≡ (has_name (name ∷ names) x && not (has_name others x))
-    by_test (inl same) (inl gone) =
-        let there : has_name others x ≡ true = ap (has_name others) (sym (name_is name x same)) ∙ gone in
-        kept true gone ∙ without_has names others x ∙ ap (λ b. has_name names x && not b) there ∙ and_false (has_name names x)
-        ∙ sym (ap (λ b. (bytes_eq name x || has_name names x) && not b) there ∙ and_false (bytes_eq name x || has_name names x))
-    by_test (inl same) (inr stays) =
-        let there : has_name others x ≡ false = ap (has_name others) (sym (name_is name x same)) ∙ stays in
-        kept false stays ∙ ap (λ b. b || has_name rest x) same
-        ∙ sym (ap (λ b. (b || has_name names x) && not (has_name others x)) same ∙ ap not there)
-    by_test (inr apart) (inl gone) =
-        kept true gone ∙ without_has names others x
-        ∙ sym (ap (λ b. (b || has_name names x) && not (has_name others x)) apart)
-    by_test (inr apart) (inr stays) =
-        kept false stays ∙ ap (λ b. b || has_name rest x) apart ∙ without_has names others x
-        ∙ sym (ap (λ b. (b || has_name names x) && not (has_name others x)) apart)
+without_has (name ∷ names) others x =
+    without_one name names others x (without_has names others x) (cases_Bool (bytes_eq name x)) (cases_Bool (has_name others name))
 
 -- the one name, or none
 abbrev pub one_if : Bool → List ℕ → List (List ℕ)
@@ -817,7 +819,7 @@ module _ (p : SettingsValue) (log : List Record) (s : System) (begun : 1 ≤ len
     unfolding core_name gone_name
     idle_nodes idle =
         let plain : (is_accepted items ≡ false) ⊎ (join_name step ≡ None) =
-        elim idle.plain [ inl not_accepted ↦ inl not_accepted | inr none ↦ inr (no_join step none) ] in
+        elim (idle.plain) [ inl not_accepted ↦ inl not_accepted | inr none ↦ inr (no_join step none) ] in
         idle_agree log (StepRecord index step) items step_group s
         (none_of core_name items (λ k d there. (idle.quiet k d there).core))
         (none_of gone_name items (λ k d there. (idle.quiet k d there).gone))
@@ -890,13 +892,22 @@ module _ (p : SettingsValue) (log : List Record) (s : System) (begun : 1 ≤ len
       (taken_seen number (numbered_frame number s.frames) refl may.receiver steps)) agree)
   nodes_step group may = absurd may
 
+-- who is a member is core and present, and hasn't ended
+pub record IsAsMember (there : Bool) (node : Option NodeState) : Type 0 where
+  pub core : there ≡ is_core_node node
+  pub present : there ≡ is_present_node node
+  pub ended : false ≡ is_ended_node node
+  pub ever : there ≡ is_some node
+
 -- the beginning
 module _ (b : Beginning) where
   member_here : (there : Bool) (node : NodeState) → counts_as_core node.status ≡ true → has_ended node.status ≡ false
-      → (there ≡ is_core_node (if there then Some node else None)) × (there ≡ is_present_node (if there then Some node else None))
-      × (false ≡ is_ended_node (if there then Some node else None)) × (there ≡ is_some (if there then Some node else None))
-  member_here true node core runs = (sym core, ap not (sym runs), sym runs, refl)
-  member_here false node core runs = (refl, refl, refl, refl)
+      → IsAsMember there (if there then Some node else None)
+  member_here true node core runs = record { core = sym core; present = ap not (sym runs); ended = sym runs; ever = refl }
+  member_here false node core runs = record { core = refl; present = refl; ended = refl; ever = refl }
+
+  member_is : (x : List ℕ) → IsAsMember (has_name b.members x) (member_of b.settings b.members x)
+  member_is x = member_here (has_name b.members x) (member_at_rest b.settings b.members x) refl refl
 
   none_gone : gone_of (begin_record b ∷ []) ≡ []
   unfolding gone_name
@@ -905,12 +916,11 @@ module _ (b : Beginning) where
   begin_agree : Agree (begin_record b ∷ []) (system_at_rest b.settings b.members)
   begin_agree =
       let new = record_changes_hold.begins b.settings b.frames b.members in
-      let here : (x : List ℕ) → _ = λ x. member_here (has_name b.members x) (member_at_rest b.settings b.members x) refl refl in
       record {
-        core = λ x. ap (λ l. has_name l x) new.core ∙ (here x).0;
-        present = λ x. ap (λ l. has_name l x) new.present ∙ (here x).1;
-        gone = λ x. ap (λ l. has_name l x) none_gone ∙ (here x).2;
-        ever = λ x. ap (λ l. has_name l x) new.names ∙ each_once b.members x ∙ (here x).3;
+        core = λ x. ap (λ l. has_name l x) new.core ∙ (member_is x).core;
+        present = λ x. ap (λ l. has_name l x) new.present ∙ (member_is x).present;
+        gone = λ x. ap (λ l. has_name l x) none_gone ∙ (member_is x).ended;
+        ever = λ x. ap (λ l. has_name l x) new.names ∙ each_once b.members x ∙ (member_is x).ever;
       }
 
   nodes_grow : (log group : List Record) → IsCourse b log → is_ended log ≡ false → Follows b log group

@@ -87,7 +87,7 @@ has_receiver s (Some frame) = is_some (s.node frame.to)
 
 -- These may follow a `Taken`: the frame was outstanding, and its receiver, which is there, acts by its rule.
 pub record FollowTaken (p : SettingsValue) (before : List Record) (s : System) (number : ℕ) (items : List Record) : Type 0 where
-  pub outstanding : has_number (outstanding before) number ≡ true
+  pub waits : has_number (outstanding before) number ≡ true
   pub receiver : has_receiver s (numbered_frame number s.frames) ≡ true
   pub are : items ≡ taken_records p before s number
 
