@@ -276,6 +276,7 @@ module _ (p : SettingsValue) (log : List Record) (s : System) (begun : 1 ≤ len
                 ∙ ap (departs_after s'.frames) was.departing ∙ departs_with s'.frames s.departing ∙ sym (ap name_of_leaver now);
             at_rest = λ empty. now ∙ with_none s'.frames s.departing empty;
           }
+
       by_node : (node : Option NodeState) → s.node frame.to ≡ node → SameDeparts (log ++ Taken number ∷ items) (moved p s (Delivers number))
       by_node None at = let not_there : has_receiver s (Some frame) ≡ false = ap is_some at in absurd (cc)
       by_node (Some node) at = with_receiver node at

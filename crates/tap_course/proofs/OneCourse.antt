@@ -41,19 +41,15 @@ module _ (p : SettingsValue) (log : List Record) (s : System) where
   same_rest (Taken number) one other may also same = may.are ∙ sym also.are
   same_rest first one other may also same = absurd may
 
+  nothing_follows : MayFollow p log s [] → ⊥
+  unfolding MayFollow
+  nothing_follows may = may
+
   -- the log before a group and the choice of the group make the group
   pub same_group : (one other : List Record) → MayFollow p log s one → MayFollow p log s other → choice_of one ≡ choice_of other
       → one ≡ other
   same_group [] other may also same = absurd (nothing_follows may)
-    where
-      nothing_follows : MayFollow p log s [] → ⊥
-      unfolding MayFollow
-      nothing_follows may = may
   same_group (first ∷ one) [] may also same = absurd (nothing_follows also)
-    where
-      nothing_follows : MayFollow p log s [] → ⊥
-      unfolding MayFollow
-      nothing_follows may = may
   same_group (first ∷ one) (next ∷ other) may also same =
       let alike : first ≡ next = sym (chosen_first first first one) ∙ ap (first_or first) same ∙ chosen_first first next other in
       ap (λ l. first ∷ l)

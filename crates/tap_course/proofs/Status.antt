@@ -89,6 +89,7 @@ stays_noted status r stays = record {
     or_none : (b : Bool) → b ≡ (b || false)
     or_none true = refl
     or_none false = refl
+
     same : (b : Bool) → b ≡ ((b || false) && not (tells_gone r.news))
     same true = ap not (sym stays.2)
     same false = refl
@@ -189,15 +190,15 @@ finishes_noted : (node : NodeState) (messages : List Message) (status : Status) 
 finishes_noted node messages status runs core is =
     elim (cases_Bool (length node.awaited == 0)) [
       | inl alone ↦ rw alone (record {
-          comes = λ became. runs;
-          core = ap (λ b. (b || false) && false) (sym core);
-          ended = ap (λ b. b || true) (sym runs);
-        })
+        comes = λ became. runs;
+        core = ap (λ b. (b || false) && false) (sym core);
+        ended = ap (λ b. b || true) (sym runs);
+      })
       | inr others ↦ rw others (record {
-          comes = λ became. runs;
-          core = ap counts_as_core is ∙ ap (λ b. (b || false) && true) (sym core);
-          ended = ap has_ended is ∙ ap (λ b. b || false) (sym runs);
-        })
+        comes = λ became. runs;
+        core = ap counts_as_core is ∙ ap (λ b. (b || false) && true) (sym core);
+        ended = ap has_ended is ∙ ap (λ b. b || false) (sym runs);
+      })
     ]
 
 -- ---- frames and starts, by the status
@@ -296,6 +297,7 @@ ignored_noted status acted same none =
     alone : (b : Bool) → b ≡ ((b || false) && true)
     alone true = refl
     alone false = refl
+
     or_none : (b : Bool) → b ≡ (b || false)
     or_none true = refl
     or_none false = refl
@@ -318,6 +320,7 @@ module _ (node : NodeState) where
           let does = frame_law node frame r fit is in
           carried_noted r (act node (Takes frame)) does.status does.news
           (subst (RuleNoted node.status) is (frame_rule_noted node frame.from frame.body node.status refl))
+
       by_test : (is_strange node frame ≡ true) ⊎ (is_strange node frame ≡ false)
           → IsNoted node.status (act node (Takes frame)).state.status (act node (Takes frame)).news
       by_test (inl strange) =

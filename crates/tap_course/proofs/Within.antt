@@ -234,10 +234,10 @@ module _ (p : SettingsValue) (log : List Record) (s : System) (index : ℕ) (ste
   unless_kind None is are =
       elim (accepted_kind p log s step) [
         | inl idle ↦ inl (record {
-            quiet = subst (All IsQuiet) (sym are) idle.0;
-            still = moves_nothing (first_refusal log step) (start_at log step) (ap (λ actor. option_zip actor (start_of_step log step)) idle.1);
-            plain = inr idle.1;
-          })
+          quiet = subst (All IsQuiet) (sym are) idle.0;
+          still = moves_nothing (first_refusal log step) (start_at log step) (ap (λ actor. option_zip actor (start_of_step log step)) idle.1);
+          plain = inr idle.1;
+        })
         | inr started ↦ started_kind (start_at log step) is refl (are ∙ started)
       ]
 
