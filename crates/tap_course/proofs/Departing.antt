@@ -68,7 +68,8 @@ module _ (log : List Record) (first : Record) (after : List Record) (group : IsG
   departs : departing_of (log ++ first ∷ after) ≡ departs_after s'.frames (last_or (departing_of log) names)
   departs =
       one_more_group_holds.departing log first after group
-      ∙ ap (λ c. if is_still (log ++ first ∷ after) then None else last_or (departing_of log) (filter_map depart_name (accepted_in c (first ∷ after))))
+      ∙ ap (λ c. if is_still (log ++ first ∷ after) then None
+      else last_or (departing_of log) (filter_map depart_name (accepted_in c (first ∷ after))))
       uncarried
       ∙ ap (λ l. if is_still (log ++ first ∷ after) then None else last_or (departing_of log) l) named
       ∙ ap (λ l. if is_none l then None else last_or (departing_of log) names) (sym frames)
@@ -113,7 +114,8 @@ departs_at_rest log name accepted =
 
 -- ---- a start
 
-module _ (p : SettingsValue) (s : System) (name : List ℕ) (start : Start) (node : NodeState) (begins : starter p s name start ≡ Some node) where
+module _ (p : SettingsValue) (s : System) (name : List ℕ) (start : Start) (node : NodeState)
+    (begins : starter p s name start ≡ Some node) where
   abbrev begun : System
   begun = moved p s (Begins name start)
 
@@ -183,13 +185,15 @@ module _ (p : SettingsValue) (log : List Record) (s : System) (uncarried : is_ca
       items_are : items ≡ acted_records p (sent_count log) name acted
       unfolding announced
       items_are =
-          starting.are ∙ ap (λ st. announced log st ++ records_of_act p log name (starter p s name starting.start) (Starts starting.start)) leaves
+          starting.are
+          ∙ ap (λ st. announced log st ++ records_of_act p log name (starter p s name starting.start) (Starts starting.start)) leaves
           ∙ ap (λ n. records_of_act p log name n (Starts starting.start)) begins
 
       silent_departs : s'.frames ≡ [] → departing_of (log ++ StepRecord index step ∷ items) ≡ name_of_leaver s'.departing
       silent_departs empty =
           departs log (StepRecord index step) items group uncarried s' after _ refl
-          ∙ ap (λ l. departs_after l (last_or (departing_of log) (filter_map depart_name (accepted_in false (StepRecord index step ∷ items))))) empty
+          ∙ ap (λ l. departs_after l
+          (last_or (departing_of log) (filter_map depart_name (accepted_in false (StepRecord index step ∷ items))))) empty
           ∙ sym (ap name_of_leaver (now ∙ with_none s'.frames (departing_by node name starting.start s.departing) empty))
 
       named : is_accepted items ≡ true → filter_map depart_name (accepted_in false (StepRecord index step ∷ items)) ≡ name ∷ []
@@ -321,7 +325,8 @@ module _ (b : Beginning) where
       → SameDeparts log (system_of log) → SameDeparts (log ++ group) (system_of (log ++ group))
   departs_grow log group course going follows was =
       let grows = grown_system b log group course going follows in
-      let after = course_frames_holds b (log ++ group) (grown b log group course going follows) (grown_going b log group course going follows) in
+      let after =
+      course_frames_holds b (log ++ group) (grown b log group course going follows) (grown_going b log group course going follows) in
       subst (SameDeparts (log ++ group)) (sym grows)
       (departs_step b.settings log (system_of log) (starts_begun log (begin_record b) course.begins)
       (starts_uncarried log (begin_record b) course.begins) (nodes_agree b log course going) was

@@ -69,7 +69,8 @@ none_left : (number low : ℕ) (fs : List (ℕ × Frame)) (high : ℕ) → numbe
     → numbers_less (frame_numbers fs) (number ∷ []) ≡ frame_numbers fs
 none_left number low [] high above ascend = refl
 none_left number low (f ∷ fs) high above (least, later) =
-    ap (λ b. cond {A = List ℕ} (not (b || false)) (f.0 ∷ numbers_less (frame_numbers fs) (number ∷ [])) (numbers_less (frame_numbers fs) (number ∷ [])))
+    let rest = numbers_less (frame_numbers fs) (number ∷ []) in
+    ap (λ b. cond {A = List ℕ} (not (b || false)) (f.0 ∷ rest) rest)
     (ne_eqb number f.0 (λ is. absurd (omega (arith, is, above, least))))
     ∙ ap (λ l. f.0 ∷ l) (none_left number (f.0 + 1) fs high (omega (arith, above, least)) later)
 
@@ -290,7 +291,8 @@ module _ (log : List Record) (index : ℕ) (step : Step) (done : List Record) wh
   unfolding taken_number
   taken_told = told taken_number refl (announced_is log step).taken
 
-  asked_told : filter_map asked_ticket done ≡ [] → filter_map asked_ticket whole ≡ range_with_len (1 + ticket_count log) (ticket_count whole)
+  asked_told : filter_map asked_ticket done ≡ []
+      → filter_map asked_ticket whole ≡ range_with_len (1 + ticket_count log) (ticket_count whole)
   unfolding asked_ticket
   asked_told none =
       let said = announced_is log step in
@@ -331,7 +333,8 @@ module _ (p : SettingsValue) (log : List Record) (s : System) (index : ℕ) (ste
         kept = s.frames;
         sending = sent_told log index step done ∙ does.sent ∙ ap (λ n. range_with_len n (length acted.sent)) (sym next);
         bytes = subst (λ n. All (HasBytes p (StepRecord index step ∷ (announced log step ++ done))) (numbered_from n acted.sent)) (sym next)
-            (λ k d within. bytes_told log index step done (get_or (numbered_from (sent_count log) acted.sent) k d).0 ∙ does.bytes k d within);
+            (λ k d within.
+            bytes_told log index step done (get_or (numbered_from (sent_count log) acted.sent) k d).0 ∙ does.bytes k d within);
         below = subst (All (λ number. number < s.next)) (sym taken) (All-nil (λ number. number < s.next));
         asked = asked_told log index step done does.asked;
         left = sym (numbers_all (frame_numbers s.frames)) ∙ ap (numbers_less (frame_numbers s.frames)) (sym taken);
@@ -463,7 +466,8 @@ module _ (p : SettingsValue) (log : List Record) (s : System) (next : s.next ≡
   starting_exchange : (index : ℕ) (step : Step) (items : List Record) → IsStarting p log s step items
       → Exchanges p log (StepRecord index step ∷ items) s (moved_by p s (move_of_group log (StepRecord index step ∷ items)))
   starting_exchange index step items starting =
-      subst (λ m. Exchanges p log (StepRecord index step ∷ items) s (moved_by p s m)) (sym (starting_moves p log s index step items starting))
+      subst (λ m. Exchanges p log (StepRecord index step ∷ items) s (moved_by p s m))
+      (sym (starting_moves p log s index step items starting))
       (subst (λ l. Exchanges p log (StepRecord index step ∷ l) s (moved p s (Begins starting.name starting.start))) (sym starting.are)
       (start_exchange p log s index step starting.name starting.start next (starter p s starting.name starting.start) refl))
 

@@ -178,7 +178,8 @@ module _ (log : List Record) (first : Record) (after : List Record) (group : IsG
       ≡ ((has_name names y || (has_name new y && not (has_name (gone_of log) y))) && not (left && bytes_eq x y))
   more_has names new =
       without_has (names ++ names_without new (gone_of log)) (one_if left x) y
-      ∙ ap (λ b. b && not (has_name (one_if left x) y)) (list_any-append (λ other. bytes_eq other y) names (names_without new (gone_of log)))
+      ∙ ap (λ b. b && not (has_name (one_if left x) y))
+      (list_any-append (λ other. bytes_eq other y) names (names_without new (gone_of log)))
       ∙ ap (λ b. (has_name names y || b) && not (has_name (one_if left x) y)) (without_has new (gone_of log) y)
       ∙ ap (λ b. (has_name names y || (has_name new y && not (has_name (gone_of log) y))) && not b) (one_has left x y)
 
@@ -618,7 +619,8 @@ module _ (p : SettingsValue) (log : List Record) (s : System) (agree : Agree log
         start_is = sym what;
         none = ap s.node (sym same) ∙ new;
       })
-  starts_of (Depart node) name start accepted at = inr (there_with _ name start accepted (ap (λ x. Some x) (ap name_at at)) (other_start _ name _ start at refl) refl)
+  starts_of (Depart node) name start accepted at =
+      inr (there_with _ name start accepted (ap (λ x. Some x) (ap name_at at)) (other_start _ name _ start at refl) refl)
   starts_of (Publish object server) name start accepted at =
       inr (there_with _ name start accepted (ap (λ x. Some x) (ap name_at at)) (other_start _ name _ start at refl) refl)
   starts_of (Withdraw object server) name start accepted at =
@@ -719,7 +721,8 @@ module _ (p : SettingsValue) (log : List Record) (s : System) (uncarried : is_ca
       (start_acts p log s uncarried index step name start there.node there.starts false there.node.status
       (start_noted there.node start) (ap is_core_node there.is) (ap is_ended_node there.is) (ap is_some there.is)
       (λ joins. absurd (cc))
-      (none_named join_name index step (Items (Some there.node)) (subst (λ n. All HasNoStep (Items n)) there.starts none) (inr there.joins)))
+      (none_named join_name index step (Items (Some there.node)) (subst (λ n. All HasNoStep (Items n)) there.starts none)
+      (inr there.joins)))
 
   -- a node that is new joins
   new_acts : (name via : List ℕ) → s.node name ≡ None
@@ -767,7 +770,8 @@ module _ (p : SettingsValue) (log : List Record) (s : System) (uncarried : is_ca
         core = taken_core;
         gone = taken_gone;
         joined = ap (λ c. filter_map join_name (accepted_in c (Taken number ∷ replied))) uncarried
-            ∙ ap (filter_map join_name) (none_accepted (Taken number ∷ replied) (All-cons HasNoStep (Taken number) replied (taken_no_step number) steps));
+            ∙ ap (filter_map join_name)
+            (none_accepted (Taken number ∷ replied) (All-cons HasNoStep (Taken number) replied (taken_no_step number) steps));
         was_core = ap is_core_node at;
         was_ended = ap is_ended_node at;
         was_there = ap is_some at;
@@ -793,7 +797,8 @@ module _ (log : List Record) (first : Record) (after : List Record) (group : IsG
     present = λ y.
         present_has log first after group [] y false false false core gone joined ∙ same (has_name (present_of log) y) ∙ agree.present y;
     gone = λ y. gone_has log first after group [] y false false false core gone joined ∙ or_false (has_name (gone_of log) y) ∙ agree.gone y;
-    ever = λ y. ever_has log first after group [] y false false false core gone joined ∙ or_false (has_name (names_of log) y) ∙ agree.ever y;
+    ever = λ y.
+        ever_has log first after group [] y false false false core gone joined ∙ or_false (has_name (names_of log) y) ∙ agree.ever y;
   }
 
 no_join : (step : Step) → actor_of step ≡ None → join_name step ≡ None
@@ -859,7 +864,8 @@ module _ (p : SettingsValue) (log : List Record) (s : System) (begun : 1 ≤ len
           agree
 
   taken_seen : (number : ℕ) (frame : Option Frame) → numbered_frame number s.frames ≡ frame → has_receiver s frame ≡ true
-      → All HasNoStep (received_records p log s frame) → Acts log (Taken number ∷ received_records p log s frame) s (moved p s (Delivers number))
+      → All HasNoStep (received_records p log s frame)
+      → Acts log (Taken number ∷ received_records p log s frame) s (moved p s (Delivers number))
   taken_seen number None is has steps = absurd (cc)
   taken_seen number (Some frame) is has steps = by_node (s.node frame.to) refl steps
     where

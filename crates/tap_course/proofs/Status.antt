@@ -203,7 +203,8 @@ finishes_noted node messages status runs core is =
 
 -- ---- frames and starts, by the status
 
-joining_noted : (node : NodeState) (from : List ℕ) (body : Body) → node.status ≡ Joining → RuleNoted Joining (frame_at_joining node from body)
+joining_noted : (node : NodeState) (from : List ℕ) (body : Body) → node.status ≡ Joining
+    → RuleNoted Joining (frame_at_joining node from body)
 unfolding frame_at_joining
 joining_noted node from (Tell joiner prefix level session depth watch) is = stays_noted Joining _ (meets_stay Joining node from _ is)
 joining_noted node from (Hello session core links) is = stays_noted Joining _ (is, refl, refl)
@@ -238,7 +239,8 @@ core_noted node from (CastAck session) is =
     (answer_to (session_of node.cast_sessions.sessions session)) is)
 core_noted node from body is = tt
 
-leaving_noted : (node : NodeState) (from : List ℕ) (body : Body) → node.status ≡ Leaving → RuleNoted Leaving (frame_at_leaving node from body)
+leaving_noted : (node : NodeState) (from : List ℕ) (body : Body) → node.status ≡ Leaving
+    → RuleNoted Leaving (frame_at_leaving node from body)
 unfolding frame_at_leaving
 leaving_noted node from (Link version on) is = stays_noted Leaving _ (is, refl, refl)
 leaving_noted node from (Lay object server level version on) is = stays_noted Leaving _ (is, refl, refl)

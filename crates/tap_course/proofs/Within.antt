@@ -51,7 +51,8 @@ one item within = All-cons Within item [] within (All-nil Within)
 sent_within : (p : SettingsValue) (number : ℕ) (frames : List Frame) → All Within (sent_records p number frames)
 unfolding begins_group ends_log
 sent_within p number [] = All-nil Within
-sent_within p number (frame ∷ frames) = All-cons Within _ (sent_records p (number + 1) frames) (refl, refl) (sent_within p (number + 1) frames)
+sent_within p number (frame ∷ frames) =
+    All-cons Within _ (sent_records p (number + 1) frames) (refl, refl) (sent_within p (number + 1) frames)
 
 so_within : (there : Bool) (item : Record) → Within item → All Within (if_so there item)
 so_within true item within = one item within
@@ -235,7 +236,8 @@ module _ (p : SettingsValue) (log : List Record) (s : System) (index : ℕ) (ste
       elim (accepted_kind p log s step) [
         | inl idle ↦ inl (record {
           quiet = subst (All IsQuiet) (sym are) idle.0;
-          still = moves_nothing (first_refusal log step) (start_at log step) (ap (λ actor. option_zip actor (start_of_step log step)) idle.1);
+          still = moves_nothing (first_refusal log step) (start_at log step)
+              (ap (λ actor. option_zip actor (start_of_step log step)) idle.1);
           plain = inr idle.1;
         })
         | inr started ↦ started_kind (start_at log step) is refl (are ∙ started)
@@ -268,7 +270,8 @@ module _ (p : SettingsValue) (log : List Record) (s : System) (index : ℕ) (ste
         | inl idle ↦ quiet_within items idle.quiet
         | inr starting ↦
             subst (All Within) (sym starting.are)
-            (All-append Within (announced log step) (records_of_act p log starting.name (starter p s starting.name starting.start) (Starts starting.start))
+            (All-append Within (announced log step)
+            (records_of_act p log starting.name (starter p s starting.name starting.start) (Starts starting.start))
             (announced_within log step)
             (act_within p log starting.name (starter p s starting.name starting.start) (Starts starting.start)))
       ]
