@@ -32,5 +32,6 @@ fn a_cast_goes_on_over_the_levels_that_are_left(rt: HostRuntime) -> Result<(), F
     assert!(rt; 0 < primaries.len());
     assert_eq!(rt; primaries.at(0), CastTarget { to: far, level: 1 });
     assert_eq!(rt; casts.level_of(7), Some(0));
+    assert!(rt; cast_now(casts.cast(7, 1, &table)?).is_none());
     Ok(())
 }

@@ -28,8 +28,8 @@ fn each_once(alloc: Global, names: &[Name]) -> Result<Vec<Name>, NoMemory>
     Ok(once)
 }
 
-/// The names that were ever present, each once: of members, and of accepted joins. This is for tests and small logs: it takes memory, and time that
-/// grows with the square of their number.
+/// The names that were ever present, each once: of members, and of accepted joins. This is for tests and small logs: it takes
+/// memory, and time that grows with the square of their number.
 ///
 /// Rule: docs/FORMATS.md, "Groups and moments".
 pub fn names_at(alloc: Global, records: &[Record]) -> Result<List<Name>, NoMemory>

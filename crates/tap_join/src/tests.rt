@@ -211,7 +211,9 @@ fn a_joining_node_greets_and_becomes_core(rt: HostRuntime) -> Result<(), Fail> {
     let mut joining = Joining::start(rt.alloc(), name, &settings)?;
     assert!(rt; joining.greet(other)?);
     assert!(rt; !joining.greet(other)?);
-    let node = joining.finish();
+    let mut node = joining.finish();
+    assert_eq!(rt; node.ties().holder_count(), 0);
+    assert_eq!(rt; node.ties_mut().table().len(), 0);
     assert_eq!(rt; node.leave().table().owner(), name);
     Ok(())
 }

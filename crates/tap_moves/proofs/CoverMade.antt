@@ -1,6 +1,5 @@
 -- What a cover that is made now by the rule of a node tells, and whom it greets.
 use Rattle.std.proofs.Common.{◌≡◌, ◌≢◌, ◌⊎◌, ℕ, ◌+◌, ◌<◌, ◌≤◌, true, false, List, Option, None, Some, slice_get, ap, refl, sym, ◌∙◌, inl, inr}
-use Rattle.std.specs.Prelude.{nat_le}
 use Rattle.std.specs.Option.{is_none}
 use Rattle.std.proofs.lemmas.Bool.{le-leb, lt-leb, lt-ltb, true≢false}
 use Rattle.tap_name.specs.declared.slot.Offered.{Offered}
@@ -30,7 +29,6 @@ use Rattle.tap_rule.specs.Covering.{Request}
 use Rattle.tap_rule.specs.Event.{Acted}
 use Rattle.tap_rule.specs.JoinSteps.{CoverStep, SpreadStep}
 use Rattle.tap_rule.specs.Node.{NodeState, level_of, link_to, name_of, settings_of}
-use Rattle.tap_rule.specs.Sent.{IsAmong}
 use Rattle.tap_rule.specs.Strange.{is_no_pin}
 use Rattle.tap_rule.proofs.JoinSteps.{IsTellFit}
 use Rattle.tap_safety.specs.Frames.{HelloFields, hello_body, tell_body}

@@ -1,9 +1,8 @@
 -- A frame that is taken goes, those that are sent come, and no two frames under way have one number.
-use Rattle.std.proofs.Common.{◌≡◌, inl, inr, ℕ, ◌+◌, ◌≤◌, List, [], ◌∷◌, ◌++◌, ◌⊎◌, length, arith, refl, sym}
+use Rattle.std.proofs.Common.{◌≡◌, inl, inr, ℕ, ◌+◌, List, [], ◌∷◌, ◌++◌, ◌⊎◌, length, arith, refl}
 use Rattle.tap_wire.specs.declared.frame.Frame.{Frame}
 use Rattle.tap_rule.specs.Sent.{IsAmong}
 use Rattle.tap_safety.specs.System.{System, AmongFrames}
-use Rattle.tap_safety.specs.Sessions.{Belongs}
 use Rattle.tap_safety.specs.SessionSteps.{Exchanges}
 use Rattle.tap_safety.specs.Step.{AreNumbered, Ascend, IsTaken, numbered_from}
 use Rattle.tap_safety.proofs.Moves.{ascend_from, ascend_numbered, ascend_one, ascend_under, numbers_taken}

@@ -1,10 +1,10 @@
 -- Tells at joining and ceased nodes, Hellos, Releases and Forgets are those of which the laws of systems speak.
-use Rattle.std.proofs.Common.{◌≡◌, ◌≢◌, ◌⊎◌, ℕ, ◌+◌, ◌<◌, Bool, cond, List, [], ◌∷◌, All, Option, None, Some, true, false, ap, refl, sym, subst, ◌∙◌, inl, inr}
+use Rattle.std.proofs.Common.{◌≡◌, ◌≢◌, ◌⊎◌, ℕ, ◌+◌, ◌<◌, Bool, cond, List, [], ◌∷◌, Option, None, Some, true, false, ap, refl, sym, subst, ◌∙◌, inl, inr}
 use Rattle.std.proofs.lemmas.Bool.{cases_Bool}
-use Rattle.std.proofs.lemmas.List.Elements.{All-head, All-tail}
 use Rattle.tap_name.specs.Name.{IsName}
 use Rattle.tap_name.specs.Prefix.{lcp}
 use Rattle.tap_name.specs.declared.slot.Offered.{Offered}
+use Rattle.tap_name.specs.declared.slot.Slot.{Slot}
 use Rattle.tap_link.specs.declared.kind.Kind.{Kind}
 use Rattle.tap_link.specs.declared.kind.Kind.TheVariants.{Leaving, Pin, Settled}
 use Rattle.tap_link.specs.LinkSet.{is_pinned}
@@ -30,13 +30,15 @@ use Rattle.tap_rule.proofs.CarriedOut.{frame_law}
 use Rattle.tap_rule.proofs.JoinSteps.{hello_law, meet_law, tell_fits}
 use Rattle.tap_rule.proofs.LinkSteps.{forget_law, release_law}
 use Rattle.tap_rule.specs.Ceasing.{acknowledges}
+use Rattle.tap_rule.specs.Node.Status.{Joining}
+use Rattle.tap_rule.specs.Strange.{is_strange}
 use Rattle.tap_rule.specs.FrameRules.{frame_at_ceased, frame_at_joining}
 use Rattle.tap_safety.specs.Frames.{HelloFields, hello_body, tell_body}
 use Rattle.tap_safety.specs.FrameSteps.{ComesFrom, HasSettledNear}
 use Rattle.tap_moves.specs.ByRule.{taken_at}
 use Rattle.tap_moves.specs.FrameLaws.{AreOfferedNames, CeasedTellIsMade, ForgetIsMade, HelloIsMade, JoiningTellIsMade, ReleaseIsMade}
 use Rattle.tap_moves.proofs.CoverMade.{none_or_pin}
-use Rattle.tap_moves.proofs.Got.{among_got}
+use Rattle.tap_moves.proofs.Got.{among_all, among_got}
 use Rattle.tap_moves.proofs.Nearness.{primary_stands_near}
 use Rattle.tap_moves.proofs.Plain.{takes_frame}
 
@@ -55,10 +57,10 @@ ceased_tell_is_made s s' number node from tell watch taken surrogates at =
     }
 
 -- what a joining node sends at a Tell: its word, if the link is new, and a Hello to the joiner, or an Ack
-record MeetsSo (node : NodeState) (from : List ℕ) (tell : TellFields) (sent : List Frame) : Type 0 where
-  messages : List Message
-  are : AreSent (name_of node) (words_of (pin_word node tell.joiner)) messages sent
-  answers : (messages ≡ message from (Ack tell.session) ∷ [])
+pub record MeetsSo (node : NodeState) (from : List ℕ) (tell : TellFields) (sent : List Frame) : Type 0 where
+  pub messages : List Message
+  pub are : AreSent (name_of node) (words_of (pin_word node tell.joiner)) messages sent
+  pub answers : (messages ≡ message from (Ack tell.session) ∷ [])
       ⊎ ((session : ℕ) × (messages ≡ message tell.joiner (Hello session false []) ∷ []))
 
 meets_so : (node : NodeState) (from : List ℕ) (tell : TellFields) (acted : Acted) (before : Bool)
@@ -73,13 +75,19 @@ meets_so node from tell acted false carried = record {
   answers = inr (node.sessions.opened + 1, refl);
 }
 
-pub joining_tell_is_made : JoiningTellIsMade
+pub meets_sent : (node : NodeState) (from : List ℕ) (tell : TellFields) (watch : List Slot)
+    → is_strange node (frame_to node from (tell_body tell watch)) ≡ false → node.status ≡ Joining
+    → MeetsSo node from tell (taken_at node from (tell_body tell watch)).sent
 unfolding frame_at_joining
+meets_sent node from tell watch known at =
+    let carried = frame_law node (frame_to node from (tell_body tell watch)) (meets node from tell) known (rw at refl) in
+    meets_so node from tell (taken_at node from (tell_body tell watch)) (has_name node.greeted tell.joiner) carried
+
+pub joining_tell_is_made : JoiningTellIsMade
 joining_tell_is_made s s' number node from tell watch taken surrogates at name =
     let step = meet_law node from tell watch taken.is_node.ties name at taken.known in
     let fits = tell_fits node from tell watch taken.known in
-    let carried = frame_law node (frame_to node from (tell_body tell watch)) (meets node from tell) taken.known (rw at refl) in
-    let sent = meets_so node from tell (taken_at node from (tell_body tell watch)) (has_name node.greeted tell.joiner) carried in
+    let sent = meets_sent node from tell watch taken.known at in
     record {
       step =
           takes_frame s s' number node from (tell_body tell watch) taken surrogates step.status step.covers
@@ -92,11 +100,6 @@ joining_tell_is_made s s' number node from tell watch taken surrogates at name =
     }
 
 -- ---- a Hello
-
-all_among : {A : Type 0} (P : A → Type 0) (x : A) (xs : List A) → All P xs → IsAmong x xs → P x
-all_among P x [] all among = absurd among
-all_among P x (y ∷ ys) all (inl is) = subst P (sym is) (All-head P y ys all)
-all_among P x (y ∷ ys) all (inr later) = all_among P x ys (All-tail P y ys all) later
 
 near_at : (one other t f : List ℕ) → one ≡ other → lcp one t < lcp t f → lcp other t < lcp t f
 near_at one other t f same near = subst (λ own. lcp own t < lcp t f) same near
@@ -142,8 +145,8 @@ module _ (node : NodeState) (from : List ℕ) (hello : HelloFields) (ties : AreT
         let all = all_named (settings_of node) (name_of node) node.ties (ties, refl, refl) from hello.is_core hello.links sender names in
         let serves = hello_serves (settings_of node) (name_of node) node.ties (ties, refl, refl) from hello.is_core hello.links sender names
         in
-        served (all_among (λ (o : Offered). IsName (settings_of node) o.name) offered offered_names all among) apart
-        (all_among (λ (o : Offered). o.name ≢ name_of node → IsServed left_ties o) offered offered_names serves among apart)
+        served (among_all (λ (o : Offered). IsName (settings_of node) o.name) offered_names all offered among) apart
+        (among_all (λ (o : Offered). o.name ≢ name_of node → IsServed left_ties o) offered_names serves offered among apart)
 
   -- each link stays, and a new one comes from a name
   kept : (t : List ℕ) (kind : Kind) → link_to node t ≡ Some kind → kind_in left_ties.table t ≡ Some kind

@@ -1,7 +1,6 @@
 -- What a delivered frame keeps, from the invariant.
-use Rattle.std.proofs.Common.{◌≡◌, ◌⊎◌, ℕ, ◌+◌, ◌<◌, ◌≤◌, true, false, List, [], ◌∷◌, All, Option, None, Some, arith, ap, refl, sym, subst, ◌∙◌, inl, inr}
+use Rattle.std.proofs.Common.{◌≡◌, ◌⊎◌, ℕ, ◌<◌, ◌≤◌, true, false, List, All, Option, None, Some, arith, ap, refl, sym, subst, ◌∙◌, inl, inr}
 use Rattle.std.proofs.lemmas.Bool.{cases_Bool, cases_lt}
-use Rattle.std.proofs.lemmas.List.Elements.{All-cons, All-nil}
 use Rattle.tap_name.specs.Name.{IsName}
 use Rattle.tap_name.specs.Prefix.{lcp}
 use Rattle.tap_name.specs.Settings.{SettingsValue}
@@ -13,21 +12,22 @@ use Rattle.tap_wire.specs.declared.frame.Body.{Body}
 use Rattle.tap_wire.specs.declared.frame.Body.TheVariants.{Ack, Done, Forget, Heard, Hello, Link, Release, Seek, Tell}
 use Rattle.tap_wire.specs.declared.frame.TellFields.{TellFields}
 use Rattle.tap_rule.specs.Laws.{frame_to}
-use Rattle.tap_rule.specs.Node.{NodeState, name_of, settings_of}
-use Rattle.tap_rule.specs.Node.Status.{Core, Joining, Leaving}
-use Rattle.tap_rule.specs.Sent.{IsAmong}
+use Rattle.tap_rule.specs.Node.{IsRunning, NodeState, Status, level_of, link_to, name_of, settings_of}
+use Rattle.tap_rule.specs.Node.Status.{Ceased as HasCeased, Core, Gone, Joining, Leaving}
 use Rattle.tap_safety.specs.Departing.{may_be_then}
 use Rattle.tap_safety.specs.DoneStep.{BeforeDone, IsSound}
 use Rattle.tap_safety.specs.Frames.{HelloFields, hello_body, tell_body}
 use Rattle.tap_safety.specs.Invariant.{Invariant}
-use Rattle.tap_safety.specs.SeekStep.{BeforeSeek, IsGreeted, JoinerIsGreeted}
+use Rattle.tap_safety.specs.Filled.{AreFilled}
+use Rattle.tap_safety.specs.SeekStep.{BeforeSeat, BeforeSeek, IsGreeted, JoinerIsGreeted}
 use Rattle.tap_safety.specs.Sessions.{AreExact}
 use Rattle.tap_safety.specs.Remembered.{Leaver}
 use Rattle.tap_safety.specs.Seeking.{HasNode, IsSeeker}
-use Rattle.tap_safety.specs.Soft.{IsSoft}
+use Rattle.tap_safety.specs.Soft.{IsSoft, NamesSoft}
 use Rattle.tap_safety.specs.System.{System, Covers, HasLink, IsCoreNode, IsJoiner, IsTold, IsUnderWay}
 use Rattle.tap_safety.specs.Tells.{IsSoundTell}
 use Rattle.tap_safety.specs.TellStep.{BeforeTell, IsTellOf}
+use Rattle.tap_safety.specs.Ties.{hears_words}
 use Rattle.tap_safety.specs.Words.{Pins}
 use Rattle.tap_safety.proofs.CoverKept.{core_or_joiner}
 use Rattle.tap_safety.proofs.SeekLaws.{low_law}
@@ -38,8 +38,17 @@ use Rattle.tap_join.specs.declared.sought.Sought.{Sought}
 use Rattle.tap_join.specs.declared.sought.Sought.TheVariants.{Forward, Surrogate}
 use Rattle.tap_moves.specs.Delivered.{IsArriving, after_delivery}
 use Rattle.tap_moves.specs.SessionsLaws.{BeforeTaking}
-use Rattle.tap_moves.specs.InvariantLaws.{AreNodes, DoneFills, ForgetFills, FrameExact, HelloFills, IsDelivery, LinkTies, OtherTellFills, PlainFills, ReleaseFills, SeekGives, TellFills}
-use Rattle.tap_moves.proofs.MovesMade.{ack_keeps_sessions, by_rule, ceased_tell_keeps, done_keeps, forget_keeps, heard_keeps_sessions, hello_keeps, hello_keeps_sessions, joining_tell_keeps, link_keeps, outside_keeps_sessions, plain_keeps, release_keeps, seek_keeps_sessions, tell_keeps, tell_keeps_sessions}
+use Rattle.tap_moves.specs.InvariantLaws.{FrameExact, FrameFills, FrameSays, FrameSoft, IsDelivery, LinkTies, SeekGives}
+use Rattle.tap_moves.specs.FrameLaws.{IsPlain}
+use Rattle.tap_moves.specs.Laws.{IsAnew}
+use Rattle.tap_moves.specs.Spelled.{AreNodes}
+use Rattle.tap_moves.proofs.Got.{all_among}
+use Rattle.tap_moves.proofs.MovesMade.{ack_keeps_sessions, by_rule, ceased_tell_keeps, done_keeps, forget_keeps, heard_keeps_sessions, hello_keeps, hello_keeps_sessions, joining_tell_keeps, known_tell_keeps, link_keeps, outside_keeps_sessions, plain_keeps, release_keeps, seek_keeps, seek_keeps_sessions, tell_keeps, tell_keeps_sessions}
+use Rattle.tap_moves.specs.TiesLaws.{WordsStand}
+use Rattle.tap_moves.proofs.SoftMade.{ack_soft, ceased_soft, forget_soft, heard_soft, hello_soft, joining_soft, link_soft, quiet_soft, release_soft, seek_soft}
+use Rattle.tap_moves.proofs.WordsMade.{answer_words_kept, hello_words_kept, known_words_kept, quiet_words_kept, seek_words_kept, tell_words_kept}
+use Rattle.tap_multicast.proofs.KeptLevels.{kept_exactly}
+use Rattle.tap_rule.proofs.AnswerSteps.{ack_law, heard_law}
 use Rattle.tap_moves.proofs.SeekMade.{seek_greets}
 
 -- ---- names
@@ -63,11 +72,6 @@ soft_name : (p : SettingsValue) (s : System) → AreNodes p s → (x : List ℕ)
 soft_name p s are x (inl joiner) = joiner_name p s are x joiner
 soft_name p s are x (inr (inl core)) = core_name p s are x core
 soft_name p s are x (inr (inr ceased)) = name_at p s are x ceased.state ceased.is
-
--- what holds of what is among a list holds of all of it
-all_of : {A : Type 0} (P : A → Type 0) (xs : List A) → ((x : A) → IsAmong x xs → P x) → All P xs
-all_of P [] each = All-nil P
-all_of P (x ∷ xs) each = All-cons P x xs (each x (inl refl)) (all_of P xs (λ y among. each y (inr among)))
 
 module _ (p : SettingsValue) (s : System) (number : ℕ) (node : NodeState) (from : List ℕ) (body : Body)
     (is : IsDelivery p s number node from body) where
@@ -147,92 +151,272 @@ pin_on p s unmarked settled x b joiner Pin link = link
 pin_on p s unmarked settled x b joiner Settled link = absurd (core_or_joiner s b (settled x b link) joiner)
 pin_on p s unmarked settled x b joiner Marked link = absurd (unmarked x b link)
 
-pub tell_fills : TellFills
-tell_fills p s number node from tell watch is at anew =
-    let body = tell_body tell watch in
-    let inv = is.invariant in
-    let sound = inv.tells.each from (name_of node) tell watch (way p s number node from body is) in
-    let none = unmarked p s number node from body is (λ never. never) in
-    let joiner = joiner_name p s is.nodes tell.joiner sound.joiner in
-    let here = name_at p s is.nodes (name_of node) node is.at in
-    let before : BeforeTell p s = record {
+-- and so have all that are offered
+hello_names_are : (p : SettingsValue) (s : System) (number : ℕ) (node : NodeState) (from : List ℕ) (hello : HelloFields)
+    → IsDelivery p s number node from (hello_body hello) → All (λ (o : Offered). IsName (settings_of node) o.name) hello.links
+hello_names_are p s number node from hello is =
+    all_among (λ (o : Offered). IsName (settings_of node) o.name) hello.links (λ offered among.
+    let sound = is.invariant.soft.hellos from (name_of node) hello (way p s number node from (hello_body hello) is) offered (inr among) in
+    of_node p s number node from (hello_body hello) is offered.name (offered_name p s is.nodes offered sound.core sound.soft))
+
+-- ---- tables without holes
+
+module _ (p : SettingsValue) (s : System) (number : ℕ) (node : NodeState) (from : List ℕ) where
+  abbrev after : System
+  after = after_delivery p s number
+
+  -- a Tell at a core node, which covers the joiner at some level already, or doesn't
+  module _ (tell : TellFields) (watch : List Slot) (is : IsDelivery p s number node from (tell_body tell watch)) where
+    told : IsSoundTell p s from (name_of node) tell
+    told = is.invariant.tells.each from (name_of node) tell watch (way p s number node from (tell_body tell watch) is)
+
+    told_name : IsName (settings_of node) tell.joiner
+    told_name = of_node p s number node from (tell_body tell watch) is tell.joiner (joiner_name p s is.nodes tell.joiner told.joiner)
+
+    before_tell : BeforeTell p s
+    before_tell = record {
       names = core_name p s is.nodes;
-      settled = record { settled = inv.soft.settled };
-      unmarked = none;
-      covered = inv.filled.covered;
-      hole_free = inv.filled.hole_free;
-      cover = inv.filled.cover;
-    } in
-    let of : IsTellOf p s (name_of node) tell.joiner tell.prefix tell.level = record {
-      core = record { state = node; is = is.at; core = inl at };
-      joiner = sound.joiner;
-      apart = less_than_all p (name_of node) tell.joiner here joiner sound.apart;
-      inside = sound.inside;
-      prefix_is = sound.prefix;
-      above = inv.deeper.level from (name_of node) tell watch (way p s number node from body is);
-      most = omega (arith, sound.level, sound.near);
-    } in
-    tell_keeps p s number node from tell watch (due p s number node from body is) at
-    (of_node p s number node from body is tell.joiner joiner) anew before of inv.filled.meet inv.filled.low
+      settled = record { settled = is.invariant.soft.settled };
+      unmarked = unmarked p s number node from (tell_body tell watch) is (λ never. never);
+      covered = is.invariant.filled.covered;
+      hole_free = is.invariant.filled.hole_free;
+      cover = is.invariant.filled.cover;
+    }
 
-pub done_fills : DoneFills
-done_fills p s number node from is goes_on =
-    let inv = is.invariant in
-    let here = way p s number node from Done is in
-    let none = unmarked p s number node from Done is (λ never. never) in
-    let joiner = inv.of_joiners.dones from (name_of node) here in
-    let before : BeforeDone p s = record {
-      core_names = core_name p s is.nodes;
-      joiner_names = joiner_name p s is.nodes;
-      pinned = λ x b joins has. pin_on p s none inv.soft.settled x b joins has.kind has.link;
-      sound = λ b x level joins told. sound_tell p s b x level told (inv.tells.each told.from x told.fields told.watch told.way);
-      covered = inv.filled.covered;
-      meet = inv.filled.meet;
-      cover = inv.filled.cover;
-      low = inv.filled.low;
-      hole_free = inv.filled.hole_free;
-    } in
-    done_keeps p s number node from (due p s number node from Done is) (joins_here s node joiner is.at) goes_on before
-    (quiet_law s from (name_of node) inv.exact inv.of_joiners inv.ends_once joiner here)
+    of_tell : node.status ≡ Core → IsTellOf p s (name_of node) tell.joiner tell.prefix tell.level
+    of_tell at =
+        let here = name_at p s is.nodes (name_of node) node is.at in
+        let joiner = joiner_name p s is.nodes tell.joiner told.joiner in
+        record {
+          core = record { state = node; is = is.at; core = inl at };
+          joiner = told.joiner;
+          apart = less_than_all p (name_of node) tell.joiner here joiner told.apart;
+          inside = told.inside;
+          prefix_is = told.prefix;
+          above = is.invariant.deeper.level from (name_of node) tell watch (way p s number node from (tell_body tell watch) is);
+          most = omega (arith, told.level, told.near);
+        }
 
-pub plain_fills : PlainFills
-plain_fills p s number node from body is plain =
-    plain_keeps p s number node from body (due p s number node from body is) plain is.invariant.filled
+    tell_anew : node.status ≡ Core → IsAnew node tell.joiner tell.level → AreFilled p after
+    tell_anew at anew =
+        tell_keeps p s number node from tell watch (due p s number node from (tell_body tell watch) is) at told_name anew before_tell
+        (of_tell at) is.invariant.filled
 
-pub other_tell_fills : OtherTellFills
-other_tell_fills p s number node from tell watch is (inl at) =
-    let body = tell_body tell watch in
-    let sound = is.invariant.tells.each from (name_of node) tell watch (way p s number node from body is) in
-    let name = of_node p s number node from body is tell.joiner (joiner_name p s is.nodes tell.joiner sound.joiner) in
-    joining_tell_keeps p s number node from tell watch (due p s number node from body is) at name is.invariant.filled
-other_tell_fills p s number node from tell watch is (inr at) =
-    ceased_tell_keeps p s number node from tell watch (due p s number node from (tell_body tell watch) is) at is.invariant.filled
+    tell_known : node.status ≡ Core → (kept : ℕ) → level_of node tell.joiner ≡ Some kept → kept ≤ tell.level → AreFilled p after
+    tell_known at kept level most =
+        let core : IsCoreNode s (name_of node) = record { state = node; is = is.at; core = inl at } in
+        let covers : Covers s (name_of node) tell.joiner kept = record { state = node; is = is.at; cover = level } in
+        let pin = (is.invariant.filled.covered.each (name_of node) tell.joiner kept core told.joiner covers).pin in
+        let found = pin.is in
+        let here = is.at in
+        let same : pin.state ≡ node = cc in
+        known_tell_keeps p s number node from tell watch kept (due p s number node from (tell_body tell watch) is) at told_name
+        (ap (λ n. link_to n tell.joiner) (sym same) ∙ pin.link) level most before_tell (of_tell at) is.invariant.filled
 
-pub hello_fills : HelloFills
-hello_fills p s number node from hello is at =
-    let body = hello_body hello in
-    let inv = is.invariant in
-    let offers = inv.soft.hellos from (name_of node) hello (way p s number node from body is) in
-    let name : (offered : Offered) → IsAmong offered hello.links → IsName (settings_of node) offered.name = λ offered among.
-    let sound = offers offered (inr among) in
-    of_node p s number node from body is offered.name (offered_name p s is.nodes offered sound.core sound.soft) in
-    hello_keeps p s number node from hello (due p s number node from body is) at (sender_name p s number node from body is)
-    (all_of (λ (o : Offered). IsName (settings_of node) o.name) hello.links name) inv.soft inv.filled
+    tell_at_core : node.status ≡ Core → (level : Option ℕ) → level_of node tell.joiner ≡ level → AreFilled p after
+    tell_at_core at None none =
+        tell_anew at (λ kept some. let wrong : None ≡ Some kept = sym none ∙ some in absurd (cc))
+    tell_at_core at (Some kept) some = elim (cases_lt tell.level kept) [
+      | inl less ↦
+          tell_anew at (λ other is_other.
+          let same : Some kept ≡ Some other = sym some ∙ is_other in
+          let level : kept ≡ other = cc in
+          omega (arith, less, level))
+      | inr most ↦ tell_known at kept some most
+    ]
 
-pub release_fills : ReleaseFills
-release_fills p s number node from is at =
-    release_keeps p s number node from (due p s number node from Release is) at (sender_name p s number node from Release is)
+    tell_fills : (node.status ≡ Core) ⊎ ((node.status ≡ Joining) ⊎ (node.status ≡ HasCeased)) → AreFilled p after
+    tell_fills (inl at) = tell_at_core at (level_of node tell.joiner) refl
+    tell_fills (inr (inl at)) =
+        joining_tell_keeps p s number node from tell watch (due p s number node from (tell_body tell watch) is) at told_name
+        is.invariant.filled
+    tell_fills (inr (inr at)) =
+        ceased_tell_keeps p s number node from tell watch (due p s number node from (tell_body tell watch) is) at is.invariant.filled
+
+  done_fills : IsDelivery p s number node from Done → node.abandoned ≡ false → AreFilled p after
+  done_fills is goes_on =
+      let inv = is.invariant in
+      let here = way p s number node from Done is in
+      let none = unmarked p s number node from Done is (λ never. never) in
+      let joiner = inv.of_joiners.dones from (name_of node) here in
+      let before : BeforeDone p s = record {
+        core_names = core_name p s is.nodes;
+        joiner_names = joiner_name p s is.nodes;
+        pinned = λ x b joins has. pin_on p s none inv.soft.settled x b joins has.kind has.link;
+        sound = λ b x level joins told. sound_tell p s b x level told (inv.tells.each told.from x told.fields told.watch told.way);
+        covered = inv.filled.covered;
+        meet = inv.filled.meet;
+        cover = inv.filled.cover;
+        low = inv.filled.low;
+        hole_free = inv.filled.hole_free;
+      } in
+      done_keeps p s number node from (due p s number node from Done is) (joins_here s node joiner is.at) goes_on before
+      (quiet_law s from (name_of node) inv.exact inv.of_joiners inv.ends_once joiner here)
+
+  hello_fills : (hello : HelloFields) → IsDelivery p s number node from (hello_body hello) → node.status ≡ Joining → AreFilled p after
+  hello_fills hello is at =
+      hello_keeps p s number node from hello (due p s number node from (hello_body hello) is) at
+      (sender_name p s number node from (hello_body hello) is) (hello_names_are p s number node from hello is) is.invariant.soft
+      is.invariant.filled
+
+  -- a Seek at a core node goes on, or the node is the joiner's surrogate
+  module _ (joiner : List ℕ) (is : IsDelivery p s number node from (Seek joiner)) (at : node.status ≡ Core) where
+    seat_before : BeforeSeat p s (name_of node) joiner
+    seat_before =
+        let seeker = is.invariant.seekers.seeks from (name_of node) joiner (way p s number node from (Seek joiner) is) in
+        record {
+          names = core_name p s is.nodes;
+          settled = record { settled = is.invariant.soft.settled };
+          unmarked = unmarked p s number node from (Seek joiner) is (λ never. never);
+          core = record { state = node; is = is.at; core = inl at };
+          seeker = seeker;
+          unknown = is.invariant.seeking.unknown joiner seeker;
+          idle = λ d level covers. is.invariant.seeking.idle joiner d level seeker covers;
+        }
+
+    seek_fills : (found : Sought) → sought node.ties.table joiner ≡ found → AreFilled p after
+    seek_fills (Forward next) found =
+        plain_keeps p s number node from (Seek joiner) (due p s number node from (Seek joiner) is) (next, found) is.invariant.filled
+    seek_fills (Surrogate prefix) found =
+        let settings = (is.nodes.nodes (name_of node) node is.at).settings in
+        let seeker = seat_before.seeker in
+        let name = of_node p s number node from (Seek joiner) is joiner (name_at p s is.nodes joiner seeker.state seeker.is) in
+        subst (λ q. AreFilled q (after_delivery q s number)) settings
+        (seek_keeps s number node from joiner prefix (due p s number node from (Seek joiner) is) at name found
+        (subst (λ q. BeforeSeat q s (name_of node) joiner) (sym settings) seat_before)
+        (subst (λ q. AreFilled q s) (sym settings) is.invariant.filled))
+
+  plain_fills : (body : Body) → IsDelivery p s number node from body → IsPlain node body → AreFilled p after
+  plain_fills body is plain =
+      plain_keeps p s number node from body (due p s number node from body is) plain is.invariant.filled
+
+pub frame_fills : FrameFills
+frame_fills p s number node from (Tell joiner prefix level session depth watch) is there =
+    let tell : TellFields = record { joiner = joiner; prefix = prefix; level = level; session = session; depth = depth } in
+    tell_fills p s number node from tell watch is there
+frame_fills p s number node from (Hello session core links) is there =
+    hello_fills p s number node from (record { session = session; is_core = core; links = links }) is there
+frame_fills p s number node from (Seek joiner) is there =
+    seek_fills p s number node from joiner is there (sought node.ties.table joiner) refl
+frame_fills p s number node from Done is there = done_fills p s number node from is there
+frame_fills p s number node from Release is there =
+    release_keeps p s number node from (due p s number node from Release is) there (sender_name p s number node from Release is)
     is.invariant.soft is.invariant.filled
-
-pub forget_fills : ForgetFills
-forget_fills p s number node from is at =
-    forget_keeps p s number node from (due p s number node from Forget is) at (sender_name p s number node from Forget is)
+frame_fills p s number node from Forget is there =
+    forget_keeps p s number node from (due p s number node from Forget is) there (sender_name p s number node from Forget is)
     is.invariant.ceased is.invariant.filled
+frame_fills p s number node from (Heard session) is there = plain_fills p s number node from (Heard session) is tt
+frame_fills p s number node from (Ack session) is there = plain_fills p s number node from (Ack session) is tt
+frame_fills p s number node from (Link version on) is there = plain_fills p s number node from (Link version on) is tt
+frame_fills p s number node from body is there = plain_fills p s number node from body is there
+
+-- ---- Link
+
+-- who hears words hasn't ended
+hears_runs : (status : Status) → hears_words (Some status) → IsRunning status
+hears_runs Joining heard = tt
+hears_runs Core heard = tt
+hears_runs Leaving heard = tt
+hears_runs Gone heard = absurd heard
+hears_runs HasCeased heard = absurd heard
 
 pub link_ties : LinkTies
-link_ties p s number node from word is heard laid =
+link_ties p s number node from word is heard =
+    let laid = (is.nodes.nodes (name_of node) node is.at).laid (hears_runs node.status heard) in
     link_keeps p s number node from word (due p s number node from (Link word.version word.on) is) is.invariant.stamped heard laid
     is.invariant.ties is.invariant.versions
+
+-- the words of links stand while frames are delivered that leave them, or say so
+stand_of : (p : SettingsValue) (s : System) → Invariant p s → WordsStand s
+stand_of p s inv = record { ties = inv.ties; versions = inv.versions; ceased = inv.ceased }
+
+tell_says : (p : SettingsValue) (s : System) (number : ℕ) (node : NodeState) (from : List ℕ) (tell : TellFields) (watch : List Slot)
+    → IsDelivery p s number node from (tell_body tell watch)
+    → (node.status ≡ Joining) ⊎ ((node.status ≡ Core) × ((kept : ℕ) × (level_of node tell.joiner ≡ Some kept) × (kept ≤ tell.level)))
+    → WordsStand (after_delivery p s number)
+tell_says p s number node from tell watch is (inl at) =
+    tell_words_kept p s number node from tell watch (due p s number node from (tell_body tell watch) is) at
+    (told_name p s number node from tell watch is) is.invariant.stamped (stand_of p s is.invariant)
+tell_says p s number node from tell watch is (inr known) =
+    known_words_kept p s number node from tell watch (due p s number node from (tell_body tell watch) is) known.0
+    (told_name p s number node from tell watch is) ((kept_exactly (level_of node tell.joiner) tell.level).1 known.1)
+    is.invariant.stamped (stand_of p s is.invariant)
+
+pub frame_says : FrameSays
+frame_says p s number node from (Tell joiner prefix level session depth watch) is there =
+    let tell : TellFields = record { joiner = joiner; prefix = prefix; level = level; session = session; depth = depth } in
+    tell_says p s number node from tell watch is there
+frame_says p s number node from (Hello session core links) is there =
+    let hello : HelloFields = record { session = session; is_core = core; links = links } in
+    hello_words_kept p s number node from hello (due p s number node from (hello_body hello) is) there
+    (sender_name p s number node from (hello_body hello) is) (hello_names_are p s number node from hello is) is.invariant.stamped
+    (stand_of p s is.invariant)
+frame_says p s number node from (Heard session) is there =
+    answer_words_kept p s number node from Heard session tt heard_law (due p s number node from (Heard session) is) there
+    is.invariant.stamped (stand_of p s is.invariant)
+frame_says p s number node from (Ack session) is there =
+    answer_words_kept p s number node from Ack session tt ack_law (due p s number node from (Ack session) is) there
+    is.invariant.stamped (stand_of p s is.invariant)
+frame_says p s number node from (Seek joiner) is there =
+    seek_words_kept p s number node from joiner there.1.0 (due p s number node from (Seek joiner) is) there.0 there.1.1
+    is.invariant.stamped (stand_of p s is.invariant)
+frame_says p s number node from body is there =
+    quiet_words_kept p s number node from body there.0 (due p s number node from body is) there.1 is.invariant.stamped
+    (stand_of p s is.invariant)
+
+-- ---- soft names
+
+-- a soft node that joins was started
+joiner_here : (s : System) (node : NodeState) → IsSoft s (name_of node) → s.node (name_of node) ≡ Some node → node.status ≡ Joining
+    → IsJoiner s (name_of node)
+joiner_here s node (inl joiner) at joins = joiner
+joiner_here s node (inr (inl core)) at joins =
+    let is = core.is in
+    let same : core.state ≡ node = cc in
+    elim core.core [
+      | inl there ↦ let wrong : Joining ≡ Core = sym joins ∙ ap (λ (n : NodeState). n.status) (sym same) ∙ there in absurd (cc)
+      | inr there ↦ let wrong : Joining ≡ Leaving = sym joins ∙ ap (λ (n : NodeState). n.status) (sym same) ∙ there in absurd (cc)
+    ]
+joiner_here s node (inr (inr ceased)) at joins =
+    let is = ceased.is in
+    let same : ceased.state ≡ node = cc in
+    let wrong : Joining ≡ HasCeased = sym joins ∙ ap (λ (n : NodeState). n.status) (sym same) ∙ ceased.ceased in
+    absurd (cc)
+
+tell_soft : (p : SettingsValue) (s : System) (number : ℕ) (node : NodeState) (from : List ℕ) (tell : TellFields) (watch : List Slot)
+    → IsDelivery p s number node from (tell_body tell watch) → (node.status ≡ Joining) ⊎ (node.status ≡ HasCeased)
+    → NamesSoft (after_delivery p s number)
+tell_soft p s number node from tell watch is (inl at) =
+    let sound = told p s number node from tell watch is in
+    joining_soft p s number node from tell watch (due p s number node from (tell_body tell watch) is) at
+    (told_name p s number node from tell watch is) sound.joiner (joiner_here s node sound.soft is.at at) sound.apart is.invariant.soft
+tell_soft p s number node from tell watch is (inr at) =
+    ceased_soft p s number node from tell watch (due p s number node from (tell_body tell watch) is) at is.invariant.soft
+
+pub frame_soft : FrameSoft
+frame_soft p s number node from (Tell joiner prefix level session depth watch) is there =
+    let tell : TellFields = record { joiner = joiner; prefix = prefix; level = level; session = session; depth = depth } in
+    tell_soft p s number node from tell watch is there
+frame_soft p s number node from (Hello session core links) is there =
+    let hello : HelloFields = record { session = session; is_core = core; links = links } in
+    hello_soft p s number node from hello (due p s number node from (hello_body hello) is) there
+    (sender_name p s number node from (hello_body hello) is) (hello_names_are p s number node from hello is) is.invariant.soft
+frame_soft p s number node from (Seek joiner) is there =
+    seek_soft p s number node from joiner there.0 (due p s number node from (Seek joiner) is) there.1 is.invariant.soft
+frame_soft p s number node from Release is there =
+    release_soft p s number node from (due p s number node from Release is) there (sender_name p s number node from Release is)
+    is.invariant.soft
+frame_soft p s number node from Forget is there =
+    forget_soft p s number node from (due p s number node from Forget is) there (sender_name p s number node from Forget is)
+    is.invariant.soft
+frame_soft p s number node from (Heard session) is there =
+    heard_soft p s number node from session (due p s number node from (Heard session) is) is.invariant.soft
+frame_soft p s number node from (Ack session) is there =
+    ack_soft p s number node from session (due p s number node from (Ack session) is) is.invariant.soft
+frame_soft p s number node from (Link version on) is there =
+    link_soft p s number node from version on (due p s number node from (Link version on) is) is.invariant.soft
+frame_soft p s number node from body is there =
+    quiet_soft p s number node from body there there (due p s number node from body is) is.invariant.soft
 
 -- ---- Seek, and sessions
 

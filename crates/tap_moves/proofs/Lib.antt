@@ -12,6 +12,12 @@ pub mod AnswersMade
 pub mod OutsideMade
 pub mod LinkMade
 pub mod MovesMade
+pub mod WordsMade
+pub mod SoftMade
 pub mod StartsMade
 pub mod InvariantMoves
-pub mod NodesMade
+pub mod Spelled
+pub mod FewLinks
+pub mod SpelledJoins
+pub mod SpelledRules
+pub mod PartsMade

@@ -1,27 +1,25 @@
 -- A Link that a node takes by its rule.
-use Rattle.std.proofs.Common.{◌≡◌, ◌⊎◌, ℕ, ◌<◌, ◌≤◌, Bool, true, false, if◌then◌else◌, nat_lt, List, [], ◌∷◌, ◌++◌, map, Option, None, Some, arith, ap, refl, sym, ◌∙◌, inl, inr}
+use Rattle.std.proofs.Common.{◌≡◌, ◌⊎◌, ℕ, ◌≤◌, Bool, true, false, if◌then◌else◌, List, [], ◌∷◌, ◌++◌, map, Option, None, Some, arith, ap, refl, sym, ◌∙◌, inl, inr}
 use Rattle.std.specs.Option.{option_map}
 use Rattle.std.specs.Prelude.{bytes_eq}
-use Rattle.std.proofs.lemmas.Bool.{cases_Bool, le-leb, lt-ltb, le-ltb}
+use Rattle.std.proofs.lemmas.Bool.{lt-ltb, le-ltb}
 use Rattle.tap_register.specs.declared.registers.Entry.{Entry}
 use Rattle.tap_register.specs.Registers.{newest, supersedes}
 use Rattle.tap_table.specs.Table.{kind_in}
 use Rattle.tap_table.specs.Table.{TableValue}
-use Rattle.tap_pointer.specs.declared.lay.Lay.{Lay}
 use Rattle.tap_pointer.specs.Reconcile.{AreLaid}
 use Rattle.tap_pointer.proofs.Laws.{laid_sends_nothing}
 use Rattle.tap_wire.specs.declared.frame.Body.{Body}
 use Rattle.tap_wire.specs.declared.frame.Body.TheVariants.{Link, Release}
 use Rattle.tap_wire.specs.declared.frame.Frame.{Frame}
-use Rattle.tap_rule.specs.Act.{act, carried_out, completed}
+use Rattle.tap_rule.specs.Act.{act, completed}
 use Rattle.tap_rule.specs.Event.{Acted}
-use Rattle.tap_rule.specs.Event.Event.{Takes}
 use Rattle.tap_rule.specs.FrameRules.{frame_at_core, frame_at_joining, frame_at_leaving, rule_of_frame}
 use Rattle.tap_rule.specs.Laws.{IsRunning, frame_to}
 use Rattle.tap_rule.specs.Links.{hears, hears_and_releases, is_new_link, release_answer}
 use Rattle.tap_rule.specs.Node.{NodeState, Status, link_to, name_of, word_of}
 use Rattle.tap_rule.specs.Node.Status.{Ceased, Core, Gone, Joining, Leaving}
-use Rattle.tap_rule.specs.Reaction.{Message, Reaction, message}
+use Rattle.tap_rule.specs.Reaction.{Reaction, message}
 use Rattle.tap_rule.specs.Sending.{by_receiver, frames_of, lay_frame, link_frame, message_frame}
 use Rattle.tap_rule.specs.Sent.{IsAmong, IsLink, IsNamed}
 use Rattle.tap_rule.specs.Steps.{LinkStep}

@@ -1,5 +1,5 @@
 -- A Done at a joining node, and a Tell at a core node, are those of which the laws of systems speak.
-use Rattle.std.proofs.Common.{◌≡◌, ◌⊎◌, ℕ, ◌≤◌, true, List, Some, ap, refl, sym, ◌∙◌, inl, inr}
+use Rattle.std.proofs.Common.{◌≡◌, ◌⊎◌, ℕ, true, List, Some, ap, sym, ◌∙◌, inl, inr}
 use Rattle.tap_link.specs.declared.kind.Kind.TheVariants.{Pin}
 use Rattle.tap_table.specs.Table.{kind_in}
 use Rattle.tap_table.specs.Ties.{TiesValue}

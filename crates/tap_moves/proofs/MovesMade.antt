@@ -1,5 +1,5 @@
 -- A delivered frame is taken by the rule, and what holds before holds after it.
-use Rattle.std.proofs.Common.{◌≡◌, ◌⊎◌, ℕ, ◌+◌, List, Option, None, Some, ap, refl, sym, ◌∙◌, inl, inr}
+use Rattle.std.proofs.Common.{◌≡◌, ◌⊎◌, ℕ, ◌+◌, List, Option, None, Some, ap, refl, subst, ◌∙◌, inl, inr}
 use Rattle.tap_name.specs.Settings.{SettingsValue}
 use Rattle.tap_session.specs.declared.parent.Parent.{Parent}
 use Rattle.tap_session.specs.declared.parent.Parent.TheVariants.{Node, Root}
@@ -13,7 +13,7 @@ use Rattle.tap_wire.specs.declared.frame.Frame.{Frame}
 use Rattle.tap_rule.specs.Act.{act}
 use Rattle.tap_rule.specs.Event.Event.{Takes}
 use Rattle.tap_rule.specs.Laws.{frame_to}
-use Rattle.tap_rule.specs.Node.{NodeState, name_of}
+use Rattle.tap_rule.specs.Node.{NodeState, name_of, settings_of}
 use Rattle.tap_safety.specs.Frames.{hello_body, tell_body}
 use Rattle.tap_safety.specs.Moved.{moved, numbered_frame, taking}
 use Rattle.tap_safety.specs.Move.Move.{Delivers}
@@ -22,19 +22,20 @@ use Rattle.tap_safety.specs.Turned.{opened_by, seated, sessions_with, surrogates
 use Rattle.tap_safety.specs.DoneStep.{DoneIsTaken}
 use Rattle.tap_safety.specs.Remembered.{Word}
 use Rattle.tap_safety.specs.Sessions.{AreExact}
-use Rattle.tap_safety.specs.TellStep.{TellIsTaken}
-use Rattle.tap_safety.proofs.DoneLaws.{cover_law as done_cover, hole_free_law as done_hole_free, low_law as done_low}
-use Rattle.tap_safety.proofs.Moves.{delivers, found}
+use Rattle.tap_safety.specs.Step.{with_at}
+use Rattle.tap_safety.specs.TellStep.{CoversAnew, KnownTellIsTaken, TellIsTaken}
+use Rattle.tap_safety.proofs.Moves.{delivers, found, with_at-here, with_at-others}
 use Rattle.tap_safety.proofs.SessionLaws.{opened_law}
-use Rattle.tap_safety.proofs.StepLaws.{forget_filled_law, handing_on_law, hello_filled_law, others_law, plain_law, release_filled_law, root_opened_law, tell_ceased_law, tell_joining_law}
-use Rattle.tap_safety.proofs.TellLaws.{cover_law as tell_cover, covered_law as tell_covered, hole_free_law as tell_hole_free, low_law as tell_low, meet_law as tell_meet}
+use Rattle.tap_safety.proofs.StepLaws.{filled_done_law, filled_known_law, filled_seat_law, filled_tell_law, forget_filled_law, handing_on_law, hello_filled_law, others_law, plain_law, release_filled_law, root_opened_law, tell_ceased_law, tell_joining_law}
 use Rattle.tap_safety.proofs.TiesLaws.{ties_law, versions_law}
+use Rattle.tap_join.proofs.Seeking.{surrogate_is}
+use Rattle.tap_rule.proofs.CoverSteps.{seek_fits}
 use Rattle.tap_rule.proofs.JoinSteps.{done_law as done_step_law, hello_law as hello_step_law}
 use Rattle.tap_rule.proofs.LinkSteps.{forget_law as forget_step_law, release_law as release_step_law}
 use Rattle.tap_moves.specs.ByRule.{StartsNone, TakesByRule, taken_at}
 use Rattle.tap_moves.specs.Delivered.{IsArriving, after_delivery}
-use Rattle.tap_moves.specs.InSession.{OpensOrAnswers}
-use Rattle.tap_moves.specs.MovesLaws.{AnswerKeepsSessions, CeasedTellKeeps, DeliveryIsByRule, DoneKeeps, ForgetKeeps, HelloKeeps, HelloKeepsSessions, JoiningTellKeeps, LinkKeeps, OutsideKeepsSessions, PlainKeeps, ReleaseKeeps, SeekKeepsSessions, TellKeeps, TellKeepsSessions}
+use Rattle.tap_moves.specs.InSession.{OpensNext, OpensOrAnswers}
+use Rattle.tap_moves.specs.MovesLaws.{AnswerKeepsSessions, CeasedTellKeeps, DeliveryIsByRule, DoneKeeps, ForgetKeeps, HelloKeeps, HelloKeepsSessions, JoiningTellKeeps, KnownTellKeeps, LinkKeeps, OutsideKeepsSessions, PlainKeeps, ReleaseKeeps, SeekKeeps, SeekKeepsSessions, TellKeeps, TellKeepsSessions}
 use Rattle.tap_moves.specs.SessionsLaws.{AnswerKeepsExact, BeforeTaking, RemembersSessions, sent_at}
 use Rattle.tap_moves.specs.TiesLaws.{RemembersWords}
 use Rattle.tap_moves.proofs.AnswersMade.{ack_keeps_exact, heard_keeps_exact}
@@ -42,7 +43,8 @@ use Rattle.tap_moves.proofs.OutsideMade.{hello_hands_on, outside_leaves}
 use Rattle.tap_moves.proofs.FramesMade.{ceased_tell_is_made, forget_is_made, hello_is_made, joining_tell_is_made, release_is_made}
 use Rattle.tap_moves.proofs.InSession.{ceased_answers, seek_opens, tell_in_session}
 use Rattle.tap_moves.proofs.LinkMade.{link_is_made}
-use Rattle.tap_moves.proofs.Made.{done_is_made, new_tell_is_made}
+use Rattle.tap_moves.proofs.Made.{done_is_made, known_tell_is_made, new_tell_is_made}
+use Rattle.tap_moves.proofs.SeekMade.{seek_covers, seek_greets}
 use Rattle.tap_moves.proofs.Plain.{plain_alike, plain_is_made}
 use Rattle.tap_moves.proofs.SessionsMade.{hands_on, none_opened, opened_found, opens_child, opens_root}
 
@@ -85,7 +87,7 @@ module _ (p : SettingsValue) (s : System) (number : ℕ) (node : NodeState) (fro
   abbrev frame : Frame
   frame = frame_to node from body
 
-  is_found : numbered_frame number s.frames ≡ Some frame
+  pub is_found : numbered_frame number s.frames ≡ Some frame
   is_found = found number frame 0 s.frames s.next due.numbers.numbers due.among
 
   pub by_rule : TakesByRule s (after_delivery p s number) number node from body
@@ -129,10 +131,10 @@ done_keeps p s number node from due at joined before quiet =
       quiet = quiet;
       step = done_is_made s s' number node from (by_rule p s number node from Done due) none at joined;
     } in
-    (done_hole_free p s s' is, done_cover p s s' is, done_low p s s' is)
+    filled_done_law p s s' is
 
 -- a Tell starts none
-tell_starts_none : (p : SettingsValue) (s : System) (number : ℕ) (node : NodeState) (from : List ℕ) (tell : TellFields) (watch : List Slot)
+pub tell_starts_none : (p : SettingsValue) (s : System) (number : ℕ) (node : NodeState) (from : List ℕ) (tell : TellFields) (watch : List Slot)
     → IsArriving s number node from (tell_body tell watch)
     → OpensOrAnswers node (Node from tell.session) tell.depth (taken_at node from (tell_body tell watch))
     → StartsNone s (after_delivery p s number)
@@ -145,7 +147,7 @@ tell_starts_none p s number node from tell watch due (inr answers) =
     starts_none_as p s number node from (tell_body tell watch) due (ap opened_in answers.sessions)
 
 pub tell_keeps : TellKeeps
-tell_keeps p s number node from tell watch due at name anew before is meet low =
+tell_keeps p s number node from tell watch due at name anew before is filled =
     let s' = after_delivery p s number in
     let none = tell_starts_none p s number node from tell watch due (tell_in_session node from tell watch (inl at) due.known) in
     let taken : TellIsTaken p s s' = record {
@@ -158,13 +160,74 @@ tell_keeps p s number node from tell watch due at name anew before is meet low =
       is = is;
       step = new_tell_is_made s s' number node from tell watch (by_rule p s number node from (tell_body tell watch) due) none at name anew;
     } in
-    record {
-      covered = tell_covered p s s' taken;
-      meet = tell_meet p s s' taken meet;
-      cover = tell_cover p s s' taken;
-      low = tell_low p s s' taken low;
-      hole_free = tell_hole_free p s s' taken;
-    }
+    filled_tell_law p s s' taken filled
+
+pub known_tell_keeps : KnownTellKeeps
+known_tell_keeps p s number node from tell watch kept due at name pinned level most before is filled =
+    let s' = after_delivery p s number in
+    let none = tell_starts_none p s number node from tell watch due (tell_in_session node from tell watch (inl at) due.known) in
+    let taken : KnownTellIsTaken p s s' = record {
+      number = number;
+      from = from;
+      to = name_of node;
+      tell = tell;
+      watch = watch;
+      before = before;
+      is = is;
+      step =
+          known_tell_is_made s s' number node from tell watch kept (by_rule p s number node from (tell_body tell watch) due) none at name
+          pinned level most;
+    } in
+    filled_known_law p s s' taken filled
+
+-- ---- Seek
+
+-- who seats a joiner is its surrogate, and no other one changes
+module _ (p : SettingsValue) (s : System) (number : ℕ) (node : NodeState) (from joiner : List ℕ)
+    (due : IsArriving s number node from (Seek joiner)) (opens : OpensNext node (Root joiner) 0 (taken_at node from (Seek joiner))) where
+  abbrev own : List ℕ
+  own = name_of node
+
+  surrogates_are : (b : List ℕ) → (after_delivery p s number).surrogate b ≡ with_at s.surrogate joiner (Some own) b
+  surrogates_are b =
+      surrogates_after p s number (frame_to node from (Seek joiner)) node (is_found p s number node from (Seek joiner) due) due.at b
+      ∙ ap (λ (o : Option Session). surrogates_with s.surrogate own o b)
+      (opened_found node.sessions (taken_at node from (Seek joiner)).state.sessions (Root joiner) 0 opens.waiting due.is_node.sessions
+      opens.sessions)
+
+  seated_now : (after_delivery p s number).surrogate joiner ≡ Some own
+  seated_now = surrogates_are joiner ∙ with_at-here s.surrogate joiner (Some own)
+
+  seated_others : (d : List ℕ) → (d ≡ joiner) ⊎ ((after_delivery p s number).surrogate d ≡ s.surrogate d)
+  seated_others d = elim (with_at-others s.surrogate joiner (Some own) d) [
+    | inl same ↦ inl same
+    | inr stays ↦ inr (surrogates_are d ∙ stays)
+  ]
+
+pub seek_keeps : SeekKeeps
+seek_keeps s number node from joiner prefix due at name is before filled =
+    let p = settings_of node in
+    let s' = after_delivery p s number in
+    let taken = by_rule p s number node from (Seek joiner) due in
+    let opens = seek_opens node from joiner prefix at due.known is in
+    let apart = (seek_fits node from joiner prefix due.known is).apart in
+    let near = (surrogate_is node.ties.table due.is_node.ties.table joiner name apart prefix is).0 in
+    let acted = taken_at node from (Seek joiner) in
+    let covers = subst (λ n. CoversAnew node acted.state acted.sent (name_of node) joiner n n) near
+    (seek_covers s s' number node from joiner prefix taken at name is) in
+    filled_seat_law p s s' number from (name_of node) joiner
+    (record {
+      before = node;
+      after = acted.state;
+      sent = acted.sent;
+      taken = taken.taken;
+      at = taken.at;
+      covers = covers;
+      greets = seek_greets s s' number node from joiner prefix taken at name is;
+      seated = seated_now p s number node from joiner due opens;
+      others = seated_others p s number node from joiner due opens;
+    })
+    before filled
 
 -- ---- frames that make no node core and add no cover
 

@@ -11,24 +11,8 @@ use Rattle.tap_table.specs.Table.{IsTable, TableValue, kind_in, place_of}
 use Rattle.tap_table.proofs.Found.{linked_is_name}
 use Rattle.tap_table.proofs.Primaries.{primary_near}
 use Rattle.tap_table.proofs.Slots.{place_inside}
+use Rattle.tap_safety.proofs.Names.{same_level, same_slot_near}
 use Rattle.tap_multicast.proofs.Linked.{primary_near-stands}
-
--- names of one slot share as much with its owner
-same_level : (own t first : List ℕ) → place_of own first ≡ place_of own t → lcp own first ≡ lcp own t
-same_level own t first place = lcp-is own first ∙ ap (λ (s : Slot). s.level) place ∙ sym (lcp-is own t)
-
--- and more with each other
-same_slot_near : (p : SettingsValue) (own t first : List ℕ) → IsName p t → IsName p first → lcp own t < p.digits
-    → place_of own first ≡ place_of own t → lcp own t < lcp t first
-same_slot_near p own t first one two inside place =
-    let digit : get_or first (common_prefix_len nat_eq own first) 0 ≡ get_or t (common_prefix_len nat_eq own t) 0 =
-    ap (λ (s : Slot). s.digit) place in
-    let here : get_or t (lcp own t) 0 ≡ get_or t (common_prefix_len nat_eq own t) 0 = ap (λ l. get_or t l 0) (lcp-is own t) in
-    let there : get_or first (common_prefix_len nat_eq own first) 0 ≡ get_or first (lcp own t) 0 =
-    ap (λ l. get_or first l 0) (sym (lcp-is own first) ∙ same_level own t first place) in
-    let one_len = one.len in
-    let two_len = two.len in
-    lcp-more own t first (omega arith) (omega arith) (same_level own t first place) (here ∙ sym digit ∙ there)
 
 module _ (table : TableValue) (valid : IsTable table) where
   -- another name shares less than all digits with the owner

@@ -1,5 +1,5 @@
 -- Frames of no session leave the sessions as they are, and a Hello is answered in its own.
-use Rattle.std.proofs.Common.{◌≡◌, ◌⊎◌, ℕ, Bool, cond, List, [], ◌∷◌, map, Option, None, Some, true, false, if◌then◌else◌, ap, refl, sym, ◌∙◌, inl, inr}
+use Rattle.std.proofs.Common.{◌≡◌, ℕ, Bool, List, [], ◌∷◌, Option, None, Some, true, false, if◌then◌else◌, ap, refl, sym, ◌∙◌}
 use Rattle.tap_session.specs.Session.{SessionsValue}
 use Rattle.tap_table.specs.Ties.{holders_on}
 use Rattle.tap_join.specs.Seek.{sought}
@@ -7,8 +7,7 @@ use Rattle.tap_join.specs.declared.sought.Sought.TheVariants.{Forward}
 use Rattle.tap_wire.specs.declared.frame.Body.{Body}
 use Rattle.tap_wire.specs.declared.frame.Body.TheVariants.{Ack, Done, Forget, Heard, Hello, Link, Release, Seek, Tell}
 use Rattle.tap_wire.specs.declared.frame.Frame.{Frame}
-use Rattle.tap_rule.specs.Act.{act}
-use Rattle.tap_rule.specs.Ceasing.{ceases, is_done}
+use Rattle.tap_rule.specs.Ceasing.{ceases}
 use Rattle.tap_rule.specs.FrameRules.{frame_at_ceased, frame_at_core, frame_at_joining, frame_at_leaving, rule_of_frame}
 use Rattle.tap_rule.specs.Joining.{becomes_core, hello_words}
 use Rattle.tap_rule.specs.Laws.{frame_to}

@@ -1,5 +1,5 @@
 -- Frames that leave a node what it is, with its links and covers.
-use Rattle.std.proofs.Common.{◌≡◌, ◌⊎◌, ℕ, Bool, List, [], ◌∷◌, Option, None, Some, true, false, ap, refl, sym, subst, inl, inr, ◌∙◌}
+use Rattle.std.proofs.Common.{◌≡◌, ℕ, Bool, List, [], ◌∷◌, Option, None, Some, false, ap, refl, sym, subst, ◌∙◌}
 use Rattle.tap_session.specs.Session.{SessionsValue}
 use Rattle.tap_multicast.specs.Covers.{level_kept}
 use Rattle.tap_table.specs.declared.tie.Tie.{Tie}
@@ -144,7 +144,7 @@ nothing_sent own = record {
 }
 
 -- what is sent is what the rule says, if there is one
-rule_sends : (node : NodeState) (from : List ℕ) (body : Body) → is_strange node (frame_to node from body) ≡ false
+pub rule_sends : (node : NodeState) (from : List ℕ) (body : Body) → is_strange node (frame_to node from body) ≡ false
     → AreSent (name_of node) (words_by (rule_of_frame node.status node from body)) (messages_by (rule_of_frame node.status node from body))
     (taken_at node from body).sent
 rule_sends node from body known = step (rule_of_frame node.status node from body) refl

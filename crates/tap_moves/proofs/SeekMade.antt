@@ -1,10 +1,9 @@
 -- A Seek at the joiner's surrogate covers it, and greets it with the primary of each slot up to the prefix.
-use Rattle.std.proofs.Common.{◌≡◌, ◌≢◌, ◌⊎◌, ◌||◌, ℕ, ◌<◌, ◌≤◌, false, true, List, Contains, Option, None, Some, get_or, nat_eq, arith, ap, refl, sym, ◌∙◌, inl, inr}
+use Rattle.std.proofs.Common.{◌≡◌, ◌||◌, ℕ, ◌<◌, ◌≤◌, false, true, List, Contains, Option, None, Some, get_or, nat_eq, arith, ap, refl, sym, ◌∙◌, inl, inr}
 use Rattle.std.specs.Prelude.{is_some}
 use Rattle.std.specs.List.{common_prefix_len}
 use Rattle.std.specs.Option.{is_none}
 use Rattle.std.proofs.lemmas.Bool.{cases_lt, or_parts, or_right, true≢false}
-use Rattle.tap_name.specs.declared.slot.Slot.{Slot}
 use Rattle.tap_name.specs.Name.{IsName}
 use Rattle.tap_name.specs.Prefix.{lcp}
 use Rattle.tap_name.specs.Slot.{slot_at}
@@ -13,7 +12,7 @@ use Rattle.tap_name.proofs.Slots.{same_slot}
 use Rattle.tap_link.specs.declared.kind.Kind.TheVariants.{Settled}
 use Rattle.tap_link.specs.LinkSet.{kind_of, least_settled}
 use Rattle.tap_link.proofs.Least.{never_settled}
-use Rattle.tap_table.specs.Table.{TableValue, links_at, links_near, name_cmp, place_of}
+use Rattle.tap_table.specs.Table.{links_at, links_near, name_cmp, place_of}
 use Rattle.tap_table.specs.Ties.{AreTies}
 use Rattle.tap_table.proofs.Primaries.{primary_near}
 use Rattle.tap_table.proofs.Slots.{place_inside}
@@ -22,27 +21,26 @@ use Rattle.tap_watch.specs.Level.{full_slots}
 use Rattle.tap_watch.specs.Watch.{IsWatched}
 use Rattle.tap_watch.proofs.Watches.{Contains-filter, Contains-full}
 use Rattle.tap_multicast.specs.Covers.{cover_of}
-use Rattle.tap_multicast.specs.Offer.{answered_slots, answers, offer}
-use Rattle.tap_multicast.specs.Targets.{targets}
+use Rattle.tap_multicast.specs.Offer.{answered_slots, answers}
 use Rattle.tap_multicast.proofs.Offers.{primary_offered}
 use Rattle.tap_join.specs.declared.sought.Sought.TheVariants.{Surrogate}
 use Rattle.tap_join.specs.Seek.{sought, sought_by}
 use Rattle.tap_rule.specs.Covering.{first_request}
 use Rattle.tap_rule.specs.Event.{Acted}
-use Rattle.tap_rule.specs.JoinSteps.{CoverStep, SeekStep, SeeksAs}
+use Rattle.tap_rule.specs.JoinSteps.{CoverStep, SeekStep}
 use Rattle.tap_rule.specs.Laws.{frame_to}
 use Rattle.tap_rule.specs.Node.{NodeState, level_of, link_to, name_of, settings_of}
 use Rattle.tap_rule.specs.Strange.{is_leaving, is_own_name, is_strange, is_strange_body, is_strange_seek, is_too_many, names_to_link}
 use Rattle.tap_wire.specs.declared.frame.Body.TheVariants.{Seek}
 use Rattle.tap_rule.proofs.CoverSteps.{seek_fits, seek_law}
 use Rattle.tap_rule.proofs.JoinSteps.{IsTellFit}
-use Rattle.tap_safety.specs.Frames.{HelloFields, hello_body}
+use Rattle.tap_safety.specs.Frames.{hello_body}
 use Rattle.tap_safety.specs.SeekStep.{OffersPrimary}
 use Rattle.tap_safety.proofs.TellKeeps.{core_kept}
 use Rattle.tap_safety.proofs.Told.{sent_under_way}
 use Rattle.tap_moves.specs.ByRule.{taken_at}
 use Rattle.tap_moves.specs.Laws.{SeekCovers, SeekGreets}
-use Rattle.tap_moves.proofs.Got.{offered_got, sent_among}
+use Rattle.tap_moves.proofs.Got.{offered_got}
 use Rattle.tap_moves.proofs.CoverMade.{covers_anew, has_primary, hello_made, hello_sent, linked_inside, pins_offered, with_joiner, with_joiner_is}
 
 -- a node that takes a Seek doesn't cover its joiner

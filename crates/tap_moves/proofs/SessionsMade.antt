@@ -1,6 +1,6 @@
 -- What is remembered of sessions once a node has taken a Tell, a Seek, a Hello or an answer.
-use Rattle.std.proofs.Common.{◌≡◌, ◌≢◌, ◌⊎◌, ◌==◌, ℕ, ◌+◌, ◌≤◌, Bool, true, false, if◌then◌else◌, List, [], ◌∷◌, Option, None, Some, arith, ap, refl, sym, ◌∙◌, inl, inr}
-use Rattle.std.proofs.lemmas.Bool.{cases_Bool, ne_eqb, true≢false}
+use Rattle.std.proofs.Common.{◌≡◌, ◌≢◌, ◌⊎◌, ◌==◌, ℕ, ◌+◌, ◌≤◌, false, if◌then◌else◌, List, [], ◌∷◌, Option, None, Some, arith, ap, refl, sym, ◌∙◌, inl, inr}
+use Rattle.std.proofs.lemmas.Bool.{cases_Bool, ne_eqb}
 use Rattle.tap_session.specs.declared.parent.Parent.{Parent}
 use Rattle.tap_session.specs.declared.parent.Parent.TheVariants.{Node, Root}
 use Rattle.tap_session.specs.Session.{Session, SessionsValue}
@@ -19,7 +19,7 @@ use Rattle.tap_safety.specs.Bookkeeping.{HavePlaces}
 use Rattle.tap_safety.specs.Frames.{tell_body}
 use Rattle.tap_safety.specs.Remembered.{OpenSession, Token}
 use Rattle.tap_safety.specs.Remembered.Token.{Child, Way}
-use Rattle.tap_safety.specs.Sessions.{Awaits, Belongs, IsOpen, for_child, for_way, is_place, session_named, ways_of}
+use Rattle.tap_safety.specs.Sessions.{Awaits, Belongs, for_child, for_way, is_place, session_named, ways_of}
 use Rattle.tap_safety.specs.SessionSteps.{Closes, ClosesChild, ClosesRoot, Exchanges, HandsOn, LeavesSessions, child_of, with_awaits}
 use Rattle.tap_safety.specs.Seeking.{IsSeeker}
 use Rattle.tap_safety.specs.System.{System, AmongFrames, IsJoiner, IsUnderWay}
@@ -27,7 +27,6 @@ use Rattle.tap_safety.specs.Moved.{taking}
 use Rattle.tap_safety.specs.Turned.{Taking, awaits_changed, awaits_put, closed_by, opened_by, parent_in, passed_up, remembered_as, session_put, sessions_with}
 use Rattle.tap_safety.proofs.Exchange.{is_place-here, is_place-same}
 use Rattle.tap_moves.specs.ByRule.{TakesByRule, taken_at}
-use Rattle.tap_moves.specs.InSession.{AnswersAtOnce, OpensNext}
 use Rattle.tap_moves.specs.SessionsLaws.{BeforeTaking, HandsOnByTell, IsLastAnswer, OpensChildByTell, OpensRootBySeek, RemembersSessions, sent_at}
 use Rattle.tap_moves.proofs.Exchanged.{exchanges, sent_numbered}
 

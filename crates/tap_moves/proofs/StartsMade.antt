@@ -1,5 +1,5 @@
 -- What a node starts: what holds before holds after it.
-use Rattle.std.proofs.Common.{◌≡◌, ◌⊎◌, ℕ, List, [], ◌∷◌, ◌++◌, Option, None, Some, ap, refl, sym, ◌∙◌, inl, inr}
+use Rattle.std.proofs.Common.{◌≡◌, ℕ, List, [], ◌∷◌, Some, ap, refl, subst, ◌∙◌, inl, inr}
 use Rattle.tap_name.specs.Settings.{SettingsValue}
 use Rattle.tap_wire.specs.declared.frame.Body.TheVariants.{Seek}
 use Rattle.tap_wire.specs.declared.frame.Frame.{Frame}
@@ -13,17 +13,20 @@ use Rattle.tap_rule.specs.Reaction.{message}
 use Rattle.tap_rule.specs.Sent.{IsAmong}
 use Rattle.tap_rule.proofs.QuietSteps.{quiet_start_law}
 use Rattle.tap_rule.proofs.StartSteps.{give_up_law, seek_start_law}
-use Rattle.tap_safety.specs.Move.Move.{Begins}
-use Rattle.tap_safety.specs.Moved.{IsStarted, moved, starter}
-use Rattle.tap_safety.specs.Sessions.{Belongs}
+use Rattle.tap_safety.specs.Filled.{AreFilled}
+use Rattle.tap_safety.specs.Invariant.{Invariant}
+use Rattle.tap_safety.specs.Moved.{IsStarted, starter}
+use Rattle.tap_safety.specs.Sessions.{AreExact, Belongs}
 use Rattle.tap_safety.specs.SessionSteps.{LeavesSessions}
-use Rattle.tap_safety.specs.Step.{AreNumbered, ChangesAt, HasSent, numbered_from}
-use Rattle.tap_safety.specs.System.{System, AmongFrames}
+use Rattle.tap_safety.specs.Step.{AreNumbered, HasSent, numbered_from}
+use Rattle.tap_safety.specs.System.{System}
 use Rattle.tap_safety.proofs.Moves.{ascend_one, numbers_sent, starts}
 use Rattle.tap_safety.proofs.StepLaws.{join_filled_law, others_law, start_filled_law}
 use Rattle.tap_moves.specs.ByRule.{BeginsByRule, StartsByRule}
 use Rattle.tap_moves.specs.Delivered.{after_start}
-use Rattle.tap_moves.specs.MovesLaws.{GivingUpKeeps, JoinKeeps, QuietStartKeeps}
+use Rattle.tap_moves.specs.InvariantLaws.{StartFills}
+use Rattle.tap_moves.specs.MovesLaws.{GivingUpKeeps, JoinKeeps, KeepsBoth, QuietStartKeeps}
+use Rattle.tap_moves.specs.Spelled.{IsNodeOf}
 use Rattle.tap_moves.proofs.Exchanged.{in_either, in_first, sent_numbered}
 use Rattle.tap_moves.proofs.InSession.{sent_in}
 use Rattle.tap_moves.proofs.OutsideMade.{quiet_none, seek_none}
@@ -103,3 +106,30 @@ join_keeps p s x via fresh unstarted are =
           let found = sent_in x [] (message via (Seek x) ∷ []) (act (joiner p x) (Starts (Join via))).sent law.sent f y k among belongs in
           seek_none x via x found.0 y k found.1 found.2)) exact,
     )
+
+-- ---- from the invariant
+
+quiet_fills : (p : SettingsValue) (s : System) (x : List ℕ) (start : Start) (node : NodeState) → Invariant p s → IsNodeOf p x node
+    → s.node x ≡ Some node → IsQuietStart start → AreFilled p (after_start p s x start) × AreExact (after_start p s x start)
+quiet_fills p s x start node inv of at quiet =
+    let keeps = subst (λ y. KeepsBoth p s (after_start p s y start)) of.name
+    (quiet_start_keeps p s node start (ap s.node of.name ∙ at) quiet inv.numbered) in
+    (keeps.0 inv.filled, keeps.1 inv.exact)
+
+pub start_fills : StartFills
+start_fills p s x (Join via) inv nodes may new =
+    let keeps = join_keeps p s x via may.fresh new inv.numbered in (keeps.0 inv.filled, keeps.1 inv.exact)
+start_fills p s x Abandon inv nodes may new =
+    let of = nodes.nodes x may.state may.is in
+    let keeps = subst (λ y. KeepsBoth p s (after_start p s y Abandon)) of.name
+    (giving_up_keeps p s may.state (ap s.node of.name ∙ may.is) may.joining inv.numbered) in
+    (keeps.0 inv.filled, keeps.1 inv.exact)
+start_fills p s x Leave inv nodes may new = absurd new
+start_fills p s x (Publish object) inv nodes may new =
+    quiet_fills p s x (Publish object) may.state inv (nodes.nodes x may.state may.is) may.is tt
+start_fills p s x (Withdraw object) inv nodes may new =
+    quiet_fills p s x (Withdraw object) may.state inv (nodes.nodes x may.state may.is) may.is tt
+start_fills p s x (Find ticket object) inv nodes may new =
+    quiet_fills p s x (Find ticket object) may.state inv (nodes.nodes x may.state may.is) may.is tt
+start_fills p s x (Cast cast level word) inv nodes may new =
+    quiet_fills p s x (Cast cast level word) may.state inv (nodes.nodes x may.state may.is) may.is tt

@@ -1,89 +1,105 @@
 -- The laws of the invariant: if its parts hold, they hold once a frame under way is delivered, with nothing asked for between.
-use Rattle.std.specs.Prelude.{◌≡◌, ◌⊎◌, ℕ, ◌≤◌, false, List, Some}
+use Rattle.std.specs.Prelude.{◌≡◌, ◌⊎◌, ℕ, ◌≤◌, false, List, None, Some}
 use Rattle.tap_name.specs.Prefix.{lcp}
 use Rattle.tap_name.specs.Settings.{SettingsValue}
-use Rattle.tap_name.specs.declared.slot.Slot.{Slot}
-use Rattle.tap_pointer.specs.Reconcile.{AreLaid}
-use Rattle.tap_wire.specs.Spelling.{IsFrame}
 use Rattle.tap_wire.specs.declared.frame.Body.{Body}
 use Rattle.tap_wire.specs.declared.frame.Body.TheVariants.{Ack, Done, Forget, Heard, Hello, Link, Release, Seek, Tell}
 use Rattle.tap_wire.specs.declared.frame.Frame.{Frame}
-use Rattle.tap_wire.specs.declared.frame.TellFields.{TellFields}
 use Rattle.tap_join.specs.Seek.{sought}
-use Rattle.tap_join.specs.declared.sought.Sought.TheVariants.{Surrogate}
-use Rattle.tap_rule.specs.Kept.{IsNode}
+use Rattle.tap_join.specs.declared.sought.Sought.TheVariants.{Forward, Surrogate}
+use Rattle.tap_rule.specs.Event.{Start}
+use Rattle.tap_rule.specs.Event.Start.{Join, Leave}
 use Rattle.tap_rule.specs.Laws.{frame_to}
-use Rattle.tap_rule.specs.Node.{NodeState, name_of, settings_of}
+use Rattle.tap_rule.specs.Node.{NodeState, level_of, name_of}
 use Rattle.tap_rule.specs.Node.Status.{Ceased as HasCeased, Core, Joining}
+use Rattle.tap_rule.specs.QuietSteps.{IsQuiet}
 use Rattle.tap_rule.specs.Strange.{is_strange}
+use Rattle.tap_safety.specs.Bookkeeping.{HaveEnds, has_table}
 use Rattle.tap_safety.specs.Filled.{AreFilled}
-use Rattle.tap_safety.specs.Frames.{HelloFields, hello_body, tell_body}
 use Rattle.tap_safety.specs.Invariant.{Invariant}
-use Rattle.tap_safety.specs.Parts.{Cover, HoleFree, Low}
+use Rattle.tap_safety.specs.Move.{Move, may_move, may_start}
+use Rattle.tap_safety.specs.Move.Move.{Begins, Delivers}
+use Rattle.tap_safety.specs.Moved.{moved}
 use Rattle.tap_safety.specs.Remembered.{Word}
 use Rattle.tap_safety.specs.Sessions.{AreExact}
+use Rattle.tap_safety.specs.Soft.{NamesSoft}
 use Rattle.tap_safety.specs.Step.{AreNumbered}
 use Rattle.tap_safety.specs.System.{System, AmongFrames, IsCoreNode}
 use Rattle.tap_safety.specs.Ties.{Ties, Versions, hears_words}
 use Rattle.tap_safety.specs.Words.{IsGiven}
-use Rattle.tap_moves.specs.Delivered.{after_delivery}
-use Rattle.tap_moves.specs.FrameLaws.{IsPlain}
-use Rattle.tap_moves.specs.Laws.{IsAnew}
+use Rattle.tap_moves.specs.Delivered.{after_delivery, after_start}
 use Rattle.tap_moves.specs.SessionsLaws.{IsOutside}
+use Rattle.tap_moves.specs.Spelled.{AreNodes, FramesAreSpelled, IsNamedStart}
+use Rattle.tap_moves.specs.TiesLaws.{WordsStand}
 
--- each node keeps what nodes keep, and stands under its name, with these settings
-pub record IsNodeOf (p : SettingsValue) (x : List ℕ) (node : NodeState) : Type 0 where
-  pub is_node : IsNode node
-  pub name : name_of node ≡ x
-  pub settings : settings_of node ≡ p
-
-pub record AreNodes (p : SettingsValue) (s : System) : Type 0 where
-  pub nodes : (x : List ℕ) (node : NodeState) → s.node x ≡ Some node → IsNodeOf p x node
-
--- The invariant holds, and a frame of this number, sender and body is under way to this node, to which it isn't strange.
+-- The invariant holds, each node is one, each frame has a spelling, and a frame of this number, sender and body is under way to this
+-- node, to which it isn't strange.
 pub record IsDelivery (p : SettingsValue) (s : System) (number : ℕ) (node : NodeState) (from : List ℕ) (body : Body) : Type 0 where
   pub invariant : Invariant p s
   pub nodes : AreNodes p s
+  pub frames : FramesAreSpelled p s
   pub among : AmongFrames number (frame_to node from body) s.frames
   pub at : s.node (name_of node) ≡ Some node
   pub known : is_strange node (frame_to node from body) ≡ false
 
-abbrev pub TellFills : Type 0
-TellFills = (p : SettingsValue) (s : System) (number : ℕ) (node : NodeState) (from : List ℕ) (tell : TellFields) (watch : List Slot)
-    → IsDelivery p s number node from (tell_body tell watch) → node.status ≡ Core → IsAnew node tell.joiner tell.level
-    → AreFilled p (after_delivery p s number)
+-- a frame of a join where a rule takes it, but the Done of a join that was given up; and those of pointers and casts
+abbrev pub IsFilledThere : NodeState → Body → Type 0
+IsFilledThere node (Tell joiner prefix level session depth watch) =
+    (node.status ≡ Core) ⊎ ((node.status ≡ Joining) ⊎ (node.status ≡ HasCeased))
+IsFilledThere node (Hello session core links) = node.status ≡ Joining
+IsFilledThere node (Seek joiner) = node.status ≡ Core
+IsFilledThere node Done = node.abandoned ≡ false
+IsFilledThere node Release = (node.status ≡ Joining) ⊎ (node.status ≡ Core)
+IsFilledThere node Forget = (node.status ≡ Joining) ⊎ (node.status ≡ Core)
+IsFilledThere node (Heard session) = Unit {0}
+IsFilledThere node (Ack session) = Unit {0}
+IsFilledThere node (Link version on) = Unit {0}
+IsFilledThere node other = IsQuiet other
 
-abbrev pub DoneFills : Type 0
-DoneFills = (p : SettingsValue) (s : System) (number : ℕ) (node : NodeState) (from : List ℕ) → IsDelivery p s number node from Done
-    → node.abandoned ≡ false
-    → HoleFree p (after_delivery p s number) × Cover p (after_delivery p s number) × Low (after_delivery p s number)
+-- what leads to tables without holes holds after it
+abbrev pub FrameFills : Type 0
+FrameFills = (p : SettingsValue) (s : System) (number : ℕ) (node : NodeState) (from : List ℕ) (body : Body)
+    → IsDelivery p s number node from body → IsFilledThere node body → AreFilled p (after_delivery p s number)
 
-abbrev pub PlainFills : Type 0
-PlainFills = (p : SettingsValue) (s : System) (number : ℕ) (node : NodeState) (from : List ℕ) (body : Body)
-    → IsDelivery p s number node from body → IsPlain node body → AreFilled p (after_delivery p s number)
-
-abbrev pub OtherTellFills : Type 0
-OtherTellFills = (p : SettingsValue) (s : System) (number : ℕ) (node : NodeState) (from : List ℕ) (tell : TellFields) (watch : List Slot)
-    → IsDelivery p s number node from (tell_body tell watch) → (node.status ≡ Joining) ⊎ (node.status ≡ HasCeased)
-    → AreFilled p (after_delivery p s number)
-
-abbrev pub HelloFills : Type 0
-HelloFills = (p : SettingsValue) (s : System) (number : ℕ) (node : NodeState) (from : List ℕ) (hello : HelloFields)
-    → IsDelivery p s number node from (hello_body hello) → node.status ≡ Joining → AreFilled p (after_delivery p s number)
-
-abbrev pub ReleaseFills : Type 0
-ReleaseFills = (p : SettingsValue) (s : System) (number : ℕ) (node : NodeState) (from : List ℕ) → IsDelivery p s number node from Release
-    → (node.status ≡ Joining) ⊎ (node.status ≡ Core) → AreFilled p (after_delivery p s number)
-
-abbrev pub ForgetFills : Type 0
-ForgetFills = (p : SettingsValue) (s : System) (number : ℕ) (node : NodeState) (from : List ℕ) → IsDelivery p s number node from Forget
-    → (node.status ≡ Joining) ⊎ (node.status ≡ Core) → AreFilled p (after_delivery p s number)
-
--- a Link, at a node whose pairs are laid as wanted
+-- a Link, at a node that hears words
 abbrev pub LinkTies : Type 0
 LinkTies = (p : SettingsValue) (s : System) (number : ℕ) (node : NodeState) (from : List ℕ) (word : Word)
     → IsDelivery p s number node from (Link word.version word.on) → hears_words (Some node.status)
-    → AreLaid node.ties.table node.pointers → Ties (after_delivery p s number) × Versions (after_delivery p s number)
+    → Ties (after_delivery p s number) × Versions (after_delivery p s number)
+
+-- another frame that changes no link, or whose taker says so of each link that it changes: at a node that has a table, an answer, a Hello,
+-- a Seek that goes on, a Tell at a joining node or of a joiner that is covered so already, and those of pointers and casts
+abbrev pub IsSaidThere : NodeState → Body → Type 0
+IsSaidThere node (Tell joiner prefix level session depth watch) =
+    (node.status ≡ Joining) ⊎ ((node.status ≡ Core) × ((kept : ℕ) × (level_of node joiner ≡ Some kept) × (kept ≤ level)))
+IsSaidThere node (Hello session core links) = node.status ≡ Joining
+IsSaidThere node (Heard session) = (node.status ≡ Joining) ⊎ (node.status ≡ Core)
+IsSaidThere node (Ack session) = (node.status ≡ Joining) ⊎ (node.status ≡ Core)
+IsSaidThere node (Seek joiner) = (node.status ≡ Core) × ((next : List ℕ) × (sought node.ties.table joiner ≡ Forward next))
+IsSaidThere node other = IsQuiet other × has_table node.status
+
+-- the words of links stand after it
+abbrev pub FrameSays : Type 0
+FrameSays = (p : SettingsValue) (s : System) (number : ℕ) (node : NodeState) (from : List ℕ) (body : Body)
+    → IsDelivery p s number node from body → IsSaidThere node body → WordsStand (after_delivery p s number)
+
+-- another frame whose taker says of nobody that it is core, but by a Release: a Tell at a joining node or one that has ceased, a Hello, a
+-- Release, a Forget, an answer, a Link, a Seek that goes on, and those of pointers and casts
+abbrev pub IsSoftThere : NodeState → Body → Type 0
+IsSoftThere node (Tell joiner prefix level session depth watch) = (node.status ≡ Joining) ⊎ (node.status ≡ HasCeased)
+IsSoftThere node (Hello session core links) = node.status ≡ Joining
+IsSoftThere node (Seek joiner) = (next : List ℕ) × (sought node.ties.table joiner ≡ Forward next)
+IsSoftThere node Release = (node.status ≡ Joining) ⊎ (node.status ≡ Core)
+IsSoftThere node Forget = (node.status ≡ Joining) ⊎ (node.status ≡ Core)
+IsSoftThere node (Heard session) = Unit {0}
+IsSoftThere node (Ack session) = Unit {0}
+IsSoftThere node (Link version on) = Unit {0}
+IsSoftThere node other = IsQuiet other
+
+-- settled links are to core nodes after it, and pins to soft ones
+abbrev pub FrameSoft : Type 0
+FrameSoft = (p : SettingsValue) (s : System) (number : ℕ) (node : NodeState) (from : List ℕ) (body : Body)
+    → IsDelivery p s number node from body → IsSoftThere node body → NamesSoft (after_delivery p s number)
 
 -- a Seek at the joiner's surrogate: the new joiner is given the slot of each core node with which it shares at most its prefix
 abbrev pub SeekGives : Type 0
@@ -106,7 +122,35 @@ abbrev pub FrameExact : Type 0
 FrameExact = (p : SettingsValue) (s : System) (number : ℕ) (node : NodeState) (from : List ℕ) (body : Body)
     → IsDelivery p s number node from body → IsTakenThere node body → AreExact (after_delivery p s number)
 
--- each node is one, under its name, once a frame that has a spelling is delivered
-abbrev pub NodesKept : Type 0
-NodesKept = (p : SettingsValue) (s : System) (number : ℕ) (frame : Frame) (node : NodeState) → AreNodes p s → AreNumbered s
-    → AmongFrames number frame s.frames → s.node frame.to ≡ Some node → IsFrame p frame → AreNodes p (after_delivery p s number)
+-- a frame of whatever kind that a node takes, whatever its status: each node stays one, and each frame has a spelling
+abbrev pub PartsKept : Type 0
+PartsKept = (p : SettingsValue) (s : System) (number : ℕ) (frame : Frame) (node : NodeState) → AreNodes p s → FramesAreSpelled p s
+    → AreNumbered s → AmongFrames number frame s.frames → s.node frame.to ≡ Some node
+    → AreNodes p (after_delivery p s number) × FramesAreSpelled p (after_delivery p s number)
+
+-- and so they are once a node has started what it may start, a departure too
+abbrev pub StartKeepsParts : Type 0
+StartKeepsParts = (p : SettingsValue) (s : System) (x : List ℕ) (start : Start) → AreNodes p s → FramesAreSpelled p s
+    → may_start p s x start → IsNamedStart p start
+    → AreNodes p (after_start p s x start) × FramesAreSpelled p (after_start p s x start)
+
+-- what a move brings: a frame brings nothing that isn't under way already
+abbrev pub IsNamedMove : SettingsValue → Move → Type 0
+IsNamedMove p (Begins x start) = IsNamedStart p start
+IsNamedMove p (Delivers number) = Unit {0}
+
+-- so they are after every possible move, if the frames are numbered and their receivers known
+abbrev pub MoveKeepsParts : Type 0
+MoveKeepsParts = (p : SettingsValue) (s : System) (move : Move) → AreNodes p s → FramesAreSpelled p s → AreNumbered s → HaveEnds s
+    → may_move p s move → IsNamedMove p move → AreNodes p (moved p s move) × FramesAreSpelled p (moved p s move)
+
+-- whoever starts to join wasn't started before; a departure isn't meant
+abbrev pub IsNew : System → List ℕ → Start → Type 0
+IsNew s x (Join via) = s.surrogate x ≡ None
+IsNew s x Leave = ⊥
+IsNew s x _ = Unit {0}
+
+-- what leads to tables without holes holds once a node has started what it may start, and the sessions are exact
+abbrev pub StartFills : Type 0
+StartFills = (p : SettingsValue) (s : System) (x : List ℕ) (start : Start) → Invariant p s → AreNodes p s → may_start p s x start
+    → IsNew s x start → AreFilled p (after_start p s x start) × AreExact (after_start p s x start)

@@ -1,7 +1,6 @@
 -- The laws: the steps by the rule of a node are those of which the laws of systems speak.
 use Rattle.std.specs.Prelude.{◌≡◌, ◌⊎◌, ℕ, ◌<◌, ◌≤◌, false, List, Some}
 use Rattle.tap_name.specs.Name.{IsName}
-use Rattle.tap_name.specs.Prefix.{lcp}
 use Rattle.tap_name.specs.declared.slot.Slot.{Slot}
 use Rattle.tap_link.specs.declared.kind.Kind.TheVariants.{Pin}
 use Rattle.tap_session.specs.declared.parent.Parent.TheVariants.{Node, Root}

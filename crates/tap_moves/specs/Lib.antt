@@ -6,4 +6,5 @@ pub mod SessionsLaws
 pub mod TiesLaws
 pub mod Delivered
 pub mod MovesLaws
+pub mod Spelled
 pub mod InvariantLaws

@@ -1,5 +1,5 @@
 -- The laws of moves: what holds before a frame is delivered holds after it, with no step between.
-use Rattle.std.specs.Prelude.{◌≡◌, ◌⊎◌, ℕ, false, List, None, Some}
+use Rattle.std.specs.Prelude.{◌≡◌, ◌⊎◌, ℕ, ◌≤◌, false, List, None, Some}
 use Rattle.tap_name.specs.Name.{IsName}
 use Rattle.tap_name.specs.Settings.{SettingsValue}
 use Rattle.tap_name.specs.declared.slot.Slot.{Slot}
@@ -22,7 +22,7 @@ use Rattle.tap_safety.specs.Seeking.{IsSeeker}
 use Rattle.tap_safety.specs.DoneStep.{BeforeDone, NothingOnWay}
 use Rattle.tap_safety.specs.Filled.{AreFilled}
 use Rattle.tap_safety.specs.Frames.{HelloFields, hello_body, tell_body}
-use Rattle.tap_safety.specs.Parts.{Cover, Covered, HoleFree, Low, Meet}
+use Rattle.tap_safety.specs.SeekStep.{BeforeSeat}
 use Rattle.tap_safety.specs.Remembered.{Word}
 use Rattle.tap_safety.specs.Sessions.{AreExact}
 use Rattle.tap_safety.specs.Soft.{NamesSoft}
@@ -30,7 +30,7 @@ use Rattle.tap_safety.specs.Step.{AreNumbered}
 use Rattle.tap_safety.specs.System.{System}
 use Rattle.tap_safety.specs.TellStep.{BeforeTell, IsTellOf}
 use Rattle.tap_safety.specs.Ties.{Ties, Versions, hears_words}
-use Rattle.tap_moves.specs.ByRule.{StartsNone, TakesByRule}
+use Rattle.tap_moves.specs.ByRule.{TakesByRule}
 use Rattle.tap_moves.specs.Delivered.{IsArriving, after_delivery, after_start}
 use Rattle.tap_moves.specs.FrameLaws.{AreOfferedNames, IsPlain}
 use Rattle.tap_moves.specs.Laws.{IsAnew}
@@ -47,14 +47,28 @@ DeliveryIsByRule = (p : SettingsValue) (s : System) (number : ℕ) (node : NodeS
 abbrev pub DoneKeeps : Type 0
 DoneKeeps = (p : SettingsValue) (s : System) (number : ℕ) (node : NodeState) (from : List ℕ) → IsArriving s number node from Done
     → node.status ≡ Joining → node.abandoned ≡ false → BeforeDone p s → NothingOnWay s (name_of node)
-    → HoleFree p (after_delivery p s number) × Cover p (after_delivery p s number) × Low (after_delivery p s number)
+    → AreFilled p (after_delivery p s number)
 
 -- a Tell, at a core node that covers its joiner at no such level yet
 abbrev pub TellKeeps : Type 0
 TellKeeps = (p : SettingsValue) (s : System) (number : ℕ) (node : NodeState) (from : List ℕ) (tell : TellFields) (watch : List Slot)
     → IsArriving s number node from (tell_body tell watch) → node.status ≡ Core → IsName (settings_of node) tell.joiner
-    → IsAnew node tell.joiner tell.level → BeforeTell p s → IsTellOf p s (name_of node) tell.joiner tell.prefix tell.level → Meet s
-    → Low s → AreFilled p (after_delivery p s number)
+    → IsAnew node tell.joiner tell.level → BeforeTell p s → IsTellOf p s (name_of node) tell.joiner tell.prefix tell.level → AreFilled p s
+    → AreFilled p (after_delivery p s number)
+
+-- and at one that covers it so already, and has it pinned
+abbrev pub KnownTellKeeps : Type 0
+KnownTellKeeps = (p : SettingsValue) (s : System) (number : ℕ) (node : NodeState) (from : List ℕ) (tell : TellFields) (watch : List Slot)
+    (kept : ℕ) → IsArriving s number node from (tell_body tell watch) → node.status ≡ Core → IsName (settings_of node) tell.joiner
+    → link_to node tell.joiner ≡ Some Pin → level_of node tell.joiner ≡ Some kept → kept ≤ tell.level → BeforeTell p s
+    → IsTellOf p s (name_of node) tell.joiner tell.prefix tell.level → AreFilled p s → AreFilled p (after_delivery p s number)
+
+-- a Seek, at the surrogate of its joiner
+abbrev pub SeekKeeps : Type 0
+SeekKeeps = (s : System) (number : ℕ) (node : NodeState) (from joiner : List ℕ) (prefix : ℕ)
+    → IsArriving s number node from (Seek joiner) → node.status ≡ Core → IsName (settings_of node) joiner
+    → sought node.ties.table joiner ≡ Surrogate prefix → BeforeSeat (settings_of node) s (name_of node) joiner
+    → AreFilled (settings_of node) s → AreFilled (settings_of node) (after_delivery (settings_of node) s number)
 
 -- frames that leave their receivers what they are
 abbrev pub PlainKeeps : Type 0

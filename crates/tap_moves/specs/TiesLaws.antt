@@ -4,11 +4,12 @@ use Rattle.tap_pointer.specs.Reconcile.{AreLaid}
 use Rattle.tap_wire.specs.declared.frame.Body.TheVariants.{Link}
 use Rattle.tap_rule.specs.Node.{NodeState, name_of}
 use Rattle.tap_safety.specs.Bookkeeping.{AreStamped}
+use Rattle.tap_safety.specs.Ceased.{Ceased}
 use Rattle.tap_safety.specs.Moved.{last_after}
 use Rattle.tap_safety.specs.Remembered.{Word}
 use Rattle.tap_safety.specs.Step.{AreNumbered}
 use Rattle.tap_safety.specs.System.{System}
-use Rattle.tap_safety.specs.Ties.{TakesLink, hears_words}
+use Rattle.tap_safety.specs.Ties.{TakesLink, Ties, Versions, hears_words}
 use Rattle.tap_moves.specs.ByRule.{TakesByRule, taken_at}
 
 -- the last words are remembered as the frames that a node has sent leave them
@@ -22,3 +23,9 @@ abbrev pub LinkIsMade : Type 0
 LinkIsMade = (s s' : System) (number : ℕ) (node : NodeState) (from : List ℕ) (word : Word)
     → TakesByRule s s' number node from (Link word.version word.on) → RemembersWords s s' node from word → AreNumbered s → AreStamped s
     → hears_words (Some node.status) → AreLaid node.ties.table node.pointers → TakesLink s s' from (name_of node) word
+
+-- the last words of links stand, and a Forget is to come wherever a pin is on a node that has ceased
+pub record WordsStand (s : System) : Type 0 where
+  pub ties : Ties s
+  pub versions : Versions s
+  pub ceased : Ceased s

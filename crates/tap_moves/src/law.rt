@@ -1,8 +1,8 @@
 ghost use Rattle.tap_wire.specs.declared.frame.Body.TheVariants.{Ack, Heard};
 ghost use Rattle.tap_moves.specs.FrameLaws.{CeasedTellIsMade, ForgetIsMade, GivingUpIsMade, HelloIsMade, JoinIsMade, JoiningTellIsMade, PlainIsMade, QuietStartIsMade, ReleaseIsMade};
 ghost use Rattle.tap_moves.specs.Laws.{CeasedAnswers, DoneIsMade, KnownTellIsMade, NewTellIsMade, SeekCovers, SeekGreets, SeekOpens, TellInSession};
-ghost use Rattle.tap_moves.specs.MovesLaws.{AnswerKeepsSessions, CeasedTellKeeps, DeliveryIsByRule, DoneKeeps, ForgetKeeps, GivingUpKeeps, HelloKeeps, HelloKeepsSessions, JoinKeeps, JoiningTellKeeps, LinkKeeps, OutsideKeepsSessions, PlainKeeps, QuietStartKeeps, ReleaseKeeps, SeekKeepsSessions, TellKeeps, TellKeepsSessions};
-ghost use Rattle.tap_moves.specs.InvariantLaws.{DoneFills, ForgetFills, FrameExact, HelloFills, LinkTies, NodesKept, OtherTellFills, PlainFills, ReleaseFills, SeekGives, TellFills};
+ghost use Rattle.tap_moves.specs.MovesLaws.{AnswerKeepsSessions, CeasedTellKeeps, DeliveryIsByRule, DoneKeeps, ForgetKeeps, GivingUpKeeps, HelloKeeps, HelloKeepsSessions, JoinKeeps, JoiningTellKeeps, KnownTellKeeps, LinkKeeps, OutsideKeepsSessions, PlainKeeps, QuietStartKeeps, ReleaseKeeps, SeekKeeps, SeekKeepsSessions, TellKeeps, TellKeepsSessions};
+ghost use Rattle.tap_moves.specs.InvariantLaws.{FrameExact, FrameFills, FrameSays, FrameSoft, LinkTies, MoveKeepsParts, PartsKept, SeekGives, StartFills, StartKeepsParts};
 ghost use Rattle.tap_moves.specs.SessionsLaws.{AnswerClosesChild, AnswerClosesRoot, AnswerHandsOn, AnswerKeepsExact, HandsOnByHello, HandsOnByTell, OpensChildByTell, OpensRootBySeek, OutsideLeavesSessions};
 ghost use Rattle.tap_moves.specs.TiesLaws.{LinkIsMade};
 
@@ -104,6 +104,8 @@ pub fn deliveries_keep()
     ensures by_rule { DeliveryIsByRule }
     ensures done { DoneKeeps }
     ensures tell { TellKeeps }
+    ensures known_tell { KnownTellKeeps }
+    ensures seek { SeekKeeps }
     ensures plain { PlainKeeps }
     ensures joining { JoiningTellKeeps }
     ensures ceased { CeasedTellKeeps }
@@ -127,7 +129,8 @@ pub fn deliveries_keep_sessions()
     ensures outside { OutsideKeepsSessions }
 {}
 
-/// Of what a node starts, but a departure: what leads to tables without holes is kept, and so are sessions that are exact.
+/// Of what a node starts, but a departure: what leads to tables without holes is kept, and so are sessions that are exact; so both hold
+/// after it if the invariant holds before.
 ///
 /// It does nothing: its contract is the law.
 ///
@@ -136,25 +139,37 @@ pub fn starts_keep()
     ensures quiet { QuietStartKeeps }
     ensures gives_up { GivingUpKeeps }
     ensures join { JoinKeeps }
+    ensures from_invariant { StartFills }
 {}
 
-/// If the invariant holds, and each node is one that steps keep valid, then once a frame under way is delivered that isn't strange to its
-/// receiver: what leads to tables without holes holds, and after a Done Hole-free, Cover and Low; the sessions are exact; after a Link the
-/// words of links stand; and a new joiner is given each slot up to its prefix.
+/// What moves keep of each node and of each frame, whatever its kind and whatever the status of its receiver: each node keeps what nodes
+/// keep, stands under its own name, speaks of names alone, and has its pairs laid as wanted while it runs; and each frame under way has a
+/// spelling. A frame that is delivered keeps this, be it strange or not, and so does whatever a node may start, if an object is a name and
+/// what is cast is a word. So does every possible move, if frames are numbered and their receivers known.
+///
+/// It does nothing: its contract is the law.
+///
+/// Rule: docs/PROTOCOL.md, "Nodes" and "Steps of a node".
+pub fn parts_kept()
+    ensures frames { PartsKept }
+    ensures starts { StartKeepsParts }
+    ensures moves { MoveKeepsParts }
+{}
+
+/// If the invariant holds, each node is one that steps keep valid, and each frame has a spelling, then once a frame under way is delivered
+/// that isn't strange to its receiver: after each frame of a join, of pointers and of casts, but the Done of a join that was given up, what
+/// leads to tables without holes holds, and the sessions are exact; the words of links stand after a Link, and after each other frame
+/// whose taker says of each link that it changes; settled links are to core nodes and pins to soft ones, but after a Tell at a core node, a
+/// Seek at the surrogate and a Done; and a new joiner is given each slot up to its prefix.
 ///
 /// It does nothing: its contract is the law.
 ///
 /// Rule: docs/PROTOCOL.md, "Steps of a node".
 pub fn deliveries_from_invariant()
-    ensures tell { TellFills }
-    ensures done { DoneFills }
-    ensures plain { PlainFills }
-    ensures other_tell { OtherTellFills }
-    ensures hello { HelloFills }
-    ensures release { ReleaseFills }
-    ensures forget { ForgetFills }
+    ensures fills { FrameFills }
     ensures link { LinkTies }
+    ensures words { FrameSays }
+    ensures soft { FrameSoft }
     ensures seek { SeekGives }
     ensures exact { FrameExact }
-    ensures nodes { NodesKept }
 {}

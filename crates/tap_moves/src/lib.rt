@@ -7,5 +7,5 @@ mod law;
 
 pub use law::{
     deliveries_from_invariant, deliveries_keep, deliveries_keep_sessions, done_moves, frames_move,
-    link_moves, seek_moves, sessions_move, starts_keep, tell_moves,
+    link_moves, parts_kept, seek_moves, sessions_move, starts_keep, tell_moves,
 };

@@ -1,13 +1,16 @@
 -- the forms in which a name is said to be among some, and names without others
-use Rattle.std.proofs.Common.{All, ◌≡◌, ◌↔◌, ◌⊎◌, inl, inr, ℕ, ◌<◌, not, zero, suc, List, [], ◌∷◌, ◌++◌, length, get_or, arith, sym, refl, subst, ◌∙◌}
+use Rattle.std.proofs.Common.{All, ◌≡◌, ◌↔◌, ◌⊎◌, inl, inr, ℕ, ◌<◌, ◌≤◌, true, not, zero, suc, List, [], ◌∷◌, ◌++◌, length, get_or, arith, sym, refl, subst, ◌∙◌}
 use Rattle.std.specs.Bool.{Decides}
 use Rattle.std.specs.Prelude.{bytes_eq}
 use Rattle.std.specs.List.{Contains, IsDistinct}
+use Rattle.std.specs.Set.{is_member}
 use Rattle.std.specs.List.Sorted.{IsPermutation}
 use Rattle.std.proofs.lemmas.Bool.{and_from, and_parts, cases_Bool, true≢false}
 use Rattle.std.proofs.lemmas.Slice.Eq.{bytes_eq-Decides}
 use Rattle.std.proofs.lemmas.List.Kept.{AllPairs-cons}
 use Rattle.std.proofs.lemmas.List.Sorted.{Contains-permutation, IsPermutation-sym}
+use Rattle.std.proofs.lemmas.Cmp.{nat_list_eq_equiv}
+use Rattle.std.proofs.lemmas.Map.Made.{length-le_from_is_member}
 use Rattle.std.proofs.lemmas.Map.Keys.{IsDistinct-IsPermutation, IsDistinct-from_apart, apart_from_distinct}
 use Rattle.tap_name.specs.Names.{Among, AreDistinct, are_distinct, has_name, names_without}
 use Rattle.tap_name.proofs.Names.{among-filter, among-filter_from}
@@ -125,3 +128,28 @@ are_distinct-Decides (name ∷ others) =
           distinct 0 (suc place.0) name (omega arith) (let inside = place.1 in omega arith) (sym place.2)))
           (rest.1 (λ i j d before within. distinct (suc i) (suc j) d (omega arith) (omega arith))),
     )
+
+-- std's test of membership
+pub among-from_is_member : (names : List (List ℕ)) (x : List ℕ) → is_member bytes_eq names x ≡ true → Among x names
+among-from_is_member [] x is = cc
+among-from_is_member (y ∷ names) x is =
+    elim (cases_Bool (bytes_eq x y)) [
+      | inl same ↦ inl ((bytes_eq-Decides x y).0 same)
+      | inr other ↦ inr (among-from_is_member names x (rw other at is))
+    ]
+
+pub is_member-from_among : (names : List (List ℕ)) (x : List ℕ) → Among x names → is_member bytes_eq names x ≡ true
+is_member-from_among [] x among = absurd among
+is_member-from_among (y ∷ names) x (inl same) = rw ((bytes_eq-Decides x y).1 same) refl
+is_member-from_among (y ∷ names) x (inr later) =
+    elim (cases_Bool (bytes_eq x y)) [
+      | inl same ↦ rw same refl
+      | inr other ↦ rw other (is_member-from_among names x later)
+    ]
+
+-- distinct names that are all among others are no more than these
+pub few_among : (names others : List (List ℕ)) → AreDistinct names → ((x : List ℕ) → Among x names → Among x others)
+    → length names ≤ length others
+few_among names others distinct all =
+    length-le_from_is_member nat_list_eq_equiv names others (IsDistinct-from_distinct names distinct)
+    (λ x is. is_member-from_among others x (all x (among-from_is_member names x is)))

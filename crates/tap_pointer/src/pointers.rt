@@ -178,7 +178,7 @@ impl Pointers {
     /// pair alone.
     ///
     /// So it serves after a step that published or withdrew this pair or took a Lay of it, and changed no primary of the
-    /// table.
+    /// table. If memory is refused, the pointers are as they were.
     ///
     /// Rule: docs/PROTOCOL.md, "Pointers".
     pub fn reconcile_pair(
@@ -196,6 +196,7 @@ impl Pointers {
         ensures after { OnOk result (self.new ≡ reconciled table.now self.old) }
         ensures stamped { IfOk result (λ lays. stamp.new ≡ stamp.old + length lays) }
         ensures laid { OnOk result (AreLaid table.now self.new) }
+        ensures same { OnErr result (self.new ≡ self.old) }
     {
         let pair = Pair { object, server };
         let mut lays = Vec::new(self.alloc);

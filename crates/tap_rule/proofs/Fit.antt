@@ -1,16 +1,13 @@
 -- A frame isn't strange exactly if it is fit.
 use Rattle.std.proofs.Common.{◌≡◌, ◌≢◌, ◌⊎◌, ◌==◌, ◌||◌, ℕ, ◌≤◌, Bool, List, [], ◌∷◌, Option, Some, None, true, false, not, is_some, nat_lt, length, arith, refl, sym, ap, subst, ◌∙◌, inl, inr}
 use Rattle.std.specs.Prelude.{bytes_eq}
-use Rattle.std.specs.Set.{is_member}
-use Rattle.std.proofs.lemmas.Cmp.{nat_list_eq_equiv}
 use Rattle.std.proofs.lemmas.List.Kept.{AllPairs-filter}
-use Rattle.std.proofs.lemmas.Map.Made.{length-le_from_is_member}
 use Rattle.std.proofs.lemmas.Bool.{cases_Bool, eqb-false, le-ltb, ltb-false, or_parts, true≢false}
 use Rattle.std.proofs.lemmas.Bool.Decides.{eqb_tells}
 use Rattle.std.proofs.lemmas.Slice.Eq.{bytes_eq-Decides}
 use Rattle.tap_name.specs.Names.{Among, AreDistinct, are_distinct, has_name}
 use Rattle.tap_name.specs.Prefix.{lcp}
-use Rattle.tap_name.proofs.Membership.{IsDistinct-from_distinct, are_distinct-Decides, has_name-Decides}
+use Rattle.tap_name.proofs.Membership.{are_distinct-Decides, few_among, has_name-Decides}
 use Rattle.tap_name.proofs.Sorted.{distinct-from_ascending}
 use Rattle.tap_name.proofs.Names.{among-filter, among-filter_from}
 use Rattle.tap_table.specs.Ties.{AreTies}
@@ -124,23 +121,6 @@ module _ (node : NodeState) where
   fit_body_is (Cast cast level session depth word) fit = not_same depth 65535 fit
   fit_body_is _ fit = refl
 
-member_among : (names : List (List ℕ)) (x : List ℕ) → is_member bytes_eq names x ≡ true → Among x names
-member_among [] x is = cc
-member_among (y ∷ names) x is =
-    elim (cases_Bool (bytes_eq x y)) [
-      | inl same ↦ inl ((bytes_eq-Decides x y).0 same)
-      | inr other ↦ inr (member_among names x (rw other at is))
-    ]
-
-among_member : (names : List (List ℕ)) (x : List ℕ) → Among x names → is_member bytes_eq names x ≡ true
-among_member [] x among = absurd among
-among_member (y ∷ names) x (inl same) = rw ((bytes_eq-Decides x y).1 same) refl
-among_member (y ∷ names) x (inr later) =
-    elim (cases_Bool (bytes_eq x y)) [
-      | inl same ↦ rw same refl
-      | inr other ↦ rw other (among_member names x later)
-    ]
-
 -- names that are added to others are among both, and distinct if these are
 among-with : (names others : List (List ℕ)) (x : List ℕ) → Among x (with_names names others) → Among x names ⊎ Among x others
 among-with names [] x among = inl among
@@ -177,13 +157,6 @@ distinct-with names (name ∷ others) distinct = elim (cases_Bool (has_name name
       let more : are_distinct (name ∷ names) ≡ true = rw (absent, distinct) refl in
       rw absent (distinct-with (name ∷ names) others more)
 ]
-
--- distinct names that are all among others are no more than these
-few_names : (names others : List (List ℕ)) → AreDistinct names → ((x : List ℕ) → Among x names → Among x others)
-    → length names ≤ length others
-few_names names others distinct all =
-    length-le_from_is_member nat_list_eq_equiv names others (IsDistinct-from_distinct names distinct)
-    (λ x is. among_member others x (all x (member_among names x is)))
 
 -- what a frame could link is among the names that it could
 could_be_linked : (from : List ℕ) (body : Body) (name : List ℕ) → CouldLink from body name → Among name (names_to_link from body)
@@ -261,7 +234,7 @@ module _ (node : NodeState) (frame : Frame) (ties : AreTies node.ties) where
         body = body_is_fit node frame.body inner.1;
         few = λ others apart may.
             let most : length names ≤ 255 = ltb-false 255 (length names) outer.1 in
-            let fewer = few_names others names apart (λ name among. is_among name (may name among)) in omega (arith, most, fewer);
+            let fewer = few_among others names apart (λ name among. is_among name (may name among)) in omega (arith, most, fewer);
       }
 
   from_fit : IsFit node frame → is_strange node frame ≡ false

@@ -16,3 +16,6 @@ pub mod CastSteps
 pub mod PointerSteps
 pub mod CeasedSteps
 pub mod Fit
+pub mod HasRule
+pub mod Said
+pub mod Begins

@@ -1,5 +1,5 @@
 -- The laws of the rule: what a step changes, and what it sends.
-use Rattle.std.specs.Prelude.{◌≡◌, ◌↔◌, ◌⊎◌, ◌≤◌, ◌+◌, Bool, ℕ, true, false, List, [], ◌∷◌, length, None, Some, Option}
+use Rattle.std.specs.Prelude.{◌≡◌, ◌≢◌, ◌↔◌, ◌⊎◌, ◌≤◌, ◌+◌, Bool, ℕ, true, false, List, [], ◌∷◌, ◌++◌, length, None, Some, Option}
 use Rattle.tap_name.specs.Name.{IsName}
 use Rattle.tap_name.specs.Names.{AreDistinct, AreNames}
 use Rattle.tap_name.specs.Settings.{AreWithinLimits, SettingsValue}
@@ -19,7 +19,9 @@ pub use Rattle.tap_rule.specs.Node.{IsRunning}
 use Rattle.tap_rule.specs.Event.{Acted, Event, Start}
 use Rattle.tap_rule.specs.Event.Event.{Starts, Takes}
 use Rattle.tap_rule.specs.Event.News.{Nothing}
-use Rattle.tap_rule.specs.Reaction.{Reaction, message}
+use Rattle.tap_rule.specs.Reaction.{Reaction, message, to_each}
+use Rattle.tap_rule.specs.Sending.{lay_frame, link_frame, message_frame}
+use Rattle.tap_rule.specs.Casts.{cast_news, cast_of}
 use Rattle.tap_rule.specs.Strange.{is_strange}
 use Rattle.tap_pointer.specs.declared.lay.Lay as lay
 use Rattle.tap_pointer.specs.Pointers.{pair_of, published, withdrawn}
@@ -27,6 +29,9 @@ use Rattle.tap_pointer.specs.Reconcile.{AreLaid, reconcile_lays, reconciled}
 use Rattle.tap_rule.specs.FrameRules.{rule_of_frame}
 use Rattle.tap_rule.specs.StartRules.{rule_of_start}
 use Rattle.tap_rule.specs.Act.{act}
+use Rattle.tap_rule.specs.HasRule.{HasRule, HasStartRule}
+use Rattle.tap_rule.specs.Said.{IsCastNews, IsFrameOf, IsOneEach}
+use Rattle.tap_rule.specs.Begins.{BeginsAtRest, BeginsToJoin}
 use Rattle.tap_rule.specs.Kept.{IsNode, IsStart, KeepsNode}
 use Rattle.tap_rule.specs.Sent.{AreSent, AreSentInOrder}
 use Rattle.tap_rule.specs.Event.Start.{Abandon, Publish, Withdraw, Cast as CastStart, Find as FindStart, Join as JoinStart, Leave as LeaveStart}
@@ -309,3 +314,53 @@ abbrev pub JoiningCastLaw : Type 0
 JoiningCastLaw = (node : NodeState) (from : List ℕ) (cast level session depth : ℕ) (word : List ℕ) → node.status ≡ Joining
     → is_strange node (frame_to node from (Cast cast level session depth word)) ≡ false
     → AnsweredCastStep node (message from (CastAck session)) (act node (Takes (frame_to node from (Cast cast level session depth word))))
+
+-- a frame and a start have a rule exactly if the table of all rules says so; without one nothing changes, and a start isn't refused,
+-- nor is a frame that isn't strange
+abbrev pub HasRuleLaw : Type 0
+HasRuleLaw = (node : NodeState) (from : List ℕ) (body : Body)
+    → (rule_of_frame node.status node from body ≢ None) ↔ HasRule node.status body
+
+abbrev pub HasStartRuleLaw : Type 0
+HasStartRuleLaw = (node : NodeState) (start : Start)
+    → (rule_of_start node.status node start ≢ None) ↔ HasStartRule node.status start
+
+abbrev pub WithoutRuleLaw : Type 0
+WithoutRuleLaw = (node : NodeState) (frame : Frame) → (HasRule node.status frame.body → ⊥)
+    → IsIgnored node (act node (Takes frame)) × ((act node (Takes frame)).strange ≡ is_strange node frame)
+
+abbrev pub WithoutStartRuleLaw : Type 0
+WithoutStartRuleLaw = (node : NodeState) (start : Start) → (HasStartRule node.status start → ⊥)
+    → IsIgnored node (act node (Starts start)) × ((act node (Starts start)).strange ≡ false)
+
+-- what the frame of a message, of a word and of a Lay says, and what is said to each of these names
+abbrev pub MessageFrameLaw : Type 0
+MessageFrameLaw = (from to : List ℕ) (body : Body) → IsFrameOf from to body (message_frame from (message to body))
+
+abbrev pub LinkFrameLaw : Type 0
+LinkFrameLaw = (from to : List ℕ) (version : ℕ) (on : Bool)
+    → IsFrameOf from to (Link version on) (link_frame from (record { to = to; version = version; on = on }))
+
+abbrev pub LayFrameLaw : Type 0
+LayFrameLaw = (from to object server : List ℕ) (level version : ℕ) (on : Bool)
+    → IsFrameOf from to (Lay object server level version on)
+    (lay_frame from (record { to = to; object = object; server = server; level = level; version = version; on = on }))
+
+abbrev pub ToEachLaw : Type 0
+ToEachLaw = (body : Body) (names : List (List ℕ)) → IsOneEach body names (to_each body names)
+
+-- the news of a cast; and the cast of a session, by how many were opened before it
+abbrev pub CastNewsLaw : Type 0
+CastNewsLaw = (cast : ℕ) (reached closed : Bool) → IsCastNews cast reached closed (cast_news cast reached closed)
+
+abbrev pub CastOfLaw : Type 0
+CastOfLaw = (node : NodeState) (before after : List ℕ) (cast : ℕ) → node.cast_numbers ≡ before ++ cast ∷ after
+    → cast_of node (length before + 1) ≡ cast
+
+-- how a node begins that starts to join, and how one of the members does
+abbrev pub BeginsToJoinLaw : Type 0
+BeginsToJoinLaw = (p : SettingsValue) (name : List ℕ) → BeginsToJoin p name (joiner p name)
+
+abbrev pub BeginsAtRestLaw : Type 0
+BeginsAtRestLaw = (p : SettingsValue) (members : List (List ℕ)) (name : List ℕ)
+    → BeginsAtRest p members name (member_at_rest p members name)

@@ -14,6 +14,9 @@ pub mod FrameRules
 pub mod StartRules
 pub mod Sending
 pub mod Act
+pub mod HasRule
+pub mod Said
+pub mod Begins
 pub mod Sent
 pub mod Completed
 pub mod Fit

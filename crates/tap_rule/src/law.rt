@@ -3,6 +3,7 @@ ghost use Rattle.tap_rule.specs.Laws.{FrameLaw, JoinerLaw, KeptLaw, LaidLaw, Mem
 ghost use Rattle.tap_rule.specs.Laws.{AnswerLaw, CeaseLaw, DoneLaw, ForgetLaw, GoneLaw, HelloLaw, LeaveLaw, LeftLaw, LinkLaw, MeetLaw, ReleaseLaw, SeekLaw, TellLaw};
 ghost use Rattle.tap_rule.specs.Laws.{CastAckLaw, CastLaw, CastStartLaw, GiveUpLaw, JoiningCastLaw, LeaveStartLaw, SeekStartLaw};
 ghost use Rattle.tap_rule.specs.Laws.{CeasedCastLaw, CeasedLinkLaw, CeasedTellLaw, CeasedUnlinkLaw, FindLaw, FoundLaw, LayLaw, LookupLaw, PublishLaw, WithdrawLaw};
+ghost use Rattle.tap_rule.specs.Laws.{BeginsAtRestLaw, BeginsToJoinLaw, CastNewsLaw, CastOfLaw, HasRuleLaw, HasStartRuleLaw, LayFrameLaw, LinkFrameLaw, MessageFrameLaw, ToEachLaw, WithoutRuleLaw, WithoutStartRuleLaw};
 
 /// What a step comes to. A strange frame changes nothing, and neither does a frame or a start of which no rule speaks. Any other event
 /// leaves the node as its rule says, but that its pointers are then reconciled if it hasn't ended, and sends, in this order, the Links of
@@ -41,7 +42,7 @@ pub fn frames_law()
 ///
 /// It does nothing: its contract is the law.
 ///
-/// Rule: docs/PROTOCOL.md, "Seek" and "Tell" and "Covers of a node" and "Hello" and "Done" and "The start of a join" and "Giving a join up".
+/// Rule: docs/PROTOCOL.md, "Seek", "Tell", "Covers of a node", "Hello", "Done", "The start of a join" and "Giving a join up".
 pub fn joins_law()
     ensures seek { SeekLaw }
     ensures tell { TellLaw }
@@ -134,4 +135,43 @@ pub fn ceased_law()
     ensures link { CeasedLinkLaw }
     ensures unlink { CeasedUnlinkLaw }
     ensures cast { CeasedCastLaw }
+{}
+
+/// Which frames and starts have a rule, by the status of the node: a table names for each kind of frame who takes it, and for each start
+/// who makes it. What has no rule changes nothing, sends nothing and has no news.
+///
+/// It does nothing: its contract is the law.
+///
+/// Rule: docs/PROTOCOL.md, "Steps of a node".
+pub fn table_law()
+    ensures frame { HasRuleLaw }
+    ensures start { HasStartRuleLaw }
+    ensures without { WithoutRuleLaw }
+    ensures start_without { WithoutStartRuleLaw }
+{}
+
+/// What the words mean in which the other laws speak: from whom a frame is, to whom, and what it says; that one message goes to each of
+/// some names, in their order; when a cast has no news; and of which cast a session is.
+///
+/// It does nothing: its contract is the law.
+///
+/// Rule: docs/PROTOCOL.md, "Steps of a node".
+pub fn said_law()
+    ensures message { MessageFrameLaw }
+    ensures link { LinkFrameLaw }
+    ensures lay { LayFrameLaw }
+    ensures each { ToEachLaw }
+    ensures cast_news { CastNewsLaw }
+    ensures cast_of { CastOfLaw }
+{}
+
+/// How a node begins: one that starts to join has no links and no holders, and a member is a core node with its ties at rest. Each has its
+/// name and the settings, and nothing has happened at it.
+///
+/// It does nothing: its contract is the law.
+///
+/// Rule: docs/PROTOCOL.md, "Nodes".
+pub fn beginning_law()
+    ensures joiner { BeginsToJoinLaw }
+    ensures member { BeginsAtRestLaw }
 {}

@@ -7,6 +7,6 @@
 mod law;
 
 pub use law::{
-    casts_law, ceased_law, departures_law, frames_law, joins_law, kept_law, pointers_law,
-    quiet_law, rule_law,
+    beginning_law, casts_law, ceased_law, departures_law, frames_law, joins_law, kept_law,
+    pointers_law, quiet_law, rule_law, said_law, table_law,
 };

@@ -6,11 +6,11 @@ use Rattle.tap_link.specs.declared.kind.Kind.TheVariants.{Pin, Settled, Leaving 
 use Rattle.tap_wire.specs.declared.frame.Body.{Body}
 use Rattle.tap_wire.specs.declared.frame.Body.TheVariants.{Seek}
 use Rattle.tap_wire.specs.declared.frame.Frame.{Frame}
-use Rattle.tap_rule.specs.Node.{link_to}
+use Rattle.tap_rule.specs.Node.{NodeState, link_to}
 use Rattle.tap_safety.specs.Frames.{hello_body, tell_body}
 use Rattle.tap_safety.specs.System.{System, IsJoiner, IsTold, IsUnderWay}
 use Rattle.tap_safety.specs.Words.{Has}
-use Rattle.tap_safety.specs.Step.{numbered_from}
+use Rattle.tap_safety.specs.Step.{ChangesAt, numbered_from}
 use Rattle.tap_safety.specs.Seeking.{HasNode, IsSeeker}
 use Rattle.tap_safety.specs.Soft.{AreQuiet, IsQuietBody, IsSoft, IsSoundLink}
 use Rattle.tap_safety.specs.SeekerSteps.{AmongSeeks, LeavesSeekers, LeavesTells}
@@ -26,6 +26,38 @@ pub sound_soft : (s : System) (t : List ℕ) (kind : Kind) → IsSoundLink s t k
 sound_soft s t Pin sound = sound
 sound_soft s t Settled sound = inr (inl sound)
 sound_soft s t Marked sound = absurd sound
+
+-- what a step at one node leaves of the nodes; and of a joining node that isn't started, if statuses stay, and its surrogate
+module _ (s s' : System) (x : List ℕ) (before after : NodeState) (at : ChangesAt s s' x before after) where
+  pub node_stays : (y : List ℕ) → HasNode s y → HasNode s' y
+  node_stays y node =
+      elim (node_after s s' x before after at y node.state node.is) [
+        | inl here ↦ record { state = after; is = here.2 }
+        | inr there ↦ record { state = node.state; is = there }
+      ]
+
+  module _ (status : after.status ≡ before.status) (y : List ℕ) (surrogate : s'.surrogate y ≡ s.surrogate y) where
+    pub seeker_stays : IsSeeker s y → IsSeeker s' y
+    seeker_stays seeker =
+        let waits = surrogate ∙ seeker.waits in
+        elim (node_after s s' x before after at y seeker.state seeker.is) [
+          | inl here ↦
+              let same = here.1 in
+              let joining = seeker.joining in
+              record { state = after; is = here.2; joining = cc; waits = waits }
+          | inr there ↦ record { state = seeker.state; is = there; joining = seeker.joining; waits = waits }
+        ]
+
+    pub seeker_back : IsSeeker s' y → IsSeeker s y
+    seeker_back seeker =
+        let waits = sym surrogate ∙ seeker.waits in
+        elim (node_before s s' x before after at y seeker.state seeker.is) [
+          | inl here ↦
+              let same = here.1 in
+              let joining = seeker.joining in
+              record { state = before; is = here.2; joining = cc; waits = waits }
+          | inr there ↦ record { state = seeker.state; is = there; joining = seeker.joining; waits = waits }
+        ]
 
 module _ (s s' : System) (number : ℕ) (frame : Frame) (step : TakesFrame s s' number frame) where
   -- joiners are as before
@@ -51,35 +83,13 @@ module _ (s s' : System) (number : ℕ) (frame : Frame) (step : TakesFrame s s' 
 
   -- so are seekers
   pub seeker_on : (x : List ℕ) → IsSeeker s x → IsSeeker s' x
-  seeker_on x seeker =
-      let waits = step.surrogate x ∙ seeker.waits in
-      elim (node_after s s' frame.to step.before step.after step.at x seeker.state seeker.is) [
-        | inl here ↦
-            let same = here.1 in
-            let joining = seeker.joining in
-            let status = step.stays.status in
-            record { state = step.after; is = here.2; joining = cc; waits = waits }
-        | inr there ↦ record { state = seeker.state; is = there; joining = seeker.joining; waits = waits }
-      ]
+  seeker_on x = seeker_stays s s' frame.to step.before step.after step.at step.stays.status x (step.surrogate x)
 
   pub seeker_was : (x : List ℕ) → IsSeeker s' x → IsSeeker s x
-  seeker_was x seeker =
-      let waits = sym (step.surrogate x) ∙ seeker.waits in
-      elim (node_before s s' frame.to step.before step.after step.at x seeker.state seeker.is) [
-        | inl here ↦
-            let same = here.1 in
-            let joining = seeker.joining in
-            let status = step.stays.status in
-            record { state = step.before; is = here.2; joining = cc; waits = waits }
-        | inr there ↦ record { state = seeker.state; is = there; joining = seeker.joining; waits = waits }
-      ]
+  seeker_was x = seeker_back s s' frame.to step.before step.after step.at step.stays.status x (step.surrogate x)
 
   pub node_on : (y : List ℕ) → HasNode s y → HasNode s' y
-  node_on y node =
-      elim (node_after s s' frame.to step.before step.after step.at y node.state node.is) [
-        | inl here ↦ record { state = step.after; is = here.2 }
-        | inr there ↦ record { state = node.state; is = there }
-      ]
+  node_on = node_stays s s' frame.to step.before step.after step.at
 
   module _ (quiet : AreQuiet s' frame.to step.messages) where
     -- what comes is quiet

@@ -39,7 +39,7 @@ abbrev pub NoLinkTo : List Frame → List ℕ → Type 0
 NoLinkTo sent t =
     (from : List ℕ) (version : ℕ) (on : Bool) → IsAmong (record { from = from; to = t; body = Link version on }) sent → ⊥
 
-last_cases : (sent : List Frame) (t : List ℕ) (before : Option Word) → ((last_after sent t before ≡ before) × NoLinkTo sent t)
+pub last_cases : (sent : List Frame) (t : List ℕ) (before : Option Word) → ((last_after sent t before ≡ before) × NoLinkTo sent t)
     ⊎ ((word : Word) × (last_after sent t before ≡ Some word) × HasLinkTo sent t word)
 unfolding last_after
 last_cases [] t before = inl (refl, λ from version on among. absurd among)

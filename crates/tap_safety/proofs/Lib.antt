@@ -25,6 +25,8 @@ pub mod Exchange
 pub mod Turns
 pub mod SessionsKept
 pub mod SessionLaws
+pub mod Apart
+pub mod AwaitedKept
 pub mod TiesKept
 pub mod VersionsKept
 pub mod TiesLaws
@@ -44,6 +46,13 @@ pub mod TellFilled
 pub mod RootSteps
 pub mod SeatSoft
 pub mod SeekOn
+pub mod CountedKept
+pub mod AtRest
+pub mod Rest
+pub mod Known
+pub mod Peace
+pub mod NoticesKept
+pub mod CoverSeeking
 pub mod FromInvariant
 pub mod JoinSeeking
 pub mod StepLaws

@@ -1,7 +1,7 @@
 -- What a move leaves of frames, nodes and words.
-use Rattle.std.proofs.Common.{◌≡◌, inl, inr, ℕ, ◌+◌, ◌<◌, ◌≤◌, true, false, List, [], ◌∷◌, ◌++◌, ◌⊎◌, Option, Some, length, arith, refl, sym, ap, ◌∙◌, eqb}
+use Rattle.std.proofs.Common.{◌≡◌, inl, inr, ℕ, ◌+◌, ◌<◌, ◌≤◌, true, false, List, [], ◌∷◌, ◌++◌, ◌⊎◌, Option, None, Some, length, arith, refl, sym, ap, ◌∙◌, eqb}
 use Rattle.std.proofs.lemmas.Bool.{cases_Bool, eqb-true, eq-eqb, ne_eqb}
-use Rattle.std.proofs.lemmas.List.{append_assoc}
+use Rattle.std.proofs.lemmas.List.{append_assoc, append-nil}
 use Rattle.std.proofs.lemmas.Slice.Eq.{bytes_eq-Decides}
 use Rattle.std.specs.Prelude.{bytes_eq}
 use Rattle.tap_name.specs.Settings.{SettingsValue}
@@ -14,7 +14,8 @@ use Rattle.tap_safety.specs.Remembered.{Word}
 use Rattle.tap_safety.specs.System.{System, AmongFrames}
 use Rattle.tap_safety.specs.Step.{AreNumbered, Ascend, HasSent, IsTaken, numbered_from, with_at}
 use Rattle.tap_safety.specs.Move.Move.{Begins, Delivers}
-use Rattle.tap_safety.specs.Moved.{IsDelivered, IsStarted, has_begun, has_taken, last_after, moved, numbered_frame, starter, without_frame, words_with}
+use Rattle.tap_safety.specs.Moved.{IsDelivered, IsLost, IsStarted, has_begun, has_taken, last_after, moved, numbered_frame, starter, until_rest, without}
+use Rattle.tap_safety.specs.Moved.{without_frame, words_with}
 
 -- ---- one name changes
 
@@ -194,6 +195,31 @@ module _ (p : SettingsValue) (s : System) (number : ℕ) (frame : Frame) (node :
           words = words_here s.last frame.to acted.sent;
           others_words = words_others s.last frame.to acted.sent;
         });
+      }
+
+-- what is left of a frame that nobody takes
+module _ (p : SettingsValue) (s : System) (number : ℕ) (frame : Frame)
+    (is : numbered_frame number s.frames ≡ Some frame) (nobody : s.node frame.to ≡ None) where
+  after_lost : moved p s (Delivers number) ≡ until_rest (without s number)
+  unfolding moved
+  after_lost = rw (is, nobody) refl
+
+  pub lost : IsLost p s number frame
+  lost =
+      let cut = split number frame s.frames is in
+      let there = after_lost in
+      record {
+        taken = rw there (record {
+          front = cut.front;
+          back = cut.back;
+          before = cut.is;
+          after = cut.rest ∙ sym (ap (λ gs. cut.front ++ gs) (append-nil cut.back));
+          next = omega arith;
+        });
+        node = λ x. rw there refl;
+        words = λ x t. rw there refl;
+        surrogate = λ b. rw there refl;
+        session = λ x k. rw there refl;
       }
 
 -- what a node has started

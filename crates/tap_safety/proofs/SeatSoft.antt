@@ -84,10 +84,10 @@ module _ (p : SettingsValue) (s s' : System) (number : ℕ) (w x b : List ℕ) (
                 ]
           ]
 
-  softs : (y : List ℕ) → IsSoft s y → IsSoft s' y
-  softs y (inl joiner) = inl (joiner_on y joiner)
-  softs y (inr (inl core)) = inr (inl (core_kept s s' x step.before step.after step.at step.covers.status y core))
-  softs y (inr (inr ceased)) =
+  pub seat_softs : (y : List ℕ) → IsSoft s y → IsSoft s' y
+  seat_softs y (inl joiner) = inl (joiner_on y joiner)
+  seat_softs y (inr (inl core)) = inr (inl (core_kept s s' x step.before step.after step.at step.covers.status y core))
+  seat_softs y (inr (inr ceased)) =
       inr (inr (elim (node_after s s' x step.before step.after step.at y ceased.state ceased.is) [
         | inl here ↦
             let same = here.1 in
@@ -99,7 +99,7 @@ module _ (p : SettingsValue) (s s' : System) (number : ℕ) (w x b : List ℕ) (
 
   pub seat_soft : SendsSound s' step.sent → NamesSoft s → NamesSoft s'
   seat_soft sound soft =
-      soft_kept s s' (core_kept s s' x step.before step.after step.at step.covers.status) softs
+      soft_kept s s' (core_kept s s' x step.before step.after step.at step.covers.status) seat_softs
       (links_sound s s' x step.before step.after step.at new) ways soft
     where
       new : (t : List ℕ) (kind : Kind) → link_to step.after t ≡ Some kind

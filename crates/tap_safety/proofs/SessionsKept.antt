@@ -65,7 +65,7 @@ has_at : (frames : List (ℕ × Frame)) (n : ℕ) (y x : List ℕ) (m l : ℕ) �
 has_at frames n y x m l node number has =
     record { frame = has.frame; among = has.among; belongs = belongs_to has.frame y x m l node number has.belongs }
 
-tokens_at : (one two : OpenSession) → one ≡ two → (token : Token) → AmongTokens token one.awaits → AmongTokens token two.awaits
+pub tokens_at : (one two : OpenSession) → one ≡ two → (token : Token) → AmongTokens token one.awaits → AmongTokens token two.awaits
 tokens_at one two same token among = rw (← same) among
 
 way_number : (n m : ℕ) → Way n ≡ Way m → n ≡ m

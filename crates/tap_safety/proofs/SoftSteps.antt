@@ -99,37 +99,37 @@ known_soft s s' number w x tell watch step sound soft =
           | inr sends ↦ inr (sound from to body sends)
         ]
 
--- a Done: the joiner is core now
+-- a Done: soft nodes stay so, since the joiner is core now
+pub done_softs : (s s' : System) (number : ℕ) (w e : List ℕ) → TakesDone s s' number w e → (y : List ℕ) → IsSoft s y → IsSoft s' y
+done_softs s s' number w e step y (inr (inl core)) = inr (inl (core_on s s' number w e step y core))
+done_softs s s' number w e step y (inl joiner) =
+    elim (node_after s s' e step.before step.after step.at y joiner.state joiner.is) [
+      | inl here ↦ inr (inl (record { state = step.after; is = here.2; core = inl step.is }))
+      | inr there ↦
+          inl (record {
+            state = joiner.state;
+            is = there;
+            joining = joiner.joining;
+            surrogate = joiner.surrogate;
+            started = step.surrogate y ∙ joiner.started;
+          })
+    ]
+done_softs s s' number w e step y (inr (inr ceased)) =
+    elim (node_after s s' e step.before step.after step.at y ceased.state ceased.is) [
+      | inl here ↦
+          let was = step.was in
+          let at : ceased.state.status ≡ step.before.status = ap (λ n. n.status) here.1 in
+          let no : HasCeased ≡ Joining = sym ceased.ceased ∙ at ∙ was in
+          cc
+      | inr there ↦ inr (inr (record { state = ceased.state; is = there; ceased = ceased.ceased }))
+    ]
+
 pub done_soft : (s s' : System) (number : ℕ) (w e : List ℕ) (step : TakesDone s s' number w e) → SendsSound s' step.sent → NamesSoft s
     → NamesSoft s'
 done_soft s s' number w e step sound soft =
-    soft_kept s s' (core_on s s' number w e step) softs
+    soft_kept s s' (core_on s s' number w e step) (done_softs s s' number w e step)
     (links_sound s s' e step.before step.after step.at (λ t kind now. inl (sym (step.links t) ∙ now))) ways soft
   where
-    softs : (y : List ℕ) → IsSoft s y → IsSoft s' y
-    softs y (inr (inl core)) = inr (inl (core_on s s' number w e step y core))
-    softs y (inl joiner) =
-        elim (node_after s s' e step.before step.after step.at y joiner.state joiner.is) [
-          | inl here ↦ inr (inl (record { state = step.after; is = here.2; core = inl step.is }))
-          | inr there ↦
-              inl (record {
-                state = joiner.state;
-                is = there;
-                joining = joiner.joining;
-                surrogate = joiner.surrogate;
-                started = step.surrogate y ∙ joiner.started;
-              })
-        ]
-    softs y (inr (inr ceased)) =
-        elim (node_after s s' e step.before step.after step.at y ceased.state ceased.is) [
-          | inl here ↦
-              let was = step.was in
-              let at : ceased.state.status ≡ step.before.status = ap (λ n. n.status) here.1 in
-              let no : HasCeased ≡ Joining = sym ceased.ceased ∙ at ∙ was in
-              cc
-          | inr there ↦ inr (inr (record { state = ceased.state; is = there; ceased = ceased.ceased }))
-        ]
-
     ways : (from to : List ℕ) (body : Body) → IsUnderWay s' from to body → IsUnderWay s from to body ⊎ IsSoundBody s' from to body
     ways from to body way =
         elim (was_under_way s s' number (record { from = w; to = e; body = Done }) step.sent step.taken from to body way) [

@@ -1,5 +1,6 @@
 -- What the steps keep that change no cover, and what moves are.
 use Rattle.tap_safety.specs.StepLaws.{InvariantGivesBefore, InvariantGivesQuiet, InvariantGivesSeat, InvariantGivesTell}
+use Rattle.tap_safety.specs.StepLaws.{SeekingKeptByDone, SeekingKeptByKnownTell, SeekingKeptBySeat, SeekingKeptByTell}
 use Rattle.tap_safety.specs.StepLaws.{JoinerIsNewBySeat, JoinsKeptByRoot, SeekingKeptBySeek, SoftKeptBySeat}
 use Rattle.tap_safety.specs.StepLaws.{CeasedKeptByWords, TiesKeptByWords, VersionsKeptByWords}
 use Rattle.tap_safety.specs.StepLaws.{JoinsKeptByClosing, JoinsKeptByHandingOn, JoinsKeptByLastAnswer, JoinsKeptByOpening}
@@ -8,6 +9,8 @@ use Rattle.tap_safety.specs.StepLaws.{SoftKeptByTellCeased, SoftKeptByTellJoinin
 use Rattle.tap_safety.specs.StepLaws.{FilledKeptByDone, JoinersStayByFrame, SeekingKeptByFrame, SoftKeptByDone, SoftKeptByJoin}
 use Rattle.tap_safety.specs.StepLaws.{SoftKeptByKnownTell, SoftKeptByStart, SoftKeptByTell, TellsKeptByFrame}
 use Rattle.tap_safety.specs.StepLaws.{AwaitKeptByClosing, AwaitKeptByHandingOn, AwaitKeptByLastAnswer, AwaitKeptByOpening}
+use Rattle.tap_safety.specs.StepLaws.{AwaitedKeptByClosing, AwaitedKeptByHandingOn, AwaitedKeptByLastAnswer, AwaitedKeptByOpening}
+use Rattle.tap_safety.specs.StepLaws.{AwaitedKeptByOthers, AwaitedKeptByRoot, NumbersAreNew}
 use Rattle.tap_safety.specs.StepLaws.{AwaitKeptByOthers, AwaitKeptByRoot, ClosingTurns, DepthsKeptByTurn, HandingOnTurns}
 use Rattle.tap_safety.specs.StepLaws.{LastAnswerTurns, OpeningTurns, PlacesKeptByTurn, RootTurns}
 use Rattle.tap_safety.specs.StepLaws.{FilledKeptByKnownTell, FilledKeptBySeat, FilledKeptByTell, FramesAreExchanged, SeekingKeptByJoin, WordsSaidByFrame}
@@ -30,6 +33,7 @@ use Rattle.tap_safety.specs.StepLaws.{
   SessionsKeptByOthers,
   SessionsKeptByRoot,
   StartIsStep,
+  StrayIsLost,
 }
 use Rattle.tap_safety.proofs.FrameKeeps.{ceased_filled, joining_filled, plain_filled}
 use Rattle.tap_safety.proofs.Exchanged.{exchanged}
@@ -39,6 +43,8 @@ use Rattle.tap_safety.proofs.FrameWords.{frame_forgets, frame_says}
 use Rattle.tap_safety.proofs.RootSteps.{root_ends, root_joiners}
 use Rattle.tap_safety.proofs.FromInvariant.{before_done, before_seat, before_tell, quiet_of, tell_of}
 use Rattle.tap_safety.proofs.SeekOn.{goes_on_seekers, goes_on_seeking}
+use Rattle.tap_safety.proofs.CoverSeeking.{done_leaves_seekers, done_tells, known_leaves_seekers, known_leaves_tells}
+use Rattle.tap_safety.proofs.CoverSeeking.{seat_leaves_seekers, seat_leaves_tells, tell_leaves_seekers, tell_leaves_tells}
 use Rattle.tap_safety.proofs.SeatSoft.{joiner_is_new, seat_soft}
 use Rattle.tap_safety.proofs.TellFilled.{filled_known, filled_tell}
 use Rattle.tap_safety.proofs.SeekFilled.{filled_seat}
@@ -50,7 +56,8 @@ use Rattle.tap_safety.proofs.SeekingKept.{seekers_kept, seeking_kept, tells_kept
 use Rattle.tap_safety.proofs.SoftKept.{ceased_soft, forget_soft, hello_soft, joining_soft, plain_soft, release_soft}
 use Rattle.tap_safety.proofs.WordsKept.{words_ceased, words_ties, words_versions}
 use Rattle.tap_safety.proofs.LinkKeeps.{forget_filled, forget_way, hello_filled, release_filled}
-use Rattle.tap_safety.proofs.Moves.{delivers, found, numbers_sent, numbers_taken, starts}
+use Rattle.tap_safety.proofs.AwaitedKept.{closed_awaited, handed_on_awaited, last_awaited, left_awaited, opened_awaited, root_awaited}
+use Rattle.tap_safety.proofs.Moves.{ascend_numbered, delivers, found, lost, numbers_sent, numbers_taken, starts}
 use Rattle.tap_safety.proofs.PlacesKept.{closes_child_await, closes_root_await, deeper_kept, hands_on_await, leaves_await}
 use Rattle.tap_safety.proofs.PlacesKept.{opens_child_await, opens_root_await, places_kept}
 use Rattle.tap_safety.proofs.SessionsKept.{closes_child_turns, closes_root_turns, hands_on_turns, opens_child_turns, opens_root_turns}
@@ -59,6 +66,9 @@ use Rattle.tap_safety.proofs.StartKeeps.{join_filled, start_filled}
 
 pub delivery_law : DeliveryIsStep
 delivery_law p s number frame node is at = delivers p s number frame node is at
+
+pub stray_law : StrayIsLost
+stray_law p s number frame is nobody = lost p s number frame is nobody
 
 pub start_is_law : StartIsStep
 start_is_law p s x start node is = starts p s x start node is
@@ -111,6 +121,29 @@ last_answer_law s s' number f x k sent step sound = last_exact s s' number f x k
 
 pub others_law : SessionsKeptByOthers
 others_law s s' step sound = left_exact s s' step sound
+
+pub awaited_handing_on_law : AwaitedKeptByHandingOn
+awaited_handing_on_law s s' number f w k sent step new exact numbered sound =
+    handed_on_awaited s s' number f w k sent step s'.next exact numbered new sound
+
+pub awaited_opening_law : AwaitedKeptByOpening
+awaited_opening_law s s' number f w k x l sent step new sound = opened_awaited s s' number f w k x l sent step s'.next new sound
+
+pub awaited_root_law : AwaitedKeptByRoot
+awaited_root_law s s' number f x l sent step new sound = root_awaited s s' number f x l sent step s'.next new sound
+
+pub awaited_closing_law : AwaitedKeptByClosing
+awaited_closing_law s s' number f x k w m sent step new exact numbered sound =
+    closed_awaited s s' number f x k w m sent step s'.next exact numbered new sound
+
+pub awaited_last_law : AwaitedKeptByLastAnswer
+awaited_last_law s s' number f x k sent step sound = last_awaited s s' number f x k sent step sound
+
+pub awaited_others_law : AwaitedKeptByOthers
+awaited_others_law s s' step sound = left_awaited s s' step sound
+
+pub numbers_new_law : NumbersAreNew
+numbers_new_law s s' number frame sent taken = rw taken.next (ascend_numbered s.next sent)
 
 pub joins_handing_on_law : JoinsKeptByHandingOn
 joins_handing_on_law s s' number f w k sent step sound stay none about_them =
@@ -273,6 +306,33 @@ soft_seat_law p s s' number w x b step seeker sound soft = seat_soft p s s' numb
 pub seek_on_law : SeekingKeptBySeek
 seek_on_law s s' number w x b t goes are =
     (goes_on_seeking s s' number w x b t goes are, goes_on_seekers s s' number w x b t goes are)
+
+pub seeking_tell_law : SeekingKeptByTell
+seeking_tell_law p s s' number w x tell watch step core joiner sends =
+    let leaves = tell_leaves_seekers p s s' number w x tell watch joiner step sends core in (
+      (seeking_kept s s' leaves, seekers_kept s s' leaves),
+      tells_kept p s s' (tell_leaves_tells p s s' number w x tell watch joiner step sends),
+    )
+
+pub seeking_known_law : SeekingKeptByKnownTell
+seeking_known_law p s s' number w x tell watch step core joiner sends =
+    let leaves = known_leaves_seekers p s s' number w x tell watch joiner step sends core in (
+      (seeking_kept s s' leaves, seekers_kept s s' leaves),
+      tells_kept p s s' (known_leaves_tells p s s' number w x tell watch joiner step sends),
+    )
+
+pub seeking_seat_law : SeekingKeptBySeat
+seeking_seat_law p s s' number w x b step core seeker sends numbered seeking =
+    let leaves = seat_leaves_seekers p s s' number w x b step seeker sends core seeking numbered in (
+      seeking_kept s s' leaves seeking,
+      seekers_kept s s' leaves,
+      tells_kept p s s' (seat_leaves_tells p s s' number w x b step seeker sends),
+    )
+
+pub seeking_done_law : SeekingKeptByDone
+seeking_done_law p s s' number w e step quiet sends =
+    let leaves = done_leaves_seekers p s s' number w e step quiet.joiner sends in
+    ((seeking_kept s s' leaves, seekers_kept s s' leaves), done_tells p s s' number w e step quiet.joiner sends quiet)
 
 pub gives_tell_law : InvariantGivesTell
 gives_tell_law p s from x fields watch invariant way core = tell_of p s invariant from x fields watch way core

@@ -3,16 +3,17 @@ use Rattle.std.specs.Prelude.{◌≡◌, ℕ, ◌+◌, ◌<◌, ◌≤◌, List,
 use Rattle.tap_name.specs.Name.{IsName}
 use Rattle.tap_name.specs.Settings.{SettingsValue}
 use Rattle.tap_name.specs.declared.slot.Slot.{Slot}
+use Rattle.tap_link.specs.declared.kind.Kind.{Kind}
 use Rattle.tap_wire.specs.declared.frame.Frame.{Frame}
 use Rattle.tap_wire.specs.declared.frame.TellFields.{TellFields}
 use Rattle.tap_rule.specs.Node.{NodeState, Status}
 use Rattle.tap_rule.specs.Node.Status.{Joining, Core, Leaving, Gone, Ceased}
 use Rattle.tap_safety.specs.Frames.{tell_body}
 use Rattle.tap_safety.specs.Remembered.{OpenSession, Word}
-use Rattle.tap_safety.specs.System.{System, AmongFrames, IsCoreNode, IsUnderWay}
+use Rattle.tap_safety.specs.System.{System, AmongFrames, HasLink, IsCoreNode, IsUnderWay}
 use Rattle.tap_safety.specs.Sessions.{Belongs, IsOpen}
 use Rattle.tap_safety.specs.Seeking.{HasNode}
-use Rattle.tap_safety.specs.Ties.{word_frame}
+use Rattle.tap_safety.specs.Ties.{status_of, word_frame}
 
 -- an open session awaits an answer
 pub record Await (s : System) : Type 0 where
@@ -64,6 +65,10 @@ pub record AreStamped (s : System) : Type 0 where
       → AmongFrames number (word_frame x t word) s.frames → m ≡ number
   pub stamp : (x t : List ℕ) (word : Word) (state : NodeState) → s.node x ≡ Some state → has_table state.status
       → s.last x t ≡ Some word → word.version ≤ state.stamp
+
+-- a node that has ended has no link
+pub record EndedHaveNone (s : System) : Type 0 where
+  pub none : (x t : List ℕ) (kind : Kind) → HasLink s x t kind → (status_of s x ≡ Some Gone → ⊥) × (status_of s x ≡ Some Ceased → ⊥)
 
 -- some node is core
 pub record HasCore (s : System) : Type 0 where

@@ -5,20 +5,24 @@ use Rattle.tap_safety.specs.Step.{AreNumbered}
 use Rattle.tap_safety.specs.Soft.{NamesSoft}
 use Rattle.tap_safety.specs.Seeking.{AreOfSeekers, Seeking}
 use Rattle.tap_safety.specs.Sessions.{AreExact}
+use Rattle.tap_safety.specs.Awaited.{AreAwaitedOnce}
 use Rattle.tap_safety.specs.Joins.{AreOfJoiners, EndsOnce}
 use Rattle.tap_safety.specs.Tells.{TellsAreSound}
 use Rattle.tap_safety.specs.Filled.{AreFilled}
 use Rattle.tap_safety.specs.Ceased.{Ceased}
 use Rattle.tap_safety.specs.Ties.{Ties, Versions}
-use Rattle.tap_safety.specs.Bookkeeping.{AreStamped, Await, HasCore, HaveEnds, HaveNames, HavePlaces, TellsAreDeeper}
+use Rattle.tap_safety.specs.Bookkeeping.{AreStamped, Await, EndedHaveNone, HasCore, HaveEnds, HaveNames, HavePlaces, TellsAreDeeper}
 use Rattle.tap_safety.specs.Counted.{AreCountedSo}
 use Rattle.tap_safety.specs.Departing.{Departure}
+use Rattle.tap_safety.specs.Notices.{Notices}
+use Rattle.tap_safety.specs.Spelled.{AreAtMost, AreSpelled, most_names}
 
 pub record Invariant (p : SettingsValue) (s : System) : Type 0 where
   -- Settled, Seeking, Sessions
   pub soft : NamesSoft s
   pub seeking : Seeking s
   pub exact : AreExact s
+  pub awaited : AreAwaitedOnce s
   pub of_joiners : AreOfJoiners s
   pub tells : TellsAreSound p s
   pub counted : AreCountedSo s
@@ -28,6 +32,7 @@ pub record Invariant (p : SettingsValue) (s : System) : Type 0 where
   pub ceased : Ceased s
   pub ties : Ties s
   pub departure : Departure s
+  pub notices : Notices s
   -- seekers, ends of joins, bookkeeping, versions, and the numbers of the frames
   pub seekers : AreOfSeekers s
   pub ends_once : EndsOnce s
@@ -37,7 +42,10 @@ pub record Invariant (p : SettingsValue) (s : System) : Type 0 where
   pub ends : HaveEnds s
   pub versions : Versions s
   pub stamped : AreStamped s
+  pub ended : EndedHaveNone s
   pub has_core : HasCore s
   pub numbered : AreNumbered s
-  -- names
+  -- names and spellings
   pub names : HaveNames p s
+  pub few : AreAtMost s most_names
+  pub spelled : AreSpelled p s

@@ -12,6 +12,7 @@ pub mod TellStep
 pub mod DoneStep
 pub mod Sessions
 pub mod SessionSteps
+pub mod Awaited
 pub mod Turns
 pub mod Joins
 pub mod Ties
@@ -21,11 +22,17 @@ pub mod Bookkeeping
 pub mod SeekerSteps
 pub mod Ceased
 pub mod WordSteps
+pub mod Spelled
 pub mod Move
 pub mod Turned
 pub mod Moved
 pub mod Counted
+pub mod CountSteps
 pub mod Departing
+pub mod Notices
 pub mod Invariant
+pub mod AtRest
+pub mod Rest
 pub mod StepLaws
+pub mod KnownLaws
 pub mod Laws

@@ -8,16 +8,19 @@ use Rattle.tap_rule.specs.Node.Status.{Joining, Core}
 use Rattle.tap_rule.specs.Event.{Start}
 use Rattle.tap_rule.specs.Event.Start.{Join, Abandon, Leave}
 use Rattle.tap_safety.specs.System.{System, AmongFrames, IsCoreNode}
+use Rattle.tap_safety.specs.Seeking.{HasNode}
+use Rattle.tap_safety.specs.Spelled.{AreAtMost}
 
 -- a node starts something, or the frame of this number is taken
 pub data Move : Type 0 where
   Begins : List ℕ → Start → Move
   Delivers : ℕ → Move
 
--- a new name may join, by a core node, while nobody departs
+-- a new name may join, by a core node, while nobody departs, if one more name has room
 pub record MayJoin (p : SettingsValue) (s : System) (x via : List ℕ) : Type 0 where
   pub name : IsName p x
   pub fresh : s.node x ≡ None
+  pub room : AreAtMost s 255
   pub core : IsCoreNode s via
   pub none_departs : s.departing ≡ None
 
@@ -49,12 +52,13 @@ may_start p s x Abandon = MayGiveUp s x
 may_start p s x Leave = MayLeave s x
 may_start p s x other = MayAct s x
 
--- a frame of this number is under way
-pub record HasNumber (s : System) (number : ℕ) : Type 0 where
+-- a frame of this number is under way, and its receiver is a node
+pub record MayArrive (s : System) (number : ℕ) : Type 0 where
   pub frame : Frame
   pub among : AmongFrames number frame s.frames
+  pub receiver : HasNode s frame.to
 
 -- the move is possible
 abbrev pub may_move : SettingsValue → System → Move → Type 0
 may_move p s (Begins x start) = may_start p s x start
-may_move p s (Delivers number) = HasNumber s number
+may_move p s (Delivers number) = MayArrive s number

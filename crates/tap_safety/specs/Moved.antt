@@ -98,14 +98,17 @@ with_joins s t = record s {
   session = sessions_with s.session t;
 }
 
+-- the frame of this number is no longer under way
+abbrev pub without : System → ℕ → System
+without s number = record s { frames = without_frame number s.frames }
+
 abbrev pub has_taken : System → ℕ → Frame → NodeState → Acted → System
 has_taken s number frame node acted =
-    until_rest
-    (with_joins (has_acted (record s { frames = without_frame number s.frames }) frame.to acted)
-    (taking s number frame node acted))
+    until_rest (with_joins (has_acted (without s number) frame.to acted) (taking s number frame node acted))
 
+-- a frame whose receiver is no node goes, and does nothing: a move is for one whose receiver is a node
 abbrev pub received : System → ℕ → Frame → Option NodeState → System
-received s number frame None = s
+received s number frame None = until_rest (without s number)
 received s number frame (Some node) = has_taken s number frame node (act node (Takes frame))
 
 abbrev pub delivered : System → ℕ → Option Frame → System
@@ -129,6 +132,14 @@ pub record IsDelivered (p : SettingsValue) (s : System) (number : ℕ) (frame : 
   pub taken : IsTaken s (moved p s (Delivers number)) number frame (act node (Takes frame)).sent
   pub at : ChangesAt s (moved p s (Delivers number)) frame.to node (act node (Takes frame)).state
   pub done : HasDone s (moved p s (Delivers number)) frame.to (act node (Takes frame)).state (act node (Takes frame)).sent
+
+-- the frame of this number is taken by nobody: nothing is sent, and nothing else changes
+pub record IsLost (p : SettingsValue) (s : System) (number : ℕ) (frame : Frame) : Type 0 where
+  pub taken : IsTaken s (moved p s (Delivers number)) number frame []
+  pub node : (x : List ℕ) → (moved p s (Delivers number)).node x ≡ s.node x
+  pub words : (x t : List ℕ) → (moved p s (Delivers number)).last x t ≡ s.last x t
+  pub surrogate : (b : List ℕ) → (moved p s (Delivers number)).surrogate b ≡ s.surrogate b
+  pub session : (x : List ℕ) (k : ℕ) → (moved p s (Delivers number)).session x k ≡ s.session x k
 
 -- x starts something, which it then is so for and sends these
 pub record IsStarted (p : SettingsValue) (s : System) (x : List ℕ) (start : Start) (node : NodeState) : Type 0 where

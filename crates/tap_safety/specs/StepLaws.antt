@@ -9,15 +9,16 @@ use Rattle.tap_rule.specs.Node.{NodeState}
 use Rattle.tap_rule.specs.Event.{Start}
 use Rattle.tap_safety.specs.Frames.{HelloFields, tell_body}
 use Rattle.tap_safety.specs.System.{System, AmongFrames, IsCoreNode, IsJoiner, IsUnderWay}
-use Rattle.tap_safety.specs.Step.{AreNumbered, HasSent, IsTaken, numbered_from}
-use Rattle.tap_safety.specs.Moved.{HasDone, IsDelivered, IsStarted, numbered_frame, starter}
+use Rattle.tap_safety.specs.Step.{AreNumbered, Ascend, HasSent, IsTaken, numbered_from}
+use Rattle.tap_safety.specs.Moved.{HasDone, IsDelivered, IsLost, IsStarted, numbered_frame, starter}
 use Rattle.tap_safety.specs.Sessions.{AreExact, for_way, ways_of}
+use Rattle.tap_safety.specs.Awaited.{AreAwaitedOnce}
 use Rattle.tap_safety.specs.Turns.{Turns}
 use Rattle.tap_safety.specs.Bookkeeping.{AreStamped, Await, HavePlaces, KeepsPlaces, SendsDeeper, SendsIn, TellsAreDeeper, has_table}
 use Rattle.tap_safety.specs.Joins.{AreAbout, AreOfJoiners, EndsOnce, JoinerIsNew, JoinersStay, NoDoneAmong, SendsDone}
 use Rattle.tap_safety.specs.SessionSteps.{ClosesChild, ClosesRoot, Exchanges, HandsOn, LeavesSessions, OpensChild, OpensRoot}
 use Rattle.tap_safety.specs.Seeking.{AreOfSeekers, IsSeeker, Seeking}
-use Rattle.tap_safety.specs.SeekerSteps.{BeforeJoin, LeavesSeekers, LeavesTells, SeekGoesOn, SeeksBy}
+use Rattle.tap_safety.specs.SeekerSteps.{BeforeJoin, LeavesSeekers, LeavesTells, SeekGoesOn, SeeksBy, SendsCovers}
 use Rattle.tap_safety.specs.Soft.{AddsSoundLinks, AreQuiet, AreSound, NamesSoft, SendsSound}
 use Rattle.tap_safety.specs.DoneStep.{BeforeDone, DoneIsTaken, NothingOnWay, TakesDone}
 use Rattle.tap_safety.specs.SeekStep.{BeforeSeat, SeatsJoiner}
@@ -46,6 +47,11 @@ use Rattle.tap_safety.specs.FrameSteps.{
 abbrev pub DeliveryIsStep : Type 0
 DeliveryIsStep = (p : SettingsValue) (s : System) (number : ℕ) (frame : Frame) (node : NodeState)
     → numbered_frame number s.frames ≡ Some frame → s.node frame.to ≡ Some node → IsDelivered p s number frame node
+
+-- a frame to a name without a node is taken by nobody
+abbrev pub StrayIsLost : Type 0
+StrayIsLost = (p : SettingsValue) (s : System) (number : ℕ) (frame : Frame) → numbered_frame number s.frames ≡ Some frame
+    → s.node frame.to ≡ None → IsLost p s number frame
 
 -- who starts something acts by its rule
 abbrev pub StartIsStep : Type 0
@@ -117,6 +123,36 @@ SessionsKeptByLastAnswer = (s s' : System) (number : ℕ) (f : Frame) (x : List 
 
 abbrev pub SessionsKeptByOthers : Type 0
 SessionsKeptByOthers = (s s' : System) → LeavesSessions s s' → AreExact s → AreExact s'
+
+-- Each session that is open awaits each answer once, of sessions that are there: kept by the same kinds, if what is sent has new numbers.
+abbrev pub AwaitedKeptByHandingOn : Type 0
+AwaitedKeptByHandingOn = (s s' : System) (number : ℕ) (f : Frame) (w : List ℕ) (k : ℕ) (sent : List (ℕ × Frame))
+    → HandsOn s s' number f w k sent → Ascend s.next sent s'.next → AreExact s → AreNumbered s → AreAwaitedOnce s → AreAwaitedOnce s'
+
+abbrev pub AwaitedKeptByOpening : Type 0
+AwaitedKeptByOpening = (s s' : System) (number : ℕ) (f : Frame) (w : List ℕ) (k : ℕ) (x : List ℕ) (l : ℕ) (sent : List (ℕ × Frame))
+    → OpensChild s s' number f w k x l sent → Ascend s.next sent s'.next → AreAwaitedOnce s → AreAwaitedOnce s'
+
+abbrev pub AwaitedKeptByRoot : Type 0
+AwaitedKeptByRoot = (s s' : System) (number : ℕ) (f : Frame) (x : List ℕ) (l : ℕ) (sent : List (ℕ × Frame))
+    → OpensRoot s s' number f x l sent → Ascend s.next sent s'.next → AreAwaitedOnce s → AreAwaitedOnce s'
+
+abbrev pub AwaitedKeptByClosing : Type 0
+AwaitedKeptByClosing = (s s' : System) (number : ℕ) (f : Frame) (x : List ℕ) (k : ℕ) (w : List ℕ) (m : ℕ) (sent : List (ℕ × Frame))
+    → ClosesChild s s' number f x k w m sent → Ascend s.next sent s'.next → AreExact s → AreNumbered s → AreAwaitedOnce s
+    → AreAwaitedOnce s'
+
+abbrev pub AwaitedKeptByLastAnswer : Type 0
+AwaitedKeptByLastAnswer = (s s' : System) (number : ℕ) (f : Frame) (x : List ℕ) (k : ℕ) (sent : List (ℕ × Frame))
+    → ClosesRoot s s' number f x k sent → AreAwaitedOnce s → AreAwaitedOnce s'
+
+abbrev pub AwaitedKeptByOthers : Type 0
+AwaitedKeptByOthers = (s s' : System) → LeavesSessions s s' → AreAwaitedOnce s → AreAwaitedOnce s'
+
+-- what a step sends has such numbers
+abbrev pub NumbersAreNew : Type 0
+NumbersAreNew = (s s' : System) (number : ℕ) (frame : Frame) (sent : List Frame) → IsTaken s s' number frame sent
+    → Ascend s.next (numbered_from s.next sent) s'.next
 
 -- ---- whose the sessions are, and the one end of each join
 
@@ -328,6 +364,30 @@ SoftKeptBySeat = (p : SettingsValue) (s s' : System) (number : ℕ) (w x b : Lis
 abbrev pub SeekingKeptBySeek : Type 0
 SeekingKeptBySeek = (s s' : System) (number : ℕ) (w x b t : List ℕ) → SeekGoesOn s s' number w x b t → AreNumbered s
     → (Seeking s → Seeking s') × (AreOfSeekers s → AreOfSeekers s')
+
+-- a Tell at a core node, a Seek at the surrogate, and a Done: joining nodes that aren't started stay unknown, and Tells sound, if what is
+-- sent is so
+abbrev pub KeepsSeekers : System → System → Type 0
+KeepsSeekers s s' = (Seeking s → Seeking s') × (AreOfSeekers s → AreOfSeekers s')
+
+abbrev pub SeekingKeptByTell : Type 0
+SeekingKeptByTell = (p : SettingsValue) (s s' : System) (number : ℕ) (w x : List ℕ) (tell : TellFields) (watch : List Slot)
+    → (step : TakesTell s s' number w x tell watch) → IsCoreNode s x → IsJoiner s tell.joiner → SendsCovers p s' step.sent
+    → KeepsSeekers s s' × (TellsAreSound p s → TellsAreSound p s')
+
+abbrev pub SeekingKeptByKnownTell : Type 0
+SeekingKeptByKnownTell = (p : SettingsValue) (s s' : System) (number : ℕ) (w x : List ℕ) (tell : TellFields) (watch : List Slot)
+    → (step : TakesKnownTell s s' number w x tell watch) → IsCoreNode s x → IsJoiner s tell.joiner → SendsCovers p s' step.sent
+    → KeepsSeekers s s' × (TellsAreSound p s → TellsAreSound p s')
+
+abbrev pub SeekingKeptBySeat : Type 0
+SeekingKeptBySeat = (p : SettingsValue) (s s' : System) (number : ℕ) (w x b : List ℕ) → (step : SeatsJoiner p s s' number w x b)
+    → IsCoreNode s x → IsSeeker s b → SendsCovers p s' step.sent → AreNumbered s → Seeking s
+    → Seeking s' × (AreOfSeekers s → AreOfSeekers s') × (TellsAreSound p s → TellsAreSound p s')
+
+abbrev pub SeekingKeptByDone : Type 0
+SeekingKeptByDone = (p : SettingsValue) (s s' : System) (number : ℕ) (w e : List ℕ) → (step : TakesDone s s' number w e)
+    → NothingOnWay s e → SendsCovers p s' step.sent → KeepsSeekers s s' × (TellsAreSound p s → TellsAreSound p s')
 
 -- ---- what the laws of steps ask for, from the invariant
 

@@ -1,15 +1,26 @@
-ghost use Rattle.tap_safety.specs.StepLaws.{DeliveryIsStep, NumberIsFound, NumbersKeptByFrame, NumbersKeptByStart, StartIsStep};
+ghost use Rattle.tap_safety.specs.AtRest.{InvariantAtRest};
+ghost use Rattle.tap_safety.specs.Rest.{RestHolds};
+ghost use Rattle.tap_safety.specs.CountSteps.{CountedKeptByAnswer, CountedKeptByAnswering, CountedKeptByClosing, CountedKeptByLastAnswer};
+ghost use Rattle.tap_safety.specs.CountSteps.{CountedKeptByOpening, CountedKeptByOthers, CountedKeptByRoot};
+ghost use Rattle.tap_safety.specs.KnownLaws.{CoreKept, EndedKept, EndsKeptByFrame, EndsKeptByStart, FewKept, FewKeptByJoin, NamesKept};
+ghost use Rattle.tap_safety.specs.KnownLaws.{DepartsUntilRest, FrameLeavesNotices, NoticesKeptBySteps};
+ghost use Rattle.tap_safety.specs.KnownLaws.{FrameIsAtPeace, NoticesKeptAtPeace, PeaceIsKept, SpelledKeptByFrame, SpelledKeptByStart};
+ghost use Rattle.tap_safety.specs.KnownLaws.{StampsKeptByFrame, StampsKeptByStart};
+ghost use Rattle.tap_safety.specs.StepLaws.{DeliveryIsStep, NumberIsFound, NumbersKeptByFrame, NumbersKeptByStart, StartIsStep, StrayIsLost};
 ghost use Rattle.tap_safety.specs.StepLaws.{FilledKeptByForget, FilledKeptByHello, FilledKeptByJoin, FilledKeptByPlainFrame};
 ghost use Rattle.tap_safety.specs.StepLaws.{FilledKeptByRelease, FilledKeptByStart, FilledKeptByTellCeased, FilledKeptByTellJoining};
 ghost use Rattle.tap_safety.specs.StepLaws.{SessionsKeptByClosing, SessionsKeptByHandingOn, SessionsKeptByLastAnswer};
 ghost use Rattle.tap_safety.specs.StepLaws.{SessionsKeptByOthers, SessionsKeptByRoot};
 ghost use Rattle.tap_safety.specs.StepLaws.{FilledKeptByDone, JoinersStayByFrame, SeekingKeptByFrame, SoftKeptByDone, SoftKeptByJoin};
 ghost use Rattle.tap_safety.specs.StepLaws.{SoftKeptByKnownTell, SoftKeptByStart, SoftKeptByTell, TellsKeptByFrame};
+ghost use Rattle.tap_safety.specs.StepLaws.{AwaitedKeptByClosing, AwaitedKeptByHandingOn, AwaitedKeptByLastAnswer, AwaitedKeptByOpening};
+ghost use Rattle.tap_safety.specs.StepLaws.{AwaitedKeptByOthers, AwaitedKeptByRoot, NumbersAreNew};
 ghost use Rattle.tap_safety.specs.StepLaws.{AwaitKeptByClosing, AwaitKeptByHandingOn, AwaitKeptByLastAnswer, AwaitKeptByOpening};
 ghost use Rattle.tap_safety.specs.StepLaws.{AwaitKeptByOthers, AwaitKeptByRoot, ClosingTurns, DepthsKeptByTurn, HandingOnTurns};
 ghost use Rattle.tap_safety.specs.StepLaws.{LastAnswerTurns, OpeningTurns, PlacesKeptByTurn, RootTurns};
 ghost use Rattle.tap_safety.specs.StepLaws.{FilledKeptByKnownTell, FilledKeptBySeat, FilledKeptByTell, FramesAreExchanged};
 ghost use Rattle.tap_safety.specs.StepLaws.{SeekingKeptByJoin, WordsSaidByFrame};
+ghost use Rattle.tap_safety.specs.StepLaws.{SeekingKeptByDone, SeekingKeptByKnownTell, SeekingKeptBySeat, SeekingKeptByTell};
 ghost use Rattle.tap_safety.specs.StepLaws.{InvariantGivesBefore, InvariantGivesQuiet, InvariantGivesSeat, InvariantGivesTell};
 ghost use Rattle.tap_safety.specs.StepLaws.{JoinerIsNewBySeat, JoinsKeptByRoot, SeekingKeptBySeek, SoftKeptBySeat};
 ghost use Rattle.tap_safety.specs.StepLaws.{CeasedKeptByWords, TiesKeptByWords, VersionsKeptByWords};
@@ -21,14 +32,15 @@ ghost use Rattle.tap_safety.specs.Laws.{CoverKeptByTell, CoveredKeptByTell, Hole
 ghost use Rattle.tap_safety.specs.Laws.{NoSessionWithoutRoot, OnlyTheLastFrameIsLeft, OnlyTheRootIsLeft, SessionsKeptByOpening};
 ghost use Rattle.tap_safety.specs.Laws.{CoverKeptByKnownTell, QuietOnceDone, TiesKeptByLink, VersionsKeptByLink};
 
-/// A move: a frame that is delivered is taken by its receiver, and who starts something acts by its rule; no other node changes, and
-/// frames keep numbers that ascend, by which they are found.
+/// A move: a frame that is delivered is taken by its receiver, or by nobody if that is no node, and who starts something acts by its rule;
+/// no other node changes, and frames keep numbers that ascend, by which they are found.
 ///
 /// It does nothing: its contract is the law.
 ///
 /// Rule: docs/PROTOCOL.md, "Steps of a node".
 pub fn move_law()
     ensures delivery { DeliveryIsStep }
+    ensures lost { StrayIsLost }
     ensures start { StartIsStep }
     ensures found { NumberIsFound }
     ensures numbers { NumbersKeptByFrame }
@@ -178,6 +190,49 @@ pub fn sessions_law()
     ensures quiet { QuietOnceDone }
 {}
 
+/// Each open session awaits each answer once, and no session that isn't there, after each kind of step: a frame is answered, a session is
+/// opened below another or as a root, one is closed by its last answer, or a step leaves them alone.
+///
+/// It does nothing: its contract is the law.
+///
+/// Rule: docs/PROTOCOL.md, "Covers of a node".
+pub fn awaits_law()
+    ensures handed_on { AwaitedKeptByHandingOn }
+    ensures opened { AwaitedKeptByOpening }
+    ensures seated { AwaitedKeptByRoot }
+    ensures closed { AwaitedKeptByClosing }
+    ensures last { AwaitedKeptByLastAnswer }
+    ensures others { AwaitedKeptByOthers }
+    ensures numbers { NumbersAreNew }
+{}
+
+/// The sessions that are remembered are those that the nodes keep, waiting for as many answers as are awaited, after each kind of step: a
+/// frame is answered, or is an answer, a session is opened below another or as a root, one is closed, or none changes.
+///
+/// It does nothing: its contract is the law.
+///
+/// Rule: docs/PROTOCOL.md, "Covers of a node".
+pub fn counts_law()
+    ensures answering { CountedKeptByAnswering }
+    ensures answer { CountedKeptByAnswer }
+    ensures opened { CountedKeptByOpening }
+    ensures seated { CountedKeptByRoot }
+    ensures closed { CountedKeptByClosing }
+    ensures last { CountedKeptByLastAnswer }
+    ensures others { CountedKeptByOthers }
+{}
+
+/// The members with which an overlay begins, each core with its ties at rest, and nothing under way, have the invariant; and whatever
+/// system has it, nothing of joins and departures is left in it while no frame is under way.
+///
+/// It does nothing: its contract is the law.
+///
+/// Rule: docs/PROTOCOL.md, "Nodes".
+pub fn rest_law()
+    ensures members { InvariantAtRest }
+    ensures rest { RestHolds }
+{}
+
 /// What the laws of Tells, Dones and Seeks ask for before the step: the invariant gives it, if nobody departs.
 ///
 /// It does nothing: its contract is the law.
@@ -212,6 +267,43 @@ pub fn bookkeeping_law()
     ensures await_others { AwaitKeptByOthers }
 {}
 
+/// Whatever the kind of step: nodes have names of the settings, there are no more of them, or by a join one more; frames have spellings,
+/// if those that are sent have; their ends are known, and apart; some node is core; a node that has ended has no link;
+/// and words are stamped.
+///
+/// It does nothing: its contract is the law.
+///
+/// Rule: docs/PROTOCOL.md, "Steps of a node".
+pub fn known_law()
+    ensures names { NamesKept }
+    ensures few { FewKept }
+    ensures one_more { FewKeptByJoin }
+    ensures spelled_frame { SpelledKeptByFrame }
+    ensures spelled_start { SpelledKeptByStart }
+    ensures ends_frame { EndsKeptByFrame }
+    ensures ends_start { EndsKeptByStart }
+    ensures core { CoreKept }
+    ensures ended { EndedKept }
+    ensures stamps_frame { StampsKeptByFrame }
+    ensures stamps_start { StampsKeptByStart }
+{}
+
+/// While nobody departs: a frame that is delivered leaves it so; a step that sends no notice keeps what is said of notices, and of
+/// departures, if it marks no link. Whoever departs does so until no frame is under way, and what is said of notices is kept meanwhile
+/// by a frame that is none, whose taker keeps its links, sends no notice, and says of no new link.
+///
+/// It does nothing: its contract is the law.
+///
+/// Rule: docs/PROTOCOL.md, "The start of a departure".
+pub fn peace_law()
+    ensures delivery { PeaceIsKept }
+    ensures notices { NoticesKeptAtPeace }
+    ensures frame { FrameIsAtPeace }
+    ensures until_rest { DepartsUntilRest }
+    ensures steps { NoticesKeptBySteps }
+    ensures other_frame { FrameLeavesNotices }
+{}
+
 /// A Link that is taken, and a step that says of each link that it changes: the last word of each node to each other one still stands if
 /// the links ask for it, and no word is above it; and what is said to nodes that join or have ceased is.
 ///
@@ -228,7 +320,8 @@ pub fn ties_law()
 {}
 
 /// A step that starts nobody and makes known only nodes that are started: joining nodes that aren't started stay unknown but for their one
-/// Seek; and Tells stay such, if it leaves covers, joiners and core nodes.
+/// Seek; and Tells stay such, if it leaves covers, joiners and core nodes. Both are kept by a Tell at a core node, a Seek at the
+/// surrogate, and a Done, if what is sent is so.
 ///
 /// It does nothing: its contract is the law.
 ///
@@ -240,4 +333,8 @@ pub fn seeking_law()
     ensures goes_on { SeekingKeptBySeek }
     ensures tells_frame { TellsKeptByFrame }
     ensures joiners { JoinersStayByFrame }
+    ensures tell { SeekingKeptByTell }
+    ensures known { SeekingKeptByKnownTell }
+    ensures seat { SeekingKeptBySeat }
+    ensures done { SeekingKeptByDone }
 {}

@@ -1,11 +1,11 @@
 -- The first digit that passes, as a loop finds it, and where a message stays for good.
-use Rattle.std.proofs.Common.{◌≡◌, ◌⊎◌, ◌↔◌, inl, inr, ℕ, ◌+◌, ◌-◌, ◌<◌, ◌≤◌, Bool, true, false, zero, suc, List, [], ◌∷◌, length, drop, get_or, All, Option, None, Some, arith, ap, sym, subst, refl, ◌∙◌, eqb, is_some}
-use Rattle.std.proofs.lemmas.Bool.{cases_Bool, cases_lt, eq-eqb, eqb-true, eqb-false, or_cases, true≢false}
+use Rattle.std.proofs.Common.{◌≡◌, ◌↔◌, inl, inr, ℕ, ◌+◌, ◌-◌, ◌<◌, ◌≤◌, Bool, true, false, zero, suc, List, [], ◌∷◌, length, drop, get_or, All, Option, None, Some, arith, sym, subst, refl, ◌∙◌, eqb, is_some}
+use Rattle.std.proofs.lemmas.Bool.{cases_Bool, eq-eqb, eqb-true, eqb-false, or_cases, true≢false}
 use Rattle.std.proofs.lemmas.List.{get_or-drop, length-drop}
 use Rattle.std.proofs.lemmas.List.Elements.{All-drop, All-head, All-tail}
 use Rattle.tap_name.specs.Cyclic.{first_from, next_digit}
 use Rattle.tap_name.specs.Name.{IsName}
-use Rattle.tap_name.proofs.Digits.{next_is}
+use Rattle.tap_name.proofs.Cyclic.{first_cyclic-passes}
 use Rattle.tap_table.specs.declared.next.Next.TheVariants.{Root}
 use Rattle.tap_table.specs.Next.{TakesOwnFrom, can_take, hop_to, next_from, primary_at, taken_digit}
 use Rattle.tap_table.specs.Table.{IsTable, TableValue}
@@ -17,36 +17,6 @@ taken_later base p left less digit is h = rw (is, h) refl
 pub taken_now : (base : ℕ) (p : ℕ → Bool) (left less digit : ℕ) → left ≡ suc less → p digit ≡ true
     → first_from base p left digit ≡ digit
 taken_now base p left less digit is h = rw (is, h) refl
-
--- a digit is one of those that are tried: as many as are left, cyclically from this one on
-abbrev IsTried : ℕ → ℕ → ℕ → ℕ → Type 0
-IsTried base target left digit = (digit ≤ target) × (target < digit + left) ⊎ (target + base < digit + left)
-
-tried_next : (base target left digit : ℕ) → digit < base → target < base → (digit ≡ target → ⊥) → IsTried base target (suc left) digit
-    → (next_digit base digit < base) × IsTried base target left (next_digit base digit)
-tried_next base target left digit below inside apart tried =
-    elim (next_is base digit below) [
-      | inl w ↦ elim tried [ inl here ↦ rw w.0 (w.1, inl (omega (arith, apart), omega arith)) | inr past ↦ rw w.0 (w.1, inr (omega arith)) ]
-      | inr w ↦ elim tried [ inl here ↦ absurd (apart (omega arith)) | inr past ↦ rw w.0 (omega arith, inl (omega arith, omega arith)) ]
-    ]
-
--- where one of those that are tried passes, the one that is found does
-found_passes : (base : ℕ) (passes : ℕ → Bool) (target : ℕ) → target < base → passes target ≡ true
-    → (left digit : ℕ) → digit < base → IsTried base target left digit → passes (first_from base passes left digit) ≡ true
-found_passes base passes target inside h zero digit below tried =
-    elim tried [ inl here ↦ absurd (omega arith) | inr past ↦ absurd (omega arith) ]
-found_passes base passes target inside h (suc left) digit below tried =
-    elim (cases_Bool (passes digit)) [
-      | inl e ↦ rw e e
-      | inr e ↦
-          let apart : digit ≡ target → ⊥ = λ same. true≢false (sym h ∙ ap passes (sym same) ∙ e) in
-          let next = tried_next base target left digit below inside apart tried in
-          rw e (found_passes base passes target inside h left (next_digit base digit) next.0 next.1)
-    ]
-
-all_tried : (base target digit : ℕ) → target < base → digit < base → IsTried base target base digit
-all_tried base target digit inside below =
-    elim (cases_lt target digit) [ inl past ↦ inr (omega arith) | inr here ↦ inl (here, omega arith) ]
 
 -- a digit that is taken and is not the owner's own leads to a hop
 leads_on : (found : Option (List ℕ)) (level : ℕ) → is_some found ≡ true → hop_to found level ≡ Root → ⊥
@@ -60,8 +30,7 @@ other_leads_on t level wanted valid inside below other =
     let own = get_or t.owner level 0 in
     let own_below = valid.owner.below level 0 (omega (arith, inside, valid.owner.len)) in
     let own_passes : can_take t level own ≡ true = rw (eq-eqb own own refl) refl in
-    let passes = found_passes t.settings.base (can_take t level) own own_below own_passes t.settings.base wanted below
-    (all_tried t.settings.base own wanted own_below below) in
+    let passes = first_cyclic-passes t.settings.base (can_take t level) own wanted own_below own_passes below in
     elim (or_cases (eqb own (taken_digit t level wanted)) (is_some (primary_at t level (taken_digit t level wanted))) passes) [
       | inl same ↦ absurd (true≢false (sym same ∙ other))
       | inr some ↦ some

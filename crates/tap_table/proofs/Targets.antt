@@ -1,16 +1,10 @@
 -- The targets of a table by name: they ascend, are all that have a link, and are no more than the rows.
-use Rattle.std.proofs.Common.{◌≡◌, ℕ, ◌≤◌, zero, suc, true, Some, List, [], ◌∷◌, length, map, slice_get, All, arith, ap, sym, refl, ◌∙◌, inl, inr}
-use Rattle.std.specs.Prelude.{bytes_eq}
-use Rattle.std.specs.Set.{is_member}
-use Rattle.std.proofs.lemmas.Bool.{cases_Bool}
+use Rattle.std.proofs.Common.{◌≡◌, ℕ, ◌≤◌, zero, suc, Some, List, [], ◌∷◌, length, map, slice_get, All, arith, ap, sym, ◌∙◌, inl, inr}
 use Rattle.std.proofs.lemmas.List.{get_or-map, length-map}
 use Rattle.std.proofs.lemmas.List.Elements.{All-head, All-tail}
-use Rattle.std.proofs.lemmas.Map.Made.{length-le_from_is_member}
-use Rattle.std.proofs.lemmas.Slice.Eq.{bytes_eq-Decides}
-use Rattle.std.proofs.lemmas.Cmp.{nat_list_eq_equiv}
 use Rattle.tap_name.specs.Names.{Among}
 use Rattle.tap_name.specs.Order.{AreAscending}
-use Rattle.tap_name.proofs.Membership.{IsDistinct-from_distinct}
+use Rattle.tap_name.proofs.Membership.{few_among}
 use Rattle.tap_name.proofs.Sorted.{distinct-from_ascending}
 use Rattle.tap_link.specs.declared.kind.Kind.{Kind}
 use Rattle.tap_link.specs.declared.kind.Kind.TheVariants.{Settled}
@@ -20,31 +14,6 @@ use Rattle.tap_table.specs.Table.{IsTable, Row, SlotLinks, TableValue, kind_in, 
 use Rattle.tap_table.proofs.ByName.{by_name-ascending, by_name_is_found, found_by_name}
 use Rattle.tap_table.proofs.Found.{link_to}
 use Rattle.tap_table.proofs.Listed.{found_has_row}
-
-member_among : (names : List (List ℕ)) (x : List ℕ) → is_member bytes_eq names x ≡ true → Among x names
-member_among [] x is = cc
-member_among (y ∷ names) x is =
-    elim (cases_Bool (bytes_eq x y)) [
-      | inl same ↦ inl ((bytes_eq-Decides x y).0 same)
-      | inr other ↦ inr (member_among names x (rw other at is))
-    ]
-
-among_member : (names : List (List ℕ)) (x : List ℕ) → Among x names → is_member bytes_eq names x ≡ true
-among_member [] x among = absurd among
-among_member (y ∷ names) x (inl same) = rw ((bytes_eq-Decides x y).1 same) refl
-among_member (y ∷ names) x (inr later) =
-    elim (cases_Bool (bytes_eq x y)) [
-      | inl same ↦ rw same refl
-      | inr other ↦ rw other (among_member names x later)
-    ]
-
--- distinct names that are all among others are no more than these
-few_among : (names others : List (List ℕ)) → AreAscending names → ((x : List ℕ) → Among x names → Among x others)
-    → length names ≤ length others
-few_among names others ascending all =
-    length-le_from_is_member nat_list_eq_equiv names others
-    (IsDistinct-from_distinct names (distinct-from_ascending names ascending))
-    (λ x is. among_member others x (all x (member_among names x is)))
 
 among_row : (all : List Row) (i : ℕ) (row : Row) → slice_get all i ≡ Some row → Among row.entry.target (map (λ r. r.entry.target) all)
 among_row [] i row got = cc
@@ -92,7 +61,7 @@ module _ (t : TableValue) where
     pub few_by_name : length (targets_by_name t) ≤ length (rows t)
     few_by_name =
         let len = length-map (rows t) (λ r. r.entry.target) in
-        let few = few_among (targets_by_name t) (map (λ r. r.entry.target) (rows t)) targets-ascending (λ name among.
+        let few = few_among (targets_by_name t) (map (λ r. r.entry.target) (rows t)) (distinct-from_ascending (targets_by_name t) targets-ascending) (λ name among.
         let kind = found_target (by_name t) name (by_name_is_found t valid) among in
         let row = found_has_row t valid name kind.0 kind.1 in
         among_row (rows t) row.0 _ row.1) in

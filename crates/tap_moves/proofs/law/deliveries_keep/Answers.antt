@@ -1,4 +1,4 @@
-use Rattle.tap_moves.proofs.MovesMade.{ceased_tell_keeps, delivery_is_by_rule, done_keeps, forget_keeps, hello_keeps, joining_tell_keeps, link_keeps, plain_keeps, release_keeps, tell_keeps}
+use Rattle.tap_moves.proofs.MovesMade.{ceased_tell_keeps, delivery_is_by_rule, done_keeps, forget_keeps, hello_keeps, joining_tell_keeps, known_tell_keeps, link_keeps, plain_keeps, release_keeps, seek_keeps, tell_keeps}
 use Rattle.tap_moves.proofs.law.deliveries_keep.Goals as goal
 
 pub returns-clause-by_rule : goal.returns-clause-by_rule
@@ -30,3 +30,9 @@ returns-clause-forget c = forget_keeps
 
 pub returns-clause-link : goal.returns-clause-link
 returns-clause-link c = link_keeps
+
+pub returns-clause-known_tell : goal.returns-clause-known_tell
+returns-clause-known_tell c = known_tell_keeps
+
+pub returns-clause-seek : goal.returns-clause-seek
+returns-clause-seek c = seek_keeps

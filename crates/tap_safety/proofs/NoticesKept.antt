@@ -1,0 +1,194 @@
+-- What is said of notices is kept by a step that takes none and sends none.
+use Rattle.std.proofs.Common.{◌≡◌, inl, inr, ℕ, true, false, List, [], ◌∷◌, ◌⊎◌, Option, None, Some, refl, sym, ap, ◌∙◌}
+use Rattle.std.proofs.lemmas.Bool.{true≢false}
+use Rattle.tap_wire.specs.declared.frame.Body.{Body}
+use Rattle.tap_wire.specs.declared.frame.Body.TheVariants.{Gone, Leave, Left, Link}
+use Rattle.tap_wire.specs.declared.frame.Frame.{Frame}
+use Rattle.tap_rule.specs.Act.{act}
+use Rattle.tap_rule.specs.Event.Event.{Takes}
+use Rattle.tap_rule.specs.Node.{NodeState}
+use Rattle.tap_rule.specs.Sending.{lay_frame}
+use Rattle.tap_safety.specs.Remembered.{Leaver}
+use Rattle.tap_safety.specs.System.{System, AmongFrames, IsUnderWay}
+use Rattle.tap_safety.specs.FrameSteps.{TakesFrame}
+use Rattle.tap_safety.specs.KnownLaws.{DepartsUntilRest, FrameLeavesNotices, NoticesKeptBySteps}
+use Rattle.tap_safety.specs.Moved.{delivered, departing_with, has_taken, moved, numbered_frame, received, without}
+use Rattle.tap_safety.specs.Notices.{HasOneNotice, IsAwaiting, IsBetween, IsNotice, IsNoticeless, LeavesNotices, Notices, UntilRest}
+use Rattle.tap_safety.specs.Step.{IsSent, numbered_from}
+use Rattle.tap_safety.specs.Ties.{link_in, link_of, status_in, status_of}
+use Rattle.tap_safety.proofs.SoftKept.{sent_each}
+use Rattle.tap_safety.proofs.TellKeeps.{node_after, node_before}
+use Rattle.tap_safety.proofs.Told.{among_out, among_sent, among_was, was_under_way}
+
+-- ---- who departs
+
+departing_so : (frames : List (ℕ × Frame)) (departing : Option Leaver)
+    → (departing_with frames departing ≡ None → (departing ≡ None) ⊎ (frames ≡ []))
+    × ((leaver : Leaver) → departing_with frames departing ≡ Some leaver → departing ≡ Some leaver)
+departing_so [] departing = (λ none. inr refl, λ leaver is. let no : None ≡ Some leaver = is in cc)
+departing_so (f ∷ fs) departing = (λ none. inl none, λ leaver is. is)
+
+delivered_so : (s : System) (number : ℕ) (frame : Option Frame) → UntilRest s (delivered s number frame)
+delivered_so s number None = (λ none. inl none, λ leaver is. is)
+delivered_so s number (Some frame) = by (s.node frame.to)
+  where
+    by : (node : Option NodeState) → UntilRest s (received s number frame node)
+    by None = departing_so (without s number).frames s.departing
+    by (Some node) = departing_so (has_taken s number frame node (act node (Takes frame))).frames s.departing
+
+pub until_rest_law : DepartsUntilRest
+unfolding moved
+until_rest_law p s number = delivered_so s number (numbered_frame number s.frames)
+
+-- ---- notices
+
+between_notice : (x a : List ℕ) (f : Frame) → IsBetween x a f → IsNotice f.body
+between_notice x a f (inl leave) = rw leave.1 tt
+between_notice x a f (inr left) = rw left tt
+
+module _ (s s' : System) (step : LeavesNotices s s') (notices : Notices s) where
+  way_was : (x t : List ℕ) (body : Body) → IsNotice body → IsUnderWay s' x t body → IsUnderWay s x t body
+  way_was x t body is way =
+      record { number = way.number; among = step.was way.number (record { from = x; to = t; body = body }) is way.among }
+
+  none_left : (x t : List ℕ) (body : Body) → s'.departing ≡ None → IsUnderWay s' x t body → IsNotice body → ⊥
+  none_left x t body none way is =
+      elim (step.until_rest.0 none) [
+        | inl before ↦ notices.none x t body before (way_was x t body is way) is
+        | inr rest ↦ rw rest at way.among
+      ]
+
+  pub one_kept : (x a : List ℕ) → IsAwaiting s' x a → HasOneNotice s' x a
+  one_kept x a awaiting =
+      let one = notices.one x a (step.awaited x a awaiting) in
+      record {
+        number = one.number;
+        frame = one.frame;
+        among = step.still one.number one.frame (between_notice x a one.frame one.between) one.among;
+        between = one.between;
+        only = λ m f among between. one.only m f (step.was m f (between_notice x a f between) among) between;
+      }
+
+  pub notices_stay : Notices s'
+  notices_stay = record {
+    none = none_left;
+    leaves = λ x a replacement way.
+        step.awaits x a (notices.leaves x a replacement (way_was x a (Leave replacement) tt way));
+    lefts = λ a x way. step.awaits x a (notices.lefts a x (way_was a x Left tt way));
+    one = one_kept;
+    gones = λ x t way. step.status x ∙ notices.gones x t (way_was x t Gone tt way);
+    answered = λ leaver a departs among none.
+        let before = step.until_rest.1 leaver departs in
+        let same = step.links leaver a before in
+        elim (notices.answered leaver a before among (λ awaiting. none (step.awaits leaver.name a awaiting))) [
+          | inl marked ↦ inl (same ∙ marked)
+          | inr unlinked ↦ inr (same ∙ unlinked)
+        ];
+    words = λ leaver x t version departs way.
+        elim (step.words x t version way) [
+          | inr new ↦ new
+          | inl old ↦
+              let so = notices.words leaver x t version (step.until_rest.1 leaver departs) old in
+              (λ leaving. so.0 (sym (step.status t) ∙ leaving), λ ceased. so.1 (sym (step.status t) ∙ ceased))
+        ];
+  }
+
+pub notices_step_law : NoticesKeptBySteps
+notices_step_law s s' step notices = notices_stay s s' step notices
+
+-- ---- a frame
+
+module _ (s s' : System) (number : ℕ) (frame : Frame) (step : TakesFrame s s' number frame)
+    (quiet : IsNoticeless s s' number frame step) where
+  awaits_on : (x a : List ℕ) → IsAwaiting s x a → IsAwaiting s' x a
+  awaits_on x a awaiting =
+      elim (node_after s s' frame.to step.before step.after step.at x awaiting.state awaiting.is) [
+        | inr there ↦ record { state = awaiting.state; is = there; leaving = awaiting.leaving; awaits = awaiting.awaits }
+        | inl here ↦
+            let same = here.1 in
+            let status = step.stays.status in
+            let leaving = awaiting.leaving in
+            record { state = step.after; is = here.2; leaving = cc; awaits = rw (quiet.awaited, ← same) awaiting.awaits }
+      ]
+
+  awaits_was : (x a : List ℕ) → IsAwaiting s' x a → IsAwaiting s x a
+  awaits_was x a awaiting =
+      elim (node_before s s' frame.to step.before step.after step.at x awaiting.state awaiting.is) [
+        | inr there ↦ record { state = awaiting.state; is = there; leaving = awaiting.leaving; awaits = awaiting.awaits }
+        | inl here ↦
+            let same = here.1 in
+            let status = step.stays.status in
+            let leaving = awaiting.leaving in
+            record { state = step.before; is = here.2; leaving = cc; awaits = rw (← quiet.awaited, ← same) awaiting.awaits }
+      ]
+
+  notice_still : (m : ℕ) (f : Frame) → IsNotice f.body → AmongFrames m f s.frames → AmongFrames m f s'.frames
+  notice_still m f is among =
+      elim (among_out m number f frame step.taken.front step.taken.back (numbered_from s.next step.sent) (rw step.taken.before at among)) [
+        | inl on ↦ rw step.taken.after on
+        | inr same ↦ absurd (quiet.taken (rw (← same.1) is))
+      ]
+
+  notice_was : (m : ℕ) (f : Frame) → IsNotice f.body → AmongFrames m f s'.frames → AmongFrames m f s.frames
+  notice_was m f is among =
+      elim (among_was m number f frame step.taken.front step.taken.back (numbered_from s.next step.sent) (rw step.taken.after at among)) [
+        | inl old ↦ rw step.taken.before old
+        | inr new ↦
+            absurd (sent_each frame.to step.words step.messages step.sent step.are (λ from to body. IsNotice body → ⊥)
+            (λ to version on wrong. wrong) (λ to object server level version on wrong. wrong) quiet.messages f.from f.to f.body
+            (among_sent s.next step.sent m f new) is)
+      ]
+
+  status_same : (y : List ℕ) → status_of s' y ≡ status_of s y
+  unfolding status_of
+  status_same y =
+      elim (step.at.others y) [
+        | inr same ↦ ap status_in same
+        | inl here ↦
+            let was : s.node y ≡ Some step.before = rw here step.at.was in
+            let now : s'.node y ≡ Some step.after = rw here step.at.is in
+            ap status_in now ∙ (ap (λ status. Some status) step.stays.status ∙ sym (ap status_in was))
+      ]
+
+  links_same : (y t : List ℕ) → link_of s' y t ≡ link_of s y t
+  unfolding link_of
+  links_same y t =
+      elim (step.at.others y) [
+        | inr same ↦ ap (λ node. link_in node t) same
+        | inl here ↦
+            let was : s.node y ≡ Some step.before = rw here step.at.was in
+            let now : s'.node y ≡ Some step.after = rw here step.at.is in
+            ap (λ node. link_in node t) now ∙ (quiet.links t ∙ sym (ap (λ node. link_in node t) was))
+      ]
+
+  -- no word of a new link comes
+  no_new_link : (x t : List ℕ) (version : ℕ) → IsSent step.sent x t (Link version true) → ⊥
+  no_new_link x t version sends =
+      elim (step.are.each (record { from = x; to = t; body = Link version true }) sends) [
+        | inl link ↦
+            let body : Link version true ≡ Link link.word.version link.word.on = ap (λ f. f.body) link.is in
+            let on : true ≡ link.word.on = cc in
+            true≢false (on ∙ quiet.off link.word link.among)
+        | inr (inl named) ↦ quiet.words named.message named.among version (sym (ap (λ f. f.body) named.is))
+        | inr (inr lay) ↦
+            let wrong : Link version true ≡ (lay_frame frame.to lay.lay).body = ap (λ f. f.body) lay.is in cc
+      ]
+
+  frame_leaves : LeavesNotices s s'
+  frame_leaves = record {
+    until_rest = quiet.until_rest;
+    awaits = awaits_on;
+    awaited = awaits_was;
+    still = notice_still;
+    was = notice_was;
+    status = status_same;
+    links = λ leaver a departs. links_same a leaver.name;
+    words = λ x t version way.
+        elim (was_under_way s s' number frame step.sent step.taken x t (Link version true) way) [
+          | inl old ↦ inl old
+          | inr sends ↦ absurd (no_new_link x t version sends)
+        ];
+  }
+
+pub frame_leaves_law : FrameLeavesNotices
+frame_leaves_law s s' number frame step quiet = frame_leaves s s' number frame step quiet

@@ -1,0 +1,10 @@
+pub mod Sending
+pub mod Pairs
+pub mod Lays
+pub mod Parents
+pub mod Steps
+pub mod Sound
+pub mod Finds
+pub mod Quiet
+pub mod Followed
+pub mod Ending

@@ -1,0 +1,5 @@
+pub mod Sender
+pub mod Step
+pub mod Sound
+pub mod States
+pub mod Pointing

@@ -1,0 +1,67 @@
+-- What each node keeps that takes steps, so that its parts may do what a rule asks, and each frame has a spelling.
+--
+-- Rule: docs/PROTOCOL.md, "Nodes".
+use Rattle.std.specs.Prelude.{◌≡◌, ◌≤◌, ◌&&◌, nat_lt, Bool, true, false, [], length, All, IfSome}
+use Rattle.tap_name.specs.Name.{IsName}
+use Rattle.tap_name.specs.Settings.{SettingsValue}
+use Rattle.tap_session.specs.declared.parent.Parent.{Parent}
+use Rattle.tap_session.specs.declared.parent.Parent.TheVariants.{Root, Node}
+use Rattle.tap_session.specs.Session.{SessionsValue}
+use Rattle.tap_table.specs.Table.{rows}
+use Rattle.tap_pointer.specs.Pointers.{PointersValue, held_or_laid_count}
+use Rattle.tap_pointer.specs.Reconcile.{AreLaid}
+use Rattle.tap_rule.specs.Kept.{IsNode}
+use Rattle.tap_rule.specs.Node.{NodeState, Status, settings_of}
+use Rattle.tap_rule.specs.Node.Status.{Joining, Core, Leaving, Gone, Ceased}
+use Rattle.tap_rule.specs.Strange.{is_strange, most_links_kept}
+use Rattle.tap_wire.specs.declared.frame.Frame.{Frame}
+use Rattle.tap_wire.specs.Spelling.{IsFrame, IsLevel}
+
+-- whoever asked is a name, and its session has a number
+abbrev pub IsParent : SettingsValue → Parent → Type 0
+IsParent p (Root joiner) = IsName p joiner
+IsParent p (Node name session) = IsName p name × (1 ≤ session)
+
+abbrev pub HaveParents : SettingsValue → SessionsValue → Type 0
+HaveParents p sessions = All (λ s. IsParent p s.parent) sessions.sessions
+
+-- the object and the server of each pair are names
+abbrev pub AreNamedPairs : SettingsValue → PointersValue → Type 0
+AreNamedPairs p pointers = All (λ e. IsName p e.0.object × IsName p e.0.server) pointers.pairs
+
+-- each pair that is laid on is so to a name, which goes on at a level
+abbrev pub AreNamedHops : SettingsValue → PointersValue → Type 0
+AreNamedHops p pointers = All (λ e. IfSome e.1.laid (λ hop. IsName p hop.to × IsLevel p hop.level)) pointers.pairs
+
+-- numbers are left for a step: fewer sessions of joins and of casts were opened, and fewer numbers given, than these, and
+-- fewer pairs are held or laid
+abbrev pub has_numbers_left : NodeState → Bool
+has_numbers_left node =
+    nat_lt node.sessions.opened 500000 && nat_lt node.cast_sessions.opened 500001 && nat_lt node.stamp 4000000000
+    && nat_lt (held_or_laid_count node.pointers.pairs) 10000000
+
+-- a node that may know of pairs
+abbrev pub knows_pairs : Status → Bool
+knows_pairs Joining = false
+knows_pairs Core = true
+knows_pairs Leaving = true
+knows_pairs Gone = false
+knows_pairs Ceased = false
+
+pub record IsSoundNode (node : NodeState) : Type 0 where
+  pub valid : IsNode node
+  -- each pair is laid as wanted
+  pub laid : AreLaid node.ties.table node.pointers
+  pub pairs : AreNamedPairs (settings_of node) node.pointers
+  -- a node that joins or has ended knows of none
+  pub alone : knows_pairs node.status ≡ false → node.pointers.pairs ≡ []
+  pub few : length (rows node.ties.table) ≤ most_links_kept
+  pub parents : HaveParents (settings_of node) node.sessions
+  pub cast_parents : HaveParents (settings_of node) node.cast_sessions
+
+-- a node may take a frame: it is sound and has numbers left, and the frame is one, not strange to it
+pub record MayTake (node : NodeState) (frame : Frame) : Type 0 where
+  pub sound : IsSoundNode node
+  pub room : has_numbers_left node ≡ true
+  pub is_frame : IsFrame (settings_of node) frame
+  pub taken : is_strange node frame ≡ false
