@@ -36,7 +36,8 @@ use Rattle.tap_safety.specs.Remembered.{Leaver}
 use Rattle.tap_safety.specs.Step.{numbered_from}
 use Rattle.tap_safety.specs.System.{System}
 use Rattle.tap_safety.proofs.Moves.{starts}
-use Rattle.tap_course.specs.Beginning.{Beginning, begin_record, system_at_rest}
+use Rattle.tap_safety.specs.AtRest.{system_at_rest}
+use Rattle.tap_course.specs.Beginning.{Beginning, begin_record}
 use Rattle.tap_course.specs.Starts.{announced, start_of_step}
 use Rattle.tap_course.specs.Acts.{acted_records}
 use Rattle.tap_course.specs.Group.{received_records, records_of_act, start_at}

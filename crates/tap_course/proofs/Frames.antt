@@ -32,7 +32,8 @@ use Rattle.tap_safety.specs.Moved.{moved, numbered_frame, starter, without_frame
 use Rattle.tap_safety.specs.Step.{AreNumbered, Ascend, numbered_from}
 use Rattle.tap_safety.specs.System.{System}
 use Rattle.tap_safety.proofs.Moves.{ascend_below, delivers, numbers_sent, numbers_taken, starts}
-use Rattle.tap_course.specs.Beginning.{Beginning, begin_record, system_at_rest}
+use Rattle.tap_safety.specs.AtRest.{system_at_rest}
+use Rattle.tap_course.specs.Beginning.{Beginning, begin_record}
 use Rattle.tap_course.specs.Starts.{announced, next_ticket}
 use Rattle.tap_course.specs.Acts.{acted_records, if_so, news_after, news_before, sent_records}
 use Rattle.tap_course.specs.Group.{received_records, records_of_act, start_at}

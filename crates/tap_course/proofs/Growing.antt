@@ -12,7 +12,8 @@ use Rattle.tap_history.specs.Moments.{ends_before, is_moment}
 use Rattle.tap_history.proofs.Ends.{holds_at_each_moment, log_in_groups_holds}
 use Rattle.tap_history.proofs.Parts.{EachGroup-push, beginning_of-group, groups_of-group, is_ended-append, log_is_groups}
 use Rattle.tap_safety.specs.System.{System}
-use Rattle.tap_course.specs.Beginning.{Beginning, IsWithinLimits, begin_record, system_at_rest}
+use Rattle.tap_safety.specs.AtRest.{system_at_rest}
+use Rattle.tap_course.specs.Beginning.{Beginning, IsWithinLimits, begin_record}
 use Rattle.tap_course.specs.Course.{Follows, IsCourse, MayFollow, move_of_group, moved_by, system_after, system_from, system_of}
 use Rattle.tap_course.specs.Laws.{CourseGrows}
 use Rattle.tap_course.proofs.Within.{IsWhole, whole_group}

@@ -39,7 +39,8 @@ use Rattle.tap_safety.specs.Move.Move.{Begins, Delivers}
 use Rattle.tap_safety.specs.Moved.{moved, numbered_frame, starter}
 use Rattle.tap_safety.specs.System.{System}
 use Rattle.tap_safety.proofs.Moves.{delivers, starts}
-use Rattle.tap_course.specs.Beginning.{Beginning, begin_record, member_of, system_at_rest}
+use Rattle.tap_safety.specs.AtRest.{member_of, system_at_rest}
+use Rattle.tap_course.specs.Beginning.{Beginning, begin_record}
 use Rattle.tap_course.specs.Starts.{announced, start_of_step}
 use Rattle.tap_course.specs.Acts.{acted_records, if_so, news_after, news_before, sent_records}
 use Rattle.tap_course.specs.Group.{received_records, records_of_act, start_at}

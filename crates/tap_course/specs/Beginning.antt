@@ -1,15 +1,13 @@
--- How a run begins: its members are core nodes with their ties at rest, and nothing is under way.
+-- How a run begins: with settings, a most number of frames, and members.
 --
 -- Rule: docs/PROTOCOL.md, "Nodes".
-use Rattle.std.specs.Prelude.{ℕ, ◌≤◌, Bool, true, false, List, [], length, All, Option, None, Some, is_some, if◌then◌else◌}
+use Rattle.std.specs.Prelude.{ℕ, ◌≤◌, List, [], length, All, None}
 use Rattle.tap_name.specs.Name.{IsName}
-use Rattle.tap_name.specs.Names.{AreDistinct, has_name}
+use Rattle.tap_name.specs.Names.{AreDistinct}
 use Rattle.tap_name.specs.Settings.{AreWithinLimits, SettingsValue}
 use Rattle.tap_scenario.specs.Scenario.{most_frames, most_members}
 use Rattle.tap_log.specs.declared.record.Record.{Record}
 use Rattle.tap_log.specs.declared.record.Record.TheVariants.{Begin}
-use Rattle.tap_rule.specs.Node.{NodeState, link_to, member_at_rest}
-use Rattle.tap_safety.specs.Remembered.{Word}
 use Rattle.tap_safety.specs.System.{System}
 
 -- with what a log begins: the settings, the most frames that may be sent, and the members
@@ -42,21 +40,3 @@ no_system = record {
   last = λ from to. None;
   departing = None;
 }
-
--- a member at the start; none if the name is of no member
-abbrev pub member_of : SettingsValue → List (List ℕ) → List ℕ → Option NodeState
-member_of p members name = if has_name members name then Some (member_at_rest p members name) else None
-
--- the node has a link to the name
-abbrev pub links_at_rest : Option NodeState → List ℕ → Bool
-links_at_rest None to = false
-links_at_rest (Some node) to = is_some (link_to node to)
-
--- The last word of one member to another: each that has a link has said so, with the version 0.
-abbrev pub first_word : SettingsValue → List (List ℕ) → List ℕ → List ℕ → Option Word
-first_word p members from to =
-    if links_at_rest (member_of p members from) to then Some (record { version = 0; on = true }) else None
-
--- the system with which a run of these members begins
-abbrev pub system_at_rest : SettingsValue → List (List ℕ) → System
-system_at_rest p members = record no_system { node = member_of p members; last = first_word p members }

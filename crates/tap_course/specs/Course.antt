@@ -18,7 +18,8 @@ use Rattle.tap_safety.specs.Move.{Move}
 use Rattle.tap_safety.specs.Move.Move.{Begins, Delivers}
 use Rattle.tap_safety.specs.Moved.{moved, numbered_frame}
 use Rattle.tap_safety.specs.System.{System}
-use Rattle.tap_course.specs.Beginning.{Beginning, IsWithinLimits, begin_record, no_system, system_at_rest}
+use Rattle.tap_safety.specs.AtRest.{system_at_rest}
+use Rattle.tap_course.specs.Beginning.{Beginning, IsWithinLimits, begin_record, no_system}
 use Rattle.tap_course.specs.Group.{start_at, step_records, taken_records}
 
 -- ---- the system of a log

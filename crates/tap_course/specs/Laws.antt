@@ -17,7 +17,8 @@ use Rattle.tap_history.specs.Refusals.{is_joining}
 use Rattle.tap_rule.specs.Node.{NodeState}
 use Rattle.tap_history.specs.Moments.{is_moment, outstanding}
 use Rattle.tap_safety.specs.System.{System}
-use Rattle.tap_course.specs.Beginning.{Beginning, IsWithinLimits, begin_record, system_at_rest}
+use Rattle.tap_safety.specs.AtRest.{system_at_rest}
+use Rattle.tap_course.specs.Beginning.{Beginning, IsWithinLimits, begin_record}
 use Rattle.tap_course.specs.Course.{Follows, IsCourse, is_choice, move_of_group, moved_by, system_of}
 use Rattle.tap_course.specs.Observed.{has_ended, is_core_node, is_joining_status}
 
