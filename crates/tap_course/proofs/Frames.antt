@@ -407,7 +407,6 @@ module _ (p : SettingsValue) (log : List Record) (s : System) (number : ℕ) (ne
     take_exchange : Exchanges p log (Taken number ∷ done) s (moved p s (Delivers number))
     take_exchange =
         let did = delivers p s number frame node is at in
-        let cut = split number frame s.frames is in
         record {
           sent = acted.sent;
           kept = without_frame number s.frames;
