@@ -1,5 +1,5 @@
 -- Who departs is the same in the log of a course and in its system.
-use Rattle.std.proofs.Common.{◌≡◌, ◌⊎◌, inl, inr, ℕ, ◌+◌, ◌<◌, ◌≤◌, Bool, true, false, not, List, [], ◌∷◌, ◌++◌, length, All, Option, None, Some, refl, ap, sym, subst, ◌∙◌, arith, ltb-false}
+use Rattle.std.proofs.Common.{◌≡◌, ◌⊎◌, inl, inr, ℕ, ◌≤◌, true, false, not, List, [], ◌∷◌, ◌++◌, length, All, Option, None, Some, refl, ap, sym, subst, ◌∙◌, arith, ltb-false}
 use Rattle.std.specs.Prelude.{◌&&◌, drop, is_some, nat_lt, if◌then◌else◌}
 use Rattle.std.proofs.lemmas.List.Elements.{All-cons}
 use Rattle.std.specs.List.{cons_option, filter_map, last_or}
@@ -19,15 +19,15 @@ use Rattle.tap_history.specs.Departing.{departing_of}
 use Rattle.tap_history.specs.Groups.{is_ended}
 use Rattle.tap_history.specs.GroupLaws.{IsGroup}
 use Rattle.tap_history.specs.Moments.{is_none, is_still, outstanding}
-use Rattle.tap_history.specs.Refusals.{first_refusal, is_joining, refusals, refuses_departing, refuses_no_such_node, refuses_not_at_rest, refuses_not_core}
+use Rattle.tap_history.specs.Refusals.{first_refusal, refusals, refuses_departing, refuses_no_such_node, refuses_not_at_rest, refuses_not_core}
 use Rattle.tap_history.specs.Steps.{actor_of, depart_name}
 use Rattle.tap_history.proofs.Growing.{record_changes_hold}
 use Rattle.tap_history.proofs.OneMoreGroup.{one_more_group_holds}
 use Rattle.tap_rule.specs.Node.{NodeState, Status, joiner}
 use Rattle.tap_rule.specs.Node.Status.{Joining, Core, Leaving, Gone, Ceased}
 use Rattle.tap_rule.specs.Event.{Acted, Start}
-use Rattle.tap_rule.specs.Event.Event.{Starts, Takes}
-use Rattle.tap_rule.specs.Event.Start.{Join as Joins, Abandon as GivesUp, Publish as Publishes, Withdraw as Withdraws, Find as Finds, Leave as Leaves, Cast as Casts}
+use Rattle.tap_rule.specs.Event.Event.{Starts}
+use Rattle.tap_rule.specs.Event.Start.{Join as Joins, Abandon as GivesUp, Publish as Publishes, Withdraw as Withdraws, Leave as Leaves}
 use Rattle.tap_rule.specs.Act.{act}
 use Rattle.tap_safety.specs.Move.{Move}
 use Rattle.tap_safety.specs.Move.Move.{Begins, Delivers}
@@ -40,7 +40,7 @@ use Rattle.tap_safety.specs.AtRest.{system_at_rest}
 use Rattle.tap_course.specs.Beginning.{Beginning, begin_record}
 use Rattle.tap_course.specs.Starts.{announced, start_of_step}
 use Rattle.tap_course.specs.Acts.{acted_records}
-use Rattle.tap_course.specs.Group.{received_records, records_of_act, start_at}
+use Rattle.tap_course.specs.Group.{records_of_act, start_at}
 use Rattle.tap_course.specs.Course.{Follows, IsCourse, MayFollow, has_receiver, move_of_group, moved_by, system_of}
 use Rattle.tap_course.specs.Observed.{counts_as_core, has_ended, is_core_node, is_joining_status}
 use Rattle.tap_course.specs.Laws.{CourseNodes, frame_numbers, is_joining_node, is_present_node}
@@ -132,7 +132,7 @@ received_departing p s number frame node is at = rw (is, at) refl
 
 -- what starts is a departure, or has no part in one
 module _ (log : List Record) (name : List ℕ) (start : Start) where
-  no_part : (x : List ℕ) (first : Start) → Some (x, first) ≡ Some (name, start)
+  no_part : (x : List ℕ) (first : Start) → ◌≡◌ {A = Option (List ℕ × Start)} (Some (x, first)) (Some (name, start))
       → ((node : NodeState) (leaver : Option Leaver) → departing_by node name first leaver ≡ leaver)
       → (node : NodeState) (leaver : Option Leaver) → departing_by node name start leaver ≡ leaver
   no_part x first at none node leaver = ap (λ w. departing_by node name w leaver) (sym (ap (start_in first) at)) ∙ none node leaver

@@ -1,5 +1,5 @@
 -- The frames under way, in a course, are those that its log has as outstanding.
-use Rattle.std.proofs.Common.{◌≡◌, ◌⊎◌, inl, inr, ℕ, zero, suc, ◌+◌, ◌<◌, ◌≤◌, Bool, true, false, not, nat_eq, eqb, List, [], ◌∷◌, ◌++◌, length, get_or, map, All, Option, None, Some, refl, ap, sym, subst, cond, ◌∙◌, arith, append-nil, append_assoc}
+use Rattle.std.proofs.Common.{◌≡◌, inl, inr, ℕ, zero, suc, ◌+◌, ◌<◌, ◌≤◌, Bool, true, false, not, nat_eq, eqb, List, [], ◌∷◌, ◌++◌, length, get_or, All, Option, None, Some, refl, ap, sym, subst, cond, ◌∙◌, arith, append-nil}
 use Rattle.std.specs.Prelude.{◌||◌, if◌then◌else◌, is_some, slice_get}
 use Rattle.std.specs.List.{cons_option, filter_map, range_with_len}
 use Rattle.std.proofs.lemmas.Bool.{cases_Bool, eq-eqb, eqb-true, ne_eqb}
@@ -23,7 +23,7 @@ use Rattle.tap_history.specs.Refusals.{first_refusal}
 use Rattle.tap_history.specs.Moments.{has_number, numbers_less, outstanding}
 use Rattle.tap_history.proofs.Numbering.{numbered-group, outstanding-group}
 use Rattle.tap_rule.specs.Node.{NodeState}
-use Rattle.tap_rule.specs.Event.{Acted, Event, News, Start}
+use Rattle.tap_rule.specs.Event.{Acted, News, Start}
 use Rattle.tap_rule.specs.Event.Event.{Starts, Takes}
 use Rattle.tap_rule.specs.Event.News.{Nothing, Core as IsCore, Gone as IsGone, Answered as IsAnswered, Cast as IsCast}
 use Rattle.tap_rule.specs.Act.{act}

@@ -1,10 +1,9 @@
 -- Who takes part in a run is the same in its log and in its system.
-use Rattle.std.proofs.Common.{◌≡◌, ◌⊎◌, inl, inr, ℕ, ◌+◌, Bool, true, false, not, List, [], ◌∷◌, ◌++◌, length, get_or, filter, All, Option, None, Some, refl, ap, sym, subst, cond, ◌∙◌, arith, append-nil}
+use Rattle.std.proofs.Common.{◌≡◌, ◌⊎◌, inl, inr, ℕ, ◌+◌, ◌≤◌, Bool, true, false, not, List, [], ◌∷◌, ◌++◌, length, get_or, All, Option, None, Some, refl, ap, sym, subst, cond, ◌∙◌, append-nil}
 use Rattle.std.specs.Prelude.{◌&&◌, ◌||◌, bytes_eq, drop, fold, is_some, if◌then◌else◌}
-use Rattle.std.specs.List.{cons_option, filter_map, list_any}
-use Rattle.std.specs.Option.{option_map, option_zip}
+use Rattle.std.specs.List.{cons_option, filter_map}
 use Rattle.std.proofs.lemmas.Bool.{cases_Bool}
-use Rattle.std.proofs.lemmas.List.Elements.{All-append, All-cons, All-head, All-nil, All-tail, filter_map-append}
+use Rattle.std.proofs.lemmas.List.Elements.{All-cons, All-head, All-tail, filter_map-append}
 use Rattle.std.proofs.lemmas.List.Folds.{list_any-append}
 use Rattle.std.proofs.lemmas.Slice.Eq.{bytes_eq-Decides}
 use Rattle.tap_name.specs.Names.{has_name, names_without}
@@ -13,7 +12,7 @@ use Rattle.tap_scenario.specs.declared.step.Step.{Step}
 use Rattle.tap_scenario.specs.declared.step.Step.TheVariants.{Join, Depart, Publish, Withdraw, Find, Abandon, Cast}
 use Rattle.tap_wire.specs.declared.frame.Frame.{Frame}
 use Rattle.tap_log.specs.declared.record.Record.{Record}
-use Rattle.tap_log.specs.declared.record.Record.TheVariants.{Begin, Step as StepRecord, Taken, Sent, Core as CoreRecord, Gone as GoneRecord, Reached, Closed}
+use Rattle.tap_log.specs.declared.record.Record.TheVariants.{Step as StepRecord, Taken, Sent}
 use Rattle.tap_log.specs.declared.record.Refusal.{Refusal}
 use Rattle.tap_log.specs.declared.record.Refusal.TheVariants.{NameTaken, NoSuchNode}
 use Rattle.tap_log.specs.Counts.{sent_count}
@@ -23,12 +22,12 @@ use Rattle.tap_history.specs.Groups.{is_ended}
 use Rattle.tap_history.specs.GroupLaws.{IsGroup, accepted_of}
 use Rattle.tap_history.specs.Names.{names_of, with_name}
 use Rattle.tap_history.specs.Refusals.{first_refusal, first_some, is_and, refusals, refused_if, refuses_departing, refuses_name_taken, refuses_no_such_node, refuses_not_at_rest, refuses_not_core}
-use Rattle.tap_history.specs.Steps.{actor_of, asked_node, depart_name, join_name}
+use Rattle.tap_history.specs.Steps.{actor_of, asked_node, join_name}
 use Rattle.tap_history.proofs.Growing.{record_changes_hold}
 use Rattle.tap_history.proofs.Telling.{core_of-group, names_of-group, present_of-group}
 use Rattle.tap_rule.specs.Node.{NodeState, Status, joiner, member_at_rest}
-use Rattle.tap_rule.specs.Node.Status.{Joining, Core, Leaving, Gone, Ceased}
-use Rattle.tap_rule.specs.Event.{Acted, Event, News, Start}
+use Rattle.tap_rule.specs.Node.Status.{Joining}
+use Rattle.tap_rule.specs.Event.{Acted, News, Start}
 use Rattle.tap_rule.specs.Event.Event.{Starts, Takes}
 use Rattle.tap_rule.specs.Event.News.{Nothing, Core as IsCore, Gone as IsGone, Answered as IsAnswered, Cast as IsCast}
 use Rattle.tap_rule.specs.Event.Start.{Join as Joins}
@@ -42,11 +41,11 @@ use Rattle.tap_safety.proofs.Moves.{delivers, starts}
 use Rattle.tap_safety.specs.AtRest.{member_of, system_at_rest}
 use Rattle.tap_course.specs.Beginning.{Beginning, begin_record}
 use Rattle.tap_course.specs.Starts.{announced, start_of_step}
-use Rattle.tap_course.specs.Acts.{acted_records, if_so, news_after, news_before, sent_records}
+use Rattle.tap_course.specs.Acts.{acted_records, news_after, news_before, sent_records}
 use Rattle.tap_course.specs.Group.{received_records, records_of_act, start_at}
-use Rattle.tap_course.specs.Course.{Follows, IsCourse, MayFollow, has_receiver, move_of_group, move_of_start, moved_by, system_of}
-use Rattle.tap_course.specs.Observed.{counts_as_core, has_ended, is_core_node, is_joining_status}
-use Rattle.tap_course.specs.Laws.{NodesAgree, is_ended_node, is_joining_node, is_present_node}
+use Rattle.tap_course.specs.Course.{Follows, IsCourse, MayFollow, has_receiver, move_of_group, moved_by, system_of}
+use Rattle.tap_course.specs.Observed.{counts_as_core, has_ended, is_core_node}
+use Rattle.tap_course.specs.Laws.{is_ended_node, is_present_node}
 use Rattle.tap_course.proofs.Within.{IsIdle, IsStarting, Within, is_accepted, is_group, step_kind, step_within, taken_within}
 use Rattle.tap_course.proofs.Growing.{by_groups, grown_system, start_system, starts_begun, starts_uncarried}
 use Rattle.tap_course.proofs.Frames.{none_of, starting_moves, step_moves, taken_moves}
@@ -266,8 +265,8 @@ present_is (Some node) = refl
 
 module _ (log : List Record) (first : Record) (after : List Record) (group : IsGroup log first after) (s s' : System)
     (acts : Acts log (first ∷ after) s s') (agree : Agree log s) where
-  abbrev all : List Record
-  all = log ++ first ∷ after
+  abbrev longer : List Record
+  longer = log ++ first ∷ after
 
   -- of the node that acts
   module _ (y : List ℕ) (is : acts.name ≡ y) (same : bytes_eq acts.name y ≡ true) where
@@ -277,7 +276,7 @@ module _ (log : List Record) (first : Record) (after : List Record) (group : IsG
     ended_before : has_name (gone_of log) y ≡ has_ended acts.before
     ended_before = agree.gone y ∙ ap (λ z. is_ended_node (s.node z)) (sym is) ∙ acts.was_ended
 
-    core_here : has_name (core_of all) y ≡ is_core_node (s'.node y)
+    core_here : has_name (core_of longer) y ≡ is_core_node (s'.node y)
     core_here =
         let t = tells_core acts.news in
         let g = tells_gone acts.news in
@@ -289,7 +288,7 @@ module _ (log : List Record) (first : Record) (after : List Record) (group : IsG
         ∙ core_after (counts_as_core acts.before) t (has_ended acts.before) g acts.noted.comes
         ∙ sym acts.noted.core ∙ sym (ap is_core_node now)
 
-    gone_here : has_name (gone_of all) y ≡ is_ended_node (s'.node y)
+    gone_here : has_name (gone_of longer) y ≡ is_ended_node (s'.node y)
     gone_here =
         let g = tells_gone acts.news in
         gone_has log first after group acts.name y (tells_core acts.news) g acts.joins acts.core acts.gone acts.joined
@@ -297,7 +296,7 @@ module _ (log : List Record) (first : Record) (after : List Record) (group : IsG
         ∙ ap (λ b. b || (g && true)) ended_before
         ∙ or_here (has_ended acts.before) g ∙ sym acts.noted.ended ∙ sym (ap is_ended_node now)
 
-    present_here : has_name (present_of all) y ≡ is_present_node (s'.node y)
+    present_here : has_name (present_of longer) y ≡ is_present_node (s'.node y)
     present_here =
         let g = tells_gone acts.news in
         let j = acts.joins in
@@ -310,7 +309,7 @@ module _ (log : List Record) (first : Record) (after : List Record) (group : IsG
         ∙ present_after (has_name (present_of log) y) j (has_ended acts.before) g there acts.new
         ∙ ap not (sym acts.noted.ended) ∙ sym (ap is_present_node now)
 
-    ever_here : has_name (names_of all) y ≡ is_some (s'.node y)
+    ever_here : has_name (names_of longer) y ≡ is_some (s'.node y)
     ever_here =
         let j = acts.joins in
         ever_has log first after group acts.name y (tells_core acts.news) (tells_gone acts.news) j acts.core acts.gone acts.joined
@@ -324,7 +323,7 @@ module _ (log : List Record) (first : Record) (after : List Record) (group : IsG
 
   -- of another one
   module _ (y : List ℕ) (stays : s'.node y ≡ s.node y) (apart : bytes_eq acts.name y ≡ false) where
-    core_there : has_name (core_of all) y ≡ is_core_node (s'.node y)
+    core_there : has_name (core_of longer) y ≡ is_core_node (s'.node y)
     core_there =
         let t = tells_core acts.news in
         let g = tells_gone acts.news in
@@ -333,7 +332,7 @@ module _ (log : List Record) (first : Record) (after : List Record) (group : IsG
         ∙ core_other (has_name (core_of log) y) t (has_name (gone_of log) y) g
         ∙ agree.core y ∙ sym (ap is_core_node stays)
 
-    present_there : has_name (present_of all) y ≡ is_present_node (s'.node y)
+    present_there : has_name (present_of longer) y ≡ is_present_node (s'.node y)
     present_there =
         let g = tells_gone acts.news in
         present_has log first after group acts.name y (tells_core acts.news) g acts.joins acts.core acts.gone acts.joined
@@ -341,14 +340,14 @@ module _ (log : List Record) (first : Record) (after : List Record) (group : IsG
         ∙ core_other (has_name (present_of log) y) acts.joins (has_name (gone_of log) y) g
         ∙ agree.present y ∙ sym (ap is_present_node stays)
 
-    gone_there : has_name (gone_of all) y ≡ is_ended_node (s'.node y)
+    gone_there : has_name (gone_of longer) y ≡ is_ended_node (s'.node y)
     gone_there =
         let g = tells_gone acts.news in
         gone_has log first after group acts.name y (tells_core acts.news) g acts.joins acts.core acts.gone acts.joined
         ∙ ap (λ b. has_name (gone_of log) y || (g && b)) apart
         ∙ or_other (has_name (gone_of log) y) g ∙ agree.gone y ∙ sym (ap is_ended_node stays)
 
-    ever_there : has_name (names_of all) y ≡ is_some (s'.node y)
+    ever_there : has_name (names_of longer) y ≡ is_some (s'.node y)
     ever_there =
         ever_has log first after group acts.name y (tells_core acts.news) (tells_gone acts.news) acts.joins acts.core acts.gone acts.joined
         ∙ ap (λ b. has_name (names_of log) y || (acts.joins && b)) apart
@@ -361,7 +360,7 @@ module _ (log : List Record) (first : Record) (after : List Record) (group : IsG
         | inr stays ↦ stays
       ]
 
-  pub agree_after : Agree all s'
+  pub agree_after : Agree longer s'
   agree_after = record {
     core = λ y. elim (cases_Bool (bytes_eq acts.name y)) [
       | inl same ↦ core_here y (name_is acts.name y same) same
@@ -387,7 +386,7 @@ abbrev pub HasNoStep : Record → Type 0
 HasNoStep item = step_of item ≡ None
 
 no_step : (item : Record) → begins_group false item ≡ false → HasNoStep item
-unfolding begins_group step_of
+unfolding begins_group
 no_step (StepRecord index step) within = absurd (cc)
 no_step item within = refl
 
@@ -412,7 +411,7 @@ none_accepted (item ∷ next ∷ items) all =
 -- the names of the step that begins a group, if that is accepted
 pub named_in_group : (h : Step → Option (List ℕ)) (index : ℕ) (step : Step) (items : List Record) → All HasNoStep items
     → filter_map h (accepted_in false (StepRecord index step ∷ items)) ≡ (if is_accepted items then cons_option (h step) [] else [])
-unfolding accepted_step step_of
+unfolding accepted_step
 named_in_group h index step [] all = refl
 named_in_group h index step (next ∷ items) all =
     ap (λ l. filter_map h (cons_option (accepted_step false (StepRecord index step, next)) l)) (none_accepted (next ∷ items) all)
@@ -430,11 +429,11 @@ none_named h index step items all (inl not_accepted) =
     named_in_group h index step items all ∙ ap (λ b. if b then cons_option (h step) [] else []) not_accepted
 none_named h index step items all (inr none) =
     named_in_group h index step items all ∙ ap (λ one. if is_accepted items then cons_option one [] else []) none
-    ∙ either (is_accepted items)
+    ∙ either (is_accepted items) []
   where
-    either : (b : Bool) → (if b then [] else []) ≡ []
-    either true = refl
-    either false = refl
+    either : (b : Bool) (names : List (List ℕ)) → (if b then names else names) ≡ names
+    either true names = refl
+    either false names = refl
 
 -- ---- what the records of a step tell of nodes
 
@@ -603,8 +602,8 @@ module _ (p : SettingsValue) (log : List Record) (s : System) (agree : Agree log
       by_node (Some node) is = record { node = node; is = is; starts = same ∙ is; joins = joins }
 
   -- a start of another kind is at a node that was there
-  other_start : (x name : List ℕ) (first start : Start) → Some (x, first) ≡ Some (name, start) → starter p s name first ≡ s.node name
-      → starter p s name start ≡ s.node name
+  other_start : (x name : List ℕ) (first start : Start) → ◌≡◌ {A = Option (List ℕ × Start)} (Some (x, first)) (Some (name, start))
+      → starter p s name first ≡ s.node name → starter p s name start ≡ s.node name
   other_start x name first start at same = ap (starter p s name) (sym (ap (start_in first) at)) ∙ same
 
   pub starts_of : (step : Step) (name : List ℕ) (start : Start) → first_refusal log step ≡ None → start_at log step ≡ Some (name, start)
@@ -740,7 +739,6 @@ module _ (p : SettingsValue) (log : List Record) (s : System) (uncarried : is_ca
 -- ---- a group of a frame that is taken
 
 pub taken_no_step : (number : ℕ) → HasNoStep (Taken number)
-unfolding step_of
 taken_no_step number = refl
 
 module _ (p : SettingsValue) (log : List Record) (s : System) (uncarried : is_carried log ≡ false) (number : ℕ) (frame : Frame)

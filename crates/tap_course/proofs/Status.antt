@@ -1,6 +1,6 @@
 -- What a step does to the status of its node, and how it is noted.
-use Rattle.std.proofs.Common.{◌≡◌, ◌⊎◌, inl, inr, ℕ, ◌+◌, ◌==◌, Bool, true, false, not, List, [], ◌∷◌, ◌++◌, length, map, Option, None, Some, refl, ap, sym, subst, ◌∙◌}
-use Rattle.std.specs.Prelude.{◌&&◌, ◌||◌, if◌then◌else◌}
+use Rattle.std.proofs.Common.{◌≡◌, ◌⊎◌, inl, inr, ℕ, ◌==◌, Bool, true, false, not, List, [], ◌∷◌, length, map, Option, None, Some, refl, ap, sym, subst, ◌∙◌}
+use Rattle.std.specs.Prelude.{◌&&◌, ◌||◌}
 use Rattle.std.proofs.lemmas.Bool.{cases_Bool}
 use Rattle.tap_name.specs.declared.slot.Offered.{Offered}
 use Rattle.tap_name.specs.declared.slot.Slot.{Slot}
@@ -32,7 +32,7 @@ use Rattle.tap_wire.specs.declared.frame.Frame.{Frame}
 use Rattle.tap_wire.specs.declared.frame.TellFields.{TellFields}
 use Rattle.tap_rule.specs.Node.{NodeState, Status, name_of}
 use Rattle.tap_rule.specs.Node.Status.{Joining, Core, Leaving, Gone, Ceased}
-use Rattle.tap_rule.specs.Event.{Acted, Event, News, Start}
+use Rattle.tap_rule.specs.Event.{Acted, News, Start}
 use Rattle.tap_rule.specs.Event.Event.{Starts, Takes}
 use Rattle.tap_rule.specs.Event.News.{Nothing, Core as IsCore, Gone as IsGone, Answered as IsAnswered, Cast as IsCast}
 use Rattle.tap_rule.specs.Event.Start.{Join, Abandon, Publish, Withdraw, Find as FindStart, Leave as LeaveStart, Cast as CastStart}
@@ -207,16 +207,20 @@ finishes_noted : (node : NodeState) (messages : List Message) (status : Status) 
     → node.status ≡ Leaving → IsNotedRule status (finishes_or_sends node messages)
 finishes_noted node messages status runs core is =
     elim (cases_Bool (length node.awaited == 0)) [
-      | inl alone ↦ rw alone (record { noted = record {
-        comes = λ became. runs;
-        core = ap (λ b. (b || false) && false) (sym core);
-        ended = ap (λ b. b || true) (sym runs);
-      } })
-      | inr others ↦ rw others (record { noted = record {
-        comes = λ became. runs;
-        core = ap counts_as_core is ∙ ap (λ b. (b || false) && true) (sym core);
-        ended = ap has_ended is ∙ ap (λ b. b || false) (sym runs);
-      } })
+      | inl alone ↦ rw alone (record {
+        noted = record {
+          comes = λ became. runs;
+          core = ap (λ b. (b || false) && false) (sym core);
+          ended = ap (λ b. b || true) (sym runs);
+        };
+      })
+      | inr others ↦ rw others (record {
+        noted = record {
+          comes = λ became. runs;
+          core = ap counts_as_core is ∙ ap (λ b. (b || false) && true) (sym core);
+          ended = ap has_ended is ∙ ap (λ b. b || false) (sym runs);
+        };
+      })
     ]
 
 -- ---- frames and starts, by the status

@@ -2,8 +2,7 @@
 --
 -- Rule: docs/FORMATS.md, "The course of a run".
 use Rattle.std.specs.Prelude.{ℕ, List, [], ◌∷◌, ◌++◌, Option, None, Some}
-use Rattle.std.specs.List.{cons_option}
-use Rattle.std.specs.Option.{option_map, option_zip}
+use Rattle.std.specs.Option.{option_zip}
 use Rattle.tap_name.specs.Settings.{SettingsValue}
 use Rattle.tap_scenario.specs.declared.step.Step.{Step}
 use Rattle.tap_scenario.specs.declared.step.Step.TheVariants.{Walk, Root, Table, Pointers, Garble, Cut}
@@ -16,7 +15,7 @@ use Rattle.tap_log.specs.Laws.{at_most_one}
 use Rattle.tap_history.specs.Refusals.{first_refusal}
 use Rattle.tap_history.specs.Steps.{actor_of}
 use Rattle.tap_rule.specs.Node.{NodeState}
-use Rattle.tap_rule.specs.Event.{Acted, Event, Start}
+use Rattle.tap_rule.specs.Event.{Event, Start}
 use Rattle.tap_rule.specs.Event.Event.{Starts, Takes}
 use Rattle.tap_rule.specs.Act.{act}
 use Rattle.tap_safety.specs.Moved.{numbered_frame, starter}

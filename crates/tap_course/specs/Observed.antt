@@ -1,7 +1,7 @@
 -- What a step sees that observes: a walk, a root, a table, or the pairs that a node holds.
 --
 -- Rule: docs/FORMATS.md, "The course of a run".
-use Rattle.std.specs.Prelude.{ℕ, Bool, true, false, List, [], ◌∷◌, map, Option, None, Some, option_and_then}
+use Rattle.std.specs.Prelude.{ℕ, Bool, true, false, List, map, Option, None, Some, option_and_then}
 use Rattle.std.specs.Option.{option_map}
 use Rattle.tap_name.specs.Root.{root}
 use Rattle.tap_name.specs.Settings.{SettingsValue}
