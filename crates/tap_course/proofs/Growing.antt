@@ -1,7 +1,9 @@
 -- One more group of a course.
 use Rattle.std.proofs.Common.{◌≡◌, ℕ, ◌≤◌, Bool, true, false, List, [], ◌∷◌, ◌++◌, length, take, refl, ap, sym, subst, ◌∙◌, arith, append-nil, append_assoc}
 use Rattle.std.specs.Prelude.{drop, slice_get, if◌then◌else◌}
+use Rattle.tap_name.specs.Name.{IsName}
 use Rattle.tap_name.specs.Settings.{SettingsValue}
+use Rattle.tap_name.proofs.Names.{among-All}
 use Rattle.tap_log.specs.declared.record.Record.{Record}
 use Rattle.tap_log.specs.declared.record.Record.TheVariants.{Step as StepRecord, Taken}
 use Rattle.tap_log.specs.Kinds.{begins_group, is_carried}
@@ -12,7 +14,7 @@ use Rattle.tap_history.specs.Moments.{ends_before, is_moment}
 use Rattle.tap_history.proofs.Ends.{holds_at_each_moment, log_in_groups_holds}
 use Rattle.tap_history.proofs.Parts.{EachGroup-push, beginning_of-group, groups_of-group, is_ended-append, log_is_groups}
 use Rattle.tap_safety.specs.System.{System}
-use Rattle.tap_safety.specs.AtRest.{system_at_rest}
+use Rattle.tap_safety.specs.AtRest.{AreMembers, system_at_rest}
 use Rattle.tap_course.specs.Beginning.{Beginning, IsWithinLimits, begin_record}
 use Rattle.tap_course.specs.Course.{Follows, IsCourse, MayFollow, move_of_group, moved_by, system_after, system_from, system_of}
 use Rattle.tap_course.specs.Laws.{CourseGrows}
@@ -121,6 +123,19 @@ module _ (b : Beginning) where
       ap (λ l. system_from l (groups_of (begin_record b ∷ []))) alone ∙ ap (system_from (begin_record b ∷ [])) no_groups
       ∙ system_from-begin b []
 
+  start_members : IsWithinLimits b → AreMembers b.settings b.members
+  start_members limits = record {
+    limits = limits.settings;
+    names = among-All (IsName b.settings) b.members limits.names;
+    distinct = limits.distinct;
+    some = λ none.
+        let least = limits.members_from in
+        let size : length b.members ≡ 0 = ap length none in absurd (omega (arith, least, size));
+    few =
+        let most : length b.members ≤ 64 = limits.members_to in
+        let few : length b.members ≤ 256 = omega (arith, most) in few;
+  }
+
   start_going : is_ended (begin_record b ∷ []) ≡ false
   unfolding ends_log
   start_going = refl
@@ -182,6 +197,7 @@ pub course_grows_holds : CourseGrows
 course_grows_holds = record {
   starts = start_course;
   at_rest = start_system;
+  members = start_members;
   course = grown;
   going = grown_going;
   system = grown_system;

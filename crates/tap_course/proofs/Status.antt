@@ -103,6 +103,7 @@ module _ (status : Status) where
       same true = ap not (sym no_gone)
       same false = refl
 
+  -- words of links are no news
   worded : (words : List Tie) (r : Reaction) → IsNotedRule status r → IsNotedRule status (with_words words r)
   worded words r rule = record { noted = rule.noted }
 

@@ -1,6 +1,6 @@
--- How a run begins: with settings, a most number of frames, and members.
+-- With what a run begins: settings, how many frames may be sent, and members.
 --
--- Rule: docs/PROTOCOL.md, "Nodes".
+-- Rule: docs/FORMATS.md, "The course of a run".
 use Rattle.std.specs.Prelude.{ℕ, ◌≤◌, List, [], length, All, None}
 use Rattle.tap_name.specs.Name.{IsName}
 use Rattle.tap_name.specs.Names.{AreDistinct}

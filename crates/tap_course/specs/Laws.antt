@@ -17,18 +17,20 @@ use Rattle.tap_history.specs.Refusals.{is_joining}
 use Rattle.tap_rule.specs.Node.{NodeState}
 use Rattle.tap_history.specs.Moments.{is_moment, outstanding}
 use Rattle.tap_safety.specs.System.{System}
-use Rattle.tap_safety.specs.AtRest.{system_at_rest}
+use Rattle.tap_safety.specs.AtRest.{AreMembers, system_at_rest}
 use Rattle.tap_course.specs.Beginning.{Beginning, IsWithinLimits, begin_record}
 use Rattle.tap_course.specs.Course.{Follows, IsCourse, is_choice, move_of_group, moved_by, system_of}
 use Rattle.tap_course.specs.Observed.{has_ended, is_core_node, is_joining_status}
 
 -- ---- one more group
 
--- A beginning within the limits is a course, of a system at rest. With one more group that may follow, a course that hasn't ended is a
--- course that hasn't ended, and its system is the one before, after the group's move. At each of its moments it is such a course too.
+-- A beginning within the limits is a course, of a system at rest, and an overlay may begin with its members. With one more group that
+-- may follow, a course that hasn't ended is a course that hasn't ended, and its system is the one before, after the group's move. At
+-- each of its moments it is such a course too.
 pub record CourseGrows : Type 0 where
   pub starts : (b : Beginning) → IsWithinLimits b → IsCourse b (begin_record b ∷ [])
   pub at_rest : (b : Beginning) → system_of (begin_record b ∷ []) ≡ system_at_rest b.settings b.members
+  pub members : (b : Beginning) → IsWithinLimits b → AreMembers b.settings b.members
   pub course : (b : Beginning) (log group : List Record) → IsCourse b log → is_ended log ≡ false → Follows b log group
       → IsCourse b (log ++ group)
   pub going : (b : Beginning) (log group : List Record) → IsCourse b log → is_ended log ≡ false → Follows b log group

@@ -1,7 +1,8 @@
 ghost use Rattle.tap_course.specs.Laws.{CourseFrames, CourseGrows, CourseNodes, OneCourse};
 
-/// A beginning within the limits is the course of a run, of a system whose members are at rest. With one more group that may follow,
-/// a course is one again, and its system is the one before, after the move that the group makes.
+/// A beginning within the limits is the course of a run, of a system whose members are at rest, and an overlay may begin with these.
+/// With one more group that may follow, a course is one again, and its system is the one before, after the move that the group makes.
+/// A course is one at each of its moments.
 ///
 /// It does nothing: its contract is the law.
 ///
