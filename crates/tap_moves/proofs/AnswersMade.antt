@@ -18,14 +18,16 @@ use Rattle.tap_rule.specs.Sent.{AreSent, IsAmong}
 use Rattle.tap_rule.specs.Steps.{AnswerStep}
 use Rattle.tap_rule.proofs.AnswerSteps.{ack_law, heard_law, other_number}
 use Rattle.tap_safety.specs.Bookkeeping.{holds_sessions}
-use Rattle.tap_safety.specs.Counted.{kept_parent, parent_at}
+use Rattle.tap_safety.specs.Counted.{AreCountedSo, kept_parent, parent_at}
 use Rattle.tap_safety.specs.Remembered.{Token}
 use Rattle.tap_safety.specs.Remembered.Token.{Way}
 use Rattle.tap_safety.specs.Sessions.{AmongTokens, AreExact, Belongs, session_named}
+use Rattle.tap_safety.specs.SessionSteps.{ClosesChild, ClosesRoot, HandsOn}
+use Rattle.tap_safety.specs.System.{System, AmongFrames}
 use Rattle.tap_safety.proofs.StepLaws.{closing_law, handing_on_law, last_answer_law}
 use Rattle.tap_safety.specs.Turned.{closed_by}
-use Rattle.tap_moves.specs.ByRule.{taken_at}
-use Rattle.tap_moves.specs.SessionsLaws.{AnswerClosesChild, AnswerClosesRoot, AnswerHandsOn, AnswerKeepsExact, IsLastAnswer, sent_at}
+use Rattle.tap_moves.specs.ByRule.{TakesByRule, taken_at}
+use Rattle.tap_moves.specs.SessionsLaws.{AnswerClosesChild, AnswerClosesRoot, AnswerHandsOn, AnswerKeepsExact, BeforeTaking, IsLastAnswer, RemembersSessions, sent_at}
 use Rattle.tap_moves.proofs.InSession.{answer_in, only_one, sent_in}
 use Rattle.tap_moves.proofs.SessionsMade.{closes_child, closes_root, hands_on_as, node_parts}
 
@@ -131,33 +133,45 @@ may_answer Leaving holds = absurd holds
 may_answer Gone holds = absurd holds
 may_answer Ceased holds = inr (inr refl)
 
+-- an answer that is taken: it isn't the last one of its session, or closes it
+abbrev pub IsAnswered : System → System → ℕ → Frame → List ℕ → ℕ → List (ℕ × Frame) → Type 0
+IsAnswered s s' number f own k sent = HandsOn s s' number f own k sent
+    ⊎ (ClosesRoot s s' number f own k sent ⊎ ((w : List ℕ) × (m : ℕ) × ClosesChild s s' number f own k w m sent))
+
+abbrev pub AnswerIsTaken : (ℕ → Body) → Type 0
+AnswerIsTaken body = (s s' : System) (number : ℕ) (node : NodeState) (from : List ℕ) (k : ℕ) → BeforeTaking s → AreCountedSo s
+    → TakesByRule s s' number node from (body k) → RemembersSessions s s' number node from (body k)
+    → AmongFrames number (frame_to node from (body k)) s.frames
+    → ((node.status ≡ Joining) ⊎ ((node.status ≡ Core) ⊎ (node.status ≡ Ceased)))
+    × IsAnswered s s' number (frame_to node from (body k)) (name_of node) k (sent_at s node from (body k))
+
 module _ (body : ℕ → Body)
     (named : (k : ℕ) (from to : List ℕ) → ◌≡◌ {A = Option (List ℕ × ℕ)} (session_named (body k) from to) (Some (to, k)))
     (hands : AnswerHandsOn body) (root : AnswerClosesRoot body) (child : AnswerClosesChild body) where
-  keeps_sessions : AnswerKeepsExact body
-  keeps_sessions s s' number node from k before counted taken remembers among =
+  is_taken : AnswerIsTaken body
+  is_taken s s' number node from k before counted taken remembers among =
       let own = name_of node in
       let frame = frame_to node from (body k) in
-      let sent = sent_at s node from (body k) in
       let awaited = before.exact.frames number frame own k among (named k from own) in
       let kept = counted.kept own k awaited.session node awaited.is taken.at.was in
       let place = before.places.places own k awaited.session awaited.is in
       let status = may_answer node.status (held place.state node place.is taken.at.was place.holds) in
       let waits : kept.0.waiting ≡ length awaited.session.awaits = kept.2.waiting in
-      let some = at_least_one awaited.session.awaits (Way number) awaited.among in
-      elim (cases_lt 1 (length awaited.session.awaits)) [
-        | inl more ↦
-            let step = hands s s' number node from k kept.0 before taken remembers status kept.1 (omega (arith, waits, more)) in
-            handing_on_law s s' number frame own k sent step before.exact
-        | inr most ↦
-            let one : length awaited.session.awaits ≡ 1 = omega (arith, some, most) in
-            let last : IsLastAnswer s number node k = record {
-              session = awaited.session;
-              is = awaited.is;
-              only = one_token number awaited.session.awaits one awaited.among;
-            } in
-            by_parent last kept.0 awaited.session.parent refl kept.1 (waits ∙ one) kept.2.parent status
-      ]
+      let some = at_least_one awaited.session.awaits (Way number) awaited.among in (
+        status,
+        elim (cases_lt 1 (length awaited.session.awaits)) [
+          | inl more ↦
+              inl (hands s s' number node from k kept.0 before taken remembers status kept.1 (omega (arith, waits, more)))
+          | inr most ↦
+              let one : length awaited.session.awaits ≡ 1 = omega (arith, some, most) in
+              let last : IsLastAnswer s number node k = record {
+                session = awaited.session;
+                is = awaited.is;
+                only = one_token number awaited.session.awaits one awaited.among;
+              } in
+              inr (by_parent last kept.0 awaited.session.parent refl kept.1 (waits ∙ one) kept.2.parent status)
+        ],
+      )
     where
       held : (one other : NodeState) → s.node (name_of node) ≡ Some one → s.node (name_of node) ≡ Some other → holds_sessions one.status
           → holds_sessions other.status
@@ -165,18 +179,42 @@ module _ (body : ℕ → Body)
 
       by_parent : (last : IsLastAnswer s number node k) (a : Session) (above : Option (List ℕ × ℕ)) → last.session.parent ≡ above
           → join_session_at node k ≡ Some a → a.waiting ≡ 1 → a.parent ≡ kept_parent last.session
-          → (node.status ≡ Joining) ⊎ ((node.status ≡ Core) ⊎ (node.status ≡ Ceased)) → AreExact s'
+          → (node.status ≡ Joining) ⊎ ((node.status ≡ Core) ⊎ (node.status ≡ Ceased))
+          → ClosesRoot s s' number (frame_to node from (body k)) (name_of node) k (sent_at s node from (body k))
+          ⊎ ((w : List ℕ) × (m : ℕ)
+          × ClosesChild s s' number (frame_to node from (body k)) (name_of node) k w m (sent_at s node from (body k)))
       by_parent last a None top is waits parent status =
-          let step = root s s' number node from k a last.session.joiner before taken remembers status is waits
-          (parent ∙ ap (parent_at last.session.joiner) top) last top in
-          last_answer_law s s' number (frame_to node from (body k)) (name_of node) k (sent_at s node from (body k)) step before.exact
+          inl (root s s' number node from k a last.session.joiner before taken remembers status is waits
+          (parent ∙ ap (parent_at last.session.joiner) top) last top)
       by_parent last a (Some (w, m)) above is waits parent status =
-          let step = child s s' number node from k a w m before taken remembers status is waits
-          (parent ∙ ap (parent_at last.session.joiner) above) last above in
-          closing_law s s' number (frame_to node from (body k)) (name_of node) k w m (sent_at s node from (body k)) step before.exact
+          inr (
+            w,
+            m,
+            child s s' number node from k a w m before taken remembers status is waits
+                (parent ∙ ap (parent_at last.session.joiner) above) last above,
+          )
+
+pub heard_is_taken : AnswerIsTaken Heard
+heard_is_taken = is_taken Heard (λ k from to. refl) heard_hands_on heard_closes_root heard_closes_child
+
+pub ack_is_taken : AnswerIsTaken Ack
+ack_is_taken = is_taken Ack (λ k from to. refl) ack_hands_on ack_closes_root ack_closes_child
+
+-- in each case the sessions are exact
+answered_exact : (s s' : System) (number : ℕ) (f : Frame) (own : List ℕ) (k : ℕ) (sent : List (ℕ × Frame))
+    → IsAnswered s s' number f own k sent → AreExact s → AreExact s'
+answered_exact s s' number f own k sent (inl hands) exact = handing_on_law s s' number f own k sent hands exact
+answered_exact s s' number f own k sent (inr (inl root)) exact = last_answer_law s s' number f own k sent root exact
+answered_exact s s' number f own k sent (inr (inr child)) exact =
+    closing_law s s' number f own k child.0 child.1 sent child.2 exact
+
+keeps_exact : (body : ℕ → Body) → AnswerIsTaken body → AnswerKeepsExact body
+keeps_exact body taken_so s s' number node from k before counted taken remembers among =
+    answered_exact s s' number (frame_to node from (body k)) (name_of node) k (sent_at s node from (body k))
+    (taken_so s s' number node from k before counted taken remembers among).1 before.exact
 
 pub heard_keeps_exact : AnswerKeepsExact Heard
-heard_keeps_exact = keeps_sessions Heard (λ k from to. refl) heard_hands_on heard_closes_root heard_closes_child
+heard_keeps_exact = keeps_exact Heard heard_is_taken
 
 pub ack_keeps_exact : AnswerKeepsExact Ack
-ack_keeps_exact = keeps_sessions Ack (λ k from to. refl) ack_hands_on ack_closes_root ack_closes_child
+ack_keeps_exact = keeps_exact Ack ack_is_taken

@@ -54,21 +54,21 @@ use Rattle.tap_moves.proofs.SeekMade.{seek_greets}
 -- ---- names
 
 -- a node's name is a name
-name_at : (p : SettingsValue) (s : System) → AreNodes p s → (x : List ℕ) (node : NodeState) → s.node x ≡ Some node → IsName p x
+pub name_at : (p : SettingsValue) (s : System) → AreNodes p s → (x : List ℕ) (node : NodeState) → s.node x ≡ Some node → IsName p x
 name_at p s are x node at =
     let is = are.nodes x node at in
     subst (λ q. IsName q x) is.settings (subst (IsName (settings_of node)) is.name is.is_node.ties.table.owner)
 
-core_name : (p : SettingsValue) (s : System) → AreNodes p s → (x : List ℕ) → IsCoreNode s x → IsName p x
+pub core_name : (p : SettingsValue) (s : System) → AreNodes p s → (x : List ℕ) → IsCoreNode s x → IsName p x
 core_name p s are x core = name_at p s are x core.state core.is
 
-joiner_name : (p : SettingsValue) (s : System) → AreNodes p s → (x : List ℕ) → IsJoiner s x → IsName p x
+pub joiner_name : (p : SettingsValue) (s : System) → AreNodes p s → (x : List ℕ) → IsJoiner s x → IsName p x
 joiner_name p s are x joiner = name_at p s are x joiner.state joiner.is
 
-known_name : (p : SettingsValue) (s : System) → AreNodes p s → (x : List ℕ) → HasNode s x → IsName p x
+pub known_name : (p : SettingsValue) (s : System) → AreNodes p s → (x : List ℕ) → HasNode s x → IsName p x
 known_name p s are x known = name_at p s are x known.state known.is
 
-soft_name : (p : SettingsValue) (s : System) → AreNodes p s → (x : List ℕ) → IsSoft s x → IsName p x
+pub soft_name : (p : SettingsValue) (s : System) → AreNodes p s → (x : List ℕ) → IsSoft s x → IsName p x
 soft_name p s are x (inl joiner) = joiner_name p s are x joiner
 soft_name p s are x (inr (inl core)) = core_name p s are x core
 soft_name p s are x (inr (inr ceased)) = name_at p s are x ceased.state ceased.is
@@ -78,7 +78,7 @@ module _ (p : SettingsValue) (s : System) (number : ℕ) (node : NodeState) (fro
   abbrev own : List ℕ
   own = name_of node
 
-  due : IsArriving s number node from body
+  pub due : IsArriving s number node from body
   due = record {
     numbers = is.invariant.numbered;
     among = is.among;
@@ -87,18 +87,18 @@ module _ (p : SettingsValue) (s : System) (number : ℕ) (node : NodeState) (fro
     known = is.known;
   }
 
-  way : IsUnderWay s from own body
+  pub way : IsUnderWay s from own body
   way = record { number = number; among = is.among }
 
   -- a name by the settings is one by the node's
-  of_node : (x : List ℕ) → IsName p x → IsName (settings_of node) x
+  pub of_node : (x : List ℕ) → IsName p x → IsName (settings_of node) x
   of_node x name = subst (λ q. IsName q x) (sym (is.nodes.nodes own node is.at).settings) name
 
-  sender_name : IsName (settings_of node) from
+  pub sender_name : IsName (settings_of node) from
   sender_name = of_node from (known_name p s is.nodes from (is.invariant.ends.known number (frame_to node from body) is.among).0)
 
   -- while such a frame is under way nobody departs, so no link is marked
-  unmarked : (may_be_then body → ⊥) → (x t : List ℕ) → HasLink s x t Marked → ⊥
+  pub unmarked : (may_be_then body → ⊥) → (x t : List ℕ) → HasLink s x t Marked → ⊥
   unmarked never x t link = by_departing s.departing refl
     where
       by_departing : (departing : Option Leaver) → s.departing ≡ departing → ⊥
@@ -167,10 +167,10 @@ module _ (p : SettingsValue) (s : System) (number : ℕ) (node : NodeState) (fro
 
   -- a Tell at a core node, which covers the joiner at some level already, or doesn't
   module _ (tell : TellFields) (watch : List Slot) (is : IsDelivery p s number node from (tell_body tell watch)) where
-    told : IsSoundTell p s from (name_of node) tell
+    pub told : IsSoundTell p s from (name_of node) tell
     told = is.invariant.tells.each from (name_of node) tell watch (way p s number node from (tell_body tell watch) is)
 
-    told_name : IsName (settings_of node) tell.joiner
+    pub told_name : IsName (settings_of node) tell.joiner
     told_name = of_node p s number node from (tell_body tell watch) is tell.joiner (joiner_name p s is.nodes tell.joiner told.joiner)
 
     before_tell : BeforeTell p s
@@ -456,7 +456,7 @@ seek_gives p s number node from joiner prefix is at found e core near =
     } in
     low_law p s s' (name_of node) joiner step e core near
 
-before_taking : (p : SettingsValue) (s : System) → Invariant p s → BeforeTaking s
+pub before_taking : (p : SettingsValue) (s : System) → Invariant p s → BeforeTaking s
 before_taking p s inv =
     record { exact = inv.exact; joiners = inv.of_joiners; deeper = inv.deeper; places = inv.places; numbers = inv.numbered }
 

@@ -16,6 +16,8 @@ pub mod WordsMade
 pub mod SoftMade
 pub mod StartsMade
 pub mod InvariantMoves
+pub mod SessionMoves
+pub mod CalmMoves
 pub mod Spelled
 pub mod FewLinks
 pub mod SpelledJoins

@@ -1,13 +1,10 @@
 -- The primary of the slot in which a name stands, by the digits that the names share.
-use Rattle.std.proofs.Common.{◌≡◌, ◌≢◌, ℕ, ◌<◌, List, Some, get_or, nat_eq, arith, ap, sym, ◌∙◌}
-use Rattle.std.specs.List.{common_prefix_len}
-use Rattle.tap_name.specs.declared.slot.Slot.{Slot}
+use Rattle.std.proofs.Common.{◌≡◌, ◌≢◌, ℕ, ◌<◌, List, Some, arith}
 use Rattle.tap_name.specs.Name.{IsName}
 use Rattle.tap_name.specs.Prefix.{lcp}
-use Rattle.tap_name.specs.Settings.{SettingsValue}
-use Rattle.tap_name.proofs.Prefixes.{lcp-is, lcp-more}
+use Rattle.tap_name.proofs.Prefixes.{lcp-is}
 use Rattle.tap_link.specs.declared.kind.Kind.TheVariants.{Settled}
-use Rattle.tap_table.specs.Table.{IsTable, TableValue, kind_in, place_of}
+use Rattle.tap_table.specs.Table.{IsTable, TableValue, kind_in}
 use Rattle.tap_table.proofs.Found.{linked_is_name}
 use Rattle.tap_table.proofs.Primaries.{primary_near}
 use Rattle.tap_table.proofs.Slots.{place_inside}

@@ -156,7 +156,7 @@ quiet_aside node from body quiet =
       sent_none = λ f y k among belongs. quiet_none f.body f.from f.to y k (step.sent f among) belongs;
     }
 
-outside_aside : (node : NodeState) (from : List ℕ) (body : Body) → is_strange node (frame_to node from body) ≡ false → IsOutside node body
+pub outside_aside : (node : NodeState) (from : List ℕ) (body : Body) → is_strange node (frame_to node from body) ≡ false → IsOutside node body
     → IsAside node (taken_at node from body).state.sessions.opened (taken_at node from body).sent
 outside_aside node from Done known outside = aside_by node from Done known (done_rule node.status node from)
 outside_aside node from Release known outside = aside_by node from Release known (release_rule node.status node from)

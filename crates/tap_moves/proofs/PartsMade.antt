@@ -32,12 +32,13 @@ use Rattle.tap_rule.proofs.Kept.{joiner_law, kept_law, start_kept_law}
 use Rattle.tap_rule.proofs.Laid.{laid_law}
 use Rattle.tap_safety.specs.Move.Move.{Begins, Delivers}
 use Rattle.tap_safety.specs.Moved.{starter}
+use Rattle.tap_safety.specs.Spelled.{AreSpelled}
 use Rattle.tap_safety.specs.Step.{numbered_from}
 use Rattle.tap_safety.specs.System.{System, AmongFrames}
 use Rattle.tap_safety.proofs.Moves.{delivers, found, starts}
 use Rattle.tap_moves.specs.Delivered.{after_delivery, after_start}
 use Rattle.tap_moves.specs.InvariantLaws.{MoveKeepsParts, PartsKept, StartKeepsParts}
-use Rattle.tap_moves.specs.Spelled.{AreNamedPairs, AreNodes, FramesAreSpelled, IsNamedPair, IsNodeOf, IsParent, KnowsNames}
+use Rattle.tap_moves.specs.Spelled.{AreNamedPairs, AreNodes, IsNamedPair, IsNodeOf, IsParent, KnowsNames}
 use Rattle.tap_moves.proofs.Exchanged.{exchanges, in_either, sent_numbered}
 use Rattle.tap_moves.proofs.FewLinks.{none_linked}
 use Rattle.tap_moves.proofs.Got.{all_among, among_all}
@@ -220,12 +221,12 @@ nodes_after p s s' x after at others here are = record {
 }
 
 -- frames that come have spellings
-frames_after : (p : SettingsValue) (s s' : System) (sent : List Frame) → All (IsFrame p) sent → FramesAreSpelled p s
+frames_after : (p : SettingsValue) (s s' : System) (sent : List Frame) → All (IsFrame p) sent → AreSpelled p s
     → ((m : ℕ) (f : Frame) → AmongFrames m f s'.frames → AmongFrames m f s.frames ⊎ AmongFrames m f (numbered_from s.next sent))
-    → FramesAreSpelled p s'
+    → AreSpelled p s'
 frames_after p s s' sent all are either = record {
-  frames = λ m f among. elim (either m f among) [
-    | inl old ↦ are.frames m f old
+  each = λ m f among. elim (either m f among) [
+    | inl old ↦ are.each m f old
     | inr comes ↦ among_all (IsFrame p) sent all f (sent_numbered m f s.next sent comes)
   ];
 }
@@ -235,7 +236,7 @@ parts_kept p s number frame node nodes frames numbers among at =
     let s' = after_delivery p s number in
     let of = nodes.nodes frame.to node at in
     let step = delivers p s number frame node (found number frame 0 s.frames s.next numbers.numbers among) at in
-    let fits = subst (λ q. IsFrame q frame) (sym of.settings) (frames.frames number frame among) in
+    let fits = subst (λ q. IsFrame q frame) (sym of.settings) (frames.each number frame among) in
     let knows = subst (λ q. KnowsNames q node) (sym of.settings) of.knows in
     let acted = act node (Takes frame) in
     let spelled = taken_spelled node of.is_node knows frame fits in
@@ -248,10 +249,10 @@ parts_kept p s number frame node nodes frames numbers among at =
 -- ---- starts
 
 -- a node that starts something, by its name
-start_keeps : (p : SettingsValue) (s : System) (x : List ℕ) (start : Start) (node : NodeState) → AreNodes p s → FramesAreSpelled p s
+start_keeps : (p : SettingsValue) (s : System) (x : List ℕ) (start : Start) (node : NodeState) → AreNodes p s → AreSpelled p s
     → (of : IsNodeOf p x node) → starter p s x start ≡ Some node
     → SaysNames node of.is_node (subst (λ q. KnowsNames q node) (sym of.settings) of.knows) start
-    → AreNodes p (after_start p s x start) × FramesAreSpelled p (after_start p s x start)
+    → AreNodes p (after_start p s x start) × AreSpelled p (after_start p s x start)
 start_keeps p s x start node nodes frames of is named =
     let s' = after_start p s x start in
     let step = starts p s x start node is in
@@ -294,20 +295,19 @@ start_keeps_parts p s x Abandon nodes frames may named =
 start_keeps_parts p s x Leave nodes frames may named =
     start_keeps p s x Leave may.acts.state nodes frames (nodes.nodes x may.acts.state may.acts.is) may.acts.is tt
 start_keeps_parts p s x (Publish object) nodes frames may named =
-    let of = nodes.nodes x may.state may.is in
-    start_keeps p s x (Publish object) may.state nodes frames of may.is (subst (λ q. IsName q object) (sym of.settings) named)
+    let of = nodes.nodes x may.acts.state may.acts.is in
+    start_keeps p s x (Publish object) may.acts.state nodes frames of may.acts.is (subst (λ q. IsName q object) (sym of.settings) named)
 start_keeps_parts p s x (Withdraw object) nodes frames may named =
-    start_keeps p s x (Withdraw object) may.state nodes frames (nodes.nodes x may.state may.is) may.is tt
+    start_keeps p s x (Withdraw object) may.acts.state nodes frames (nodes.nodes x may.acts.state may.acts.is) may.acts.is tt
 start_keeps_parts p s x (Find ticket object) nodes frames may named =
-    let of = nodes.nodes x may.state may.is in
-    start_keeps p s x (Find ticket object) may.state nodes frames of may.is (subst (λ q. IsName q object) (sym of.settings) named)
+    let of = nodes.nodes x may.acts.state may.acts.is in
+    start_keeps p s x (Find ticket object) may.acts.state nodes frames of may.acts.is (subst (λ q. IsName q object) (sym of.settings) named)
 start_keeps_parts p s x (StartCast cast level word) nodes frames may named =
-    start_keeps p s x (StartCast cast level word) may.state nodes frames (nodes.nodes x may.state may.is) may.is named
+    start_keeps p s x (StartCast cast level word) may.acts.state nodes frames (nodes.nodes x may.acts.state may.acts.is) may.acts.is named
 
 -- ---- moves
 
 pub move_keeps_parts : MoveKeepsParts
-move_keeps_parts p s (Begins x start) nodes frames numbers ends may named = start_keeps_parts p s x start nodes frames may named
-move_keeps_parts p s (Delivers number) nodes frames numbers ends may named =
-    let receiver = (ends.known number may.frame may.among).1 in
-    parts_kept p s number may.frame receiver.state nodes frames numbers may.among receiver.is
+move_keeps_parts p s (Begins x start) nodes frames numbers may named = start_keeps_parts p s x start nodes frames may named
+move_keeps_parts p s (Delivers number) nodes frames numbers may named =
+    parts_kept p s number may.frame may.receiver.state nodes frames numbers may.among may.receiver.is

@@ -14,7 +14,7 @@ use Rattle.tap_rule.specs.Node.{NodeState, level_of, name_of}
 use Rattle.tap_rule.specs.Node.Status.{Ceased as HasCeased, Core, Joining}
 use Rattle.tap_rule.specs.QuietSteps.{IsQuiet}
 use Rattle.tap_rule.specs.Strange.{is_strange}
-use Rattle.tap_safety.specs.Bookkeeping.{HaveEnds, has_table}
+use Rattle.tap_safety.specs.Bookkeeping.{has_table}
 use Rattle.tap_safety.specs.Filled.{AreFilled}
 use Rattle.tap_safety.specs.Invariant.{Invariant}
 use Rattle.tap_safety.specs.Move.{Move, may_move, may_start}
@@ -23,21 +23,21 @@ use Rattle.tap_safety.specs.Moved.{moved}
 use Rattle.tap_safety.specs.Remembered.{Word}
 use Rattle.tap_safety.specs.Sessions.{AreExact}
 use Rattle.tap_safety.specs.Soft.{NamesSoft}
+use Rattle.tap_safety.specs.Spelled.{AreSpelled}
 use Rattle.tap_safety.specs.Step.{AreNumbered}
 use Rattle.tap_safety.specs.System.{System, AmongFrames, IsCoreNode}
 use Rattle.tap_safety.specs.Ties.{Ties, Versions, hears_words}
 use Rattle.tap_safety.specs.Words.{IsGiven}
 use Rattle.tap_moves.specs.Delivered.{after_delivery, after_start}
 use Rattle.tap_moves.specs.SessionsLaws.{IsOutside}
-use Rattle.tap_moves.specs.Spelled.{AreNodes, FramesAreSpelled, IsNamedStart}
+use Rattle.tap_moves.specs.Spelled.{AreNodes, IsNamedStart}
 use Rattle.tap_moves.specs.TiesLaws.{WordsStand}
 
--- The invariant holds, each node is one, each frame has a spelling, and a frame of this number, sender and body is under way to this
--- node, to which it isn't strange.
+-- The invariant holds, each node is one, and a frame of this number, sender and body is under way to this node, to which it isn't
+-- strange.
 pub record IsDelivery (p : SettingsValue) (s : System) (number : ℕ) (node : NodeState) (from : List ℕ) (body : Body) : Type 0 where
   pub invariant : Invariant p s
   pub nodes : AreNodes p s
-  pub frames : FramesAreSpelled p s
   pub among : AmongFrames number (frame_to node from body) s.frames
   pub at : s.node (name_of node) ≡ Some node
   pub known : is_strange node (frame_to node from body) ≡ false
@@ -124,25 +124,25 @@ FrameExact = (p : SettingsValue) (s : System) (number : ℕ) (node : NodeState) 
 
 -- a frame of whatever kind that a node takes, whatever its status: each node stays one, and each frame has a spelling
 abbrev pub PartsKept : Type 0
-PartsKept = (p : SettingsValue) (s : System) (number : ℕ) (frame : Frame) (node : NodeState) → AreNodes p s → FramesAreSpelled p s
+PartsKept = (p : SettingsValue) (s : System) (number : ℕ) (frame : Frame) (node : NodeState) → AreNodes p s → AreSpelled p s
     → AreNumbered s → AmongFrames number frame s.frames → s.node frame.to ≡ Some node
-    → AreNodes p (after_delivery p s number) × FramesAreSpelled p (after_delivery p s number)
+    → AreNodes p (after_delivery p s number) × AreSpelled p (after_delivery p s number)
 
 -- and so they are once a node has started what it may start, a departure too
 abbrev pub StartKeepsParts : Type 0
-StartKeepsParts = (p : SettingsValue) (s : System) (x : List ℕ) (start : Start) → AreNodes p s → FramesAreSpelled p s
+StartKeepsParts = (p : SettingsValue) (s : System) (x : List ℕ) (start : Start) → AreNodes p s → AreSpelled p s
     → may_start p s x start → IsNamedStart p start
-    → AreNodes p (after_start p s x start) × FramesAreSpelled p (after_start p s x start)
+    → AreNodes p (after_start p s x start) × AreSpelled p (after_start p s x start)
 
 -- what a move brings: a frame brings nothing that isn't under way already
 abbrev pub IsNamedMove : SettingsValue → Move → Type 0
 IsNamedMove p (Begins x start) = IsNamedStart p start
 IsNamedMove p (Delivers number) = Unit {0}
 
--- so they are after every possible move, if the frames are numbered and their receivers known
+-- so they are after every possible move, if the frames are numbered
 abbrev pub MoveKeepsParts : Type 0
-MoveKeepsParts = (p : SettingsValue) (s : System) (move : Move) → AreNodes p s → FramesAreSpelled p s → AreNumbered s → HaveEnds s
-    → may_move p s move → IsNamedMove p move → AreNodes p (moved p s move) × FramesAreSpelled p (moved p s move)
+MoveKeepsParts = (p : SettingsValue) (s : System) (move : Move) → AreNodes p s → AreSpelled p s → AreNumbered s
+    → may_move p s move → IsNamedMove p move → AreNodes p (moved p s move) × AreSpelled p (moved p s move)
 
 -- whoever starts to join wasn't started before; a departure isn't meant
 abbrev pub IsNew : System → List ℕ → Start → Type 0

@@ -8,3 +8,5 @@ pub mod Delivered
 pub mod MovesLaws
 pub mod Spelled
 pub mod InvariantLaws
+pub mod SessionMoves
+pub mod CalmMoves

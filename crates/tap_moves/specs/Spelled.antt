@@ -12,14 +12,13 @@ use Rattle.tap_session.specs.declared.parent.Parent.{Parent}
 use Rattle.tap_session.specs.declared.parent.Parent.TheVariants.{Node, Root}
 use Rattle.tap_session.specs.Session.{SessionsValue}
 use Rattle.tap_table.specs.ByName.{targets_by_name}
-use Rattle.tap_wire.specs.declared.frame.Frame.{Frame}
 use Rattle.tap_wire.specs.Layout.{most_links}
-use Rattle.tap_wire.specs.Spelling.{IsFrame, IsLevel}
+use Rattle.tap_wire.specs.Spelling.{IsLevel}
 use Rattle.tap_rule.specs.Event.{Start}
 use Rattle.tap_rule.specs.Event.Start.{Cast, Find, Publish}
 use Rattle.tap_rule.specs.Kept.{IsNode}
 use Rattle.tap_rule.specs.Node.{IsRunning, NodeState, name_of, settings_of}
-use Rattle.tap_safety.specs.System.{System, AmongFrames}
+use Rattle.tap_safety.specs.System.{System}
 
 -- whoever is answered in the end is a name, and its session has a number
 abbrev pub IsParent : SettingsValue → Parent → Type 0
@@ -68,7 +67,3 @@ pub record IsNodeOf (p : SettingsValue) (x : List ℕ) (node : NodeState) : Type
 
 pub record AreNodes (p : SettingsValue) (s : System) : Type 0 where
   pub nodes : (x : List ℕ) (node : NodeState) → s.node x ≡ Some node → IsNodeOf p x node
-
--- each frame under way has a spelling: it goes between two names, and what it says keeps the rules of its fields
-pub record FramesAreSpelled (p : SettingsValue) (s : System) : Type 0 where
-  pub frames : (number : ℕ) (frame : Frame) → AmongFrames number frame s.frames → IsFrame p frame

@@ -3,6 +3,8 @@ ghost use Rattle.tap_moves.specs.FrameLaws.{CeasedTellIsMade, ForgetIsMade, Givi
 ghost use Rattle.tap_moves.specs.Laws.{CeasedAnswers, DoneIsMade, KnownTellIsMade, NewTellIsMade, SeekCovers, SeekGreets, SeekOpens, TellInSession};
 ghost use Rattle.tap_moves.specs.MovesLaws.{AnswerKeepsSessions, CeasedTellKeeps, DeliveryIsByRule, DoneKeeps, ForgetKeeps, GivingUpKeeps, HelloKeeps, HelloKeepsSessions, JoinKeeps, JoiningTellKeeps, KnownTellKeeps, LinkKeeps, OutsideKeepsSessions, PlainKeeps, QuietStartKeeps, ReleaseKeeps, SeekKeeps, SeekKeepsSessions, TellKeeps, TellKeepsSessions};
 ghost use Rattle.tap_moves.specs.InvariantLaws.{FrameExact, FrameFills, FrameSays, FrameSoft, LinkTies, MoveKeepsParts, PartsKept, SeekGives, StartFills, StartKeepsParts};
+ghost use Rattle.tap_moves.specs.CalmMoves.{FrameDeeper, FramePeaceful, FrameSeeks};
+ghost use Rattle.tap_moves.specs.SessionMoves.{FrameAwaits, FrameCore, FrameNames, FramePlaces, FrameSteps, OutsideBooks, StartNames};
 ghost use Rattle.tap_moves.specs.SessionsLaws.{AnswerClosesChild, AnswerClosesRoot, AnswerHandsOn, AnswerKeepsExact, HandsOnByHello, HandsOnByTell, OpensChildByTell, OpensRootBySeek, OutsideLeavesSessions};
 ghost use Rattle.tap_moves.specs.TiesLaws.{LinkIsMade};
 
@@ -145,7 +147,7 @@ pub fn starts_keep()
 /// What moves keep of each node and of each frame, whatever its kind and whatever the status of its receiver: each node keeps what nodes
 /// keep, stands under its own name, speaks of names alone, and has its pairs laid as wanted while it runs; and each frame under way has a
 /// spelling. A frame that is delivered keeps this, be it strange or not, and so does whatever a node may start, if an object is a name and
-/// what is cast is a word. So does every possible move, if frames are numbered and their receivers known.
+/// what is cast is a word. So does every possible move, if frames are numbered.
 ///
 /// It does nothing: its contract is the law.
 ///
@@ -156,8 +158,8 @@ pub fn parts_kept()
     ensures moves { MoveKeepsParts }
 {}
 
-/// If the invariant holds, each node is one that steps keep valid, and each frame has a spelling, then once a frame under way is delivered
-/// that isn't strange to its receiver: after each frame of a join, of pointers and of casts, but the Done of a join that was given up, what
+/// If the invariant holds, and each node is one that steps keep valid, then once a frame under way is delivered that isn't strange to its
+/// receiver: after each frame of a join, of pointers and of casts, but the Done of a join that was given up, what
 /// leads to tables without holes holds, and the sessions are exact; the words of links stand after a Link, and after each other frame
 /// whose taker says of each link that it changes; settled links are to core nodes and pins to soft ones, but after a Tell at a core node, a
 /// Seek at the surrogate and a Done; and a new joiner is given each slot up to its prefix.
@@ -172,4 +174,46 @@ pub fn deliveries_from_invariant()
     ensures soft { FrameSoft }
     ensures seek { SeekGives }
     ensures exact { FrameExact }
+{}
+
+/// If the invariant holds, and each node is one that steps keep valid, then a frame that is delivered where a rule takes it does one of six
+/// things with the sessions of joins: one awaits what is sent in place of the frame, one is opened or closed, below another or as the root
+/// of its joiner, or none changes. After it each session awaits each answer once, of sessions that are open, and has its place: at a node
+/// that may have it open and has opened as many, below another node's; and some node is core. After a frame of no session each session
+/// awaits an answer, as many as its node waits for, and each Tell is one deeper than its session.
+///
+/// It does nothing: its contract is the law.
+///
+/// Rule: docs/PROTOCOL.md, "Covers of a node".
+pub fn sessions_from_invariant()
+    ensures steps { FrameSteps }
+    ensures awaited { FrameAwaits }
+    ensures places { FramePlaces }
+    ensures core { FrameCore }
+    ensures outside { OutsideBooks }
+{}
+
+/// If the invariant holds, and each node is one that steps keep valid, then once a frame of whatever kind is delivered, whatever the status
+/// of its receiver, and once a node has started what it may start, nodes have names of the settings, at most as many as there may be,
+/// frames have spellings, and their numbers ascend.
+///
+/// It does nothing: its contract is the law.
+///
+/// Rule: docs/PROTOCOL.md, "Nodes" and "Steps of a node".
+pub fn names_from_invariant()
+    ensures frames { FrameNames }
+    ensures starts { StartNames }
+{}
+
+/// If the invariant holds, and each node is one that steps keep valid, then after an answer, a Link, a Tell at a node that has ceased, and
+/// each frame of pointers and casts that isn't strange: who isn't started is known to nobody but its one Seek, Tells are sound, and each is
+/// one deeper than its session. If nobody departs, nobody does afterwards, and no notice is under way.
+///
+/// It does nothing: its contract is the law.
+///
+/// Rule: docs/PROTOCOL.md, "Steps of a node".
+pub fn calm_from_invariant()
+    ensures seeks { FrameSeeks }
+    ensures peace { FramePeaceful }
+    ensures deeper { FrameDeeper }
 {}

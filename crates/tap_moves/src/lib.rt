@@ -6,6 +6,7 @@
 mod law;
 
 pub use law::{
-    deliveries_from_invariant, deliveries_keep, deliveries_keep_sessions, done_moves, frames_move,
-    link_moves, parts_kept, seek_moves, sessions_move, starts_keep, tell_moves,
+    calm_from_invariant, deliveries_from_invariant, deliveries_keep, deliveries_keep_sessions,
+    done_moves, frames_move, link_moves, names_from_invariant, parts_kept, seek_moves,
+    sessions_from_invariant, sessions_move, starts_keep, tell_moves,
 };

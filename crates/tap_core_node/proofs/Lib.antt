@@ -1,0 +1,8 @@
+pub mod Laid
+pub mod Followed
+pub mod Covers
+pub mod Spreads
+pub mod CastSteps
+pub mod Steps
+pub mod Pins
+pub mod Asked

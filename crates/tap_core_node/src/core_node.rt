@@ -1,0 +1,479 @@
+ghost use Rattle.std.specs.Prelude.{◌≡◌, ◌≢◌, ℕ, ◌+◌, ◌*◌, ◌<◌, ◌≤◌, Bool, true, Some, List, ◌++◌, All, Contains, IfOk, IfSome, OnOk};
+ghost use Rattle.tap_name.specs.Distinct.{AreDistinct};
+ghost use Rattle.tap_name.specs.declared.slot.Slot.{Slot};
+ghost use Rattle.tap_name.specs.Name.{IsName};
+ghost use Rattle.tap_pointer.specs.Pointers.{held_or_laid_count, pair_of};
+ghost use Rattle.tap_pointer.specs.Reconcile.{AreLaidBut};
+ghost use Rattle.tap_rule.specs.Answers.{answered};
+ghost use Rattle.tap_rule.specs.FrameRules.{frame_at_core};
+ghost use Rattle.tap_rule.specs.Leaving.{takes_leave, takes_out};
+ghost use Rattle.tap_rule.specs.Links.{forgets, hears_and_releases, releases};
+ghost use Rattle.tap_rule.specs.Node.{member_at_rest};
+ghost use Rattle.tap_rule.specs.Pointers.{asks, finds, lays_due, starts_publishing, takes_lay, with_reconciled, withdraws};
+ghost use Rattle.tap_wire.specs.Spelling.{IsLevel};
+ghost use Rattle.tap_step.specs.Sender.{lay_bytes, sender_of};
+ghost use Rattle.tap_step.specs.Sound.{AreNamedHops, AreNamedPairs, IsSoundNode, MayTake, has_numbers_left};
+ghost use Rattle.tap_step.specs.States.{newly_core};
+ghost use Rattle.tap_step.specs.Step.{FollowsAs};
+ghost use Rattle.tap_core_node.specs.State.{core_state};
+
+use crate::casting::CastCopy;
+use crate::covering::Request;
+use std::alloc::Global;
+use tap_depart::told_leave;
+use tap_join::Core;
+use tap_link::{Forget, Release};
+use tap_name::{List, Name, Settings};
+use tap_pointer::Pointers;
+use tap_register::Stamp;
+use tap_session::{Parent, Sessions};
+use tap_step::{
+    News, NoMemory, NodeParts, Sender, TakenFind, TakenLay, ask, hear_and_release, reconcile,
+    reconcile_pair, take_answer, take_find, take_lay,
+};
+use tap_table::Ties;
+use tap_turn::FrameList;
+use tap_wire::{Body, Frame};
+
+/// A node that takes full part.
+///
+/// Its fields are open, to the layers of a node alone: what they come to is the state of the node.
+///
+/// Rule: docs/PROTOCOL.md, "Nodes".
+#[derive(Drop)]
+pub struct CoreNode {
+    /// Where it takes memory.
+    pub alloc: Global,
+    /// Its ties.
+    pub core: Core,
+    /// What it keeps beside them.
+    pub parts: NodeParts,
+}
+
+impl CoreNode {
+    /// A core node that covers nobody and has met no cast. This takes no memory.
+    pub fn new(
+        alloc: Global,
+        core: Core,
+        stamp: Stamp,
+        sessions: Sessions,
+        pointers: Pointers,
+    ) -> CoreNode
+        ensures { core_state result ≡ newly_core core stamp sessions pointers }
+    {
+        CoreNode {
+            alloc,
+            core,
+            parts: NodeParts::new(alloc, stamp, sessions, pointers),
+        }
+    }
+
+    /// One of the members with which an overlay begins: a core node, with its ties at rest.
+    ///
+    /// The members are distinct names of the settings, and the node is one of them.
+    pub fn member(
+        alloc: Global,
+        name: Name,
+        settings: &Settings,
+        members: &List<Name>,
+    ) -> Result<CoreNode, NoMemory>
+        requires names { All (IsName settings.now) members.now }
+        requires distinct { AreDistinct members.now }
+        requires member { Contains members.now name }
+        ensures { IfOk result (λ node. core_state node ≡ member_at_rest settings.now members.now name) }
+    {
+        let ties = Ties::at_rest(alloc, name, settings, members)?;
+        Ok(CoreNode::new(
+            alloc,
+            Core::at_rest(ties),
+            Stamp::new(),
+            Sessions::new(alloc),
+            Pointers::new(alloc, name),
+        ))
+    }
+
+    pub(crate) fn sender(&self) -> Sender
+        ensures value { result ≡ sender_of self.now.core.table }
+        ensures name { IsName result.settings result.name }
+    {
+        Sender::of(self.core.ties().table())
+    }
+
+    /// Takes a frame: it does as the rule of a node says. If memory is refused, the node is used no more.
+    ///
+    /// Rule: docs/PROTOCOL.md, "Steps of a node".
+    #[tactic(auto, unfolding(tap_rule::specs::FrameRules::frame_at_core))]
+    pub fn take(&mut self, frame: &Frame, sent: &mut FrameList) -> Result<News, NoMemory>
+        requires { MayTake (core_state self.old) frame.now }
+        ensures { IfOk result (λ news. FollowsAs (core_state self.old)
+            (frame_at_core (core_state self.old) frame.now.from frame.now.body) (core_state self.new) sent.old sent.new news) }
+    {
+        let from = frame.from;
+        match &frame.body {
+            Body::Seek { .. } => self.take_seek(frame, sent),
+            Body::Tell { .. } => self.take_tell(frame, sent),
+            Body::Heard { session } | Body::Ack { session } => self.answered(sent, *session),
+            Body::Release => self.releases(sent, Release { from }),
+            Body::Link { version, on } => self.hears_and_releases(sent, from, *version, *on),
+            Body::Lay { .. } => self.take_lay(frame, sent),
+            Body::Find { .. } => self.take_find(frame, sent),
+            Body::Answer { ticket, server } => Ok(News::Answered {
+                ticket: *ticket,
+                server: *server,
+            }),
+            Body::Leave { replacement } => self.takes_leave(sent, from, *replacement),
+            Body::Gone => self.takes_out(sent, from),
+            Body::Forget => Ok(self.forgets(Forget { from })),
+            Body::Cast { .. } => self.take_cast(frame, sent),
+            Body::CastAck { session } => self.cast_answered(sent, *session),
+            Body::Hello { .. } | Body::Done | Body::Left => Ok(News::Nothing),
+        }
+    }
+
+    // Takes a Tell.
+    fn take_tell(&mut self, frame: &Frame, sent: &mut FrameList) -> Result<News, NoMemory>
+        requires { MayTake (core_state self.old) frame.now }
+        ensures { (joiner : List ℕ) (prefix level session depth : ℕ) (watch : List Slot) → frame.now.body ≡ Body.Tell joiner prefix level session depth watch
+            → IfOk result (λ news. FollowsAs (core_state self.old)
+            (frame_at_core (core_state self.old) frame.now.from frame.now.body) (core_state self.new) sent.old sent.new news) }
+    {
+        let from = frame.from;
+        let Body::Tell {
+            joiner,
+            prefix,
+            level,
+            session,
+            depth,
+            watch,
+        } = &frame.body
+        else {
+            return Ok(News::Nothing);
+        };
+        let parent = Parent::Node {
+            name: from,
+            session: *session,
+        };
+        let request = Request {
+            joiner: *joiner,
+            prefix: *prefix,
+            level: *level,
+            parent,
+            depth: *depth,
+        };
+        self.pins_and_covers(sent, &request, watch)
+    }
+
+    // Heard or Ack: a session of joins has one answer more, and after the last one its parent is answered.
+    fn answered(&mut self, sent: &mut FrameList, session: u32) -> Result<News, NoMemory>
+        requires { IsSoundNode (core_state self.old) }
+        ensures { IfOk result (λ news. FollowsAs (core_state self.old) (Some (answered (core_state self.old) session))
+            (core_state self.new) sent.old sent.new news) }
+    {
+        let sender = self.sender();
+        take_answer(&mut self.parts.sessions, &sender, sent, session)?;
+        Ok(News::Nothing)
+    }
+
+    // Link: a new one is answered with a Release.
+    fn hears_and_releases(
+        &mut self,
+        sent: &mut FrameList,
+        holder: Name,
+        version: u32,
+        on: bool,
+    ) -> Result<News, NoMemory>
+        requires sound { IsSoundNode (core_state self.old) }
+        requires name { IsName self.old.core.table.settings holder }
+        requires other { holder ≢ self.old.core.table.owner }
+        ensures { IfOk result (λ news. FollowsAs (core_state self.old)
+            (Some (hears_and_releases (core_state self.old) holder version on)) (core_state self.new) sent.old sent.new news) }
+    {
+        hear_and_release(self.core.ties_mut(), sent, holder, version, on)?;
+        Ok(News::Nothing)
+    }
+
+    // Forget: a pin on the sender is gone.
+    fn forgets(&mut self, by: Forget<Name>) -> News
+        requires sound { IsSoundNode (core_state self.old) }
+        requires name { IsName self.old.core.table.settings by.from }
+        requires other { by.from ≢ self.old.core.table.owner }
+        ensures { (before : List (List ℕ)) → FollowsAs (core_state self.old) (Some (forgets (core_state self.old) by.from))
+            (core_state self.new) before before result }
+    {
+        self.core.ties_mut().forget(by);
+        News::Nothing
+    }
+
+    // Release: a pin on the sender is settled if its slot has room, and else dropped. If the slot's primary is another one
+    // now, pairs may be wanted elsewhere.
+    fn releases(&mut self, sent: &mut FrameList, by: Release<Name>) -> Result<News, NoMemory>
+        requires sound { IsSoundNode (core_state self.old) }
+        requires room { has_numbers_left (core_state self.old) ≡ true }
+        requires name { IsName self.old.core.table.settings by.from }
+        requires other { by.from ≢ self.old.core.table.owner }
+        ensures { IfOk result (λ news. FollowsAs (core_state self.old) (Some (releases (core_state self.old) by.from))
+            (core_state self.new) sent.old sent.new news) }
+    {
+        let from = by.from;
+        let before = self.core.ties().table().near(&from).primary();
+        let word = self.core.ties_mut().release(&mut self.parts.stamp, by);
+        self.sender().send_word(sent, word)?;
+        let after = self.core.ties().table().near(&from).primary();
+        if before == after {
+            return Ok(News::Nothing);
+        }
+        self.reconciles(sent)?;
+        Ok(News::Nothing)
+    }
+
+    // Lays all pairs as wanted.
+    fn reconciles(&mut self, sent: &mut FrameList) -> Result<(), NoMemory>
+        requires owner { self.old.core.table.owner ≡ self.old.parts.pointers.owner }
+        requires names { AreNamedPairs self.old.core.table.settings self.old.parts.pointers }
+        requires hops { AreNamedHops self.old.core.table.settings self.old.parts.pointers }
+        requires numbers { self.old.parts.stamp + 2 * held_or_laid_count self.old.parts.pointers.pairs ≤ u32.MAX }
+        ensures after { OnOk result (core_state self.new ≡ with_reconciled (core_state self.old)) }
+        ensures sent { OnOk result (sent.new
+            ≡ sent.old ++ lay_bytes (sender_of self.old.core.table) (lays_due (core_state self.old))) }
+    {
+        let table = self.core.ties().table();
+        reconcile(&mut self.parts.pointers, table, &mut self.parts.stamp, sent)
+    }
+
+    // Lays the pair of an object that it serves itself as wanted, if no other pair needs it.
+    fn reconciles_own(&mut self, sent: &mut FrameList, object: Name) -> Result<(), NoMemory>
+        requires owner { self.old.core.table.owner ≡ self.old.parts.pointers.owner }
+        requires names { AreNamedPairs self.old.core.table.settings self.old.parts.pointers }
+        requires hops { AreNamedHops self.old.core.table.settings self.old.parts.pointers }
+        requires numbers { self.old.parts.stamp + 2 ≤ u32.MAX }
+        requires others { AreLaidBut self.old.core.table (pair_of object self.old.core.table.owner) self.old.parts.pointers }
+        ensures after { OnOk result (core_state self.new ≡ with_reconciled (core_state self.old)) }
+        ensures sent { OnOk result (sent.new
+            ≡ sent.old ++ lay_bytes (sender_of self.old.core.table) (lays_due (core_state self.old))) }
+    {
+        let table = self.core.ties().table();
+        let own = table.owner();
+        reconcile_pair(
+            &mut self.parts.pointers,
+            table,
+            &mut self.parts.stamp,
+            sent,
+            object,
+            own,
+        )
+    }
+
+    // Takes a Lay.
+    fn take_lay(&mut self, frame: &Frame, sent: &mut FrameList) -> Result<News, NoMemory>
+        requires { MayTake (core_state self.old) frame.now }
+        ensures { (object server : List ℕ) (level version : ℕ) (on : Bool) → frame.now.body ≡ Body.Lay object server level version on
+            → IfOk result (λ news. FollowsAs (core_state self.old)
+            (frame_at_core (core_state self.old) frame.now.from frame.now.body) (core_state self.new) sent.old sent.new news) }
+    {
+        let from = frame.from;
+        let Body::Lay {
+            object,
+            server,
+            level,
+            version,
+            on,
+        } = &frame.body
+        else {
+            return Ok(News::Nothing);
+        };
+        let lay = TakenLay {
+            from,
+            object: *object,
+            server: *server,
+            level: *level,
+            version: *version,
+            on: *on,
+        };
+        self.takes_lay(sent, &lay)
+    }
+
+    // Takes a Find.
+    fn take_find(&mut self, frame: &Frame, sent: &mut FrameList) -> Result<News, NoMemory>
+        requires { MayTake (core_state self.old) frame.now }
+        ensures { (ticket : ℕ) (object asker : List ℕ) (level : ℕ) → frame.now.body ≡ Body.Find ticket object asker level
+            → IfOk result (λ news. FollowsAs (core_state self.old)
+            (frame_at_core (core_state self.old) frame.now.from frame.now.body) (core_state self.new) sent.old sent.new news) }
+    {
+        let Body::Find {
+            ticket,
+            object,
+            asker,
+            level,
+        } = &frame.body
+        else {
+            return Ok(News::Nothing);
+        };
+        let find = TakenFind {
+            ticket: *ticket,
+            object: *object,
+            asker: *asker,
+            level: *level,
+        };
+        self.finds(sent, &find)
+    }
+
+    // Lay: the register of the pair takes it, and the pair is laid as wanted.
+    fn takes_lay(&mut self, sent: &mut FrameList, lay: &TakenLay) -> Result<News, NoMemory>
+        requires sound { IsSoundNode (core_state self.old) }
+        requires room { has_numbers_left (core_state self.old) ≡ true }
+        requires object { IsName self.old.core.table.settings lay.now.object }
+        requires server { IsName self.old.core.table.settings lay.now.server }
+        requires level { IsLevel self.old.core.table.settings lay.now.level }
+        ensures { IfOk result (λ news. FollowsAs (core_state self.old) (Some
+            (takes_lay (core_state self.old) lay.now.from (pair_of lay.now.object lay.now.server) lay.now.level lay.now.version lay.now.on))
+            (core_state self.new) sent.old sent.new news) }
+    {
+        let table = self.core.ties().table();
+        take_lay(
+            &mut self.parts.pointers,
+            table,
+            &mut self.parts.stamp,
+            sent,
+            lay,
+        )?;
+        Ok(News::Nothing)
+    }
+
+    // Find: it is answered if a server is held or this is the root, and goes on if not.
+    fn finds(&self, sent: &mut FrameList, find: &TakenFind) -> Result<News, NoMemory>
+        requires sound { IsSoundNode (core_state self.now) }
+        requires object { IsName self.now.core.table.settings find.now.object }
+        requires asker { IsName self.now.core.table.settings find.now.asker }
+        requires level { find.now.level ≤ self.now.core.table.settings.digits }
+        ensures { IfOk result (λ news. FollowsAs (core_state self.now)
+            (Some (finds (core_state self.now) find.now.ticket find.now.object find.now.asker find.now.level)) (core_state self.now) sent.old sent.new news) }
+    {
+        take_find(&self.parts.pointers, self.core.ties().table(), sent, find)?;
+        Ok(News::Nothing)
+    }
+
+    // Leave: it marks the leaver, takes the replacement if its slot wants one, and answers.
+    fn takes_leave(
+        &mut self,
+        sent: &mut FrameList,
+        from: Name,
+        replacement: Option<Name>,
+    ) -> Result<News, NoMemory>
+        requires sound { IsSoundNode (core_state self.old) }
+        requires room { has_numbers_left (core_state self.old) ≡ true }
+        requires name { IsName self.old.core.table.settings from }
+        requires other { from ≢ self.old.core.table.owner }
+        requires replacement { IfSome replacement (IsName self.old.core.table.settings) }
+        ensures { IfOk result (λ news. FollowsAs (core_state self.old) (Some (takes_leave (core_state self.old) from replacement))
+            (core_state self.new) sent.old sent.new news) }
+    {
+        let word = told_leave(
+            self.core.ties_mut(),
+            &mut self.parts.stamp,
+            from,
+            replacement,
+        )?;
+        let sender = self.sender();
+        sender.send_word(sent, word)?;
+        sender.send(sent, &from, Body::Left)?;
+        self.reconciles(sent)?;
+        Ok(News::Nothing)
+    }
+
+    // Gone: its link to the sender is taken out.
+    fn takes_out(&mut self, sent: &mut FrameList, from: Name) -> Result<News, NoMemory>
+        requires sound { IsSoundNode (core_state self.old) }
+        requires room { has_numbers_left (core_state self.old) ≡ true }
+        requires name { IsName self.old.core.table.settings from }
+        requires other { from ≢ self.old.core.table.owner }
+        ensures { IfOk result (λ news. FollowsAs (core_state self.old) (Some (takes_out (core_state self.old) from))
+            (core_state self.new) sent.old sent.new news) }
+    {
+        self.core.ties_mut().remove_settled(from);
+        self.reconciles(sent)?;
+        Ok(News::Nothing)
+    }
+
+    // Takes a Cast.
+    fn take_cast(&mut self, frame: &Frame, sent: &mut FrameList) -> Result<News, NoMemory>
+        requires { MayTake (core_state self.old) frame.now }
+        ensures { (cast level session depth : ℕ) (word : List ℕ) → frame.now.body ≡ Body.Cast cast level session depth word
+            → IfOk result (λ news. FollowsAs (core_state self.old)
+            (frame_at_core (core_state self.old) frame.now.from frame.now.body) (core_state self.new) sent.old sent.new news) }
+    {
+        let from = frame.from;
+        let Body::Cast {
+            cast,
+            level,
+            session,
+            depth,
+            word,
+        } = &frame.body
+        else {
+            return Ok(News::Nothing);
+        };
+        let parent = Parent::Node {
+            name: from,
+            session: *session,
+        };
+        let copy = CastCopy {
+            cast: *cast,
+            level: *level,
+            parent,
+            depth: *depth,
+        };
+        self.casts(sent, &copy, word.as_slice())
+    }
+
+    /// It publishes an object.
+    ///
+    /// Rule: docs/PROTOCOL.md, "Publication and withdrawal".
+    pub fn publishes(&mut self, sent: &mut FrameList, object: Name) -> Result<News, NoMemory>
+        requires sound { IsSoundNode (core_state self.old) }
+        requires room { has_numbers_left (core_state self.old) ≡ true }
+        requires object { IsName self.old.core.table.settings object }
+        ensures { IfOk result (λ news. FollowsAs (core_state self.old) (Some (starts_publishing (core_state self.old) object))
+            (core_state self.new) sent.old sent.new news) }
+    {
+        self.parts.pointers.publish(object)?;
+        self.reconciles_own(sent, object)?;
+        Ok(News::Nothing)
+    }
+
+    /// It withdraws an object.
+    ///
+    /// Rule: docs/PROTOCOL.md, "Publication and withdrawal".
+    pub fn withdraws(&mut self, sent: &mut FrameList, object: Name) -> Result<News, NoMemory>
+        requires sound { IsSoundNode (core_state self.old) }
+        requires room { has_numbers_left (core_state self.old) ≡ true }
+        requires object { IsName self.old.core.table.settings object }
+        ensures { IfOk result (λ news. FollowsAs (core_state self.old) (Some (withdraws (core_state self.old) object))
+            (core_state self.new) sent.old sent.new news) }
+    {
+        self.parts.pointers.withdraw(object);
+        self.reconciles_own(sent, object)?;
+        Ok(News::Nothing)
+    }
+
+    /// It looks an object up, under a ticket.
+    ///
+    /// Rule: docs/PROTOCOL.md, "Find".
+    pub fn asks(&self, sent: &mut FrameList, ticket: u32, object: Name) -> Result<News, NoMemory>
+        requires sound { IsSoundNode (core_state self.now) }
+        requires object { IsName self.now.core.table.settings object }
+        ensures { IfOk result (λ news. FollowsAs (core_state self.now) (Some (asks (core_state self.now) ticket object))
+            (core_state self.now) sent.old sent.new news) }
+    {
+        let table = self.core.ties().table();
+        ask(&self.parts.pointers, table, sent, ticket, object)
+    }
+
+    /// Its ties, and what it keeps beside them: a leaving node is made of both.
+    ///
+    /// Rule: docs/PROTOCOL.md, "The start of a departure".
+    pub fn into_parts(self) -> (Core, NodeParts)
+        ensures { result ≡ (self.core, self.parts) }
+    {
+        (self.core, self.parts)
+    }
+}

@@ -1,0 +1,287 @@
+-- What a frame that sends nobody on and changes no link keeps of seekers, of Tells and of notices.
+use Rattle.std.proofs.Common.{◌≡◌, ℕ, Bool, true, false, List, [], ◌∷◌, if◌then◌else◌, sym, subst, inl, inr}
+use Rattle.tap_name.specs.Settings.{SettingsValue}
+use Rattle.tap_name.specs.declared.slot.Slot.{Slot}
+use Rattle.tap_table.specs.declared.tie.Tie.{Tie}
+use Rattle.tap_session.specs.declared.parent.Parent.TheVariants.{Node, Root}
+use Rattle.tap_session.specs.declared.sessions.Answered.{Answered}
+use Rattle.tap_session.specs.declared.sessions.Answered.TheVariants.{Closed, Open, Unknown}
+use Rattle.tap_session.specs.Sessions.{answer_to}
+use Rattle.tap_wire.specs.declared.frame.Body.{Body}
+use Rattle.tap_wire.specs.declared.frame.Body.TheVariants.{Ack, Done, Forget, Gone as GoneBody, Heard, Hello, Leave, Left, Link, Release, Seek, Tell}
+use Rattle.tap_wire.specs.declared.frame.Frame.{Frame}
+use Rattle.tap_wire.specs.declared.frame.TellFields.{TellFields}
+use Rattle.tap_rule.specs.Answers.{answer_sends}
+use Rattle.tap_rule.specs.FrameRules.{frame_at_ceased, frame_at_core, frame_at_joining, frame_at_leaving, rule_of_frame}
+use Rattle.tap_rule.specs.Laws.{frame_to}
+use Rattle.tap_rule.specs.Links.{is_new_link}
+use Rattle.tap_rule.specs.Node.{NodeState, Status, join_session_at, name_of}
+use Rattle.tap_rule.specs.Node.Status.{Ceased, Core, Gone, Joining, Leaving}
+use Rattle.tap_rule.specs.QuietSteps.{IsQuiet}
+use Rattle.tap_rule.specs.Reaction.{Message, message}
+use Rattle.tap_rule.specs.Sending.{message_frame}
+use Rattle.tap_rule.specs.Sent.{AreSent, IsAmong}
+use Rattle.tap_rule.specs.Strange.{is_strange}
+use Rattle.tap_rule.proofs.QuietSteps.{quiet_law}
+use Rattle.tap_safety.specs.Bookkeeping.{SendsDeeper}
+use Rattle.tap_safety.specs.FrameSteps.{LinksStay, TakesFrame}
+use Rattle.tap_safety.specs.Frames.{tell_body}
+use Rattle.tap_safety.specs.Notices.{IsNotice}
+use Rattle.tap_safety.specs.Soft.{IsQuietBody}
+use Rattle.tap_safety.specs.Step.{IsSent, numbered_from}
+use Rattle.tap_safety.specs.System.{System, AmongFrames}
+use Rattle.tap_safety.proofs.Peace.{frame_peace_law, notices_law, peace_kept}
+use Rattle.tap_safety.proofs.SoftKept.{not_new, sent_each}
+use Rattle.tap_safety.proofs.StepLaws.{depths_law, seeking_frame_law, tells_frame_law}
+use Rattle.tap_moves.specs.CalmMoves.{FrameDeeper, FramePeaceful, FrameSeeks, IsCalmThere}
+use Rattle.tap_moves.specs.ByRule.{taken_at}
+use Rattle.tap_moves.specs.Delivered.{after_delivery}
+use Rattle.tap_moves.specs.FrameLaws.{IsPlain, messages_by, words_by}
+use Rattle.tap_moves.specs.InvariantLaws.{IsDelivery, IsTakenThere}
+use Rattle.tap_moves.specs.SessionsLaws.{sent_at}
+use Rattle.tap_moves.proofs.Exchanged.{sent_numbered}
+use Rattle.tap_moves.proofs.FramesMade.{ceased_tell_is_made}
+use Rattle.tap_moves.proofs.InSession.{ceased_answers}
+use Rattle.tap_moves.proofs.InvariantMoves.{due}
+use Rattle.tap_moves.proofs.MovesMade.{by_rule, starts_none_as, tell_starts_none}
+use Rattle.tap_moves.proofs.Plain.{plain_alike, plain_is_made, rule_sends}
+use Rattle.tap_moves.proofs.SessionMoves.{frame_steps, kind_turns, left_deeper}
+
+-- ---- what is sent
+
+-- it sends nobody on, and is no notice
+abbrev IsSpare : Body → Type 0
+IsSpare (Heard session) = Unit {0}
+IsSpare (Ack session) = Unit {0}
+IsSpare Done = Unit {0}
+IsSpare Release = Unit {0}
+IsSpare Forget = Unit {0}
+IsSpare (Link version on) = Unit {0}
+IsSpare other = IsQuiet other
+
+spare_quiet : (s : System) (from to : List ℕ) (body : Body) → IsSpare body → IsQuietBody s from to body
+spare_quiet s from to (Seek joiner) spare = absurd spare
+spare_quiet s from to (Tell joiner prefix level session depth watch) spare = absurd spare
+spare_quiet s from to (Hello session core links) spare = absurd spare
+spare_quiet s from to _ spare = tt
+
+spare_no_notice : (body : Body) → IsSpare body → IsNotice body → ⊥
+spare_no_notice (Leave replacement) spare notice = absurd spare
+spare_no_notice Left spare notice = absurd spare
+spare_no_notice GoneBody spare notice = absurd spare
+spare_no_notice _ spare notice = absurd notice
+
+quiet_spare : (body : Body) → IsQuiet body → IsSpare body
+quiet_spare (Heard session) quiet = tt
+quiet_spare (Ack session) quiet = tt
+quiet_spare Done quiet = tt
+quiet_spare Release quiet = tt
+quiet_spare Forget quiet = tt
+quiet_spare (Link version on) quiet = tt
+quiet_spare other quiet = quiet
+
+abbrev AreSpare : List Message → Type 0
+AreSpare messages = (m : Message) → IsAmong m messages → IsSpare m.body
+
+none_spare : AreSpare []
+none_spare m among = absurd among
+
+one_spare : (to : List ℕ) (body : Body) → IsSpare body → AreSpare (message to body ∷ [])
+one_spare to body spare m (inl is) = subst (λ (n : Message). IsSpare n.body) (sym is) spare
+one_spare to body spare m (inr never) = absurd never
+
+if_spare : (test : Bool) (to : List ℕ) (body : Body) → IsSpare body → AreSpare (if test then message to body ∷ [] else [])
+if_spare true to body spare = one_spare to body spare
+if_spare false to body spare = none_spare
+
+answer_spare : (answer : Answered) → AreSpare (answer_sends answer)
+answer_spare Open = none_spare
+answer_spare Unknown = none_spare
+answer_spare (Closed (Root joiner)) = one_spare joiner Done tt
+answer_spare (Closed (Node name session)) = one_spare name (Ack session) tt
+
+heard_spare : (status : Status) (node : NodeState) (from : List ℕ) (session : ℕ)
+    → AreSpare (messages_by (rule_of_frame status node from (Heard session)))
+unfolding frame_at_joining frame_at_core frame_at_leaving frame_at_ceased
+heard_spare Joining node from session = answer_spare (answer_to (join_session_at node session))
+heard_spare Core node from session = answer_spare (answer_to (join_session_at node session))
+heard_spare Leaving node from session = none_spare
+heard_spare Gone node from session = none_spare
+heard_spare Ceased node from session = answer_spare (answer_to (join_session_at node session))
+
+ack_spare : (status : Status) (node : NodeState) (from : List ℕ) (session : ℕ)
+    → AreSpare (messages_by (rule_of_frame status node from (Ack session)))
+unfolding frame_at_joining frame_at_core frame_at_leaving frame_at_ceased
+ack_spare Joining node from session = answer_spare (answer_to (join_session_at node session))
+ack_spare Core node from session = answer_spare (answer_to (join_session_at node session))
+ack_spare Leaving node from session = none_spare
+ack_spare Gone node from session = none_spare
+ack_spare Ceased node from session = answer_spare (answer_to (join_session_at node session))
+
+link_spare : (status : Status) (node : NodeState) (from : List ℕ) (version : ℕ) (on : Bool)
+    → AreSpare (messages_by (rule_of_frame status node from (Link version on)))
+unfolding frame_at_joining frame_at_core frame_at_leaving frame_at_ceased
+link_spare Joining node from version on = none_spare
+link_spare Core node from version on = if_spare (is_new_link node from version on) from Release tt
+link_spare Leaving node from version on = if_spare (is_new_link node from version on) from Release tt
+link_spare Gone node from version on = none_spare
+link_spare Ceased node from version on = if_spare on from Forget tt
+
+ceased_spare : (status : Status) (node : NodeState) (from : List ℕ) (tell : TellFields) (watch : List Slot) → status ≡ Ceased
+    → AreSpare (messages_by (rule_of_frame status node from (tell_body tell watch)))
+unfolding frame_at_joining frame_at_core frame_at_leaving frame_at_ceased
+ceased_spare Joining node from tell watch at = absurd (cc)
+ceased_spare Core node from tell watch at = absurd (cc)
+ceased_spare Leaving node from tell watch at = absurd (cc)
+ceased_spare Gone node from tell watch at = absurd (cc)
+ceased_spare Ceased node from tell watch at = one_spare from (Ack tell.session) tt
+
+-- each frame that is sent
+abbrev SendsSpare : List Frame → Type 0
+SendsSpare sent = (from to : List ℕ) (body : Body) → IsSent sent from to body → IsSpare body
+
+spare_sent : (x : List ℕ) (words : List Tie) (messages : List Message) (sent : List Frame) → AreSent x words messages sent
+    → AreSpare messages → SendsSpare sent
+spare_sent x words messages sent are spare =
+    sent_each x words messages sent are (λ from to body. IsSpare body) (λ to version on. tt) (λ to object server level version on. tt) spare
+
+-- ---- such a frame, when it is delivered
+
+-- it is taken by a node that stays what it is, with its links, and what it sends is spare
+record TakesCalmly (s s' : System) (number : ℕ) (frame : Frame) (sent : List Frame) : Type 0 where
+  step : TakesFrame s s' number frame
+  links : LinksStay step.before step.after
+  spare : AreSpare step.messages
+  sends : SendsSpare sent
+  no_seek : (x : List ℕ) → frame.body ≡ Seek x → ⊥
+
+module _ (p : SettingsValue) (s : System) (number : ℕ) (node : NodeState) (from : List ℕ) where
+  abbrev after : System
+  after = after_delivery p s number
+
+  -- what the rule sends is spare, if its messages are
+  rule_spare : (body : Body) → is_strange node (frame_to node from body) ≡ false
+      → AreSpare (messages_by (rule_of_frame node.status node from body)) → SendsSpare (taken_at node from body).sent
+  rule_spare body known spare =
+      spare_sent (name_of node) (words_by (rule_of_frame node.status node from body))
+      (messages_by (rule_of_frame node.status node from body)) (taken_at node from body).sent (rule_sends node from body known) spare
+
+  plain_calm : (body : Body) → IsDelivery p s number node from body → IsPlain node body
+      → AreSpare (messages_by (rule_of_frame node.status node from body)) → ((x : List ℕ) → body ≡ Seek x → ⊥)
+      → TakesCalmly s after number (frame_to node from body) (taken_at node from body).sent
+  plain_calm body is plain spare no_seek =
+      let here = due p s number node from body is in
+      let none = starts_none_as p s number node from body here (plain_alike node from body is.known plain).opened in
+      let made = plain_is_made s after number node from body (by_rule p s number node from body here) none plain in
+      record {
+        step = made.0.step;
+        links = made.0.links;
+        spare = subst AreSpare (sym made.1) spare;
+        sends = rule_spare body is.known spare;
+        no_seek = no_seek;
+      }
+
+  ceased_calm : (tell : TellFields) (watch : List Slot) → IsDelivery p s number node from (tell_body tell watch) → node.status ≡ Ceased
+      → TakesCalmly s after number (frame_to node from (tell_body tell watch)) (taken_at node from (tell_body tell watch)).sent
+  ceased_calm tell watch is at =
+      let body = tell_body tell watch in
+      let here = due p s number node from body is in
+      let none = tell_starts_none p s number node from tell watch here (inr (ceased_answers node from tell watch at is.known)) in
+      let made = ceased_tell_is_made s after number node from tell watch (by_rule p s number node from body here) none at in
+      record {
+        step = made.step;
+        links = made.links;
+        spare = subst AreSpare (sym made.answers) (one_spare from (Ack tell.session) tt);
+        sends = rule_spare body is.known (ceased_spare node.status node from tell watch at);
+        no_seek = λ x is. cc;
+      }
+
+  quiet_calm : (body : Body) → IsDelivery p s number node from body → IsQuiet body → IsPlain node body
+      → ((x : List ℕ) → body ≡ Seek x → ⊥) → TakesCalmly s after number (frame_to node from body) (taken_at node from body).sent
+  quiet_calm body is quiet plain no_seek =
+      let step = quiet_law node (frame_to node from body) quiet in
+      let sent = rule_sends node from body is.known in
+      plain_calm body is plain
+      (λ m among. quiet_spare m.body (step.sent (message_frame (name_of node) m) (sent.named m among))) no_seek
+
+frame_calm : (p : SettingsValue) (s : System) (number : ℕ) (node : NodeState) (from : List ℕ) (body : Body)
+    → IsDelivery p s number node from body → IsCalmThere node body
+    → TakesCalmly s (after_delivery p s number) number (frame_to node from body) (taken_at node from body).sent
+frame_calm p s number node from (Tell joiner prefix level session depth watch) is there =
+    let tell : TellFields = record { joiner = joiner; prefix = prefix; level = level; session = session; depth = depth } in
+    ceased_calm p s number node from tell watch is there
+frame_calm p s number node from (Heard session) is there =
+    plain_calm p s number node from (Heard session) is tt (heard_spare node.status node from session) (λ x same. cc)
+frame_calm p s number node from (Ack session) is there =
+    plain_calm p s number node from (Ack session) is tt (ack_spare node.status node from session) (λ x same. cc)
+frame_calm p s number node from (Link version on) is there =
+    plain_calm p s number node from (Link version on) is tt (link_spare node.status node from version on) (λ x same. cc)
+frame_calm p s number node from (Seek joiner) is there = absurd there
+frame_calm p s number node from body is there = quiet_calm p s number node from body is there there (λ x same. cc)
+
+pub frame_seeks : FrameSeeks
+frame_seeks p s number node from body is there =
+    let s' = after_delivery p s number in
+    let frame = frame_to node from body in
+    let calm = frame_calm p s number node from body is there in
+    let quiet = λ (m : Message) (among : IsAmong m calm.step.messages). spare_quiet s' (name_of node) m.to m.body (calm.spare m among) in
+    let links = not_new s' calm.step.before calm.step.after calm.links in
+    let seeks = seeking_frame_law s s' number frame calm.step quiet calm.no_seek links in
+    record {
+      seeking = seeks.0 is.invariant.seeking;
+      seekers = seeks.1 is.invariant.seekers;
+      tells = tells_frame_law p s s' number frame calm.step quiet is.invariant.tells;
+    }
+
+pub frame_peaceful : FramePeaceful
+frame_peaceful p s number node from body is there none =
+    let s' = after_delivery p s number in
+    let frame = frame_to node from body in
+    let calm = frame_calm p s number node from body is there in
+    let still = peace_kept p s number none in
+    let law = frame_peace_law s s' number frame calm.step
+    (λ m among notice. spare_no_notice m.body (calm.spare m among) notice)
+    (not_new s' calm.step.before calm.step.after calm.links) none still is.invariant.departure in
+    record { none = still; departure = law.1; notices = notices_law s s' law.0 is.invariant.notices }
+
+-- ---- depths
+
+-- no Tell is sent
+none_deeper : (s s' : System) (sent : List Frame) → SendsSpare sent → SendsDeeper s' (numbered_from s.next sent)
+none_deeper s s' sent spare = record {
+  depth = λ from to fields watch m session among is. absurd (no_tell from to fields watch m among);
+  level = λ from to fields watch m among. absurd (no_tell from to fields watch m among);
+}
+  where
+    no_tell : (from to : List ℕ) (fields : TellFields) (watch : List Slot) (m : ℕ)
+        → AmongFrames m (record { from = from; to = to; body = tell_body fields watch }) (numbered_from s.next sent) → ⊥
+    no_tell from to fields watch m among =
+        spare from to (tell_body fields watch)
+        (sent_numbered m (record { from = from; to = to; body = tell_body fields watch }) s.next sent among)
+
+-- a rule takes such a frame, or it is of no session
+calm_taken : (node : NodeState) (body : Body) → IsCalmThere node body → IsTakenThere node body
+calm_taken node (Tell joiner prefix level session depth watch) there = inr (inr there)
+calm_taken node (Hello session core links) there = absurd there
+calm_taken node (Heard session) there = tt
+calm_taken node (Ack session) there = tt
+calm_taken node (Seek joiner) there = absurd there
+calm_taken node Done there = tt
+calm_taken node Release there = tt
+calm_taken node Forget there = tt
+calm_taken node (Link version on) there = tt
+calm_taken node body there = there
+
+pub frame_deeper : FrameDeeper
+frame_deeper p s number node from body is there =
+    let s' = after_delivery p s number in
+    let frame = frame_to node from body in
+    let acted = taken_at node from body in
+    let sent = sent_at s node from body in
+    let calm = frame_calm p s number node from body is there in
+    let step = frame_steps p s number node from body is (calm_taken node body there) in
+    elim (kind_turns s s' number frame sent step.kind step.is is.invariant.exact) [
+      | inl turns ↦
+          depths_law s s' sent turns is.invariant.exact (none_deeper s s' acted.sent calm.sends) is.invariant.deeper
+      | inr leaves ↦ left_deeper s s' leaves is.invariant.deeper
+    ]

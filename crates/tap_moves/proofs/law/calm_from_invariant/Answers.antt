@@ -1,0 +1,11 @@
+use Rattle.tap_moves.proofs.CalmMoves.{frame_deeper, frame_peaceful, frame_seeks}
+use Rattle.tap_moves.proofs.law.calm_from_invariant.Goals as goal
+
+pub returns-clause-seeks : goal.returns-clause-seeks
+returns-clause-seeks c = frame_seeks
+
+pub returns-clause-peace : goal.returns-clause-peace
+returns-clause-peace c = frame_peaceful
+
+pub returns-clause-deeper : goal.returns-clause-deeper
+returns-clause-deeper c = frame_deeper

@@ -1,0 +1,51 @@
+-- Frames that send nobody on and change no link: seekers and Tells stay as they were, and nobody departs.
+use Rattle.std.specs.Prelude.{◌≡◌, ℕ, List, None}
+use Rattle.tap_name.specs.Settings.{SettingsValue}
+use Rattle.tap_wire.specs.declared.frame.Body.{Body}
+use Rattle.tap_wire.specs.declared.frame.Body.TheVariants.{Ack, Heard, Link, Tell}
+use Rattle.tap_rule.specs.Node.{NodeState}
+use Rattle.tap_rule.specs.Node.Status.{Ceased}
+use Rattle.tap_rule.specs.QuietSteps.{IsQuiet}
+use Rattle.tap_safety.specs.Bookkeeping.{TellsAreDeeper}
+use Rattle.tap_safety.specs.Departing.{Departure}
+use Rattle.tap_safety.specs.Notices.{Notices}
+use Rattle.tap_safety.specs.Seeking.{AreOfSeekers, Seeking}
+use Rattle.tap_safety.specs.System.{System}
+use Rattle.tap_safety.specs.Tells.{TellsAreSound}
+use Rattle.tap_moves.specs.Delivered.{after_delivery}
+use Rattle.tap_moves.specs.InvariantLaws.{IsDelivery}
+
+-- an answer, a Link, a Tell at a node that has ceased, and those of pointers and casts
+abbrev pub IsCalmThere : NodeState → Body → Type 0
+IsCalmThere node (Tell joiner prefix level session depth watch) = node.status ≡ Ceased
+IsCalmThere node (Heard session) = Unit {0}
+IsCalmThere node (Ack session) = Unit {0}
+IsCalmThere node (Link version on) = Unit {0}
+IsCalmThere node other = IsQuiet other
+
+-- who isn't started is known to nobody but its one Seek, and Tells are sound
+pub record AreSought (p : SettingsValue) (s : System) : Type 0 where
+  pub seeking : Seeking s
+  pub seekers : AreOfSeekers s
+  pub tells : TellsAreSound p s
+
+-- so it is after such a frame
+abbrev pub FrameSeeks : Type 0
+FrameSeeks = (p : SettingsValue) (s : System) (number : ℕ) (node : NodeState) (from : List ℕ) (body : Body)
+    → IsDelivery p s number node from body → IsCalmThere node body → AreSought p (after_delivery p s number)
+
+-- nobody departs
+pub record IsPeaceful (s : System) : Type 0 where
+  pub none : s.departing ≡ None
+  pub departure : Departure s
+  pub notices : Notices s
+
+-- while nobody departs, nobody does after such a frame
+abbrev pub FramePeaceful : Type 0
+FramePeaceful = (p : SettingsValue) (s : System) (number : ℕ) (node : NodeState) (from : List ℕ) (body : Body)
+    → IsDelivery p s number node from body → IsCalmThere node body → s.departing ≡ None → IsPeaceful (after_delivery p s number)
+
+-- and each Tell is one deeper than its session
+abbrev pub FrameDeeper : Type 0
+FrameDeeper = (p : SettingsValue) (s : System) (number : ℕ) (node : NodeState) (from : List ℕ) (body : Body)
+    → IsDelivery p s number node from body → IsCalmThere node body → TellsAreDeeper (after_delivery p s number)
