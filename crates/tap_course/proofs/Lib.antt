@@ -1,0 +1,7 @@
+pub mod Within
+pub mod Growing
+pub mod Frames
+pub mod Status
+pub mod Nodes
+pub mod Departing
+pub mod OneCourse
