@@ -1,0 +1,15 @@
+pub mod Followed
+pub mod Few
+pub mod Kept
+pub mod KeptFrames
+pub mod KeptCore
+pub mod KeptSteps
+pub mod Starting
+pub mod Ends
+pub mod Started
+pub mod Answering
+pub mod Calls
+pub mod ByStatus
+pub mod Numbers
+pub mod Taking
+pub mod Begun

@@ -1,0 +1,18 @@
+use Rattle.std.proofs.Common.{◌∙◌, sym}
+use Rattle.tap_rule.specs.Event.Start.{Leave}
+use Rattle.tap_node.proofs.Begun.{begun_answers, begun_keeps}
+use Rattle.tap_node.proofs.node.Node.leave.Goals as goal
+
+pub invariant_of-self : goal.invariant_of-self
+invariant_of-self c =
+    let turned = c.turned.ensures in
+    begun_keeps _ _ _ c.self.invariant _ c.self.view_is (sym c.is_ended.ensures ∙ c.if-is_ended.false) _
+    c.sender-sender.ensures.value Leave (λ _. tt) _ c.new-sent.ensures _ _ _ _ c.leaves-news.ensures _
+    (record { made = turned.made; same = turned.same; refused = turned.refused; ends = turned.ends })
+
+pub returns : goal.returns
+returns c =
+    let turned = c.turned.ensures in
+    begun_answers _ _ _ c.self.invariant _ c.self.view_is (sym c.is_ended.ensures ∙ c.if-is_ended.false) _
+    c.sender-sender.ensures.value Leave (λ _. tt) _ c.new-sent.ensures _ _ _ _ c.leaves-news.ensures _
+    (record { made = turned.made; same = turned.same; refused = turned.refused; ends = turned.ends })

@@ -1,0 +1,70 @@
+-- What the calls of a node answer, and how they leave it.
+--
+-- Rule: docs/PROTOCOL.md, "Steps of a node" and "Refused frames".
+use Rattle.std.specs.Prelude.{◌≡◌, ◌≢◌, ℕ, Bool, true, false, if◌then◌else◌, List, Result, Ok, Err, IsOk}
+use Rattle.tap_wire.specs.declared.fault.WireFault.{WireFault}
+use Rattle.tap_wire.specs.declared.frame.Frame.{Frame}
+use Rattle.tap_wire.specs.Reading.{frame_of}
+use Rattle.tap_rule.specs.Node.{NodeState, name_of, settings_of}
+use Rattle.tap_rule.specs.Event.{Acted, Start}
+use Rattle.tap_rule.specs.Event.Event.{Starts, Takes}
+use Rattle.tap_rule.specs.Strange.{is_own_name, is_strange}
+use Rattle.tap_rule.specs.Act.{act}
+use Rattle.tap_turn.specs.Spelled.{spelled}
+use Rattle.tap_node.specs.declared.fault.NodeFault.{NodeFault}
+use Rattle.tap_node.specs.declared.fault.NodeFault.TheVariants.{Wire, NotMine, Strange, NoMemory, Ended}
+use Rattle.tap_node.specs.declared.turn.Turn.{Turn}
+use Rattle.tap_node.specs.Node.{NodeValue, running}
+use Rattle.tap_step.specs.Step.{news_of}
+
+-- the answer of a call, and the node afterwards
+pub record Outcome : Type 0 where
+  pub answer : Result Turn NodeFault
+  pub node : NodeValue
+
+-- a refusal leaves the node as it was
+abbrev pub refused_by : NodeValue → NodeFault → Outcome
+refused_by node fault = record { answer = Err fault; node = node }
+
+-- what a step gives: its frames as bytes, and its news
+abbrev pub turn_made : NodeState → Acted → Turn
+turn_made node acted = record { sent = spelled (settings_of node) acted.sent; news = news_of acted.news }
+
+-- the node has acted
+abbrev pub acted_as : NodeState → Acted → Outcome
+acted_as node acted = record { answer = Ok (turn_made node acted); node = running acted.state }
+
+-- a frame that was read: one for another node, and one that is strange, is refused
+abbrev pub at_frame : NodeValue → Frame → Outcome
+at_frame node frame =
+    if is_own_name node.state frame.to
+    then (if is_strange node.state frame then refused_by node Strange else acted_as node.state (act node.state (Takes frame)))
+    else refused_by node (NotMine frame.to)
+
+abbrev pub at_read : NodeValue → Result Frame WireFault → Outcome
+at_read node (Ok frame) = at_frame node frame
+at_read node (Err fault) = refused_by node (Wire fault)
+
+-- a node that takes bytes as a frame
+abbrev pub take_outcome : NodeValue → List ℕ → Outcome
+take_outcome node bytes =
+    if node.ended then refused_by node Ended else at_read node (frame_of (settings_of node.state) bytes)
+
+-- a node that starts something
+abbrev pub start_outcome : NodeValue → Start → Outcome
+start_outcome node begun = if node.ended then refused_by node Ended else acted_as node.state (act node.state (Starts begun))
+
+-- memory may be wanted for bytes: the node takes steps, and they are a frame
+pub record MayWant (node : NodeValue) (bytes : List ℕ) : Type 0 where
+  pub runs : node.ended ≡ false
+  pub read : IsOk (frame_of (settings_of node.state) bytes)
+
+-- The answer and the node afterwards are those of an outcome, unless memory was refused, which it is only to a node that takes
+-- steps, and which ends it. The name and the settings stay.
+pub record AnswersAs (outcome : Outcome) (before : NodeValue) (given : Result Turn NodeFault) (after : NodeValue) : Type 0 where
+  pub answer : given ≢ Err NoMemory → given ≡ outcome.answer
+  pub node : given ≢ Err NoMemory → after ≡ outcome.node
+  pub runs : given ≡ Err NoMemory → before.ended ≡ false
+  pub ended : given ≡ Err NoMemory → after.ended ≡ true
+  pub name : name_of after.state ≡ name_of before.state
+  pub settings : settings_of after.state ≡ settings_of before.state

@@ -1,0 +1,20 @@
+use tap_name::Name;
+use tap_wire::WireFault;
+
+/// Why a node took no step. Of several causes the earliest here counts, but that `Ended` goes before all others. `Wire`,
+/// `NotMine`, `Strange` and `Ended` leave the node as it was.
+///
+/// Rule: docs/PROTOCOL.md, "Refused frames".
+#[derive(Clone, Copy, Debug, PartialEq, Eq)]
+pub enum NodeFault {
+    /// The bytes are no frame. The cause is never want of memory.
+    Wire(WireFault),
+    /// The frame is for this other node.
+    NotMine(Name),
+    /// The frame is strange to the node.
+    Strange,
+    /// Memory was refused. The node has ended.
+    NoMemory,
+    /// The node has ended: memory was refused in an earlier step.
+    Ended,
+}

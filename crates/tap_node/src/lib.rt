@@ -1,0 +1,17 @@
+//! One node: what it keeps, and the steps that it takes. A step is taken at a frame, handed in as bytes, or at a start;
+//! it leaves the node as the rule of a node says, and gives the frames that are to be sent, as bytes, and the news.
+#![tactic(auto)]
+
+mod fault;
+mod node;
+mod starts;
+mod state;
+mod status;
+mod turn;
+
+pub use fault::NodeFault;
+pub use node::Node;
+pub use status::NodeStatus;
+pub use tap_step::{News, NoMemory};
+pub use tap_turn::FrameList;
+pub use turn::Turn;

@@ -1,0 +1,393 @@
+ghost use Rattle.std.specs.Prelude.{◌≡◌, ◌≢◌, ℕ, ◌≤◌, List, true, IfOk, OnOk, OnErr, Ok, Err};
+ghost use Rattle.tap_name.specs.Name.{IsName};
+ghost use Rattle.tap_rule.specs.FrameRules.{frame_at_ceased};
+ghost use Rattle.tap_name.specs.Word.{IsWord};
+ghost use Rattle.tap_rule.specs.Event.Start.{Abandon, Cast, Find, Join, Leave, Publish, Withdraw};
+ghost use Rattle.tap_rule.specs.Node.Status.{Ceased as ceased, Core as core, Joining as joining};
+ghost use Rattle.tap_wire.specs.Spelling.{IsFrame};
+ghost use Rattle.tap_wire.specs.declared.frame.Body.TheVariants as bodies;
+ghost use Rattle.tap_core_node.specs.State.{core_state};
+ghost use Rattle.tap_joining_node.specs.State.{core_joined};
+ghost use Rattle.tap_node.specs.Seen.{FollowsFrom, IsEnded, IsHeldBy, StartsFrom, state_held};
+ghost use Rattle.tap_step.specs.Sound.{HaveParents, IsSoundNode, MayTake, has_numbers_left};
+ghost use Rattle.tap_step.specs.States.{ended_state};
+ghost use Rattle.tap_step.specs.Step.{FollowsAs};
+
+use crate::fault::NodeFault;
+use crate::turn::Turn;
+use std::alloc::Global;
+use std::mem;
+use tap_core_node::{CastCopy, CoreNode};
+use tap_joining_node::{Joined, JoiningNode};
+use tap_leaving_node::LeavingNode;
+use tap_link::Cease;
+use tap_name::Name;
+use tap_session::{Parent, Sessions};
+use tap_step::{News, NoMemory, Sender, take_answer};
+use tap_turn::FrameList;
+use tap_wire::{Body, Frame};
+
+// What a node keeps by its status; one that is gone or has ceased keeps its sessions.
+#[derive(Drop)]
+pub(crate) enum State {
+    Joining(JoiningNode),
+    Core(CoreNode),
+    Leaving(LeavingNode),
+    Gone(Sessions),
+    Ceased(Sessions),
+    // Memory was refused.
+    Ended(Sessions),
+}
+
+impl State {
+    // It has ended for want of memory.
+    pub(crate) fn ended(alloc: Global) -> State
+        ensures { IsEnded result }
+    {
+        State::Ended(Sessions::new(alloc))
+    }
+
+    // Does as the rule of a frame says that isn't strange.
+    pub(crate) fn take(
+        &mut self,
+        alloc: Global,
+        sender: &Sender,
+        sent: &mut FrameList,
+        frame: &Frame,
+    ) -> Result<News, NoMemory>
+        requires held { IsHeldBy sender.now.settings sender.now.name self.old }
+        requires may { MayTake (state_held sender.now.settings sender.now.name self.old) frame.now }
+        ensures { IfOk result (λ news. FollowsFrom sender.now.settings sender.now.name self.old self.new frame.now.from frame.now.body sent.old sent.new news) }
+    {
+        match &frame.body {
+            Body::Done => {
+                let state = mem::replace(self, State::ended(alloc));
+                let (next, news) = state.is_done(alloc, sender, sent)?;
+                *self = next;
+                Ok(news)
+            }
+            Body::Left => {
+                let state = mem::replace(self, State::ended(alloc));
+                let (next, news) = state.is_left(sender, sent, frame.from)?;
+                *self = next;
+                Ok(news)
+            }
+            _ => self.stays(sender, sent, frame),
+        }
+    }
+
+    // Does as the rule of a frame says after which the status is the same.
+    fn stays(
+        &mut self,
+        sender: &Sender,
+        sent: &mut FrameList,
+        frame: &Frame,
+    ) -> Result<News, NoMemory>
+        requires held { IsHeldBy sender.now.settings sender.now.name self.old }
+        requires may { MayTake (state_held sender.now.settings sender.now.name self.old) frame.now }
+        requires no_done { frame.now.body ≢ bodies.Done }
+        requires no_left { frame.now.body ≢ bodies.Left }
+        ensures { IfOk result (λ news. FollowsFrom sender.now.settings sender.now.name self.old self.new frame.now.from frame.now.body sent.old sent.new news) }
+    {
+        match self {
+            State::Joining(node) => node.take(frame, sent),
+            State::Core(node) => node.take(frame, sent),
+            State::Leaving(node) => node.take(frame, sent),
+            State::Ceased(sessions) => take_ceased(sessions, sender, sent, frame),
+            State::Gone(_) | State::Ended(_) => Ok(News::Nothing),
+        }
+    }
+
+    // Done, which a joining node alone takes. A join that was given up ends with the node.
+    fn is_done(
+        self,
+        alloc: Global,
+        sender: &Sender,
+        sent: &mut FrameList,
+    ) -> Result<(State, News), NoMemory>
+        requires held { IsHeldBy sender.now.settings sender.now.name self }
+        requires sound { IsSoundNode (state_held sender.now.settings sender.now.name self) }
+        requires room { has_numbers_left (state_held sender.now.settings sender.now.name self) ≡ true }
+        ensures { (from : List ℕ) → IfOk result (λ r. FollowsFrom sender.now.settings sender.now.name self r.0 from bodies.Done
+            sent.old sent.new r.1) }
+    {
+        let State::Joining(node) = self else {
+            return Ok((self, News::Nothing));
+        };
+        if !node.joining.is_abandoned() {
+            let joined = node.becomes_core(sent)?;
+            return Ok((State::Core(core_of(alloc, joined)), News::Core));
+        }
+        let by = Cease { owner: sender.name };
+        Ok((State::Ceased(node.ceases(sent, by)?), News::Gone))
+    }
+
+    // Left, which a leaving node alone takes. After the last one it finishes.
+    fn is_left(
+        self,
+        sender: &Sender,
+        sent: &mut FrameList,
+        from: Name,
+    ) -> Result<(State, News), NoMemory>
+        requires held { IsHeldBy sender.now.settings sender.now.name self }
+        requires sound { IsSoundNode (state_held sender.now.settings sender.now.name self) }
+        requires room { has_numbers_left (state_held sender.now.settings sender.now.name self) ≡ true }
+        ensures { IfOk result (λ r. FollowsFrom sender.now.settings sender.now.name self r.0 from bodies.Left
+            sent.old sent.new r.1) }
+    {
+        let State::Leaving(node) = self else {
+            return Ok((self, News::Nothing));
+        };
+        let mut node = node;
+        node.is_left(from);
+        if node.is_free() {
+            return Ok((State::Gone(node.finishes(sent)?), News::Gone));
+        }
+        Ok((State::Leaving(node), News::Nothing))
+    }
+
+    // The start of a join, at a joining node.
+    pub(crate) fn starts_join(
+        &mut self,
+        sender: &Sender,
+        sent: &mut FrameList,
+        via: Name,
+    ) -> Result<News, NoMemory>
+        requires held { IsHeldBy sender.now.settings sender.now.name self.old }
+        requires sound { IsSoundNode (state_held sender.now.settings sender.now.name self.old) }
+        requires room { has_numbers_left (state_held sender.now.settings sender.now.name self.old) ≡ true }
+        requires at { (state_held sender.now.settings sender.now.name self.old).status ≡ joining }
+        requires name { IsName sender.now.settings via }
+        ensures { IfOk result (λ news. StartsFrom sender.now.settings sender.now.name self.old self.new (Join via) sent.old sent.new news) }
+    {
+        match self {
+            State::Joining(node) => node.starts_join(sent, via),
+            _ => Ok(News::Nothing),
+        }
+    }
+
+    // The join of a joining node is given up.
+    pub(crate) fn gives_up(&mut self, sender: &Sender) -> News
+        requires held { IsHeldBy sender.now.settings sender.now.name self.old }
+        requires sound { IsSoundNode (state_held sender.now.settings sender.now.name self.old) }
+        requires room { has_numbers_left (state_held sender.now.settings sender.now.name self.old) ≡ true }
+        requires at { (state_held sender.now.settings sender.now.name self.old).status ≡ joining }
+        ensures { (sent : List (List ℕ)) → StartsFrom sender.now.settings sender.now.name self.old self.new Abandon sent sent result }
+    {
+        if let State::Joining(node) = self {
+            node.gives_up();
+        }
+        News::Nothing
+    }
+
+    // A core node publishes an object.
+    pub(crate) fn publishes(
+        &mut self,
+        sender: &Sender,
+        sent: &mut FrameList,
+        object: Name,
+    ) -> Result<News, NoMemory>
+        requires held { IsHeldBy sender.now.settings sender.now.name self.old }
+        requires sound { IsSoundNode (state_held sender.now.settings sender.now.name self.old) }
+        requires room { has_numbers_left (state_held sender.now.settings sender.now.name self.old) ≡ true }
+        requires at { (state_held sender.now.settings sender.now.name self.old).status ≡ core }
+        requires name { IsName sender.now.settings object }
+        ensures { IfOk result (λ news. StartsFrom sender.now.settings sender.now.name self.old self.new (Publish object) sent.old sent.new news) }
+    {
+        match self {
+            State::Core(node) => node.publishes(sent, object),
+            _ => Ok(News::Nothing),
+        }
+    }
+
+    // A core node withdraws an object.
+    pub(crate) fn withdraws(
+        &mut self,
+        sender: &Sender,
+        sent: &mut FrameList,
+        object: Name,
+    ) -> Result<News, NoMemory>
+        requires held { IsHeldBy sender.now.settings sender.now.name self.old }
+        requires sound { IsSoundNode (state_held sender.now.settings sender.now.name self.old) }
+        requires room { has_numbers_left (state_held sender.now.settings sender.now.name self.old) ≡ true }
+        requires at { (state_held sender.now.settings sender.now.name self.old).status ≡ core }
+        requires name { IsName sender.now.settings object }
+        ensures { IfOk result (λ news. StartsFrom sender.now.settings sender.now.name self.old self.new (Withdraw object) sent.old sent.new news) }
+    {
+        match self {
+            State::Core(node) => node.withdraws(sent, object),
+            _ => Ok(News::Nothing),
+        }
+    }
+
+    // A core node looks an object up.
+    pub(crate) fn asks(
+        &mut self,
+        sender: &Sender,
+        sent: &mut FrameList,
+        ticket: u32,
+        object: Name,
+    ) -> Result<News, NoMemory>
+        requires held { IsHeldBy sender.now.settings sender.now.name self.old }
+        requires sound { IsSoundNode (state_held sender.now.settings sender.now.name self.old) }
+        requires room { has_numbers_left (state_held sender.now.settings sender.now.name self.old) ≡ true }
+        requires at { (state_held sender.now.settings sender.now.name self.old).status ≡ core }
+        requires name { IsName sender.now.settings object }
+        ensures { IfOk result (λ news. StartsFrom sender.now.settings sender.now.name self.old self.new (Find ticket object) sent.old sent.new news) }
+    {
+        match self {
+            State::Core(node) => node.asks(sent, ticket, object),
+            _ => Ok(News::Nothing),
+        }
+    }
+
+    // A core node begins a cast.
+    pub(crate) fn casts(
+        &mut self,
+        sender: &Sender,
+        sent: &mut FrameList,
+        copy: &CastCopy,
+        word: &[u8],
+    ) -> Result<News, NoMemory>
+        requires held { IsHeldBy sender.now.settings sender.now.name self.old }
+        requires sound { IsSoundNode (state_held sender.now.settings sender.now.name self.old) }
+        requires room { has_numbers_left (state_held sender.now.settings sender.now.name self.old) ≡ true }
+        requires at { (state_held sender.now.settings sender.now.name self.old).status ≡ core }
+        requires level { copy.now.level ≤ sender.now.settings.digits }
+        requires root { copy.now.parent ≡ Parent.Root sender.now.name }
+        requires depth { copy.now.depth ≡ 0 }
+        requires word { IsWord word.now }
+        ensures { IfOk result (λ news. StartsFrom sender.now.settings sender.now.name self.old self.new (Cast copy.now.cast copy.now.level word.now) sent.old sent.new news) }
+    {
+        match self {
+            State::Core(node) => node.casts(sent, copy, word),
+            _ => Ok(News::Nothing),
+        }
+    }
+
+    // A core node leaves.
+    pub(crate) fn leaves(
+        &mut self,
+        alloc: Global,
+        sender: &Sender,
+        sent: &mut FrameList,
+    ) -> Result<News, NoMemory>
+        requires held { IsHeldBy sender.now.settings sender.now.name self.old }
+        requires sound { IsSoundNode (state_held sender.now.settings sender.now.name self.old) }
+        requires room { has_numbers_left (state_held sender.now.settings sender.now.name self.old) ≡ true }
+        requires at { (state_held sender.now.settings sender.now.name self.old).status ≡ core }
+        ensures { IfOk result (λ news. StartsFrom sender.now.settings sender.now.name self.old self.new Leave sent.old sent.new news) }
+    {
+        let state = mem::replace(self, State::ended(alloc));
+        let (next, news) = state.has_left(alloc, sender, sent)?;
+        *self = next;
+        Ok(news)
+    }
+
+    // The start of a departure, at a core node. Without holders it finishes at once.
+    fn has_left(
+        self,
+        alloc: Global,
+        sender: &Sender,
+        sent: &mut FrameList,
+    ) -> Result<(State, News), NoMemory>
+        requires held { IsHeldBy sender.now.settings sender.now.name self }
+        requires sound { IsSoundNode (state_held sender.now.settings sender.now.name self) }
+        requires room { has_numbers_left (state_held sender.now.settings sender.now.name self) ≡ true }
+        requires at { (state_held sender.now.settings sender.now.name self).status ≡ core }
+        ensures { IfOk result (λ r. StartsFrom sender.now.settings sender.now.name self r.0 Leave sent.old sent.new r.1) }
+    {
+        let State::Core(node) = self else {
+            return Ok((self, News::Nothing));
+        };
+        let (core, parts) = node.into_parts();
+        let mut node = LeavingNode::start(alloc, core, parts)?;
+        if node.is_free() {
+            return Ok((State::Gone(node.finishes(sent)?), News::Gone));
+        }
+        node.sends_notices(sent)?;
+        Ok((State::Leaving(node), News::Nothing))
+    }
+}
+
+// The core node of a node that has joined.
+fn core_of(alloc: Global, joined: Joined) -> CoreNode
+    ensures { core_state result ≡ core_joined joined }
+{
+    CoreNode::new(
+        alloc,
+        joined.core,
+        joined.stamp,
+        joined.sessions,
+        joined.pointers,
+    )
+}
+
+// What a step gives that has these frames and this news; if memory was refused, the node ends.
+pub(crate) fn turned(
+    alloc: Global,
+    state: &mut State,
+    sent: FrameList,
+    news: Result<News, NoMemory>,
+) -> Result<Turn, NodeFault>
+    ensures made { IfOk news (λ n. result ≡ Ok (record { sent = sent; news = n })) }
+    ensures same { OnOk news (state.new ≡ state.old) }
+    ensures refused { OnErr news (result ≡ Err NodeFault.NoMemory) }
+    ensures ends { OnErr news (IsEnded state.new) }
+{
+    match news {
+        Ok(news) => Ok(Turn { sent, news }),
+        Err(NoMemory) => {
+            *state = State::ended(alloc);
+            Err(NodeFault::NoMemory)
+        }
+    }
+}
+
+// A frame at a node that has ceased.
+fn take_ceased(
+    sessions: &mut Sessions,
+    sender: &Sender,
+    sent: &mut FrameList,
+    frame: &Frame,
+) -> Result<News, NoMemory>
+    requires own { IsName sender.now.settings sender.now.name }
+    requires parents { HaveParents sender.now.settings sessions.old }
+    requires frame { IsFrame sender.now.settings frame.now }
+    ensures { IfOk result (λ news. FollowsAs (ended_state ceased sender.now.settings sender.now.name sessions.old)
+        (frame_at_ceased (ended_state ceased sender.now.settings sender.now.name sessions.old) frame.now.from frame.now.body)
+        (ended_state ceased sender.now.settings sender.now.name sessions.new) sent.old sent.new news) }
+{
+    let from = frame.from;
+    match &frame.body {
+        Body::Tell { session, .. } => {
+            let session = *session;
+            sender.send(sent, &from, Body::Ack { session })?;
+        }
+        Body::Heard { session } | Body::Ack { session } => {
+            take_answer(sessions, sender, sent, *session)?;
+        }
+        Body::Link { version: _, on } => {
+            if *on {
+                sender.send(sent, &from, Body::Forget)?;
+            }
+        }
+        Body::Cast { session, .. } => {
+            let session = *session;
+            sender.send(sent, &from, Body::CastAck { session })?;
+        }
+        Body::Seek { .. }
+        | Body::Hello { .. }
+        | Body::Done
+        | Body::Release
+        | Body::Lay { .. }
+        | Body::Find { .. }
+        | Body::Answer { .. }
+        | Body::Leave { .. }
+        | Body::Left
+        | Body::Gone
+        | Body::Forget
+        | Body::CastAck { .. } => {}
+    }
+    Ok(News::Nothing)
+}
