@@ -152,7 +152,7 @@ pin_on p s unmarked settled x b joiner Settled link = absurd (core_or_joiner s b
 pin_on p s unmarked settled x b joiner Marked link = absurd (unmarked x b link)
 
 -- and so have all that are offered
-hello_names_are : (p : SettingsValue) (s : System) (number : ℕ) (node : NodeState) (from : List ℕ) (hello : HelloFields)
+pub hello_names_are : (p : SettingsValue) (s : System) (number : ℕ) (node : NodeState) (from : List ℕ) (hello : HelloFields)
     → IsDelivery p s number node from (hello_body hello) → All (λ (o : Offered). IsName (settings_of node) o.name) hello.links
 hello_names_are p s number node from hello is =
     all_among (λ (o : Offered). IsName (settings_of node) o.name) hello.links (λ offered among.
