@@ -295,15 +295,15 @@ start_keeps_parts p s x Abandon nodes frames may named =
 start_keeps_parts p s x Leave nodes frames may named =
     start_keeps p s x Leave may.acts.state nodes frames (nodes.nodes x may.acts.state may.acts.is) may.acts.is tt
 start_keeps_parts p s x (Publish object) nodes frames may named =
-    let of = nodes.nodes x may.state may.is in
-    start_keeps p s x (Publish object) may.state nodes frames of may.is (subst (λ q. IsName q object) (sym of.settings) named)
+    let of = nodes.nodes x may.acts.state may.acts.is in
+    start_keeps p s x (Publish object) may.acts.state nodes frames of may.acts.is (subst (λ q. IsName q object) (sym of.settings) named)
 start_keeps_parts p s x (Withdraw object) nodes frames may named =
-    start_keeps p s x (Withdraw object) may.state nodes frames (nodes.nodes x may.state may.is) may.is tt
+    start_keeps p s x (Withdraw object) may.acts.state nodes frames (nodes.nodes x may.acts.state may.acts.is) may.acts.is tt
 start_keeps_parts p s x (Find ticket object) nodes frames may named =
-    let of = nodes.nodes x may.state may.is in
-    start_keeps p s x (Find ticket object) may.state nodes frames of may.is (subst (λ q. IsName q object) (sym of.settings) named)
+    let of = nodes.nodes x may.acts.state may.acts.is in
+    start_keeps p s x (Find ticket object) may.acts.state nodes frames of may.acts.is (subst (λ q. IsName q object) (sym of.settings) named)
 start_keeps_parts p s x (StartCast cast level word) nodes frames may named =
-    start_keeps p s x (StartCast cast level word) may.state nodes frames (nodes.nodes x may.state may.is) may.is named
+    start_keeps p s x (StartCast cast level word) may.acts.state nodes frames (nodes.nodes x may.acts.state may.acts.is) may.acts.is named
 
 -- ---- moves
 

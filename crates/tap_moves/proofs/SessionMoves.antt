@@ -592,10 +592,10 @@ start_names p s x (Join via) inv nodes may named =
 start_names p s x Abandon inv nodes may named = started_names p s x Abandon may.state may.is may.is inv nodes may named
 start_names p s x Leave inv nodes may named = started_names p s x Leave may.acts.state may.acts.is may.acts.is inv nodes may named
 start_names p s x (Publish object) inv nodes may named =
-    started_names p s x (Publish object) may.state may.is may.is inv nodes may named
+    started_names p s x (Publish object) may.acts.state may.acts.is may.acts.is inv nodes may named
 start_names p s x (Withdraw object) inv nodes may named =
-    started_names p s x (Withdraw object) may.state may.is may.is inv nodes may named
+    started_names p s x (Withdraw object) may.acts.state may.acts.is may.acts.is inv nodes may named
 start_names p s x (Find ticket object) inv nodes may named =
-    started_names p s x (Find ticket object) may.state may.is may.is inv nodes may named
+    started_names p s x (Find ticket object) may.acts.state may.acts.is may.acts.is inv nodes may named
 start_names p s x (Cast cast level word) inv nodes may named =
-    started_names p s x (Cast cast level word) may.state may.is may.is inv nodes may named
+    started_names p s x (Cast cast level word) may.acts.state may.acts.is may.acts.is inv nodes may named

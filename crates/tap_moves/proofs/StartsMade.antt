@@ -126,10 +126,10 @@ start_fills p s x Abandon inv nodes may new =
     (keeps.0 inv.filled, keeps.1 inv.exact)
 start_fills p s x Leave inv nodes may new = absurd new
 start_fills p s x (Publish object) inv nodes may new =
-    quiet_fills p s x (Publish object) may.state inv (nodes.nodes x may.state may.is) may.is tt
+    quiet_fills p s x (Publish object) may.acts.state inv (nodes.nodes x may.acts.state may.acts.is) may.acts.is tt
 start_fills p s x (Withdraw object) inv nodes may new =
-    quiet_fills p s x (Withdraw object) may.state inv (nodes.nodes x may.state may.is) may.is tt
+    quiet_fills p s x (Withdraw object) may.acts.state inv (nodes.nodes x may.acts.state may.acts.is) may.acts.is tt
 start_fills p s x (Find ticket object) inv nodes may new =
-    quiet_fills p s x (Find ticket object) may.state inv (nodes.nodes x may.state may.is) may.is tt
+    quiet_fills p s x (Find ticket object) may.acts.state inv (nodes.nodes x may.acts.state may.acts.is) may.acts.is tt
 start_fills p s x (Cast cast level word) inv nodes may new =
-    quiet_fills p s x (Cast cast level word) may.state inv (nodes.nodes x may.state may.is) may.is tt
+    quiet_fills p s x (Cast cast level word) may.acts.state inv (nodes.nodes x may.acts.state may.acts.is) may.acts.is tt

@@ -41,6 +41,7 @@ use Rattle.tap_safety.specs.Sessions.{IsOpen}
 use Rattle.tap_safety.specs.System.{System, Covers, HasLink, IsCoreNode, IsJoiner}
 use Rattle.tap_safety.specs.Ties.{IsNoNewer, link_in, link_of, register_in, register_of, status_in, status_of, word_kept}
 use Rattle.tap_safety.proofs.Names.{lcp_itself, same_slot_near}
+use Rattle.tap_safety.proofs.WordsKept.{at_link}
 
 -- ---- lists of links and of words
 
@@ -207,6 +208,13 @@ module _ (p : SettingsValue) (members : List (List ℕ)) (are : AreMembers p mem
       says : (kind : Option Kind) → word_at_rest kind ≡ Some said → said ≡ word
       says None is = let no : None ≡ Some said = is in cc
       says (Some kind) is = let same : Some word ≡ Some said = is in cc
+
+  last_target : (x t : List ℕ) (said : Word) → s.last x t ≡ Some said → Among t members
+  last_target x t said is = by (link_of s x t) refl
+    where
+      by : (kind : Option Kind) → link_of s x t ≡ kind → Among t members
+      by None none = absurd (last_none x t said none is)
+      by (Some kind) link = (has_link x t kind (at_link s x t kind link)).1
 
   -- a register has the word of each member that has a link
   registered : (x t : List ℕ) → Among x members → Among t members → kind_in (table_at_rest p x names) t ≡ Some Settled
@@ -410,6 +418,8 @@ module _ (p : SettingsValue) (members : List (List ℕ)) (are : AreMembers p mem
       known = λ m f among. absurd among;
       senders = λ x t said is.
           let member = last_node x t said is in record { state = member_at_rest p members x; is = node_at x member.0 };
+      receivers = λ x t said is. record { state = member_at_rest p members t; is = node_at t (last_target x t said is) };
+      surrogates = λ b x is. let no : None ≡ Some x = is in cc;
     };
     versions = record {
       ways = λ x t said way. absurd way.among;

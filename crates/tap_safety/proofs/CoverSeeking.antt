@@ -30,7 +30,7 @@ use Rattle.tap_safety.proofs.SeatSoft.{joiner_is_new, seat_softs}
 use Rattle.tap_safety.proofs.SeekingKept.{seeker_not_soft}
 use Rattle.tap_safety.proofs.SoftSteps.{done_softs, softs_same}
 use Rattle.tap_safety.proofs.TellKeeps.{core_kept, covers_same, node_after, node_before}
-use Rattle.tap_safety.proofs.Told.{among_out, among_sent, among_was, was_under_way}
+use Rattle.tap_safety.proofs.Told.{among_out, among_sent, among_was, told_by, was_under_way}
 
 -- ---- what comes
 
@@ -46,14 +46,7 @@ module _ (p : SettingsValue) (s s' : System) (number : ℕ) (frame : Frame) (sen
   cover_told : (b t : List ℕ) (level : ℕ) → IsTold s' b t level → IsTold s b t level ⊎ (IsSoft s' b × IsSoft s' t)
   cover_told b t level told =
       elim (cover_way told.from t (tell_body told.fields told.watch) told.way) [
-        | inl old ↦ inl (record {
-          from = told.from;
-          fields = told.fields;
-          watch = told.watch;
-          way = old;
-          joiner = told.joiner;
-          level_is = told.level_is;
-        })
+        | inl old ↦ inl (told_by s' s b t level told old)
         | inr sound ↦ let soft : IsSoft s' told.fields.joiner = inl sound.joiner in inr (rw told.joiner at soft, sound.soft)
       ]
 

@@ -18,8 +18,8 @@ use Rattle.tap_safety.specs.FrameSteps.{TakesFrame}
 use Rattle.tap_safety.specs.Joins.{JoinersStay}
 use Rattle.tap_safety.proofs.FrameKeeps.{covers_on, frame_adds_none, frame_cores}
 use Rattle.tap_safety.proofs.SoftKept.{frame_softs, sent_each}
-use Rattle.tap_safety.proofs.TellKeeps.{covers_same, node_after, node_before}
-use Rattle.tap_safety.proofs.Told.{among_out, among_sent, among_was, was_under_way}
+use Rattle.tap_safety.proofs.TellKeeps.{covers_same, joiner_after, node_after, node_before}
+use Rattle.tap_safety.proofs.Told.{among_out, among_sent, among_was, told_by, was_under_way}
 
 -- a link of a kind that is sound is to a soft node
 pub sound_soft : (s : System) (t : List ℕ) (kind : Kind) → IsSoundLink s t kind → IsSoft s t
@@ -62,17 +62,7 @@ module _ (s s' : System) (x : List ℕ) (before after : NodeState) (at : Changes
 module _ (s s' : System) (number : ℕ) (frame : Frame) (step : TakesFrame s s' number frame) where
   -- joiners are as before
   pub frame_joiners : (b : List ℕ) → IsJoiner s b → IsJoiner s' b
-  frame_joiners b joiner =
-      let started = step.surrogate b ∙ joiner.started in
-      elim (node_after s s' frame.to step.before step.after step.at b joiner.state joiner.is) [
-        | inl here ↦
-            let same = here.1 in
-            let joining = joiner.joining in
-            let status = step.stays.status in
-            record { state = step.after; is = here.2; joining = cc; surrogate = joiner.surrogate; started = started }
-        | inr there ↦
-            record { state = joiner.state; is = there; joining = joiner.joining; surrogate = joiner.surrogate; started = started }
-      ]
+  frame_joiners b = joiner_after s s' frame.to step.before step.after step.at step.stays.status b (step.surrogate b)
 
   pub frame_joiners_stay : JoinersStay s s'
   frame_joiners_stay = record {
@@ -117,14 +107,7 @@ module _ (s s' : System) (number : ℕ) (frame : Frame) (step : TakesFrame s s' 
     told_was : (b t : List ℕ) (level : ℕ) → IsTold s' b t level → IsTold s b t level ⊎ (IsSoft s' b × IsSoft s' t)
     told_was b t level told =
         elim (quiet_way told.from t (tell_body told.fields told.watch) told.way) [
-          | inl old ↦ inl (record {
-            from = told.from;
-            fields = told.fields;
-            watch = told.watch;
-            way = old;
-            joiner = told.joiner;
-            level_is = told.level_is;
-          })
+          | inl old ↦ inl (told_by s' s b t level told old)
           | inr wrong ↦ absurd wrong
         ]
 

@@ -18,7 +18,7 @@ use Rattle.tap_safety.specs.FrameSteps.{StartsJoin}
 use Rattle.tap_safety.specs.SeekerSteps.{BeforeJoin, SeeksBy, seek_frame}
 use Rattle.tap_safety.proofs.LinkKeeps.{offered_named}
 use Rattle.tap_safety.proofs.StartKeeps.{join_cores, join_covers_was, node_was, old_node}
-use Rattle.tap_safety.proofs.Told.{among_either, among_left, among_right}
+use Rattle.tap_safety.proofs.Told.{among_either, among_left, among_right, told_by}
 
 -- a soft node is there
 soft_there : (s : System) (b : List ℕ) → IsSoft s b → HasNode s b
@@ -63,14 +63,7 @@ module _ (p : SettingsValue) (s s' : System) (x via : List ℕ) (start : StartsJ
   told_was : (b t : List ℕ) (level : ℕ) → IsTold s' b t level → IsTold s b t level
   told_was b t level told =
       elim (came_as told.from t (tell_body told.fields told.watch) told.way) [
-        | inl old ↦ record {
-          from = told.from;
-          fields = told.fields;
-          watch = told.watch;
-          way = old;
-          joiner = told.joiner;
-          level_is = told.level_is;
-        }
+        | inl old ↦ told_by s' s b t level told old
         | inr is ↦ let no : tell_body told.fields told.watch ≡ Seek x = is in cc
       ]
 

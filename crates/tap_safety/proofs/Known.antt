@@ -1,6 +1,7 @@
 -- What the frames, the names and the stamps of a system keep, whatever the kind of step.
-use Rattle.std.proofs.Common.{◌≡◌, inl, inr, ℕ, ◌+◌, ◌≤◌, List, [], ◌∷◌, ◌⊎◌, Option, Some, arith, sym, ap, ◌∙◌}
+use Rattle.std.proofs.Common.{◌≡◌, inl, inr, ℕ, ◌+◌, ◌≤◌, List, [], ◌∷◌, ◌⊎◌, Bool, Option, None, Some, arith, sym, ap, ◌∙◌}
 use Rattle.tap_name.specs.Settings.{SettingsValue}
+use Rattle.tap_wire.specs.declared.frame.Body.TheVariants.{Link}
 use Rattle.tap_wire.specs.declared.frame.Frame.{Frame}
 use Rattle.tap_rule.specs.Node.{NodeState, Status}
 use Rattle.tap_rule.specs.Node.Status.{Ceased, Gone}
@@ -10,7 +11,7 @@ use Rattle.tap_safety.specs.Bookkeeping.{AreStamped, HaveEnds, has_table}
 use Rattle.tap_safety.specs.Moved.{HasDone, last_after}
 use Rattle.tap_safety.specs.Seeking.{HasNode}
 use Rattle.tap_safety.specs.Spelled.{AreSpelled, SendsSpelled}
-use Rattle.tap_safety.specs.Step.{ChangesAt, HasSent, IsTaken, numbered_from}
+use Rattle.tap_safety.specs.Step.{ChangesAt, HasSent, IsSent, IsTaken, numbered_from}
 use Rattle.tap_safety.specs.Ties.{Versions, status_of, word_frame}
 use Rattle.tap_safety.specs.KnownLaws.{
   CoreKept,
@@ -21,11 +22,13 @@ use Rattle.tap_safety.specs.KnownLaws.{
   FewKeptByJoin,
   LinksAreOnce,
   NamesKept,
+  SeatsNodes,
   SendsAway,
   SpelledKeptByFrame,
   SpelledKeptByStart,
   Stamps,
   StampsKeptByFrame,
+  StampsKeptByJoin,
   StampsKeptByStart,
 }
 use Rattle.tap_safety.proofs.LinkKeeps.{status_at}
@@ -141,7 +144,7 @@ spelled_start p s s' sent has = spelled p s s' sent (came_start s s' sent has)
 -- ---- ends
 
 module _ (s s' : System) (x : List ℕ) (after : NodeState) (sent : List Frame) (came : Came s s' sent) (done : HasDone s s' x after sent)
-    (away : SendsAway s x sent) (ends : HaveEnds s) where
+    (away : SendsAway s x sent) (seats : SeatsNodes s s') (ends : HaveEnds s) where
   here : HasNode s' x
   here = record { state = after; is = done.is }
 
@@ -153,6 +156,18 @@ module _ (s s' : System) (x : List ℕ) (after : NodeState) (sent : List Frame) 
       elim (came m f among) [
         | inl old ↦ let both = ends.known m f old in (node_on f.from both.0, node_on f.to both.1)
         | inr new ↦ let goes = away f (among_sent s.next sent m f new) in (rw goes.0 here, node_on f.to goes.2)
+      ]
+
+  heard : (y t : List ℕ) (word : Word) → s'.last y t ≡ Some word → HasNode s' t
+  heard y t word last =
+      elim (done.others_words y t) [
+        | inr same ↦ node_on t (ends.receivers y t word (sym same ∙ last))
+        | inl same ↦
+            let now : last_after sent t (s.last x t) ≡ Some word = sym (done.words t) ∙ (rw same at last) in
+            elim (last_cases sent t (s.last x t)) [
+              | inl none ↦ node_on t (ends.receivers x t word (sym none.0 ∙ now))
+              | inr some ↦ node_on t (away (word_frame some.2.from t some.0) some.2.among).2
+            ]
       ]
 
   ends_kept : HaveEnds s'
@@ -168,6 +183,8 @@ module _ (s s' : System) (x : List ℕ) (after : NodeState) (sent : List Frame) 
           | inl same ↦ rw same here
           | inr same ↦ node_on y (ends.senders y t word (sym same ∙ is))
         ];
+    receivers = heard;
+    surrogates = λ b w is. elim (seats b w is) [ inl old ↦ node_on b (ends.surrogates b w old) | inr node ↦ node_on b node ];
   }
 
 pub ends_frame : EndsKeptByFrame
@@ -261,3 +278,47 @@ stamps_frame s s' number frame x before after sent taken = stamped s s' x before
 
 pub stamps_start : StampsKeptByStart
 stamps_start s s' x before after sent has = stamped s s' x before after sent (came_start s s' sent has)
+
+-- ---- the start of a join
+
+module _ (s s' : System) (x : List ℕ) (after : NodeState) (sent : List Frame) (has : HasSent s s' sent)
+    (done : HasDone s s' x after sent) (fresh : s.node x ≡ None)
+    (silent : (w t : List ℕ) (version : ℕ) (on : Bool) → IsSent sent w t (Link version on) → ⊥) (ends : HaveEnds s)
+    (are : AreStamped s) where
+  link_was : (y t : List ℕ) (word : Word) (m : ℕ) → AmongFrames m (word_frame y t word) s'.frames
+      → AmongFrames m (word_frame y t word) s.frames
+  link_was y t word m among =
+      elim (came_start s s' sent has m (word_frame y t word) among) [
+        | inl old ↦ old
+        | inr new ↦ absurd (silent y t word.version word.on (among_sent s.next sent m (word_frame y t word) new))
+      ]
+
+  -- the new name has said nothing
+  says_nothing : (t : List ℕ) (word : Word) → s'.last x t ≡ Some word → ⊥
+  says_nothing t word last =
+      let now : last_after sent t (s.last x t) ≡ Some word = sym (done.words t) ∙ last in
+      elim (last_cases sent t (s.last x t)) [
+        | inl none ↦
+            let node = ends.senders x t word (sym none.0 ∙ now) in
+            let is = node.is in
+            let no : None ≡ Some node.state = sym fresh ∙ is in
+            cc
+        | inr some ↦ silent some.2.from t some.0.version some.0.on some.2.among
+      ]
+
+  pub join_stamped : AreStamped s'
+  join_stamped = record {
+    once = λ y t word m k one two. are.once y t word m k (link_was y t word m one) (link_was y t word k two);
+    stamp = λ y t word state is table last.
+        elim (done.others y) [
+          | inl same ↦ absurd (says_nothing t word (rw same at last))
+          | inr stays ↦
+              elim (done.others_words y t) [
+                | inl same ↦ absurd (says_nothing t word (rw same at last))
+                | inr words ↦ are.stamp y t word state (sym stays ∙ is) table (sym words ∙ last)
+              ]
+        ];
+  }
+
+pub stamps_join : StampsKeptByJoin
+stamps_join = join_stamped

@@ -48,6 +48,7 @@ pub mod SeatSoft
 pub mod SeekOn
 pub mod CountedKept
 pub mod AtRest
+pub mod FewSessions
 pub mod Rest
 pub mod Known
 pub mod Peace

@@ -152,6 +152,10 @@ pub status_at : (s : System) (x : List ℕ) (state : NodeState) → s.node x ≡
 unfolding status_of
 status_at s x state is = ap status_in is
 
+pub status_seen : (s : System) (x : List ℕ) (state : NodeState) (status : Status) → s.node x ≡ Some state → state.status ≡ status
+    → status_of s x ≡ Some status
+status_seen s x state status is so = status_at s x state is ∙ ap (λ status. Some status) so
+
 pub some_state : (s : System) (x : List ℕ) (status : Status) → status_of s x ≡ Some status
     → (state : NodeState) × (s.node x ≡ Some state) × (state.status ≡ status)
 unfolding status_of

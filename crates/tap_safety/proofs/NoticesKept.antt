@@ -1,15 +1,19 @@
 -- What is said of notices is kept by a step that takes none and sends none.
-use Rattle.std.proofs.Common.{◌≡◌, inl, inr, ℕ, true, false, List, [], ◌∷◌, ◌⊎◌, Option, None, Some, refl, sym, ap, ◌∙◌}
+use Rattle.std.proofs.Common.{◌≡◌, inl, inr, ℕ, true, List, [], ◌∷◌, ◌⊎◌, Option, None, Some, refl, sym, ap, ◌∙◌}
 use Rattle.std.proofs.lemmas.Bool.{true≢false}
+use Rattle.tap_link.specs.declared.kind.Kind.{Kind}
+use Rattle.tap_link.specs.declared.kind.Kind.TheVariants.{Settled, Leaving as Marked}
 use Rattle.tap_wire.specs.declared.frame.Body.{Body}
 use Rattle.tap_wire.specs.declared.frame.Body.TheVariants.{Gone, Leave, Left, Link}
 use Rattle.tap_wire.specs.declared.frame.Frame.{Frame}
 use Rattle.tap_rule.specs.Act.{act}
 use Rattle.tap_rule.specs.Event.Event.{Takes}
 use Rattle.tap_rule.specs.Node.{NodeState}
+use Rattle.tap_rule.specs.Node.Status.{Core, Leaving}
 use Rattle.tap_rule.specs.Sending.{lay_frame}
 use Rattle.tap_safety.specs.Remembered.{Leaver}
-use Rattle.tap_safety.specs.System.{System, AmongFrames, IsUnderWay}
+use Rattle.tap_safety.specs.System.{System, AmongFrames, HasLink, IsCoreNode, IsUnderWay}
+use Rattle.tap_safety.specs.Departing.{Departs, HasReplaced}
 use Rattle.tap_safety.specs.FrameSteps.{TakesFrame}
 use Rattle.tap_safety.specs.KnownLaws.{DepartsUntilRest, FrameLeavesNotices, NoticesKeptBySteps}
 use Rattle.tap_safety.specs.Moved.{delivered, departing_with, has_taken, moved, numbered_frame, received, without}
@@ -17,8 +21,10 @@ use Rattle.tap_safety.specs.Notices.{HasOneNotice, IsAwaiting, IsBetween, IsNoti
 use Rattle.tap_safety.specs.Step.{IsSent, numbered_from}
 use Rattle.tap_safety.specs.Ties.{link_in, link_of, status_in, status_of}
 use Rattle.tap_safety.proofs.SoftKept.{sent_each}
+use Rattle.tap_safety.proofs.LinkKeeps.{some_state, status_seen}
 use Rattle.tap_safety.proofs.TellKeeps.{node_after, node_before}
 use Rattle.tap_safety.proofs.Told.{among_out, among_sent, among_was, was_under_way}
+use Rattle.tap_safety.proofs.WordsKept.{at_link, link_at}
 
 -- ---- who departs
 
@@ -58,6 +64,30 @@ module _ (s s' : System) (step : LeavesNotices s s') (notices : Notices s) where
         | inr rest ↦ rw rest at way.among
       ]
 
+  was_core : (x : List ℕ) → IsCoreNode s' x → IsCoreNode s x
+  was_core x core =
+      elim core.core [
+        | inl is ↦
+            let node = some_state s x Core (sym (step.status x) ∙ status_seen s' x core.state Core core.is is) in
+            record { state = node.0; is = node.1; core = inl node.2 }
+        | inr is ↦
+            let node = some_state s x Leaving (sym (step.status x) ∙ status_seen s' x core.state Leaving core.is is) in
+            record { state = node.0; is = node.1; core = inr node.2 }
+      ]
+
+  link_stays : (leaver : Leaver) (x t : List ℕ) (kind : Kind) → Departs s leaver → HasLink s x t kind → HasLink s' x t kind
+  link_stays leaver x t kind departs link = at_link s' x t kind (step.links leaver x t departs ∙ link_at s x t kind link)
+
+  -- a slot that is filled stays so
+  still_replaced : (leaver : Leaver) (a n : List ℕ) → Departs s leaver → HasReplaced s a n → HasReplaced s' a n
+  still_replaced leaver a n departs replaced = record {
+    marked = link_stays leaver a n Marked departs replaced.marked;
+    filled = λ other.
+        let core = was_core other.other other.core in
+        let by = replaced.filled (record { other = other.other; core = core; apart = other.apart; near = other.near }) in
+        (by.0, link_stays leaver a by.0 Settled departs by.1, by.2);
+  }
+
   pub one_kept : (x a : List ℕ) → IsAwaiting s' x a → HasOneNotice s' x a
   one_kept x a awaiting =
       let one = notices.one x a (step.awaited x a awaiting) in
@@ -79,10 +109,9 @@ module _ (s s' : System) (step : LeavesNotices s s') (notices : Notices s) where
     gones = λ x t way. step.status x ∙ notices.gones x t (way_was x t Gone tt way);
     answered = λ leaver a departs among none.
         let before = step.until_rest.1 leaver departs in
-        let same = step.links leaver a before in
         elim (notices.answered leaver a before among (λ awaiting. none (step.awaits leaver.name a awaiting))) [
-          | inl marked ↦ inl (same ∙ marked)
-          | inr unlinked ↦ inr (same ∙ unlinked)
+          | inl replaced ↦ inl (still_replaced leaver a leaver.name before replaced)
+          | inr unlinked ↦ inr (step.links leaver a leaver.name before ∙ unlinked)
         ];
     words = λ leaver x t version departs way.
         elim (step.words x t version way) [
@@ -182,7 +211,7 @@ module _ (s s' : System) (number : ℕ) (frame : Frame) (step : TakesFrame s s' 
     still = notice_still;
     was = notice_was;
     status = status_same;
-    links = λ leaver a departs. links_same a leaver.name;
+    links = λ leaver a t departs. links_same a t;
     words = λ x t version way.
         elim (was_under_way s s' number frame step.sent step.taken x t (Link version true) way) [
           | inl old ↦ inl old

@@ -1,5 +1,5 @@
 -- What a step keeps of departures while nobody departs.
-use Rattle.std.proofs.Common.{◌≡◌, inl, inr, ℕ, List, [], ◌∷◌, Option, None, Some, refl, sym, ap, ◌∙◌}
+use Rattle.std.proofs.Common.{◌≡◌, inl, inr, ℕ, List, [], ◌∷◌, Option, None, Some, refl, sym, ◌∙◌}
 use Rattle.tap_link.specs.declared.kind.Kind.TheVariants.{Leaving as Marked}
 use Rattle.tap_wire.specs.declared.frame.Body.{Body}
 use Rattle.tap_wire.specs.declared.frame.Body.TheVariants.{Gone, Leave, Left}
@@ -17,7 +17,7 @@ use Rattle.tap_safety.specs.Notices.{AreNoNotices, IsAtPeace, IsAwaiting, IsNoti
 use Rattle.tap_safety.specs.Soft.{AddsSoundLinks}
 use Rattle.tap_safety.specs.Ties.{status_of}
 use Rattle.tap_safety.specs.KnownLaws.{FrameIsAtPeace, NoticesKeptAtPeace, PeaceIsKept}
-use Rattle.tap_safety.proofs.LinkKeeps.{some_state, status_at}
+use Rattle.tap_safety.proofs.LinkKeeps.{some_state, status_seen}
 use Rattle.tap_safety.proofs.SoftKept.{sent_each}
 use Rattle.tap_safety.proofs.SoftSteps.{links_sound}
 use Rattle.tap_safety.proofs.TellKeeps.{node_before}
@@ -49,7 +49,7 @@ module _ (s s' : System) (peace : IsAtPeace s s') (notices : Notices s) where
 
   nobody_awaits : (x a : List ℕ) → IsAwaiting s' x a → ⊥
   nobody_awaits x a awaiting =
-      peace.leaving x (status_at s' x awaiting.state awaiting.is ∙ ap (λ status. Some status) awaiting.leaving)
+      peace.leaving x (status_seen s' x awaiting.state Leaving awaiting.is awaiting.leaving)
 
   nobody_departs : (leaver : Leaver) → s'.departing ≡ Some leaver → ⊥
   nobody_departs leaver departs = let no : None ≡ Some leaver = sym peace.is ∙ departs in cc
@@ -81,8 +81,8 @@ module _ (s s' : System) (number : ℕ) (frame : Frame) (step : TakesFrame s s' 
             let status = step.stays.status in
             let leaves = node.2 in
             let old : step.before.status ≡ Leaving = cc in
-            departure.leaving x was (status_at s x step.before here.2 ∙ ap (λ status. Some status) old)
-        | inr there ↦ departure.leaving x was (status_at s x node.0 there ∙ ap (λ status. Some status) node.2)
+            departure.leaving x was (status_seen s x step.before Leaving here.2 old)
+        | inr there ↦ departure.leaving x was (status_seen s x node.0 Leaving there node.2)
       ]
 
   no_notice_comes : (x t : List ℕ) (body : Body) → IsUnderWay s' x t body → IsNotice body → IsUnderWay s x t body

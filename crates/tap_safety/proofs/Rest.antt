@@ -4,13 +4,13 @@ use Rattle.std.proofs.lemmas.Bool.{cases_lt, true≢false}
 use Rattle.tap_name.specs.Names.{Among}
 use Rattle.tap_name.specs.Settings.{SettingsValue}
 use Rattle.tap_link.specs.declared.kind.Kind.{Kind}
-use Rattle.tap_link.specs.declared.kind.Kind.TheVariants.{Pin}
+use Rattle.tap_link.specs.declared.kind.Kind.TheVariants.{Pin, Leaving as Marked}
 use Rattle.tap_wire.specs.declared.frame.Frame.{Frame}
 use Rattle.tap_rule.specs.Node.{NodeState, Status}
 use Rattle.tap_rule.specs.Node.Status.{Ceased as HasCeased, Core, Gone, Joining, Leaving}
 use Rattle.tap_safety.specs.Remembered.{Leaver, OpenSession, Token}
 use Rattle.tap_safety.specs.Remembered.Token.{Way, Child}
-use Rattle.tap_safety.specs.System.{System, AmongFrames}
+use Rattle.tap_safety.specs.System.{System, AmongFrames, HasLink}
 use Rattle.tap_safety.specs.Ceased.{IsRegistered}
 use Rattle.tap_safety.specs.Departing.{Departs}
 use Rattle.tap_safety.specs.Invariant.{Invariant}
@@ -19,12 +19,8 @@ use Rattle.tap_safety.specs.Sessions.{IsOpen}
 use Rattle.tap_safety.specs.Soft.{IsSoft}
 use Rattle.tap_safety.specs.Ties.{hears_words, link_of, status_of}
 use Rattle.tap_safety.specs.Words.{Has, Pins}
-use Rattle.tap_safety.proofs.LinkKeeps.{some_state, status_at}
+use Rattle.tap_safety.proofs.LinkKeeps.{some_state, status_seen}
 use Rattle.tap_safety.proofs.WordsKept.{at_link, link_at}
-
-status_seen : (s : System) (x : List ℕ) (state : NodeState) (status : Status) → s.node x ≡ Some state → state.status ≡ status
-    → status_of s x ≡ Some status
-status_seen s x state status is so = status_at s x state is ∙ ap (λ status. Some status) so
 
 -- ---- how deep sessions are at most
 
@@ -172,6 +168,29 @@ module _ (p : SettingsValue) (s : System) (invariant : Invariant p s) (rest : s.
           let node = some_state s x Leaving status in
           awaits_none node.0.awaited leaver departs node.0 (rw (← same) node.1) node.2 refl
 
+  some_core : (x : List ℕ) × (status_of s x ≡ Some Core)
+  some_core =
+      let core = invariant.has_core.core in
+      elim core.core [
+        | inl is ↦ (invariant.has_core.name, status_seen s invariant.has_core.name core.state Core core.is is)
+        | inr leaving ↦
+            absurd (nobody_leaves invariant.has_core.name
+            (status_seen s invariant.has_core.name core.state Leaving core.is leaving))
+      ]
+
+  nobody_marked : (x t : List ℕ) → HasLink s x t Marked → ⊥
+  nobody_marked x t link = by s.departing refl
+    where
+      by : (departing : Option Leaver) → s.departing ≡ departing → ⊥
+      by None none = invariant.departure.marked x t none link
+      by (Some leaver) departs =
+          let during = invariant.departure.during leaver departs in
+          let same = during.marked x t link in
+          elim during.ends [
+            | inl leaving ↦ nobody_leaves leaver.name leaving
+            | inr gone ↦ let way = (during.gone gone x Marked (rw same at link)).1 in no_frame way.number _ way.among
+          ]
+
   -- ---- pins
 
   no_pin : (x t : List ℕ) → status_of s x ≡ Some Core → Pins s x t → ⊥
@@ -242,7 +261,9 @@ module _ (p : SettingsValue) (s : System) (invariant : Invariant p s) (rest : s.
     sessions = no_session;
     joining = nobody_joins;
     leaving = nobody_leaves;
+    core = some_core;
     pins = unpinned;
+    marked = nobody_marked;
     holders = λ x t core. (registered x t core, linked x t core);
   }
 

@@ -13,7 +13,7 @@ use Rattle.tap_safety.specs.SeekStep.{SeatsJoiner}
 use Rattle.tap_safety.specs.Joins.{JoinerIsNew}
 use Rattle.tap_safety.proofs.SoftKept.{soft_kept}
 use Rattle.tap_safety.proofs.SoftSteps.{links_sound}
-use Rattle.tap_safety.proofs.TellKeeps.{core_kept, node_after, node_before}
+use Rattle.tap_safety.proofs.TellKeeps.{core_kept, joiner_after, joiner_before, node_after}
 use Rattle.tap_safety.proofs.Told.{was_under_way}
 
 module _ (p : SettingsValue) (s s' : System) (number : ℕ) (w x b : List ℕ) (step : SeatsJoiner p s s' number w x b)
@@ -34,17 +34,7 @@ module _ (p : SettingsValue) (s s' : System) (number : ℕ) (w x b : List ℕ) (
   joiner_on d joiner =
       elim (step.others d) [
         | inl same ↦ rw same joiner_new
-        | inr stays ↦
-            let started = stays ∙ joiner.started in
-            elim (node_after s s' x step.before step.after step.at d joiner.state joiner.is) [
-              | inl here ↦
-                  let same = here.1 in
-                  let joining = joiner.joining in
-                  let status = step.covers.status in
-                  record { state = step.after; is = here.2; joining = cc; surrogate = joiner.surrogate; started = started }
-              | inr there ↦
-                  record { state = joiner.state; is = there; joining = joiner.joining; surrogate = joiner.surrogate; started = started }
-            ]
+        | inr stays ↦ joiner_after s s' x step.before step.after step.at step.covers.status d stays joiner
       ]
 
   fresh : IsJoiner s b → ⊥
@@ -65,23 +55,7 @@ module _ (p : SettingsValue) (s s' : System) (number : ℕ) (w x b : List ℕ) (
       was d joiner =
           elim (step.others d) [
             | inl same ↦ inr same
-            | inr stays ↦
-                let started = sym stays ∙ joiner.started in
-                elim (node_before s s' x step.before step.after step.at d joiner.state joiner.is) [
-                  | inl here ↦
-                      let same = here.1 in
-                      let joining = joiner.joining in
-                      let status = step.covers.status in
-                      inl (record { state = step.before; is = here.2; joining = cc; surrogate = joiner.surrogate; started = started })
-                  | inr there ↦
-                      inl (record {
-                        state = joiner.state;
-                        is = there;
-                        joining = joiner.joining;
-                        surrogate = joiner.surrogate;
-                        started = started;
-                      })
-                ]
+            | inr stays ↦ inl (joiner_before s s' x step.before step.after step.at step.covers.status d stays joiner)
           ]
 
   pub seat_softs : (y : List ℕ) → IsSoft s y → IsSoft s' y

@@ -24,7 +24,7 @@ use Rattle.tap_safety.proofs.KeepsNear.{keeps_near}
 use Rattle.tap_safety.proofs.Kept.{Keeps, StaysJoiner, TakesNoTell, met_kept}
 use Rattle.tap_safety.proofs.Names.{lcp_itself}
 use Rattle.tap_safety.proofs.SeekLow.{low_new}
-use Rattle.tap_safety.proofs.TellKeeps.{core_kept, core_was, node_after, node_before}
+use Rattle.tap_safety.proofs.TellKeeps.{core_kept, core_was, joiner_before, node_after, node_before}
 use Rattle.tap_safety.proofs.Told.{named_still, sent_under_way, told_still}
 
 module _ (p : SettingsValue) (s s' : System) (number : ℕ) (w x b : List ℕ) (step : SeatsJoiner p s s' number w x b)
@@ -57,23 +57,7 @@ module _ (p : SettingsValue) (s s' : System) (number : ℕ) (w x b : List ℕ) (
   joiner_cases d joiner =
       elim (step.others d) [
         | inl same ↦ inr same
-        | inr stays ↦
-            let started : s.surrogate d ≡ Some joiner.surrogate = sym stays ∙ joiner.started in
-            elim (node_before s s' x step.before step.after step.at d joiner.state joiner.is) [
-              | inl here ↦
-                  let same = here.1 in
-                  let joining = joiner.joining in
-                  let status = step.covers.status in
-                  inl (record { state = step.before; is = here.2; joining = cc; surrogate = joiner.surrogate; started = started })
-              | inr there ↦
-                  inl (record {
-                    state = joiner.state;
-                    is = there;
-                    joining = joiner.joining;
-                    surrogate = joiner.surrogate;
-                    started = started;
-                  })
-            ]
+        | inr stays ↦ inl (joiner_before s s' x step.before step.after step.at step.covers.status d stays joiner)
       ]
 
   stays : (d : List ℕ) → IsJoiner s' d → IsJoiner s d → StaysJoiner s s' d

@@ -15,6 +15,7 @@ use Rattle.tap_safety.proofs.Exchanged.{exchanged}
 use Rattle.tap_safety.proofs.FrameKeeps.{frame_cores}
 use Rattle.tap_safety.proofs.FrameSeeking.{node_on, seeker_on, seeker_was}
 use Rattle.tap_safety.proofs.TellKeeps.{covers_same, node_before}
+use Rattle.tap_safety.proofs.Told.{told_by}
 
 module _ (s s' : System) (number : ℕ) (w x b t : List ℕ) (goes : SeekGoesOn s s' number w x b t) (are : AreNumbered s) where
   abbrev was : Frame
@@ -52,14 +53,7 @@ module _ (s s' : System) (number : ℕ) (w x b t : List ℕ) (goes : SeekGoesOn 
   told_was : (d u : List ℕ) (level : ℕ) → IsTold s' d u level → IsTold s d u level
   told_was d u level told =
       elim (came_as told.from u (tell_body told.fields told.watch) told.way) [
-        | inl old ↦ record {
-          from = told.from;
-          fields = told.fields;
-          watch = told.watch;
-          way = old;
-          joiner = told.joiner;
-          level_is = told.level_is;
-        }
+        | inl old ↦ told_by s' s d u level told old
         | inr same ↦ let wrong : tell_body told.fields told.watch ≡ Seek b = same in cc
       ]
 

@@ -19,7 +19,7 @@ use Rattle.tap_safety.specs.FrameSteps.{StartsJoin, StartsPlainly}
 use Rattle.tap_safety.proofs.DoneKept.{core_on}
 use Rattle.tap_safety.proofs.SoftKept.{sent_sound, soft_kept}
 use Rattle.tap_safety.proofs.StartKeeps.{join_cores, node_was, old_node}
-use Rattle.tap_safety.proofs.TellKeeps.{core_kept, node_after, node_before}
+use Rattle.tap_safety.proofs.TellKeeps.{core_kept, joiner_after, node_after, node_before}
 use Rattle.tap_safety.proofs.Told.{among_either, among_sent, was_under_way}
 
 -- soft nodes stay if statuses and surrogates do
@@ -27,15 +27,7 @@ pub softs_same : (s s' : System) (x : List ℕ) (before after : NodeState) → C
     → ((b : List ℕ) → s'.surrogate b ≡ s.surrogate b) → (y : List ℕ) → IsSoft s y → IsSoft s' y
 softs_same s s' x before after at status surrogate y (inr (inl core)) = inr (inl (core_kept s s' x before after at status y core))
 softs_same s s' x before after at status surrogate y (inl joiner) =
-    let started = surrogate y ∙ joiner.started in
-    inl (elim (node_after s s' x before after at y joiner.state joiner.is) [
-      | inl here ↦
-          let same = here.1 in
-          let joining = joiner.joining in
-          record { state = after; is = here.2; joining = cc; surrogate = joiner.surrogate; started = started }
-      | inr there ↦
-          record { state = joiner.state; is = there; joining = joiner.joining; surrogate = joiner.surrogate; started = started }
-    ])
+    inl (joiner_after s s' x before after at status y (surrogate y) joiner)
 softs_same s s' x before after at status surrogate y (inr (inr ceased)) =
     inr (inr (elim (node_after s s' x before after at y ceased.state ceased.is) [
       | inl here ↦

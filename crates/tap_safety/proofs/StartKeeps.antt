@@ -18,7 +18,7 @@ use Rattle.tap_safety.proofs.FrameKeeps.{covers_on, pins_back}
 use Rattle.tap_safety.proofs.KeepsAll.{keeps_all}
 use Rattle.tap_safety.proofs.Kept.{Keeps, TakesNoTell}
 use Rattle.tap_safety.proofs.TellKeeps.{core_kept, core_was, covers_same, joiner_was, links_same}
-use Rattle.tap_safety.proofs.Told.{among_left}
+use Rattle.tap_safety.proofs.Told.{among_left, told_by}
 
 -- no frame goes
 module _ (s s' : System) (sent : List Frame) (has : HasSent s s' sent) where
@@ -34,14 +34,7 @@ module _ (s s' : System) (sent : List Frame) (has : HasSent s s' sent) where
 
   pub told_stays : TakesNoTell s s'
   told_stays = record {
-    told = λ d t k told. record {
-      from = told.from;
-      fields = told.fields;
-      watch = told.watch;
-      way = way_stays told.from t _ told.way;
-      joiner = told.joiner;
-      level_is = told.level_is;
-    };
+    told = λ d t k told. told_by s s' d t k told (way_stays told.from t _ told.way);
   }
 
 module _ (s s' : System) (x : List ℕ) (start : StartsPlainly s s' x) where

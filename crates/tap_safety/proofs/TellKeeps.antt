@@ -62,9 +62,10 @@ module _ (s s' : System) (x : List ℕ) (before after : NodeState) (at : Changes
         | inr there ↦ record { state = core.state; is = there; core = core.core }
       ]
 
-  pub joiner_was : ((b : List ℕ) → s'.surrogate b ≡ s.surrogate b) → (y : List ℕ) → IsJoiner s' y → IsJoiner s y
-  joiner_was surrogate y joiner =
-      let started = sym (surrogate y) ∙ joiner.started in
+  -- one whose surrogate stays was a joiner, if it is one
+  pub joiner_before : (y : List ℕ) → s'.surrogate y ≡ s.surrogate y → IsJoiner s' y → IsJoiner s y
+  joiner_before y surrogate joiner =
+      let started = sym surrogate ∙ joiner.started in
       elim (node_before s s' x before after at y joiner.state joiner.is) [
         | inl here ↦
             let same = here.1 in
@@ -73,6 +74,22 @@ module _ (s s' : System) (x : List ℕ) (before after : NodeState) (at : Changes
         | inr there ↦
             record { state = joiner.state; is = there; joining = joiner.joining; surrogate = joiner.surrogate; started = started }
       ]
+
+  -- and is one, if it was
+  pub joiner_after : (y : List ℕ) → s'.surrogate y ≡ s.surrogate y → IsJoiner s y → IsJoiner s' y
+  joiner_after y surrogate joiner =
+      let started = surrogate ∙ joiner.started in
+      elim (node_after s s' x before after at y joiner.state joiner.is) [
+        | inl here ↦
+            let same = here.1 in
+            let joining = joiner.joining in
+            record { state = after; is = here.2; joining = cc; surrogate = joiner.surrogate; started = started }
+        | inr there ↦
+            record { state = joiner.state; is = there; joining = joiner.joining; surrogate = joiner.surrogate; started = started }
+      ]
+
+  pub joiner_was : ((b : List ℕ) → s'.surrogate b ≡ s.surrogate b) → (y : List ℕ) → IsJoiner s' y → IsJoiner s y
+  joiner_was surrogate y = joiner_before y (surrogate y)
 
 module _ (s s' : System) (x : List ℕ) (before after : NodeState) (at : ChangesAt s s' x before after) where
   -- where its links stay, all links do

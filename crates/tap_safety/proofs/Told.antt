@@ -92,6 +92,18 @@ module _ (s s' : System) (number : ℕ) (frame : Frame) (sent : List Frame) (tak
             (among_right new.0 of_these taken.back (numbered_from s.next sent) new.1));
       }
 
+-- a node is told in another system too, if the Tell is under way there
+pub told_by : (s s' : System) (b x : List ℕ) (level : ℕ) → (told : IsTold s b x level)
+    → IsUnderWay s' told.from x (tell_body told.fields told.watch) → IsTold s' b x level
+told_by s s' b x level told way = record {
+  from = told.from;
+  fields = told.fields;
+  watch = told.watch;
+  way = way;
+  joiner = told.joiner;
+  level_is = told.level_is;
+}
+
 module _ (s s' : System) (number : ℕ) (frame : Frame) (sent : List Frame) (taken : IsTaken s s' number frame sent) where
   -- a Hello stays under way, if it is none that is taken
   pub named_still : ((fields : HelloFields) → hello_body fields ≡ frame.body → ⊥)
@@ -107,13 +119,6 @@ module _ (s s' : System) (number : ℕ) (frame : Frame) (sent : List Frame) (tak
       → IsTold s' b x level ⊎ ((tell_body told.fields told.watch ≡ frame.body) × (x ≡ frame.to))
   told_still b x level told =
       elim (still_under_way s s' number frame sent taken told.from x (tell_body told.fields told.watch) told.way) [
-        | inl way ↦ inl (record {
-          from = told.from;
-          fields = told.fields;
-          watch = told.watch;
-          way = way;
-          joiner = told.joiner;
-          level_is = told.level_is;
-        })
+        | inl way ↦ inl (told_by s s' b x level told way)
         | inr is ↦ inr (ap (λ f. f.body) is, ap (λ f. f.to) is)
       ]

@@ -45,11 +45,13 @@ pub record HasPlace (s : System) (x : List ℕ) (k : ℕ) (session : OpenSession
 pub record HavePlaces (s : System) : Type 0 where
   pub places : (x : List ℕ) (k : ℕ) (session : OpenSession) → IsOpen s x k session → HasPlace s x k session
 
--- no frame goes to its sender, and its ends are known; so is who has sent a word
+-- no frame goes to its sender, and its ends are known; so are who has sent a word, and to whom, and who has a surrogate
 pub record HaveEnds (s : System) : Type 0 where
   pub apart : (number : ℕ) (f : Frame) → AmongFrames number f s.frames → f.from ≡ f.to → ⊥
   pub known : (number : ℕ) (f : Frame) → AmongFrames number f s.frames → HasNode s f.from × HasNode s f.to
   pub senders : (x t : List ℕ) (word : Word) → s.last x t ≡ Some word → HasNode s x
+  pub receivers : (x t : List ℕ) (word : Word) → s.last x t ≡ Some word → HasNode s t
+  pub surrogates : (b x : List ℕ) → s.surrogate b ≡ Some x → HasNode s b
 
 -- a node with this status has a table
 abbrev pub has_table : Status → Type 0

@@ -9,7 +9,7 @@ use Rattle.tap_wire.specs.declared.frame.Body.TheVariants.{Ack, Answer, Cast, Ca
 use Rattle.tap_rule.specs.Node.{NodeState, link_to}
 use Rattle.tap_rule.specs.Node.Status.{Gone as HasGone, Joining, Leaving}
 use Rattle.tap_safety.specs.Remembered.{Leaver}
-use Rattle.tap_safety.specs.System.{System, AmongFrames, HasLink, IsCoreNode, IsUnderWay}
+use Rattle.tap_safety.specs.System.{System, HasLink, IsCoreNode, IsUnderWay}
 use Rattle.tap_safety.specs.Ties.{status_of}
 
 -- this node departs
@@ -30,12 +30,6 @@ may_be_then (Cast cast level session depth word) = ⊥
 may_be_then (CastAck session) = ⊥
 may_be_then other = Unit
 
--- one frame with this body is under way from x to t, and no other
-pub record HasOneFrame (s : System) (x t : List ℕ) (body : Body) : Type 0 where
-  pub number : ℕ
-  pub among : AmongFrames number (record { from = x; to = t; body = body }) s.frames
-  pub only : (m : ℕ) → AmongFrames m (record { from = x; to = t; body = body }) s.frames → m ≡ number
-
 -- a core node other than n is in the slot of n at a
 pub record HasOther (s : System) (a n : List ℕ) : Type 0 where
   pub other : List ℕ
@@ -53,16 +47,10 @@ pub record HasReplaced (s : System) (a n : List ℕ) : Type 0 where
   pub marked : HasLink s a n Marked
   pub filled : HasOther s a n → (to : List ℕ) × HasLink s a to Settled × (lcp a n < lcp n to)
 
--- a holder is still to take its Leave, or has taken it and its answer is under way
-abbrev pub IsAwaited : System → List ℕ → List ℕ → Type 0
-IsAwaited s n a =
-    ((replacement : Option (List ℕ)) × HasOneFrame s n a (Leave replacement)) ⊎ (HasReplaced s a n × HasOneFrame s a n Left)
-
 -- while n leaves: whom it awaits were holders; its links are as at its start, and settled; and who has a link to it was a holder
 pub record WhileLeaving (s : System) (leaver : Leaver) (state : NodeState) : Type 0 where
   pub some : state.awaited ≡ [] → ⊥
   pub holders : (a : List ℕ) → Among a state.awaited → Among a leaver.holders
-  pub answers : (a : List ℕ) → Among a state.awaited → IsAwaited s leaver.name a
   pub links : (t : List ℕ) → link_to state t ≡ leaver.links t
   pub settled : (t : List ℕ) (kind : Kind) → link_to state t ≡ Some kind → kind ≡ Settled
   pub linked : (y : List ℕ) (kind : Kind) → HasLink s y leaver.name kind → Among y leaver.holders

@@ -52,13 +52,17 @@ SpelledKeptByStart = (p : SettingsValue) (s s' : System) (sent : List Frame) →
 abbrev pub SendsAway : System → List ℕ → List Frame → Type 0
 SendsAway s x sent = (f : Frame) → IsAmong f sent → (f.from ≡ x) × (f.to ≡ x → ⊥) × HasNode s f.to
 
+-- who gets a surrogate is a node
+abbrev pub SeatsNodes : System → System → Type 0
+SeatsNodes s s' = (b x : List ℕ) → s'.surrogate b ≡ Some x → (s.surrogate b ≡ Some x) ⊎ HasNode s b
+
 abbrev pub EndsKeptByFrame : Type 0
 EndsKeptByFrame = (s s' : System) (number : ℕ) (frame : Frame) (x : List ℕ) (after : NodeState) (sent : List Frame)
-    → IsTaken s s' number frame sent → HasDone s s' x after sent → SendsAway s x sent → HaveEnds s → HaveEnds s'
+    → IsTaken s s' number frame sent → HasDone s s' x after sent → SendsAway s x sent → SeatsNodes s s' → HaveEnds s → HaveEnds s'
 
 abbrev pub EndsKeptByStart : Type 0
 EndsKeptByStart = (s s' : System) (x : List ℕ) (after : NodeState) (sent : List Frame) → HasSent s s' sent → HasDone s s' x after sent
-    → SendsAway s x sent → HaveEnds s → HaveEnds s'
+    → SendsAway s x sent → SeatsNodes s s' → HaveEnds s → HaveEnds s'
 
 -- ---- a core node
 
@@ -100,6 +104,12 @@ StampsKeptByFrame = (s s' : System) (number : ℕ) (frame : Frame) (x : List ℕ
 abbrev pub StampsKeptByStart : Type 0
 StampsKeptByStart = (s s' : System) (x : List ℕ) (before after : NodeState) (sent : List Frame) → HasSent s s' sent
     → ChangesAt s s' x before after → HasDone s s' x after sent → Stamps before after x sent → Versions s → AreStamped s → AreStamped s'
+
+-- and by the start of a join, at which a new name sends no Link
+abbrev pub StampsKeptByJoin : Type 0
+StampsKeptByJoin = (s s' : System) (x : List ℕ) (after : NodeState) (sent : List Frame) → HasSent s s' sent → HasDone s s' x after sent
+    → s.node x ≡ None → ((w t : List ℕ) (version : ℕ) (on : Bool) → IsSent sent w t (Link version on) → ⊥) → HaveEnds s → AreStamped s
+    → AreStamped s'
 
 -- ---- while nobody departs
 

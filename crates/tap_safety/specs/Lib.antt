@@ -32,6 +32,7 @@ pub mod Departing
 pub mod Notices
 pub mod Invariant
 pub mod AtRest
+pub mod FewSessions
 pub mod Rest
 pub mod StepLaws
 pub mod KnownLaws

@@ -1,7 +1,6 @@
 -- The notices of a departure: who sends them, and to whom.
 use Rattle.std.specs.Prelude.{◌≡◌, ℕ, true, false, List, [], ◌⊎◌, Option, None, Some}
 use Rattle.tap_name.specs.Names.{Among}
-use Rattle.tap_link.specs.declared.kind.Kind.TheVariants.{Leaving as Marked}
 use Rattle.tap_table.specs.declared.tie.Tie.{Tie}
 use Rattle.tap_wire.specs.declared.frame.Body.{Body}
 use Rattle.tap_wire.specs.declared.frame.Body.TheVariants.{Gone, Leave, Left, Link}
@@ -12,7 +11,7 @@ use Rattle.tap_rule.specs.Reaction.{Message}
 use Rattle.tap_rule.specs.Sent.{IsAmong}
 use Rattle.tap_safety.specs.Remembered.{Leaver}
 use Rattle.tap_safety.specs.System.{System, AmongFrames, IsUnderWay}
-use Rattle.tap_safety.specs.Departing.{Departs}
+use Rattle.tap_safety.specs.Departing.{Departs, HasReplaced}
 use Rattle.tap_safety.specs.FrameSteps.{LinksStay, TakesFrame}
 use Rattle.tap_safety.specs.Ties.{link_of, status_of}
 
@@ -46,7 +45,7 @@ pub record HasOneNotice (s : System) (x a : List ℕ) : Type 0 where
 
 -- While nobody departs no notice is under way. A Leave goes to one that its sender awaits, and a Left comes from one that its receiver awaits;
 -- of each that is awaited there is one of the two; and a Gone comes from one that is gone. A holder of the leaver that isn't awaited any more
--- has its link marked, or none; and no word of a new link goes to a node that leaves or has ceased.
+-- has its link marked and the slot filled by another, or has no link; and no word of a new link goes to a node that leaves or has ceased.
 pub record Notices (s : System) : Type 0 where
   pub none : (x t : List ℕ) (body : Body) → s.departing ≡ None → IsUnderWay s x t body → IsNotice body → ⊥
   pub leaves : (x a : List ℕ) (replacement : Option (List ℕ)) → IsUnderWay s x a (Leave replacement) → IsAwaiting s x a
@@ -54,7 +53,7 @@ pub record Notices (s : System) : Type 0 where
   pub one : (x a : List ℕ) → IsAwaiting s x a → HasOneNotice s x a
   pub gones : (x t : List ℕ) → IsUnderWay s x t Gone → status_of s x ≡ Some HasGone
   pub answered : (leaver : Leaver) (a : List ℕ) → Departs s leaver → Among a leaver.holders → (IsAwaiting s leaver.name a → ⊥)
-      → (link_of s a leaver.name ≡ Some Marked) ⊎ (link_of s a leaver.name ≡ None)
+      → HasReplaced s a leaver.name ⊎ (link_of s a leaver.name ≡ None)
   pub words : (leaver : Leaver) (x t : List ℕ) (version : ℕ) → Departs s leaver → IsUnderWay s x t (Link version true)
       → (status_of s t ≡ Some Leaving → ⊥) × (status_of s t ≡ Some HasCeased → ⊥)
 
@@ -74,8 +73,8 @@ abbrev pub UntilRest : System → System → Type 0
 UntilRest s s' = (s'.departing ≡ None → (s.departing ≡ None) ⊎ (s'.frames ≡ []))
     × ((leaver : Leaver) → s'.departing ≡ Some leaver → s.departing ≡ Some leaver)
 
--- No notice goes or comes, whoever departs does so until no frame is under way, and nobody awaits other answers; the links to the leaver
--- stay, and each word of a new link that comes is to a node that neither leaves nor has ceased.
+-- No notice goes or comes, whoever departs does so until no frame is under way, and nobody awaits other answers; links stay while a node
+-- departs, and each word of a new link that comes is to a node that neither leaves nor has ceased.
 pub record LeavesNotices (s s' : System) : Type 0 where
   pub until_rest : UntilRest s s'
   pub awaits : (x a : List ℕ) → IsAwaiting s x a → IsAwaiting s' x a
@@ -83,7 +82,7 @@ pub record LeavesNotices (s s' : System) : Type 0 where
   pub still : (m : ℕ) (f : Frame) → IsNotice f.body → AmongFrames m f s.frames → AmongFrames m f s'.frames
   pub was : (m : ℕ) (f : Frame) → IsNotice f.body → AmongFrames m f s'.frames → AmongFrames m f s.frames
   pub status : (x : List ℕ) → status_of s' x ≡ status_of s x
-  pub links : (leaver : Leaver) (a : List ℕ) → Departs s leaver → link_of s' a leaver.name ≡ link_of s a leaver.name
+  pub links : (leaver : Leaver) (a t : List ℕ) → Departs s leaver → link_of s' a t ≡ link_of s a t
   pub words : (x t : List ℕ) (version : ℕ) → IsUnderWay s' x t (Link version true) → IsUnderWay s x t (Link version true)
       ⊎ ((status_of s' t ≡ Some Leaving → ⊥) × (status_of s' t ≡ Some HasCeased → ⊥))
 

@@ -1,11 +1,12 @@
 ghost use Rattle.tap_safety.specs.AtRest.{InvariantAtRest};
+ghost use Rattle.tap_safety.specs.FewSessions.{FewSessionsAtRest, FewSessionsKept, FewSessionsKeptByOpening};
 ghost use Rattle.tap_safety.specs.Rest.{RestHolds};
 ghost use Rattle.tap_safety.specs.CountSteps.{CountedKeptByAnswer, CountedKeptByAnswering, CountedKeptByClosing, CountedKeptByLastAnswer};
 ghost use Rattle.tap_safety.specs.CountSteps.{CountedKeptByOpening, CountedKeptByOthers, CountedKeptByRoot};
 ghost use Rattle.tap_safety.specs.KnownLaws.{CoreKept, EndedKept, EndsKeptByFrame, EndsKeptByStart, FewKept, FewKeptByJoin, NamesKept};
 ghost use Rattle.tap_safety.specs.KnownLaws.{DepartsUntilRest, FrameLeavesNotices, NoticesKeptBySteps};
 ghost use Rattle.tap_safety.specs.KnownLaws.{FrameIsAtPeace, NoticesKeptAtPeace, PeaceIsKept, SpelledKeptByFrame, SpelledKeptByStart};
-ghost use Rattle.tap_safety.specs.KnownLaws.{StampsKeptByFrame, StampsKeptByStart};
+ghost use Rattle.tap_safety.specs.KnownLaws.{StampsKeptByFrame, StampsKeptByJoin, StampsKeptByStart};
 ghost use Rattle.tap_safety.specs.StepLaws.{DeliveryIsStep, NumberIsFound, NumbersKeptByFrame, NumbersKeptByStart, StartIsStep, StrayIsLost};
 ghost use Rattle.tap_safety.specs.StepLaws.{FilledKeptByForget, FilledKeptByHello, FilledKeptByJoin, FilledKeptByPlainFrame};
 ghost use Rattle.tap_safety.specs.StepLaws.{FilledKeptByRelease, FilledKeptByStart, FilledKeptByTellCeased, FilledKeptByTellJoining};
@@ -233,6 +234,18 @@ pub fn rest_law()
     ensures rest { RestHolds }
 {}
 
+/// Beside the invariant: each node has few sessions of one joiner open, at the beginning, and after a step that opens none, if each node
+/// that has some may have as many as before, or one, if its node may have one more.
+///
+/// It does nothing: its contract is the law.
+///
+/// Rule: docs/PROTOCOL.md, "Tell".
+pub fn few_sessions_law()
+    ensures members { FewSessionsAtRest }
+    ensures others { FewSessionsKept }
+    ensures opened { FewSessionsKeptByOpening }
+{}
+
 /// What the laws of Tells, Dones and Seeks ask for before the step: the invariant gives it, if nobody departs.
 ///
 /// It does nothing: its contract is the law.
@@ -286,6 +299,7 @@ pub fn known_law()
     ensures ended { EndedKept }
     ensures stamps_frame { StampsKeptByFrame }
     ensures stamps_start { StampsKeptByStart }
+    ensures stamps_join { StampsKeptByJoin }
 {}
 
 /// While nobody departs: a frame that is delivered leaves it so; a step that sends no notice keeps what is said of notices, and of

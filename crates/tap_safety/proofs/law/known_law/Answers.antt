@@ -1,4 +1,4 @@
-use Rattle.tap_safety.proofs.Known.{core_kept, ended_kept, ends_frame, ends_start, few_join, few_kept, names_kept, spelled_frame, spelled_start, stamps_frame, stamps_start}
+use Rattle.tap_safety.proofs.Known.{core_kept, ended_kept, ends_frame, ends_start, few_join, few_kept, names_kept, spelled_frame, spelled_start, stamps_frame, stamps_join, stamps_start}
 use Rattle.tap_safety.proofs.law.known_law.Goals as goal
 
 pub returns-clause-names : goal.returns-clause-names
@@ -33,3 +33,6 @@ returns-clause-stamps_start c = stamps_start
 
 pub returns-clause-ended : goal.returns-clause-ended
 returns-clause-ended c = ended_kept
+
+pub returns-clause-stamps_join : goal.returns-clause-stamps_join
+returns-clause-stamps_join c = stamps_join
