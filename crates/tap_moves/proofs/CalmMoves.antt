@@ -9,6 +9,8 @@ use Rattle.tap_session.specs.declared.sessions.Answered.{Answered}
 use Rattle.tap_session.specs.declared.sessions.Answered.TheVariants.{Closed, Open, Unknown}
 use Rattle.tap_session.specs.Sessions.{answer_to}
 use Rattle.tap_join.specs.Hello.{words_of}
+use Rattle.tap_join.specs.Seek.{sought}
+use Rattle.tap_join.specs.declared.sought.Sought.TheVariants.{Forward}
 use Rattle.tap_wire.specs.declared.frame.Body.{Body}
 use Rattle.tap_wire.specs.declared.frame.Body.TheVariants.{Ack, Done, Forget, Gone as GoneBody, Heard, Hello, Leave, Left, Link, Release, Seek, Tell}
 use Rattle.tap_wire.specs.declared.frame.Frame.{Frame}
@@ -32,12 +34,18 @@ use Rattle.tap_safety.specs.Bookkeeping.{SendsDeeper}
 use Rattle.tap_safety.specs.FrameSteps.{TakesFrame}
 use Rattle.tap_safety.specs.Frames.{HelloFields, hello_body, tell_body}
 use Rattle.tap_safety.specs.Notices.{AreNoNotices, IsNotice}
-use Rattle.tap_safety.specs.Soft.{AddsSoundLinks, AreQuiet, IsQuietBody, IsSoft}
+use Rattle.tap_safety.specs.Soft.{AddsSoundLinks, IsQuietBody, IsSoft}
 use Rattle.tap_safety.specs.Step.{IsSent, numbered_from}
 use Rattle.tap_safety.specs.System.{System, AmongFrames}
 use Rattle.tap_safety.proofs.Peace.{frame_peace_law, notices_law, peace_kept}
 use Rattle.tap_safety.proofs.SoftKept.{forget_links, frame_softs, hello_links, joining_links, not_new, only_message, release_links, sent_each}
-use Rattle.tap_safety.proofs.StepLaws.{depths_law, seeking_frame_law, tells_frame_law}
+use Rattle.tap_safety.proofs.StepLaws.{depths_law, seek_on_law, seeking_frame_law, tells_frame_law}
+use Rattle.tap_safety.proofs.Told.{was_under_way}
+use Rattle.tap_safety.proofs.FrameKeeps.{covers_on, frame_cores}
+use Rattle.tap_safety.proofs.FrameSeeking.{frame_joiners}
+use Rattle.tap_safety.proofs.SeekingKept.{tells_kept}
+use Rattle.tap_safety.specs.StepLaws.{KeepsSeekers}
+use Rattle.tap_safety.specs.Tells.{TellsAreSound}
 use Rattle.tap_moves.specs.CalmMoves.{FrameDeeper, FramePeaceful, FrameSeeks, IsCalmThere}
 use Rattle.tap_moves.specs.ByRule.{taken_at}
 use Rattle.tap_moves.specs.Delivered.{after_delivery}
@@ -49,6 +57,7 @@ use Rattle.tap_moves.proofs.FramesMade.{ceased_tell_is_made, forget_is_made, hel
 use Rattle.tap_moves.proofs.InSession.{ceased_answers, tell_in_session}
 use Rattle.tap_moves.proofs.InvariantMoves.{due, hello_names_are, sender_name, told, told_name}
 use Rattle.tap_moves.proofs.MovesMade.{by_rule, starts_none_as, tell_starts_none}
+use Rattle.tap_moves.proofs.SeekGoesOn.{goes_on_sent, seek_goes_on}
 use Rattle.tap_moves.proofs.Plain.{plain_alike, plain_is_made, rule_sends}
 use Rattle.tap_moves.proofs.SessionMoves.{frame_steps, kind_turns, left_deeper}
 
@@ -192,15 +201,44 @@ greeting_no_tell joiner m (inr hello) = subst (λ (n : Message). IsNoTell n.body
 abbrev SendsNoTell : List Frame → Type 0
 SendsNoTell sent = (from to : List ℕ) (fields : TellFields) (watch : List Slot) → IsSent sent from to (tell_body fields watch) → ⊥
 
--- it is taken by a node that stays what it is, and adds no link but to such a node as the link says; what it sends names soft nodes alone,
--- sends nobody on, and is no notice
-record TakesCalmly (s s' : System) (number : ℕ) (frame : Frame) (sent : List Frame) : Type 0 where
+-- it is taken by a node that stays what it is, and adds no link but to such a node as the link says; what it sends is no Tell and no
+-- notice; and seekers stay unknown, and Tells sound
+record TakesCalmly (p : SettingsValue) (s s' : System) (number : ℕ) (frame : Frame) (sent : List Frame) : Type 0 where
   step : TakesFrame s s' number frame
   links : AddsSoundLinks s' step.before step.after
-  quiet : AreQuiet s' frame.to step.messages
   notices : AreNoNotices step.messages
   no_tell : SendsNoTell sent
-  no_seek : (x : List ℕ) → frame.body ≡ Seek x → ⊥
+  seekers : KeepsSeekers s s'
+  tells : TellsAreSound p s → TellsAreSound p s'
+
+-- if a Seek goes on
+no_tell_tells : (p : SettingsValue) (s s' : System) (number : ℕ) (frame : Frame) (step : TakesFrame s s' number frame)
+    → SendsNoTell step.sent → TellsAreSound p s → TellsAreSound p s'
+no_tell_tells p s s' number frame step never =
+    tells_kept p s s' (record {
+      cores = frame_cores s s' number frame step;
+      softs = frame_softs s s' number frame step;
+      covers = λ y b level core joiner covers.
+          (level, covers_on s s' frame.to step.before step.after step.at step.stays.covers y b level covers);
+      joiners = frame_joiners s s' number frame step;
+      surrogates = λ b joiner. step.surrogate b;
+      ways = λ from to fields watch way.
+          elim (was_under_way s s' number frame step.sent step.taken from to (tell_body fields watch) way) [
+            | inl old ↦ inl old
+            | inr sends ↦ absurd (never from to fields watch sends)
+          ];
+    })
+
+-- no Tell is a Seek
+seek_no_tell : (x to joiner : List ℕ) (sent : List Frame) → sent ≡ message_frame x (message to (Seek joiner)) ∷ [] → SendsNoTell sent
+seek_no_tell x to joiner sent same w t fields watch among = by_one (subst (IsAmong told) same among)
+  where
+    told : Frame
+    told = record { from = w; to = t; body = tell_body fields watch }
+
+    by_one : IsAmong told (message_frame x (message to (Seek joiner)) ∷ []) → ⊥
+    by_one (inl is) = let wrong : tell_body fields watch ≡ Seek joiner = ap (λ (f : Frame). f.body) is in cc
+    by_one (inr none) = none
 
 module _ (p : SettingsValue) (s : System) (number : ℕ) (node : NodeState) (from : List ℕ) where
   abbrev after : System
@@ -216,19 +254,42 @@ module _ (p : SettingsValue) (s : System) (number : ℕ) (node : NodeState) (fro
   -- a step of such links, which sends what is spare
   spare_calm : (body : Body) → (step : TakesFrame s after number (frame_to node from body)) → AddsSoundLinks after step.before step.after
       → AreSpare step.messages → SendsSpare (taken_at node from body).sent → ((x : List ℕ) → body ≡ Seek x → ⊥)
-      → TakesCalmly s after number (frame_to node from body) (taken_at node from body).sent
-  spare_calm body step links spare sends no_seek = record {
-    step = step;
-    links = links;
-    quiet = λ m among. spare_quiet after (name_of node) m.to m.body (spare m among);
-    notices = λ m among notice. spare_no_notice m.body (spare m among) notice;
-    no_tell = λ w t fields watch sent. sends w t (tell_body fields watch) sent;
-    no_seek = no_seek;
-  }
+      → TakesCalmly p s after number (frame_to node from body) (taken_at node from body).sent
+  spare_calm body step links spare sends no_seek =
+      let quiet = λ (m : Message) (among : IsAmong m step.messages). spare_quiet after (name_of node) m.to m.body (spare m among) in
+      record {
+        step = step;
+        links = links;
+        notices = λ m among notice. spare_no_notice m.body (spare m among) notice;
+        no_tell = λ w t fields watch sent. sends w t (tell_body fields watch) sent;
+        seekers = seeking_frame_law s after number (frame_to node from body) step quiet no_seek links;
+        tells = tells_frame_law p s after number (frame_to node from body) step quiet;
+      }
+
+  seek_calm : (joiner next : List ℕ) → IsDelivery p s number node from (Seek joiner) → node.status ≡ Core
+      → sought node.ties.table joiner ≡ Forward next
+      → TakesCalmly p s after number (frame_to node from (Seek joiner)) (taken_at node from (Seek joiner)).sent
+  seek_calm joiner next is at found =
+      let goes = seek_goes_on p s number node from joiner next is at found in
+      let step = goes.0.step in
+      record {
+        step = step;
+        links = not_new after step.before step.after goes.0.links;
+        notices = λ m among notice.
+            let same = only_message m (message next (Seek joiner)) (subst (λ list. IsAmong m list) goes.1 among) in
+            subst (λ (n : Message). IsNotice n.body) same notice;
+        no_tell =
+            seek_no_tell (name_of node) next joiner (taken_at node from (Seek joiner)).sent
+            (goes_on_sent p s number node from joiner next is at found);
+        seekers = seek_on_law s after number from (name_of node) joiner next goes.0 is.invariant.numbered;
+        tells =
+            no_tell_tells p s after number (frame_to node from (Seek joiner)) step
+            (seek_no_tell (name_of node) next joiner step.sent goes.0.sent);
+      }
 
   plain_calm : (body : Body) → IsDelivery p s number node from body → IsPlain node body
       → AreSpare (messages_by (rule_of_frame node.status node from body)) → ((x : List ℕ) → body ≡ Seek x → ⊥)
-      → TakesCalmly s after number (frame_to node from body) (taken_at node from body).sent
+      → TakesCalmly p s after number (frame_to node from body) (taken_at node from body).sent
   plain_calm body is plain spare no_seek =
       let here = due p s number node from body is in
       let none = starts_none_as p s number node from body here (plain_alike node from body is.known plain).opened in
@@ -237,7 +298,7 @@ module _ (p : SettingsValue) (s : System) (number : ℕ) (node : NodeState) (fro
       (rule_spare body is.known spare) no_seek
 
   ceased_calm : (tell : TellFields) (watch : List Slot) → IsDelivery p s number node from (tell_body tell watch) → node.status ≡ Ceased
-      → TakesCalmly s after number (frame_to node from (tell_body tell watch)) (taken_at node from (tell_body tell watch)).sent
+      → TakesCalmly p s after number (frame_to node from (tell_body tell watch)) (taken_at node from (tell_body tell watch)).sent
   ceased_calm tell watch is at =
       let body = tell_body tell watch in
       let here = due p s number node from body is in
@@ -250,7 +311,7 @@ module _ (p : SettingsValue) (s : System) (number : ℕ) (node : NodeState) (fro
   -- a joining node greets the joiner, or answers; both are joiners
   joining_calm : (tell : TellFields) (watch : List Slot) → IsDelivery p s number node from (tell_body tell watch)
       → node.status ≡ Joining
-      → TakesCalmly s after number (frame_to node from (tell_body tell watch)) (taken_at node from (tell_body tell watch)).sent
+      → TakesCalmly p s after number (frame_to node from (tell_body tell watch)) (taken_at node from (tell_body tell watch)).sent
   joining_calm tell watch is at =
       let body = tell_body tell watch in
       let here = due p s number node from body is in
@@ -261,22 +322,24 @@ module _ (p : SettingsValue) (s : System) (number : ℕ) (node : NodeState) (fro
       let soft = frame_softs s after number (frame_to node from body) made.step in
       let greets = greets_so made.step.messages from tell made.answers in
       let sends = meets_sent node from tell watch is.known at in
+      let quiet = λ (m : Message) (among : IsAmong m made.step.messages). greeting_quiet after (name_of node) tell.joiner m
+      (soft (name_of node) sound.soft) (soft tell.joiner (inl sound.joiner)) (greets m among) in
+      let links = joining_links s after number from (name_of node) tell watch made sound.joiner in
       record {
         step = made.step;
-        links = joining_links s after number from (name_of node) tell watch made sound.joiner;
-        quiet = λ m among. greeting_quiet after (name_of node) tell.joiner m (soft (name_of node) sound.soft)
-            (soft tell.joiner (inl sound.joiner)) (greets m among);
+        links = links;
         notices = λ m among notice. greeting_no_notice tell.joiner m (greets m among) notice;
         no_tell = λ w t fields watch among.
             sent_each (name_of node) (words_of (pin_word node tell.joiner)) sends.messages (taken_at node from body).sent sends.are
             (λ from to body. IsNoTell body) (λ to version on. tt) (λ to object server level version on. tt)
             (λ m among. greeting_no_tell tell.joiner m (greets_so sends.messages from tell sends.answers m among)) w t
             (tell_body fields watch) among;
-        no_seek = λ x is. cc;
+        seekers = seeking_frame_law s after number (frame_to node from body) made.step quiet (λ x is. cc) links;
+        tells = tells_frame_law p s after number (frame_to node from body) made.step quiet;
       }
 
   hello_calm : (hello : HelloFields) → IsDelivery p s number node from (hello_body hello) → node.status ≡ Joining
-      → TakesCalmly s after number (frame_to node from (hello_body hello)) (taken_at node from (hello_body hello)).sent
+      → TakesCalmly p s after number (frame_to node from (hello_body hello)) (taken_at node from (hello_body hello)).sent
   hello_calm hello is at =
       let body = hello_body hello in
       let here = due p s number node from body is in
@@ -290,7 +353,7 @@ module _ (p : SettingsValue) (s : System) (number : ℕ) (node : NodeState) (fro
       (taken_at node from body).sent step.sent (one_spare from (Heard hello.session) tt)) (λ x is. cc)
 
   release_calm : IsDelivery p s number node from Release → (node.status ≡ Joining) ⊎ (node.status ≡ Core)
-      → TakesCalmly s after number (frame_to node from Release) (taken_at node from Release).sent
+      → TakesCalmly p s after number (frame_to node from Release) (taken_at node from Release).sent
   release_calm is at =
       let here = due p s number node from Release is in
       let name = sender_name p s number node from Release is in
@@ -303,7 +366,7 @@ module _ (p : SettingsValue) (s : System) (number : ℕ) (node : NodeState) (fro
       (λ x is. cc)
 
   forget_calm : IsDelivery p s number node from Forget → (node.status ≡ Joining) ⊎ (node.status ≡ Core)
-      → TakesCalmly s after number (frame_to node from Forget) (taken_at node from Forget).sent
+      → TakesCalmly p s after number (frame_to node from Forget) (taken_at node from Forget).sent
   forget_calm is at =
       let here = due p s number node from Forget is in
       let name = sender_name p s number node from Forget is in
@@ -314,7 +377,7 @@ module _ (p : SettingsValue) (s : System) (number : ℕ) (node : NodeState) (fro
       (spare_sent (name_of node) [] [] (taken_at node from Forget).sent step.sent none_spare) (λ x is. cc)
 
   quiet_calm : (body : Body) → IsDelivery p s number node from body → IsQuiet body → IsPlain node body
-      → ((x : List ℕ) → body ≡ Seek x → ⊥) → TakesCalmly s after number (frame_to node from body) (taken_at node from body).sent
+      → ((x : List ℕ) → body ≡ Seek x → ⊥) → TakesCalmly p s after number (frame_to node from body) (taken_at node from body).sent
   quiet_calm body is quiet plain no_seek =
       let step = quiet_law node (frame_to node from body) quiet in
       let sent = rule_sends node from body is.known in
@@ -323,7 +386,7 @@ module _ (p : SettingsValue) (s : System) (number : ℕ) (node : NodeState) (fro
 
 frame_calm : (p : SettingsValue) (s : System) (number : ℕ) (node : NodeState) (from : List ℕ) (body : Body)
     → IsDelivery p s number node from body → IsCalmThere node body
-    → TakesCalmly s (after_delivery p s number) number (frame_to node from body) (taken_at node from body).sent
+    → TakesCalmly p s (after_delivery p s number) number (frame_to node from body) (taken_at node from body).sent
 frame_calm p s number node from (Tell joiner prefix level session depth watch) is there =
     let tell : TellFields = record { joiner = joiner; prefix = prefix; level = level; session = session; depth = depth } in
     elim there [
@@ -340,7 +403,7 @@ frame_calm p s number node from (Ack session) is there =
     plain_calm p s number node from (Ack session) is tt (ack_spare node.status node from session) (λ x same. cc)
 frame_calm p s number node from (Link version on) is there =
     plain_calm p s number node from (Link version on) is tt (link_spare node.status node from version on) (λ x same. cc)
-frame_calm p s number node from (Seek joiner) is there = absurd there
+frame_calm p s number node from (Seek joiner) is there = seek_calm p s number node from joiner there.1.0 is there.0 there.1.1
 frame_calm p s number node from body is there = quiet_calm p s number node from body is there there (λ x same. cc)
 
 pub frame_seeks : FrameSeeks
@@ -348,11 +411,10 @@ frame_seeks p s number node from body is there =
     let s' = after_delivery p s number in
     let frame = frame_to node from body in
     let calm = frame_calm p s number node from body is there in
-    let seeks = seeking_frame_law s s' number frame calm.step calm.quiet calm.no_seek calm.links in
     record {
-      seeking = seeks.0 is.invariant.seeking;
-      seekers = seeks.1 is.invariant.seekers;
-      tells = tells_frame_law p s s' number frame calm.step calm.quiet is.invariant.tells;
+      seeking = calm.seekers.0 is.invariant.seeking;
+      seekers = calm.seekers.1 is.invariant.seekers;
+      tells = calm.tells is.invariant.tells;
     }
 
 pub frame_peaceful : FramePeaceful
@@ -385,7 +447,7 @@ calm_taken node (Tell joiner prefix level session depth watch) there = inr there
 calm_taken node (Hello session core links) there = there
 calm_taken node (Heard session) there = tt
 calm_taken node (Ack session) there = tt
-calm_taken node (Seek joiner) there = absurd there
+calm_taken node (Seek joiner) there = there.0
 calm_taken node Done there = tt
 calm_taken node Release there = tt
 calm_taken node Forget there = tt

@@ -421,7 +421,7 @@ frame_soft p s number node from body is there =
 -- ---- Seek, and sessions
 
 -- who seeks isn't core
-seeker_not_core : (s : System) (b : List ℕ) → IsSeeker s b → IsCoreNode s b → ⊥
+pub seeker_not_core : (s : System) (b : List ℕ) → IsSeeker s b → IsCoreNode s b → ⊥
 seeker_not_core s b seeker core =
     let one = seeker.is in
     let other = core.is in

@@ -17,6 +17,7 @@ pub mod SoftMade
 pub mod StartsMade
 pub mod InvariantMoves
 pub mod SessionMoves
+pub mod SeekGoesOn
 pub mod CalmMoves
 pub mod Spelled
 pub mod FewLinks

@@ -1,8 +1,10 @@
 -- Frames that send nobody on and make no node core: seekers and Tells stay as they were, and nobody departs.
 use Rattle.std.specs.Prelude.{◌≡◌, ◌⊎◌, ℕ, List, None}
 use Rattle.tap_name.specs.Settings.{SettingsValue}
+use Rattle.tap_join.specs.Seek.{sought}
+use Rattle.tap_join.specs.declared.sought.Sought.TheVariants.{Forward}
 use Rattle.tap_wire.specs.declared.frame.Body.{Body}
-use Rattle.tap_wire.specs.declared.frame.Body.TheVariants.{Ack, Forget, Heard, Hello, Link, Release, Tell}
+use Rattle.tap_wire.specs.declared.frame.Body.TheVariants.{Ack, Forget, Heard, Hello, Link, Release, Seek, Tell}
 use Rattle.tap_rule.specs.Node.{NodeState}
 use Rattle.tap_rule.specs.Node.Status.{Ceased, Core, Joining}
 use Rattle.tap_rule.specs.QuietSteps.{IsQuiet}
@@ -15,10 +17,12 @@ use Rattle.tap_safety.specs.Tells.{TellsAreSound}
 use Rattle.tap_moves.specs.Delivered.{after_delivery}
 use Rattle.tap_moves.specs.InvariantLaws.{IsDelivery}
 
--- a Tell at a joining node or one that has ceased, a Hello, a Release, a Forget, an answer, a Link, and those of pointers and casts
+-- a Tell at a joining node or one that has ceased, a Hello, a Seek that goes on, a Release, a Forget, an answer, a Link, and those of
+-- pointers and casts
 abbrev pub IsCalmThere : NodeState → Body → Type 0
 IsCalmThere node (Tell joiner prefix level session depth watch) = (node.status ≡ Joining) ⊎ (node.status ≡ Ceased)
 IsCalmThere node (Hello session core links) = node.status ≡ Joining
+IsCalmThere node (Seek joiner) = (node.status ≡ Core) × ((next : List ℕ) × (sought node.ties.table joiner ≡ Forward next))
 IsCalmThere node Release = (node.status ≡ Joining) ⊎ (node.status ≡ Core)
 IsCalmThere node Forget = (node.status ≡ Joining) ⊎ (node.status ≡ Core)
 IsCalmThere node (Heard session) = Unit {0}

@@ -205,10 +205,10 @@ pub fn names_from_invariant()
     ensures starts { StartNames }
 {}
 
-/// If the invariant holds, and each node is one that steps keep valid, then after an answer, a Link, a Hello, a Release, a Forget, a Tell at
-/// a joining node or one that has ceased, and each frame of pointers and casts that isn't strange: who isn't started is known to nobody but
-/// its one Seek, Tells are sound, and each is one deeper than its session. If nobody departs, nobody does afterwards, and no notice is under
-/// way.
+/// If the invariant holds, and each node is one that steps keep valid, then after an answer, a Link, a Hello, a Seek that goes on, a Release,
+/// a Forget, a Tell at a joining node or one that has ceased, and each frame of pointers and casts that isn't strange: who isn't started is
+/// known to nobody but its one Seek, Tells are sound, and each is one deeper than its session. If nobody departs, nobody does afterwards,
+/// and no notice is under way.
 ///
 /// It does nothing: its contract is the law.
 ///
