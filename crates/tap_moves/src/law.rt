@@ -4,7 +4,7 @@ ghost use Rattle.tap_moves.specs.Laws.{CeasedAnswers, DoneIsMade, KnownTellIsMad
 ghost use Rattle.tap_moves.specs.MovesLaws.{AnswerKeepsSessions, CeasedTellKeeps, DeliveryIsByRule, DoneKeeps, ForgetKeeps, GivingUpKeeps, HelloKeeps, HelloKeepsSessions, JoinKeeps, JoiningTellKeeps, KnownTellKeeps, LinkKeeps, OutsideKeepsSessions, PlainKeeps, QuietStartKeeps, ReleaseKeeps, SeekKeeps, SeekKeepsSessions, TellKeeps, TellKeepsSessions};
 ghost use Rattle.tap_moves.specs.InvariantLaws.{FrameExact, FrameFills, FrameSays, FrameSoft, LinkTies, MoveKeepsParts, PartsKept, SeekGives, StartFills, StartKeepsParts};
 ghost use Rattle.tap_moves.specs.CalmMoves.{FrameDeeper, FramePeaceful, FrameSeeks};
-ghost use Rattle.tap_moves.specs.SessionMoves.{FrameAwaits, FrameCore, FrameNames, FramePlaces, FrameSteps, OutsideBooks, StartNames};
+ghost use Rattle.tap_moves.specs.SessionMoves.{FrameAwaits, FrameCore, FrameCounts, FrameNames, FramePlaces, FrameSteps, OutsideBooks, StartNames};
 ghost use Rattle.tap_moves.specs.SessionsLaws.{AnswerClosesChild, AnswerClosesRoot, AnswerHandsOn, AnswerKeepsExact, HandsOnByHello, HandsOnByTell, OpensChildByTell, OpensRootBySeek, OutsideLeavesSessions};
 ghost use Rattle.tap_moves.specs.TiesLaws.{LinkIsMade};
 
@@ -70,10 +70,10 @@ pub fn link_moves()
     ensures { LinkIsMade }
 {}
 
-/// What a frame makes a node send in sessions. A Tell or a Seek opens its next session, and what is sent in one is sent in that; or it
-/// opens none, and the one answer goes to the session of the Tell. The surrogate always opens the joiner's root session. What is
-/// remembered of sessions then is as the laws of sessions ask: one that is opened for a Tell, or for a Seek; a Tell or a Hello that is
-/// answered at once; an answer that isn't the last one of its session, or that closes it; and a frame of no session.
+/// What a frame makes a node send in sessions. A Tell or a Seek opens its next session, and what is sent in one is sent in that, as many as
+/// the node waits for; or it opens none, and the one answer goes to the session of the Tell. The surrogate always opens the joiner's root
+/// session. What is remembered of sessions then is as the laws of sessions ask: one that is opened for a Tell, or for a Seek; a Tell or a
+/// Hello that is answered at once; an answer that isn't the last one of its session, or that closes it; and a frame of no session.
 ///
 /// It does nothing: its contract is the law.
 ///
@@ -178,9 +178,9 @@ pub fn deliveries_from_invariant()
 
 /// If the invariant holds, and each node is one that steps keep valid, then a frame that is delivered where a rule takes it does one of six
 /// things with the sessions of joins: one awaits what is sent in place of the frame, one is opened or closed, below another or as the root
-/// of its joiner, or none changes. After it each session awaits each answer once, of sessions that are open, and has its place: at a node
-/// that may have it open and has opened as many, below another node's; and some node is core. After a frame of no session each session
-/// awaits an answer, as many as its node waits for, and each Tell is one deeper than its session.
+/// of its joiner, or none changes. After it each session awaits each answer once, of sessions that are open, awaits at least one, as many as
+/// its node waits for, and has its place: at a node that may have it open and has opened as many, below another node's; and some node is
+/// core. After a frame of no session each Tell is one deeper than its session, too.
 ///
 /// It does nothing: its contract is the law.
 ///
@@ -190,6 +190,7 @@ pub fn sessions_from_invariant()
     ensures awaited { FrameAwaits }
     ensures places { FramePlaces }
     ensures core { FrameCore }
+    ensures counts { FrameCounts }
     ensures outside { OutsideBooks }
 {}
 
