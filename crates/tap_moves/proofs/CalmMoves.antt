@@ -30,7 +30,7 @@ use Rattle.tap_rule.specs.Strange.{is_strange}
 use Rattle.tap_rule.proofs.JoinSteps.{hello_law}
 use Rattle.tap_rule.proofs.LinkSteps.{forget_law, release_law}
 use Rattle.tap_rule.proofs.QuietSteps.{quiet_law}
-use Rattle.tap_safety.specs.Bookkeeping.{SendsDeeper}
+use Rattle.tap_safety.specs.Bookkeeping.{SendsDeeper, TellsAreDeeper}
 use Rattle.tap_safety.specs.FrameSteps.{TakesFrame}
 use Rattle.tap_safety.specs.Frames.{HelloFields, hello_body, tell_body}
 use Rattle.tap_safety.specs.Notices.{AreNoNotices, IsNotice}
@@ -46,7 +46,7 @@ use Rattle.tap_safety.proofs.FrameSeeking.{frame_joiners}
 use Rattle.tap_safety.proofs.SeekingKept.{tells_kept}
 use Rattle.tap_safety.specs.StepLaws.{KeepsSeekers}
 use Rattle.tap_safety.specs.Tells.{TellsAreSound}
-use Rattle.tap_moves.specs.CalmMoves.{FrameDeeper, FramePeaceful, FrameSeeks, IsCalmThere}
+use Rattle.tap_moves.specs.CalmMoves.{FramePeaceful, FrameSeeks, IsCalmThere}
 use Rattle.tap_moves.specs.ByRule.{taken_at}
 use Rattle.tap_moves.specs.Delivered.{after_delivery}
 use Rattle.tap_moves.specs.FrameLaws.{IsPlain, messages_by, words_by}
@@ -198,7 +198,7 @@ greeting_no_tell joiner m (inr hello) = subst (λ (n : Message). IsNoTell n.body
 -- ---- such a frame, when it is delivered
 
 -- no Tell is sent
-abbrev SendsNoTell : List Frame → Type 0
+abbrev pub SendsNoTell : List Frame → Type 0
 SendsNoTell sent = (from to : List ℕ) (fields : TellFields) (watch : List Slot) → IsSent sent from to (tell_body fields watch) → ⊥
 
 -- it is taken by a node that stays what it is, and adds no link but to such a node as the link says; what it sends is no Tell and no
@@ -429,7 +429,7 @@ frame_peaceful p s number node from body is there none =
 -- ---- depths
 
 -- no Tell is sent
-none_deeper : (s s' : System) (sent : List Frame) → SendsNoTell sent → SendsDeeper s' (numbered_from s.next sent)
+pub none_deeper : (s s' : System) (sent : List Frame) → SendsNoTell sent → SendsDeeper s' (numbered_from s.next sent)
 none_deeper s s' sent never = record {
   depth = λ from to fields watch m session among is. absurd (none from to fields watch m among);
   level = λ from to fields watch m among. absurd (none from to fields watch m among);
@@ -454,8 +454,9 @@ calm_taken node Forget there = tt
 calm_taken node (Link version on) there = tt
 calm_taken node body there = there
 
-pub frame_deeper : FrameDeeper
-frame_deeper p s number node from body is there =
+pub calm_deeper : (p : SettingsValue) (s : System) (number : ℕ) (node : NodeState) (from : List ℕ) (body : Body)
+    → IsDelivery p s number node from body → IsCalmThere node body → TellsAreDeeper (after_delivery p s number)
+calm_deeper p s number node from body is there =
     let s' = after_delivery p s number in
     let frame = frame_to node from body in
     let acted = taken_at node from body in

@@ -183,7 +183,7 @@ module _ (p : SettingsValue) (s : System) (number : ℕ) (node : NodeState) (fro
       cover = is.invariant.filled.cover;
     }
 
-    of_tell : node.status ≡ Core → IsTellOf p s (name_of node) tell.joiner tell.prefix tell.level
+    pub of_tell : node.status ≡ Core → IsTellOf p s (name_of node) tell.joiner tell.prefix tell.level
     of_tell at =
         let here = name_at p s is.nodes (name_of node) node is.at in
         let joiner = joiner_name p s is.nodes tell.joiner told.joiner in

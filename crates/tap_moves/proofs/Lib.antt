@@ -21,6 +21,7 @@ pub mod SessionMoves
 pub mod CountMoves
 pub mod SeekGoesOn
 pub mod CalmMoves
+pub mod DeeperMoves
 pub mod Spelled
 pub mod FewLinks
 pub mod SpelledJoins

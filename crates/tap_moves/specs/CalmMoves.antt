@@ -15,7 +15,7 @@ use Rattle.tap_safety.specs.Seeking.{AreOfSeekers, Seeking}
 use Rattle.tap_safety.specs.System.{System}
 use Rattle.tap_safety.specs.Tells.{TellsAreSound}
 use Rattle.tap_moves.specs.Delivered.{after_delivery}
-use Rattle.tap_moves.specs.InvariantLaws.{IsDelivery}
+use Rattle.tap_moves.specs.InvariantLaws.{IsDelivery, IsTakenThere}
 
 -- a Tell at a joining node or one that has ceased, a Hello, a Seek that goes on, a Release, a Forget, an answer, a Link, and those of
 -- pointers and casts
@@ -52,7 +52,7 @@ abbrev pub FramePeaceful : Type 0
 FramePeaceful = (p : SettingsValue) (s : System) (number : ℕ) (node : NodeState) (from : List ℕ) (body : Body)
     → IsDelivery p s number node from body → IsCalmThere node body → s.departing ≡ None → IsPeaceful (after_delivery p s number)
 
--- and each Tell is one deeper than its session
+-- each Tell is one deeper than its session, and at a level above its prefix, after each frame that a rule takes
 abbrev pub FrameDeeper : Type 0
 FrameDeeper = (p : SettingsValue) (s : System) (number : ℕ) (node : NodeState) (from : List ℕ) (body : Body)
-    → IsDelivery p s number node from body → IsCalmThere node body → TellsAreDeeper (after_delivery p s number)
+    → IsDelivery p s number node from body → IsTakenThere node body → TellsAreDeeper (after_delivery p s number)

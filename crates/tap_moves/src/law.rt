@@ -208,8 +208,8 @@ pub fn names_from_invariant()
 
 /// If the invariant holds, and each node is one that steps keep valid, then after an answer, a Link, a Hello, a Seek that goes on, a Release,
 /// a Forget, a Tell at a joining node or one that has ceased, and each frame of pointers and casts that isn't strange: who isn't started is
-/// known to nobody but its one Seek, Tells are sound, and each is one deeper than its session. If nobody departs, nobody does afterwards,
-/// and no notice is under way.
+/// known to nobody but its one Seek, and Tells are sound. If nobody departs, nobody does afterwards, and no notice is under way. After each
+/// frame that a rule takes each Tell is one deeper than its session, at a level above its prefix.
 ///
 /// It does nothing: its contract is the law.
 ///
