@@ -255,7 +255,8 @@ module _ (p : SettingsValue) (s : System) (number : ℕ) (node : NodeState) (fro
       let prefix = of.prefix_is in
       let above = of.above in
       depths_law s after (sent_at s node from body)
-      (opening_turns_law s after number (frame_to node from body) from tell.session (name_of node) l (sent_at s node from body) step inv.exact)
+      (opening_turns_law s after number (frame_to node from body) from tell.session (name_of node) l (sent_at s node from body) step
+      inv.exact)
       inv.exact
       (sends_deeper body (request_of from tell watch) carried
       (λ session is.

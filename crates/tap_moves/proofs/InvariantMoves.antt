@@ -116,7 +116,7 @@ less_than_all p a b one two apart =
     ]
 
 -- the node of a joiner joins
-joins_here : (s : System) (node : NodeState) → IsJoiner s (name_of node) → s.node (name_of node) ≡ Some node → node.status ≡ Joining
+pub joins_here : (s : System) (node : NodeState) → IsJoiner s (name_of node) → s.node (name_of node) ≡ Some node → node.status ≡ Joining
 joins_here s node joiner at =
     let is = joiner.is in
     let same : joiner.state ≡ node = cc in

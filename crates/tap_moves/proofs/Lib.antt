@@ -22,6 +22,7 @@ pub mod CountMoves
 pub mod SeekGoesOn
 pub mod CalmMoves
 pub mod DeeperMoves
+pub mod EndedMoves
 pub mod Spelled
 pub mod FewLinks
 pub mod SpelledJoins

@@ -51,7 +51,8 @@ alone own m = record {
 }
 
 module _ (p : SettingsValue) (s : System) (number : ℕ) (node : NodeState) (from joiner next : List ℕ)
-    (is : IsDelivery p s number node from (Seek joiner)) (at : node.status ≡ Core) (found : sought node.ties.table joiner ≡ Forward next) where
+    (is : IsDelivery p s number node from (Seek joiner)) (at : node.status ≡ Core)
+    (found : sought node.ties.table joiner ≡ Forward next) where
   abbrev own : List ℕ
   own = name_of node
 
