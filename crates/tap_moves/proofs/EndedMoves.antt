@@ -87,14 +87,15 @@ module _ (p : SettingsValue) (s : System) (number : ℕ) (node : NodeState) (fro
   unfolding frame_at_ceased
   tell_ended tell watch is (inl at) =
       let ties = (due p s number node from (tell_body tell watch) is).is_node.ties in
-      goes_on (tell_body tell watch) is (tell_law node from tell watch ties (told_name p s number node from tell watch is) at is.known).status
-      (inr at)
+      let step = tell_law node from tell watch ties (told_name p s number node from tell watch is) at is.known in
+      goes_on (tell_body tell watch) is step.status (inr at)
   tell_ended tell watch is (inr (inl at)) =
       let ties = (due p s number node from (tell_body tell watch) is).is_node.ties in
-      goes_on (tell_body tell watch) is (meet_law node from tell watch ties (told_name p s number node from tell watch is) at is.known).status
-      (inl at)
+      let step = meet_law node from tell watch ties (told_name p s number node from tell watch is) at is.known in
+      goes_on (tell_body tell watch) is step.status (inl at)
   tell_ended tell watch is (inr (inr at)) =
-      let carried = frame_law node (frame_to node from (tell_body tell watch)) (acknowledges node from tell.session) is.known (rw at refl) in
+      let frame = frame_to node from (tell_body tell watch) in
+      let carried = frame_law node frame (acknowledges node from tell.session) is.known (rw at refl) in
       stays_so (tell_body tell watch) is carried.status (ap (λ (ties : TiesValue). ties.table) carried.ties)
 
   seated_status : (joiner : List ℕ) (acted : Acted) (prefix : ℕ) → SeeksAs node joiner acted (Surrogate prefix)

@@ -233,8 +233,8 @@ meets_in_session node from tell acted true carried = inr (record {
       answer_in (name_of node) (Node from tell.session) y k (rw same at found.2);
   one = λ y k n is.
       ways_by_rule node
-      (with_words (words_for node tell.joiner) (sends (with_pin node tell.joiner) (message from (Ack tell.session) ∷ []))) acted y k n carried
-      (answer_within (name_of node) (Node from tell.session) y k is);
+      (with_words (words_for node tell.joiner) (sends (with_pin node tell.joiner) (message from (Ack tell.session) ∷ []))) acted y k n
+      carried (answer_within (name_of node) (Node from tell.session) y k is);
 })
 meets_in_session node from tell acted false carried =
     let hello = message tell.joiner (Hello (node.sessions.opened + 1) false []) in

@@ -35,8 +35,8 @@ pub one_sent : (node : NodeState) (m : Message) (acted : Acted) → IsCompleted 
     → AreLaid acted.state.ties.table node.pointers → acted.sent ≡ message_frame (name_of node) m ∷ []
 unfolding by_receiver
 one_sent node m acted completed laid =
-    let none : lays_after node node.pointers [] acted ≡ [] = (laid_sends_nothing acted.state.ties.table (node.stamp + 0) node.pointers laid).0
-    in
+    let none : lays_after node node.pointers [] acted ≡ [] =
+    (laid_sends_nothing acted.state.ties.table (node.stamp + 0) node.pointers laid).0 in
     completed.sent.all ∙ ap (λ (lays : List Lay). message_frame (name_of node) m ∷ map (lay_frame (name_of node)) lays) none
 
 -- so it is among what is sent
