@@ -19,9 +19,9 @@ use Rattle.tap_rule.specs.Steps.{AnswerStep}
 use Rattle.tap_rule.proofs.AnswerSteps.{ack_law, heard_law, other_number}
 use Rattle.tap_safety.specs.Bookkeeping.{holds_sessions}
 use Rattle.tap_safety.specs.Counted.{AreCountedSo, kept_parent, parent_at}
-use Rattle.tap_safety.specs.Remembered.{Token}
+use Rattle.tap_safety.specs.Remembered.{OpenSession, Token}
 use Rattle.tap_safety.specs.Remembered.Token.{Way}
-use Rattle.tap_safety.specs.Sessions.{AmongTokens, AreExact, Belongs, session_named}
+use Rattle.tap_safety.specs.Sessions.{AmongTokens, AreExact, Belongs, IsOpen, session_named}
 use Rattle.tap_safety.specs.SessionSteps.{ClosesChild, ClosesRoot, HandsOn}
 use Rattle.tap_safety.specs.System.{System, AmongFrames}
 use Rattle.tap_safety.proofs.StepLaws.{closing_law, handing_on_law, last_answer_law}
@@ -133,10 +133,11 @@ may_answer Leaving holds = absurd holds
 may_answer Gone holds = absurd holds
 may_answer Ceased holds = inr (inr refl)
 
--- an answer that is taken: it isn't the last one of its session, or closes it
+-- an answer that is taken: it isn't the last one that its session awaits, or it is, and closes the session
 abbrev pub IsAnswered : System → System → ℕ → Frame → List ℕ → ℕ → List (ℕ × Frame) → Type 0
-IsAnswered s s' number f own k sent = HandsOn s s' number f own k sent
-    ⊎ (ClosesRoot s s' number f own k sent ⊎ ((w : List ℕ) × (m : ℕ) × ClosesChild s s' number f own k w m sent))
+IsAnswered s s' number f own k sent = ((step : HandsOn s s' number f own k sent) × (1 < length step.before.awaits))
+    ⊎ (((step : ClosesRoot s s' number f own k sent) × (length step.closes.session.awaits ≡ 1))
+    ⊎ ((w : List ℕ) × (m : ℕ) × (step : ClosesChild s s' number f own k w m sent) × (length step.closes.session.awaits ≡ 1)))
 
 abbrev pub AnswerIsTaken : (ℕ → Body) → Type 0
 AnswerIsTaken body = (s s' : System) (number : ℕ) (node : NodeState) (from : List ℕ) (k : ℕ) → BeforeTaking s → AreCountedSo s
@@ -161,7 +162,8 @@ module _ (body : ℕ → Body)
         status,
         elim (cases_lt 1 (length awaited.session.awaits)) [
           | inl more ↦
-              inl (hands s s' number node from k kept.0 before taken remembers status kept.1 (omega (arith, waits, more)))
+              let step = hands s s' number node from k kept.0 before taken remembers status kept.1 (omega (arith, waits, more)) in
+              inl (step, many awaited.session step.before awaited.is step.was more)
           | inr most ↦
               let one : length awaited.session.awaits ≡ 1 = omega (arith, some, most) in
               let last : IsLastAnswer s number node k = record {
@@ -169,7 +171,7 @@ module _ (body : ℕ → Body)
                 is = awaited.is;
                 only = one_token number awaited.session.awaits one awaited.among;
               } in
-              inr (by_parent last kept.0 awaited.session.parent refl kept.1 (waits ∙ one) kept.2.parent status)
+              inr (by_parent last one kept.0 awaited.session.parent refl kept.1 (waits ∙ one) kept.2.parent status)
         ],
       )
     where
@@ -177,22 +179,32 @@ module _ (body : ℕ → Body)
           → holds_sessions other.status
       held one other is was holds = let same : one ≡ other = cc in rw (← same) holds
 
-      by_parent : (last : IsLastAnswer s number node k) (a : Session) (above : Option (List ℕ × ℕ)) → last.session.parent ≡ above
+      many : (one other : OpenSession) → IsOpen s (name_of node) k one → IsOpen s (name_of node) k other → 1 < length one.awaits
+          → 1 < length other.awaits
+      many one other is was more = let same : one ≡ other = cc in rw (← same) more
+
+      -- the session that is closed is the one that awaits this answer alone
+      single : (one other : OpenSession) → IsOpen s (name_of node) k one → IsOpen s (name_of node) k other → length one.awaits ≡ 1
+          → length other.awaits ≡ 1
+      single one other is was awaits = let same : one ≡ other = cc in rw (← same) awaits
+
+      by_parent : (last : IsLastAnswer s number node k) → length last.session.awaits ≡ 1 → (a : Session) (above : Option (List ℕ × ℕ))
+          → last.session.parent ≡ above
           → join_session_at node k ≡ Some a → a.waiting ≡ 1 → a.parent ≡ kept_parent last.session
           → (node.status ≡ Joining) ⊎ ((node.status ≡ Core) ⊎ (node.status ≡ Ceased))
-          → ClosesRoot s s' number (frame_to node from (body k)) (name_of node) k (sent_at s node from (body k))
+          → ((step : ClosesRoot s s' number (frame_to node from (body k)) (name_of node) k (sent_at s node from (body k)))
+          × (length step.closes.session.awaits ≡ 1))
           ⊎ ((w : List ℕ) × (m : ℕ)
-          × ClosesChild s s' number (frame_to node from (body k)) (name_of node) k w m (sent_at s node from (body k)))
-      by_parent last a None top is waits parent status =
-          inl (root s s' number node from k a last.session.joiner before taken remembers status is waits
-          (parent ∙ ap (parent_at last.session.joiner) top) last top)
-      by_parent last a (Some (w, m)) above is waits parent status =
-          inr (
-            w,
-            m,
-            child s s' number node from k a w m before taken remembers status is waits
-                (parent ∙ ap (parent_at last.session.joiner) above) last above,
-          )
+          × (step : ClosesChild s s' number (frame_to node from (body k)) (name_of node) k w m (sent_at s node from (body k)))
+          × (length step.closes.session.awaits ≡ 1))
+      by_parent last one a None top is waits parent status =
+          let step = root s s' number node from k a last.session.joiner before taken remembers status is waits
+          (parent ∙ ap (parent_at last.session.joiner) top) last top in
+          inl (step, single last.session step.closes.session last.is step.closes.was one)
+      by_parent last one a (Some (w, m)) above is waits parent status =
+          let step = child s s' number node from k a w m before taken remembers status is waits
+          (parent ∙ ap (parent_at last.session.joiner) above) last above in
+          inr (w, m, step, single last.session step.closes.session last.is step.closes.was one)
 
 pub heard_is_taken : AnswerIsTaken Heard
 heard_is_taken = is_taken Heard (λ k from to. refl) heard_hands_on heard_closes_root heard_closes_child
@@ -203,8 +215,8 @@ ack_is_taken = is_taken Ack (λ k from to. refl) ack_hands_on ack_closes_root ac
 -- in each case the sessions are exact
 answered_exact : (s s' : System) (number : ℕ) (f : Frame) (own : List ℕ) (k : ℕ) (sent : List (ℕ × Frame))
     → IsAnswered s s' number f own k sent → AreExact s → AreExact s'
-answered_exact s s' number f own k sent (inl hands) exact = handing_on_law s s' number f own k sent hands exact
-answered_exact s s' number f own k sent (inr (inl root)) exact = last_answer_law s s' number f own k sent root exact
+answered_exact s s' number f own k sent (inl hands) exact = handing_on_law s s' number f own k sent hands.0 exact
+answered_exact s s' number f own k sent (inr (inl root)) exact = last_answer_law s s' number f own k sent root.0 exact
 answered_exact s s' number f own k sent (inr (inr child)) exact =
     closing_law s s' number f own k child.0 child.1 sent child.2 exact
 

@@ -76,7 +76,7 @@ module _ (node : NodeState) (joiner : List ℕ) (ties : AreTies node.ties) (is_n
   other_link t other =
       kind_in-pinned node.ties.table joiner ties.table is_name fits.apart t ∙ of_others joiner t kind_pinned (link_to node t) other
 
-  joiner_link : kind_in with_joiner joiner ≡ Some Pin
+  pub joiner_link : kind_in with_joiner joiner ≡ Some Pin
   joiner_link =
       kind_in-pinned node.ties.table joiner ties.table is_name fits.apart joiner ∙ of_itself joiner kind_pinned (link_to node joiner)
       ∙ pinned_then (link_to node joiner) fits.pin
@@ -133,7 +133,7 @@ module _ (node : NodeState) (request : Request) where
   abbrev pinned_table : TableValue
   pinned_table = (pinned node.ties request.joiner).table
 
-  abbrev told_targets : List Target
+  abbrev pub told_targets : List Target
   told_targets =
       targets pinned_table (cover_of pinned_table (level_of node request.joiner) request.joiner request.prefix request.level)
 

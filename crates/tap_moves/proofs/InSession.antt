@@ -1,6 +1,7 @@
 -- What a node sends in sessions at a Tell, and at a Seek that it takes as the surrogate.
 use Rattle.std.proofs.Common.{◌≡◌, ◌==◌, ℕ, ◌+◌, ◌≤◌, Bool, cond, true, false, List, [], ◌∷◌, ◌++◌, length, map, Option, None, Some, arith, ap, refl, sym, ◌∙◌, inl, inr}
 use Rattle.std.proofs.lemmas.Bool.{eqb-false, ne_eqb}
+use Rattle.std.proofs.lemmas.List.{length-append, length-map}
 use Rattle.tap_name.specs.declared.slot.Offered.{Offered}
 use Rattle.tap_name.specs.declared.slot.Slot.{Slot}
 use Rattle.tap_session.specs.declared.parent.Parent.{Parent}
@@ -33,6 +34,7 @@ use Rattle.tap_safety.specs.Sessions.{Belongs}
 use Rattle.tap_moves.specs.ByRule.{taken_at}
 use Rattle.tap_moves.specs.InSession.{AnswersAtOnce, OpensNext, OpensOrAnswers}
 use Rattle.tap_moves.specs.Laws.{CeasedAnswers, SeekOpens, TellInSession}
+use Rattle.tap_moves.proofs.Counts.{AreIn, ways_by_rule}
 use Rattle.tap_moves.proofs.SeekMade.{uncovered}
 
 -- a place names one node and one number
@@ -69,6 +71,11 @@ answer_in own (Root joiner) y k belongs = absurd (cc)
 answer_in own (Node name session) y k belongs =
     let same = one_place name y session k belongs in ap (λ n. Node n session) same.0 ∙ ap (λ l. Node y l) same.1
 
+-- and is sent in it
+answer_within : (own : List ℕ) (parent : Parent) (y : List ℕ) (k : ℕ) → parent ≡ Node y k → AreIn own (answer_for parent ∷ []) y k
+answer_within own parent y k is m (inl same) = rw (same, is) refl
+answer_within own parent y k is m (inr none) = absurd none
+
 -- a Tell for a target and a greeting belong to the session that is opened
 told_in_next : (own : List ℕ) (request : Request) (session : ℕ) (left : List Slot) (target : Target) (y : List ℕ) (k : ℕ)
     → MessageIn own (tell_for request session left target) y k → (y ≡ own) × (k ≡ session)
@@ -96,6 +103,37 @@ spread_in_next own request session first offer left targets m y k among belongs 
           told_in_next own request session left found.0 y k (rw found.2 at belongs)
     ]
 
+-- and each is sent in it
+greeted_within : (own : List ℕ) (request : Request) (session : ℕ) (first : Bool) (offer : List Offered)
+    → AreIn own (greeting request session first offer) own session
+greeted_within own request session true offer m (inl is) = rw is refl
+greeted_within own request session true offer m (inr none) = absurd none
+greeted_within own request session false offer m none = absurd none
+
+spread_within : (own : List ℕ) (request : Request) (session : ℕ) (first : Bool) (offer : List Offered) (left : List Slot)
+    (targets : List Target)
+    → AreIn own (greeting request session first offer ++ map (tell_for request session left) targets) own session
+spread_within own request session first offer left targets m among =
+    elim (among-either m (greeting request session first offer) (map (tell_for request session left) targets) among) [
+      | inl hello ↦ greeted_within own request session first offer m hello
+      | inr tell ↦ let found = among-map_from (tell_for request session left) m targets tell in rw found.2 refl
+    ]
+
+-- as many as are awaited
+greeting_counted : (request : Request) (session : ℕ) (first : Bool) (offer : List Offered) (targets : ℕ)
+    → length (greeting request session first offer) + targets ≡ answers_awaited first targets
+greeting_counted request session true offer targets = omega arith
+greeting_counted request session false offer targets = omega arith
+
+spread_counted : (request : Request) (session : ℕ) (first : Bool) (offer : List Offered) (left : List Slot) (targets : List Target)
+    → length (greeting request session first offer ++ map (tell_for request session left) targets)
+    ≡ answers_awaited first (length targets)
+spread_counted request session first offer left targets =
+    let whole = length-append (greeting request session first offer) (map (tell_for request session left) targets) in
+    let mapped = length-map targets (tell_for request session left) in
+    let all = greeting_counted request session first offer (length targets) in
+    omega (arith, whole, mapped, all)
+
 pub only_one : (m one : Message) → IsAmong m (one ∷ []) → m ≡ one
 only_one m one (inl is) = is
 only_one m one (inr none) = absurd none
@@ -105,16 +143,22 @@ at_least_one n apart = omega arith
 
 module _ (node : NodeState) (request : Request) (words : List Tie) (acted : Acted) where
   -- who sends the parent its answer alone
-  answers_once : acted.state.sessions ≡ node.sessions
-      → AreSent (name_of node) words (answer_for request.parent ∷ []) acted.sent → AnswersAtOnce node request.parent acted
-  answers_once sessions are = record {
-    sessions = sessions;
-    told = parent_told node request.parent acted.sent (are.named (answer_for request.parent) (inl refl));
-    sent = λ f y k among belongs.
-        let found = sent_in (name_of node) words (answer_for request.parent ∷ []) acted.sent are f y k among belongs in
-        let same = only_one found.0 (answer_for request.parent) found.1 in
-        answer_in (name_of node) request.parent y k (rw same at found.2);
-  }
+  answers_once : (state : NodeState) → state.sessions ≡ node.sessions
+      → IsCarriedOut node (with_words words (sends state (answer_for request.parent ∷ []))) acted → AnswersAtOnce node request.parent acted
+  answers_once state same carried =
+      let sessions = carried.sessions ∙ same in
+      let are = carried.sent in
+      record {
+        sessions = sessions;
+        told = parent_told node request.parent acted.sent (are.named (answer_for request.parent) (inl refl));
+        sent = λ f y k among belongs.
+            let found = sent_in (name_of node) words (answer_for request.parent ∷ []) acted.sent are f y k among belongs in
+            let same = only_one found.0 (answer_for request.parent) found.1 in
+            answer_in (name_of node) request.parent y k (rw same at found.2);
+        one = λ y k n is.
+            ways_by_rule node (with_words words (sends state (answer_for request.parent ∷ []))) acted y k n carried
+            (answer_within (name_of node) request.parent y k is);
+      }
 
   -- who waits for some opens its next session
   module _ (first : Bool) (offer : List Offered) (targets : List Target) (left : List Slot) where
@@ -138,18 +182,22 @@ module _ (node : NodeState) (request : Request) (words : List Tie) (acted : Acte
           sent = λ f y k among belongs.
               let found = sent_in (name_of node) words messages acted.sent carried.sent f y k among belongs in
               spread_in_next (name_of node) request (node.sessions.opened + 1) first offer left targets found.0 y k found.1 found.2;
+          counted = λ n.
+              ways_by_rule node (with_words words opening) acted (name_of node) (node.sessions.opened + 1) n carried
+              (spread_within (name_of node) request (node.sessions.opened + 1) first offer left targets)
+              ∙ spread_counted request (node.sessions.opened + 1) first offer left targets;
         }
 
     spread_as : (none : Bool) → (answers_awaited first (length targets) == 0) ≡ none
         → IsCarriedOut node (with_words words (cond none
         (sends (with_level (with_pin node request.joiner) request) (answer_for request.parent ∷ [])) opening)) acted
         → OpensOrAnswers node request.parent request.depth acted
-    spread_as true is carried = inr (answers_once carried.sessions carried.sent)
+    spread_as true is carried = inr (answers_once (with_level (with_pin node request.joiner) request) refl carried)
     spread_as false is carried = inl (spread_opens is carried)
 
   covered_as : (found : Covered) → IsCarriedOut node (with_words words (covers_as (with_pin node request.joiner) request found)) acted
       → OpensOrAnswers node request.parent request.depth acted
-  covered_as Already carried = inr (answers_once carried.sessions carried.sent)
+  covered_as Already carried = inr (answers_once (with_pin node request.joiner) refl carried)
   covered_as (Now first offer targets left) carried =
       spread_as first offer targets left (answers_awaited first (length targets) == 0) refl carried
 
@@ -183,6 +231,10 @@ meets_in_session node from tell acted true carried = inr (record {
       f y k among belongs in
       let same = only_one found.0 (message from (Ack tell.session)) found.1 in
       answer_in (name_of node) (Node from tell.session) y k (rw same at found.2);
+  one = λ y k n is.
+      ways_by_rule node
+      (with_words (words_for node tell.joiner) (sends (with_pin node tell.joiner) (message from (Ack tell.session) ∷ []))) acted y k n
+      carried (answer_within (name_of node) (Node from tell.session) y k is);
 })
 meets_in_session node from tell acted false carried =
     let hello = message tell.joiner (Hello (node.sessions.opened + 1) false []) in
@@ -195,6 +247,9 @@ meets_in_session node from tell acted false carried =
           let is : MessageIn (name_of node) hello y k = rw (only_one found.0 hello found.1) at found.2 in
           let same = one_place (name_of node) y (node.sessions.opened + 1) k is in
           (sym same.0, sym same.1);
+      counted = λ n.
+          ways_by_rule node (with_words (words_for node tell.joiner) (welcomes (with_pin node tell.joiner) from tell)) acted (name_of node)
+          (node.sessions.opened + 1) n carried (λ m among. rw (only_one m hello among) refl);
     })
 
 pub tell_in_session : TellInSession
@@ -226,4 +281,7 @@ ceased_answers node from tell watch at known =
           let found = sent_in (name_of node) [] (message from (Ack tell.session) ∷ []) _ carried.sent f y k among belongs in
           let same = only_one found.0 (message from (Ack tell.session)) found.1 in
           answer_in (name_of node) (Node from tell.session) y k (rw same at found.2);
+      one = λ y k n is.
+          ways_by_rule node (acknowledges node from tell.session) _ y k n carried
+          (answer_within (name_of node) (Node from tell.session) y k is);
     }

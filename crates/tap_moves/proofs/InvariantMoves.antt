@@ -116,7 +116,7 @@ less_than_all p a b one two apart =
     ]
 
 -- the node of a joiner joins
-joins_here : (s : System) (node : NodeState) → IsJoiner s (name_of node) → s.node (name_of node) ≡ Some node → node.status ≡ Joining
+pub joins_here : (s : System) (node : NodeState) → IsJoiner s (name_of node) → s.node (name_of node) ≡ Some node → node.status ≡ Joining
 joins_here s node joiner at =
     let is = joiner.is in
     let same : joiner.state ≡ node = cc in
@@ -152,7 +152,7 @@ pin_on p s unmarked settled x b joiner Settled link = absurd (core_or_joiner s b
 pin_on p s unmarked settled x b joiner Marked link = absurd (unmarked x b link)
 
 -- and so have all that are offered
-hello_names_are : (p : SettingsValue) (s : System) (number : ℕ) (node : NodeState) (from : List ℕ) (hello : HelloFields)
+pub hello_names_are : (p : SettingsValue) (s : System) (number : ℕ) (node : NodeState) (from : List ℕ) (hello : HelloFields)
     → IsDelivery p s number node from (hello_body hello) → All (λ (o : Offered). IsName (settings_of node) o.name) hello.links
 hello_names_are p s number node from hello is =
     all_among (λ (o : Offered). IsName (settings_of node) o.name) hello.links (λ offered among.
@@ -183,7 +183,7 @@ module _ (p : SettingsValue) (s : System) (number : ℕ) (node : NodeState) (fro
       cover = is.invariant.filled.cover;
     }
 
-    of_tell : node.status ≡ Core → IsTellOf p s (name_of node) tell.joiner tell.prefix tell.level
+    pub of_tell : node.status ≡ Core → IsTellOf p s (name_of node) tell.joiner tell.prefix tell.level
     of_tell at =
         let here = name_at p s is.nodes (name_of node) node is.at in
         let joiner = joiner_name p s is.nodes tell.joiner told.joiner in
@@ -421,7 +421,7 @@ frame_soft p s number node from body is there =
 -- ---- Seek, and sessions
 
 -- who seeks isn't core
-seeker_not_core : (s : System) (b : List ℕ) → IsSeeker s b → IsCoreNode s b → ⊥
+pub seeker_not_core : (s : System) (b : List ℕ) → IsSeeker s b → IsCoreNode s b → ⊥
 seeker_not_core s b seeker core =
     let one = seeker.is in
     let other = core.is in

@@ -3,6 +3,7 @@ pub mod Nearness
 pub mod CoverMade
 pub mod Made
 pub mod SeekMade
+pub mod Counts
 pub mod InSession
 pub mod Exchanged
 pub mod Plain
@@ -17,7 +18,11 @@ pub mod SoftMade
 pub mod StartsMade
 pub mod InvariantMoves
 pub mod SessionMoves
+pub mod CountMoves
+pub mod SeekGoesOn
 pub mod CalmMoves
+pub mod DeeperMoves
+pub mod EndedMoves
 pub mod Spelled
 pub mod FewLinks
 pub mod SpelledJoins

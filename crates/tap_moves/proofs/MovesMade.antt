@@ -348,4 +348,4 @@ seek_keeps_sessions p s number node from joiner prefix due at is seeker before =
     root_opened_law s (after_delivery p s number) number (frame_to node from (Seek joiner)) (name_of node) (node.sessions.opened + 1)
     (sent_at s node from (Seek joiner))
     (opens_root s (after_delivery p s number) number node from joiner before (by_rule p s number node from (Seek joiner) due)
-    (remembers p s number node from (Seek joiner) due) seeker opens) before.exact
+    (remembers p s number node from (Seek joiner) due) seeker opens).0 before.exact

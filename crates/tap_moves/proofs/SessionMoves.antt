@@ -174,9 +174,9 @@ answered_steps : (s s' : System) (number : ℕ) (f : Frame) (own : List ℕ) (k 
     → GoesOnAs before.status after.status → after.sessions.opened ≡ before.sessions.opened → IsAnswered s s' number f own k sent
     → StepsSessions s s' number f before after sent
 answered_steps s s' number f own k before after sent status same (inl hands) =
-    record { kind = Hands own k; is = hands; last = tt; status = status; opened = omega (arith, same) }
+    record { kind = Hands own k; is = hands.0; last = tt; status = status; opened = omega (arith, same) }
 answered_steps s s' number f own k before after sent status same (inr (inl root)) =
-    record { kind = ClosesTop own k; is = root; last = tt; status = status; opened = omega (arith, same) }
+    record { kind = ClosesTop own k; is = root.0; last = tt; status = status; opened = omega (arith, same) }
 answered_steps s s' number f own k before after sent status same (inr (inr child)) =
     record { kind = ClosesBelow own k child.0 child.1; is = child.2; last = tt; status = status; opened = omega (arith, same) }
 
@@ -315,8 +315,8 @@ module _ (p : SettingsValue) (s : System) (number : ℕ) (node : NodeState) (fro
       record {
         kind = OpensTop (name_of node) (node.sessions.opened + 1);
         is =
-            opens_root s after number node from joiner (before_taking p s is.invariant) (by_rule p s number node from body here)
-            (remembers p s number node from body here) seeker opens;
+            (opens_root s after number node from joiner (before_taking p s is.invariant) (by_rule p s number node from body here)
+            (remembers p s number node from body here) seeker opens).0;
         last = (refl, sym now, subst holds_sessions (sym (same ∙ at)) tt);
         status = goes_on_same node.status acted.state.status same;
         opened = omega (arith, now);

@@ -335,24 +335,26 @@ opens_root s s' number node from joiner before taken remembers seeker opens =
     let session = next_session node.sessions (Root joiner) 0 opens.waiting in
     let opened : opened_by t ≡ Some session =
     opened_found node.sessions acted.state.sessions (Root joiner) 0 opens.waiting taken.is_node.sessions opens.sessions in
-    let now = λ (y : List ℕ) (m : ℕ). remembers y m ∙ sessions_root s.session t session refl refl opened y m in
-    record {
-      frames = exchanges s s' number frame acted.sent taken.taken before.numbers;
-      apart = λ y n belongs. let none : ◌≡◌ {A = Option (List ℕ × ℕ)} None (Some (y, n)) = belongs in absurd (cc);
-      none = none_next s node before.places taken.at.was (s.session own (node.sessions.opened + 1)) refl;
-      root = remembered_as t session;
-      is = now own (node.sessions.opened + 1) ∙ put_here s.session own (node.sessions.opened + 1) (Some (remembered_as t session));
-      top = refl;
-      deep = refl;
-      awaits = refl;
-      rootless = record {
-        none = λ x k session is same top.
-            let joins = before.joiners.opened x k session is in
-            not_started s joiner seeker (rw same at joins);
-      };
-      others = λ y m. elim (put_other s.session own (node.sessions.opened + 1) (Some (remembered_as t session)) y m) [
-        | inl here ↦ inl here
-        | inr there ↦ inr (now y m ∙ there)
-      ];
-      asks = λ m g y n among belongs. opens.sent g y n (sent_numbered m g s.next acted.sent among) belongs;
-    }
+    let now = λ (y : List ℕ) (m : ℕ). remembers y m ∙ sessions_root s.session t session refl refl opened y m in (
+      record {
+        frames = exchanges s s' number frame acted.sent taken.taken before.numbers;
+        apart = λ y n belongs. let none : ◌≡◌ {A = Option (List ℕ × ℕ)} None (Some (y, n)) = belongs in absurd (cc);
+        none = none_next s node before.places taken.at.was (s.session own (node.sessions.opened + 1)) refl;
+        root = remembered_as t session;
+        is = now own (node.sessions.opened + 1) ∙ put_here s.session own (node.sessions.opened + 1) (Some (remembered_as t session));
+        top = refl;
+        deep = refl;
+        awaits = refl;
+        rootless = record {
+          none = λ x k session is same top.
+              let joins = before.joiners.opened x k session is in
+              not_started s joiner seeker (rw same at joins);
+        };
+        others = λ y m. elim (put_other s.session own (node.sessions.opened + 1) (Some (remembered_as t session)) y m) [
+          | inl here ↦ inl here
+          | inr there ↦ inr (now y m ∙ there)
+        ];
+        asks = λ m g y n among belongs. opens.sent g y n (sent_numbered m g s.next acted.sent among) belongs;
+      },
+      refl,
+    )

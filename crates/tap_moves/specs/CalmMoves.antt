@@ -1,10 +1,12 @@
--- Frames that send nobody on and change no link: seekers and Tells stay as they were, and nobody departs.
-use Rattle.std.specs.Prelude.{◌≡◌, ℕ, List, None}
+-- Frames that send nobody on and make no node core: seekers and Tells stay as they were, and nobody departs.
+use Rattle.std.specs.Prelude.{◌≡◌, ◌⊎◌, ℕ, List, None}
 use Rattle.tap_name.specs.Settings.{SettingsValue}
+use Rattle.tap_join.specs.Seek.{sought}
+use Rattle.tap_join.specs.declared.sought.Sought.TheVariants.{Forward}
 use Rattle.tap_wire.specs.declared.frame.Body.{Body}
-use Rattle.tap_wire.specs.declared.frame.Body.TheVariants.{Ack, Heard, Link, Tell}
+use Rattle.tap_wire.specs.declared.frame.Body.TheVariants.{Ack, Forget, Heard, Hello, Link, Release, Seek, Tell}
 use Rattle.tap_rule.specs.Node.{NodeState}
-use Rattle.tap_rule.specs.Node.Status.{Ceased}
+use Rattle.tap_rule.specs.Node.Status.{Ceased, Core, Joining}
 use Rattle.tap_rule.specs.QuietSteps.{IsQuiet}
 use Rattle.tap_safety.specs.Bookkeeping.{TellsAreDeeper}
 use Rattle.tap_safety.specs.Departing.{Departure}
@@ -13,11 +15,16 @@ use Rattle.tap_safety.specs.Seeking.{AreOfSeekers, Seeking}
 use Rattle.tap_safety.specs.System.{System}
 use Rattle.tap_safety.specs.Tells.{TellsAreSound}
 use Rattle.tap_moves.specs.Delivered.{after_delivery}
-use Rattle.tap_moves.specs.InvariantLaws.{IsDelivery}
+use Rattle.tap_moves.specs.InvariantLaws.{IsDelivery, IsTakenThere}
 
--- an answer, a Link, a Tell at a node that has ceased, and those of pointers and casts
+-- a Tell at a joining node or one that has ceased, a Hello, a Seek that goes on, a Release, a Forget, an answer, a Link, and those of
+-- pointers and casts
 abbrev pub IsCalmThere : NodeState → Body → Type 0
-IsCalmThere node (Tell joiner prefix level session depth watch) = node.status ≡ Ceased
+IsCalmThere node (Tell joiner prefix level session depth watch) = (node.status ≡ Joining) ⊎ (node.status ≡ Ceased)
+IsCalmThere node (Hello session core links) = node.status ≡ Joining
+IsCalmThere node (Seek joiner) = (node.status ≡ Core) × ((next : List ℕ) × (sought node.ties.table joiner ≡ Forward next))
+IsCalmThere node Release = (node.status ≡ Joining) ⊎ (node.status ≡ Core)
+IsCalmThere node Forget = (node.status ≡ Joining) ⊎ (node.status ≡ Core)
 IsCalmThere node (Heard session) = Unit {0}
 IsCalmThere node (Ack session) = Unit {0}
 IsCalmThere node (Link version on) = Unit {0}
@@ -45,7 +52,7 @@ abbrev pub FramePeaceful : Type 0
 FramePeaceful = (p : SettingsValue) (s : System) (number : ℕ) (node : NodeState) (from : List ℕ) (body : Body)
     → IsDelivery p s number node from body → IsCalmThere node body → s.departing ≡ None → IsPeaceful (after_delivery p s number)
 
--- and each Tell is one deeper than its session
+-- each Tell is one deeper than its session, and at a level above its prefix, after each frame that a rule takes
 abbrev pub FrameDeeper : Type 0
 FrameDeeper = (p : SettingsValue) (s : System) (number : ℕ) (node : NodeState) (from : List ℕ) (body : Body)
-    → IsDelivery p s number node from body → IsCalmThere node body → TellsAreDeeper (after_delivery p s number)
+    → IsDelivery p s number node from body → IsTakenThere node body → TellsAreDeeper (after_delivery p s number)

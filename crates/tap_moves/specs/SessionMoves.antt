@@ -90,6 +90,15 @@ pub record AreBooked (s : System) : Type 0 where
   pub counted : AreCountedSo s
   pub deeper : TellsAreDeeper s
 
+-- each session awaits an answer, as many as its node waits for
+pub record AwaitsAsMany (s : System) : Type 0 where
+  pub await : Await s
+  pub counted : AreCountedSo s
+
+abbrev pub FrameCounts : Type 0
+FrameCounts = (p : SettingsValue) (s : System) (number : ℕ) (node : NodeState) (from : List ℕ) (body : Body)
+    → IsDelivery p s number node from body → IsTakenThere node body → AwaitsAsMany (after_delivery p s number)
+
 abbrev pub OutsideBooks : Type 0
 OutsideBooks = (p : SettingsValue) (s : System) (number : ℕ) (node : NodeState) (from : List ℕ) (body : Body)
     → IsDelivery p s number node from body → IsOutside node body → AreBooked (after_delivery p s number)

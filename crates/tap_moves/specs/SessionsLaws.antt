@@ -69,13 +69,13 @@ HandsOnByTell = (s s' : System) (number : ℕ) (node : NodeState) (from : List �
     → AnswersAtOnce node (Node from tell.session) (taken_at node from (tell_body tell watch))
     → HandsOn s s' number (frame_to node from (tell_body tell watch)) from tell.session (sent_at s node from (tell_body tell watch))
 
--- a Seek of a joiner that isn't started, at its surrogate
+-- a Seek of a joiner that isn't started, at its surrogate: the session is the joiner's
 abbrev pub OpensRootBySeek : Type 0
 OpensRootBySeek = (s s' : System) (number : ℕ) (node : NodeState) (from joiner : List ℕ) → BeforeTaking s
     → TakesByRule s s' number node from (Seek joiner) → RemembersSessions s s' number node from (Seek joiner) → IsSeeker s joiner
     → OpensNext node (Root joiner) 0 (taken_at node from (Seek joiner))
-    → OpensRoot s s' number (frame_to node from (Seek joiner)) (name_of node) (node.sessions.opened + 1)
-    (sent_at s node from (Seek joiner))
+    → (step : OpensRoot s s' number (frame_to node from (Seek joiner)) (name_of node) (node.sessions.opened + 1)
+    (sent_at s node from (Seek joiner))) × (step.root.joiner ≡ joiner)
 
 -- An answer in a session of the node that isn't the last one.
 abbrev pub AnswerHandsOn : (ℕ → Body) → Type 0

@@ -2,9 +2,9 @@ ghost use Rattle.tap_wire.specs.declared.frame.Body.TheVariants.{Ack, Heard};
 ghost use Rattle.tap_moves.specs.FrameLaws.{CeasedTellIsMade, ForgetIsMade, GivingUpIsMade, HelloIsMade, JoinIsMade, JoiningTellIsMade, PlainIsMade, QuietStartIsMade, ReleaseIsMade};
 ghost use Rattle.tap_moves.specs.Laws.{CeasedAnswers, DoneIsMade, KnownTellIsMade, NewTellIsMade, SeekCovers, SeekGreets, SeekOpens, TellInSession};
 ghost use Rattle.tap_moves.specs.MovesLaws.{AnswerKeepsSessions, CeasedTellKeeps, DeliveryIsByRule, DoneKeeps, ForgetKeeps, GivingUpKeeps, HelloKeeps, HelloKeepsSessions, JoinKeeps, JoiningTellKeeps, KnownTellKeeps, LinkKeeps, OutsideKeepsSessions, PlainKeeps, QuietStartKeeps, ReleaseKeeps, SeekKeeps, SeekKeepsSessions, TellKeeps, TellKeepsSessions};
-ghost use Rattle.tap_moves.specs.InvariantLaws.{FrameExact, FrameFills, FrameSays, FrameSoft, LinkTies, MoveKeepsParts, PartsKept, SeekGives, StartFills, StartKeepsParts};
+ghost use Rattle.tap_moves.specs.InvariantLaws.{FrameEnded, FrameExact, FrameFills, FrameSays, FrameSoft, LinkTies, MoveKeepsParts, PartsKept, SeekGives, StartFills, StartKeepsParts};
 ghost use Rattle.tap_moves.specs.CalmMoves.{FrameDeeper, FramePeaceful, FrameSeeks};
-ghost use Rattle.tap_moves.specs.SessionMoves.{FrameAwaits, FrameCore, FrameNames, FramePlaces, FrameSteps, OutsideBooks, StartNames};
+ghost use Rattle.tap_moves.specs.SessionMoves.{FrameAwaits, FrameCore, FrameCounts, FrameNames, FramePlaces, FrameSteps, OutsideBooks, StartNames};
 ghost use Rattle.tap_moves.specs.SessionsLaws.{AnswerClosesChild, AnswerClosesRoot, AnswerHandsOn, AnswerKeepsExact, HandsOnByHello, HandsOnByTell, OpensChildByTell, OpensRootBySeek, OutsideLeavesSessions};
 ghost use Rattle.tap_moves.specs.TiesLaws.{LinkIsMade};
 
@@ -70,10 +70,10 @@ pub fn link_moves()
     ensures { LinkIsMade }
 {}
 
-/// What a frame makes a node send in sessions. A Tell or a Seek opens its next session, and what is sent in one is sent in that; or it
-/// opens none, and the one answer goes to the session of the Tell. The surrogate always opens the joiner's root session. What is
-/// remembered of sessions then is as the laws of sessions ask: one that is opened for a Tell, or for a Seek; a Tell or a Hello that is
-/// answered at once; an answer that isn't the last one of its session, or that closes it; and a frame of no session.
+/// What a frame makes a node send in sessions. A Tell or a Seek opens its next session, and what is sent in one is sent in that, as many as
+/// the node waits for; or it opens none, and the one answer goes to the session of the Tell. The surrogate always opens the joiner's root
+/// session. What is remembered of sessions then is as the laws of sessions ask: one that is opened for a Tell, or for a Seek; a Tell or a
+/// Hello that is answered at once; an answer that isn't the last one of its session, or that closes it; and a frame of no session.
 ///
 /// It does nothing: its contract is the law.
 ///
@@ -159,10 +159,10 @@ pub fn parts_kept()
 {}
 
 /// If the invariant holds, and each node is one that steps keep valid, then once a frame under way is delivered that isn't strange to its
-/// receiver: after each frame of a join, of pointers and of casts, but the Done of a join that was given up, what
-/// leads to tables without holes holds, and the sessions are exact; the words of links stand after a Link, and after each other frame
-/// whose taker says of each link that it changes; settled links are to core nodes and pins to soft ones, but after a Tell at a core node, a
-/// Seek at the surrogate and a Done; and a new joiner is given each slot up to its prefix.
+/// receiver: after each frame of a join, of pointers and of casts, but the Done of a join that was given up, what leads to tables without
+/// holes holds, the sessions are exact, and a node that has ended has no link; the words of links stand after a Link, and after each
+/// other frame whose taker says of each link that it changes; settled links are to core nodes and pins to soft ones, but after a Tell at
+/// a core node, a Seek at the surrogate and a Done; and a new joiner is given each slot up to its prefix.
 ///
 /// It does nothing: its contract is the law.
 ///
@@ -174,13 +174,14 @@ pub fn deliveries_from_invariant()
     ensures soft { FrameSoft }
     ensures seek { SeekGives }
     ensures exact { FrameExact }
+    ensures ended { FrameEnded }
 {}
 
-/// If the invariant holds, and each node is one that steps keep valid, then a frame that is delivered where a rule takes it does one of six
-/// things with the sessions of joins: one awaits what is sent in place of the frame, one is opened or closed, below another or as the root
-/// of its joiner, or none changes. After it each session awaits each answer once, of sessions that are open, and has its place: at a node
-/// that may have it open and has opened as many, below another node's; and some node is core. After a frame of no session each session
-/// awaits an answer, as many as its node waits for, and each Tell is one deeper than its session.
+/// If the invariant holds, and each node is one that steps keep valid, then a frame that is delivered where a rule takes it does one of
+/// six things with the sessions of joins: one awaits what is sent in place of the frame, one is opened or closed, below another or as the
+/// root of its joiner, or none changes. After it each session awaits each answer once, of sessions that are open, awaits at least one, as
+/// many as its node waits for, and has its place: at a node that may have it open and has opened as many, below another node's; and some
+/// node is core. After a frame of no session each Tell is one deeper than its session, too.
 ///
 /// It does nothing: its contract is the law.
 ///
@@ -190,6 +191,7 @@ pub fn sessions_from_invariant()
     ensures awaited { FrameAwaits }
     ensures places { FramePlaces }
     ensures core { FrameCore }
+    ensures counts { FrameCounts }
     ensures outside { OutsideBooks }
 {}
 
@@ -205,9 +207,10 @@ pub fn names_from_invariant()
     ensures starts { StartNames }
 {}
 
-/// If the invariant holds, and each node is one that steps keep valid, then after an answer, a Link, a Tell at a node that has ceased, and
-/// each frame of pointers and casts that isn't strange: who isn't started is known to nobody but its one Seek, Tells are sound, and each is
-/// one deeper than its session. If nobody departs, nobody does afterwards, and no notice is under way.
+/// If the invariant holds, and each node is one that steps keep valid, then after an answer, a Link, a Hello, a Seek that goes on, a
+/// Release, a Forget, a Tell at a joining node or one that has ceased, and each frame of pointers and casts that isn't strange: who isn't
+/// started is known to nobody but its one Seek, and Tells are sound. If nobody departs, nobody does afterwards, and no notice is under
+/// way. After each frame that a rule takes each Tell is one deeper than its session, at a level above its prefix.
 ///
 /// It does nothing: its contract is the law.
 ///

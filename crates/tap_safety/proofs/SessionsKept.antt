@@ -81,7 +81,7 @@ placed (Some (y, m)) x k is =
     let by_number : ℕ → Option (List ℕ × ℕ) = λ n. Some (x, n) in
     ap by_node same.0 ∙ ap by_number same.1
 
-placed_at : (o : Option (List ℕ × ℕ)) (x : List ℕ) (k : ℕ) → o ≡ Some (x, k) → is_placed o x k ≡ true
+pub placed_at : (o : Option (List ℕ × ℕ)) (x : List ℕ) (k : ℕ) → o ≡ Some (x, k) → is_placed o x k ≡ true
 placed_at o x k is = rw is (is_place-here x k x k refl refl)
 
 pub ways_of-has : (x : List ℕ) (k : ℕ) (fs : List (ℕ × Frame)) (m : ℕ) → AmongTokens (Way m) (ways_of x k fs) → HasFrame fs m x k

@@ -17,7 +17,7 @@ use Rattle.tap_rule.specs.Sent.{AreSent, IsAmong}
 use Rattle.tap_safety.specs.Frames.{HelloFields, hello_body, tell_body}
 use Rattle.tap_safety.specs.System.{System, HasLink, IsCoreNode, IsJoiner, IsUnderWay}
 use Rattle.tap_safety.specs.Step.{IsSent}
-use Rattle.tap_safety.specs.Soft.{AreSound, IsSoft, IsSoundBody, IsSoundLink, IsSoundOffer, NamesSoft}
+use Rattle.tap_safety.specs.Soft.{AddsSoundLinks, AreSound, IsSoft, IsSoundBody, IsSoundLink, IsSoundOffer, NamesSoft}
 use Rattle.tap_safety.specs.FrameSteps.{LinksStay, TakesForget, TakesFrame, TakesHello, TakesPlainly, TakesRelease, TakesTellCeased, TakesTellJoining, kind_offered}
 use Rattle.tap_safety.proofs.FrameKeeps.{frame_cores}
 use Rattle.tap_safety.proofs.LinkKeeps.{release_core}
@@ -156,29 +156,33 @@ ceased_soft s s' number w x tell watch ceased soft =
     (not_new s' ceased.step.before ceased.step.after ceased.links)
     (rw ceased.answers (one_sound s' x (message w (Ack tell.session)) tt)) soft
 
--- the joiner of the Tell is pinned, and hears of the node, which is a joiner
+-- the joiner of the Tell is pinned
+pub joining_links : (s s' : System) (number : ℕ) (w x : List ℕ) (tell : TellFields) (watch : List Slot)
+    (joining : TakesTellJoining s s' number w x tell watch) → IsJoiner s tell.joiner
+    → AddsSoundLinks s' joining.step.before joining.step.after
+joining_links s s' number w x tell watch joining joiner t kind now =
+    elim (joining.links t) [
+      | inr same ↦ inl (sym same ∙ now)
+      | inl is ↦
+          let pin : link_to joining.step.after t ≡ Some Pin = rw is joining.pinned in
+          let kind_is : kind ≡ Pin = cc in
+          let on = frame_softs s s' number (record { from = w; to = x; body = tell_body tell watch }) joining.step tell.joiner (inl joiner)
+          in
+          inr (rw (kind_is, is) on)
+    ]
+
+-- and hears of the node, which is a joiner
 pub joining_soft : (s s' : System) (number : ℕ) (w x : List ℕ) (tell : TellFields) (watch : List Slot)
     → TakesTellJoining s s' number w x tell watch → IsJoiner s tell.joiner → IsJoiner s x → (x ≡ tell.joiner → ⊥)
     → NamesSoft s → NamesSoft s'
 joining_soft s s' number w x tell watch joining joiner here apart soft =
-    frame_soft s s' number frame joining.step new sound soft
+    frame_soft s s' number frame joining.step (joining_links s s' number w x tell watch joining joiner) sound soft
   where
     frame : Frame
     frame = record { from = w; to = x; body = tell_body tell watch }
 
     on : (y : List ℕ) → IsSoft s y → IsSoft s' y
     on = frame_softs s s' number frame joining.step
-
-    new : (t : List ℕ) (kind : Kind) → link_to joining.step.after t ≡ Some kind
-        → (link_to joining.step.before t ≡ Some kind) ⊎ IsSoundLink s' t kind
-    new t kind now =
-        elim (joining.links t) [
-          | inr same ↦ inl (sym same ∙ now)
-          | inl is ↦
-              let pin : link_to joining.step.after t ≡ Some Pin = rw is joining.pinned in
-              let kind_is : kind ≡ Pin = cc in
-              inr (rw (kind_is, is) (on tell.joiner (inl joiner)))
-        ]
 
     greets : (session : ℕ) → IsSoundBody s' x tell.joiner (Hello session false [])
     greets session o (inl is) =
@@ -199,69 +203,72 @@ joining_soft s s' number w x tell watch joining joiner here apart soft =
               rw hello.1 (one_sound s' x (message tell.joiner (Hello hello.0 false [])) (greets hello.0))
         ]
 
+module _ (s s' : System) (number : ℕ) (w b : List ℕ) (hello : HelloFields) (step : TakesHello s s' number w b hello) (soft : NamesSoft s) where
+  offer_sound : (o : Offered) → IsSoundOffer s b o → (flag : _) → o.settled ≡ flag → IsSoundLink s' o.name (kind_offered o)
+  offer_sound o sound true says =
+      rw says (frame_cores s s' number (record { from = w; to = b; body = hello_body hello }) step.step o.name (sound.core says))
+  offer_sound o sound false says =
+      rw says (frame_softs s s' number (record { from = w; to = b; body = hello_body hello }) step.step o.name (sound.soft says))
+
+  -- each link that a Hello brings is to such a node as the Hello says
+  pub hello_links : AddsSoundLinks s' step.step.before step.step.after
+  hello_links t kind now =
+      elim (step.new t kind now) [
+        | inl old ↦ inl old
+        | inr comes ↦
+            let way = taken_under_way s s' number (record { from = w; to = b; body = hello_body hello }) step.step.sent step.step.taken in
+            let sound = soft.hellos w b hello way comes.offered comes.offers in
+            inr (rw (comes.kind_is, ← comes.name) (offer_sound comes.offered sound comes.offered.settled refl))
+      ]
+
 pub hello_soft : (s s' : System) (number : ℕ) (w b : List ℕ) (hello : HelloFields) → TakesHello s s' number w b hello → NamesSoft s
     → NamesSoft s'
 hello_soft s s' number w b hello step soft =
-    frame_soft s s' number frame step.step new (rw step.answers (one_sound s' b (message w (Heard hello.session)) tt)) soft
+    frame_soft s s' number (record { from = w; to = b; body = hello_body hello }) step.step (hello_links s s' number w b hello step soft)
+    (rw step.answers (one_sound s' b (message w (Heard hello.session)) tt)) soft
+
+-- a pin that a Release settles is on its sender, which is core
+pub release_links : (s s' : System) (number : ℕ) (t x : List ℕ) (step : TakesRelease s s' number t x) → NamesSoft s
+    → AddsSoundLinks s' step.step.before step.step.after
+release_links s s' number t x step soft u kind now =
+    elim (step.others u) [
+      | inr same ↦ inl (sym same ∙ now)
+      | inl here ↦
+          let mine : link_to step.step.after t ≡ Some kind = sym (ap (λ v. link_to step.step.after v) here) ∙ now in
+          elim step.released [
+            | inl same ↦ inl (rw here (sym same ∙ mine))
+            | inr settles ↦
+                elim settles.1 [
+                  | inl settled ↦ let kind_is : kind ≡ Settled = cc in inr (rw (kind_is, here) core)
+                  | inr dropped ↦ let none = dropped.0 in let no : None ≡ Some kind = sym none ∙ mine in cc
+                ]
+          ]
+    ]
   where
-    frame : Frame
-    frame = record { from = w; to = b; body = hello_body hello }
-
-    by : (o : Offered) → IsSoundOffer s b o → (flag : _) → o.settled ≡ flag → IsSoundLink s' o.name (kind_offered o)
-    by o sound true says = rw says (frame_cores s s' number frame step.step o.name (sound.core says))
-    by o sound false says = rw says (frame_softs s s' number frame step.step o.name (sound.soft says))
-
-    new : (t : List ℕ) (kind : Kind) → link_to step.step.after t ≡ Some kind
-        → (link_to step.step.before t ≡ Some kind) ⊎ IsSoundLink s' t kind
-    new t kind now =
-        elim (step.new t kind now) [
-          | inl old ↦ inl old
-          | inr comes ↦
-              let way = taken_under_way s s' number frame step.step.sent step.step.taken in
-              let sound = soft.hellos w b hello way comes.offered comes.offers in
-              inr (rw (comes.kind_is, ← comes.name) (by comes.offered sound comes.offered.settled refl))
-        ]
+    core : IsCoreNode s' t
+    core =
+        frame_cores s s' number (record { from = t; to = x; body = Release }) step.step t (release_core s s' number t x step soft)
 
 pub release_soft : (s s' : System) (number : ℕ) (t x : List ℕ) → TakesRelease s s' number t x → NamesSoft s → NamesSoft s'
 release_soft s s' number t x step soft =
-    frame_soft s s' number frame step.step new (rw step.silent (λ m none. absurd none)) soft
-  where
-    frame : Frame
-    frame = record { from = t; to = x; body = Release }
+    frame_soft s s' number (record { from = t; to = x; body = Release }) step.step (release_links s s' number t x step soft)
+    (rw step.silent (λ m none. absurd none)) soft
 
-    core : IsCoreNode s' t
-    core = frame_cores s s' number frame step.step t (release_core s s' number t x step soft)
-
-    new : (u : List ℕ) (kind : Kind) → link_to step.step.after u ≡ Some kind
-        → (link_to step.step.before u ≡ Some kind) ⊎ IsSoundLink s' u kind
-    new u kind now =
-        elim (step.others u) [
-          | inr same ↦ inl (sym same ∙ now)
-          | inl here ↦
-              let mine : link_to step.step.after t ≡ Some kind = sym (ap (λ v. link_to step.step.after v) here) ∙ now in
-              elim step.released [
-                | inl same ↦ inl (rw here (sym same ∙ mine))
-                | inr settles ↦
-                    elim settles.1 [
-                      | inl settled ↦ let kind_is : kind ≡ Settled = cc in inr (rw (kind_is, here) core)
-                      | inr dropped ↦ let none = dropped.0 in let no : None ≡ Some kind = sym none ∙ mine in cc
-                    ]
-              ]
-        ]
+-- a Forget brings no link
+pub forget_links : (s s' : System) (number : ℕ) (n x : List ℕ) (step : TakesForget s s' number n x)
+    → AddsSoundLinks s' step.step.before step.step.after
+forget_links s s' number n x step u kind now =
+    elim (step.others u) [
+      | inr same ↦ inl (sym same ∙ now)
+      | inl here ↦
+          let mine : link_to step.step.after n ≡ Some kind = sym (ap (λ v. link_to step.step.after v) here) ∙ now in
+          elim step.forgotten [
+            | inl same ↦ inl (rw here (sym same ∙ mine))
+            | inr gone ↦ let none = gone.1 in let no : None ≡ Some kind = sym none ∙ mine in cc
+          ]
+    ]
 
 pub forget_soft : (s s' : System) (number : ℕ) (n x : List ℕ) → TakesForget s s' number n x → NamesSoft s → NamesSoft s'
 forget_soft s s' number n x step soft =
-    frame_soft s s' number (record { from = n; to = x; body = Forget }) step.step new (rw step.silent (λ m none. absurd none)) soft
-  where
-    new : (u : List ℕ) (kind : Kind) → link_to step.step.after u ≡ Some kind
-        → (link_to step.step.before u ≡ Some kind) ⊎ IsSoundLink s' u kind
-    new u kind now =
-        elim (step.others u) [
-          | inr same ↦ inl (sym same ∙ now)
-          | inl here ↦
-              let mine : link_to step.step.after n ≡ Some kind = sym (ap (λ v. link_to step.step.after v) here) ∙ now in
-              elim step.forgotten [
-                | inl same ↦ inl (rw here (sym same ∙ mine))
-                | inr gone ↦ let none = gone.1 in let no : None ≡ Some kind = sym none ∙ mine in cc
-              ]
-        ]
+    frame_soft s s' number (record { from = n; to = x; body = Forget }) step.step (forget_links s s' number n x step)
+    (rw step.silent (λ m none. absurd none)) soft

@@ -1,4 +1,5 @@
-use Rattle.tap_moves.proofs.CalmMoves.{frame_deeper, frame_peaceful, frame_seeks}
+use Rattle.tap_moves.proofs.CalmMoves.{frame_peaceful, frame_seeks}
+use Rattle.tap_moves.proofs.DeeperMoves.{frame_deeper}
 use Rattle.tap_moves.proofs.law.calm_from_invariant.Goals as goal
 
 pub returns-clause-seeks : goal.returns-clause-seeks

@@ -1,4 +1,5 @@
 use Rattle.tap_moves.proofs.SessionMoves.{frame_awaits, frame_core, frame_places, frame_steps, outside_books}
+use Rattle.tap_moves.proofs.CountMoves.{frame_counts}
 use Rattle.tap_moves.proofs.law.sessions_from_invariant.Goals as goal
 
 pub returns-clause-steps : goal.returns-clause-steps
@@ -12,6 +13,9 @@ returns-clause-places c = frame_places
 
 pub returns-clause-core : goal.returns-clause-core
 returns-clause-core c = frame_core
+
+pub returns-clause-counts : goal.returns-clause-counts
+returns-clause-counts c = frame_counts
 
 pub returns-clause-outside : goal.returns-clause-outside
 returns-clause-outside c = outside_books
