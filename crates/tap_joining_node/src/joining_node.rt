@@ -1,4 +1,4 @@
-ghost use Rattle.std.specs.Prelude.{◌≡◌, ◌≢◌, ◌+◌, ◌<◌, ◌≤◌, true, false, [], ◌∷◌, ◌++◌, length, All, IfOk, OnOk};
+ghost use Rattle.std.specs.Prelude.{◌≡◌, ◌≢◌, ◌+◌, ◌<◌, ◌≤◌, true, false, [], ◌∷◌, ◌++◌, length, IfOk, OnOk};
 ghost use Rattle.tap_name.specs.Name.{IsName};
 ghost use Rattle.tap_session.specs.Session.{most_sessions};
 ghost use Rattle.tap_session.specs.Sessions.{opened_with};
@@ -16,7 +16,7 @@ ghost use Rattle.tap_rule.specs.Reaction.{message};
 ghost use Rattle.tap_wire.specs.Spelling.{AreLinks};
 ghost use Rattle.tap_wire.specs.declared.frame.Body.TheVariants as bodies;
 ghost use Rattle.tap_step.specs.Sender.{message_bytes, sender_of};
-ghost use Rattle.tap_step.specs.Sound.{HaveParents, IsParent, MayTake};
+ghost use Rattle.tap_step.specs.Sound.{HaveParents, MayTake};
 ghost use Rattle.tap_step.specs.States.{ended_state};
 ghost use Rattle.tap_joining_node.specs.State.{core_joined, joining_state};
 ghost use Rattle.tap_step.specs.Step.{FollowsAs, StepsAs};

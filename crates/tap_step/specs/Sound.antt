@@ -48,6 +48,7 @@ knows_pairs Leaving = true
 knows_pairs Gone = false
 knows_pairs Ceased = false
 
+-- a node that keeps the rule's order with its pairs laid, and that knows of no more links, pairs and parents than frames can say
 pub record IsSoundNode (node : NodeState) : Type 0 where
   pub valid : IsNode node
   -- each pair is laid as wanted

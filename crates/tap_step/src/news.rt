@@ -24,7 +24,8 @@ pub enum News {
         cast: u32,
         /// Whether this is the first copy that the node has met.
         reached: bool,
-        /// Whether all nodes of the cast have it, and have said so.
+        /// Whether the cast ended at the node that began it: the last answer came, or nobody was to be
+        /// asked.
         closed: bool,
     },
 }
