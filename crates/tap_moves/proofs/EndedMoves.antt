@@ -22,7 +22,7 @@ use Rattle.tap_rule.proofs.CarriedOut.{frame_law}
 use Rattle.tap_rule.proofs.CoverSteps.{seek_law, tell_law}
 use Rattle.tap_rule.proofs.JoinSteps.{done_law, hello_law, meet_law}
 use Rattle.tap_rule.proofs.LinkSteps.{forget_law, release_law}
-use Rattle.tap_safety.specs.Bookkeeping.{EndedHaveNone}
+use Rattle.tap_safety.specs.Bookkeeping.{EndedHaveNoLinks}
 use Rattle.tap_safety.specs.Frames.{tell_body}
 use Rattle.tap_safety.specs.System.{System}
 use Rattle.tap_safety.specs.Ties.{status_of}
@@ -54,7 +54,7 @@ module _ (p : SettingsValue) (s : System) (number : ℕ) (node : NodeState) (fro
   ends_bare : (body : Body) → IsDelivery p s number node from body
       → ((t : List ℕ) (kind : Kind) → link_to (taken_at node from body).state t ≡ Some kind
       → ((taken_at node from body).state.status ≡ Gone → ⊥) × ((taken_at node from body).state.status ≡ Ceased → ⊥))
-      → EndedHaveNone after
+      → EndedHaveNoLinks after
   ends_bare body is none =
       let frame = frame_to node from body in
       let step = delivers p s number frame node (found number frame 0 s.frames s.next is.invariant.numbered.numbers is.among) is.at in
@@ -62,13 +62,13 @@ module _ (p : SettingsValue) (s : System) (number : ℕ) (node : NodeState) (fro
 
   -- who goes on has not
   goes_on : (body : Body) → IsDelivery p s number node from body → (taken_at node from body).state.status ≡ node.status
-      → (node.status ≡ Joining) ⊎ (node.status ≡ Core) → EndedHaveNone after
+      → (node.status ≡ Joining) ⊎ (node.status ≡ Core) → EndedHaveNoLinks after
   goes_on body is same at =
       ends_bare body is (λ t kind link. lives_on (taken_at node from body).state.status node.status same at)
 
   -- who stays what it is has no link that it had not
   stays_so : (body : Body) → IsDelivery p s number node from body → (taken_at node from body).state.status ≡ node.status
-      → (taken_at node from body).state.ties.table ≡ node.ties.table → EndedHaveNone after
+      → (taken_at node from body).state.ties.table ≡ node.ties.table → EndedHaveNoLinks after
   unfolding status_of
   stays_so body is same table =
       ends_bare body is (λ t kind link.
@@ -78,12 +78,12 @@ module _ (p : SettingsValue) (s : System) (number : ℕ) (node : NodeState) (fro
         λ ceased. never.1 (rw is.at (ap Some (sym same ∙ ceased))),
       ))
 
-  plain_ended : (body : Body) → IsDelivery p s number node from body → IsPlain node body → EndedHaveNone after
+  plain_ended : (body : Body) → IsDelivery p s number node from body → IsPlain node body → EndedHaveNoLinks after
   plain_ended body is plain =
       let alike = plain_alike node from body is.known plain in stays_so body is alike.status alike.table
 
   tell_ended : (tell : TellFields) (watch : List Slot) → IsDelivery p s number node from (tell_body tell watch)
-      → (node.status ≡ Core) ⊎ ((node.status ≡ Joining) ⊎ (node.status ≡ Ceased)) → EndedHaveNone after
+      → (node.status ≡ Core) ⊎ ((node.status ≡ Joining) ⊎ (node.status ≡ Ceased)) → EndedHaveNoLinks after
   unfolding frame_at_ceased
   tell_ended tell watch is (inl at) =
       let ties = (due p s number node from (tell_body tell watch) is).is_node.ties in
@@ -103,7 +103,7 @@ module _ (p : SettingsValue) (s : System) (number : ℕ) (node : NodeState) (fro
   seated_status joiner acted prefix step = step.status
 
   seek_ended : (joiner : List ℕ) → IsDelivery p s number node from (Seek joiner) → node.status ≡ Core → (to : Sought)
-      → sought node.ties.table joiner ≡ to → EndedHaveNone after
+      → sought node.ties.table joiner ≡ to → EndedHaveNoLinks after
   seek_ended joiner is at (Forward next) to = plain_ended (Seek joiner) is (next, to)
   seek_ended joiner is at (Surrogate prefix) to =
       let seeker = is.invariant.seekers.seeks from (name_of node) joiner (way p s number node from (Seek joiner) is) in

@@ -14,7 +14,7 @@ use Rattle.tap_rule.specs.Node.{NodeState, level_of, name_of}
 use Rattle.tap_rule.specs.Node.Status.{Ceased as HasCeased, Core, Joining}
 use Rattle.tap_rule.specs.QuietSteps.{IsQuiet}
 use Rattle.tap_rule.specs.Strange.{is_strange}
-use Rattle.tap_safety.specs.Bookkeeping.{EndedHaveNone, has_table}
+use Rattle.tap_safety.specs.Bookkeeping.{EndedHaveNoLinks, has_table}
 use Rattle.tap_safety.specs.Filled.{AreFilled}
 use Rattle.tap_safety.specs.Invariant.{Invariant}
 use Rattle.tap_safety.specs.Move.{Move, may_move, may_start}
@@ -64,7 +64,7 @@ FrameFills = (p : SettingsValue) (s : System) (number : ℕ) (node : NodeState) 
 -- a node that has ended has no link after it
 abbrev pub FrameEnded : Type 0
 FrameEnded = (p : SettingsValue) (s : System) (number : ℕ) (node : NodeState) (from : List ℕ) (body : Body)
-    → IsDelivery p s number node from body → IsFilledThere node body → EndedHaveNone (after_delivery p s number)
+    → IsDelivery p s number node from body → IsFilledThere node body → EndedHaveNoLinks (after_delivery p s number)
 
 -- a Link, at a node that hears words
 abbrev pub LinkTies : Type 0

@@ -69,7 +69,7 @@ pub record AreStamped (s : System) : Type 0 where
       → s.last x t ≡ Some word → word.version ≤ state.stamp
 
 -- a node that has ended has no link
-pub record EndedHaveNone (s : System) : Type 0 where
+pub record EndedHaveNoLinks (s : System) : Type 0 where
   pub none : (x t : List ℕ) (kind : Kind) → HasLink s x t kind → (status_of s x ≡ Some Gone → ⊥) × (status_of s x ≡ Some Ceased → ⊥)
 
 -- some node is core

@@ -11,7 +11,7 @@ use Rattle.tap_safety.specs.Tells.{TellsAreSound}
 use Rattle.tap_safety.specs.Filled.{AreFilled}
 use Rattle.tap_safety.specs.Ceased.{Ceased}
 use Rattle.tap_safety.specs.Ties.{Ties, Versions}
-use Rattle.tap_safety.specs.Bookkeeping.{AreStamped, Await, EndedHaveNone, HasCore, HaveEnds, HaveNames, HavePlaces, TellsAreDeeper}
+use Rattle.tap_safety.specs.Bookkeeping.{AreStamped, Await, EndedHaveNoLinks, HasCore, HaveEnds, HaveNames, HavePlaces, TellsAreDeeper}
 use Rattle.tap_safety.specs.Counted.{AreCountedSo}
 use Rattle.tap_safety.specs.Departing.{Departure}
 use Rattle.tap_safety.specs.Notices.{Notices}
@@ -42,7 +42,7 @@ pub record Invariant (p : SettingsValue) (s : System) : Type 0 where
   pub ends : HaveEnds s
   pub versions : Versions s
   pub stamped : AreStamped s
-  pub ended : EndedHaveNone s
+  pub ended : EndedHaveNoLinks s
   pub has_core : HasCore s
   pub numbered : AreNumbered s
   -- names and spellings

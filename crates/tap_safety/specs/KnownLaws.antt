@@ -9,7 +9,7 @@ use Rattle.tap_rule.specs.Node.{NodeState, link_to}
 use Rattle.tap_rule.specs.Node.Status.{Ceased, Gone}
 use Rattle.tap_rule.specs.Sent.{IsAmong}
 use Rattle.tap_safety.specs.System.{System, IsCoreNode}
-use Rattle.tap_safety.specs.Bookkeeping.{AreStamped, EndedHaveNone, HasCore, HaveEnds, HaveNames, has_table}
+use Rattle.tap_safety.specs.Bookkeeping.{AreStamped, EndedHaveNoLinks, HasCore, HaveEnds, HaveNames, has_table}
 use Rattle.tap_safety.specs.Departing.{Departure}
 use Rattle.tap_safety.specs.FrameSteps.{TakesFrame}
 use Rattle.tap_safety.specs.Move.Move.{Delivers}
@@ -77,7 +77,7 @@ CoreKept = (s s' : System) (x : List ℕ) (after : NodeState) (sent : List Frame
 abbrev pub EndedKept : Type 0
 EndedKept = (s s' : System) (x : List ℕ) (after : NodeState) (sent : List Frame) → HasDone s s' x after sent
     → ((t : List ℕ) (kind : Kind) → link_to after t ≡ Some kind → (after.status ≡ Gone → ⊥) × (after.status ≡ Ceased → ⊥))
-    → EndedHaveNone s → EndedHaveNone s'
+    → EndedHaveNoLinks s → EndedHaveNoLinks s'
 
 -- ---- stamps
 
