@@ -1,0 +1,77 @@
+-- Sums of the counts before a place, and what one more or one less makes of them.
+use Rattle.std.proofs.Common.{◌≡◌, ℕ, zero, suc, ◌+◌, ◌-◌, ◌<◌, ◌≤◌, max, List, [], ◌∷◌, ◌++◌, length, take, get_or, set, refl, ap, arith}
+use Rattle.std.specs.List.{sum}
+use Rattle.std.proofs.lemmas.List.Sums.{sum_by-cons, sum_by-take-le}
+use Rattle.tap_outstanding.specs.Levels.{sum_before, raised}
+
+-- 1 if a place stands before another, else 0
+abbrev pub below : ℕ → ℕ → ℕ
+below at zero = 0
+below zero (suc i) = 1
+below (suc at) (suc i) = below at i
+
+pub below-lt : (at i : ℕ) → at < i → below at i ≡ 1
+below-lt at zero lt = absurd (omega arith)
+below-lt zero (suc i) lt = refl
+below-lt (suc at) (suc i) lt = below-lt at i (omega arith)
+
+pub below-ge : (at i : ℕ) → i ≤ at → below at i ≡ 0
+below-ge at zero le = refl
+below-ge zero (suc i) le = absurd (omega arith)
+below-ge (suc at) (suc i) le = below-ge at i (omega arith)
+
+pub sum-cons : (x : ℕ) (xs : List ℕ) → sum (x ∷ xs) ≡ x + sum xs
+sum-cons x xs = sum_by-cons (λ y. y) x xs
+
+pub sum-nothing : (i : ℕ) → sum_before [] i ≡ 0
+sum-nothing i = let none = sum_by-take-le (λ (y : ℕ). y) [] i in omega (arith, none)
+
+pub sum-monotone : (xs : List ℕ) (i j : ℕ) → i ≤ j → sum_before xs i ≤ sum_before xs j
+sum-monotone [] i j le = omega (arith, sum-nothing i, sum-nothing j)
+sum-monotone (x ∷ xs) zero j le = omega arith
+sum-monotone (x ∷ xs) (suc i) zero le = absurd (omega arith)
+sum-monotone (x ∷ xs) (suc i) (suc j) le =
+    omega (arith, sum-monotone xs i j (omega arith), sum-cons x (take i xs), sum-cons x (take j xs))
+
+pub sum-all : (xs : List ℕ) (i : ℕ) → length xs ≤ i → sum_before xs i ≡ sum xs
+sum-all [] i le = sum-nothing i
+sum-all (x ∷ xs) zero le = absurd (omega arith)
+sum-all (x ∷ xs) (suc i) le = omega (arith, sum-all xs i (omega arith), sum-cons x (take i xs), sum-cons x xs)
+
+-- one more at a place, be it the next one
+pub sum-raised : (xs : List ℕ) (at i : ℕ) → at ≤ length xs → sum_before (raised xs at) i ≡ sum_before xs i + below at i
+sum-raised [] zero zero within = refl
+sum-raised [] zero (suc i) within = omega (arith, sum-cons 1 (take i []), sum-nothing i, sum-nothing (suc i))
+sum-raised [] (suc at) i within = absurd (omega arith)
+sum-raised (x ∷ xs) zero zero within = refl
+sum-raised (x ∷ xs) zero (suc i) within = omega (arith, sum-cons (suc x) (take i xs), sum-cons x (take i xs))
+sum-raised (x ∷ xs) (suc at) zero within = refl
+sum-raised (x ∷ xs) (suc at) (suc i) within =
+    omega (arith, sum-raised xs at i (omega arith), sum-cons x (take i (raised xs at)), sum-cons x (take i xs))
+
+pub length-raised : (xs : List ℕ) (at : ℕ) → at ≤ length xs → length (raised xs at) ≡ max (length xs) (at + 1)
+length-raised [] zero within = refl
+length-raised [] (suc at) within = absurd (omega arith)
+length-raised (x ∷ xs) zero within = omega arith
+length-raised (x ∷ xs) (suc at) within = omega (arith, length-raised xs at (omega arith))
+
+pub set-raised : (xs : List ℕ) (at v : ℕ) → at < length xs → v ≡ get_or xs at v → set xs at (v + 1) ≡ raised xs at
+set-raised [] at v within is = absurd (omega arith)
+set-raised (x ∷ xs) zero v within is = let e : v + 1 ≡ suc x = omega arith in ap (λ n. n ∷ xs) e
+set-raised (x ∷ xs) (suc at) v within is = ap (λ rest. x ∷ rest) (set-raised xs at v (omega arith) is)
+
+pub push-raised : (xs : List ℕ) (at : ℕ) → at ≡ length xs → xs ++ 1 ∷ [] ≡ raised xs at
+push-raised [] zero end = refl
+push-raised [] (suc at) end = refl
+push-raised (x ∷ xs) zero end = absurd (omega arith)
+push-raised (x ∷ xs) (suc at) end = ap (λ rest. x ∷ rest) (push-raised xs at (omega arith))
+
+-- one less at a place
+pub sum-lowered : (xs : List ℕ) (at i : ℕ) → at < length xs → 1 ≤ get_or xs at 0
+    → sum_before (set xs at (get_or xs at 0 - 1)) i + below at i ≡ sum_before xs i
+sum-lowered [] at i within some = absurd (omega arith)
+sum-lowered (x ∷ xs) zero zero within some = refl
+sum-lowered (x ∷ xs) zero (suc i) within some = omega (arith, sum-cons (x - 1) (take i xs), sum-cons x (take i xs))
+sum-lowered (x ∷ xs) (suc at) zero within some = refl
+sum-lowered (x ∷ xs) (suc at) (suc i) within some =
+    omega (arith, sum-lowered xs at i (omega arith) some, sum-cons x (take i (set xs at (get_or xs at 0 - 1))), sum-cons x (take i xs))

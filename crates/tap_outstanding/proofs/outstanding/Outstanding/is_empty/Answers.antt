@@ -1,0 +1,9 @@
+use Rattle.std.proofs.Common.{ℕ, ◌==◌, ap}
+use Rattle.tap_outstanding.proofs.Kept.{kept-count}
+use Rattle.tap_outstanding.proofs.outstanding.Outstanding.is_empty.Goals as goal
+
+pub returns : goal.returns
+returns c =
+    rw (← c.self.view_is)
+    (ap (λ (n : ℕ). n == 0)
+    (kept-count c.self.inside.records c.self.inside.levels c.self.inside.count c.self.inside.room c.self.invariant))

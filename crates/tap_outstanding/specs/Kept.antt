@@ -1,0 +1,13 @@
+-- What the fields keep of the frames that are outstanding.
+use Rattle.std.specs.Prelude.{◌≡◌, ℕ, ◌+◌, ◌≤◌, List, length, sum, vec_len, vec_capacity}
+use Rattle.std.specs.declared.vec.Vec.{Vec}
+use Rattle.tap_outstanding.specs.Levels.{IsTower, HaveRoom, level}
+
+-- there is a mark for the record of each frame that was sent, the marks of those that are outstanding are counted, and there is
+-- room for so many more frames
+pub record IsKept {A : Type 0} (records : Vec ℕ A) (levels : List (Vec ℕ A)) (count room : ℕ) : Type 0 where
+  pub tower : IsTower levels
+  pub size : length (level levels 0) ≡ vec_len records
+  pub counted : count ≡ sum (level levels 0)
+  pub spare : vec_len records + room ≤ vec_capacity records
+  pub spares : HaveRoom levels room

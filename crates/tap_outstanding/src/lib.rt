@@ -1,0 +1,13 @@
+//! Which frames are outstanding: sent, and not yet taken.
+//!
+//! Frames are numbered in the order in which they are sent, and each is taken at most once. One that is
+//! outstanding is found by its place among those that are, 0 being the oldest, and each keeps where the
+//! record of its sending stands. Each call takes time that grows with the logarithm of how many were sent.
+#![tactic(auto)]
+
+mod levels;
+mod memory;
+mod outstanding;
+
+pub use memory::NoMemory;
+pub use outstanding::{Flight, MOST_SENT, Outstanding};

@@ -1,0 +1,257 @@
+ghost use Rattle.std.specs.Prelude.{◌≡◌, ◌==◌, ◌+◌, ◌-◌, ◌<◌, ◌≤◌, max, [], length, slice_get, if◌then◌else◌, IfOk, OnOk, OnErr, Some, None};
+ghost use Rattle.tap_outstanding.specs.Outstanding.{AreOutstanding, most_sent, place_of_number, sent_with, taken_at};
+
+use crate::levels;
+use crate::memory::NoMemory;
+use std::alloc::Global;
+use std::marker::Model;
+
+/// How many frames may be sent.
+///
+/// Rule: docs/PROTOCOL.md, "Limits".
+pub const MOST_SENT: u32 = 4_000_000_000;
+
+/// A frame that is outstanding.
+///
+/// Rule: docs/FORMATS.md, "Groups and moments".
+#[derive(Clone, Copy, Debug, PartialEq, Eq)]
+pub struct Flight {
+    /// The number of the frame: how many were sent before it.
+    pub number: u32,
+    /// Where the record of its sending stands, as it was given.
+    pub record_place: usize,
+}
+
+/// The frames that were sent and not yet taken.
+///
+/// Contracts see how many were sent, the outstanding ones in the order in which they were sent, and for
+/// how many more there is room.
+///
+/// The place of each frame's record is kept by the frame's number. Beside it lie marks, 1 for a frame
+/// that is outstanding and 0 for one that was taken, and above them sums of sixteen, sums of these, and
+/// so on. A call goes through the levels once, and through at most sixteen counts of each. Nothing is
+/// moved, and some 12 bytes are kept for each frame that was sent.
+///
+/// Rule: docs/FORMATS.md, "Groups and moments".
+#[derive(Drop)]
+pub struct Outstanding {
+    records: Vec<usize>,
+    levels: [Vec<u32>; 8],
+    count: u32,
+    room: usize,
+}
+
+impl Model for Outstanding {
+    ghost use Rattle.std.specs.Prelude.{vec_len};
+    ghost use Rattle.tap_outstanding.specs.Kept.{IsKept};
+    ghost use Rattle.tap_outstanding.specs.Levels.{level};
+    ghost use Rattle.tap_outstanding.specs.Outstanding.{OutstandingValue, flights_from};
+
+    ghost Value = { OutstandingValue };
+
+    ghost view = { λ o. record { sent = vec_len o.records; frames = flights_from 0 o.records.items (level o.levels 0); room = o.room } };
+
+    ghost invariant = { λ o. IsKept o.records o.levels o.count o.room };
+}
+
+impl Outstanding {
+    /// None sent. This takes no memory; later calls take it of `alloc`.
+    pub fn new(alloc: Global) -> Outstanding
+        ensures { result ≡ record { sent = 0; frames = []; room = 0 } }
+    {
+        Outstanding {
+            records: Vec::new(alloc),
+            levels: [
+                Vec::new(alloc),
+                Vec::new(alloc),
+                Vec::new(alloc),
+                Vec::new(alloc),
+                Vec::new(alloc),
+                Vec::new(alloc),
+                Vec::new(alloc),
+                Vec::new(alloc),
+            ],
+            count: 0,
+            room: 0,
+        }
+    }
+
+    /// How many frames were sent, which is the number of the next one.
+    pub fn sent(&self) -> u32
+        ensures count { result ≡ self.now.sent }
+        ensures most { result ≤ most_sent }
+    {
+        self.records.len() as u32
+    }
+
+    /// How many frames are outstanding.
+    pub fn len(&self) -> u32
+        ensures count { result ≡ length self.now.frames }
+        ensures outstanding { AreOutstanding self.now }
+    {
+        self.count
+    }
+
+    /// Whether none is outstanding.
+    pub fn is_empty(&self) -> bool
+        ensures { result ≡ (length self.now.frames == 0) }
+    {
+        self.count == 0
+    }
+
+    /// Makes room for so many more frames, so that sending them takes no memory. A refused call changes
+    /// nothing.
+    pub fn reserve(&mut self, frames: u32) -> Result<(), NoMemory>
+        ensures sent { self.new.sent ≡ self.old.sent }
+        ensures frames { self.new.frames ≡ self.old.frames }
+        ensures ok { OnOk result (self.new.room ≡ max self.old.room frames) }
+        ensures err { OnErr result (self.new ≡ self.old) }
+    {
+        let more = frames as usize;
+        if self.room < more {
+            self.records.reserve(more)?;
+            levels::reserve(&mut self.levels, more)?;
+            self.room = more;
+        }
+        Ok(())
+    }
+
+    /// Sends a frame whose record stands at this place, and gives its number. A refused call changes
+    /// nothing.
+    pub fn send(&mut self, record_place: usize) -> Result<u32, NoMemory>
+        requires { self.old.sent < most_sent }
+        ensures number { IfOk result (λ number. number ≡ self.old.sent) }
+        ensures after { OnOk result (self.new ≡ sent_with self.old record_place) }
+        ensures err { OnErr result (self.new ≡ self.old) }
+    {
+        self.reserve(1)?;
+        Ok(self.send_reserved(record_place))
+    }
+
+    /// Sends a frame for which there is room, and gives its number. It takes no memory.
+    pub fn send_reserved(&mut self, record_place: usize) -> u32
+        requires few { self.old.sent < most_sent }
+        requires room { 1 ≤ self.old.room }
+        ensures number { result ≡ self.old.sent }
+        ensures after { self.new ≡ sent_with self.old record_place }
+    {
+        let number = self.records.len();
+        levels::raise(&mut self.levels, number);
+        self.records.push_reserved(record_place);
+        self.count += 1;
+        self.room -= 1;
+        number as u32
+    }
+
+    /// The outstanding frame at a place, from 0 for the oldest, and `None` exactly if the place is at or
+    /// above their number.
+    pub fn frame_at(&self, place: u32) -> Option<Flight>
+        ensures { result ≡ slice_get self.now.frames place }
+    {
+        if place < self.count {
+            let number = levels::find(&self.levels, place);
+            Some(Flight {
+                number: number as u32,
+                record_place: self.records[number],
+            })
+        } else {
+            None
+        }
+    }
+
+    /// The place of the outstanding frame that was sent last, and `None` exactly if none is outstanding.
+    pub fn newest(&self) -> Option<u32>
+        ensures { result ≡ (if length self.now.frames == 0 then None else Some (length self.now.frames - 1)) }
+    {
+        self.count.checked_sub(1)
+    }
+
+    /// The place of the frame with this number, and `None` exactly if that frame isn't outstanding.
+    pub fn place_of(&self, number: u32) -> Option<u32>
+        ensures { result ≡ place_of_number self.now.frames number }
+    {
+        let number = number as usize;
+        if levels::is_marked(&self.levels, number) {
+            Some(levels::rank(&self.levels, number))
+        } else {
+            None
+        }
+    }
+
+    /// Takes the frame at a place; the order of the others stays. `None` comes exactly if the place is at
+    /// or above their number, and then nothing changes.
+    pub fn take(&mut self, place: u32) -> Option<Flight>
+        ensures frame { result ≡ slice_get self.old.frames place }
+        ensures after { self.new ≡ taken_at self.old place }
+    {
+        if place >= self.count {
+            return None;
+        }
+        let number = levels::find(&self.levels, place);
+        levels::lower(&mut self.levels, number);
+        self.count -= 1;
+        let record_place = self.records[number];
+        Some(Flight {
+            number: number as u32,
+            record_place,
+        })
+    }
+}
+
+#[cfg(test)]
+mod tests {
+    use super::*;
+    use std::test::Fail;
+
+    // Takes frames from the middle, the front and the end, over more than two levels.
+    #[test]
+    fn places_follow_what_is_taken(rt: HostRuntime) -> Result<(), Fail> {
+        let mut outstanding = Outstanding::new(rt.alloc());
+        assert!(rt; outstanding.is_empty());
+        assert_eq!(rt; outstanding.newest(), None);
+        outstanding.reserve(2)?;
+        assert_eq!(rt; outstanding.send_reserved(7), 0);
+        send_until(&mut outstanding, 600)?;
+        assert_eq!(rt; outstanding.sent(), 600);
+        for (place, number) in [
+            (300, 300),
+            (300, 301),
+            (0, 0),
+            (596, 599),
+            (255, 256),
+            (255, 257),
+            (593, 598),
+        ] {
+            let flight = Flight {
+                number,
+                record_place: record_of(number),
+            };
+            assert_eq!(rt; outstanding.frame_at(place), Some(flight));
+            assert_eq!(rt; outstanding.place_of(number), Some(place));
+            assert_eq!(rt; outstanding.take(place), Some(flight));
+            assert_eq!(rt; outstanding.place_of(number), None);
+        }
+        assert_eq!(rt; outstanding.len(), 593);
+        assert_eq!(rt; outstanding.newest(), Some(592));
+        assert_eq!(rt; outstanding.take(593), None);
+        assert_eq!(rt; outstanding.place_of(597), Some(592));
+        assert_eq!(rt; outstanding.place_of(600), None);
+        assert!(rt; !outstanding.is_empty());
+        Ok(())
+    }
+
+    // Where the record of a frame stands, by its number.
+    fn record_of(number: u32) -> usize {
+        7 + 2 * number as usize
+    }
+
+    // Sends frames until so many were sent.
+    fn send_until(outstanding: &mut Outstanding, end: u32) -> Result<(), NoMemory> {
+        for number in outstanding.sent()..end {
+            if outstanding.sent() < MOST_SENT {
+                let _ = outstanding.send(record_of(number))?;
+            }
+        }
+        Ok(())
+    }
+}
