@@ -1,0 +1,15 @@
+pub mod CoverSent
+pub mod CoverSound
+pub mod CoverPeace
+pub mod CoverMoves
+pub mod Silent
+pub mod Freed
+pub mod LinkEnds
+pub mod AsBefore
+pub mod WordsAnew
+pub mod WordMoves
+pub mod Stamped
+pub mod StampMoves
+pub mod GivenUp
+pub mod GivenUpWords
+pub mod Starts

@@ -1,0 +1,4 @@
+pub mod CoverMoves
+pub mod WordMoves
+pub mod GivenUp
+pub mod Starts
