@@ -1,0 +1,12 @@
+pub mod LeavesJoins
+pub mod SentFor
+pub mod JoinMoves
+pub mod StartMoves
+pub mod Depths
+pub mod FewMoves
+pub mod PinsRule
+pub mod Receivers
+pub mod RulesSend
+pub mod StepSends
+pub mod EndMoves
+pub mod NoticeMoves

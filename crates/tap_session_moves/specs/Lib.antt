@@ -1,0 +1,4 @@
+pub mod JoinMoves
+pub mod FewMoves
+pub mod PinsRule
+pub mod EndMoves
