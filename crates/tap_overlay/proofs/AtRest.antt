@@ -1,0 +1,84 @@
+-- Members at rest under their names, as a loop makes them.
+use Rattle.std.proofs.Common.{◌≡◌, inl, inr, ℕ, ◌+◌, ◌<◌, Bool, cond, true, false, List, [], ◌∷◌, ◌++◌, length, take, get_or, Option, None, Some, refl, ap, sym, subst, ◌∙◌}
+use Rattle.std.specs.Prelude.{if◌then◌else◌, ◌||◌, bytes_eq}
+use Rattle.std.specs.BTreeMap.{BTreeMap, UpdatesBy}
+use Rattle.std.proofs.lemmas.Bool.{cases_Bool}
+use Rattle.std.proofs.lemmas.List.{take_more}
+use Rattle.std.proofs.lemmas.Map.Text.{is_eq-slice_cmp}
+use Rattle.std.proofs.lemmas.Slice.Eq.{bytes_eq-Decides}
+use Rattle.tap_name.specs.Names.{has_name}
+use Rattle.tap_name.specs.Order.{name_cmp}
+use Rattle.tap_name.specs.Settings.{SettingsValue}
+use Rattle.tap_rule.specs.Node.{member_at_rest, name_of, settings_of}
+use Rattle.tap_node.specs.Node.{NodeValue, running}
+use Rattle.tap_overlay.specs.Overlay.{HaveOwnNames, IsNodeOf, member_at, node_among}
+
+-- the member of a name as it is at rest, if it is one of those made so far
+abbrev pub made_at : SettingsValue → List (List ℕ) → List (List ℕ) → List ℕ → Option NodeValue
+made_at p members made name = if has_name made name then Some (running (member_at_rest p members name)) else None
+
+-- the members made so far are there at rest, and nobody else
+abbrev pub AreMade : SettingsValue → List (List ℕ) → List (List ℕ) → List (List ℕ × NodeValue) → Type 0
+AreMade p members made nodes = (name : List ℕ) → node_among nodes name ≡ made_at p members made name
+
+-- a name among these and one more: that one, or one of these
+has_last : (names : List (List ℕ)) (last name : List ℕ) → bytes_eq last name ≡ true → has_name (names ++ last ∷ []) name ≡ true
+has_last [] last name e = rw e refl
+has_last (x ∷ xs) last name e =
+    elim (cases_Bool (bytes_eq x name)) [ inl is ↦ rw is refl | inr not ↦ rw not (has_last xs last name e) ]
+
+has_other : (names : List (List ℕ)) (last name : List ℕ) → bytes_eq last name ≡ false
+    → has_name (names ++ last ∷ []) name ≡ has_name names name
+has_other [] last name e = rw e refl
+has_other (x ∷ xs) last name e = ap (λ (b : Bool). bytes_eq x name || b) (has_other xs last name e)
+
+-- one more member
+one_more : (p : SettingsValue) (members made : List (List ℕ)) (member : List ℕ) (before after : BTreeMap (List ℕ) NodeValue)
+    → UpdatesBy name_cmp (name_cmp member) before after (Some (running (member_at_rest p members member)))
+    → AreMade p members made before.entries → AreMade p members (made ++ member ∷ []) after.entries
+one_more p members made member before after updates so_far name =
+    let node_is : List ℕ → NodeValue = λ n. running (member_at_rest p members n) in
+    let chosen : Bool → Option NodeValue = λ b. cond b (Some (node_is member)) (node_among before.entries name) in
+    let found : node_among after.entries name ≡ chosen (bytes_eq member name) =
+    updates.0 name ∙ ap chosen (is_eq-slice_cmp member name) in
+    let there : Bool → Option NodeValue = λ b. if b then Some (node_is name) else None in
+    elim (cases_Bool (bytes_eq member name)) [
+      | inl e ↦
+          let same : member ≡ name = (bytes_eq-Decides member name).0 e in
+          found ∙ ap chosen e ∙ ap (λ (n : List ℕ). Some (node_is n)) same ∙ sym (ap there (has_last made member name e))
+      | inr e ↦ found ∙ ap chosen e ∙ so_far name ∙ sym (ap there (has_other made member name e))
+    ]
+
+-- the same by the member's place
+pub made_more : (p : SettingsValue) (members : List (List ℕ)) (i : ℕ) (member : List ℕ) (node : NodeValue)
+    (before after : BTreeMap (List ℕ) NodeValue) → i < length members → member ≡ get_or members i member
+    → node ≡ running (member_at_rest p members member)
+    → UpdatesBy name_cmp (name_cmp member) before after (Some node)
+    → AreMade p members (take i members) before.entries → AreMade p members (take (i + 1) members) after.entries
+made_more p members i member node before after within is rest updates so_far =
+    let more : take (i + 1) members ≡ take i members ++ member ∷ [] =
+    take_more members i member within ∙ ap (λ (x : List ℕ). take i members ++ x ∷ []) (sym is) in
+    let Made : List (List ℕ) → Type 0 = λ names. AreMade p members names after.entries in
+    let Updated : NodeValue → Type 0 = λ n. UpdatesBy name_cmp (name_cmp member) before after (Some n) in
+    subst Made (sym more) (one_more p members (take i members) member before after (subst Updated rest updates) so_far)
+
+-- each member has its own name
+pub rest_named : (p : SettingsValue) (members : List (List ℕ)) (nodes : List (List ℕ × NodeValue))
+    → ((name : List ℕ) → node_among nodes name ≡ member_at p members name) → HaveOwnNames p nodes
+rest_named p members nodes rest name node there = by_member (has_name members name) refl
+  where
+    member : NodeValue
+    member = running (member_at_rest p members name)
+
+    found : (is : Bool) → has_name members name ≡ is → (if is then Some member else None) ≡ Some node
+    found is e = sym (rest name ∙ ap (λ (b : Bool). if b then Some member else None) e) ∙ there
+
+    by_member : (is : Bool) → has_name members name ≡ is → IsNodeOf p name node
+    by_member false e = let wrong : None ≡ Some node = found false e in absurd (cc)
+    by_member true e =
+        let both : Some member ≡ Some node = found true e in
+        let same : member ≡ node = cc in
+        record {
+          name_is = sym (ap (λ (n : NodeValue). name_of n.state) same);
+          settings_are = sym (ap (λ (n : NodeValue). settings_of n.state) same);
+        }

@@ -1,0 +1,56 @@
+-- A node that has come and has started its join.
+use Rattle.std.proofs.Common.{◌≡◌, ℕ, List, Some, Result, Ok, Err, ap, sym, subst, ◌∙◌}
+use Rattle.std.specs.Prelude.{◌≢◌, OnErr, OnOk}
+use Rattle.std.specs.BTreeMap.{BTreeMap, UpdatesBy}
+use Rattle.tap_name.specs.Order.{name_cmp}
+use Rattle.tap_name.specs.Settings.{SettingsValue}
+use Rattle.tap_rule.specs.Node.{joiner, name_of, settings_of}
+use Rattle.tap_rule.specs.Event.Start.{Join}
+use Rattle.tap_node.specs.declared.fault.NodeFault.{NodeFault}
+use Rattle.tap_node.specs.declared.fault.NodeFault.TheVariants.{NoMemory}
+use Rattle.tap_node.specs.declared.turn.Turn.{Turn}
+use Rattle.tap_node.specs.Node.{NodeValue, running}
+use Rattle.tap_node.specs.Outcome.{AnswersAs, start_outcome, turn_made}
+use Rattle.tap_overlay.specs.Overlay.{ChangesOnly, HaveOwnNames, IsNodeOf}
+use Rattle.tap_overlay.specs.Step.{HasJoined, joined}
+use Rattle.tap_overlay.proofs.Nodes.{changes_only, own_names}
+
+-- answers that are one
+one_turn : (given : Result Turn NodeFault) (a b : Turn) → given ≡ Ok a → given ≡ Ok b → a ≡ b
+one_turn given a b first second = cc
+
+module _ (p : SettingsValue) (name via : List ℕ) (before after : BTreeMap (List ℕ) NodeValue) (node is : NodeValue)
+    (given : Result Turn NodeFault) (turn : Turn) (new : node ≡ running (joiner p name))
+    (answers : AnswersAs (start_outcome node (Join via)) node given is) (given_is : given ≡ Ok turn) where
+  -- memory wasn't refused
+  served : given ≢ Err NoMemory
+  served wrong = let never : Ok turn ≡ Err NoMemory = sym given_is ∙ wrong in absurd (cc)
+
+  turn_is : turn ≡ turn_made (joiner p name) (joined p name via)
+  turn_is =
+      one_turn given turn (turn_made (joiner p name) (joined p name via)) given_is
+      (answers.answer served ∙ ap (λ (n : NodeValue). (start_outcome n (Join via)).answer) new)
+
+  node_is : is ≡ running (joined p name via).state
+  node_is = answers.node served ∙ ap (λ (n : NodeValue). (start_outcome n (Join via)).node) new
+
+  -- it is there, its join started
+  pub has_joined : UpdatesBy name_cmp (name_cmp name) before after (Some is)
+      → HasJoined p name via before.entries after.entries turn
+  has_joined updates =
+      let Of : NodeValue → Type 0 = λ n. ChangesOnly before.entries after.entries name n in
+      record { turn_is = turn_is; changes = subst Of node_is (changes_only before after name is updates) }
+
+  named : IsNodeOf p name is
+  named = record {
+    name_is = answers.name ∙ ap (λ (n : NodeValue). name_of n.state) new;
+    settings_are = answers.settings ∙ ap (λ (n : NodeValue). settings_of n.state) new;
+  }
+
+  -- each node has its own name, whether it has come or not
+  pub inserted_named : {T E : Type 0} (inserted : Result T E) → OnOk inserted (UpdatesBy name_cmp (name_cmp name) before after (Some is))
+      → OnErr inserted (after.entries ≡ before.entries) → HaveOwnNames p before.entries → HaveOwnNames p after.entries
+  inserted_named (Ok old) updates same own =
+      own_names p before.entries after.entries name is own (changes_only before after name is updates) named
+  inserted_named (Err refused) updates same own =
+      let Own : List (List ℕ × NodeValue) → Type 0 = λ nodes. HaveOwnNames p nodes in subst Own (sym same) own

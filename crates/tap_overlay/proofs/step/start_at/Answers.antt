@@ -1,0 +1,16 @@
+use Rattle.std.proofs.Common.{sym}
+use Rattle.tap_node.specs.Node.{NodeValue}
+use Rattle.tap_node.specs.Outcome.{start_outcome}
+use Rattle.tap_overlay.specs.Start.{begun}
+use Rattle.tap_overlay.proofs.Stepped.{with_node}
+use Rattle.tap_overlay.proofs.step.start_at.Goals as goal
+
+pub start_if_room-requires : goal.start_if_room-requires
+start_if_room-requires c = c.requires c.in-Some.node.now (sym c.in-Some.ensures.value)
+
+pub returns-in-Some : goal.returns-in-Some
+returns-in-Some c =
+    let after = c.start_if_room.new.node in
+    with_node (λ (node : NodeValue). start_outcome node (begun c.args.start.now)) c.args.nodes.now (c.get_mut.follows.lender after)
+    c.args.name.now c.in-Some.node.now after c.start_if_room.result (sym c.in-Some.ensures.value) (c.get_mut.follows.holds after)
+    c.start_if_room.ensures

@@ -1,0 +1,4 @@
+pub mod Law
+pub mod Overlay
+pub mod Start
+pub mod Step
