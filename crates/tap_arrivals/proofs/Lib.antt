@@ -1,0 +1,4 @@
+pub mod Takers
+pub mod Named
+pub mod NotStrange
+pub mod Arrivals
