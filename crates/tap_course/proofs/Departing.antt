@@ -1,6 +1,6 @@
 -- Who departs is the same in the log of a course and in its system.
 use Rattle.std.proofs.Common.{◌≡◌, ◌⊎◌, inl, inr, ℕ, ◌≤◌, true, false, not, List, [], ◌∷◌, ◌++◌, length, All, Option, None, Some, refl, ap, sym, subst, ◌∙◌, arith, ltb-false}
-use Rattle.std.specs.Prelude.{◌&&◌, drop, is_some, nat_lt, if◌then◌else◌}
+use Rattle.std.specs.Prelude.{◌&&◌, drop, nat_lt, if◌then◌else◌}
 use Rattle.std.proofs.lemmas.List.Elements.{All-cons}
 use Rattle.std.specs.List.{cons_option, filter_map, last_or}
 use Rattle.std.specs.Option.{option_map}
@@ -31,7 +31,7 @@ use Rattle.tap_rule.specs.Event.Start.{Join as Joins, Abandon as GivesUp, Publis
 use Rattle.tap_rule.specs.Act.{act}
 use Rattle.tap_safety.specs.Move.{Move}
 use Rattle.tap_safety.specs.Move.Move.{Begins, Delivers}
-use Rattle.tap_safety.specs.Moved.{departing_by, departing_with, moved, numbered_frame, starter}
+use Rattle.tap_safety.specs.Moved.{delivered, departing_by, departing_with, moved, numbered_frame, received, starter}
 use Rattle.tap_safety.specs.Remembered.{Leaver}
 use Rattle.tap_safety.specs.Step.{numbered_from}
 use Rattle.tap_safety.specs.System.{System}
@@ -41,7 +41,7 @@ use Rattle.tap_course.specs.Beginning.{Beginning, begin_record}
 use Rattle.tap_course.specs.Starts.{announced, start_of_step}
 use Rattle.tap_course.specs.Acts.{acted_records}
 use Rattle.tap_course.specs.Group.{records_of_act, start_at}
-use Rattle.tap_course.specs.Course.{Follows, IsCourse, MayFollow, has_receiver, move_of_group, moved_by, system_of}
+use Rattle.tap_course.specs.Course.{Follows, IsCourse, MayFollow, move_of_group, moved_by, system_of}
 use Rattle.tap_course.specs.Observed.{counts_as_core, has_ended, is_core_node, is_joining_status}
 use Rattle.tap_course.specs.Laws.{CourseNodes, frame_numbers, is_joining_node, is_present_node}
 use Rattle.tap_course.proofs.Within.{IsIdle, IsStarting, Within, is_accepted, is_group, step_kind, step_within, taken_within}
@@ -124,11 +124,22 @@ module _ (p : SettingsValue) (s : System) (name : List ℕ) (start : Start) (nod
   unfolding moved
   departing_begun = rw begins refl
 
-received_departing : (p : SettingsValue) (s : System) (number : ℕ) (frame : Frame) (node : NodeState)
-    → numbered_frame number s.frames ≡ Some frame → s.node frame.to ≡ Some node
+-- who departs after a frame is taken, whether or not its receiver is a node
+received_departing : (p : SettingsValue) (s : System) (number : ℕ) (frame : Frame) → numbered_frame number s.frames ≡ Some frame
     → (moved p s (Delivers number)).departing ≡ departing_with (moved p s (Delivers number)).frames s.departing
 unfolding moved
-received_departing p s number frame node is at = rw (is, at) refl
+received_departing p s number frame is =
+    subst (λ f. (delivered s number f).departing ≡ departing_with (delivered s number f).frames s.departing) (sym is)
+    (by_node (s.node frame.to))
+  where
+    by_node : (node : Option NodeState)
+        → (received s number frame node).departing ≡ departing_with (received s number frame node).frames s.departing
+    by_node None = refl
+    by_node (Some node) = refl
+
+nothing_received : (p : SettingsValue) (s : System) (number : ℕ) → numbered_frame number s.frames ≡ None → moved p s (Delivers number) ≡ s
+unfolding moved
+nothing_received p s number is = rw is refl
 
 -- what starts is a departure, or has no part in one
 module _ (log : List Record) (name : List ℕ) (start : Start) where
@@ -260,31 +271,33 @@ module _ (p : SettingsValue) (log : List Record) (s : System) (begun : 1 ≤ len
             start_departs p log s uncarried index step items group none starting there.node there.starts was before after
       ]
 
-  taken_departs : (number : ℕ) (items : List Record) → All Within items → (frame : Option Frame) → numbered_frame number s.frames ≡ frame
-      → has_receiver s frame ≡ true
-      → frame_numbers (moved p s (Delivers number)).frames ≡ outstanding (log ++ Taken number ∷ items)
-      → SameDeparts (log ++ Taken number ∷ items) (moved p s (Delivers number))
-  taken_departs number items within None is has after = absurd (cc)
-  taken_departs number items within (Some frame) is has after = by_node (s.node frame.to) refl
-    where
-      with_receiver : (node : NodeState) → s.node frame.to ≡ Some node
-          → SameDeparts (log ++ Taken number ∷ items) (moved p s (Delivers number))
-      with_receiver node at =
-          let s' = moved p s (Delivers number) in
-          let now = received_departing p s number frame node is at in
-          let group = is_group log (Taken number) items begun uncarried (taken_begins number) within in
-          let named = ap (filter_map depart_name)
-          (none_accepted (Taken number ∷ items) (All-cons HasNoStep (Taken number) items (taken_no_step number) (no_steps items within))) in
-          record {
-            departing =
-                departs log (Taken number) items group uncarried s' after [] named
-                ∙ ap (departs_after s'.frames) was.departing ∙ departs_with s'.frames s.departing ∙ sym (ap name_of_leaver now);
-            at_rest = λ empty. now ∙ with_none s'.frames s.departing empty;
-          }
+  module _ (number : ℕ) (items : List Record) (within : All Within items)
+      (after : frame_numbers (moved p s (Delivers number)).frames ≡ outstanding (log ++ Taken number ∷ items)) where
+    abbrev left : System
+    left = moved p s (Delivers number)
 
-      by_node : (node : Option NodeState) → s.node frame.to ≡ node → SameDeparts (log ++ Taken number ∷ items) (moved p s (Delivers number))
-      by_node None at = let not_there : has_receiver s (Some frame) ≡ false = ap is_some at in absurd (cc)
-      by_node (Some node) at = with_receiver node at
+    departs_now : departing_of (log ++ Taken number ∷ items) ≡ departs_after left.frames (name_of_leaver s.departing)
+    departs_now =
+        let group = is_group log (Taken number) items begun uncarried (taken_begins number) within in
+        let named = ap (filter_map depart_name)
+        (none_accepted (Taken number ∷ items) (All-cons HasNoStep (Taken number) items (taken_no_step number) (no_steps items within))) in
+        departs log (Taken number) items group uncarried left after [] named ∙ ap (departs_after left.frames) was.departing
+
+    taken_departs : (frame : Option Frame) → numbered_frame number s.frames ≡ frame → SameDeparts (log ++ Taken number ∷ items) left
+    taken_departs None is =
+        let stays = nothing_received p s number is in
+        record {
+          departing =
+              departs_now ∙ ap (λ t. departs_after t.frames (name_of_leaver s.departing)) stays
+              ∙ stays_same s.frames s.departing was.at_rest ∙ sym (ap (λ t. name_of_leaver t.departing) stays);
+          at_rest = λ empty. ap (λ t. t.departing) stays ∙ was.at_rest (sym (ap (λ t. t.frames) stays) ∙ empty);
+        }
+    taken_departs (Some frame) is =
+        let now = received_departing p s number frame is in
+        record {
+          departing = departs_now ∙ departs_with left.frames s.departing ∙ sym (ap name_of_leaver now);
+          at_rest = λ empty. now ∙ with_none left.frames s.departing empty;
+        }
 
   departs_step : (group : List Record) → MayFollow p log s group
       → frame_numbers (moved_by p s (move_of_group log group)).frames ≡ outstanding (log ++ group)
@@ -310,7 +323,7 @@ module _ (p : SettingsValue) (log : List Record) (s : System) (begun : 1 ≤ len
       let Departs : Option Move → Type 0 = λ m. SameDeparts (log ++ group) (moved_by p s m) in
       let moves = taken_moves log number items in
       subst Departs (sym moves)
-      (taken_departs number items within (numbered_frame number s.frames) refl may.receiver (subst Frames moves after))
+      (taken_departs number items within (subst Frames moves after) (numbered_frame number s.frames) refl)
   departs_step group may after = absurd may
 
 -- ---- the nodes of a course

@@ -1,6 +1,6 @@
 -- The frames under way, in a course, are those that its log has as outstanding.
 use Rattle.std.proofs.Common.{◌≡◌, inl, inr, ℕ, zero, suc, ◌+◌, ◌<◌, ◌≤◌, Bool, true, false, not, nat_eq, eqb, List, [], ◌∷◌, ◌++◌, length, get_or, All, Option, None, Some, refl, ap, sym, subst, cond, ◌∙◌, arith, append-nil}
-use Rattle.std.specs.Prelude.{◌||◌, if◌then◌else◌, is_some, slice_get}
+use Rattle.std.specs.Prelude.{◌||◌, if◌then◌else◌, slice_get}
 use Rattle.std.specs.List.{cons_option, filter_map, range_with_len}
 use Rattle.std.proofs.lemmas.Bool.{cases_Bool, eq-eqb, eqb-true, ne_eqb}
 use Rattle.std.proofs.lemmas.List.Elements.{All-append, All-cons, All-head, All-nil, All-tail, filter_map-append}
@@ -31,13 +31,13 @@ use Rattle.tap_safety.specs.Move.Move.{Begins, Delivers}
 use Rattle.tap_safety.specs.Moved.{moved, numbered_frame, starter, without_frame}
 use Rattle.tap_safety.specs.Step.{AreNumbered, Ascend, numbered_from}
 use Rattle.tap_safety.specs.System.{System}
-use Rattle.tap_safety.proofs.Moves.{ascend_below, delivers, numbers_sent, numbers_taken, starts}
+use Rattle.tap_safety.proofs.Moves.{ascend_below, delivers, lost, numbers_sent, numbers_taken, starts}
 use Rattle.tap_safety.specs.AtRest.{system_at_rest}
 use Rattle.tap_course.specs.Beginning.{Beginning, begin_record}
 use Rattle.tap_course.specs.Starts.{announced, next_ticket}
 use Rattle.tap_course.specs.Acts.{acted_records, if_so, news_after, news_before, sent_records}
 use Rattle.tap_course.specs.Group.{received_records, records_of_act, start_at}
-use Rattle.tap_course.specs.Course.{Follows, IsCourse, MayFollow, has_receiver, move_of_group, move_of_start, moved_by, system_of}
+use Rattle.tap_course.specs.Course.{Follows, IsCourse, MayFollow, move_of_group, move_of_start, moved_by, system_of}
 use Rattle.tap_course.specs.Laws.{CourseFrames, FramesAgree, HasBytes, frame_numbers}
 use Rattle.tap_course.proofs.Within.{IsIdle, IsQuiet, IsStarting, step_kind}
 use Rattle.tap_course.proofs.Growing.{by_groups, grown_system, start_system}
@@ -362,6 +362,18 @@ found_below number frame low (f ∷ fs) high (least, later) is =
           found_below number frame (f.0 + 1) fs high later found
     ]
 
+-- a frame that isn't found has none of these numbers
+not_found : (number : ℕ) (fs : List (ℕ × Frame)) → numbered_frame number fs ≡ None → has_number (frame_numbers fs) number ≡ false
+unfolding numbered_frame
+not_found number [] none = refl
+not_found number (f ∷ fs) none =
+    elim (cases_Bool (eqb f.0 number)) [
+      | inl here ↦ let found : Some f.1 ≡ None = rw here at none in absurd (cc)
+      | inr apart ↦
+          let later : numbered_frame number fs ≡ None = rw apart at none in
+          ap (λ b. b || has_number (frame_numbers fs) number) apart ∙ not_found number fs later
+    ]
+
 -- what holds of each frame holds of each that is left
 left_of : (P : ℕ × Frame → Type 0) (number : ℕ) (fs : List (ℕ × Frame)) → All P fs → All P (without_frame number fs)
 unfolding without_frame
@@ -424,15 +436,52 @@ module _ (p : SettingsValue) (log : List Record) (s : System) (number : ℕ) (ne
           numbered = numbers_taken s (moved p s (Delivers number)) number frame acted.sent did.taken;
         }
 
-  -- the frame has a receiver, which acts
-  received_exchange : (frame : Option Frame) → numbered_frame number s.frames ≡ frame → has_receiver s frame ≡ true
+  -- the receiver is no node: the frame is taken, and nothing is sent
+  module _ (frame : Frame) (is : numbered_frame number s.frames ≡ Some frame) (nobody : s.node frame.to ≡ None) where
+    takes_alone : filter_map taken_number (Taken number ∷ []) ≡ number ∷ []
+    unfolding taken_number
+    takes_alone = refl
+
+    sends_none : filter_map sent_number (Taken number ∷ []) ≡ []
+    unfolding sent_number
+    sends_none = refl
+
+    asks_nothing : filter_map asked_ticket (Taken number ∷ []) ≡ []
+    unfolding asked_ticket
+    asks_nothing = refl
+
+    frames_left : (moved p s (Delivers number)).frames ≡ without_frame number s.frames
+    unfolding moved
+    frames_left = rw (is, nobody) refl
+
+    lost_exchange : Exchanges p log (Taken number ∷ []) s (moved p s (Delivers number))
+    lost_exchange =
+        let gone = lost p s number frame is nobody in
+        record {
+          sent = [];
+          kept = without_frame number s.frames;
+          sending = sends_none;
+          bytes = All-nil (HasBytes p (Taken number ∷ []));
+          below = subst (All (λ n. n < s.next)) (sym takes_alone)
+              (All-cons (λ n. n < s.next) number [] (found_below number frame 0 s.frames s.next numbered.numbers is)
+              (All-nil (λ n. n < s.next)));
+          asked = none_asked log (Taken number ∷ []) asks_nothing;
+          left = numbers_without number 0 s.frames s.next numbered.numbers ∙ ap (numbers_less (frame_numbers s.frames)) (sym takes_alone);
+          still = left_of (HasBytes p log) number s.frames;
+          frames = frames_left ∙ sym (append-nil (without_frame number s.frames));
+          next = gone.taken.next;
+          numbered = numbers_taken s (moved p s (Delivers number)) number frame [] gone.taken;
+        }
+
+  -- the frame is under way, and its receiver acts, if it is a node
+  received_exchange : (frame : Option Frame) → numbered_frame number s.frames ≡ frame → has_number (frame_numbers s.frames) number ≡ true
       → Exchanges p log (Taken number ∷ received_records p log s frame) s (moved p s (Delivers number))
-  received_exchange None is has = absurd (cc)
-  received_exchange (Some frame) is has = by_node (s.node frame.to) refl
+  received_exchange None is waits = let none = not_found number s.frames is in absurd (cc)
+  received_exchange (Some frame) is waits = by_node (s.node frame.to) refl
     where
       by_node : (node : Option NodeState) → s.node frame.to ≡ node
           → Exchanges p log (Taken number ∷ records_of_act p log frame.to node (Takes frame)) s (moved p s (Delivers number))
-      by_node None at = let none : has_receiver s (Some frame) ≡ false = ap is_some at in absurd (cc)
+      by_node None at = lost_exchange frame is at
       by_node (Some node) at = take_exchange frame node is at
 
 -- ---- a group that may follow
@@ -453,7 +502,7 @@ starting_moves p log s index step items starting =
     step_moves log index step items ∙ ap (λ r. move_of_start r (start_at log step)) starting.accepted
     ∙ ap (move_of_start None) starting.at
 
-module _ (p : SettingsValue) (log : List Record) (s : System) (next : s.next ≡ sent_count log) (numbered : AreNumbered s) where
+module _ (p : SettingsValue) (log : List Record) (s : System) (agree : FramesAgree p log s) (numbered : AreNumbered s) where
   idle_exchange : (index : ℕ) (step : Step) (items : List Record) → IsIdle log step items
       → Exchanges p log (StepRecord index step ∷ items) s (moved_by p s (move_of_group log (StepRecord index step ∷ items)))
   unfolding sent_number taken_number asked_ticket
@@ -469,7 +518,7 @@ module _ (p : SettingsValue) (log : List Record) (s : System) (next : s.next ≡
       subst (λ m. Exchanges p log (StepRecord index step ∷ items) s (moved_by p s m))
       (sym (starting_moves p log s index step items starting))
       (subst (λ l. Exchanges p log (StepRecord index step ∷ l) s (moved p s (Begins starting.name starting.start))) (sym starting.are)
-      (start_exchange p log s index step starting.name starting.start next (starter p s starting.name starting.start) refl))
+      (start_exchange p log s index step starting.name starting.start agree.next (starter p s starting.name starting.start) refl))
 
   pub exchange : (group : List Record) → MayFollow p log s group → Exchanges p log group s (moved_by p s (move_of_group log group))
   unfolding MayFollow
@@ -481,7 +530,8 @@ module _ (p : SettingsValue) (log : List Record) (s : System) (next : s.next ≡
   exchange (Taken number ∷ items) may =
       subst (λ m. Exchanges p log (Taken number ∷ items) s (moved_by p s m)) (sym (taken_moves log number items))
       (subst (λ l. Exchanges p log (Taken number ∷ l) s (moved p s (Delivers number))) (sym may.are)
-      (received_exchange p log s number next numbered (numbered_frame number s.frames) refl may.receiver))
+      (received_exchange p log s number agree.next numbered (numbered_frame number s.frames) refl
+      (ap (λ numbers. has_number numbers number) agree.numbers ∙ may.waits)))
   exchange group may = absurd may
 
 -- ---- the frames of a course
@@ -563,7 +613,7 @@ module _ (b : Beginning) where
   frames_grow log group course going follows kept =
       subst (AreKept b.settings (log ++ group)) (sym (grown_system b log group course going follows))
       (kept_after b.settings log group (system_of log) (moved_by b.settings (system_of log) (move_of_group log group)) kept
-      (exchange b.settings log (system_of log) kept.agree.next kept.system_is group follows.may))
+      (exchange b.settings log (system_of log) kept.agree kept.system_is group follows.may))
 
   pub frames_kept : (log : List Record) → IsCourse b log → is_ended log ≡ false → AreKept b.settings log (system_of log)
   frames_kept = by_groups b (λ log. AreKept b.settings log (system_of log)) frames_grow

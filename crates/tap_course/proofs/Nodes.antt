@@ -3,7 +3,7 @@ use Rattle.std.proofs.Common.{◌≡◌, ◌⊎◌, inl, inr, ℕ, ◌+◌, ◌�
 use Rattle.std.specs.Prelude.{◌&&◌, ◌||◌, bytes_eq, drop, fold, is_some, if◌then◌else◌}
 use Rattle.std.specs.List.{cons_option, filter_map}
 use Rattle.std.proofs.lemmas.Bool.{cases_Bool}
-use Rattle.std.proofs.lemmas.List.Elements.{All-cons, All-head, All-tail, filter_map-append}
+use Rattle.std.proofs.lemmas.List.Elements.{All-cons, All-head, All-nil, All-tail, filter_map-append}
 use Rattle.std.proofs.lemmas.List.Folds.{list_any-append}
 use Rattle.std.proofs.lemmas.Slice.Eq.{bytes_eq-Decides}
 use Rattle.tap_name.specs.Names.{has_name, names_without}
@@ -37,13 +37,13 @@ use Rattle.tap_rule.proofs.StartSteps.{seek_start_law}
 use Rattle.tap_safety.specs.Move.Move.{Begins, Delivers}
 use Rattle.tap_safety.specs.Moved.{moved, numbered_frame, starter}
 use Rattle.tap_safety.specs.System.{System}
-use Rattle.tap_safety.proofs.Moves.{delivers, starts}
+use Rattle.tap_safety.proofs.Moves.{delivers, lost, starts}
 use Rattle.tap_safety.specs.AtRest.{member_of, system_at_rest}
 use Rattle.tap_course.specs.Beginning.{Beginning, begin_record}
 use Rattle.tap_course.specs.Starts.{announced, start_of_step}
 use Rattle.tap_course.specs.Acts.{acted_records, news_after, news_before, sent_records}
 use Rattle.tap_course.specs.Group.{received_records, records_of_act, start_at}
-use Rattle.tap_course.specs.Course.{Follows, IsCourse, MayFollow, has_receiver, move_of_group, moved_by, system_of}
+use Rattle.tap_course.specs.Course.{Follows, IsCourse, MayFollow, move_of_group, moved_by, system_of}
 use Rattle.tap_course.specs.Observed.{counts_as_core, has_ended, is_core_node}
 use Rattle.tap_course.specs.Laws.{is_ended_node, is_present_node}
 use Rattle.tap_course.proofs.Within.{IsIdle, IsStarting, Within, is_accepted, is_group, step_kind, step_within, taken_within}
@@ -165,6 +165,15 @@ pub record Agree (log : List Record) (s : System) : Type 0 where
   pub present : (x : List ℕ) → has_name (present_of log) x ≡ is_present_node (s.node x)
   pub gone : (x : List ℕ) → has_name (gone_of log) x ≡ is_ended_node (s.node x)
   pub ever : (x : List ℕ) → has_name (names_of log) x ≡ is_some (s.node x)
+
+-- a system with the same nodes agrees with the same logs
+same_nodes : (log : List Record) (s s' : System) → ((x : List ℕ) → s'.node x ≡ s.node x) → Agree log s → Agree log s'
+same_nodes log s s' same agree = record {
+  core = λ x. agree.core x ∙ sym (ap is_core_node (same x));
+  present = λ x. agree.present x ∙ sym (ap is_present_node (same x));
+  gone = λ x. agree.gone x ∙ sym (ap is_ended_node (same x));
+  ever = λ x. agree.ever x ∙ sym (ap is_some (same x));
+}
 
 -- what a group makes of the names, of one of these
 module _ (log : List Record) (first : Record) (after : List Record) (group : IsGroup log first after) (x y : List ℕ)
@@ -862,16 +871,36 @@ module _ (p : SettingsValue) (log : List Record) (s : System) (begun : 1 ≤ len
           (subst (λ l. Acts log (StepRecord index step ∷ l) s (moved p s (Begins starting.name starting.start))) (sym starting.are) seen)
           agree
 
-  taken_seen : (number : ℕ) (frame : Option Frame) → numbered_frame number s.frames ≡ frame → has_receiver s frame ≡ true
-      → All HasNoStep (received_records p log s frame)
-      → Acts log (Taken number ∷ received_records p log s frame) s (moved p s (Delivers number))
-  taken_seen number None is has steps = absurd (cc)
-  taken_seen number (Some frame) is has steps = by_node (s.node frame.to) refl steps
-    where
-      by_node : (node : Option NodeState) → s.node frame.to ≡ node → All HasNoStep (records_of_act p log frame.to node (Takes frame))
-          → Acts log (Taken number ∷ records_of_act p log frame.to node (Takes frame)) s (moved p s (Delivers number))
-      by_node None at none = let not_there : has_receiver s (Some frame) ≡ false = ap is_some at in absurd (cc)
-      by_node (Some node) at none = taken_acts p log s uncarried number frame node is at none
+  -- a frame is taken: no node is seen if there is no such frame or its receiver is none
+  module _ (number : ℕ) where
+    no_nodes : (s' : System) → ((x : List ℕ) → s'.node x ≡ s.node x) → Agree (log ++ Taken number ∷ []) s'
+    unfolding core_name gone_name
+    no_nodes s' same =
+        same_nodes (log ++ Taken number ∷ []) s s' same
+        (idle_agree log (Taken number) [] (is_group log (Taken number) [] begun uncarried (taken_begins number) (All-nil Within)) s
+        refl refl (ap (λ c. filter_map join_name (accepted_in c (Taken number ∷ []))) uncarried) agree)
+
+    receiver_seen : (frame : Frame) (node : NodeState) → numbered_frame number s.frames ≡ Some frame → s.node frame.to ≡ Some node
+        → All Within (acted_records p (sent_count log) frame.to (act node (Takes frame)))
+        → Agree (log ++ Taken number ∷ acted_records p (sent_count log) frame.to (act node (Takes frame))) (moved p s (Delivers number))
+    receiver_seen frame node is at within =
+        let does = acted_records p (sent_count log) frame.to (act node (Takes frame)) in
+        agree_after log (Taken number) does (is_group log (Taken number) does begun uncarried (taken_begins number) within) s
+        (moved p s (Delivers number)) (taken_acts p log s uncarried number frame node is at (no_steps does within)) agree
+
+    nothing_taken : numbered_frame number s.frames ≡ None → moved p s (Delivers number) ≡ s
+    unfolding moved
+    nothing_taken is = rw is refl
+
+    taken_agree : (frame : Option Frame) → numbered_frame number s.frames ≡ frame → All Within (received_records p log s frame)
+        → Agree (log ++ Taken number ∷ received_records p log s frame) (moved p s (Delivers number))
+    taken_agree None is within = no_nodes (moved p s (Delivers number)) (λ x. ap (λ t. t.node x) (nothing_taken is))
+    taken_agree (Some frame) is within = by_node (s.node frame.to) refl within
+      where
+        by_node : (node : Option NodeState) → s.node frame.to ≡ node → All Within (records_of_act p log frame.to node (Takes frame))
+            → Agree (log ++ Taken number ∷ records_of_act p log frame.to node (Takes frame)) (moved p s (Delivers number))
+        by_node None at all = no_nodes (moved p s (Delivers number)) (lost p s number frame is at).node
+        by_node (Some node) at all = receiver_seen frame node is at all
 
   pub nodes_step : (group : List Record) → MayFollow p log s group → Agree (log ++ group) (moved_by p s (move_of_group log group))
   unfolding MayFollow
@@ -887,14 +916,10 @@ module _ (p : SettingsValue) (log : List Record) (s : System) (begun : 1 ≤ len
             (start_agree index step items within starting)
       ]
   nodes_step (Taken number ∷ items) may =
-      let within = taken_within p log s number items may in
-      let does = received_records p log s (numbered_frame number s.frames) in
-      let steps = subst (All HasNoStep) may.are (no_steps items within) in
+      let within = subst (All Within) may.are (taken_within p log s number items may) in
       subst (λ m. Agree (log ++ Taken number ∷ items) (moved_by p s m)) (sym (taken_moves log number items))
-      (agree_after log (Taken number) items (is_group log (Taken number) items begun uncarried (taken_begins number) within) s
-      (moved p s (Delivers number))
-      (subst (λ l. Acts log (Taken number ∷ l) s (moved p s (Delivers number))) (sym may.are)
-      (taken_seen number (numbered_frame number s.frames) refl may.receiver steps)) agree)
+      (subst (λ l. Agree (log ++ Taken number ∷ l) (moved p s (Delivers number))) (sym may.are)
+      (taken_agree number (numbered_frame number s.frames) refl within))
   nodes_step group may = absurd may
 
 -- who is a member is core and present, and hasn't ended

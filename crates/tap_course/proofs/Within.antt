@@ -13,7 +13,7 @@ use Rattle.tap_log.specs.declared.record.NodeWord.{NodeWord}
 use Rattle.tap_log.specs.declared.record.Record.{Record}
 use Rattle.tap_log.specs.declared.record.Record.TheVariants.{Step as StepRecord, Taken, Refused, Walked, RootOf, TableOf, Reached, Closed}
 use Rattle.tap_log.specs.declared.record.Refusal.{Refusal}
-use Rattle.tap_log.specs.Kinds.{accepts, asked_ticket, begins_group, core_name, gone_name, is_carried, sent_number, taken_number}
+use Rattle.tap_log.specs.Kinds.{accepts, asked_ticket, begins_group, begun_cast, core_name, gone_name, is_carried, sent_number, taken_number}
 use Rattle.tap_log.specs.Laws.{at_most_one}
 use Rattle.tap_history.specs.Core.{core_of}
 use Rattle.tap_history.specs.GroupLaws.{IsGroup}
@@ -99,12 +99,13 @@ announced_within before step = All-nil Within
 
 -- ---- what is only seen or refused
 
--- such a record tells of no frame, no lookup and no node, and stands within a group
+-- such a record tells of no frame, no lookup, no cast and no node, and stands within a group
 pub record IsQuiet (item : Record) : Type 0 where
   pub within : Within item
   pub sent : sent_number item ≡ None
   pub taken : taken_number item ≡ None
   pub asked : asked_ticket item ≡ None
+  pub cast : begun_cast item ≡ None
   pub core : core_name item ≡ None
   pub gone : gone_name item ≡ None
 
@@ -118,44 +119,44 @@ one_quiet : (item : Record) → IsQuiet item → All IsQuiet (item ∷ [])
 one_quiet item quiet = All-cons IsQuiet item [] quiet no_quiet
 
 root_quiet : (object : List ℕ) (name : Option (List ℕ)) → All IsQuiet (at_most_one (option_map (RootOf object) name))
-unfolding begins_group ends_log sent_number taken_number asked_ticket core_name gone_name
+unfolding begins_group ends_log sent_number taken_number asked_ticket begun_cast core_name gone_name
 root_quiet object None = no_quiet
 root_quiet object (Some name) =
-    one_quiet _ (record { within = (refl, refl); sent = refl; taken = refl; asked = refl; core = refl; gone = refl })
+    one_quiet _ (record { within = (refl, refl); sent = refl; taken = refl; asked = refl; cast = refl; core = refl; gone = refl })
 
 pointers_quiet : (name : List ℕ) (node : Option NodeState) → All IsQuiet (at_most_one (option_map (pointers_record name) node))
-unfolding begins_group ends_log sent_number taken_number asked_ticket core_name gone_name
+unfolding begins_group ends_log sent_number taken_number asked_ticket begun_cast core_name gone_name
 pointers_quiet name None = no_quiet
 pointers_quiet name (Some node) =
-    one_quiet _ (record { within = (refl, refl); sent = refl; taken = refl; asked = refl; core = refl; gone = refl })
+    one_quiet _ (record { within = (refl, refl); sent = refl; taken = refl; asked = refl; cast = refl; core = refl; gone = refl })
 
 worded_quiet : (name : List ℕ) (links : List LinkLine) (word : Option NodeWord)
     → All IsQuiet (at_most_one (option_map (λ w. TableOf name w links) word))
-unfolding begins_group ends_log sent_number taken_number asked_ticket core_name gone_name
+unfolding begins_group ends_log sent_number taken_number asked_ticket begun_cast core_name gone_name
 worded_quiet name links None = no_quiet
 worded_quiet name links (Some word) =
-    one_quiet _ (record { within = (refl, refl); sent = refl; taken = refl; asked = refl; core = refl; gone = refl })
+    one_quiet _ (record { within = (refl, refl); sent = refl; taken = refl; asked = refl; cast = refl; core = refl; gone = refl })
 
 table_quiet : (name : List ℕ) (node : Option NodeState) → All IsQuiet (at_most_one (option_and_then (table_record name) node))
 table_quiet name None = no_quiet
 table_quiet name (Some node) = worded_quiet name (map link_line (rows node.ties.table)) (word_of_status node.status)
 
 damage_quiet : (number : Option ℕ) (fault : Option WireFault) → All IsQuiet (at_most_one (garbled number fault))
-unfolding begins_group ends_log sent_number taken_number asked_ticket core_name gone_name
+unfolding begins_group ends_log sent_number taken_number asked_ticket begun_cast core_name gone_name
 damage_quiet None fault = no_quiet
 damage_quiet (Some number) None = no_quiet
 damage_quiet (Some number) (Some fault) =
-    one_quiet _ (record { within = (refl, refl); sent = refl; taken = refl; asked = refl; core = refl; gone = refl })
+    one_quiet _ (record { within = (refl, refl); sent = refl; taken = refl; asked = refl; cast = refl; core = refl; gone = refl })
 
 walk_quiet : (object : List ℕ) (path : List (List ℕ)) → IsQuiet (Walked object path)
-unfolding begins_group ends_log sent_number taken_number asked_ticket core_name gone_name
+unfolding begins_group ends_log sent_number taken_number asked_ticket begun_cast core_name gone_name
 walk_quiet object path =
-    record { within = (refl, refl); sent = refl; taken = refl; asked = refl; core = refl; gone = refl }
+    record { within = (refl, refl); sent = refl; taken = refl; asked = refl; cast = refl; core = refl; gone = refl }
 
 refused_quiet : (index : ℕ) (refusal : Refusal) → IsQuiet (Refused index refusal)
-unfolding begins_group ends_log sent_number taken_number asked_ticket core_name gone_name
+unfolding begins_group ends_log sent_number taken_number asked_ticket begun_cast core_name gone_name
 refused_quiet index refusal =
-    record { within = (refl, refl); sent = refl; taken = refl; asked = refl; core = refl; gone = refl }
+    record { within = (refl, refl); sent = refl; taken = refl; asked = refl; cast = refl; core = refl; gone = refl }
 
 -- ---- what follows a `Step`
 

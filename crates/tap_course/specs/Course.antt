@@ -1,11 +1,10 @@
 -- The course of a run: the system that a log has come to, and which group may follow it.
 --
 -- Rule: docs/FORMATS.md, "The course of a run".
-use Rattle.std.specs.Prelude.{◌≡◌, ◌≤◌, ◌⊎◌, ℕ, Bool, true, false, List, [], ◌∷◌, ◌++◌, Option, None, Some, is_some}
+use Rattle.std.specs.Prelude.{◌≡◌, ◌≤◌, ◌⊎◌, ℕ, Bool, true, false, List, [], ◌∷◌, ◌++◌, Option, None, Some}
 use Rattle.tap_name.specs.Settings.{SettingsValue}
 use Rattle.tap_scenario.specs.declared.step.Step.{Step}
 use Rattle.tap_scenario.specs.declared.step.Step.TheVariants.{Deliver, Settle, SettleNewest, SettleMixed, Tick, Lose, Repeat, RootSet}
-use Rattle.tap_wire.specs.declared.frame.Frame.{Frame}
 use Rattle.tap_log.specs.declared.record.Record.{Record}
 use Rattle.tap_log.specs.declared.record.Record.TheVariants.{Begin, Step as StepRecord, Taken, Refused}
 use Rattle.tap_log.specs.declared.record.Refusal.{Refusal}
@@ -16,7 +15,7 @@ use Rattle.tap_history.specs.Refusals.{first_refusal}
 use Rattle.tap_rule.specs.Event.{Start}
 use Rattle.tap_safety.specs.Move.{Move}
 use Rattle.tap_safety.specs.Move.Move.{Begins, Delivers}
-use Rattle.tap_safety.specs.Moved.{moved, numbered_frame}
+use Rattle.tap_safety.specs.Moved.{moved}
 use Rattle.tap_safety.specs.System.{System}
 use Rattle.tap_safety.specs.AtRest.{system_at_rest}
 use Rattle.tap_course.specs.Beginning.{Beginning, IsWithinLimits, begin_record, no_system}
@@ -81,15 +80,9 @@ abbrev pub FollowStep : Bool → SettingsValue → List Record → System → �
 FollowStep true p before s index step items = (items ≡ []) ⊎ IsRefused index items
 FollowStep false p before s index step items = items ≡ step_records p before s index step
 
--- the frame has a receiver
-abbrev pub has_receiver : System → Option Frame → Bool
-has_receiver s None = false
-has_receiver s (Some frame) = is_some (s.node frame.to)
-
--- These may follow a `Taken`: the frame was outstanding, and its receiver, which is there, acts by its rule.
+-- These may follow a `Taken`: the frame was outstanding, and its receiver acts by its rule; nothing follows if the receiver is no node.
 pub record FollowTaken (p : SettingsValue) (before : List Record) (s : System) (number : ℕ) (items : List Record) : Type 0 where
   pub waits : has_number (outstanding before) number ≡ true
-  pub receiver : has_receiver s (numbered_frame number s.frames) ≡ true
   pub are : items ≡ taken_records p before s number
 
 -- the group may follow this log and this system
