@@ -1,0 +1,12 @@
+ghost use Rattle.tap_ranges.specs.Laws.{NumbersInRange};
+
+/// In the course of a run no more frames are sent than may be, and lookups and casts are numbered no further than steps were run. A
+/// node opens at most 500,000 sessions of joins and 500,001 of casts, and its stamp stays below 3,000,000. After at most 9,000,000
+/// steps it has numbers left for one more; and it hasn't met the cast that begins next.
+///
+/// It does nothing: its contract is the law.
+///
+/// Rule: docs/FORMATS.md, "The course of a run".
+pub fn ranges_law()
+    ensures { NumbersInRange }
+{}
