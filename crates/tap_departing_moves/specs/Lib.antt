@@ -1,0 +1,3 @@
+pub mod DepartingMoves
+pub mod NoticeMoves
+pub mod PartMoves
