@@ -1,0 +1,255 @@
+-- Each possible move keeps the whole invariant.
+use Rattle.std.proofs.Common.{◌≡◌, ◌⊎◌, ℕ, List, [], ◌∷◌, None, true, refl, ◌∙◌, inl, inr}
+use Rattle.std.proofs.lemmas.Bool.{cases_Bool}
+use Rattle.tap_name.specs.Settings.{SettingsValue}
+use Rattle.tap_wire.specs.declared.frame.Body.{Body}
+use Rattle.tap_wire.specs.declared.frame.Body.TheVariants.{Cast, Done, Forget, Gone as GoneNotice, Leave as LeaveNotice, Left, Release}
+use Rattle.tap_rule.specs.Event.{Start}
+use Rattle.tap_rule.specs.Event.Start.{Leave}
+use Rattle.tap_rule.specs.FrameRules.{frame_at_ceased, rule_of_frame}
+use Rattle.tap_rule.specs.Laws.{frame_to}
+use Rattle.tap_rule.specs.Node.{NodeState, Status}
+use Rattle.tap_rule.proofs.CarriedOut.{strange_law, unruled_law}
+use Rattle.tap_safety.specs.AtRest.{system_at_rest}
+use Rattle.tap_safety.specs.Bookkeeping.{AreStamped}
+use Rattle.tap_safety.specs.FewSessions.{SessionsAreFew}
+use Rattle.tap_safety.specs.Move.{Move, may_start}
+use Rattle.tap_safety.specs.Move.Move.{Begins, Delivers}
+use Rattle.tap_safety.specs.Moved.{moved}
+use Rattle.tap_safety.specs.Notices.{IsNotice}
+use Rattle.tap_safety.specs.System.{System}
+use Rattle.tap_moves.specs.CalmMoves.{AreSought}
+use Rattle.tap_moves.specs.Delivered.{after_delivery, after_start}
+use Rattle.tap_moves.specs.InvariantLaws.{IsDelivery, IsFilledThere, IsTakenThere}
+use Rattle.tap_moves.specs.TiesLaws.{WordsStand}
+use Rattle.tap_moves.proofs.DeeperMoves.{frame_deeper}
+use Rattle.tap_moves.proofs.CountMoves.{frame_counts}
+use Rattle.tap_moves.proofs.EndedMoves.{frame_ended}
+use Rattle.tap_moves.proofs.InvariantMoves.{frame_exact, frame_fills}
+use Rattle.tap_moves.proofs.PartsMade.{parts_kept, start_keeps_parts}
+use Rattle.tap_moves.proofs.SessionMoves.{frame_awaits, frame_core, frame_names, frame_places}
+use Rattle.tap_session_moves.specs.EndMoves.{HaveAskers}
+use Rattle.tap_session_moves.specs.PinsRule.{IsOver}
+use Rattle.tap_session_moves.proofs.EndMoves.{frame_ends, start_ends}
+use Rattle.tap_session_moves.proofs.FewMoves.{frame_few, start_few}
+use Rattle.tap_session_moves.proofs.JoinMoves.{frame_joins}
+use Rattle.tap_session_moves.proofs.NoticeMoves.{notice_few}
+use Rattle.tap_cover_moves.specs.GivenUp.{EndsGivenUp}
+use Rattle.tap_cover_moves.proofs.CoverMoves.{taken_seeks, taken_soft}
+use Rattle.tap_cover_moves.proofs.GivenUp.{given_up_ended, given_up_fills, given_up_seeks, given_up_soft, given_up_stamped}
+use Rattle.tap_cover_moves.proofs.GivenUpWords.{given_up_words}
+use Rattle.tap_cover_moves.proofs.StampMoves.{taken_stamped}
+use Rattle.tap_cover_moves.proofs.WordMoves.{taken_words}
+use Rattle.tap_arrivals.specs.Arrivals.{Arrives, IsSetApart, is_deepest_copy}
+use Rattle.tap_arrivals.proofs.Arrivals.{arrives_at, taken_where_due}
+use Rattle.tap_arrivals.proofs.NotStrange.{others_are_delivered, strange_exactly}
+use Rattle.tap_start_moves.specs.Starts.{IsNoDeparture}
+use Rattle.tap_start_moves.proofs.WholeStarts.{start_keeps}
+use Rattle.tap_departing_moves.specs.PartMoves.{HaveTables}
+use Rattle.tap_departing_moves.proofs.AllParts.{leaving_keeps, notice_keeps}
+use Rattle.tap_departing_moves.proofs.DepartingMoves.{frame_in_order}
+use Rattle.tap_invariant.specs.Ignored.{MayIgnore}
+use Rattle.tap_invariant.specs.Moves.{MoveKeeps, RunIsSound, may_run, moved_by}
+use Rattle.tap_invariant.specs.Sound.{Sound}
+use Rattle.tap_invariant.proofs.Ignored.{ignored_keeps}
+use Rattle.tap_invariant.proofs.Members.{sound_at_rest}
+use Rattle.tap_invariant.proofs.Together.{put_together}
+
+-- ---- a frame that isn't strange
+
+-- what is shown in one way of the Done of a join that was given up, and in another of each other frame where a rule takes it
+record IsTakenSo (p : SettingsValue) (s : System) : Type 0 where
+  tables : HaveTables p s
+  sought : AreSought p s
+  words : WordsStand s
+  stamped : AreStamped s
+
+module _ (p : SettingsValue) (s : System) (number : ℕ) (node : NodeState) (from : List ℕ) (body : Body)
+    (is : IsDelivery p s number node from body) where
+  abbrev after : System
+  after = after_delivery p s number
+
+  -- with what is shown in one way of all these
+  taken_sound : IsTakenThere node body → (IsNotice body → ⊥) → HaveAskers s → SessionsAreFew p s → IsTakenSo p after → Sound p after
+  taken_sound there no_notice askers few so =
+      let frame = frame_to node from body in
+      let counts = frame_counts p s number node from body is there in
+      put_together p after (record {
+        tables = so.tables;
+        sought = so.sought;
+        sessions = record {
+          exact = frame_exact p s number node from body is there;
+          awaited = frame_awaits p s number node from body is there;
+          await = counts.await;
+          counted = counts.counted;
+          deeper = frame_deeper p s number node from body is there;
+          places = frame_places p s number node from body is there;
+        };
+        joiners = frame_joins p s number node from body is there;
+        words = so.words;
+        stamped = so.stamped;
+        order = frame_in_order p s number node from body is no_notice;
+        named = frame_names p s number frame node is.invariant is.nodes is.among is.at;
+        ends = frame_ends p s number frame node is.invariant is.nodes askers is.among is.at;
+        nodes = (parts_kept p s number frame node is.nodes is.invariant.spelled is.invariant.numbered is.among is.at).0;
+        few = frame_few p s number node from body is there few;
+      })
+
+  filled_so : IsFilledThere node body → IsTakenThere node body → IsTakenSo p after
+  filled_so filled there = record {
+    tables = record {
+      filled = frame_fills p s number node from body is filled;
+      soft = taken_soft p s number node from body is filled;
+      has_core = frame_core p s number node from body is there;
+      ended = frame_ended p s number node from body is filled;
+    };
+    sought = taken_seeks p s number node from body is filled;
+    words = taken_words p s number node from body is filled;
+    stamped = taken_stamped p s number node from body is filled;
+  }
+
+  -- a notice
+  notice_sound : IsNotice body → HaveAskers s → SessionsAreFew p s → Sound p after
+  notice_sound notice askers few =
+      let frame = frame_to node from body in
+      record {
+        invariant = notice_keeps p s number node from body is askers notice;
+        nodes = (parts_kept p s number frame node is.nodes is.invariant.spelled is.invariant.numbered is.among is.at).0;
+        askers = (frame_ends p s number frame node is.invariant is.nodes askers is.among is.at).askers;
+        few = notice_few p s number node from body is notice few;
+      }
+
+-- the Done of a join that was given up
+given_up_so : (p : SettingsValue) (s : System) (number : ℕ) (node : NodeState) (from : List ℕ) → EndsGivenUp p s number node from
+    → IsTakenSo p (after_delivery p s number)
+given_up_so p s number node from ends = record {
+  tables = record {
+    filled = given_up_fills p s number node from ends;
+    soft = given_up_soft p s number node from ends;
+    has_core = frame_core p s number node from Done ends.delivery tt;
+    ended = given_up_ended p s number node from ends;
+  };
+  sought = given_up_seeks p s number node from ends;
+  words = given_up_words p s number node from ends;
+  stamped = given_up_stamped p s number node from ends;
+}
+
+-- ---- a frame that is ignored
+
+-- a node that has ended has no rule for a Release and a Forget
+no_rule : (status : Status) (node : NodeState) (from : List ℕ) → IsOver status
+    → (rule_of_frame status node from Release ≡ None) × (rule_of_frame status node from Forget ≡ None)
+unfolding frame_at_ceased
+no_rule status node from (inl gone) = rw gone (refl, refl)
+no_rule status node from (inr ceased) = rw ceased (refl, refl)
+
+-- a copy of a cast may be ignored
+copy_ignored : (node : NodeState) (body : Body) → is_deepest_copy body ≡ true → MayIgnore node body
+copy_ignored node (Cast cast level session depth word) deepest = tt
+copy_ignored node _ deepest = absurd (cc)
+
+-- ---- a frame that comes to a node
+
+-- it is a notice, or isn't
+notice_or_not : (body : Body) → IsNotice body ⊎ (IsNotice body → ⊥)
+notice_or_not (LeaveNotice replacement) = inl tt
+notice_or_not Left = inl tt
+notice_or_not GoneNotice = inl tt
+notice_or_not _ = inr (λ never. never)
+
+module _ (p : SettingsValue) (s : System) (number : ℕ) (node : NodeState) (from : List ℕ) (sound : Sound p s) where
+  -- a frame that is set apart: the Done of a join that was given up, and a Release or a Forget at a node that has ended
+  apart_sound : (body : Body) → IsDelivery p s number node from body → IsSetApart node body → Sound p (after_delivery p s number)
+  apart_sound Done is apart =
+      taken_sound p s number node from Done is tt (λ never. never) sound.askers sound.few
+      (given_up_so p s number node from (record { delivery = is; given_up = apart }))
+  apart_sound Release is apart =
+      ignored_keeps p s number node from Release (record {
+        invariant = sound.invariant;
+        among = is.among;
+        at = is.at;
+        ignored = unruled_law node (frame_to node from Release) (no_rule node.status node from apart).0;
+        may = apart;
+      }) sound
+  apart_sound Forget is apart =
+      ignored_keeps p s number node from Forget (record {
+        invariant = sound.invariant;
+        among = is.among;
+        at = is.at;
+        ignored = unruled_law node (frame_to node from Forget) (no_rule node.status node from apart).1;
+        may = apart;
+      }) sound
+  apart_sound _ is apart = absurd apart
+
+  -- a frame that isn't strange
+  delivery_sound : (body : Body) → Arrives p s number node from body → IsDelivery p s number node from body
+      → Sound p (after_delivery p s number)
+  delivery_sound body here is =
+      elim (notice_or_not body) [
+        | inl notice ↦ notice_sound p s number node from body is notice sound.askers sound.few
+        | inr no_notice ↦
+            let due = taken_where_due p s number node from body here no_notice in
+            elim due.1 [
+              | inl filled ↦
+                  taken_sound p s number node from body is due.0 no_notice sound.askers sound.few
+                  (filled_so p s number node from body is filled due.0)
+              | inr apart ↦ apart_sound body is apart
+            ]
+      ]
+
+  comes_sound : (body : Body) → Arrives p s number node from body → Sound p (after_delivery p s number)
+  comes_sound body here =
+      elim (cases_Bool (is_deepest_copy body)) [
+        | inl deepest ↦
+            let strange = strange_exactly p s number node from body here ∙ deepest in
+            ignored_keeps p s number node from body (record {
+              invariant = sound.invariant;
+              among = here.among;
+              at = here.at;
+              ignored = (strange_law node (frame_to node from body) strange).0;
+              may = copy_ignored node body deepest;
+            }) sound
+        | inr shallow ↦ delivery_sound body here (others_are_delivered p s number node from body here shallow)
+      ]
+
+-- ---- a start
+
+-- it is a departure, or isn't
+departure_or_not : (start : Start) → (start ≡ Leave) ⊎ IsNoDeparture start
+departure_or_not Leave = inl refl
+departure_or_not _ = inr tt
+
+leaving_sound : (p : SettingsValue) (s : System) (x : List ℕ) → Sound p s → may_start p s x Leave → Sound p (after_start p s x Leave)
+leaving_sound p s x sound may =
+    let inv = sound.invariant in
+    record {
+      invariant = leaving_keeps p s x inv sound.nodes sound.askers may;
+      nodes = (start_keeps_parts p s x Leave sound.nodes inv.spelled may tt).0;
+      askers = (start_ends p s x Leave inv sound.nodes sound.askers may tt).askers;
+      few = start_few p s x Leave inv may sound.few;
+    }
+
+begins_sound : (p : SettingsValue) (s : System) (x : List ℕ) (start : Start) → Sound p s → may_start p s x start
+    → (start ≡ Leave) ⊎ IsNoDeparture start → Sound p (after_start p s x start)
+begins_sound p s x start sound may (inl leaves) =
+    rw leaves (leaving_sound p s x sound (rw leaves at may))
+begins_sound p s x start sound may (inr stays) =
+    let keeps = start_keeps p s x start sound.invariant sound.nodes sound.askers sound.few may stays in
+    record { invariant = keeps.0; nodes = keeps.1; askers = keeps.2; few = keeps.3 }
+
+-- ---- every move
+
+pub move_keeps : MoveKeeps
+move_keeps p s (Begins x start) may sound = begins_sound p s x start sound may (departure_or_not start)
+move_keeps p s (Delivers number) may sound =
+    let frame = may.frame in
+    let node = may.receiver.state in
+    let here = arrives_at p s number frame node sound.invariant sound.nodes sound.few may.among may.receiver.is in
+    comes_sound p s number node frame.from sound frame.body here.1
+
+run_sound : (p : SettingsValue) (s : System) (moves : List Move) → may_run p s moves → Sound p s → Sound p (moved_by p s moves)
+run_sound p s [] may sound = sound
+run_sound p s (move ∷ moves) may sound = run_sound p (moved p s move) moves may.1 (move_keeps p s move may.0 sound)
+
+pub run_is_sound : RunIsSound
+run_is_sound p members moves are may = run_sound p (system_at_rest p members) moves may (sound_at_rest p members are)

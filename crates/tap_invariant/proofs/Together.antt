@@ -1,0 +1,62 @@
+-- The whole invariant, put together from its parts as the laws of moves have them.
+use Rattle.tap_name.specs.Settings.{SettingsValue}
+use Rattle.tap_safety.specs.Bookkeeping.{AreStamped}
+use Rattle.tap_safety.specs.FewSessions.{SessionsAreFew}
+use Rattle.tap_safety.specs.System.{System}
+use Rattle.tap_moves.specs.CalmMoves.{AreSought}
+use Rattle.tap_moves.specs.SessionMoves.{AreNamed}
+use Rattle.tap_moves.specs.Spelled.{AreNodes}
+use Rattle.tap_moves.specs.TiesLaws.{WordsStand}
+use Rattle.tap_session_moves.specs.EndMoves.{HaveBothEnds}
+use Rattle.tap_session_moves.specs.JoinMoves.{HaveJoiners}
+use Rattle.tap_departing_moves.specs.DepartingMoves.{DepartsInOrder}
+use Rattle.tap_departing_moves.specs.PartMoves.{HaveSessions, HaveTables}
+use Rattle.tap_invariant.specs.Sound.{Sound}
+
+pub record HasParts (p : SettingsValue) (s : System) : Type 0 where
+  pub tables : HaveTables p s
+  pub sought : AreSought p s
+  pub sessions : HaveSessions s
+  pub joiners : HaveJoiners s
+  pub words : WordsStand s
+  pub stamped : AreStamped s
+  pub order : DepartsInOrder s
+  pub named : AreNamed p s
+  pub ends : HaveBothEnds s
+  pub nodes : AreNodes p s
+  pub few : SessionsAreFew p s
+
+pub put_together : (p : SettingsValue) (s : System) → HasParts p s → Sound p s
+put_together p s has = record {
+  invariant = record {
+    soft = has.tables.soft;
+    seeking = has.sought.seeking;
+    exact = has.sessions.exact;
+    awaited = has.sessions.awaited;
+    of_joiners = has.joiners.of_joiners;
+    tells = has.sought.tells;
+    counted = has.sessions.counted;
+    filled = has.tables.filled;
+    ceased = has.words.ceased;
+    ties = has.words.ties;
+    departure = has.order.departure;
+    notices = has.order.notices;
+    seekers = has.sought.seekers;
+    ends_once = has.joiners.ends_once;
+    await = has.sessions.await;
+    deeper = has.sessions.deeper;
+    places = has.sessions.places;
+    ends = has.ends.ends;
+    versions = has.words.versions;
+    stamped = has.stamped;
+    ended = has.tables.ended;
+    has_core = has.tables.has_core;
+    numbered = has.named.numbered;
+    names = has.named.names;
+    few = has.named.few;
+    spelled = has.named.spelled;
+  };
+  nodes = has.nodes;
+  askers = has.ends.askers;
+  few = has.few;
+}

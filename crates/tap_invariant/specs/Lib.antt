@@ -1,0 +1,5 @@
+pub mod Sound
+pub mod Ignored
+pub mod Moves
+pub mod Consequences
+pub mod Walks

@@ -1,0 +1,29 @@
+-- The one law of the invariant: each possible move keeps it.
+use Rattle.std.specs.Prelude.{ℕ, List, [], ◌∷◌}
+use Rattle.tap_name.specs.Settings.{SettingsValue}
+use Rattle.tap_safety.specs.AtRest.{AreMembers, system_at_rest}
+use Rattle.tap_safety.specs.Move.{Move, may_move}
+use Rattle.tap_safety.specs.Moved.{moved}
+use Rattle.tap_safety.specs.System.{System}
+use Rattle.tap_invariant.specs.Sound.{Sound}
+
+-- the whole invariant holds after a possible move, if it held before
+abbrev pub MoveKeeps : Type 0
+MoveKeeps = (p : SettingsValue) (s : System) (move : Move) → may_move p s move → Sound p s → Sound p (moved p s move)
+
+-- ---- runs
+
+-- the system after these moves, one after another
+abbrev pub moved_by : SettingsValue → System → List Move → System
+moved_by p s [] = s
+moved_by p s (move ∷ moves) = moved_by p (moved p s move) moves
+
+-- each of the moves is possible after those before it
+abbrev pub may_run : SettingsValue → System → List Move → Type 0
+may_run p s [] = Unit {0}
+may_run p s (move ∷ moves) = may_move p s move × may_run p (moved p s move) moves
+
+-- So the whole invariant holds at each moment of each run from members at rest.
+abbrev pub RunIsSound : Type 0
+RunIsSound = (p : SettingsValue) (members : List (List ℕ)) (moves : List Move) → AreMembers p members
+    → may_run p (system_at_rest p members) moves → Sound p (moved_by p (system_at_rest p members) moves)

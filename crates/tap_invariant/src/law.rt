@@ -1,0 +1,81 @@
+ghost use Rattle.tap_wire.specs.declared.frame.Body.TheVariants.{Ack, Heard};
+ghost use Rattle.tap_invariant.specs.Consequences.{AnswersAreAwaited, NoneIsStrange, NothingIsLeft};
+ghost use Rattle.tap_invariant.specs.Ignored.{IgnoredIsLost, IgnoredKeeps};
+ghost use Rattle.tap_invariant.specs.Moves.{MoveKeeps, RunIsSound};
+ghost use Rattle.tap_invariant.specs.Sound.{SoundAtRest};
+ghost use Rattle.tap_invariant.specs.Walks.{CoreIsListed, TablesAreHoleFree, WalksLeadToRoots};
+
+/// The members with which an overlay begins, each core with its ties at rest, and nothing under way, have the whole invariant.
+///
+/// It does nothing: its contract is the law.
+///
+/// Rule: docs/PROTOCOL.md, "Nodes".
+pub fn members_law()
+    ensures { SoundAtRest }
+{}
+
+/// A Release or a Forget at a node that has ended, and a frame of pointers or casts that is strange to its receiver, are ignored: once such
+/// a frame is delivered it is gone, and nothing else changes; so the whole invariant holds as before.
+///
+/// It does nothing: its contract is the law.
+///
+/// Rule: docs/PROTOCOL.md, "Steps of a node" and "Strange frames".
+pub fn ignored_law()
+    ensures lost { IgnoredIsLost }
+    ensures keeps { IgnoredKeeps }
+{}
+
+/// If the whole invariant holds, it holds after each possible move: after whatever a node may start, a departure too, and after each frame
+/// that is delivered, whatever its kind and whatever the status of its receiver.
+///
+/// It does nothing: its contract is the law.
+///
+/// Rule: docs/PROTOCOL.md, "Steps of a node".
+pub fn moves_law()
+    ensures { MoveKeeps }
+{}
+
+/// The whole invariant holds at each moment of each run from members at rest, however many its moves are and in whichever order frames are
+/// delivered.
+///
+/// It does nothing: its contract is the law.
+///
+/// Rule: docs/PROTOCOL.md, "Steps of a node".
+pub fn runs_law()
+    ensures { RunIsSound }
+{}
+
+/// If the whole invariant holds, no frame under way is strange to its receiver, but a copy of a cast at the greatest depth; and each answer
+/// in a session of a join comes to a node that has the session open.
+///
+/// It does nothing: its contract is the law.
+///
+/// Rule: docs/PROTOCOL.md, "Strange frames", "Sessions" and "Heard and Ack".
+pub fn arrivals_law()
+    ensures strange { NoneIsStrange }
+    ensures heard { AnswersAreAwaited Heard }
+    ensures ack { AnswersAreAwaited Ack }
+{}
+
+/// If the whole invariant holds and no frame is under way, then nothing of joins and departures is left: no session is open, nobody joins
+/// or leaves, no link is a pin or marked, and whoever has a link to a core node is a holder there that is on.
+///
+/// It does nothing: its contract is the law.
+///
+/// Rule: docs/PROTOCOL.md, "Nodes".
+pub fn rest_law()
+    ensures { NothingIsLeft }
+{}
+
+/// If the whole invariant holds, the core nodes can be listed, a leaving node counting as core, and no table of one has a hole that another
+/// could fill; so each walk leads from a core node to the one root of its object over them, passes core nodes alone, and takes as many hops
+/// as a name has digits or fewer.
+///
+/// It does nothing: its contract is the law.
+///
+/// Rule: docs/PROTOCOL.md, "Slots and tables" and "Walks".
+pub fn walks_law()
+    ensures listed { CoreIsListed }
+    ensures hole_free { TablesAreHoleFree }
+    ensures leads { WalksLeadToRoots }
+{}
