@@ -1,0 +1,12 @@
+pub mod Rules
+pub mod There
+pub mod Accepted
+pub mod Told
+pub mod Distinct
+pub mod Groups
+pub mod Possible
+pub mod Safe
+pub mod Moments
+pub mod Printed
+pub mod Taken
+pub mod Each

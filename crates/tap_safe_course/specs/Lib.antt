@@ -1,0 +1,6 @@
+pub mod Moves
+pub mod Safe
+pub mod Moments
+pub mod Printed
+pub mod Taken
+pub mod Each

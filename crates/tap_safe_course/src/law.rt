@@ -1,0 +1,96 @@
+ghost use Rattle.tap_safe_course.specs.Each.{GroupsAreRight};
+ghost use Rattle.tap_safe_course.specs.Moments.{AtEachMoment, HasNoHole, RestIsAllCore, WalksEndAtRoots};
+ghost use Rattle.tap_safe_course.specs.Moves.{GroupMayMove};
+ghost use Rattle.tap_safe_course.specs.Printed.{RootsAreFound, WalksAreToRoots};
+ghost use Rattle.tap_safe_course.specs.Safe.{RunsAreSound, RunsGrow};
+ghost use Rattle.tap_safe_course.specs.Taken.{FramesAreReceived};
+
+/// The move that a group of a course makes is possible, if the invariant holds of the system before it: who joins is new, and comes by a
+/// core node; who starts something else is core, or joins and hasn't given that up; nobody departs; a departure starts while no frame is
+/// under way, and another node is core; and a frame that is taken is under way to a node.
+///
+/// It does nothing: its contract is the law.
+///
+/// Rule: docs/FORMATS.md, "The course of a run".
+pub fn moves_law()
+    ensures { GroupMayMove }
+{}
+
+/// A beginning within the limits is a run. With one more group that may follow, whose steps are of the settings, it is one again, and at
+/// each of its moments it is one.
+///
+/// It does nothing: its contract is the law.
+///
+/// Rule: docs/FORMATS.md, "The course of a run".
+pub fn runs_law()
+    ensures { RunsGrow }
+{}
+
+/// The system that a run has come to has the whole invariant.
+///
+/// It does nothing: its contract is the law.
+///
+/// Rule: docs/FORMATS.md, "The course of a run".
+pub fn sound_runs_law()
+    ensures { RunsAreSound }
+{}
+
+/// Each frame of a run that is taken is under way to a node, to which it isn't strange but as a copy of a cast at the greatest depth, and
+/// what follows is what this node does by its rule.
+///
+/// It does nothing: its contract is the law.
+///
+/// Rule: docs/FORMATS.md, "The course of a run".
+pub fn taken_law()
+    ensures { FramesAreReceived }
+{}
+
+/// At each moment of a run no core node's table has a hole that another core node could fill.
+///
+/// It does nothing: its contract is the law.
+///
+/// Rule: docs/FORMATS.md, "The course of a run".
+pub fn hole_free_law()
+    ensures { AtEachMoment HasNoHole }
+{}
+
+/// At each moment of a run each walk from a core node leads to the one root of its object, over core nodes alone, in as many hops as a name
+/// has digits or fewer.
+///
+/// It does nothing: its contract is the law.
+///
+/// Rule: docs/FORMATS.md, "The course of a run".
+pub fn walks_law()
+    ensures { AtEachMoment WalksEndAtRoots }
+{}
+
+/// At each rest of a run each node that is present is core, whoever was to give its join up is gone, and nobody departs; no session of a
+/// join is open, no link is a pin or marked, and whoever has a link to a core node is a holder there that is on.
+///
+/// It does nothing: its contract is the law.
+///
+/// Rule: docs/FORMATS.md, "The course of a run".
+pub fn rest_law()
+    ensures { AtEachMoment RestIsAllCore }
+{}
+
+/// What a run says of a walk is a refusal, or it leads from a core node to the one root of the object. A step that asks for a root is never
+/// refused, and the root that the run says is that of the core nodes.
+///
+/// It does nothing: its contract is the law.
+///
+/// Rule: docs/FORMATS.md, "The course of a run".
+pub fn printed_law()
+    ensures walks { WalksAreToRoots }
+    ensures roots { RootsAreFound }
+{}
+
+/// Of each group of a run, after the records before it: a walk is refused or leads to the root, a root is that of the core nodes, and a
+/// frame that is taken is received by a node.
+///
+/// It does nothing: its contract is the law.
+///
+/// Rule: docs/FORMATS.md, "The course of a run".
+pub fn each_group_law()
+    ensures { GroupsAreRight }
+{}

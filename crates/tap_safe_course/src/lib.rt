@@ -1,0 +1,12 @@
+//! What holds at each moment of a run: the move of each group is possible, so the system that the log has come to has the whole invariant;
+//! no table has a hole, each walk ends at the one root, and at rest each node that is present is core.
+//!
+//! No code is here. Each function states what holds of the course of a run.
+#![tactic(auto)]
+
+mod law;
+
+pub use law::{
+    each_group_law, hole_free_law, moves_law, printed_law, rest_law, runs_law, sound_runs_law,
+    taken_law, walks_law,
+};
