@@ -10,6 +10,7 @@ use Rattle.tap_arrivals.specs.Arrivals.{AnswersOpenSession}
 use Rattle.tap_arrivals.proofs.Arrivals.{ack_answers, arrives_at, heard_answers}
 use Rattle.tap_arrivals.proofs.NotStrange.{strange_exactly}
 use Rattle.tap_invariant.specs.Consequences.{AnswersAreAwaited, NoneIsStrange, NothingIsLeft}
+use Rattle.tap_invariant.proofs.Shallow.{comes_shallow}
 
 pub none_is_strange : NoneIsStrange
 none_is_strange p s number frame node sound among at =
@@ -17,6 +18,7 @@ none_is_strange p s number frame node sound among at =
     let same : frame ≡ frame_to node frame.from frame.body =
     ap (λ to. record { from = frame.from; to = to; body = frame.body }) (sym here.0) in
     ap (is_strange node) same ∙ strange_exactly p s number node frame.from frame.body here.1
+    ∙ comes_shallow p s number frame node sound among at
 
 answers_awaited : (body : ℕ → Body) → AnswersOpenSession body → AnswersAreAwaited body
 answers_awaited body law p s from to session node sound way at =

@@ -1,19 +1,15 @@
 -- A frame that its receiver ignores keeps the whole invariant.
-use Rattle.std.proofs.Common.{◌≡◌, ℕ, List, Option, None, Some, true, arith, refl, sym, ◌∙◌, inl, inr}
-use Rattle.std.proofs.lemmas.Bool.{cases_Bool}
+use Rattle.std.proofs.Common.{◌≡◌, ℕ, List, false, arith, refl, sym, ◌∙◌, inr}
 use Rattle.tap_name.specs.Settings.{SettingsValue}
 use Rattle.tap_wire.specs.declared.frame.Body.{Body}
-use Rattle.tap_wire.specs.declared.frame.Body.TheVariants.{Cast, Gone, Leave, Left}
+use Rattle.tap_wire.specs.declared.frame.Body.TheVariants.{Gone, Leave, Left}
 use Rattle.tap_rule.specs.Laws.{frame_to}
 use Rattle.tap_rule.specs.Node.{NodeState, name_of}
-use Rattle.tap_safety.specs.Departing.{may_be_then}
 use Rattle.tap_safety.specs.FewSessions.{SessionsAreFew}
 use Rattle.tap_safety.specs.Notices.{IsNotice}
-use Rattle.tap_safety.specs.Remembered.{Leaver}
-use Rattle.tap_safety.specs.System.{System, IsUnderWay}
+use Rattle.tap_safety.specs.System.{System}
 use Rattle.tap_safety.proofs.CountedKept.{counted_others}
 use Rattle.tap_safety.proofs.FewSessions.{few_sessions_kept}
-use Rattle.tap_safety.proofs.Peace.{frame_peace_law, notices_law, peace_kept}
 use Rattle.tap_safety.proofs.StepLaws.{await_others_law, awaited_others_law, others_law}
 use Rattle.tap_moves.specs.Delivered.{after_delivery}
 use Rattle.tap_moves.proofs.PartsMade.{parts_kept}
@@ -27,8 +23,9 @@ use Rattle.tap_departing_moves.specs.DepartingMoves.{DepartsInOrder}
 use Rattle.tap_departing_moves.specs.PartMoves.{HaveSessions, HaveTables}
 use Rattle.tap_departing_moves.proofs.DepartingMoves.{frame_in_order}
 use Rattle.tap_invariant.specs.Ignored.{IgnoredKeeps, IgnoresFrame, MayIgnore}
-use Rattle.tap_invariant.proofs.Lost.{adds_none, dones, joiners, leaves, lost, lost_core, lost_ended, lost_filled, lost_places, lost_seeking, lost_soft, lost_stamped, lost_tells, takes_frame}
+use Rattle.tap_invariant.proofs.Lost.{dones, joiners, leaves, lost, lost_core, lost_ended, lost_filled, lost_places, lost_seeking, lost_soft, lost_stamped, lost_tells, takes_frame}
 use Rattle.tap_invariant.proofs.LostWords.{lost_words}
+use Rattle.tap_invariant.proofs.Shallow.{comes_shallow, shallow_delivered}
 use Rattle.tap_invariant.proofs.Together.{put_together}
 
 -- such a frame is no notice
@@ -38,35 +35,15 @@ no_notice node Left may notice = absurd may
 no_notice node Gone may notice = absurd may
 no_notice node _ may notice = absurd notice
 
--- while a node departs no copy of a cast is under way
-no_copy_then : (body : Body) → is_deepest_copy body ≡ true → may_be_then body → ⊥
-no_copy_then (Cast cast level session depth word) deepest may = absurd may
-no_copy_then _ deepest may = absurd (cc)
-
 module _ (p : SettingsValue) (s : System) (number : ℕ) (node : NodeState) (from : List ℕ) (body : Body)
     (is : IgnoresFrame p s number node from body) where
   abbrev after : System
   after = after_delivery p s number
 
-  -- a copy of a cast comes while nobody departs
-  copy_peace : is_deepest_copy body ≡ true → (departing : Option Leaver) → s.departing ≡ departing → s.departing ≡ None
-  copy_peace deepest None none = none
-  copy_peace deepest (Some leaver) departs =
-      let way : IsUnderWay s from (name_of node) body = record { number = number; among = is.among } in
-      absurd (no_copy_then body deepest ((is.invariant.departure.during leaver departs).frames from (name_of node) body way))
-
-  lost_order : Arrives p s number node from body → DepartsInOrder after
-  lost_order arrives =
-      elim (cases_Bool (is_deepest_copy body)) [
-        | inl deepest ↦
-            let none = copy_peace deepest s.departing refl in
-            let law = frame_peace_law s after number (frame_to node from body) (takes_frame p s number node from body is)
-            (λ m among. absurd among) (adds_none p s number node from body is) none (peace_kept p s number none) is.invariant.departure in
-            record { departure = law.1; notices = notices_law s after law.0 is.invariant.notices }
-        | inr shallow ↦
-            frame_in_order p s number node from body (others_are_delivered p s number node from body arrives shallow)
-            (no_notice node body is.may)
-      ]
+  lost_order : Arrives p s number node from body → is_deepest_copy body ≡ false → DepartsInOrder after
+  lost_order arrives shallow =
+      frame_in_order p s number node from body (others_are_delivered p s number node from body arrives shallow)
+      (no_notice node body is.may)
 
   lost_tables : HaveTables p after
   lost_tables = record {
@@ -120,9 +97,10 @@ ignored_keeps p s number node from body is sound =
             few = sound.few;
             among = is.among;
             at = is.at;
-          });
+          }) (comes_shallow p s number frame node sound is.among is.at);
       named = frame_names p s number frame node is.invariant sound.nodes is.among is.at;
       ends = frame_ends p s number frame node is.invariant sound.nodes sound.askers is.among is.at;
       nodes = (parts_kept p s number frame node sound.nodes is.invariant.spelled is.invariant.numbered is.among is.at).0;
       few = lost_few p s number node from body is sound.few;
+      shallow = shallow_delivered p s number frame node sound.nodes is.invariant.numbered is.among is.at sound.shallow;
     })

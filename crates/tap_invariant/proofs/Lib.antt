@@ -1,3 +1,5 @@
+pub mod ShallowRules
+pub mod Shallow
 pub mod Members
 pub mod Lost
 pub mod LostWords

@@ -118,4 +118,5 @@ sound_at_rest p members are = record {
   nodes = members_are_nodes p members are;
   askers = askers_at_rest p members are;
   few = few_at_rest p members are;
+  shallow = record { each = λ number frame among. absurd among };
 }

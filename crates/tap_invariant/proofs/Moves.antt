@@ -1,15 +1,14 @@
 -- Each possible move keeps the whole invariant.
-use Rattle.std.proofs.Common.{◌≡◌, ◌⊎◌, ℕ, List, [], ◌∷◌, None, true, refl, ◌∙◌, inl, inr}
-use Rattle.std.proofs.lemmas.Bool.{cases_Bool}
+use Rattle.std.proofs.Common.{◌≡◌, ◌⊎◌, ℕ, List, [], ◌∷◌, None, refl, inl, inr}
 use Rattle.tap_name.specs.Settings.{SettingsValue}
 use Rattle.tap_wire.specs.declared.frame.Body.{Body}
-use Rattle.tap_wire.specs.declared.frame.Body.TheVariants.{Cast, Done, Forget, Gone as GoneNotice, Leave as LeaveNotice, Left, Release}
+use Rattle.tap_wire.specs.declared.frame.Body.TheVariants.{Done, Forget, Gone as GoneNotice, Leave as LeaveNotice, Left, Release}
 use Rattle.tap_rule.specs.Event.{Start}
 use Rattle.tap_rule.specs.Event.Start.{Leave}
 use Rattle.tap_rule.specs.FrameRules.{frame_at_ceased, rule_of_frame}
 use Rattle.tap_rule.specs.Laws.{frame_to}
 use Rattle.tap_rule.specs.Node.{NodeState, Status}
-use Rattle.tap_rule.proofs.CarriedOut.{strange_law, unruled_law}
+use Rattle.tap_rule.proofs.CarriedOut.{unruled_law}
 use Rattle.tap_safety.specs.AtRest.{system_at_rest}
 use Rattle.tap_safety.specs.Bookkeeping.{AreStamped}
 use Rattle.tap_safety.specs.FewSessions.{SessionsAreFew}
@@ -40,19 +39,20 @@ use Rattle.tap_cover_moves.proofs.GivenUp.{given_up_ended, given_up_fills, given
 use Rattle.tap_cover_moves.proofs.GivenUpWords.{given_up_words}
 use Rattle.tap_cover_moves.proofs.StampMoves.{taken_stamped}
 use Rattle.tap_cover_moves.proofs.WordMoves.{taken_words}
-use Rattle.tap_arrivals.specs.Arrivals.{Arrives, IsSetApart, is_deepest_copy}
+use Rattle.tap_arrivals.specs.Arrivals.{Arrives, IsSetApart}
 use Rattle.tap_arrivals.proofs.Arrivals.{arrives_at, taken_where_due}
-use Rattle.tap_arrivals.proofs.NotStrange.{others_are_delivered, strange_exactly}
+use Rattle.tap_arrivals.proofs.NotStrange.{others_are_delivered}
 use Rattle.tap_start_moves.specs.Starts.{IsNoDeparture}
 use Rattle.tap_start_moves.proofs.WholeStarts.{start_keeps}
 use Rattle.tap_departing_moves.specs.PartMoves.{HaveTables}
 use Rattle.tap_departing_moves.proofs.AllParts.{leaving_keeps, notice_keeps}
 use Rattle.tap_departing_moves.proofs.DepartingMoves.{frame_in_order}
-use Rattle.tap_invariant.specs.Ignored.{MayIgnore}
 use Rattle.tap_invariant.specs.Moves.{MoveKeeps, RunIsSound, may_run, moved_by}
+use Rattle.tap_invariant.specs.Shallow.{AreShallow}
 use Rattle.tap_invariant.specs.Sound.{Sound}
 use Rattle.tap_invariant.proofs.Ignored.{ignored_keeps}
 use Rattle.tap_invariant.proofs.Members.{sound_at_rest}
+use Rattle.tap_invariant.proofs.Shallow.{comes_shallow, shallow_delivered, shallow_started}
 use Rattle.tap_invariant.proofs.Together.{put_together}
 
 -- ---- a frame that isn't strange
@@ -70,8 +70,9 @@ module _ (p : SettingsValue) (s : System) (number : ℕ) (node : NodeState) (fro
   after = after_delivery p s number
 
   -- with what is shown in one way of all these
-  taken_sound : IsTakenThere node body → (IsNotice body → ⊥) → HaveAskers s → SessionsAreFew p s → IsTakenSo p after → Sound p after
-  taken_sound there no_notice askers few so =
+  taken_sound : IsTakenThere node body → (IsNotice body → ⊥) → HaveAskers s → SessionsAreFew p s → AreShallow s → IsTakenSo p after
+      → Sound p after
+  taken_sound there no_notice askers few shallow so =
       let frame = frame_to node from body in
       let counts = frame_counts p s number node from body is there in
       put_together p after (record {
@@ -93,6 +94,7 @@ module _ (p : SettingsValue) (s : System) (number : ℕ) (node : NodeState) (fro
         ends = frame_ends p s number frame node is.invariant is.nodes askers is.among is.at;
         nodes = (parts_kept p s number frame node is.nodes is.invariant.spelled is.invariant.numbered is.among is.at).0;
         few = frame_few p s number node from body is there few;
+        shallow = shallow_delivered p s number frame node is.nodes is.invariant.numbered is.among is.at shallow;
       })
 
   filled_so : IsFilledThere node body → IsTakenThere node body → IsTakenSo p after
@@ -109,14 +111,15 @@ module _ (p : SettingsValue) (s : System) (number : ℕ) (node : NodeState) (fro
   }
 
   -- a notice
-  notice_sound : IsNotice body → HaveAskers s → SessionsAreFew p s → Sound p after
-  notice_sound notice askers few =
+  notice_sound : IsNotice body → HaveAskers s → SessionsAreFew p s → AreShallow s → Sound p after
+  notice_sound notice askers few shallow =
       let frame = frame_to node from body in
       record {
         invariant = notice_keeps p s number node from body is askers notice;
         nodes = (parts_kept p s number frame node is.nodes is.invariant.spelled is.invariant.numbered is.among is.at).0;
         askers = (frame_ends p s number frame node is.invariant is.nodes askers is.among is.at).askers;
         few = notice_few p s number node from body is notice few;
+        shallow = shallow_delivered p s number frame node is.nodes is.invariant.numbered is.among is.at shallow;
       }
 
 -- the Done of a join that was given up
@@ -143,11 +146,6 @@ unfolding frame_at_ceased
 no_rule status node from (inl gone) = rw gone (refl, refl)
 no_rule status node from (inr ceased) = rw ceased (refl, refl)
 
--- a copy of a cast may be ignored
-copy_ignored : (node : NodeState) (body : Body) → is_deepest_copy body ≡ true → MayIgnore node body
-copy_ignored node (Cast cast level session depth word) deepest = tt
-copy_ignored node _ deepest = absurd (cc)
-
 -- ---- a frame that comes to a node
 
 -- it is a notice, or isn't
@@ -161,7 +159,7 @@ module _ (p : SettingsValue) (s : System) (number : ℕ) (node : NodeState) (fro
   -- a frame that is set apart: the Done of a join that was given up, and a Release or a Forget at a node that has ended
   apart_sound : (body : Body) → IsDelivery p s number node from body → IsSetApart node body → Sound p (after_delivery p s number)
   apart_sound Done is apart =
-      taken_sound p s number node from Done is tt (λ never. never) sound.askers sound.few
+      taken_sound p s number node from Done is tt (λ never. never) sound.askers sound.few sound.shallow
       (given_up_so p s number node from (record { delivery = is; given_up = apart }))
   apart_sound Release is apart =
       ignored_keeps p s number node from Release (record {
@@ -186,12 +184,12 @@ module _ (p : SettingsValue) (s : System) (number : ℕ) (node : NodeState) (fro
       → Sound p (after_delivery p s number)
   delivery_sound body here is =
       elim (notice_or_not body) [
-        | inl notice ↦ notice_sound p s number node from body is notice sound.askers sound.few
+        | inl notice ↦ notice_sound p s number node from body is notice sound.askers sound.few sound.shallow
         | inr no_notice ↦
             let due = taken_where_due p s number node from body here no_notice in
             elim due.1 [
               | inl filled ↦
-                  taken_sound p s number node from body is due.0 no_notice sound.askers sound.few
+                  taken_sound p s number node from body is due.0 no_notice sound.askers sound.few sound.shallow
                   (filled_so p s number node from body is filled due.0)
               | inr apart ↦ apart_sound body is apart
             ]
@@ -199,18 +197,8 @@ module _ (p : SettingsValue) (s : System) (number : ℕ) (node : NodeState) (fro
 
   comes_sound : (body : Body) → Arrives p s number node from body → Sound p (after_delivery p s number)
   comes_sound body here =
-      elim (cases_Bool (is_deepest_copy body)) [
-        | inl deepest ↦
-            let strange = strange_exactly p s number node from body here ∙ deepest in
-            ignored_keeps p s number node from body (record {
-              invariant = sound.invariant;
-              among = here.among;
-              at = here.at;
-              ignored = (strange_law node (frame_to node from body) strange).0;
-              may = copy_ignored node body deepest;
-            }) sound
-        | inr shallow ↦ delivery_sound body here (others_are_delivered p s number node from body here shallow)
-      ]
+      let shallow = comes_shallow p s number (frame_to node from body) node sound here.among here.at in
+      delivery_sound body here (others_are_delivered p s number node from body here shallow)
 
 -- ---- a start
 
@@ -227,6 +215,7 @@ leaving_sound p s x sound may =
       nodes = (start_keeps_parts p s x Leave sound.nodes inv.spelled may tt).0;
       askers = (start_ends p s x Leave inv sound.nodes sound.askers may tt).askers;
       few = start_few p s x Leave inv may sound.few;
+      shallow = shallow_started p s x Leave sound.nodes may sound.shallow;
     }
 
 begins_sound : (p : SettingsValue) (s : System) (x : List ℕ) (start : Start) → Sound p s → may_start p s x start
@@ -235,7 +224,13 @@ begins_sound p s x start sound may (inl leaves) =
     rw leaves (leaving_sound p s x sound (rw leaves at may))
 begins_sound p s x start sound may (inr stays) =
     let keeps = start_keeps p s x start sound.invariant sound.nodes sound.askers sound.few may stays in
-    record { invariant = keeps.0; nodes = keeps.1; askers = keeps.2; few = keeps.3 }
+    record {
+      invariant = keeps.0;
+      nodes = keeps.1;
+      askers = keeps.2;
+      few = keeps.3;
+      shallow = shallow_started p s x start sound.nodes may sound.shallow;
+    }
 
 -- ---- every move
 

@@ -11,6 +11,7 @@ use Rattle.tap_session_moves.specs.EndMoves.{HaveBothEnds}
 use Rattle.tap_session_moves.specs.JoinMoves.{HaveJoiners}
 use Rattle.tap_departing_moves.specs.DepartingMoves.{DepartsInOrder}
 use Rattle.tap_departing_moves.specs.PartMoves.{HaveSessions, HaveTables}
+use Rattle.tap_invariant.specs.Shallow.{AreShallow}
 use Rattle.tap_invariant.specs.Sound.{Sound}
 
 pub record HasParts (p : SettingsValue) (s : System) : Type 0 where
@@ -25,6 +26,7 @@ pub record HasParts (p : SettingsValue) (s : System) : Type 0 where
   pub ends : HaveBothEnds s
   pub nodes : AreNodes p s
   pub few : SessionsAreFew p s
+  pub shallow : AreShallow s
 
 pub put_together : (p : SettingsValue) (s : System) → HasParts p s → Sound p s
 put_together p s has = record {
@@ -59,4 +61,5 @@ put_together p s has = record {
   nodes = has.nodes;
   askers = has.ends.askers;
   few = has.few;
+  shallow = has.shallow;
 }

@@ -1,5 +1,5 @@
 -- What the whole invariant says of a frame as it comes to its receiver, and of a system in which no frame is under way.
-use Rattle.std.specs.Prelude.{◌≡◌, ℕ, List, [], Some}
+use Rattle.std.specs.Prelude.{◌≡◌, ℕ, false, List, [], Some}
 use Rattle.tap_name.specs.Settings.{SettingsValue}
 use Rattle.tap_session.specs.Session.{Session}
 use Rattle.tap_wire.specs.declared.frame.Body.{Body}
@@ -8,13 +8,12 @@ use Rattle.tap_rule.specs.Node.{NodeState, join_session_at}
 use Rattle.tap_rule.specs.Strange.{is_strange}
 use Rattle.tap_safety.specs.Rest.{Rest}
 use Rattle.tap_safety.specs.System.{System, AmongFrames, IsUnderWay}
-use Rattle.tap_arrivals.specs.Arrivals.{is_deepest_copy}
 use Rattle.tap_invariant.specs.Sound.{Sound}
 
--- no frame is strange to its receiver, but a copy of a cast at the greatest depth
+-- no frame is strange to its receiver
 abbrev pub NoneIsStrange : Type 0
 NoneIsStrange = (p : SettingsValue) (s : System) (number : ℕ) (frame : Frame) (node : NodeState) → Sound p s
-    → AmongFrames number frame s.frames → s.node frame.to ≡ Some node → is_strange node frame ≡ is_deepest_copy frame.body
+    → AmongFrames number frame s.frames → s.node frame.to ≡ Some node → is_strange node frame ≡ false
 
 -- an answer in a session comes to a node that keeps this session
 abbrev pub AnswersAreAwaited : (ℕ → Body) → Type 0

@@ -1,3 +1,4 @@
+pub mod Shallow
 pub mod Sound
 pub mod Ignored
 pub mod Moves

@@ -7,14 +7,17 @@ use Rattle.tap_safety.specs.Invariant.{Invariant}
 use Rattle.tap_safety.specs.System.{System}
 use Rattle.tap_moves.specs.Spelled.{AreNodes}
 use Rattle.tap_session_moves.specs.EndMoves.{HaveAskers}
+use Rattle.tap_invariant.specs.Shallow.{AreShallow}
 
 -- The invariant of joins, links and departures; each node keeps what nodes keep, under its own name, and has its pairs laid as wanted; who
--- asks for a lookup or a copy of a cast can be answered; and each node has few sessions of one joiner open.
+-- asks for a lookup or a copy of a cast can be answered; each node has few sessions of one joiner open; and copies of casts are no deeper
+-- than their levels.
 pub record Sound (p : SettingsValue) (s : System) : Type 0 where
   pub invariant : Invariant p s
   pub nodes : AreNodes p s
   pub askers : HaveAskers s
   pub few : SessionsAreFew p s
+  pub shallow : AreShallow s
 
 -- the members with which an overlay begins have it
 abbrev pub SoundAtRest : Type 0

@@ -45,8 +45,8 @@ pub fn runs_law()
     ensures { RunIsSound }
 {}
 
-/// If the whole invariant holds, no frame under way is strange to its receiver, but a copy of a cast at the greatest depth; and each answer
-/// in a session of a join comes to a node that has the session open.
+/// If the whole invariant holds, no frame under way is strange to its receiver; and each answer in a session of a join comes to a node that
+/// has the session open.
 ///
 /// It does nothing: its contract is the law.
 ///

@@ -31,7 +31,7 @@ module _ (b : Beginning) (log : List Record) (number : ℕ) (items : List Record
         node = receiver.state;
         among = arrives.among;
         receiver = receiver.is;
-        strange = none_is_strange p s number frame receiver.state sound arrives.among receiver.is;
+        fits = none_is_strange p s number frame receiver.state sound arrives.among receiver.is;
         acts =
             follows.are ∙ ap (received_records p log s) is
             ∙ ap (λ node. records_of_act p log frame.to node (Takes frame)) receiver.is;

@@ -1,7 +1,7 @@
 -- What a run says of a frame that is taken.
 --
 -- Rule: docs/FORMATS.md, "The course of a run".
-use Rattle.std.specs.Prelude.{◌≡◌, ℕ, List, ◌∷◌, Some}
+use Rattle.std.specs.Prelude.{◌≡◌, ℕ, false, List, ◌∷◌, Some}
 use Rattle.tap_name.specs.Settings.{SettingsValue}
 use Rattle.tap_wire.specs.declared.frame.Frame.{Frame}
 use Rattle.tap_log.specs.declared.record.Record.{Record}
@@ -15,17 +15,15 @@ use Rattle.tap_safety.specs.System.{System, AmongFrames}
 use Rattle.tap_course.specs.Acts.{acted_records}
 use Rattle.tap_course.specs.Beginning.{Beginning}
 use Rattle.tap_course.specs.Course.{Follows, system_of}
-use Rattle.tap_arrivals.specs.Arrivals.{is_deepest_copy}
 use Rattle.tap_safe_course.specs.Safe.{IsRun}
 
--- The frame of this number is under way to a node, to which it isn't strange but as a copy of a cast at the greatest depth; and the node
--- acts by its rule.
+-- The frame of this number is under way to a node, to which it isn't strange; and the node acts by its rule.
 pub record IsReceived (p : SettingsValue) (log : List Record) (s : System) (number : ℕ) (items : List Record) : Type 0 where
   pub frame : Frame
   pub node : NodeState
   pub among : AmongFrames number frame s.frames
   pub receiver : s.node frame.to ≡ Some node
-  pub strange : is_strange node frame ≡ is_deepest_copy frame.body
+  pub fits : is_strange node frame ≡ false
   pub acts : items ≡ acted_records p (sent_count log) frame.to (act node (Takes frame))
 
 -- so it is of each frame that is taken

@@ -35,8 +35,7 @@ pub fn sound_runs_law()
     ensures { RunsAreSound }
 {}
 
-/// Each frame of a run that is taken is under way to a node, to which it isn't strange but as a copy of a cast at the greatest depth, and
-/// what follows is what this node does by its rule.
+/// Each frame of a run that is taken is under way to a node, to which it isn't strange, and what follows is what this node does by its rule.
 ///
 /// It does nothing: its contract is the law.
 ///
