@@ -102,7 +102,7 @@ tells_leave node request slots told m tell watch among body =
     let found = among-map_from (λ (target : Target). message target.to
     (Tell request.joiner request.prefix target.level (node.sessions.opened + 1) (request.depth + 1) slots)) m told among in
     let same : Tell request.joiner request.prefix found.0.level (node.sessions.opened + 1) (request.depth + 1) slots
-        ≡ tell_body tell watch = ap (λ (n : Message). n.body) (sym found.2) ∙ body in
+    ≡ tell_body tell watch = ap (λ (n : Message). n.body) (sym found.2) ∙ body in
     cc
 
 -- ---- the watch that a cover hands on
