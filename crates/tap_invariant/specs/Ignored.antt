@@ -1,4 +1,4 @@
--- Frames that their receivers ignore: a Release or a Forget at a node that has ended, and frames of pointers and casts that are strange.
+-- Frames that their receivers ignore: a Release or a Forget at a node that has ended, and frames of pointers and casts.
 use Rattle.std.specs.Prelude.{◌≡◌, ℕ, List, Some}
 use Rattle.tap_name.specs.Settings.{SettingsValue}
 use Rattle.tap_wire.specs.declared.frame.Body.{Body}

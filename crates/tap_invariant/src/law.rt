@@ -14,8 +14,8 @@ pub fn members_law()
     ensures { SoundAtRest }
 {}
 
-/// A Release or a Forget at a node that has ended, and a frame of pointers or casts that is strange to its receiver, are ignored: once such
-/// a frame is delivered it is gone, and nothing else changes; so the whole invariant holds as before.
+/// Once a Release or a Forget at a node that has ended, or a frame of pointers or casts, is delivered to a node that ignores it, it is gone,
+/// and nothing else changes; so the whole invariant holds as before.
 ///
 /// It does nothing: its contract is the law.
 ///
@@ -58,7 +58,7 @@ pub fn arrivals_law()
 {}
 
 /// If the whole invariant holds and no frame is under way, then nothing of joins and departures is left: no session is open, nobody joins
-/// or leaves, no link is a pin or marked, and whoever has a link to a core node is a holder there that is on.
+/// or leaves, no link is a pin or marked, and a node has a link to a core node exactly if it is a holder there that is on.
 ///
 /// It does nothing: its contract is the law.
 ///

@@ -12,7 +12,7 @@ use Rattle.tap_safety.specs.Move.{Move, may_move}
 use Rattle.tap_course.specs.Beginning.{Beginning}
 use Rattle.tap_course.specs.Course.{Follows, IsCourse, move_of_group, system_of}
 
--- the steps of these records are steps of the settings: their names are names
+-- the steps of these records are those of a scenario with these settings that isn't carried
 abbrev pub AreStepsOf : SettingsValue → List Record → Type 0
 AreStepsOf p records = All (IsStep p false) (begun_steps records)
 
