@@ -11,7 +11,7 @@ use Rattle.tap_rule.specs.Node.Status.{Ceased as HasCeased, Core, Gone, Joining,
 use Rattle.tap_rule.specs.Sent.{IsAmong}
 use Rattle.tap_safety.specs.FewSessions.{SessionsAreFew}
 use Rattle.tap_safety.specs.Frames.{HelloFields}
-use Rattle.tap_safety.specs.Invariant.{Invariant}
+use Rattle.tap_safety.specs.Invariant.{Basis}
 use Rattle.tap_safety.specs.System.{System, AmongFrames}
 use Rattle.tap_moves.specs.Spelled.{AreNodes}
 use Rattle.tap_session_moves.specs.PinsRule.{IsOver}
@@ -19,7 +19,7 @@ use Rattle.tap_arrivals.specs.Arrivals.{AnswersOpenSession, Arrives, OthersHaveR
 use Rattle.tap_arrivals.proofs.Takers.{done_taker, forget_taker, hello_taker, kept_session, leave_taker, left_taker, release_taker, seek_taker, session_taker, tell_taker}
 
 -- a frame under way arrives at the node of its receiver
-pub arrives_at : (p : SettingsValue) (s : System) (number : ℕ) (frame : Frame) (node : NodeState) → Invariant p s → AreNodes p s
+pub arrives_at : (p : SettingsValue) (s : System) (number : ℕ) (frame : Frame) (node : NodeState) → Basis p s → AreNodes p s
     → SessionsAreFew p s → AmongFrames number frame s.frames → s.node frame.to ≡ Some node
     → (name_of node ≡ frame.to) × Arrives p s number node frame.from frame.body
 arrives_at p s number frame node invariant nodes few among at =

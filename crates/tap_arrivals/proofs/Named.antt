@@ -16,7 +16,7 @@ use Rattle.tap_rule.specs.Laws.{frame_to}
 use Rattle.tap_rule.specs.Node.{NodeState, link_to, name_of}
 use Rattle.tap_rule.specs.Sent.{IsAmong}
 use Rattle.tap_safety.specs.Frames.{HelloFields, hello_body}
-use Rattle.tap_safety.specs.Invariant.{Invariant}
+use Rattle.tap_safety.specs.Invariant.{Basis}
 use Rattle.tap_safety.specs.Remembered.{Leaver}
 use Rattle.tap_safety.specs.Seeking.{HasNode}
 use Rattle.tap_safety.specs.Soft.{IsSoft}
@@ -40,7 +40,7 @@ named_link name [] among = absurd among
 named_link name (first ∷ links) (inl is) = (first, inl refl, is)
 named_link name (first ∷ links) (inr later) = let found = named_link name links later in (found.0, inr found.1, found.2)
 
-module _ (p : SettingsValue) (s : System) (inv : Invariant p s) where
+module _ (p : SettingsValue) (s : System) (inv : Basis p s) where
   -- a marked link is to the one that departs, which leaves or is gone
   marked_node : (x t : List ℕ) → HasLink s x t Marked → HasNode s t
   marked_node x t link = by_departing s.departing refl

@@ -12,17 +12,17 @@ use Rattle.tap_rule.specs.Node.Status.{Gone}
 use Rattle.tap_rule.specs.QuietSteps.{IsQuiet}
 use Rattle.tap_rule.specs.Strange.{is_strange, most_depth}
 use Rattle.tap_safety.specs.FewSessions.{SessionsAreFew}
-use Rattle.tap_safety.specs.Invariant.{Invariant}
+use Rattle.tap_safety.specs.Invariant.{Basis}
 use Rattle.tap_safety.specs.Notices.{IsNotice}
 use Rattle.tap_safety.specs.System.{System, AmongFrames}
 use Rattle.tap_moves.specs.InvariantLaws.{IsDelivery, IsFilledThere, IsTakenThere}
 use Rattle.tap_moves.specs.Spelled.{AreNodes}
 use Rattle.tap_session_moves.specs.PinsRule.{IsOver}
 
--- The invariant holds, each node is one that steps keep valid, with few open sessions of each joiner, and a frame of this number, sender and
--- body is under way to this node. Nothing is said of whether the frame is strange to it.
+-- The basis of the invariant holds, each node is one that steps keep valid, with few open sessions of each joiner, and a frame of this
+-- number, sender and body is under way to this node. Nothing is said of whether the frame is strange to it.
 pub record Arrives (p : SettingsValue) (s : System) (number : ℕ) (node : NodeState) (from : List ℕ) (body : Body) : Type 0 where
-  pub invariant : Invariant p s
+  pub invariant : Basis p s
   pub nodes : AreNodes p s
   pub few : SessionsAreFew p s
   pub among : AmongFrames number (frame_to node from body) s.frames

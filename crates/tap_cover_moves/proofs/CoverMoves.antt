@@ -14,6 +14,7 @@ use Rattle.tap_session.specs.Session.{Session, SessionsValue}
 use Rattle.tap_table.specs.Table.{kind_in}
 use Rattle.tap_table.specs.Ties.{TiesValue, holders_on}
 use Rattle.tap_multicast.specs.Covers.{level_kept}
+use Rattle.tap_multicast.proofs.KeptLevels.{kept_exactly}
 use Rattle.tap_join.specs.Seek.{sought}
 use Rattle.tap_join.specs.declared.sought.Sought.{Sought}
 use Rattle.tap_join.specs.declared.sought.Sought.TheVariants.{Forward, Surrogate}
@@ -48,17 +49,19 @@ use Rattle.tap_safety.specs.SeekStep.{IsGreeted, SeatsJoiner}
 use Rattle.tap_safety.specs.Seeking.{IsSeeker}
 use Rattle.tap_safety.specs.Soft.{AddsSoundLinks, IsSoft, IsSoundBody, IsSoundLink, NamesSoft, SendsSound}
 use Rattle.tap_safety.specs.Step.{IsSent, with_at}
-use Rattle.tap_safety.specs.System.{System, Covers, HasLink, IsCoreNode, IsJoiner}
-use Rattle.tap_safety.specs.TellStep.{CoversAnew, TakesKnownTell, TakesTell}
+use Rattle.tap_safety.specs.System.{System, HasLink, IsCoreNode, IsJoiner}
+use Rattle.tap_safety.specs.TellStep.{CoversAnew, TakesTell}
 use Rattle.tap_safety.specs.Turned.{opened_by, surrogates_with}
-use Rattle.tap_safety.proofs.FrameKeeps.{one_state}
+use Rattle.tap_safety.proofs.CoverSeeking.{cover_leaves_seekers, cover_leaves_tells, joiners_same}
 use Rattle.tap_safety.proofs.Moves.{with_at-here, with_at-others}
 use Rattle.tap_safety.proofs.Peace.{peace_kept}
 use Rattle.tap_safety.proofs.SeatSoft.{joiner_is_new, seat_softs}
-use Rattle.tap_safety.proofs.SoftKept.{sent_each}
-use Rattle.tap_safety.proofs.SoftSteps.{softs_same}
-use Rattle.tap_safety.proofs.StepLaws.{gives_quiet_law, seeking_done_law, seeking_known_law, seeking_seat_law, seeking_tell_law, soft_done_law, soft_known_law, soft_seat_law, soft_tell_law}
+use Rattle.tap_safety.proofs.SeekingKept.{seeker_not_soft, seekers_kept, seeking_kept, tells_kept}
+use Rattle.tap_safety.proofs.SoftKept.{sent_each, soft_kept}
+use Rattle.tap_safety.proofs.SoftSteps.{links_sound, softs_same}
+use Rattle.tap_safety.proofs.StepLaws.{gives_quiet_law, seeking_done_law, seeking_seat_law, seeking_tell_law, soft_done_law, soft_seat_law, soft_tell_law}
 use Rattle.tap_safety.proofs.TellKeeps.{core_kept, joiner_after}
+use Rattle.tap_safety.proofs.Told.{was_under_way}
 use Rattle.tap_moves.specs.ByRule.{StartsNone, TakesByRule, taken_at}
 use Rattle.tap_moves.specs.CalmMoves.{AreSought, IsPeaceful}
 use Rattle.tap_moves.specs.Delivered.{after_delivery}
@@ -67,7 +70,7 @@ use Rattle.tap_moves.proofs.CalmMoves.{frame_peaceful, frame_seeks}
 use Rattle.tap_moves.proofs.CoverMade.{covers_anew}
 use Rattle.tap_moves.proofs.InSession.{seek_opens, tell_in_session}
 use Rattle.tap_moves.proofs.InvariantMoves.{due, frame_soft, joins_here, name_at, of_node, of_tell, told, told_name, unmarked, way}
-use Rattle.tap_moves.proofs.Made.{known_tell_is_made}
+use Rattle.tap_moves.proofs.Made.{covers_stay}
 use Rattle.tap_moves.proofs.MovesMade.{by_rule, is_found, starts_none_as, tell_starts_none}
 use Rattle.tap_moves.proofs.Nearness.{name_inside}
 use Rattle.tap_moves.proofs.SeekMade.{seek_covers, seek_greets}
@@ -225,45 +228,47 @@ module _ (p : SettingsValue) (s : System) (number : ℕ) (node : NodeState) (fro
         peaceful = tell_peaceful;
       }
 
+  -- the cover stays, and no link changes but a pin on the joiner
   tell_known : (kept : ℕ) → level_of node tell.joiner ≡ Some kept → kept ≤ tell.level → KeepsNames p tell_after
   tell_known kept level most =
       let inv = is.invariant in
+      let frame : Frame = record { from = from; to = name_of node; body = tell_body tell watch } in
       let joiner = (told p s number node from tell watch is).joiner in
-      let covers : Covers s (name_of node) tell.joiner kept = record { state = node; is = is.at; cover = level } in
-      let pin = (inv.filled.covered.each (name_of node) tell.joiner kept tell_core joiner covers).pin in
-      let same = one_state s (name_of node) pin.state node pin.is is.at in
-      let made = known_tell_is_made s tell_after number node from tell watch kept tell_taken tell_none at
-      (told_name p s number node from tell watch is) (ap (λ (n : NodeState). link_to n tell.joiner) (sym same) ∙ pin.link) level most in
-      let was : made.before ≡ node = one_state s (name_of node) made.before node made.at.was is.at in
-      let now : made.after ≡ tell_acted.state =
-      one_state tell_after (name_of node) made.after tell_acted.state made.at.is tell_taken.at.is in
-      let step : TakesKnownTell s tell_after number from (name_of node) tell watch = record {
-        before = node;
-        after = tell_acted.state;
-        sent = tell_acted.sent;
-        taken = tell_taken.taken;
-        at = tell_taken.at;
-        status = tell_step.status;
-        links = λ t.
-            ap (λ (n : NodeState). link_to n t) (sym now) ∙ made.links t ∙ ap (λ (n : NodeState). link_to n t) was;
-        covers = λ d.
-            ap (λ (n : NodeState). level_kept n.covers d) (sym now) ∙ made.covers d
-            ∙ ap (λ (n : NodeState). level_kept n.covers d) was;
-        kept = kept;
-        covered = level;
-        most = most;
-        surrogate = tell_none;
-      } in
-      let has = tell_covered kept (step.covers tell.joiner ∙ level) in
-      let law = seeking_known_law p s tell_after number from (name_of node) tell watch step tell_core joiner
-      (sends_covers p tell_after node (request_of from tell watch) has tell_acted tell_carried) in
+      let test = (kept_exactly (level_of node tell.joiner) tell.level).1 (kept, level, most) in
+      let same = covers_stay node (request_of from tell watch) tell_acted tell_step test in
+      let covers = λ (d : List ℕ). ap (λ c. level_kept c d) same in
+      let covered : level_kept tell_acted.state.covers tell.joiner ≡ Some kept = covers tell.joiner ∙ level in
+      let has = tell_covered kept covered in
+      let sends = sends_covers p tell_after node (request_of from tell watch) has tell_acted tell_carried in
+      let sound = sends_sound p tell_after node (request_of from tell watch) has tell_acted tell_carried in
+      let leaves = cover_leaves_seekers p s tell_after number frame tell_acted.sent tell_taken.taken sends (name_of node) node
+      tell_acted.state tell_taken.at tell_step.status tell.joiner (inl tell_joiner) (λ d. inr (tell_none d)) (λ d. inr (covers d)) tell_core
+      tell_step.pins.others (λ y seeker. not_seek y) (λ from_one to m among seeker. seeker_not_soft s tell.joiner seeker (inl joiner)) in
       record {
         soft =
-            soft_known_law s tell_after number from (name_of node) tell watch step
-            (sends_sound p tell_after node (request_of from tell watch) has tell_acted tell_carried) inv.soft;
-        sought = record { seeking = law.0.0 inv.seeking; seekers = law.0.1 inv.seekers; tells = law.1 inv.tells };
+            soft_kept s tell_after tell_cores tell_softs
+            (links_sound s tell_after (name_of node) node tell_acted.state tell_taken.at
+            (pin_sound tell_after node tell.joiner tell_acted tell_step.pins (inl tell_joiner)))
+            (λ w t body under.
+            elim (was_under_way s tell_after number frame tell_acted.sent tell_taken.taken w t body under) [
+              | inl old ↦ inl old
+              | inr comes ↦ inr (sound w t body comes)
+            ]) inv.soft;
+        sought = record {
+          seeking = seeking_kept s tell_after leaves inv.seeking;
+          seekers = seekers_kept s tell_after leaves inv.seekers;
+          tells =
+              tells_kept p s tell_after
+              (cover_leaves_tells p s tell_after number frame tell_acted.sent tell_taken.taken sends (name_of node) node tell_acted.state
+              tell_taken.at tell_step.status tell.joiner (inl tell_joiner) (λ d. inr (tell_none d)) (λ d. inr (covers d)) tell_softs
+              (joiners_same s tell_after (name_of node) node tell_acted.state tell_taken.at tell_step.status tell_none)
+              (λ d joins. tell_none d) kept covered) inv.tells;
+        };
         peaceful = tell_peaceful;
       }
+    where
+      not_seek : (y : List ℕ) → tell_body tell watch ≡ Seek y → ⊥
+      not_seek y seeks = let wrong : tell_body tell watch ≡ Seek y = seeks in cc
 
   tell_by : (level : Option ℕ) → level_of node tell.joiner ≡ level → KeepsNames p tell_after
   tell_by None none = tell_anew (λ kept some. let wrong : None ≡ Some kept = sym none ∙ some in absurd (cc))

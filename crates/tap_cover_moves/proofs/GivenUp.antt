@@ -282,8 +282,8 @@ module _ (p : SettingsValue) (s : System) (number : ℕ) (node : NodeState) (fro
   no_tell : TakesNoTell s after
   no_tell = record { told = told_on }
 
-  fills : AreFilled p after
-  fills = filled_calm p s after keeps adds_none adds_no_cover (still_told s after keeps no_tell) is.invariant.filled
+  fills : AreFilled p s → AreFilled p after
+  fills filled = filled_calm p s after keeps adds_none adds_no_cover (still_told s after keeps no_tell) filled
 
   ended : EndedHaveNoLinks after
   ended =
@@ -463,7 +463,7 @@ module _ (p : SettingsValue) (s : System) (number : ℕ) (node : NodeState) (fro
 -- ---- the laws
 
 pub given_up_fills : GivenUpFills
-given_up_fills p s number node from ends = fills p s number node from ends.delivery ends.given_up
+given_up_fills p s number node from ends filled = fills p s number node from ends.delivery ends.given_up filled
 
 pub given_up_ended : GivenUpEnded
 given_up_ended p s number node from ends = ended p s number node from ends.delivery ends.given_up

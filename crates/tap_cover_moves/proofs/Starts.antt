@@ -17,7 +17,7 @@ use Rattle.tap_rule.specs.Sent.{AreSent, IsAmong}
 use Rattle.tap_rule.proofs.QuietSteps.{quiet_start_law}
 use Rattle.tap_rule.proofs.StartSteps.{give_up_law, seek_start_law}
 use Rattle.tap_safety.specs.Bookkeeping.{AreStamped, EndedHaveNoLinks}
-use Rattle.tap_safety.specs.Invariant.{Invariant}
+use Rattle.tap_safety.specs.Invariant.{Basis}
 use Rattle.tap_safety.specs.Move.{MayGiveUp}
 use Rattle.tap_safety.specs.Moved.{IsStarted, starter}
 use Rattle.tap_safety.specs.Step.{ChangesAt}
@@ -64,7 +64,7 @@ module _ (p : SettingsValue) (s : System) (x : List ℕ) (start : Start) (node :
         λ ceased. never.1 (status_seen s x node Ceased at (sym status ∙ ceased)),
       )) ended
 
-  plain_stamped : node.stamp ≤ acted.state.stamp → NoLinks acted.sent → Invariant p s → AreStamped after
+  plain_stamped : node.stamp ≤ acted.state.stamp → NoLinks acted.sent → Basis p s → AreStamped after
   plain_stamped stamp none inv =
       stamps_start s after x node acted.state acted.sent step.sent changes step.done (silent_stamps node acted x status stamp none)
       inv.versions inv.stamped
@@ -72,7 +72,7 @@ module _ (p : SettingsValue) (s : System) (x : List ℕ) (start : Start) (node :
 -- ---- a publication, a withdrawal, a lookup or a cast
 
 module _ (p : SettingsValue) (s : System) (x : List ℕ) (start : Start) (node : NodeState) (at : s.node x ≡ Some node)
-    (starter_is : starter p s x start ≡ Some node) (quiet : IsQuietStart start) (inv : Invariant p s) where
+    (starter_is : starter p s x start ≡ Some node) (quiet : IsQuietStart start) (inv : Basis p s) where
   quiet_ended : EndedHaveNoLinks (after_start p s x start)
   quiet_ended =
       let law = quiet_start_law node start quiet in
@@ -86,7 +86,7 @@ module _ (p : SettingsValue) (s : System) (x : List ℕ) (start : Start) (node :
 
 -- ---- a join that is given up
 
-module _ (p : SettingsValue) (s : System) (x : List ℕ) (may : MayGiveUp s x) (inv : Invariant p s) where
+module _ (p : SettingsValue) (s : System) (x : List ℕ) (may : MayGiveUp s x) (inv : Basis p s) where
   gives_up_ended : EndedHaveNoLinks (after_start p s x Abandon)
   gives_up_ended =
       let law = give_up_law may.state may.joining in
@@ -101,7 +101,7 @@ module _ (p : SettingsValue) (s : System) (x : List ℕ) (may : MayGiveUp s x) (
 
 -- ---- a new name that starts to join
 
-module _ (p : SettingsValue) (s : System) (x via : List ℕ) (fresh : s.node x ≡ None) (inv : Invariant p s) where
+module _ (p : SettingsValue) (s : System) (x via : List ℕ) (fresh : s.node x ≡ None) (inv : Basis p s) where
   abbrev joins : Acted
   joins = act (joiner p x) (Starts (Join via))
 

@@ -20,7 +20,7 @@ pub record EndsGivenUp (p : SettingsValue) (s : System) (number : ℕ) (node : N
 -- what leads to tables without holes holds after it
 abbrev pub GivenUpFills : Type 0
 GivenUpFills = (p : SettingsValue) (s : System) (number : ℕ) (node : NodeState) (from : List ℕ) → EndsGivenUp p s number node from
-    → AreFilled p (after_delivery p s number)
+    → AreFilled p s → AreFilled p (after_delivery p s number)
 
 -- a node that has ended has no link
 abbrev pub GivenUpEnded : Type 0

@@ -27,38 +27,40 @@ use Rattle.tap_departing_moves.proofs.WordMoves.{leaving_words, notice_words}
 all_parts : (p : SettingsValue) (s : System) → HaveTables p s → HaveSessions s → AreSought p s → HaveJoiners s → DepartsInOrder s
     → WordsStand s → AreStamped s → HaveBothEnds s → AreNamed p s → Invariant p s
 all_parts p s tables sessions sought joiners order words stamped ends named = record {
-  soft = tables.soft;
-  seeking = sought.seeking;
-  exact = sessions.exact;
-  awaited = sessions.awaited;
-  of_joiners = joiners.of_joiners;
-  tells = sought.tells;
-  counted = sessions.counted;
+  basis = record {
+    soft = tables.soft;
+    seeking = sought.seeking;
+    exact = sessions.exact;
+    awaited = sessions.awaited;
+    of_joiners = joiners.of_joiners;
+    tells = sought.tells;
+    counted = sessions.counted;
+    ceased = words.ceased;
+    ties = words.ties;
+    departure = order.departure;
+    notices = order.notices;
+    seekers = sought.seekers;
+    ends_once = joiners.ends_once;
+    await = sessions.await;
+    deeper = sessions.deeper;
+    places = sessions.places;
+    ends = ends.ends;
+    versions = words.versions;
+    stamped = stamped;
+    ended = tables.ended;
+    has_core = tables.has_core;
+    numbered = named.numbered;
+    names = named.names;
+    few = named.few;
+    spelled = named.spelled;
+  };
   filled = tables.filled;
-  ceased = words.ceased;
-  ties = words.ties;
-  departure = order.departure;
-  notices = order.notices;
-  seekers = sought.seekers;
-  ends_once = joiners.ends_once;
-  await = sessions.await;
-  deeper = sessions.deeper;
-  places = sessions.places;
-  ends = ends.ends;
-  versions = words.versions;
-  stamped = stamped;
-  ended = tables.ended;
-  has_core = tables.has_core;
-  numbered = named.numbered;
-  names = named.names;
-  few = named.few;
-  spelled = named.spelled;
 }
 
 -- after a notice
 pub notice_keeps : NoticeKeeps
-notice_keeps p s number node from body is askers notice =
-    all_parts p (after_delivery p s number) (notice_tables p s number node from body is notice)
+notice_keeps p s number node from body is filled askers notice =
+    all_parts p (after_delivery p s number) (notice_tables p s number node from body is filled notice)
     (notice_sessions p s number node from body is notice) (notice_seeks p s number node from body is notice)
     (notice_joins p s number node from body is notice) (notice_in_order p s number node from body is notice)
     (notice_words p s number node from body is notice) (notice_stamped p s number node from body is notice)
@@ -69,6 +71,6 @@ notice_keeps p s number node from body is askers notice =
 pub leaving_keeps : LeavingKeeps
 leaving_keeps p s x inv nodes askers may =
     all_parts p (after_start p s x Leave) (leaving_tables p s x inv nodes may) (leaving_sessions p s x inv nodes may)
-    (leaving_seeks p s x inv nodes may) (start_joins p s x Leave inv may) (leaving_in_order p s x inv nodes may)
-    (leaving_words p s x inv nodes may) (leaving_stamped p s x inv nodes may) (start_ends p s x Leave inv nodes askers may tt)
-    (start_names p s x Leave inv nodes may tt)
+    (leaving_seeks p s x inv nodes may) (start_joins p s x Leave inv.basis may) (leaving_in_order p s x inv nodes may)
+    (leaving_words p s x inv nodes may) (leaving_stamped p s x inv nodes may) (start_ends p s x Leave inv.basis nodes askers may tt)
+    (start_names p s x Leave inv.basis nodes may tt)

@@ -22,7 +22,8 @@ use Rattle.tap_rule.specs.Node.Status.{Ceased, Core, Gone, Joining, Leaving}
 use Rattle.tap_rule.proofs.CarriedOut.{unruled_law}
 use Rattle.tap_rule.proofs.EndSteps.{gone_law, leave_law}
 use Rattle.tap_safety.specs.Departing.{WhileDeparting}
-use Rattle.tap_safety.specs.Invariant.{Invariant}
+use Rattle.tap_safety.specs.Filled.{AreFilled}
+use Rattle.tap_safety.specs.Invariant.{Basis, Invariant}
 use Rattle.tap_safety.specs.Joins.{AreOfJoiners}
 use Rattle.tap_safety.specs.Move.{MayLeave}
 use Rattle.tap_safety.specs.Notices.{IsNotice}
@@ -76,7 +77,7 @@ held_ended node after sessions covers = record {
 
 -- ---- a step while somebody departs
 
-module _ (p : SettingsValue) (s s' : System) (x : List ℕ) (node after : NodeState) (inv : Invariant p s) (at : ChangesAt s s' x node after)
+module _ (p : SettingsValue) (s s' : System) (x : List ℕ) (node after : NodeState) (inv : Basis p s) (at : ChangesAt s s' x node after)
     (held : IsHeld node after) (nobody : (y : List ℕ) → IsJoiner s y → ⊥) (leaver : Leaver) (during : WhileDeparting s' leaver) where
   -- no node keeps a session, since it would be a joiner's
   none_kept : (y : List ℕ) (k : ℕ) (state : NodeState) (session : Session) → s'.node y ≡ Some state
@@ -149,12 +150,12 @@ module _ (p : SettingsValue) (s : System) (number : ℕ) (node : NodeState) (fro
               who.1 inv.departure inv.notices inv.soft,
         )
 
-    gone_have : HaveTables p after
-    gone_have =
+    gone_have : AreFilled p s → HaveTables p after
+    gone_have filled =
         let who = who_departs p s number node from GoneBody is tt in
         let inv = is.invariant in
         gone_tables s after number from (name_of node) (gone_taken p s number node from is) (until_rest_law p s number) who.0 who.1
-        inv.departure inv.notices inv.soft p inv.filled.hole_free inv.has_core inv.ended
+        inv.departure inv.notices inv.soft p filled.hole_free inv.has_core inv.ended
 
   -- a Leave
   module _ (replacement : Option (List ℕ)) (is : IsDelivery p s number node from (Leave replacement)) where
@@ -172,12 +173,12 @@ module _ (p : SettingsValue) (s : System) (number : ℕ) (node : NodeState) (fro
               (until_rest_law p s number) who.0 who.1 inv.departure inv.notices inv.soft inv.numbered inv.ends,
         )
 
-    leave_have : HaveTables p after
-    leave_have =
+    leave_have : AreFilled p s → HaveTables p after
+    leave_have filled =
         let who = who_departs p s number node from (Leave replacement) is tt in
         let inv = is.invariant in
         leave_tables s after number from (name_of node) replacement (leave_taken p s number node from replacement is)
-        (until_rest_law p s number) who.0 who.1 inv.departure inv.notices inv.soft inv.numbered inv.ends p inv.filled.hole_free
+        (until_rest_law p s number) who.0 who.1 inv.departure inv.notices inv.soft inv.numbered inv.ends p filled.hole_free
         inv.has_core inv.ended
 
   -- a Left
@@ -224,18 +225,18 @@ module _ (p : SettingsValue) (s : System) (number : ℕ) (node : NodeState) (fro
         by link Ceased at =
             absurd ((is.invariant.ended.none from (name_of node) Marked link).1 (status_seen s from link.state Ceased link.is at))
 
-    left_have : HaveTables p after
-    left_have =
+    left_have : AreFilled p s → HaveTables p after
+    left_have filled =
         let who = who_departs p s number node from Left is tt in
         let inv = is.invariant in
         elim (cases_eq (length (names_but node.awaited from)) 0) [
           | inl last ↦
               has_left_tables s after who.0 node (taken_at node from Left).state (left_has_left p s number node from is last) p from
               (λ here. sender_apart p s number node from Left is tt (here ∙ sym (left_said p s number node from is).0)) sender_core
-              inv.soft inv.filled.hole_free inv.ended
+              inv.soft filled.hole_free inv.ended
           | inr others ↦
               left_tables s after number from (name_of node) (left_waits p s number node from is others) (until_rest_law p s number) who.0
-              who.1 inv.departure inv.notices inv.numbered p inv.soft inv.filled.hole_free inv.has_core inv.ended
+              who.1 inv.departure inv.notices inv.numbered p inv.soft filled.hole_free inv.has_core inv.ended
         ]
 
 -- after each notice the node keeps these
@@ -264,10 +265,10 @@ nobody_before p s number node from body is notice =
 -- ---- the laws
 
 pub notice_tables : NoticeTables
-notice_tables p s number node from (Leave replacement) is notice = leave_have p s number node from replacement is
-notice_tables p s number node from Left is notice = left_have p s number node from is
-notice_tables p s number node from GoneBody is notice = gone_have p s number node from is
-notice_tables p s number node from _ is notice = absurd notice
+notice_tables p s number node from (Leave replacement) is filled notice = leave_have p s number node from replacement is filled
+notice_tables p s number node from Left is filled notice = left_have p s number node from is filled
+notice_tables p s number node from GoneBody is filled notice = gone_have p s number node from is filled
+notice_tables p s number node from _ is filled notice = absurd notice
 
 pub notice_sessions : NoticeSessions
 notice_sessions p s number node from body is notice =
@@ -322,33 +323,33 @@ module _ (p : SettingsValue) (s : System) (x : List ℕ) (inv : Invariant p s) (
   given_core a r given =
       let ties = leaver_ties p s x inv nodes may in
       let least = least_above_is leaving.ties.table ties.table (lcp a (name_of leaving)) r given in
-      inv.soft.settled x r (record { state = leaving; is = may.acts.is; link = least.settled })
+      inv.basis.soft.settled x r (record { state = leaving; is = may.acts.is; link = least.settled })
 
   starts_have : HaveTables p left
   starts_have = elim (cases_eq (length (holders_on leaving.ties)) 0) [
     | inl none ↦
         has_left_tables s left (leaver_of x leaving) leaving left_state (has_left p s x inv nodes may none) p may.other may.apart may.stays
-        inv.soft inv.filled.hole_free inv.ended
+        inv.basis.soft inv.filled.hole_free inv.basis.ended
     | inr some ↦
         starts_tables s left (leaver_of x leaving) leaving left_state (replacement_for leaving.ties.table)
-        (starts_leaving p s x inv nodes may some) p inv.soft given_core inv.filled.hole_free inv.has_core inv.ended
+        (starts_leaving p s x inv nodes may some) p inv.basis.soft given_core inv.filled.hole_free inv.basis.has_core inv.basis.ended
   ]
 
   -- nobody joins at rest
   nobody_then : (b : List ℕ) → IsJoiner s b → ⊥
   nobody_then b joiner =
-      (rest_holds p s inv may.rest).joining b (status_seen s b joiner.state Joining joiner.is joiner.joining)
+      (rest_holds p s inv.basis may.rest).joining b (status_seen s b joiner.state Joining joiner.is joiner.joining)
 
   starts_sessions : HaveSessions left
   starts_sessions =
       let step = leaver_step p s x inv nodes may in
-      sessions_after p s left x leaving left_state inv (changes p s x inv nodes may) starts_held nobody_then (leaver_of x leaving)
-      starts_during (numbers_sent s left (act leaving (Starts LeaveStart)).sent step.sent inv.numbered)
-      (start_joins p s x LeaveStart inv may).of_joiners
+      sessions_after p s left x leaving left_state inv.basis (changes p s x inv nodes may) starts_held nobody_then (leaver_of x leaving)
+      starts_during (numbers_sent s left (act leaving (Starts LeaveStart)).sent step.sent inv.basis.numbered)
+      (start_joins p s x LeaveStart inv.basis may).of_joiners
 
   starts_sought : AreSought p left
   starts_sought =
-      sought_after p s left x leaving left_state inv (changes p s x inv nodes may) starts_held nobody_then (leaver_of x leaving)
+      sought_after p s left x leaving left_state inv.basis (changes p s x inv nodes may) starts_held nobody_then (leaver_of x leaving)
       starts_during
 
 -- and it is so after the start of a departure, also if the node ends at once

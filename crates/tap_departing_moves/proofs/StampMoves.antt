@@ -243,7 +243,7 @@ module _ (p : SettingsValue) (s : System) (x : List ℕ) (inv : Invariant p s) (
   starts_stamped =
       let step = leaver_step p s x inv nodes may in
       stamps_start s (after_start p s x LeaveStart) x node acted.state acted.sent step.sent (changes p s x inv nodes may) step.done
-      starts_stamps inv.versions inv.stamped
+      starts_stamps inv.basis.versions inv.basis.stamped
 
 pub leaving_stamped : LeavingStamped
 leaving_stamped p s x inv nodes may = starts_stamped p s x inv nodes may

@@ -123,7 +123,7 @@ module _ (p : SettingsValue) (s : System) (x : List ℕ) (inv : Invariant p s) (
   changes = record { was = at; is = step.done.is; others = step.done.others }
 
   pub rest : Rest s
-  rest = rest_holds p s inv may.rest
+  rest = rest_holds p s inv.basis may.rest
 
   is_core : status_of s x ≡ Some Core
   is_core = status_seen s x node Core at core

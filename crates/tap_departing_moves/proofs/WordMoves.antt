@@ -398,9 +398,10 @@ module _ (p : SettingsValue) (s : System) (x : List ℕ) (inv : Invariant p s) (
   starts_told words messages are none tells hears registers =
       let table : has_table node.status = subst has_table (sym may.acts.core) tt in
       let says = says_enough s left x node starts_acted.state words messages starts_acted.sent are none (changes p s x inv nodes may)
-      (leaver_step p s x inv nodes may).done tells (λ t old last. inv.stamped.stamp x t old node may.acts.is table last) hears registers
+      (leaver_step p s x inv nodes may).done tells (λ t old last. inv.basis.stamped.stamp x t old node may.acts.is table last) hears
+      registers
       none_before (λ y t word way. inr (sent_now y t word way)) sent_way in
-      enough_stand s left says (leaver_of x node) (leaving_during p s x inv nodes may) inv.ties inv.versions
+      enough_stand s left says (leaver_of x node) (leaving_during p s x inv nodes may) inv.basis.ties inv.basis.versions
 
   -- the leaver heard words before, as a core node
   hears_before : (t : List ℕ) → hears_words (status_of left t) → hears_words (status_of s t)

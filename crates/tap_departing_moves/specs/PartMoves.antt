@@ -61,7 +61,8 @@ abbrev pub LeavingSeeks : Type 0
 LeavingSeeks = AfterLeaving AreSought
 
 abbrev pub NoticeTables : Type 0
-NoticeTables = AfterNotice HaveTables
+NoticeTables = (p : SettingsValue) (s : System) (number : ℕ) (node : NodeState) (from : List ℕ) (body : Body)
+    → IsDelivery p s number node from body → AreFilled p s → IsNotice body → HaveTables p (after_delivery p s number)
 
 abbrev pub LeavingTables : Type 0
 LeavingTables = AfterLeaving HaveTables
@@ -85,7 +86,7 @@ LeavingWords = AfterLeaving (λ p s. WordsStand s)
 -- the invariant holds after each notice, if who asks can be answered
 abbrev pub NoticeKeeps : Type 0
 NoticeKeeps = (p : SettingsValue) (s : System) (number : ℕ) (node : NodeState) (from : List ℕ) (body : Body)
-    → IsDelivery p s number node from body → HaveAskers s → IsNotice body → Invariant p (after_delivery p s number)
+    → IsDelivery p s number node from body → AreFilled p s → HaveAskers s → IsNotice body → Invariant p (after_delivery p s number)
 
 -- and once a node has started to leave
 abbrev pub LeavingKeeps : Type 0

@@ -20,13 +20,14 @@ use Rattle.tap_session_moves.proofs.LeavesJoins.{joins_others_law}
 use Rattle.tap_arrivals.specs.Arrivals.{Arrives, is_deepest_copy}
 use Rattle.tap_arrivals.proofs.NotStrange.{others_are_delivered}
 use Rattle.tap_departing_moves.specs.DepartingMoves.{DepartsInOrder}
-use Rattle.tap_departing_moves.specs.PartMoves.{HaveSessions, HaveTables}
+use Rattle.tap_departing_moves.specs.PartMoves.{HaveSessions}
 use Rattle.tap_departing_moves.proofs.DepartingMoves.{frame_in_order}
 use Rattle.tap_invariant.specs.Ignored.{IgnoredKeeps, IgnoresFrame, MayIgnore}
+use Rattle.tap_invariant.specs.Sound.{SoundBasis}
 use Rattle.tap_invariant.proofs.Lost.{dones, joiners, leaves, lost, lost_core, lost_ended, lost_filled, lost_places, lost_seeking, lost_soft, lost_stamped, lost_tells, takes_frame}
 use Rattle.tap_invariant.proofs.LostWords.{lost_words}
 use Rattle.tap_invariant.proofs.Shallow.{comes_shallow, shallow_delivered}
-use Rattle.tap_invariant.proofs.Together.{put_together}
+use Rattle.tap_invariant.proofs.Together.{basis_of, put_together, with_tables}
 
 -- such a frame is no notice
 no_notice : (node : NodeState) (body : Body) → MayIgnore node body → IsNotice body → ⊥
@@ -44,14 +45,6 @@ module _ (p : SettingsValue) (s : System) (number : ℕ) (node : NodeState) (fro
   lost_order arrives shallow =
       frame_in_order p s number node from body (others_are_delivered p s number node from body arrives shallow)
       (no_notice node body is.may)
-
-  lost_tables : HaveTables p after
-  lost_tables = record {
-    filled = lost_filled p s number node from body is;
-    soft = lost_soft p s number node from body is;
-    has_core = lost_core p s number node from body is;
-    ended = lost_ended p s number node from body is;
-  }
 
   lost_sessions : HaveSessions after
   lost_sessions =
@@ -79,12 +72,16 @@ module _ (p : SettingsValue) (s : System) (number : ℕ) (node : NodeState) (fro
       (λ x b k of. record { session = of.session; is = sym (gone.session x k) ∙ of.is; joiner = of.joiner })
       (λ x b now there. inr (now, sym (gone.node x) ∙ there, omega arith)) few
 
-pub ignored_keeps : IgnoredKeeps
-ignored_keeps p s number node from body is sound =
+-- the basis is kept
+pub ignored_basis : (p : SettingsValue) (s : System) (number : ℕ) (node : NodeState) (from : List ℕ) (body : Body)
+    → IgnoresFrame p s number node from body → SoundBasis p s → SoundBasis p (after_delivery p s number)
+ignored_basis p s number node from body is sound =
     let seeking = lost_seeking p s number node from body is in
     let frame = frame_to node from body in
     put_together p (after_delivery p s number) (record {
-      tables = lost_tables p s number node from body is;
+      soft = lost_soft p s number node from body is;
+      has_core = lost_core p s number node from body is;
+      ended = lost_ended p s number node from body is;
       sought = record { seeking = seeking.0; seekers = seeking.1; tells = lost_tells p s number node from body is };
       sessions = lost_sessions p s number node from body is;
       joiners = lost_joiners p s number node from body is;
@@ -104,3 +101,8 @@ ignored_keeps p s number node from body is sound =
       few = lost_few p s number node from body is sound.few;
       shallow = shallow_delivered p s number frame node sound.nodes is.invariant.numbered is.among is.at sound.shallow;
     })
+
+pub ignored_keeps : IgnoredKeeps
+ignored_keeps p s number node from body is sound =
+    with_tables p (after_delivery p s number) (ignored_basis p s number node from body is (basis_of p s sound))
+    (lost_filled p s number node from body is sound.invariant.filled)

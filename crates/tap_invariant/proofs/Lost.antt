@@ -192,8 +192,8 @@ module _ (p : SettingsValue) (s : System) (number : ℕ) (node : NodeState) (fro
     no_hello = no_hello node body is.may;
   }
 
-  pub lost_filled : AreFilled p left
-  lost_filled = plain_law p s left number (frame_to node from body) takes_plainly is.invariant.filled
+  pub lost_filled : AreFilled p s → AreFilled p left
+  lost_filled filled = plain_law p s left number (frame_to node from body) takes_plainly filled
 
   pub lost_soft : NamesSoft left
   unfolding takes_plainly
@@ -283,6 +283,7 @@ module _ (p : SettingsValue) (s : System) (number : ℕ) (node : NodeState) (fro
           is = gone.node y ∙ place.is;
           holds = place.holds;
           opened = place.opened;
+          other = place.other;
           above = place.above;
         };
   }

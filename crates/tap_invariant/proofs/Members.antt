@@ -17,7 +17,7 @@ use Rattle.tap_table.proofs.Targets.{target_is_linked, targets-ascending}
 use Rattle.tap_rule.specs.Node.{NodeState, member_at_rest}
 use Rattle.tap_rule.proofs.Kept.{member_law}
 use Rattle.tap_safety.specs.AtRest.{AreMembers, system_at_rest}
-use Rattle.tap_safety.specs.Invariant.{Invariant}
+use Rattle.tap_safety.specs.Invariant.{Basis}
 use Rattle.tap_safety.specs.Seeking.{HasNode}
 use Rattle.tap_safety.specs.Soft.{IsSoft}
 use Rattle.tap_safety.specs.System.{System, HasLink}
@@ -44,7 +44,7 @@ soft_node s x (inr (inl core)) = record { state = core.state; is = core.is }
 soft_node s x (inr (inr ceased)) = record { state = ceased.state; is = ceased.is }
 
 -- a node links to nodes while no link is marked
-linked_node : (p : SettingsValue) (s : System) → Invariant p s → ((x t : List ℕ) → HasLink s x t Marked → ⊥) → (x t : List ℕ) (kind : Kind)
+linked_node : (p : SettingsValue) (s : System) → Basis p s → ((x t : List ℕ) → HasLink s x t Marked → ⊥) → (x t : List ℕ) (kind : Kind)
     → HasLink s x t kind → HasNode s t
 linked_node p s inv unmarked x t Pin link = soft_node s t (inv.soft.pins x t link)
 linked_node p s inv unmarked x t Settled link =
@@ -52,7 +52,7 @@ linked_node p s inv unmarked x t Settled link =
 linked_node p s inv unmarked x t Marked link = absurd (unmarked x t link)
 
 -- so its links are at most 255: it is a node itself, and there are at most 256
-few_links : (p : SettingsValue) (s : System) → Invariant p s → ((x t : List ℕ) → HasLink s x t Marked → ⊥) → (x : List ℕ) (node : NodeState)
+few_links : (p : SettingsValue) (s : System) → Basis p s → ((x t : List ℕ) → HasLink s x t Marked → ⊥) → (x : List ℕ) (node : NodeState)
     → s.node x ≡ Some node → IsTable node.ties.table → node.ties.table.owner ≡ x → length (targets_by_name node.ties.table) ≤ 255
 few_links p s inv unmarked x node at valid owner =
     let t : TableValue = node.ties.table in
@@ -88,7 +88,7 @@ member_is_node : (p : SettingsValue) (members : List (List ℕ)) (x : List ℕ) 
     → (system_at_rest p members).node x ≡ Some (member_at_rest p members x) → IsNodeOf p x (member_at_rest p members x)
 member_is_node p members x are among at =
     let is = member_law p members x are.limits (are.names x among) are.names are.distinct in
-    let inv = at_rest_law p members are in
+    let inv = (at_rest_law p members are).basis in
     record {
       is_node = is;
       name = refl;

@@ -34,7 +34,7 @@ use Rattle.tap_moves.proofs.Exchanged.{exchanges, in_either}
 use Rattle.tap_moves.proofs.Got.{among_all}
 use Rattle.tap_arrivals.specs.Arrivals.{is_deepest_copy}
 use Rattle.tap_invariant.specs.Shallow.{AreShallow, IsShallow}
-use Rattle.tap_invariant.specs.Sound.{Sound}
+use Rattle.tap_invariant.specs.Sound.{SoundBasis}
 use Rattle.tap_invariant.proofs.ShallowRules.{SendsShallow, rule_shallow, start_shallow}
 
 -- ---- a node acts
@@ -153,9 +153,9 @@ no_deepest p (Cast cast level session depth word) digits is shallow =
     the_least depth level digits forty to shallow same = omega (arith, forty, to, shallow, same)
 no_deepest p _ digits is shallow = refl
 
-pub comes_shallow : (p : SettingsValue) (s : System) (number : ℕ) (frame : Frame) (node : NodeState) → Sound p s
+pub comes_shallow : (p : SettingsValue) (s : System) (number : ℕ) (frame : Frame) (node : NodeState) → SoundBasis p s
     → AmongFrames number frame s.frames → s.node frame.to ≡ Some node → is_deepest_copy frame.body ≡ false
 comes_shallow p s number frame node sound among at =
     let of = sound.nodes.nodes frame.to node at in
     let limits = subst AreWithinLimits of.settings of.is_node.ties.table.limits in
-    no_deepest p frame.body limits.digits_to (sound.invariant.spelled.each number frame among).body (sound.shallow.each number frame among)
+    no_deepest p frame.body limits.digits_to (sound.basis.spelled.each number frame among).body (sound.shallow.each number frame among)

@@ -1,7 +1,9 @@
--- The whole invariant, put together from its parts as the laws of moves have them.
+-- The basis of the invariant, put together from its parts as the laws of moves have them; and with tables without holes, the whole.
 use Rattle.tap_name.specs.Settings.{SettingsValue}
-use Rattle.tap_safety.specs.Bookkeeping.{AreStamped}
+use Rattle.tap_safety.specs.Bookkeeping.{AreStamped, EndedHaveNoLinks, HasCore}
 use Rattle.tap_safety.specs.FewSessions.{SessionsAreFew}
+use Rattle.tap_safety.specs.Filled.{AreFilled}
+use Rattle.tap_safety.specs.Soft.{NamesSoft}
 use Rattle.tap_safety.specs.System.{System}
 use Rattle.tap_moves.specs.CalmMoves.{AreSought}
 use Rattle.tap_moves.specs.SessionMoves.{AreNamed}
@@ -10,12 +12,14 @@ use Rattle.tap_moves.specs.TiesLaws.{WordsStand}
 use Rattle.tap_session_moves.specs.EndMoves.{HaveBothEnds}
 use Rattle.tap_session_moves.specs.JoinMoves.{HaveJoiners}
 use Rattle.tap_departing_moves.specs.DepartingMoves.{DepartsInOrder}
-use Rattle.tap_departing_moves.specs.PartMoves.{HaveSessions, HaveTables}
+use Rattle.tap_departing_moves.specs.PartMoves.{HaveSessions}
 use Rattle.tap_invariant.specs.Shallow.{AreShallow}
-use Rattle.tap_invariant.specs.Sound.{Sound}
+use Rattle.tap_invariant.specs.Sound.{Sound, SoundBasis}
 
 pub record HasParts (p : SettingsValue) (s : System) : Type 0 where
-  pub tables : HaveTables p s
+  pub soft : NamesSoft s
+  pub has_core : HasCore s
+  pub ended : EndedHaveNoLinks s
   pub sought : AreSought p s
   pub sessions : HaveSessions s
   pub joiners : HaveJoiners s
@@ -28,17 +32,16 @@ pub record HasParts (p : SettingsValue) (s : System) : Type 0 where
   pub few : SessionsAreFew p s
   pub shallow : AreShallow s
 
-pub put_together : (p : SettingsValue) (s : System) → HasParts p s → Sound p s
+pub put_together : (p : SettingsValue) (s : System) → HasParts p s → SoundBasis p s
 put_together p s has = record {
-  invariant = record {
-    soft = has.tables.soft;
+  basis = record {
+    soft = has.soft;
     seeking = has.sought.seeking;
     exact = has.sessions.exact;
     awaited = has.sessions.awaited;
     of_joiners = has.joiners.of_joiners;
     tells = has.sought.tells;
     counted = has.sessions.counted;
-    filled = has.tables.filled;
     ceased = has.words.ceased;
     ties = has.words.ties;
     departure = has.order.departure;
@@ -51,8 +54,8 @@ put_together p s has = record {
     ends = has.ends.ends;
     versions = has.words.versions;
     stamped = has.stamped;
-    ended = has.tables.ended;
-    has_core = has.tables.has_core;
+    ended = has.ended;
+    has_core = has.has_core;
     numbered = has.named.numbered;
     names = has.named.names;
     few = has.named.few;
@@ -63,3 +66,27 @@ put_together p s has = record {
   few = has.few;
   shallow = has.shallow;
 }
+
+-- the basis of the whole
+pub basis_of : (p : SettingsValue) (s : System) → Sound p s → SoundBasis p s
+basis_of p s sound = record {
+  basis = sound.invariant.basis;
+  nodes = sound.nodes;
+  askers = sound.askers;
+  few = sound.few;
+  shallow = sound.shallow;
+}
+
+-- and the whole of its basis and tables without holes
+pub with_tables : (p : SettingsValue) (s : System) → SoundBasis p s → AreFilled p s → Sound p s
+with_tables p s sound filled = record {
+  invariant = record { basis = sound.basis; filled = filled };
+  nodes = sound.nodes;
+  askers = sound.askers;
+  few = sound.few;
+  shallow = sound.shallow;
+}
+
+-- the basis holds after a step, and tables have no holes if they had none
+abbrev pub KeepsBoth : SettingsValue → System → System → Type 0
+KeepsBoth p s s' = SoundBasis p s' × (AreFilled p s → AreFilled p s')

@@ -128,7 +128,7 @@ module _ (s : System) where
 -- the core nodes are among all nodes, of which there is a list
 pub core_listed : CoreIsListed
 core_listed p s sound =
-    let few = sound.invariant.few in
+    let few = sound.invariant.basis.few in
     let test = (nodes_of s).core in (
       filter test few.names,
       λ x. (

@@ -6,7 +6,7 @@ use Rattle.tap_wire.specs.declared.frame.Body.TheVariants.{Forget, Release}
 use Rattle.tap_rule.specs.Laws.{IsIgnored, frame_to}
 use Rattle.tap_rule.specs.Node.{NodeState, name_of}
 use Rattle.tap_rule.specs.QuietSteps.{IsQuiet}
-use Rattle.tap_safety.specs.Invariant.{Invariant}
+use Rattle.tap_safety.specs.Invariant.{Basis}
 use Rattle.tap_safety.specs.Moved.{IsLost}
 use Rattle.tap_safety.specs.System.{System, AmongFrames}
 use Rattle.tap_moves.specs.ByRule.{taken_at}
@@ -22,7 +22,7 @@ MayIgnore node other = IsQuiet other
 
 -- such a frame is under way to a node, which ignores it
 pub record IgnoresFrame (p : SettingsValue) (s : System) (number : ℕ) (node : NodeState) (from : List ℕ) (body : Body) : Type 0 where
-  pub invariant : Invariant p s
+  pub invariant : Basis p s
   pub among : AmongFrames number (frame_to node from body) s.frames
   pub at : s.node (name_of node) ≡ Some node
   pub ignored : IsIgnored node (taken_at node from body)

@@ -1,15 +1,29 @@
--- The one law of the invariant: each possible move keeps it.
+-- The one law of the invariant: each possible move keeps it; and its basis is kept from itself alone outside departures.
 use Rattle.std.specs.Prelude.{ℕ, List, [], ◌∷◌}
 use Rattle.tap_name.specs.Settings.{SettingsValue}
+use Rattle.tap_wire.specs.declared.frame.Frame.{Frame}
 use Rattle.tap_safety.specs.AtRest.{AreMembers, system_at_rest}
 use Rattle.tap_safety.specs.Move.{Move, may_move}
+use Rattle.tap_safety.specs.Move.Move.{Begins, Delivers}
 use Rattle.tap_safety.specs.Moved.{moved}
-use Rattle.tap_safety.specs.System.{System}
-use Rattle.tap_invariant.specs.Sound.{Sound}
+use Rattle.tap_safety.specs.Notices.{IsNotice}
+use Rattle.tap_safety.specs.System.{System, AmongFrames}
+use Rattle.tap_start_moves.specs.Starts.{IsNoDeparture}
+use Rattle.tap_invariant.specs.Sound.{Sound, SoundBasis}
 
 -- the whole invariant holds after a possible move, if it held before
 abbrev pub MoveKeeps : Type 0
 MoveKeeps = (p : SettingsValue) (s : System) (move : Move) → may_move p s move → Sound p s → Sound p (moved p s move)
+
+-- a move outside departures: neither the start of one, nor the delivery of one of its notices
+abbrev pub IsOutsideDepartures : System → Move → Type 0
+IsOutsideDepartures s (Begins x start) = IsNoDeparture start
+IsOutsideDepartures s (Delivers number) = (frame : Frame) → AmongFrames number frame s.frames → IsNotice frame.body → ⊥
+
+-- the basis holds after a possible move outside departures, if it held before, whether or not tables have holes
+abbrev pub BasisKeeps : Type 0
+BasisKeeps = (p : SettingsValue) (s : System) (move : Move) → may_move p s move → IsOutsideDepartures s move → SoundBasis p s
+    → SoundBasis p (moved p s move)
 
 -- ---- runs
 

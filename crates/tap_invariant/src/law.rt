@@ -1,7 +1,7 @@
 ghost use Rattle.tap_wire.specs.declared.frame.Body.TheVariants.{Ack, Heard};
 ghost use Rattle.tap_invariant.specs.Consequences.{AnswersAreAwaited, NoneIsStrange, NothingIsLeft};
 ghost use Rattle.tap_invariant.specs.Ignored.{IgnoredIsLost, IgnoredKeeps};
-ghost use Rattle.tap_invariant.specs.Moves.{MoveKeeps, RunIsSound};
+ghost use Rattle.tap_invariant.specs.Moves.{BasisKeeps, MoveKeeps, RunIsSound};
 ghost use Rattle.tap_invariant.specs.Sound.{SoundAtRest};
 ghost use Rattle.tap_invariant.specs.Walks.{CoreIsListed, TablesAreHoleFree, WalksLeadToRoots};
 
@@ -33,6 +33,17 @@ pub fn ignored_law()
 /// Rule: docs/PROTOCOL.md, "Steps of a node".
 pub fn moves_law()
     ensures { MoveKeeps }
+{}
+
+/// The basis of the invariant says all of it but that tables have no holes, and what leads to that. It is kept from itself alone outside
+/// departures: if it holds, it holds after each possible move but the start of a departure and the delivery of a Leave, a Left or a Gone,
+/// whether or not tables have holes.
+///
+/// It does nothing: its contract is the law.
+///
+/// Rule: docs/PROTOCOL.md, "Steps of a node".
+pub fn basis_law()
+    ensures { BasisKeeps }
 {}
 
 /// The whole invariant holds at each moment of each run from members at rest, however many its moves are and in whichever order frames are

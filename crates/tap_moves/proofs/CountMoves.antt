@@ -27,7 +27,7 @@ use Rattle.tap_safety.specs.Bookkeeping.{SendsIn}
 use Rattle.tap_safety.specs.Counted.{IsKeptSo, parent_at}
 use Rattle.tap_safety.specs.CountSteps.{CountsDown}
 use Rattle.tap_safety.specs.Frames.{HelloFields, hello_body, tell_body}
-use Rattle.tap_safety.specs.Invariant.{Invariant}
+use Rattle.tap_safety.specs.Invariant.{Basis}
 use Rattle.tap_safety.specs.Remembered.{OpenSession, Token}
 use Rattle.tap_safety.specs.Remembered.Token.{Child, Way}
 use Rattle.tap_safety.specs.Sessions.{AmongTokens, IsOpen, for_way, ways_of}
@@ -75,7 +75,7 @@ sends_in x k sent (Child y l ∷ tokens) is some =
 
 -- a session that is handed on awaits as many more as are sent, and one less
 handed_on : (s s' : System) (number : ℕ) (f : Frame) (w : List ℕ) (k : ℕ) (sent : List (ℕ × Frame))
-    → (step : HandsOn s s' number f w k sent) → (p : SettingsValue) → Invariant p s
+    → (step : HandsOn s s' number f w k sent) → (p : SettingsValue) → Basis p s
     → (length (for_way number (ways_of w k sent) step.before.awaits) + 1 ≡ length (ways_of w k sent) + length step.before.awaits)
     × AmongTokens (Way number) step.before.awaits
 handed_on s s' number f w k sent step p inv =
@@ -242,7 +242,7 @@ module _ (p : SettingsValue) (s : System) (number : ℕ) (node : NodeState) (fro
     abbrev sent : List (ℕ × Frame)
     sent = sent_at s node from (body k)
 
-    abbrev inv : Invariant p s
+    abbrev inv : Basis p s
     inv = is.invariant
 
     at_node : ChangesAt s after own node acted.state

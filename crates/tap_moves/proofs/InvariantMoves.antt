@@ -17,7 +17,7 @@ use Rattle.tap_rule.specs.Node.Status.{Ceased as HasCeased, Core, Gone, Joining,
 use Rattle.tap_safety.specs.Departing.{may_be_then}
 use Rattle.tap_safety.specs.DoneStep.{BeforeDone, IsSound}
 use Rattle.tap_safety.specs.Frames.{HelloFields, hello_body, tell_body}
-use Rattle.tap_safety.specs.Invariant.{Invariant}
+use Rattle.tap_safety.specs.Invariant.{Basis}
 use Rattle.tap_safety.specs.Filled.{AreFilled}
 use Rattle.tap_safety.specs.SeekStep.{BeforeSeat, BeforeSeek, IsGreeted, JoinerIsGreeted}
 use Rattle.tap_safety.specs.Sessions.{AreExact}
@@ -173,16 +173,6 @@ module _ (p : SettingsValue) (s : System) (number : ℕ) (node : NodeState) (fro
     pub told_name : IsName (settings_of node) tell.joiner
     told_name = of_node p s number node from (tell_body tell watch) is tell.joiner (joiner_name p s is.nodes tell.joiner told.joiner)
 
-    before_tell : BeforeTell p s
-    before_tell = record {
-      names = core_name p s is.nodes;
-      settled = record { settled = is.invariant.soft.settled };
-      unmarked = unmarked p s number node from (tell_body tell watch) is (λ never. never);
-      covered = is.invariant.filled.covered;
-      hole_free = is.invariant.filled.hole_free;
-      cover = is.invariant.filled.cover;
-    }
-
     pub of_tell : node.status ≡ Core → IsTellOf p s (name_of node) tell.joiner tell.prefix tell.level
     of_tell at =
         let here = name_at p s is.nodes (name_of node) node is.at in
@@ -197,44 +187,55 @@ module _ (p : SettingsValue) (s : System) (number : ℕ) (node : NodeState) (fro
           most = omega (arith, told.level, told.near);
         }
 
-    tell_anew : node.status ≡ Core → IsAnew node tell.joiner tell.level → AreFilled p after
-    tell_anew at anew =
-        tell_keeps p s number node from tell watch (due p s number node from (tell_body tell watch) is) at told_name anew before_tell
-        (of_tell at) is.invariant.filled
+    module _ (filled : AreFilled p s) where
+      before_tell : BeforeTell p s
+      before_tell = record {
+        names = core_name p s is.nodes;
+        settled = record { settled = is.invariant.soft.settled };
+        unmarked = unmarked p s number node from (tell_body tell watch) is (λ never. never);
+        covered = filled.covered;
+        hole_free = filled.hole_free;
+        cover = filled.cover;
+      }
 
-    tell_known : node.status ≡ Core → (kept : ℕ) → level_of node tell.joiner ≡ Some kept → kept ≤ tell.level → AreFilled p after
-    tell_known at kept level most =
-        let core : IsCoreNode s (name_of node) = record { state = node; is = is.at; core = inl at } in
-        let covers : Covers s (name_of node) tell.joiner kept = record { state = node; is = is.at; cover = level } in
-        let pin = (is.invariant.filled.covered.each (name_of node) tell.joiner kept core told.joiner covers).pin in
-        let found = pin.is in
-        let here = is.at in
-        let same : pin.state ≡ node = cc in
-        known_tell_keeps p s number node from tell watch kept (due p s number node from (tell_body tell watch) is) at told_name
-        (ap (λ n. link_to n tell.joiner) (sym same) ∙ pin.link) level most before_tell (of_tell at) is.invariant.filled
+      tell_anew : node.status ≡ Core → IsAnew node tell.joiner tell.level → AreFilled p after
+      tell_anew at anew =
+          tell_keeps p s number node from tell watch (due p s number node from (tell_body tell watch) is) at told_name anew before_tell
+          (of_tell at) filled
 
-    tell_at_core : node.status ≡ Core → (level : Option ℕ) → level_of node tell.joiner ≡ level → AreFilled p after
-    tell_at_core at None none =
-        tell_anew at (λ kept some. let wrong : None ≡ Some kept = sym none ∙ some in absurd (cc))
-    tell_at_core at (Some kept) some = elim (cases_lt tell.level kept) [
-      | inl less ↦
-          tell_anew at (λ other is_other.
-          let same : Some kept ≡ Some other = sym some ∙ is_other in
-          let level : kept ≡ other = cc in
-          omega (arith, less, level))
-      | inr most ↦ tell_known at kept some most
-    ]
+      tell_known : node.status ≡ Core → (kept : ℕ) → level_of node tell.joiner ≡ Some kept → kept ≤ tell.level → AreFilled p after
+      tell_known at kept level most =
+          let core : IsCoreNode s (name_of node) = record { state = node; is = is.at; core = inl at } in
+          let covers : Covers s (name_of node) tell.joiner kept = record { state = node; is = is.at; cover = level } in
+          let pin = (filled.covered.each (name_of node) tell.joiner kept core told.joiner covers).pin in
+          let found = pin.is in
+          let here = is.at in
+          let same : pin.state ≡ node = cc in
+          known_tell_keeps p s number node from tell watch kept (due p s number node from (tell_body tell watch) is) at told_name
+          (ap (λ n. link_to n tell.joiner) (sym same) ∙ pin.link) level most before_tell (of_tell at) filled
 
-    tell_fills : (node.status ≡ Core) ⊎ ((node.status ≡ Joining) ⊎ (node.status ≡ HasCeased)) → AreFilled p after
-    tell_fills (inl at) = tell_at_core at (level_of node tell.joiner) refl
-    tell_fills (inr (inl at)) =
-        joining_tell_keeps p s number node from tell watch (due p s number node from (tell_body tell watch) is) at told_name
-        is.invariant.filled
-    tell_fills (inr (inr at)) =
-        ceased_tell_keeps p s number node from tell watch (due p s number node from (tell_body tell watch) is) at is.invariant.filled
+      tell_at_core : node.status ≡ Core → (level : Option ℕ) → level_of node tell.joiner ≡ level → AreFilled p after
+      tell_at_core at None none =
+          tell_anew at (λ kept some. let wrong : None ≡ Some kept = sym none ∙ some in absurd (cc))
+      tell_at_core at (Some kept) some = elim (cases_lt tell.level kept) [
+        | inl less ↦
+            tell_anew at (λ other is_other.
+            let same : Some kept ≡ Some other = sym some ∙ is_other in
+            let level : kept ≡ other = cc in
+            omega (arith, less, level))
+        | inr most ↦ tell_known at kept some most
+      ]
 
-  done_fills : IsDelivery p s number node from Done → node.abandoned ≡ false → AreFilled p after
-  done_fills is goes_on =
+      tell_fills : (node.status ≡ Core) ⊎ ((node.status ≡ Joining) ⊎ (node.status ≡ HasCeased)) → AreFilled p after
+      tell_fills (inl at) = tell_at_core at (level_of node tell.joiner) refl
+      tell_fills (inr (inl at)) =
+          joining_tell_keeps p s number node from tell watch (due p s number node from (tell_body tell watch) is) at told_name
+          filled
+      tell_fills (inr (inr at)) =
+          ceased_tell_keeps p s number node from tell watch (due p s number node from (tell_body tell watch) is) at filled
+
+  done_fills : IsDelivery p s number node from Done → AreFilled p s → node.abandoned ≡ false → AreFilled p after
+  done_fills is filled goes_on =
       let inv = is.invariant in
       let here = way p s number node from Done is in
       let none = unmarked p s number node from Done is (λ never. never) in
@@ -244,20 +245,21 @@ module _ (p : SettingsValue) (s : System) (number : ℕ) (node : NodeState) (fro
         joiner_names = joiner_name p s is.nodes;
         pinned = λ x b joins has. pin_on p s none inv.soft.settled x b joins has.kind has.link;
         sound = λ b x level joins told. sound_tell p s b x level told (inv.tells.each told.from x told.fields told.watch told.way);
-        covered = inv.filled.covered;
-        meet = inv.filled.meet;
-        cover = inv.filled.cover;
-        low = inv.filled.low;
-        hole_free = inv.filled.hole_free;
+        covered = filled.covered;
+        meet = filled.meet;
+        cover = filled.cover;
+        low = filled.low;
+        hole_free = filled.hole_free;
       } in
       done_keeps p s number node from (due p s number node from Done is) (joins_here s node joiner is.at) goes_on before
       (quiet_law s from (name_of node) inv.exact inv.of_joiners inv.ends_once joiner here)
 
-  hello_fills : (hello : HelloFields) → IsDelivery p s number node from (hello_body hello) → node.status ≡ Joining → AreFilled p after
-  hello_fills hello is at =
+  hello_fills : (hello : HelloFields) → IsDelivery p s number node from (hello_body hello) → AreFilled p s → node.status ≡ Joining
+      → AreFilled p after
+  hello_fills hello is filled at =
       hello_keeps p s number node from hello (due p s number node from (hello_body hello) is) at
       (sender_name p s number node from (hello_body hello) is) (hello_names_are p s number node from hello is) is.invariant.soft
-      is.invariant.filled
+      filled
 
   -- a Seek at a core node goes on, or the node is the joiner's surrogate
   module _ (joiner : List ℕ) (is : IsDelivery p s number node from (Seek joiner)) (at : node.status ≡ Core) where
@@ -274,41 +276,41 @@ module _ (p : SettingsValue) (s : System) (number : ℕ) (node : NodeState) (fro
           idle = λ d level covers. is.invariant.seeking.idle joiner d level seeker covers;
         }
 
-    seek_fills : (found : Sought) → sought node.ties.table joiner ≡ found → AreFilled p after
-    seek_fills (Forward next) found =
-        plain_keeps p s number node from (Seek joiner) (due p s number node from (Seek joiner) is) (next, found) is.invariant.filled
-    seek_fills (Surrogate prefix) found =
+    seek_fills : AreFilled p s → (found : Sought) → sought node.ties.table joiner ≡ found → AreFilled p after
+    seek_fills filled (Forward next) found =
+        plain_keeps p s number node from (Seek joiner) (due p s number node from (Seek joiner) is) (next, found) filled
+    seek_fills filled (Surrogate prefix) found =
         let settings = (is.nodes.nodes (name_of node) node is.at).settings in
         let seeker = seat_before.seeker in
         let name = of_node p s number node from (Seek joiner) is joiner (name_at p s is.nodes joiner seeker.state seeker.is) in
         subst (λ q. AreFilled q (after_delivery q s number)) settings
         (seek_keeps s number node from joiner prefix (due p s number node from (Seek joiner) is) at name found
         (subst (λ q. BeforeSeat q s (name_of node) joiner) (sym settings) seat_before)
-        (subst (λ q. AreFilled q s) (sym settings) is.invariant.filled))
+        (subst (λ q. AreFilled q s) (sym settings) filled))
 
-  plain_fills : (body : Body) → IsDelivery p s number node from body → IsPlain node body → AreFilled p after
-  plain_fills body is plain =
-      plain_keeps p s number node from body (due p s number node from body is) plain is.invariant.filled
+  plain_fills : (body : Body) → IsDelivery p s number node from body → AreFilled p s → IsPlain node body → AreFilled p after
+  plain_fills body is filled plain =
+      plain_keeps p s number node from body (due p s number node from body is) plain filled
 
 pub frame_fills : FrameFills
-frame_fills p s number node from (Tell joiner prefix level session depth watch) is there =
+frame_fills p s number node from (Tell joiner prefix level session depth watch) is filled there =
     let tell : TellFields = record { joiner = joiner; prefix = prefix; level = level; session = session; depth = depth } in
-    tell_fills p s number node from tell watch is there
-frame_fills p s number node from (Hello session core links) is there =
-    hello_fills p s number node from (record { session = session; is_core = core; links = links }) is there
-frame_fills p s number node from (Seek joiner) is there =
-    seek_fills p s number node from joiner is there (sought node.ties.table joiner) refl
-frame_fills p s number node from Done is there = done_fills p s number node from is there
-frame_fills p s number node from Release is there =
+    tell_fills p s number node from tell watch is filled there
+frame_fills p s number node from (Hello session core links) is filled there =
+    hello_fills p s number node from (record { session = session; is_core = core; links = links }) is filled there
+frame_fills p s number node from (Seek joiner) is filled there =
+    seek_fills p s number node from joiner is there filled (sought node.ties.table joiner) refl
+frame_fills p s number node from Done is filled there = done_fills p s number node from is filled there
+frame_fills p s number node from Release is filled there =
     release_keeps p s number node from (due p s number node from Release is) there (sender_name p s number node from Release is)
-    is.invariant.soft is.invariant.filled
-frame_fills p s number node from Forget is there =
+    is.invariant.soft filled
+frame_fills p s number node from Forget is filled there =
     forget_keeps p s number node from (due p s number node from Forget is) there (sender_name p s number node from Forget is)
-    is.invariant.ceased is.invariant.filled
-frame_fills p s number node from (Heard session) is there = plain_fills p s number node from (Heard session) is tt
-frame_fills p s number node from (Ack session) is there = plain_fills p s number node from (Ack session) is tt
-frame_fills p s number node from (Link version on) is there = plain_fills p s number node from (Link version on) is tt
-frame_fills p s number node from body is there = plain_fills p s number node from body is there
+    is.invariant.ceased filled
+frame_fills p s number node from (Heard session) is filled there = plain_fills p s number node from (Heard session) is filled tt
+frame_fills p s number node from (Ack session) is filled there = plain_fills p s number node from (Ack session) is filled tt
+frame_fills p s number node from (Link version on) is filled there = plain_fills p s number node from (Link version on) is filled tt
+frame_fills p s number node from body is filled there = plain_fills p s number node from body is filled there
 
 -- ---- Link
 
@@ -327,7 +329,7 @@ link_ties p s number node from word is heard =
     is.invariant.ties is.invariant.versions
 
 -- the words of links stand while frames are delivered that leave them, or say so
-stand_of : (p : SettingsValue) (s : System) → Invariant p s → WordsStand s
+stand_of : (p : SettingsValue) (s : System) → Basis p s → WordsStand s
 stand_of p s inv = record { ties = inv.ties; versions = inv.versions; ceased = inv.ceased }
 
 tell_says : (p : SettingsValue) (s : System) (number : ℕ) (node : NodeState) (from : List ℕ) (tell : TellFields) (watch : List Slot)
@@ -433,7 +435,7 @@ seeker_not_core s b seeker core =
     ]
 
 pub seek_gives : SeekGives
-seek_gives p s number node from joiner prefix is at found e core near =
+seek_gives p s number node from joiner prefix is filled at found e core near =
     let s' = after_delivery p s number in
     let inv = is.invariant in
     let seeker = inv.seekers.seeks from (name_of node) joiner (way p s number node from (Seek joiner) is) in
@@ -446,7 +448,7 @@ seek_gives p s number node from joiner prefix is at found e core near =
       names = core_name p s is.nodes;
       settled = record { settled = inv.soft.settled };
       unmarked = unmarked p s number node from (Seek joiner) is (λ never. never);
-      hole_free = inv.filled.hole_free;
+      hole_free = filled.hole_free;
     } in
     let step : JoinerIsGreeted p s s' (name_of node) joiner = record {
       before = before;
@@ -456,7 +458,7 @@ seek_gives p s number node from joiner prefix is at found e core near =
     } in
     low_law p s s' (name_of node) joiner step e core near
 
-pub before_taking : (p : SettingsValue) (s : System) → Invariant p s → BeforeTaking s
+pub before_taking : (p : SettingsValue) (s : System) → Basis p s → BeforeTaking s
 before_taking p s inv =
     record { exact = inv.exact; joiners = inv.of_joiners; deeper = inv.deeper; places = inv.places; numbers = inv.numbered }
 

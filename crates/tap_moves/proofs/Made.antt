@@ -36,7 +36,7 @@ done_is_made s s' number node from taken surrogates joining joined =
     }
 
 -- what a node does that covers the joiner already at the level or below it
-covers_stay : (node : NodeState) (request : Request) (acted : Acted) → CoverStep node request acted
+pub covers_stay : (node : NodeState) (request : Request) (acted : Acted) → CoverStep node request acted
     → is_kept (level_of node request.joiner) request.level ≡ true → acted.state.covers ≡ node.covers
 covers_stay node request acted step kept =
     let same : CoversAs node request acted Already = rw kept at step.covers in same.0

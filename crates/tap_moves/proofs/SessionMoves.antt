@@ -34,7 +34,7 @@ use Rattle.tap_rule.proofs.QuietSteps.{quiet_law}
 use Rattle.tap_safety.specs.Awaited.{AreAwaitedOnce}
 use Rattle.tap_safety.specs.Bookkeeping.{HasPlace, HavePlaces, KeepsPlaces, TellsAreDeeper, holds_sessions}
 use Rattle.tap_safety.specs.Frames.{HelloFields, hello_body, tell_body}
-use Rattle.tap_safety.specs.Invariant.{Invariant}
+use Rattle.tap_safety.specs.Invariant.{Basis}
 use Rattle.tap_safety.specs.Move.{may_start}
 use Rattle.tap_safety.specs.Moved.{starter}
 use Rattle.tap_safety.specs.Remembered.{OpenSession}
@@ -53,13 +53,13 @@ use Rattle.tap_moves.specs.ByRule.{taken_at}
 use Rattle.tap_moves.specs.Delivered.{after_delivery, after_start}
 use Rattle.tap_moves.specs.InSession.{OpensOrAnswers}
 use Rattle.tap_moves.specs.InvariantLaws.{IsDelivery}
-use Rattle.tap_moves.specs.SessionMoves.{AreNamed, FrameAwaits, FrameCore, FrameNames, FramePlaces, FrameSteps, GoesOnAs, IsLastOpened, IsOfKind, OutsideBooks, SessionStep, StartNames, StepsSessions}
+use Rattle.tap_moves.specs.SessionMoves.{AreNamed, FrameAwaits, FrameCore, FrameNames, FramePlaces, FrameSteps, GoesOnAs, IsLastOpened, IsOfAnother, IsOfKind, OutsideBooks, SessionStep, StartNames, StepsSessions}
 use Rattle.tap_moves.specs.SessionMoves.SessionStep.{ClosesBelow, ClosesTop, Hands, LeavesAll, OpensBelow, OpensTop}
 use Rattle.tap_moves.specs.SessionsLaws.{IsOutside, sent_at}
 use Rattle.tap_moves.specs.Spelled.{AreNodes, IsNamedStart}
 use Rattle.tap_moves.proofs.AnswersMade.{AnswerIsTaken, IsAnswered, ack_is_taken, heard_is_taken}
 use Rattle.tap_moves.proofs.InSession.{ceased_answers, one_place, seek_opens, tell_in_session}
-use Rattle.tap_moves.proofs.InvariantMoves.{before_taking, due, name_at, of_node, told_name, way}
+use Rattle.tap_moves.proofs.InvariantMoves.{before_taking, due, name_at, of_node, seeker_not_core, told, told_name, way}
 use Rattle.tap_moves.proofs.MovesMade.{by_rule, is_found, remembers}
 use Rattle.tap_moves.proofs.OutsideMade.{hello_hands_on, outside_leaves}
 use Rattle.tap_moves.proofs.PartsMade.{parts_kept, start_keeps_parts}
@@ -174,11 +174,17 @@ answered_steps : (s s' : System) (number : ℕ) (f : Frame) (own : List ℕ) (k 
     → GoesOnAs before.status after.status → after.sessions.opened ≡ before.sessions.opened → IsAnswered s s' number f own k sent
     → StepsSessions s s' number f before after sent
 answered_steps s s' number f own k before after sent status same (inl hands) =
-    record { kind = Hands own k; is = hands.0; last = tt; status = status; opened = omega (arith, same) }
+    record { kind = Hands own k; is = hands.0; last = tt; other = tt; status = status; opened = omega (arith, same) }
 answered_steps s s' number f own k before after sent status same (inr (inl root)) =
-    record { kind = ClosesTop own k; is = root.0; last = tt; status = status; opened = omega (arith, same) }
+    record { kind = ClosesTop own k; is = root.0; last = tt; other = tt; status = status; opened = omega (arith, same) }
 answered_steps s s' number f own k before after sent status same (inr (inr child)) =
-    record { kind = ClosesBelow own k child.0 child.1; is = child.2; last = tt; status = status; opened = omega (arith, same) }
+    record { kind = ClosesBelow own k child.0 child.1; is = child.2; last = tt; other = tt; status = status; opened = omega (arith, same) }
+
+-- what is open at a place has one joiner
+one_joiner : (s : System) (x : List ℕ) (k : ℕ) (one : OpenSession) {other : OpenSession} → IsOpen s x k one → IsOpen s x k other
+    → one.joiner ≡ other.joiner
+one_joiner s x k one {other = other} is there =
+    let same : one ≡ other = cc in ap (λ (o : OpenSession). o.joiner) same
 
 module _ (p : SettingsValue) (s : System) (number : ℕ) (node : NodeState) (from : List ℕ) where
   abbrev after : System
@@ -199,12 +205,17 @@ module _ (p : SettingsValue) (s : System) (number : ℕ) (node : NodeState) (fro
       let here = due p s number node from body is in
       let now : (taken_at node from body).state.sessions.opened ≡ node.sessions.opened + 1 =
       ap (λ (o : SessionsValue). o.opened) opens.sessions in
+      let made = opens_child s after number node from tell watch (before_taking p s is.invariant) (by_rule p s number node from body here)
+      (remembers p s number node from body here) opens in
       record {
         kind = OpensBelow from tell.session (name_of node) (node.sessions.opened + 1);
-        is =
-            opens_child s after number node from tell watch (before_taking p s is.invariant) (by_rule p s number node from body here)
-            (remembers p s number node from body here) opens;
+        is = made;
         last = (refl, sym now, subst holds_sessions (sym same) holds, not_own node (frame_to node from body) is.known);
+        other = λ o is_open own.
+            let joiner = one_joiner after (name_of node) (node.sessions.opened + 1) o is_open made.child in
+            let of = is.invariant.of_joiners.frames number (frame_to node from body) from tell.session made.before tell.joiner is.among refl
+            made.parent_was refl in
+            (told p s number node from tell watch is).apart (sym own ∙ joiner ∙ of);
         status = goes_on_same node.status (taken_at node from body).state.status same;
         opened = omega (arith, now);
       }
@@ -219,6 +230,7 @@ module _ (p : SettingsValue) (s : System) (number : ℕ) (node : NodeState) (fro
             hands_on s after number node from tell watch (before_taking p s is.invariant) (by_rule p s number node from body here)
             (remembers p s number node from body here) answers;
         last = tt;
+        other = tt;
         status = goes_on_same node.status (taken_at node from body).state.status same;
         opened = omega (arith, now);
       }
@@ -273,6 +285,7 @@ module _ (p : SettingsValue) (s : System) (number : ℕ) (node : NodeState) (fro
             hello_hands_on s after number node from hello (before_taking p s is.invariant) (by_rule p s number node from body here)
             (remembers p s number node from body here) at;
         last = tt;
+        other = tt;
         status = goes_on_same node.status (taken_at node from body).state.status step.joins.status;
         opened = omega (arith, now);
       }
@@ -290,6 +303,7 @@ module _ (p : SettingsValue) (s : System) (number : ℕ) (node : NodeState) (fro
             outside_leaves s after number node from body (before_taking p s is.invariant) (by_rule p s number node from body here)
             (remembers p s number node from body here) outside;
         last = tt;
+        other = tt;
         status = left.status;
         opened = omega (arith, same);
       }
@@ -312,12 +326,16 @@ module _ (p : SettingsValue) (s : System) (number : ℕ) (node : NodeState) (fro
       let step = subst (SeeksAs node joiner acted) found (seek_law node from joiner here.is_node.ties name at is.known) in
       let same = seated_status joiner acted prefix step in
       let now : acted.state.sessions.opened ≡ node.sessions.opened + 1 = ap (λ (o : SessionsValue). o.opened) opens.sessions in
+      let made = opens_root s after number node from joiner (before_taking p s is.invariant) (by_rule p s number node from body here)
+      (remembers p s number node from body here) seeker opens in
       record {
         kind = OpensTop (name_of node) (node.sessions.opened + 1);
-        is =
-            (opens_root s after number node from joiner (before_taking p s is.invariant) (by_rule p s number node from body here)
-            (remembers p s number node from body here) seeker opens).0;
+        is = made.0;
         last = (refl, sym now, subst holds_sessions (sym (same ∙ at)) tt);
+        other = λ o is_open own.
+            let root = one_joiner after (name_of node) (node.sessions.opened + 1) o is_open made.0.is in
+            let core : IsCoreNode s (name_of node) = record { state = node; is = is.at; core = inl at } in
+            seeker_not_core s joiner seeker (subst (IsCoreNode s) (sym own ∙ root ∙ made.1) core);
         status = goes_on_same node.status acted.state.status same;
         opened = omega (arith, now);
       }
@@ -388,9 +406,9 @@ module _ (s s' : System) (number : ℕ) (f : Frame) (before after : NodeState) (
     (at : ChangesAt s s' f.to before after) where
   -- a session that is opened below another
   placed_below : (w : List ℕ) (k : ℕ) (x : List ℕ) (l : ℕ) → (step : OpensChild s s' number f w k x l sent)
-      → IsLastOpened (OpensBelow w k x l) f.to after → (y : List ℕ) (m : ℕ) (o : OpenSession) → (y ≡ x) × (m ≡ l)
-      → IsOpen s' y m o → HasPlace s' y m o
-  placed_below w k x l step last y m o here is =
+      → IsLastOpened (OpensBelow w k x l) f.to after → IsOfAnother (OpensBelow w k x l) s' f.to → (y : List ℕ) (m : ℕ)
+      (o : OpenSession) → (y ≡ x) × (m ≡ l) → IsOpen s' y m o → HasPlace s' y m o
+  placed_below w k x l step last other y m o here is =
       let own : y ≡ f.to = here.0 ∙ last.0 in
       let number_is : m ≡ after.sessions.opened = here.1 ∙ last.1 in
       let child : s'.session y m ≡ Some (child_of step.before w k (ways_of x l sent)) = rw (here.0, here.1) step.child in
@@ -400,6 +418,7 @@ module _ (s s' : System) (number : ℕ) (f : Frame) (before after : NodeState) (
         is = ap s'.node own ∙ at.is;
         holds = last.2;
         opened = omega (arith, number_is);
+        other = λ mine. other o (rw (← here.0, ← here.1) is) (mine ∙ own);
         above = λ v n parent mine.
             let pair : ◌≡◌ {A = Option (List ℕ × ℕ)} (Some (w, k)) (Some (v, n)) =
             sym (ap (λ (c : OpenSession). c.parent) same) ∙ parent in
@@ -408,8 +427,9 @@ module _ (s s' : System) (number : ℕ) (f : Frame) (before after : NodeState) (
 
   -- a root session
   placed_top : (x : List ℕ) (l : ℕ) → (step : OpensRoot s s' number f x l sent) → IsLastOpened (OpensTop x l) f.to after
-      → (y : List ℕ) (m : ℕ) (o : OpenSession) → (y ≡ x) × (m ≡ l) → IsOpen s' y m o → HasPlace s' y m o
-  placed_top x l step last y m o here is =
+      → IsOfAnother (OpensTop x l) s' f.to → (y : List ℕ) (m : ℕ) (o : OpenSession) → (y ≡ x) × (m ≡ l) → IsOpen s' y m o
+      → HasPlace s' y m o
+  placed_top x l step last other y m o here is =
       let own : y ≡ f.to = here.0 ∙ last.0 in
       let number_is : m ≡ after.sessions.opened = here.1 ∙ last.1 in
       let root : s'.session y m ≡ Some step.root = rw (here.0, here.1) step.is in
@@ -419,42 +439,43 @@ module _ (s s' : System) (number : ℕ) (f : Frame) (before after : NodeState) (
         is = ap s'.node own ∙ at.is;
         holds = last.2;
         opened = omega (arith, number_is);
+        other = λ mine. other o (rw (← here.0, ← here.1) is) (mine ∙ own);
         above = λ v n parent mine.
             let wrong : ◌≡◌ {A = Option (List ℕ × ℕ)} None (Some (v, n)) =
             sym step.top ∙ sym (ap (λ (c : OpenSession). c.parent) same) ∙ parent in
             absurd (cc);
       }
 
-  new_places : (kind : SessionStep) → IsOfKind kind s s' number f sent → IsLastOpened kind f.to after → (y : List ℕ) (m : ℕ)
-      (o : OpenSession) → IsOpen s' y m o → s.session y m ≡ None → HasPlace s' y m o
-  new_places (Hands w k) step last y m o is none =
+  new_places : (kind : SessionStep) → IsOfKind kind s s' number f sent → IsLastOpened kind f.to after → IsOfAnother kind s' f.to
+      → (y : List ℕ) (m : ℕ) (o : OpenSession) → IsOpen s' y m o → s.session y m ≡ None → HasPlace s' y m o
+  new_places (Hands w k) step last other y m o is none =
       elim (step.others y m) [
         | inl here ↦ absurd (not_new s y w m k step.before here step.was none)
         | inr same ↦ absurd (not_changed s s' y m o same is none)
       ]
-  new_places (OpensBelow w k x l) step last y m o is none =
+  new_places (OpensBelow w k x l) step last other y m o is none =
       elim (step.others y m) [
         | inl here ↦ absurd (not_new s y w m k step.before here step.parent_was none)
-        | inr (inl here) ↦ placed_below w k x l step last y m o here is
+        | inr (inl here) ↦ placed_below w k x l step last other y m o here is
         | inr (inr same) ↦ absurd (not_changed s s' y m o same is none)
       ]
-  new_places (OpensTop x l) step last y m o is none =
+  new_places (OpensTop x l) step last other y m o is none =
       elim (step.others y m) [
-        | inl here ↦ placed_top x l step last y m o here is
+        | inl here ↦ placed_top x l step last other y m o here is
         | inr same ↦ absurd (not_changed s s' y m o same is none)
       ]
-  new_places (ClosesBelow x k w n) step last y m o is none =
+  new_places (ClosesBelow x k w n) step last other y m o is none =
       elim (step.others y m) [
         | inl here ↦ absurd (not_new s y x m k step.closes.session here step.closes.was none)
         | inr (inl here) ↦ absurd (not_new s y w m n step.before here step.parent_was none)
         | inr (inr same) ↦ absurd (not_changed s s' y m o same is none)
       ]
-  new_places (ClosesTop x k) step last y m o is none =
+  new_places (ClosesTop x k) step last other y m o is none =
       elim (step.others y m) [
         | inl here ↦ absurd (not_new s y x m k step.closes.session here step.closes.was none)
         | inr same ↦ absurd (not_changed s s' y m o same is none)
       ]
-  new_places LeavesAll step last y m o is none = absurd (not_changed s s' y m o (step.sessions y m) is none)
+  new_places LeavesAll step last other y m o is none = absurd (not_changed s s' y m o (step.sessions y m) is none)
 
   keeps_places : (step : StepsSessions s s' number f before after sent) → KeepsPlaces s s'
   keeps_places step = record {
@@ -467,7 +488,7 @@ module _ (s s' : System) (number : ℕ) (f : Frame) (before after : NodeState) (
           (after, ap s'.node here ∙ at.is, step.status.holds mine, no_fewer)
       | inr other ↦ (state, other ∙ is, holds, omega arith)
     ];
-    new = λ y m o is none. new_places step.kind step.is step.last y m o is none;
+    new = λ y m o is none. new_places step.kind step.is step.last step.other y m o is none;
   }
 
   -- if no session changes, each stays in its place
@@ -478,7 +499,7 @@ module _ (s s' : System) (number : ℕ) (f : Frame) (before after : NodeState) (
         let now = keeps.nodes y m place.state place.is place.holds in
         let one = place.opened in
         let two = now.3 in
-        record { state = now.0; is = now.1; holds = now.2; opened = omega arith; above = place.above };
+        record { state = now.0; is = now.1; holds = now.2; opened = omega arith; other = place.other; above = place.above };
   }
 
   steps_places : (step : StepsSessions s s' number f before after sent) → AreExact s → HavePlaces s → HavePlaces s'
@@ -564,7 +585,7 @@ frame_names p s number frame node inv nodes among at =
 
 -- a node that starts something, and one that starts to join
 started_names : (p : SettingsValue) (s : System) (x : List ℕ) (start : Start) (node : NodeState) → starter p s x start ≡ Some node
-    → s.node x ≡ Some node → Invariant p s → AreNodes p s → may_start p s x start → IsNamedStart p start
+    → s.node x ≡ Some node → Basis p s → AreNodes p s → may_start p s x start → IsNamedStart p start
     → AreNamed p (after_start p s x start)
 started_names p s x start node is at inv nodes may named =
     let s' = after_start p s x start in

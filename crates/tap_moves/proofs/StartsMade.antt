@@ -14,7 +14,7 @@ use Rattle.tap_rule.specs.Sent.{IsAmong}
 use Rattle.tap_rule.proofs.QuietSteps.{quiet_start_law}
 use Rattle.tap_rule.proofs.StartSteps.{give_up_law, seek_start_law}
 use Rattle.tap_safety.specs.Filled.{AreFilled}
-use Rattle.tap_safety.specs.Invariant.{Invariant}
+use Rattle.tap_safety.specs.Invariant.{Basis}
 use Rattle.tap_safety.specs.Moved.{IsStarted, starter}
 use Rattle.tap_safety.specs.Sessions.{AreExact, Belongs}
 use Rattle.tap_safety.specs.SessionSteps.{LeavesSessions}
@@ -109,21 +109,22 @@ join_keeps p s x via fresh unstarted are =
 
 -- ---- from the invariant
 
-quiet_fills : (p : SettingsValue) (s : System) (x : List ℕ) (start : Start) (node : NodeState) → Invariant p s → IsNodeOf p x node
-    → s.node x ≡ Some node → IsQuietStart start → AreFilled p (after_start p s x start) × AreExact (after_start p s x start)
+quiet_fills : (p : SettingsValue) (s : System) (x : List ℕ) (start : Start) (node : NodeState) → Basis p s → IsNodeOf p x node
+    → s.node x ≡ Some node → IsQuietStart start
+    → (AreFilled p s → AreFilled p (after_start p s x start)) × AreExact (after_start p s x start)
 quiet_fills p s x start node inv of at quiet =
     let keeps = subst (λ y. KeepsBoth p s (after_start p s y start)) of.name
     (quiet_start_keeps p s node start (ap s.node of.name ∙ at) quiet inv.numbered) in
-    (keeps.0 inv.filled, keeps.1 inv.exact)
+    (keeps.0, keeps.1 inv.exact)
 
 pub start_fills : StartFills
 start_fills p s x (Join via) inv nodes may new =
-    let keeps = join_keeps p s x via may.fresh new inv.numbered in (keeps.0 inv.filled, keeps.1 inv.exact)
+    let keeps = join_keeps p s x via may.fresh new inv.numbered in (keeps.0, keeps.1 inv.exact)
 start_fills p s x Abandon inv nodes may new =
     let of = nodes.nodes x may.state may.is in
     let keeps = subst (λ y. KeepsBoth p s (after_start p s y Abandon)) of.name
     (giving_up_keeps p s may.state (ap s.node of.name ∙ may.is) may.joining inv.numbered) in
-    (keeps.0 inv.filled, keeps.1 inv.exact)
+    (keeps.0, keeps.1 inv.exact)
 start_fills p s x Leave inv nodes may new = absurd new
 start_fills p s x (Publish object) inv nodes may new =
     quiet_fills p s x (Publish object) may.acts.state inv (nodes.nodes x may.acts.state may.acts.is) may.acts.is tt

@@ -16,7 +16,7 @@ use Rattle.tap_rule.specs.QuietSteps.{IsQuiet}
 use Rattle.tap_rule.specs.Strange.{is_strange}
 use Rattle.tap_safety.specs.Bookkeeping.{EndedHaveNoLinks, has_table}
 use Rattle.tap_safety.specs.Filled.{AreFilled}
-use Rattle.tap_safety.specs.Invariant.{Invariant}
+use Rattle.tap_safety.specs.Invariant.{Basis}
 use Rattle.tap_safety.specs.Move.{Move, may_move, may_start}
 use Rattle.tap_safety.specs.Move.Move.{Begins, Delivers}
 use Rattle.tap_safety.specs.Moved.{moved}
@@ -33,10 +33,10 @@ use Rattle.tap_moves.specs.SessionsLaws.{IsOutside}
 use Rattle.tap_moves.specs.Spelled.{AreNodes, IsNamedStart}
 use Rattle.tap_moves.specs.TiesLaws.{WordsStand}
 
--- The invariant holds, each node is one, and a frame of this number, sender and body is under way to this node, to which it isn't
--- strange.
+-- The basis of the invariant holds, each node is one, and a frame of this number, sender and body is under way to this node, to which it
+-- isn't strange.
 pub record IsDelivery (p : SettingsValue) (s : System) (number : ℕ) (node : NodeState) (from : List ℕ) (body : Body) : Type 0 where
-  pub invariant : Invariant p s
+  pub invariant : Basis p s
   pub nodes : AreNodes p s
   pub among : AmongFrames number (frame_to node from body) s.frames
   pub at : s.node (name_of node) ≡ Some node
@@ -59,7 +59,7 @@ IsFilledThere node other = IsQuiet other
 -- what leads to tables without holes holds after it
 abbrev pub FrameFills : Type 0
 FrameFills = (p : SettingsValue) (s : System) (number : ℕ) (node : NodeState) (from : List ℕ) (body : Body)
-    → IsDelivery p s number node from body → IsFilledThere node body → AreFilled p (after_delivery p s number)
+    → IsDelivery p s number node from body → AreFilled p s → IsFilledThere node body → AreFilled p (after_delivery p s number)
 
 -- a node that has ended has no link after it
 abbrev pub FrameEnded : Type 0
@@ -109,7 +109,7 @@ FrameSoft = (p : SettingsValue) (s : System) (number : ℕ) (node : NodeState) (
 -- a Seek at the joiner's surrogate: the new joiner is given the slot of each core node with which it shares at most its prefix
 abbrev pub SeekGives : Type 0
 SeekGives = (p : SettingsValue) (s : System) (number : ℕ) (node : NodeState) (from joiner : List ℕ) (prefix : ℕ)
-    → IsDelivery p s number node from (Seek joiner) → node.status ≡ Core → sought node.ties.table joiner ≡ Surrogate prefix
+    → IsDelivery p s number node from (Seek joiner) → AreFilled p s → node.status ≡ Core → sought node.ties.table joiner ≡ Surrogate prefix
     → (e : List ℕ) → IsCoreNode s e → lcp joiner e ≤ lcp (name_of node) joiner → IsGiven (after_delivery p s number) joiner e
 
 -- a frame of a join where a rule takes it, or one of no session
@@ -157,5 +157,5 @@ IsNew s x _ = Unit {0}
 
 -- what leads to tables without holes holds once a node has started what it may start, and the sessions are exact
 abbrev pub StartFills : Type 0
-StartFills = (p : SettingsValue) (s : System) (x : List ℕ) (start : Start) → Invariant p s → AreNodes p s → may_start p s x start
-    → IsNew s x start → AreFilled p (after_start p s x start) × AreExact (after_start p s x start)
+StartFills = (p : SettingsValue) (s : System) (x : List ℕ) (start : Start) → Basis p s → AreNodes p s → may_start p s x start
+    → IsNew s x start → (AreFilled p s → AreFilled p (after_start p s x start)) × AreExact (after_start p s x start)

@@ -10,9 +10,11 @@ use Rattle.tap_rule.specs.Node.Status.{Core, Leaving}
 use Rattle.tap_safety.specs.Awaited.{AreAwaitedOnce}
 use Rattle.tap_safety.specs.Bookkeeping.{Await, HasCore, HaveNames, HavePlaces, TellsAreDeeper, holds_sessions}
 use Rattle.tap_safety.specs.Counted.{AreCountedSo}
-use Rattle.tap_safety.specs.Invariant.{Invariant}
+use Rattle.tap_safety.specs.Invariant.{Basis}
 use Rattle.tap_safety.specs.Move.{may_start}
 use Rattle.tap_safety.specs.Spelled.{AreAtMost, AreSpelled, most_names}
+use Rattle.tap_safety.specs.Remembered.{OpenSession}
+use Rattle.tap_safety.specs.Sessions.{IsOpen}
 use Rattle.tap_safety.specs.Step.{AreNumbered}
 use Rattle.tap_safety.specs.SessionSteps.{ClosesChild, ClosesRoot, HandsOn, LeavesSessions, OpensChild, OpensRoot}
 use Rattle.tap_safety.specs.System.{System, AmongFrames}
@@ -48,6 +50,12 @@ IsLastOpened (OpensBelow w k x l) own after =
 IsLastOpened (OpensTop x l) own after = (x ≡ own) × (l ≡ after.sessions.opened) × holds_sessions after.status
 IsLastOpened _ own after = Unit {0}
 
+-- and it isn't one of that node's own join
+abbrev pub IsOfAnother : SessionStep → System → List ℕ → Type 0
+IsOfAnother (OpensBelow w k x l) s' own = (o : OpenSession) → IsOpen s' x l o → o.joiner ≡ own → ⊥
+IsOfAnother (OpensTop x l) s' own = (o : OpenSession) → IsOpen s' x l o → o.joiner ≡ own → ⊥
+IsOfAnother _ s' own = Unit {0}
+
 -- a node that may have sessions open goes on to, and a core node stays core; a leaving node counts as core
 pub record GoesOnAs (before after : Status) : Type 0 where
   pub holds : holds_sessions before → holds_sessions after
@@ -58,6 +66,7 @@ pub record StepsSessions (s s' : System) (number : ℕ) (f : Frame) (before afte
   pub kind : SessionStep
   pub is : IsOfKind kind s s' number f sent
   pub last : IsLastOpened kind f.to after
+  pub other : IsOfAnother kind s' f.to
   pub status : GoesOnAs before.status after.status
   pub opened : before.sessions.opened ≤ after.sessions.opened
 
@@ -112,9 +121,9 @@ pub record AreNamed (p : SettingsValue) (s : System) : Type 0 where
 
 -- so it is after a frame of whatever kind, whatever the status of its receiver, and after whatever is started
 abbrev pub FrameNames : Type 0
-FrameNames = (p : SettingsValue) (s : System) (number : ℕ) (frame : Frame) (node : NodeState) → Invariant p s → AreNodes p s
+FrameNames = (p : SettingsValue) (s : System) (number : ℕ) (frame : Frame) (node : NodeState) → Basis p s → AreNodes p s
     → AmongFrames number frame s.frames → s.node frame.to ≡ Some node → AreNamed p (after_delivery p s number)
 
 abbrev pub StartNames : Type 0
-StartNames = (p : SettingsValue) (s : System) (x : List ℕ) (start : Start) → Invariant p s → AreNodes p s → may_start p s x start
+StartNames = (p : SettingsValue) (s : System) (x : List ℕ) (start : Start) → Basis p s → AreNodes p s → may_start p s x start
     → IsNamedStart p start → AreNamed p (after_start p s x start)

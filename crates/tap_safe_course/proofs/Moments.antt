@@ -155,7 +155,7 @@ module _ (b : Beginning) (log : List Record) (run : IsRun b log) where
         by_session : (kept : Option Session) → join_session_at node k ≡ kept → kept ≡ None
         by_session None is = refl
         by_session (Some kept) is =
-            let opened = sound.invariant.counted.open_at x k node kept at is in absurd (left.sessions x k opened.0 opened.1)
+            let opened = sound.invariant.basis.counted.open_at x k node kept at is in absurd (left.sessions x k opened.0 opened.1)
 
     -- who was to give its join up has ended, as nobody joins
     given_up_gone : (x : List ℕ) → has_name (abandoned_of log) x ≡ true → has_name (gone_of log) x ≡ true

@@ -24,7 +24,7 @@ use Rattle.tap_history.specs.Steps.{abandon_name, actor_of, asked_node, depart_n
 use Rattle.tap_rule.specs.Event.{Start}
 use Rattle.tap_rule.specs.Event.Start.{Join as Joins, Abandon as GivesUpStart, Publish as Publishes, Withdraw as Withdraws, Find as Finds, Leave as Leaves, Cast as Casts}
 use Rattle.tap_rule.specs.Node.Status.{Leaving}
-use Rattle.tap_safety.specs.Invariant.{Invariant}
+use Rattle.tap_safety.specs.Invariant.{Basis}
 use Rattle.tap_safety.specs.Move.{MayAct, MayArrive, Move, may_move, may_start}
 use Rattle.tap_safety.specs.Move.Move.{Begins, Delivers}
 use Rattle.tap_safety.specs.System.{System, AmongFrames, IsCoreNode}
@@ -102,7 +102,7 @@ no_numbers (f ∷ frames) none = absurd (omega (arith, none))
 -- ---- starts
 
 module _ (b : Beginning) (log : List Record) (course : IsCourse b log) (going : is_ended log ≡ false)
-    (inv : Invariant b.settings (system_of log)) where
+    (inv : Basis b.settings (system_of log)) where
   abbrev pub p : SettingsValue
   p = b.settings
 

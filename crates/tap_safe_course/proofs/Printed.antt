@@ -84,7 +84,7 @@ module _ (b : Beginning) (log : List Record) (index : ℕ) (object : List ℕ) (
       → items ≡ at_most_one (option_map (RootOf object) found) → IsTheRoot b.settings log object items
   root_there (Some found) is are = record { found = found; is = are; root = is }
   root_there None is are =
-      let core : HasCore (system_of log) = (sound b log run).invariant.has_core in
+      let core : HasCore (system_of log) = (sound b log run).invariant.basis.has_core in
       let among = (core_names b log run core.name).1 core.core in
       let leads = walks_end b log run core.name object among name in
       let end = end_of _ core.name leads.begins in

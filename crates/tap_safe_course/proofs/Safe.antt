@@ -60,7 +60,8 @@ module _ (b : Beginning) where
     moved_sound : (move : Option Move) → move_of_group log group ≡ move → Sound b.settings (moved_by b.settings (system_of log) move)
     moved_sound None is = sound
     moved_sound (Some move) is =
-        move_keeps b.settings (system_of log) move (group_may_move b log group move course going sound.invariant follows steps is) sound
+        move_keeps b.settings (system_of log) move
+        (group_may_move b log group move course going sound.invariant.basis follows steps is) sound
 
   -- one more group of a course
   sound_grows : (log group : List Record) → IsCourse b log → is_ended log ≡ false → Follows b log group → IsSoundIf log

@@ -21,7 +21,7 @@ module _ (b : Beginning) (log : List Record) (number : ℕ) (items : List Record
       let p = b.settings in
       let s = system_of log in
       let sound = runs_are_sound b log run in
-      let inv = sound.invariant in
+      let inv = sound.invariant.basis in
       let arrives = may_take b log run.course run.going inv number follows.waits in
       let frame = arrives.frame in
       let receiver = arrives.receiver in

@@ -33,7 +33,7 @@ use Rattle.tap_rule.specs.Node.Status.{Ceased as HasCeased, Core, Gone, Joining,
 use Rattle.tap_safety.specs.AtRest.{AreMembers, InvariantAtRest, system_at_rest, word_at_rest}
 use Rattle.tap_safety.specs.Bookkeeping.{HasCore}
 use Rattle.tap_safety.specs.Filled.{AreFilled}
-use Rattle.tap_safety.specs.Invariant.{Invariant}
+use Rattle.tap_safety.specs.Invariant.{Basis}
 use Rattle.tap_safety.specs.Parts.{HasNear}
 use Rattle.tap_safety.specs.Remembered.{OpenSession, Word}
 use Rattle.tap_safety.specs.Seeking.{IsSeeker}
@@ -334,8 +334,8 @@ module _ (p : SettingsValue) (members : List (List ℕ)) (are : AreMembers p mem
   some_core [] none = absurd (are.some none)
   some_core (x ∷ xs) is = record { name = x; core = core_at x (rw is (inl refl)) }
 
-  invariant : Invariant p s
-  invariant = record {
+  basis : Basis p s
+  basis = record {
     soft = record {
       settled = λ x t link. core_at t (has_link x t Settled link).1;
       pins = λ x t link. let no : Pin ≡ Settled = no_kind x t Pin link in cc;
@@ -371,7 +371,6 @@ module _ (p : SettingsValue) (members : List (List ℕ)) (are : AreMembers p mem
       kept = λ x k o state is. absurd (no_session x k o is);
       open_at = λ x k state kept is session. absurd (kept_none x k state kept is session);
     };
-    filled = filled;
     ceased = record {
       joining = λ x n core pins status. let no : Joining ≡ Core = (status_is n Joining status).1 in cc;
       ceased = λ x n core pins status. let no : HasCeased ≡ Core = (status_is n HasCeased status).1 in cc;
@@ -445,4 +444,4 @@ module _ (p : SettingsValue) (members : List (List ℕ)) (are : AreMembers p mem
   }
 
 pub at_rest_law : InvariantAtRest
-at_rest_law p members are = invariant p members are
+at_rest_law p members are = record { basis = basis p members are; filled = filled p members are }

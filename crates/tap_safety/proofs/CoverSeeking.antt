@@ -134,7 +134,7 @@ module _ (p : SettingsValue) (s s' : System) (number : ℕ) (frame : Frame) (sen
         | inr same ↦ seeker_back s s' x before after at status y same seeker
       ]
 
-  cover_leaves_seekers : IsCoreNode s x → ((t : List ℕ) → (t ≡ b) ⊎ (link_to after t ≡ link_to before t))
+  pub cover_leaves_seekers : IsCoreNode s x → ((t : List ℕ) → (t ≡ b) ⊎ (link_to after t ≡ link_to before t))
       → ((y : List ℕ) → IsSeeker s' y → frame.body ≡ Seek y → ⊥)
       → ((from to : List ℕ) (m : ℕ) → AmongSeeks s' b from to m → IsSeeker s b → ⊥) → LeavesSeekers s s'
   cover_leaves_seekers core links apart gone = record {
@@ -162,7 +162,7 @@ module _ (p : SettingsValue) (s s' : System) (number : ℕ) (frame : Frame) (sen
         ];
   }
 
-  cover_leaves_tells : ((y : List ℕ) → IsSoft s y → IsSoft s' y) → ((d : List ℕ) → IsJoiner s d → IsJoiner s' d)
+  pub cover_leaves_tells : ((y : List ℕ) → IsSoft s y → IsSoft s' y) → ((d : List ℕ) → IsJoiner s d → IsJoiner s' d)
       → ((d : List ℕ) → IsJoiner s d → s'.surrogate d ≡ s.surrogate d) → (c : ℕ) → level_kept after.covers b ≡ Some c
       → LeavesTells p s s'
   cover_leaves_tells softs joiners same c covered = record {
@@ -177,7 +177,7 @@ module _ (p : SettingsValue) (s s' : System) (number : ℕ) (frame : Frame) (sen
 -- ---- a Tell
 
 -- a joiner stays one, if statuses and surrogates do
-joiners_same : (s s' : System) (x : List ℕ) (before after : NodeState) → ChangesAt s s' x before after → after.status ≡ before.status
+pub joiners_same : (s s' : System) (x : List ℕ) (before after : NodeState) → ChangesAt s s' x before after → after.status ≡ before.status
     → ((b : List ℕ) → s'.surrogate b ≡ s.surrogate b) → (d : List ℕ) → IsJoiner s d → IsJoiner s' d
 joiners_same s s' x before after at status surrogate d joiner =
     let started = surrogate d ∙ joiner.started in

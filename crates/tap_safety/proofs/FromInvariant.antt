@@ -12,16 +12,17 @@ use Rattle.tap_wire.specs.declared.frame.TellFields.{TellFields}
 use Rattle.tap_safety.specs.Frames.{tell_body}
 use Rattle.tap_safety.specs.System.{System, HasLink, IsCoreNode, IsJoiner, IsTold, IsUnderWay}
 use Rattle.tap_safety.specs.Words.{Has, Pins}
+use Rattle.tap_safety.specs.Filled.{AreFilled}
 use Rattle.tap_safety.specs.Parts.{SettledCore}
 use Rattle.tap_safety.specs.TellStep.{BeforeTell, IsTellOf}
 use Rattle.tap_safety.specs.DoneStep.{BeforeDone, IsSound, NothingOnWay}
 use Rattle.tap_safety.specs.SeekStep.{BeforeSeat}
-use Rattle.tap_safety.specs.Invariant.{Invariant}
+use Rattle.tap_safety.specs.Invariant.{Basis}
 use Rattle.tap_safety.proofs.CoverKept.{core_or_joiner}
 use Rattle.tap_safety.proofs.Names.{lcp_whole}
 use Rattle.tap_safety.proofs.Quiet.{quiet}
 
-module _ (p : SettingsValue) (s : System) (invariant : Invariant p s) where
+module _ (p : SettingsValue) (s : System) (invariant : Basis p s) where
   core_name : (x : List ℕ) → IsCoreNode s x → IsName p x
   core_name x core = invariant.names.each x (record { state = core.state; is = core.is })
 
@@ -62,14 +63,14 @@ module _ (p : SettingsValue) (s : System) (invariant : Invariant p s) where
     unmarked : (x t : List ℕ) → HasLink s x t Marked → ⊥
     unmarked x t link = invariant.departure.marked x t none_departs link
 
-    pub before_tell : BeforeTell p s
-    before_tell = record {
+    pub before_tell : AreFilled p s → BeforeTell p s
+    before_tell filled = record {
       names = core_name;
       settled = settled;
       unmarked = unmarked;
-      covered = invariant.filled.covered;
-      hole_free = invariant.filled.hole_free;
-      cover = invariant.filled.cover;
+      covered = filled.covered;
+      hole_free = filled.hole_free;
+      cover = filled.cover;
     }
 
     -- a link to a joiner is a pin
@@ -93,17 +94,17 @@ module _ (p : SettingsValue) (s : System) (invariant : Invariant p s) where
           apart = is.near;
         }
 
-    pub before_done : BeforeDone p s
-    before_done = record {
+    pub before_done : AreFilled p s → BeforeDone p s
+    before_done filled = record {
       core_names = core_name;
       joiner_names = joiner_name;
       pinned = pinned;
       sound = sound;
-      covered = invariant.filled.covered;
-      meet = invariant.filled.meet;
-      cover = invariant.filled.cover;
-      low = invariant.filled.low;
-      hole_free = invariant.filled.hole_free;
+      covered = filled.covered;
+      meet = filled.meet;
+      cover = filled.cover;
+      low = filled.low;
+      hole_free = filled.hole_free;
     }
 
     pub before_seat : (from x b : List ℕ) → IsUnderWay s from x (Seek b) → IsCoreNode s x → BeforeSeat p s x b

@@ -28,6 +28,7 @@ module _ (s s' : System) (sent : List (ℕ × Frame)) (t : Turns s s' sent) wher
         is = now.1;
         holds = now.2;
         opened = omega arith;
+        other = λ same. place.other (sym was.joiner ∙ same);
         above = λ w k parent. place.above w k (sym was.parent ∙ parent);
       }
 

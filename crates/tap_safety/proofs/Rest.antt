@@ -13,7 +13,7 @@ use Rattle.tap_safety.specs.Remembered.Token.{Way, Child}
 use Rattle.tap_safety.specs.System.{System, AmongFrames, HasLink}
 use Rattle.tap_safety.specs.Ceased.{IsRegistered}
 use Rattle.tap_safety.specs.Departing.{Departs}
-use Rattle.tap_safety.specs.Invariant.{Invariant}
+use Rattle.tap_safety.specs.Invariant.{Basis}
 use Rattle.tap_safety.specs.Rest.{Rest, RestHolds}
 use Rattle.tap_safety.specs.Sessions.{IsOpen}
 use Rattle.tap_safety.specs.Soft.{IsSoft}
@@ -75,7 +75,7 @@ of_these s (y ∷ ys) =
           ];
     }
 
-module _ (p : SettingsValue) (s : System) (invariant : Invariant p s) (rest : s.frames ≡ []) where
+module _ (p : SettingsValue) (s : System) (invariant : Basis p s) (rest : s.frames ≡ []) where
   no_frame : (m : ℕ) (f : Frame) → AmongFrames m f s.frames → ⊥
   no_frame m f among = rw rest at among
 

@@ -341,7 +341,8 @@ pub gives_quiet_law : InvariantGivesQuiet
 gives_quiet_law p s w e invariant done = quiet_of p s invariant w e done
 
 pub gives_before_law : InvariantGivesBefore
-gives_before_law p s invariant none = (before_tell p s invariant none, before_done p s invariant none)
+gives_before_law p s invariant none =
+    (before_tell p s invariant.basis none invariant.filled, before_done p s invariant.basis none invariant.filled)
 
 pub gives_seat_law : InvariantGivesSeat
 gives_seat_law p s from x b invariant none way core = before_seat p s invariant none from x b way core

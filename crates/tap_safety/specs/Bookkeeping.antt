@@ -34,12 +34,13 @@ holds_sessions Leaving = ⊥
 holds_sessions Gone = ⊥
 holds_sessions Ceased = Unit
 
--- an open session is of a core, joining or ceased node, which has opened as many; and its parent is another node's
+-- an open session is of a core, joining or ceased node, which has opened as many; its joiner is another node, and its parent another node's
 pub record HasPlace (s : System) (x : List ℕ) (k : ℕ) (session : OpenSession) : Type 0 where
   pub state : NodeState
   pub is : s.node x ≡ Some state
   pub holds : holds_sessions state.status
   pub opened : k ≤ state.sessions.opened
+  pub other : session.joiner ≡ x → ⊥
   pub above : (w : List ℕ) (m : ℕ) → session.parent ≡ Some (w, m) → w ≡ x → ⊥
 
 pub record HavePlaces (s : System) : Type 0 where

@@ -15,7 +15,7 @@ use Rattle.tap_safety.specs.System.{System}
 abbrev pub most_sessions : SettingsValue → Status → Bool → Option ℕ → ℕ
 most_sessions p Joining greeted level = if greeted then 1 else 0
 most_sessions p other greeted None = 1
-most_sessions p other greeted (Some level) = p.digits + 2 - level
+most_sessions p other greeted (Some level) = p.digits + 1 - level + 1
 
 abbrev pub most_at : SettingsValue → NodeState → List ℕ → ℕ
 most_at p node b = most_sessions p node.status (has_name node.greeted b) (level_kept node.covers b)

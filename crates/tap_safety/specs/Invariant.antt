@@ -17,7 +17,8 @@ use Rattle.tap_safety.specs.Departing.{Departure}
 use Rattle.tap_safety.specs.Notices.{Notices}
 use Rattle.tap_safety.specs.Spelled.{AreAtMost, AreSpelled, most_names}
 
-pub record Invariant (p : SettingsValue) (s : System) : Type 0 where
+-- The basis of the invariant: all its parts but those about tables without holes. It is kept from itself alone, but by departures.
+pub record Basis (p : SettingsValue) (s : System) : Type 0 where
   -- Settled, Seeking, Sessions
   pub soft : NamesSoft s
   pub seeking : Seeking s
@@ -26,8 +27,6 @@ pub record Invariant (p : SettingsValue) (s : System) : Type 0 where
   pub of_joiners : AreOfJoiners s
   pub tells : TellsAreSound p s
   pub counted : AreCountedSo s
-  -- Covered, Meet, Cover, Low and Hole-free
-  pub filled : AreFilled p s
   -- Ceased, Ties and Departure
   pub ceased : Ceased s
   pub ties : Ties s
@@ -49,3 +48,9 @@ pub record Invariant (p : SettingsValue) (s : System) : Type 0 where
   pub names : HaveNames p s
   pub few : AreAtMost s most_names
   pub spelled : AreSpelled p s
+
+-- the basis, and tables without holes
+pub record Invariant (p : SettingsValue) (s : System) : Type 0 where
+  pub basis : Basis p s
+  -- Covered, Meet, Cover, Low and Hole-free
+  pub filled : AreFilled p s

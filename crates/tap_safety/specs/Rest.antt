@@ -9,7 +9,7 @@ use Rattle.tap_safety.specs.Sessions.{IsOpen}
 use Rattle.tap_safety.specs.Words.{Has, Pins}
 use Rattle.tap_safety.specs.Ceased.{IsRegistered}
 use Rattle.tap_safety.specs.Ties.{status_of}
-use Rattle.tap_safety.specs.Invariant.{Invariant}
+use Rattle.tap_safety.specs.Invariant.{Basis}
 
 -- No session is open, nobody joins and nobody leaves, and some node is core; no link is a pin or marked; and of two nodes, the second one
 -- core, the first is a holder that is on exactly if it has a link to the second.
@@ -23,4 +23,4 @@ pub record Rest (s : System) : Type 0 where
   pub holders : (x t : List ℕ) → status_of s t ≡ Some Core → Has s x t ↔ IsRegistered s x t
 
 abbrev pub RestHolds : Type 0
-RestHolds = (p : SettingsValue) (s : System) → Invariant p s → s.frames ≡ [] → Rest s
+RestHolds = (p : SettingsValue) (s : System) → Basis p s → s.frames ≡ [] → Rest s

@@ -27,7 +27,7 @@ use Rattle.tap_safety.specs.Tells.{TellsAreSound}
 use Rattle.tap_safety.specs.Ties.{Ties, Versions}
 use Rattle.tap_safety.specs.WordSteps.{KeepsForgets, SaysLinks, SaysNoMore, SaysWords}
 use Rattle.tap_safety.specs.Ceased.{Ceased}
-use Rattle.tap_safety.specs.Invariant.{Invariant}
+use Rattle.tap_safety.specs.Invariant.{Basis, Invariant}
 use Rattle.tap_safety.specs.Filled.{AreFilled}
 use Rattle.tap_safety.specs.FrameSteps.{
   StartsJoin,
@@ -392,15 +392,15 @@ SeekingKeptByDone = (p : SettingsValue) (s s' : System) (number : ℕ) (w e : Li
 -- ---- what the laws of steps ask for, from the invariant
 
 abbrev pub InvariantGivesTell : Type 0
-InvariantGivesTell = (p : SettingsValue) (s : System) (from x : List ℕ) (fields : TellFields) (watch : List Slot) → Invariant p s
+InvariantGivesTell = (p : SettingsValue) (s : System) (from x : List ℕ) (fields : TellFields) (watch : List Slot) → Basis p s
     → IsUnderWay s from x (tell_body fields watch) → IsCoreNode s x → IsTellOf p s x fields.joiner fields.prefix fields.level
 
 abbrev pub InvariantGivesQuiet : Type 0
-InvariantGivesQuiet = (p : SettingsValue) (s : System) (w e : List ℕ) → Invariant p s → IsUnderWay s w e Done → NothingOnWay s e
+InvariantGivesQuiet = (p : SettingsValue) (s : System) (w e : List ℕ) → Basis p s → IsUnderWay s w e Done → NothingOnWay s e
 
 abbrev pub InvariantGivesBefore : Type 0
 InvariantGivesBefore = (p : SettingsValue) (s : System) → Invariant p s → s.departing ≡ None → BeforeTell p s × BeforeDone p s
 
 abbrev pub InvariantGivesSeat : Type 0
-InvariantGivesSeat = (p : SettingsValue) (s : System) (from x b : List ℕ) → Invariant p s → s.departing ≡ None
+InvariantGivesSeat = (p : SettingsValue) (s : System) (from x b : List ℕ) → Basis p s → s.departing ≡ None
     → IsUnderWay s from x (Seek b) → IsCoreNode s x → BeforeSeat p s x b

@@ -246,7 +246,8 @@ pub fn few_sessions_law()
     ensures opened { FewSessionsKeptByOpening }
 {}
 
-/// What the laws of Tells, Dones and Seeks ask for before the step: the invariant gives it, if nobody departs.
+/// What the laws of Tells, Dones and Seeks ask for before the step: the invariant gives it, if nobody departs;
+/// of tables without holes a Tell and a Done alone ask.
 ///
 /// It does nothing: its contract is the law.
 ///

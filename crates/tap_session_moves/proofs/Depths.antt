@@ -11,7 +11,7 @@ use Rattle.tap_rule.specs.Sent.{IsAmong}
 use Rattle.tap_rule.proofs.Among.{among-first, among-map, among-second}
 use Rattle.tap_safety.specs.FewSessions.{IsOpenOf, SessionsAreFew, most_sessions}
 use Rattle.tap_safety.specs.Frames.{tell_body}
-use Rattle.tap_safety.specs.Invariant.{Invariant}
+use Rattle.tap_safety.specs.Invariant.{Basis}
 use Rattle.tap_safety.specs.Remembered.{OpenSession}
 use Rattle.tap_safety.specs.Sessions.{AreExact, IsOpen}
 use Rattle.tap_safety.specs.System.{System}
@@ -192,7 +192,7 @@ module _ (s : System) (b : List ℕ) (exact : AreExact s)
 
 -- ---- depths
 
-digits_few : (p : SettingsValue) (s : System) → Invariant p s → AreNodes p s → p.digits ≤ 40
+digits_few : (p : SettingsValue) (s : System) → Basis p s → AreNodes p s → p.digits ≤ 40
 digits_few p s inv nodes =
     let core = inv.has_core.core in
     let of = nodes.nodes inv.has_core.name core.state core.is in

@@ -1,7 +1,6 @@
 -- Frames go between two nodes, and who asks can be answered, after each frame and each start.
 use Rattle.std.proofs.Common.{◌≡◌, ◌≢◌, ◌⊎◌, ℕ, ◌<◌, ◌≤◌, Bool, true, false, List, [], ◌∷◌, filter, All, Option, None, Some, arith, ap, refl, sym, subst, ◌∙◌, inl, inr}
 use Rattle.std.specs.Prelude.{IfSome}
-use Rattle.std.specs.Option.{unwrap_or}
 use Rattle.std.proofs.lemmas.Bool.{cases_Bool}
 use Rattle.std.proofs.lemmas.List.Elements.{All-filter, All-map, All-nil, All-weaker}
 use Rattle.tap_name.specs.Name.{IsName}
@@ -39,7 +38,7 @@ use Rattle.tap_rule.proofs.Kept.{joiner_law}
 use Rattle.tap_safety.specs.AtRest.{member_of, system_at_rest}
 use Rattle.tap_safety.specs.Counted.{parent_at}
 use Rattle.tap_safety.specs.Frames.{HelloFields, hello_body, tell_body}
-use Rattle.tap_safety.specs.Invariant.{Invariant}
+use Rattle.tap_safety.specs.Invariant.{Basis}
 use Rattle.tap_safety.specs.KnownLaws.{SeatsNodes, SendsAway}
 use Rattle.tap_safety.specs.Move.Move.{Delivers}
 use Rattle.tap_safety.specs.Moved.{HasDone, moved, numbered_frame, starter, taking}
@@ -51,8 +50,6 @@ use Rattle.tap_safety.specs.Step.{numbered_from}
 use Rattle.tap_safety.specs.System.{System, AmongFrames, HasLink, IsCoreNode}
 use Rattle.tap_safety.specs.Ties.{register_in, register_of, word_kept}
 use Rattle.tap_safety.specs.Turned.{opened_by, seated, surrogates_with}
-use Rattle.tap_safety.specs.Words.{surrogate_of}
-use Rattle.tap_safety.proofs.CoverKept.{core_or_joiner}
 use Rattle.tap_safety.proofs.Known.{ends_frame, ends_start}
 use Rattle.tap_safety.proofs.LinkKeeps.{some_state}
 use Rattle.tap_safety.proofs.Moves.{delivers, found, starts, with_at-others}
@@ -84,7 +81,7 @@ as_name x (y ∷ names) (inr later) = inr (as_name x names later)
 
 -- ---- what is known of a node and of those whom it knows
 
-module _ (p : SettingsValue) (s : System) (inv : Invariant p s) (nodes : AreNodes p s) (askers : HaveAskers s) (x : List ℕ)
+module _ (p : SettingsValue) (s : System) (inv : Basis p s) (nodes : AreNodes p s) (askers : HaveAskers s) (x : List ℕ)
     (node : NodeState) (at : s.node x ≡ Some node) where
   abbrev of : IsNodeOf p x node
   of = nodes.nodes x node at
@@ -159,12 +156,8 @@ module _ (p : SettingsValue) (s : System) (inv : Invariant p s) (nodes : AreNode
       → JoinParent P Q (parent_at session.joiner above)
   parent_known k session held None top =
       let joins = inv.of_joiners.opened x k session held in
-      let root = inv.of_joiners.root x k session held top in
-      let seat : surrogate_of s session.joiner ≡ x = ap (λ (o : Option (List ℕ)). unwrap_or o []) root.0 in
-      let core = (inv.filled.covered.surrogate session.joiner joins).0 in (
-        record { state = joins.state; is = joins.is },
-        λ same. core_or_joiner s session.joiner (subst (IsCoreNode s) (seat ∙ sym of.name ∙ sym same) core) joins,
-      )
+      let here = inv.places.places x k session held in
+      (record { state = joins.state; is = joins.is }, λ same. here.other (same ∙ of.name))
   parent_known k session held (Some (w, m)) above =
       let up = inv.exact.parents x k session w m held above in
       let there = inv.places.places w m up.parent up.is in
@@ -389,7 +382,7 @@ frame_ends p s number frame node inv nodes askers among at =
 -- ---- starts
 
 -- a node that is there
-there_ends : (p : SettingsValue) (s : System) (x : List ℕ) (start : Start) (node : NodeState) → Invariant p s → (nodes : AreNodes p s)
+there_ends : (p : SettingsValue) (s : System) (x : List ℕ) (start : Start) (node : NodeState) → Basis p s → (nodes : AreNodes p s)
     → HaveAskers s → s.node x ≡ Some node → starter p s x start ≡ Some node → IsStart (settings_of node) start
     → StartNames (IsOther s (name_of node)) (HasNode s) node start → HaveBothEnds (after_start p s x start)
 there_ends p s x start node inv nodes askers at is named names =
@@ -409,7 +402,7 @@ there_ends p s x start node inv nodes askers at is named names =
     }
 
 -- a new name joins: it has no link, no holder, no session and no pair
-join_ends : (p : SettingsValue) (s : System) (x via : List ℕ) → Invariant p s → AreNodes p s → HaveAskers s → AreWithinLimits p
+join_ends : (p : SettingsValue) (s : System) (x via : List ℕ) → Basis p s → AreNodes p s → HaveAskers s → AreWithinLimits p
     → IsName p x → s.node x ≡ None → IsCoreNode s via → HaveBothEnds (after_start p s x (Join via))
 join_ends p s x via inv nodes askers limits name fresh core =
     let s' = after_start p s x (Join via) in

@@ -1,5 +1,5 @@
 -- Each node has few sessions of one joiner open after each frame that a rule takes, and after a start.
-use Rattle.std.proofs.Common.{◌≡◌, ◌⊎◌, ℕ, ◌+◌, ◌-◌, ◌<◌, ◌≤◌, Bool, true, false, List, [], if◌then◌else◌, Option, None, Some, arith, ap, refl, sym, subst, ◌∙◌, inl, inr}
+use Rattle.std.proofs.Common.{◌≡◌, ◌⊎◌, ℕ, ◌+◌, ◌<◌, ◌≤◌, Bool, true, false, List, [], if◌then◌else◌, Option, None, Some, arith, ap, refl, sym, subst, ◌∙◌, inl, inr}
 use Rattle.std.proofs.lemmas.Bool.{cases_lt}
 use Rattle.tap_name.specs.Names.{has_name}
 use Rattle.tap_name.specs.Settings.{SettingsValue}
@@ -39,7 +39,7 @@ use Rattle.tap_rule.proofs.QuietSteps.{quiet_start_law}
 use Rattle.tap_rule.proofs.StartSteps.{give_up_law}
 use Rattle.tap_safety.specs.FewSessions.{IsOpenOf, MayHaveAsMany, SessionsAreFew, most_at, most_sessions}
 use Rattle.tap_safety.specs.Frames.{HelloFields, hello_body, tell_body}
-use Rattle.tap_safety.specs.Invariant.{Invariant}
+use Rattle.tap_safety.specs.Invariant.{Basis}
 use Rattle.tap_safety.specs.Moved.{starter}
 use Rattle.tap_safety.specs.Remembered.{OpenSession}
 use Rattle.tap_safety.specs.Sessions.{AreExact, IsOpen, ways_of}
@@ -465,47 +465,39 @@ module _ (p : SettingsValue) (s : System) (number : ℕ) (node : NodeState) (fro
 
   -- ---- a Done
 
-  -- a joiner covers nobody, so as a core node, or one that has ceased, it may have one of each
-  uncovering : IsDelivery p s number node from Done → (b : List ℕ) (level : Option ℕ) → level_kept node.covers b ≡ level → level ≡ None
-  uncovering is b None none = refl
-  uncovering is b (Some level) some =
-      let joins = is.invariant.of_joiners.dones from own (way p s number node from Done is) in
-      absurd (is.invariant.filled.covered.joiners own b level joins (record { state = node; is = is.at; cover = some }))
-
-  one_of_each : (status : Status) (greeted : Bool) → (status ≡ Joining → ⊥) → 1 ≤ most_sessions p status greeted None
-  one_of_each Joining greeted apart = absurd (apart refl)
-  one_of_each Core greeted apart = omega arith
-  one_of_each Leaving greeted apart = omega arith
-  one_of_each Gone greeted apart = omega arith
-  one_of_each Ceased greeted apart = omega arith
+  -- as a core node, or one that has ceased, it may have one of each
+  one_of_each : (status : Status) (greeted : Bool) (level : Option ℕ) → (status ≡ Joining → ⊥) → 1 ≤ most_sessions p status greeted level
+  one_of_each Joining greeted level apart = absurd (apart refl)
+  one_of_each Core greeted None apart = omega arith
+  one_of_each Core greeted (Some level) apart = omega arith
+  one_of_each Leaving greeted None apart = omega arith
+  one_of_each Leaving greeted (Some level) apart = omega arith
+  one_of_each Gone greeted None apart = omega arith
+  one_of_each Gone greeted (Some level) apart = omega arith
+  one_of_each Ceased greeted None apart = omega arith
+  one_of_each Ceased greeted (Some level) apart = omega arith
 
   at_most_one : (greeted : Bool) (level : Option ℕ) → most_sessions p Joining greeted level ≤ 1
   at_most_one true level = omega arith
   at_most_one false level = omega arith
 
-  ended_no_fewer : (ended : NodeState) → node.status ≡ Joining → (ended.status ≡ Joining → ⊥)
-      → ((b : List ℕ) → level_kept ended.covers b ≡ None) → NoFewer p node ended
-  ended_no_fewer ended at apart none b =
+  ended_no_fewer : (ended : NodeState) → node.status ≡ Joining → (ended.status ≡ Joining → ⊥) → NoFewer p node ended
+  ended_no_fewer ended at apart b =
       let was = ap (λ (st : Status). most_sessions p st (has_name node.greeted b) (level_kept node.covers b)) at in
       let most = at_most_one (has_name node.greeted b) (level_kept node.covers b) in
-      let now = ap (λ level. most_sessions p ended.status (has_name ended.greeted b) level) (none b) in
-      let one = one_of_each ended.status (has_name ended.greeted b) apart in
-      omega (arith, was, most, now, one)
+      let one = one_of_each ended.status (has_name ended.greeted b) (level_kept ended.covers b) apart in
+      omega (arith, was, most, one)
 
   done_no_fewer : (is : IsDelivery p s number node from Done) → (given_up : Bool) → node.abandoned ≡ given_up
       → NoFewer p node (taken_at node from Done).state
   done_no_fewer is true given_up =
       let at = receiver_joins p s number node from is in
       let step = cease_law node from at given_up is.known in
-      ended_no_fewer (taken_at node from Done).state at
-      (λ joins. let wrong : Ceased ≡ Joining = sym step.status ∙ joins in cc)
-      (λ b. ap (λ (c : List (List ℕ × ℕ)). level_kept c b) step.emptied.covers)
+      ended_no_fewer (taken_at node from Done).state at (λ joins. let wrong : Ceased ≡ Joining = sym step.status ∙ joins in cc)
   done_no_fewer is false goes_on =
       let at = receiver_joins p s number node from is in
       let step = done_law node from at goes_on is.known in
-      ended_no_fewer (taken_at node from Done).state at
-      (λ joins. let wrong : Core ≡ Joining = sym step.status ∙ joins in cc)
-      (λ b. ap (λ (c : List (List ℕ × ℕ)). level_kept c b) step.covers ∙ uncovering is b (level_kept node.covers b) refl)
+      ended_no_fewer (taken_at node from Done).state at (λ joins. let wrong : Core ≡ Joining = sym step.status ∙ joins in cc)
 
   done_few : IsDelivery p s number node from Done → SessionsAreFew p s → SessionsAreFew p after
   done_few is few =
@@ -556,7 +548,7 @@ quiet_few p s x start node at is quiet few =
     there_few p s x start node at is law.status law.covers law.greeted few
 
 -- a new name has no session
-join_few : (p : SettingsValue) (s : System) (x via : List ℕ) → Invariant p s → s.node x ≡ None → SessionsAreFew p s
+join_few : (p : SettingsValue) (s : System) (x via : List ℕ) → Basis p s → s.node x ≡ None → SessionsAreFew p s
     → SessionsAreFew p (after_start p s x (Join via))
 join_few p s x via inv fresh few =
     let s' = after_start p s x (Join via) in
@@ -574,7 +566,7 @@ join_few p s x via inv fresh few =
     ]) few
 
 -- a departure starts while no session is open
-leave_few : (p : SettingsValue) (s : System) (x : List ℕ) (node : NodeState) → Invariant p s → s.node x ≡ Some node → s.frames ≡ []
+leave_few : (p : SettingsValue) (s : System) (x : List ℕ) (node : NodeState) → Basis p s → s.node x ≡ Some node → s.frames ≡ []
     → SessionsAreFew p s → SessionsAreFew p (after_start p s x Leave)
 leave_few p s x node inv at rest few =
     let s' = after_start p s x Leave in

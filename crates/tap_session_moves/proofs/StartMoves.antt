@@ -23,7 +23,7 @@ use Rattle.tap_rule.specs.Sent.{IsAmong}
 use Rattle.tap_rule.proofs.Among.{among-map_from}
 use Rattle.tap_rule.proofs.QuietSteps.{quiet_start_law}
 use Rattle.tap_rule.proofs.StartSteps.{give_up_law, leave_start_law, seek_start_law}
-use Rattle.tap_safety.specs.Invariant.{Invariant}
+use Rattle.tap_safety.specs.Invariant.{Basis}
 use Rattle.tap_safety.specs.Joins.{JoinersStay}
 use Rattle.tap_safety.specs.Moved.{starter}
 use Rattle.tap_safety.specs.Sessions.{Belongs}
@@ -77,11 +77,11 @@ started_joins s s' sent has are sessions aside none stay have =
     let keeps = joins_others_law s s' (sent_aside s s' sent has are sessions aside) stay (sent_no_done s s' sent has none) in
     record { of_joiners = keeps.0 have.of_joiners; ends_once = keeps.1 have.ends_once }
 
-have_of : (p : SettingsValue) (s : System) → Invariant p s → HaveJoiners s
+have_of : (p : SettingsValue) (s : System) → Basis p s → HaveJoiners s
 have_of p s inv = record { of_joiners = inv.of_joiners; ends_once = inv.ends_once }
 
 -- a node that is there starts something, and keeps its status
-there_joins : (p : SettingsValue) (s : System) (x : List ℕ) (start : Start) (node : NodeState) → Invariant p s → s.node x ≡ Some node
+there_joins : (p : SettingsValue) (s : System) (x : List ℕ) (start : Start) (node : NodeState) → Basis p s → s.node x ≡ Some node
     → starter p s x start ≡ Some node → (act node (Starts start)).state.status ≡ node.status
     → ((f : Frame) (y : List ℕ) (k : ℕ) → IsAmong f (act node (Starts start)).sent → Belongs f y k → ⊥)
     → ((from to : List ℕ) (body : Body) → IsSent (act node (Starts start)).sent from to body → IsNoDone body)
@@ -93,7 +93,7 @@ there_joins p s x start node inv at is status aside none =
     (joiners_stay s s' x node (act node (Starts start)).state (record { was = at; is = step.done.is; others = step.done.others }) status
     step.surrogate) (have_of p s inv)
 
-quiet_joins : (p : SettingsValue) (s : System) (x : List ℕ) (start : Start) (node : NodeState) → Invariant p s → s.node x ≡ Some node
+quiet_joins : (p : SettingsValue) (s : System) (x : List ℕ) (start : Start) (node : NodeState) → Basis p s → s.node x ≡ Some node
     → starter p s x start ≡ Some node → IsQuietStart start → HaveJoiners (after_start p s x start)
 quiet_joins p s x start node inv at is quiet =
     let law = quiet_start_law node start quiet in
@@ -101,7 +101,7 @@ quiet_joins p s x start node inv at is quiet =
     (λ f y k among belongs. quiet_none f.body f.from f.to y k (law.sent f among) belongs)
     (λ w to body among. quiet_no_done body (law.sent (record { from = w; to = to; body = body }) among))
 
-abandon_joins : (p : SettingsValue) (s : System) (x : List ℕ) (node : NodeState) → Invariant p s → s.node x ≡ Some node
+abandon_joins : (p : SettingsValue) (s : System) (x : List ℕ) (node : NodeState) → Basis p s → s.node x ≡ Some node
     → (act node (Starts Abandon)).state.status ≡ node.status
     → ((f : Frame) (y : List ℕ) (k : ℕ) → IsAmong f (act node (Starts Abandon)).sent → Belongs f y k → ⊥)
     → ((from to : List ℕ) (body : Body) → IsSent (act node (Starts Abandon)).sent from to body → IsNoDone body)
@@ -109,7 +109,7 @@ abandon_joins : (p : SettingsValue) (s : System) (x : List ℕ) (node : NodeStat
 abandon_joins p s x node inv at status aside none = there_joins p s x Abandon node inv at at status aside none
 
 -- a new name joins
-join_joins : (p : SettingsValue) (s : System) (x via : List ℕ) → Invariant p s → s.node x ≡ None → s.surrogate x ≡ None
+join_joins : (p : SettingsValue) (s : System) (x via : List ℕ) → Basis p s → s.node x ≡ None → s.surrogate x ≡ None
     → HaveJoiners (after_start p s x (Join via))
 join_joins p s x via inv fresh unstarted =
     let s' = after_start p s x (Join via) in
@@ -154,7 +154,7 @@ join_joins p s x via inv fresh unstarted =
     (no_done_sent x [] (message via (Seek x) ∷ []) acted.sent law.sent (one_no_done via (Seek x) tt)) stay (have_of p s inv)
 
 -- whoever isn't there was never started
-pub never_started : (p : SettingsValue) (s : System) (x : List ℕ) → Invariant p s → s.node x ≡ None → s.surrogate x ≡ None
+pub never_started : (p : SettingsValue) (s : System) (x : List ℕ) → Basis p s → s.node x ≡ None → s.surrogate x ≡ None
 never_started p s x inv fresh = by_surrogate (s.surrogate x) refl
   where
     by_surrogate : (found : Option (List ℕ)) → s.surrogate x ≡ found → s.surrogate x ≡ None
@@ -225,7 +225,7 @@ departs node at =
           }
     ]
 
-leave_joins : (p : SettingsValue) (s : System) (x : List ℕ) (node : NodeState) → Invariant p s → s.node x ≡ Some node
+leave_joins : (p : SettingsValue) (s : System) (x : List ℕ) (node : NodeState) → Basis p s → s.node x ≡ Some node
     → node.status ≡ Core → HaveJoiners (after_start p s x Leave)
 leave_joins p s x node inv at core =
     let s' = after_start p s x Leave in

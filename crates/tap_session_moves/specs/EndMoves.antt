@@ -10,7 +10,7 @@ use Rattle.tap_rule.specs.Event.{Start}
 use Rattle.tap_rule.specs.Node.{NodeState}
 use Rattle.tap_safety.specs.AtRest.{AreMembers, system_at_rest}
 use Rattle.tap_safety.specs.Bookkeeping.{HaveEnds}
-use Rattle.tap_safety.specs.Invariant.{Invariant}
+use Rattle.tap_safety.specs.Invariant.{Basis}
 use Rattle.tap_safety.specs.Move.{may_start}
 use Rattle.tap_safety.specs.Seeking.{HasNode}
 use Rattle.tap_safety.specs.System.{System, AmongFrames}
@@ -45,10 +45,10 @@ pub record HaveBothEnds (s : System) : Type 0 where
 
 -- so it is after a frame of whatever kind, whatever the status of its receiver, be it strange or not
 abbrev pub FrameEnds : Type 0
-FrameEnds = (p : SettingsValue) (s : System) (number : ℕ) (frame : Frame) (node : NodeState) → Invariant p s → AreNodes p s → HaveAskers s
+FrameEnds = (p : SettingsValue) (s : System) (number : ℕ) (frame : Frame) (node : NodeState) → Basis p s → AreNodes p s → HaveAskers s
     → AmongFrames number frame s.frames → s.node frame.to ≡ Some node → HaveBothEnds (after_delivery p s number)
 
 -- and after whatever is started, a departure too
 abbrev pub StartEnds : Type 0
-StartEnds = (p : SettingsValue) (s : System) (x : List ℕ) (start : Start) → Invariant p s → AreNodes p s → HaveAskers s
+StartEnds = (p : SettingsValue) (s : System) (x : List ℕ) (start : Start) → Basis p s → AreNodes p s → HaveAskers s
     → may_start p s x start → IsNamedStart p start → HaveBothEnds (after_start p s x start)

@@ -9,7 +9,7 @@ use Rattle.tap_rule.specs.Node.{NodeState}
 use Rattle.tap_rule.specs.Strange.{most_depth}
 use Rattle.tap_safety.specs.FewSessions.{SessionsAreFew}
 use Rattle.tap_safety.specs.Frames.{tell_body}
-use Rattle.tap_safety.specs.Invariant.{Invariant}
+use Rattle.tap_safety.specs.Invariant.{Basis}
 use Rattle.tap_safety.specs.Move.{may_start}
 use Rattle.tap_safety.specs.Notices.{IsNotice}
 use Rattle.tap_safety.specs.Remembered.{OpenSession}
@@ -30,7 +30,7 @@ NoticeFew = (p : SettingsValue) (s : System) (number : ℕ) (node : NodeState) (
 
 -- a departure too, since it starts while no session is open
 abbrev pub StartFew : Type 0
-StartFew = (p : SettingsValue) (s : System) (x : List ℕ) (start : Start) → Invariant p s → may_start p s x start
+StartFew = (p : SettingsValue) (s : System) (x : List ℕ) (start : Start) → Basis p s → may_start p s x start
     → SessionsAreFew p s → SessionsAreFew p (after_start p s x start)
 
 -- how many sessions of one joiner are open at most: 42 at each of 256 nodes, since names have at most 40 digits
@@ -39,10 +39,10 @@ most_open = 10752
 
 -- from each open session up to its root there are as many more as it is deep
 abbrev pub SessionsAreShallow : Type 0
-SessionsAreShallow = (p : SettingsValue) (s : System) (x : List ℕ) (k : ℕ) (session : OpenSession) → Invariant p s → AreNodes p s
+SessionsAreShallow = (p : SettingsValue) (s : System) (x : List ℕ) (k : ℕ) (session : OpenSession) → Basis p s → AreNodes p s
     → SessionsAreFew p s → IsOpen s x k session → session.depth < most_open
 
 -- no Tell on its way is at the depth that no frame goes beyond
 abbrev pub TellsAreShallow : Type 0
-TellsAreShallow = (p : SettingsValue) (s : System) (from to : List ℕ) (fields : TellFields) (watch : List Slot) → Invariant p s
+TellsAreShallow = (p : SettingsValue) (s : System) (from to : List ℕ) (fields : TellFields) (watch : List Slot) → Basis p s
     → AreNodes p s → SessionsAreFew p s → IsUnderWay s from to (tell_body fields watch) → fields.depth < most_depth

@@ -6,7 +6,7 @@ use Rattle.tap_wire.specs.declared.frame.Body.TheVariants.{Done}
 use Rattle.tap_wire.specs.declared.frame.Frame.{Frame}
 use Rattle.tap_rule.specs.Event.{Start}
 use Rattle.tap_rule.specs.Node.{NodeState}
-use Rattle.tap_safety.specs.Invariant.{Invariant}
+use Rattle.tap_safety.specs.Invariant.{Basis}
 use Rattle.tap_safety.specs.Joins.{AreOfJoiners, EndsOnce, JoinersStay, NoDoneAmong}
 use Rattle.tap_safety.specs.Move.{may_start}
 use Rattle.tap_safety.specs.Notices.{IsNotice}
@@ -57,5 +57,5 @@ NoticeJoins = (p : SettingsValue) (s : System) (number : ℕ) (node : NodeState)
 
 -- and once a node has started what it may start, a departure too
 abbrev pub StartJoins : Type 0
-StartJoins = (p : SettingsValue) (s : System) (x : List ℕ) (start : Start) → Invariant p s → may_start p s x start
+StartJoins = (p : SettingsValue) (s : System) (x : List ℕ) (start : Start) → Basis p s → may_start p s x start
     → HaveJoiners (after_start p s x start)

@@ -9,7 +9,7 @@ use Rattle.tap_rule.specs.Event.Start.{Join}
 use Rattle.tap_rule.specs.Node.{NodeState}
 use Rattle.tap_rule.specs.Node.Status.{Joining, Leaving}
 use Rattle.tap_rule.specs.QuietSteps.{IsQuiet}
-use Rattle.tap_safety.specs.Invariant.{Invariant}
+use Rattle.tap_safety.specs.Invariant.{Basis}
 use Rattle.tap_safety.specs.Notices.{IsAtPeace, IsNotice}
 use Rattle.tap_safety.specs.System.{System, HasLink, IsUnderWay}
 use Rattle.tap_safety.specs.Ties.{status_of}
@@ -22,7 +22,7 @@ use Rattle.tap_start_moves.specs.Starts.{StartPeaceful}
 use Rattle.tap_start_moves.proofs.StartKinds.{StartsAlike, StartsAnew, alike_link_was, alike_status, alike_way_was, anew_link_was, anew_start, anew_ways, by_kind}
 
 -- after a step while nobody departs, if no link is marked then
-at_peace : (p : SettingsValue) (s s' : System) → IsAtPeace s s' → ((y t : List ℕ) → HasLink s' y t Marked → ⊥) → Invariant p s
+at_peace : (p : SettingsValue) (s s' : System) → IsAtPeace s s' → ((y t : List ℕ) → HasLink s' y t Marked → ⊥) → Basis p s
     → IsPeaceful s'
 at_peace p s s' peace unmarked inv = record {
   none = peace.is;
@@ -43,7 +43,7 @@ quiet_no_notice _ notice quiet = absurd notice
 
 -- a node stays what it is
 alike_peace : (p : SettingsValue) (s : System) (x : List ℕ) (start : Start) (node : NodeState) → StartsAlike p s x start node
-    → Invariant p s → IsPeaceful (after_start p s x start)
+    → Basis p s → IsPeaceful (after_start p s x start)
 alike_peace p s x start node is inv =
     at_peace p s (after_start p s x start) (record {
       was = is.was_none;
@@ -54,7 +54,7 @@ alike_peace p s x start node is inv =
     (λ y t link. inv.departure.marked y t is.was_none (alike_link_was p s x start node is y t Marked link)) inv
 
 -- a new name starts to join
-module _ (p : SettingsValue) (s : System) (x via : List ℕ) (is : StartsAnew p s x via) (inv : Invariant p s) where
+module _ (p : SettingsValue) (s : System) (x via : List ℕ) (is : StartsAnew p s x via) (inv : Basis p s) where
   abbrev begun : System
   begun = after_start p s x (Join via)
 

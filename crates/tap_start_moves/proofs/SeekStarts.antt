@@ -11,7 +11,7 @@ use Rattle.tap_rule.specs.Event.Event.{Starts}
 use Rattle.tap_rule.specs.Event.Start.{Join}
 use Rattle.tap_rule.specs.Node.{NodeState}
 use Rattle.tap_safety.specs.Frames.{hello_body, tell_body}
-use Rattle.tap_safety.specs.Invariant.{Invariant}
+use Rattle.tap_safety.specs.Invariant.{Basis}
 use Rattle.tap_safety.specs.SeekerSteps.{BeforeJoin, LeavesSeekers, LeavesTells}
 use Rattle.tap_safety.specs.Soft.{IsSoft}
 use Rattle.tap_safety.specs.System.{System, IsUnderWay}
@@ -77,7 +77,7 @@ module _ (p : SettingsValue) (s : System) (x : List ℕ) (start : Start) (node :
             inl (alike_way_was p s x start node is from to (tell_body fields watch) (λ never. never) way);
       }
 
-  alike_seeks : Invariant p s → AreSought p after
+  alike_seeks : Basis p s → AreSought p after
   alike_seeks inv =
       let kept = seeking_law s after leaves_seekers in
       record {
@@ -139,7 +139,7 @@ module _ (p : SettingsValue) (s : System) (x via : List ℕ) (is : StartsAnew p 
       }
 
   -- nothing named the new name, and its Seek goes to a core node
-  anew_seeks : Invariant p s → AreSought p begun
+  anew_seeks : Basis p s → AreSought p begun
   anew_seeks inv =
       let before : BeforeJoin p s = record {
         soft = inv.soft;

@@ -14,7 +14,7 @@ use Rattle.tap_rule.specs.Node.Status.{Core, Leaving}
 use Rattle.tap_safety.specs.Awaited.{AreAwaitedOnce}
 use Rattle.tap_safety.specs.Bookkeeping.{HasCore, HavePlaces, holds_sessions}
 use Rattle.tap_safety.specs.Counted.{IsKeptSo}
-use Rattle.tap_safety.specs.Invariant.{Invariant}
+use Rattle.tap_safety.specs.Invariant.{Basis}
 use Rattle.tap_safety.specs.Remembered.{OpenSession}
 use Rattle.tap_safety.specs.SessionSteps.{LeavesSessions}
 use Rattle.tap_safety.specs.Move.{may_start}
@@ -51,7 +51,7 @@ record KeepsSessions (s s' : System) : Type 0 where
 at_sessions : (one other : NodeState) (k : ℕ) → one.sessions ≡ other.sessions → join_session_at one k ≡ join_session_at other k
 at_sessions one other k same = ap (λ (sessions : SessionsValue). session_of sessions.sessions k) same
 
-module _ (p : SettingsValue) (s s' : System) (keeps : KeepsSessions s s') (inv : Invariant p s) where
+module _ (p : SettingsValue) (s s' : System) (keeps : KeepsSessions s s') (inv : Basis p s) where
   -- each session stays in its place
   places_kept : HavePlaces s'
   places_kept = record {
@@ -63,6 +63,7 @@ module _ (p : SettingsValue) (s s' : System) (keeps : KeepsSessions s s') (inv :
           is = now.is;
           holds = subst holds_sessions (sym now.status_is) place.holds;
           opened = subst (λ (sessions : SessionsValue). k ≤ sessions.opened) (sym now.sessions_are) place.opened;
+          other = place.other;
           above = place.above;
         };
   }
@@ -124,7 +125,7 @@ module _ (p : SettingsValue) (s s' : System) (keeps : KeepsSessions s s') (inv :
 
 -- what such a node sends belongs to no session, and it keeps those that it has
 alike_sessions : (p : SettingsValue) (s : System) (x : List ℕ) (start : Start) (node : NodeState) → StartsAlike p s x start node
-    → Invariant p s → KeepsSessions s (after_start p s x start)
+    → Basis p s → KeepsSessions s (after_start p s x start)
 alike_sessions p s x start node is inv =
     let s' = after_start p s x start in
     let after = (act node (Starts start)).state in
@@ -161,7 +162,7 @@ seek_aside f x y k is belongs =
     let wrong : session_named (Seek x) f.from f.to ≡ Some (y, k) = ap (λ body. session_named body f.from f.to) (sym is) ∙ belongs in cc
 
 -- and a new node has no session
-anew_sessions : (p : SettingsValue) (s : System) (x via : List ℕ) → StartsAnew p s x via → Invariant p s
+anew_sessions : (p : SettingsValue) (s : System) (x via : List ℕ) → StartsAnew p s x via → Basis p s
     → KeepsSessions s (after_start p s x (Join via))
 anew_sessions p s x via is inv =
     let s' = after_start p s x (Join via) in
@@ -183,7 +184,7 @@ anew_sessions p s x via is inv =
 
 -- ---- both
 
-start_keeps_sessions : (p : SettingsValue) (s : System) (x : List ℕ) (start : Start) → Invariant p s → may_start p s x start
+start_keeps_sessions : (p : SettingsValue) (s : System) (x : List ℕ) (start : Start) → Basis p s → may_start p s x start
     → IsNoDeparture start → KeepsSessions s (after_start p s x start)
 start_keeps_sessions p s x start inv may stays =
     by_kind p s x start (λ after. KeepsSessions s after) inv may stays (λ via is. anew_sessions p s x via is inv)

@@ -23,7 +23,7 @@ use Rattle.tap_rule.proofs.EndSteps.{unlinked}
 use Rattle.tap_rule.proofs.QuietSteps.{quiet_start_law}
 use Rattle.tap_rule.proofs.StartSteps.{give_up_law, seek_start_law}
 use Rattle.tap_safety.specs.FrameSteps.{StartsJoin}
-use Rattle.tap_safety.specs.Invariant.{Invariant}
+use Rattle.tap_safety.specs.Invariant.{Basis}
 use Rattle.tap_safety.specs.Move.{MayAct, MayGiveUp, MayJoin, may_start}
 use Rattle.tap_safety.specs.Moved.{IsStarted, departing_by, departing_with, has_acted, has_begun, moved, starter}
 use Rattle.tap_safety.specs.Remembered.{Leaver}
@@ -75,7 +75,7 @@ unfolding moved
 started_none p s x start stays none = begun_none s x start (starter p s x start) stays none
 
 -- who gives a join up joins, so nobody departs
-joining_none : (p : SettingsValue) (s : System) (x : List ℕ) → Invariant p s → MayGiveUp s x → s.departing ≡ None
+joining_none : (p : SettingsValue) (s : System) (x : List ℕ) → Basis p s → MayGiveUp s x → s.departing ≡ None
 joining_none p s x inv may = by_leaver s.departing refl
   where
     by_leaver : (leaver : Option Leaver) → s.departing ≡ leaver → s.departing ≡ None
@@ -124,7 +124,7 @@ lays_alone own sent are frame among =
     ]
 
 -- and so is the giving up of a join
-gives_up_alike : (p : SettingsValue) (s : System) (x : List ℕ) → Invariant p s → (may : MayGiveUp s x)
+gives_up_alike : (p : SettingsValue) (s : System) (x : List ℕ) → Basis p s → (may : MayGiveUp s x)
     → StartsAlike p s x Abandon may.state
 gives_up_alike p s x inv may =
     let law = give_up_law may.state may.joining in
@@ -167,7 +167,7 @@ pub record StartsAnew (p : SettingsValue) (s : System) (x via : List ℕ) : Type
   pub none : (after_start p s x (Join via)).departing ≡ None
 
 -- what a new name may start is such a start
-starts_anew : (p : SettingsValue) (s : System) (x via : List ℕ) → Invariant p s → MayJoin p s x via → StartsAnew p s x via
+starts_anew : (p : SettingsValue) (s : System) (x via : List ℕ) → Basis p s → MayJoin p s x via → StartsAnew p s x via
 starts_anew p s x via inv may =
     let law = seek_start_law (joiner p x) via refl in
     record {
@@ -191,7 +191,7 @@ starts_anew p s x via inv may =
 -- ---- both kinds
 
 -- what holds after a start of either kind holds after each start that is no departure
-pub by_kind : (p : SettingsValue) (s : System) (x : List ℕ) (start : Start) (P : System → Type 0) → Invariant p s → may_start p s x start
+pub by_kind : (p : SettingsValue) (s : System) (x : List ℕ) (start : Start) (P : System → Type 0) → Basis p s → may_start p s x start
     → IsNoDeparture start → ((via : List ℕ) → StartsAnew p s x via → P (after_start p s x (Join via)))
     → ((node : NodeState) → StartsAlike p s x start node → P (after_start p s x start)) → P (after_start p s x start)
 by_kind p s x (Join via) P inv may stays anew alike = anew via (starts_anew p s x via inv may)

@@ -1,9 +1,9 @@
--- The whole invariant once a node has started something but a departure.
+-- The basis of the invariant, and the whole of it, once a node has started something but a departure.
 use Rattle.std.proofs.Common.{ℕ, List}
 use Rattle.tap_name.specs.Settings.{SettingsValue}
 use Rattle.tap_rule.specs.Event.{Start}
 use Rattle.tap_rule.specs.Event.Start.{Abandon, Cast, Find, Join, Leave, Publish, Withdraw}
-use Rattle.tap_safety.specs.Invariant.{Invariant}
+use Rattle.tap_safety.specs.Invariant.{Basis}
 use Rattle.tap_safety.specs.Move.{may_start}
 use Rattle.tap_safety.specs.System.{System}
 use Rattle.tap_moves.specs.Delivered.{after_start}
@@ -17,7 +17,7 @@ use Rattle.tap_session_moves.proofs.EndMoves.{start_ends}
 use Rattle.tap_session_moves.proofs.FewMoves.{start_few}
 use Rattle.tap_session_moves.proofs.StartMoves.{never_started, start_joins}
 use Rattle.tap_session_moves.specs.EndMoves.{HaveAskers}
-use Rattle.tap_start_moves.specs.Starts.{IsNoDeparture, StartIsNamed, StartKeeps}
+use Rattle.tap_start_moves.specs.Starts.{IsNoDeparture, StartIsNamed, StartKeeps, StartKeepsFilled}
 use Rattle.tap_start_moves.proofs.PeaceStarts.{start_peaceful}
 use Rattle.tap_start_moves.proofs.SeekStarts.{start_seeks}
 use Rattle.tap_start_moves.proofs.SessionStarts.{start_awaits, start_books, start_core, start_places}
@@ -35,7 +35,7 @@ start_is_named p s x (Find ticket object) may = may.name
 start_is_named p s x (Cast cast level word) may = may.is_word
 
 -- a new name was never started
-start_is_new : (p : SettingsValue) (s : System) (x : List ℕ) (start : Start) → Invariant p s → may_start p s x start → IsNoDeparture start
+start_is_new : (p : SettingsValue) (s : System) (x : List ℕ) (start : Start) → Basis p s → may_start p s x start → IsNoDeparture start
     → IsNew s x start
 start_is_new p s x (Join via) inv may stays = never_started p s x inv may.fresh
 start_is_new p s x Abandon inv may stays = tt
@@ -45,9 +45,9 @@ start_is_new p s x (Withdraw object) inv may stays = tt
 start_is_new p s x (Find ticket object) inv may stays = tt
 start_is_new p s x (Cast cast level word) inv may stays = tt
 
--- the invariant, of its parts
-whole : (p : SettingsValue) (s : System) (x : List ℕ) (start : Start) → Invariant p s → AreNodes p s → HaveAskers s → may_start p s x start
-    → IsNoDeparture start → Invariant p (after_start p s x start)
+-- the basis of the invariant, of its parts
+whole : (p : SettingsValue) (s : System) (x : List ℕ) (start : Start) → Basis p s → AreNodes p s → HaveAskers s → may_start p s x start
+    → IsNoDeparture start → Basis p (after_start p s x start)
 whole p s x start inv nodes askers may stays =
     let new = start_is_new p s x start inv may stays in
     let named = start_is_named p s x start may in
@@ -55,18 +55,16 @@ whole p s x start inv nodes askers may stays =
     let words = start_words p s x start inv may stays in
     let books = start_books p s x start inv may stays in
     let peace = start_peaceful p s x start inv may stays in
-    let fills = start_fills p s x start inv nodes may new in
     let joins = start_joins p s x start inv may in
     let names = start_names p s x start inv nodes may named in
     record {
       soft = start_soft p s x start inv may stays;
       seeking = seeks.seeking;
-      exact = fills.1;
+      exact = (start_fills p s x start inv nodes may new).1;
       awaited = start_awaits p s x start inv may stays;
       of_joiners = joins.of_joiners;
       tells = seeks.tells;
       counted = books.counted;
-      filled = fills.0;
       ceased = words.ceased;
       ties = words.ties;
       departure = peace.departure;
@@ -95,3 +93,7 @@ start_keeps p s x start inv nodes askers few may stays =
       (start_ends p s x start inv nodes askers may named).askers,
       start_few p s x start inv may few,
     )
+
+pub start_keeps_filled : StartKeepsFilled
+start_keeps_filled p s x start inv nodes may stays filled =
+    (start_fills p s x start inv nodes may (start_is_new p s x start inv may stays)).0 filled

@@ -17,7 +17,7 @@ use Rattle.tap_rule.specs.Node.{NodeState}
 use Rattle.tap_rule.specs.Node.Status.{Ceased as HasCeased, Core, Joining}
 use Rattle.tap_rule.specs.QuietSteps.{IsQuiet}
 use Rattle.tap_safety.specs.Ceased.{CoreOrJoining, IsRegistered, SaysSo}
-use Rattle.tap_safety.specs.Invariant.{Invariant}
+use Rattle.tap_safety.specs.Invariant.{Basis}
 use Rattle.tap_safety.specs.Moved.{HasDone}
 use Rattle.tap_safety.specs.Remembered.{Word}
 use Rattle.tap_safety.specs.Seeking.{HasNode}
@@ -101,7 +101,7 @@ module _ (p : SettingsValue) (s : System) (x : List ℕ) (start : Start) (node :
     was = λ n y way. inl (alike_way_was p s x start node is n y Forget (λ never. never) way);
   }
 
-  alike_words : Invariant p s → WordsStand after
+  alike_words : Basis p s → WordsStand after
   alike_words inv = record {
     ties = ties_words_law s after x says_words inv.ties;
     versions = versions_words_law s after x says_words inv.versions;
@@ -116,13 +116,13 @@ soft_there s y (inl joiner) = record { state = joiner.state; is = joiner.is }
 soft_there s y (inr (inl core)) = record { state = core.state; is = core.is }
 soft_there s y (inr (inr ceased)) = record { state = ceased.state; is = ceased.is }
 
-linked_there : (p : SettingsValue) (s : System) → Invariant p s → s.departing ≡ None → (y t : List ℕ) (kind : Kind) → HasLink s y t kind
+linked_there : (p : SettingsValue) (s : System) → Basis p s → s.departing ≡ None → (y t : List ℕ) (kind : Kind) → HasLink s y t kind
     → HasNode s t
 linked_there p s inv none y t Pin link = soft_there s t (inv.soft.pins y t link)
 linked_there p s inv none y t Settled link = soft_there s t (inr (inl (inv.soft.settled y t link)))
 linked_there p s inv none y t Marked link = absurd (inv.departure.marked y t none link)
 
-module _ (p : SettingsValue) (s : System) (x via : List ℕ) (is : StartsAnew p s x via) (inv : Invariant p s) where
+module _ (p : SettingsValue) (s : System) (x via : List ℕ) (is : StartsAnew p s x via) (inv : Basis p s) where
   abbrev begun : System
   begun = after_start p s x (Join via)
 

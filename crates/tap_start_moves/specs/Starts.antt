@@ -6,7 +6,8 @@ use Rattle.tap_rule.specs.Event.Start.{Leave}
 use Rattle.tap_safety.specs.Awaited.{AreAwaitedOnce}
 use Rattle.tap_safety.specs.Bookkeeping.{HasCore, HavePlaces}
 use Rattle.tap_safety.specs.FewSessions.{SessionsAreFew}
-use Rattle.tap_safety.specs.Invariant.{Invariant}
+use Rattle.tap_safety.specs.Filled.{AreFilled}
+use Rattle.tap_safety.specs.Invariant.{Basis}
 use Rattle.tap_safety.specs.Move.{may_start}
 use Rattle.tap_safety.specs.Soft.{NamesSoft}
 use Rattle.tap_safety.specs.System.{System}
@@ -22,9 +23,9 @@ abbrev pub IsNoDeparture : Start → Type 0
 IsNoDeparture Leave = ⊥
 IsNoDeparture _ = Unit {0}
 
--- this holds once a node has started what it may start, but a departure, if the invariant held before
+-- this holds once a node has started what it may start, but a departure, if the basis of the invariant held before
 abbrev pub AfterStarts : (SettingsValue → System → Type 0) → Type 0
-AfterStarts holds = (p : SettingsValue) (s : System) (x : List ℕ) (start : Start) → Invariant p s → may_start p s x start
+AfterStarts holds = (p : SettingsValue) (s : System) (x : List ℕ) (start : Start) → Basis p s → may_start p s x start
     → IsNoDeparture start → holds p (after_start p s x start)
 
 -- settled links are to core nodes, and pins to soft ones
@@ -63,9 +64,14 @@ StartPeaceful = AfterStarts (λ p s. IsPeaceful s)
 abbrev pub StartIsNamed : Type 0
 StartIsNamed = (p : SettingsValue) (s : System) (x : List ℕ) (start : Start) → may_start p s x start → IsNamedStart p start
 
--- the whole invariant, and what is kept beside it: each node is one, who asks can be answered, and few sessions are open
+-- the basis of the invariant, and what is kept beside it: each node is one, who asks can be answered, and few sessions are open
 abbrev pub StartKeeps : Type 0
-StartKeeps = (p : SettingsValue) (s : System) (x : List ℕ) (start : Start) → Invariant p s → AreNodes p s → HaveAskers s
+StartKeeps = (p : SettingsValue) (s : System) (x : List ℕ) (start : Start) → Basis p s → AreNodes p s → HaveAskers s
     → SessionsAreFew p s → may_start p s x start → IsNoDeparture start
-    → Invariant p (after_start p s x start) × AreNodes p (after_start p s x start) × HaveAskers (after_start p s x start)
+    → Basis p (after_start p s x start) × AreNodes p (after_start p s x start) × HaveAskers (after_start p s x start)
     × SessionsAreFew p (after_start p s x start)
+
+-- and tables without holes: the whole invariant
+abbrev pub StartKeepsFilled : Type 0
+StartKeepsFilled = (p : SettingsValue) (s : System) (x : List ℕ) (start : Start) → Basis p s → AreNodes p s → may_start p s x start
+    → IsNoDeparture start → AreFilled p s → AreFilled p (after_start p s x start)
