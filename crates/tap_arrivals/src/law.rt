@@ -17,7 +17,7 @@ pub fn arrivals_from_invariant()
     ensures taken { TakenWhereDue }
 {}
 
-/// If the invariant holds, then a Heard or an Ack under way comes to a node that has the session open that it answers.
+/// If the same holds, then a Heard or an Ack under way comes to a node that has the session open that it answers.
 ///
 /// It does nothing: its contract is the law.
 ///

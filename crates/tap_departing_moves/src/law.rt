@@ -15,8 +15,8 @@ ghost use Rattle.tap_departing_moves.specs.PartMoves.{
   NoticeWords,
 };
 
-/// If the invariant holds, and each node is one that steps keep valid, then after each frame, a notice or another, whatever the status of
-/// its receiver, and once a node has started to leave, whoever departs does so in order: each holder is told once, and its slot is filled
+/// If the invariant holds, and each node is one that steps keep valid, then after each frame that isn't strange to its receiver, a notice or
+/// another, whatever the status of the receiver, and once a node has started to leave, whoever departs does so in order: each holder is told once, and its slot is filled
 /// by another before the leaver is gone. Once no frame is under way nobody departs, no node leaves, no link is marked, and no notice is
 /// under way.
 ///

@@ -1,4 +1,4 @@
-//! What each move of a system keeps of departures, while a node departs.
+//! What each frame keeps of departures, and what the notices and the start of one keep of the whole invariant.
 //!
 //! No code is here. Each function states what holds after such a move.
 #![tactic(auto)]

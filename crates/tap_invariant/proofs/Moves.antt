@@ -49,7 +49,7 @@ use Rattle.tap_start_moves.proofs.WholeStarts.{start_keeps, start_keeps_filled}
 use Rattle.tap_departing_moves.proofs.AllParts.{leaving_keeps, notice_keeps}
 use Rattle.tap_departing_moves.proofs.DepartingMoves.{frame_in_order}
 use Rattle.tap_invariant.specs.Ignored.{IgnoresFrame}
-use Rattle.tap_invariant.specs.Moves.{BasisKeeps, MoveKeeps, RunIsSound, may_run, moved_by}
+use Rattle.tap_invariant.specs.Moves.{BasisKeeps, MoveKeeps, RunIsSound, may_run, after_moves}
 use Rattle.tap_invariant.specs.Shallow.{AreShallow}
 use Rattle.tap_invariant.specs.Sound.{Sound, SoundBasis}
 use Rattle.tap_invariant.proofs.Ignored.{ignored_basis}
@@ -279,7 +279,7 @@ basis_keeps p s (Delivers number) may no_notice sound =
     (comes_both p s number may.receiver.state may.frame.from sound may.frame.body (delivered_arrives p s number may sound)
     (no_notice may.frame may.among)).0
 
-run_sound : (p : SettingsValue) (s : System) (moves : List Move) → may_run p s moves → Sound p s → Sound p (moved_by p s moves)
+run_sound : (p : SettingsValue) (s : System) (moves : List Move) → may_run p s moves → Sound p s → Sound p (after_moves p s moves)
 run_sound p s [] may sound = sound
 run_sound p s (move ∷ moves) may sound = run_sound p (moved p s move) moves may.1 (move_keeps p s move may.0 sound)
 

@@ -28,9 +28,9 @@ BasisKeeps = (p : SettingsValue) (s : System) (move : Move) → may_move p s mov
 -- ---- runs
 
 -- the system after these moves, one after another
-abbrev pub moved_by : SettingsValue → System → List Move → System
-moved_by p s [] = s
-moved_by p s (move ∷ moves) = moved_by p (moved p s move) moves
+abbrev pub after_moves : SettingsValue → System → List Move → System
+after_moves p s [] = s
+after_moves p s (move ∷ moves) = after_moves p (moved p s move) moves
 
 -- each of the moves is possible after those before it
 abbrev pub may_run : SettingsValue → System → List Move → Type 0
@@ -40,4 +40,4 @@ may_run p s (move ∷ moves) = may_move p s move × may_run p (moved p s move) m
 -- So the whole invariant holds at each moment of each run from members at rest.
 abbrev pub RunIsSound : Type 0
 RunIsSound = (p : SettingsValue) (members : List (List ℕ)) (moves : List Move) → AreMembers p members
-    → may_run p (system_at_rest p members) moves → Sound p (moved_by p (system_at_rest p members) moves)
+    → may_run p (system_at_rest p members) moves → Sound p (after_moves p (system_at_rest p members) moves)

@@ -28,8 +28,8 @@ core_if true false there joins = absurd (cc)
 core_if false core there joins = absurd (cc)
 
 -- what isn't above nothing is nothing
-no_frames : (n : ℕ) → nat_lt 0 n ≡ false → n ≡ 0
-no_frames n none = let least = ltb-false 0 n none in omega (arith, least)
+not_above_zero : (n : ℕ) → nat_lt 0 n ≡ false → n ≡ 0
+not_above_zero n none = let least = ltb-false 0 n none in omega (arith, least)
 
 -- fewer than 256 are 255 at most
 has_room_for : (n : ℕ) → nat_le 256 n ≡ false → n ≤ 255
@@ -72,7 +72,7 @@ module _ (log : List Record) (step : Step) (accepted : first_refusal log step �
         let frames = length (outstanding log) in
         let none : refuses_not_at_rest log step ≡ None = no_refusal 3 in
         let fails = cause_fails (is_and (depart_name step) (λ x. nat_lt 0 frames)) (NotAtRest frames) none in
-        no_frames frames (sym (ap (λ o. is_and o (λ x. nat_lt 0 frames)) departs) ∙ fails)
+        not_above_zero frames (sym (ap (λ o. is_and o (λ x. nat_lt 0 frames)) departs) ∙ fails)
 
     -- it isn't the one core node
     pub others_stay : is_only_core log name ≡ false

@@ -12,7 +12,7 @@ ghost use Rattle.tap_safe_course.specs.Taken.{FramesAreReceived};
 /// It does nothing: its contract is the law.
 ///
 /// Rule: docs/FORMATS.md, "The course of a run".
-pub fn moves_law()
+pub fn group_moves_law()
     ensures { GroupMayMove }
 {}
 
@@ -22,7 +22,7 @@ pub fn moves_law()
 /// It does nothing: its contract is the law.
 ///
 /// Rule: docs/FORMATS.md, "The course of a run".
-pub fn runs_law()
+pub fn growing_runs_law()
     ensures { RunsGrow }
 {}
 
@@ -59,7 +59,7 @@ pub fn hole_free_law()
 /// It does nothing: its contract is the law.
 ///
 /// Rule: docs/FORMATS.md, "The course of a run".
-pub fn walks_law()
+pub fn run_walks_law()
     ensures { AtEachMoment WalksEndAtRoots }
 {}
 
@@ -69,7 +69,7 @@ pub fn walks_law()
 /// It does nothing: its contract is the law.
 ///
 /// Rule: docs/FORMATS.md, "The course of a run".
-pub fn rest_law()
+pub fn run_rest_law()
     ensures { AtEachMoment RestIsAllCore }
 {}
 

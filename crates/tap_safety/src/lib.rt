@@ -6,7 +6,7 @@
 mod law;
 
 pub use law::{
-    awaits_law, bookkeeping_law, counts_law, done_law, forget_law, hello_law, invariant_law,
-    known_law, move_law, peace_law, plain_frame_law, release_law, rest_law, seek_law, seeking_law,
-    sessions_law, start_law, tell_elsewhere_law, tell_law, ties_law,
+    awaits_law, bookkeeping_law, counts_law, done_law, few_sessions_law, forget_law, hello_law,
+    invariant_law, known_law, move_law, peace_law, plain_frame_law, release_law, rest_law,
+    seek_law, seeking_law, sessions_law, start_law, tell_elsewhere_law, tell_law, ties_law,
 };
