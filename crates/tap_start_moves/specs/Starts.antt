@@ -71,7 +71,7 @@ StartKeeps = (p : SettingsValue) (s : System) (x : List ℕ) (start : Start) →
     → Basis p (after_start p s x start) × AreNodes p (after_start p s x start) × HaveAskers (after_start p s x start)
     × SessionsAreFew p (after_start p s x start)
 
--- and tables without holes: the whole invariant
+-- and tables without holes stay so, with what leads to them
 abbrev pub StartKeepsFilled : Type 0
 StartKeepsFilled = (p : SettingsValue) (s : System) (x : List ℕ) (start : Start) → Basis p s → AreNodes p s → may_start p s x start
     → IsNoDeparture start → AreFilled p s → AreFilled p (after_start p s x start)

@@ -1,5 +1,5 @@
 use Rattle.tap_safe_course.proofs.Possible.{group_may_move}
-use Rattle.tap_safe_course.proofs.law.moves_law.Goals as goal
+use Rattle.tap_safe_course.proofs.law.group_moves_law.Goals as goal
 
 pub returns : goal.returns
 returns c = group_may_move

@@ -1,5 +1,5 @@
 use Rattle.tap_safe_course.proofs.Moments.{all_core_at}
-use Rattle.tap_safe_course.proofs.law.rest_law.Goals as goal
+use Rattle.tap_safe_course.proofs.law.run_rest_law.Goals as goal
 
 pub returns : goal.returns
 returns c = all_core_at

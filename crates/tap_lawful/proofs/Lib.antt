@@ -1,0 +1,8 @@
+pub mod Coming
+pub mod Played
+pub mod Less
+pub mod Steps
+pub mod Alike
+pub mod OneLog
+pub mod Choosing
+pub mod Choices

@@ -1,0 +1,145 @@
+-- A scenario has one log: of two one begins with the other.
+use Rattle.std.proofs.Common.{◌≡◌, ◌⊎◌, inl, inr, ◌<◌, ◌≤◌, List, [], ◌∷◌, ◌++◌, length, take, refl, ap, sym, subst, ◌∙◌, arith, append-nil, append_assoc}
+use Rattle.std.proofs.Math.Seq.{take-append_seam}
+use Rattle.tap_scenario.specs.Scenario.{ScenarioValue}
+use Rattle.tap_log.specs.declared.record.Record.{Record}
+use Rattle.tap_log.specs.declared.record.Record.TheVariants.{Finished, Spent}
+use Rattle.tap_log.specs.Counts.{sent_count}
+use Rattle.tap_history.specs.Groups.{EachGroupFrom, groups_of, records_of}
+use Rattle.tap_history.proofs.Parts.{log_is_groups}
+use Rattle.tap_course.specs.Beginning.{begin_record}
+use Rattle.tap_lawful.specs.Next.{beginning_in}
+use Rattle.tap_lawful.specs.Lawful.{ComesNext, IsLogOf, IsOver, IsPlayed, IsWholeLogOf, step_alone}
+use Rattle.tap_lawful.specs.Laws.{BeginsWith, OneLog}
+use Rattle.tap_lawful.proofs.Played.{sent_no_fewer}
+
+module _ (s : ScenarioValue) where
+  -- ---- the groups
+
+  -- after the one log a group comes with which the other one goes on
+  record GoesOn (one other : List Record) : Type 0 where
+    group : List Record
+    later : List Record
+    comes : ComesNext s one group
+    is : other ≡ (one ++ group) ++ later
+
+  -- two logs are the same, or one goes on
+  abbrev Compared : List Record → List Record → Type 0
+  Compared one other = (one ≡ other) ⊎ (GoesOn one other ⊎ GoesOn other one)
+
+  compared : (before : List Record) (ones others : List (List Record)) → EachGroupFrom (ComesNext s) before ones
+      → EachGroupFrom (ComesNext s) before others → Compared (before ++ records_of ones) (before ++ records_of others)
+  compared before [] [] each also = inl refl
+  compared before [] (other ∷ others) each also =
+      inr (inl (record {
+        group = other;
+        later = records_of others;
+        comes = subst (λ l. ComesNext s l other) (sym (append-nil before)) also.0;
+        is = sym (append_assoc before other (records_of others))
+            ∙ ap (λ l. (l ++ other) ++ records_of others) (sym (append-nil before));
+      }))
+  compared before (one ∷ ones) [] each also =
+      inr (inr (record {
+        group = one;
+        later = records_of ones;
+        comes = subst (λ l. ComesNext s l one) (sym (append-nil before)) each.0;
+        is = sym (append_assoc before one (records_of ones)) ∙ ap (λ l. (l ++ one) ++ records_of ones) (sym (append-nil before));
+      }))
+  compared before (one ∷ ones) (other ∷ others) each also =
+      let same : one ≡ other = let both = sym each.0 ∙ also.0 in cc in
+      let rest = compared (before ++ one) ones others each.1
+      (subst (λ g. EachGroupFrom (ComesNext s) (before ++ g) others) (sym same) also.1) in
+      let all : (before ++ one) ++ records_of others ≡ before ++ records_of (other ∷ others) =
+      append_assoc before one (records_of others) ∙ ap (λ g. before ++ (g ++ records_of others)) same in
+      subst (λ l. Compared l (before ++ records_of (other ∷ others))) (append_assoc before one (records_of ones))
+      (subst (Compared ((before ++ one) ++ records_of ones)) all rest)
+
+  played_compared : (one other : List Record) → IsPlayed s one → IsPlayed s other → Compared one other
+  played_compared one other played also =
+      let from : List Record → Type 0 = λ l. EachGroupFrom (ComesNext s) l (groups_of one) in
+      let onward : List Record → Type 0 = λ l. EachGroupFrom (ComesNext s) l (groups_of other) in
+      let start = begin_record (beginning_in s) ∷ [] in
+      let one_is : start ++ records_of (groups_of one) ≡ one =
+      ap (λ l. l ++ records_of (groups_of one)) (sym played.begins) ∙ log_is_groups one played.going in
+      let other_is : start ++ records_of (groups_of other) ≡ other =
+      ap (λ l. l ++ records_of (groups_of other)) (sym also.begins) ∙ log_is_groups other also.going in
+      subst (λ l. Compared l other) one_is
+      (subst (Compared (start ++ records_of (groups_of one))) other_is
+      (compared start (groups_of one) (groups_of other) (subst from played.begins played.each) (subst onward also.begins also.each)))
+
+  -- ---- the endings
+
+  -- a run that goes on isn't over
+  not_over : (one other log : List Record) → IsPlayed s other → GoesOn one other → IsOver s one log → ⊥
+  not_over one other log also on (inl finished) = let both = sym finished.none ∙ on.comes in absurd (cc)
+  not_over one other log also on (inr spent) =
+      let same : spent.group ≡ on.group = let both = sym spent.next ∙ on.comes in cc in
+      let over : s.frames < sent_count (one ++ on.group) = subst (λ g. s.frames < sent_count (one ++ g)) same spent.over in
+      let fewer = sent_no_fewer (one ++ on.group) on.later in
+      let within : sent_count ((one ++ on.group) ++ on.later) ≤ s.frames = subst (λ l. sent_count l ≤ s.frames) on.is also.within in
+      absurd (omega (arith, over, fewer, within))
+
+  same_over : (played one other : List Record) → IsOver s played one → IsOver s played other → one ≡ other
+  same_over played one other (inl finished) (inl also) = finished.log_is ∙ sym also.log_is
+  same_over played one other (inl finished) (inr spent) = let both = sym finished.none ∙ spent.next in absurd (cc)
+  same_over played one other (inr spent) (inl finished) = let both = sym finished.none ∙ spent.next in absurd (cc)
+  same_over played one other (inr spent) (inr also) =
+      let same : spent.group ≡ also.group = let both = sym spent.next ∙ also.next in cc in
+      spent.log_is ∙ ap (λ g. played ++ (step_alone g ++ Spent s.frames ∷ [])) same ∙ sym also.log_is
+
+  begins_with : (first rest log : List Record) → log ≡ first ++ rest → BeginsWith first log
+  begins_with first rest log is = ap (take (length first)) is ∙ take-append_seam first rest
+
+  same_begins : (first log : List Record) → first ≡ log → BeginsWith first log
+  same_begins first log same = begins_with first [] log (sym same ∙ sym (append-nil first))
+
+  abbrev Ending : List Record → List Record → Type 0
+  Ending played log = (log ≡ played) ⊎ IsOver s played log
+
+  -- each log begins with what was played before its ending
+  ending_after : (played log : List Record) → Ending played log → (rest : List Record) × (log ≡ played ++ rest)
+  ending_after played log (inl is) = ([], is ∙ sym (append-nil played))
+  ending_after played log (inr (inl finished)) = (Finished (length s.steps) ∷ [], finished.log_is)
+  ending_after played log (inr (inr spent)) = (step_alone spent.group ++ Spent s.frames ∷ [], spent.log_is)
+
+  -- two logs of one run
+  same_run : (played one other : List Record) → Ending played one → Ending played other → BeginsWith one other ⊎ BeginsWith other one
+  same_run played one other (inl is) also =
+      let after = ending_after played other also in
+      inl (begins_with one after.0 other (after.1 ∙ ap (λ l. l ++ after.0) (sym is)))
+  same_run played one other (inr over) (inl is) =
+      let after = ending_after played one (inr over) in
+      inr (begins_with other after.0 one (after.1 ∙ ap (λ l. l ++ after.0) (sym is)))
+  same_run played one other (inr over) (inr also) = inl (same_begins one other (same_over played one other over also))
+
+  -- the log of a run that goes on in the other one begins it
+  goes_begins : (played also one other : List Record) → IsPlayed s also → GoesOn played also → Ending played one → Ending also other
+      → BeginsWith one other
+  goes_begins played also one other is_played on (inl is) ending =
+      let after = ending_after also other ending in
+      let all : other ≡ one ++ (on.group ++ (on.later ++ after.0)) =
+      after.1 ∙ ap (λ l. l ++ after.0) on.is
+      ∙ append_assoc (played ++ on.group) on.later after.0
+      ∙ append_assoc played on.group (on.later ++ after.0)
+      ∙ ap (λ l. l ++ (on.group ++ (on.later ++ after.0))) (sym is) in
+      begins_with one (on.group ++ (on.later ++ after.0)) other all
+  goes_begins played also one other is_played on (inr over) ending = absurd (not_over played also one is_played on over)
+
+  one_begins : (one other : List Record) → IsLogOf s one → IsLogOf s other → BeginsWith one other ⊎ BeginsWith other one
+  one_begins one other log also =
+      elim (played_compared log.played also.played log.is_played also.is_played) [
+        | inl same ↦ same_run also.played one other (subst (λ l. Ending l one) same log.ending) also.ending
+        | inr (inl on) ↦ inl (goes_begins log.played also.played one other also.is_played on log.ending also.ending)
+        | inr (inr on) ↦ inr (goes_begins also.played log.played other one log.is_played on also.ending log.ending)
+      ]
+
+  one_whole : (one other : List Record) → IsWholeLogOf s one → IsWholeLogOf s other → one ≡ other
+  one_whole one other log also =
+      elim (played_compared log.played also.played log.is_played also.is_played) [
+        | inl same ↦ same_over also.played one other (subst (λ l. IsOver s l one) same log.over) also.over
+        | inr (inl on) ↦ absurd (not_over log.played also.played one also.is_played on log.over)
+        | inr (inr on) ↦ absurd (not_over also.played log.played other log.is_played on also.over)
+      ]
+
+pub one_log_holds : OneLog
+one_log_holds = record { first = one_begins; whole = one_whole }

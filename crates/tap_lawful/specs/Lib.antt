@@ -1,0 +1,4 @@
+pub mod Due
+pub mod Next
+pub mod Lawful
+pub mod Laws
