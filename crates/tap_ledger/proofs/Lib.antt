@@ -1,0 +1,13 @@
+pub mod Conditions
+pub mod Less
+pub mod Accepted
+pub mod Published
+pub mod Departing
+pub mod Frames
+pub mod Keeping
+pub mod Keys
+pub mod Uncarried
+pub mod Adding
+pub mod Single
+pub mod Begun
+pub mod Asked

@@ -1,0 +1,96 @@
+use Rattle.std.proofs.Common.{◌≡◌, ◌≤◌, ◌+◌, ◌∙◌, false, [], ◌∷◌, List, ap, sym, subst, arith}
+use Rattle.std.specs.Prelude.{option_and_then}
+use Rattle.tap_log.specs.declared.record.Record.{Record}
+use Rattle.tap_log.specs.Kinds.{asked_ticket, begins_group, begun_cast, published_pair, withdrawn_pair}
+use Rattle.tap_log.specs.Log.{last_of}
+use Rattle.tap_log.proofs.Growing.{one_more_record_holds}
+use Rattle.tap_history.specs.Departing.{departing_of}
+use Rattle.tap_history.specs.Steps.{depart_name}
+use Rattle.tap_ledger.specs.Added.{CanAdd}
+use Rattle.tap_ledger.specs.Flights.{followed}
+use Rattle.tap_ledger.specs.Kept.{Kept, leaver_next}
+use Rattle.tap_ledger.specs.Ledger.{LedgerValue}
+use Rattle.tap_ledger.specs.NameLists.{accepted_after, lists_after}
+use Rattle.tap_ledger.specs.Pairs.{has_after, has_key}
+use Rattle.tap_ledger.proofs.Keeping.{kept_push}
+use Rattle.tap_ledger.proofs.Uncarried.{at_most, casts_fit, tickets_fit}
+use Rattle.tap_ledger.proofs.ledger.Ledger.push_reserved.Goals as goal
+
+pub follow-requires-clause-few : goal.follow-requires-clause-few
+follow-requires-clause-few c =
+    let log = c.self.inside.log.records in
+    let Can : LedgerValue → Type 0 = λ l. CanAdd l.records (c.args.item ∷ []) in
+    let can = subst Can (sym c.self.view_is) c.requires.can_add in
+    let within = can.within in
+    let sent = c.self.invariant.kept.flights.sent in
+    omega (arith, sent, within, one_more_record_holds.sent log c.args.item)
+
+pub overflow_add-self : goal.overflow_add-self
+overflow_add-self c =
+    let kept = c.self.invariant.kept in
+    let log = c.self.inside.log.records in
+    let asked = kept.asked in
+    let few = tickets_fit c.self.inside.settings log kept.begins.begins in
+    let most = at_most (asked_ticket c.args.item) in
+    omega (arith, asked, few, most, c.counted_ticket.ensures, c.len.ensures)
+
+pub overflow_add-self-2 : goal.overflow_add-self-2
+overflow_add-self-2 c =
+    let kept = c.self.invariant.kept in
+    let log = c.self.inside.log.records in
+    let begun = kept.begun in
+    let few = casts_fit c.self.inside.settings log kept.begins.begins in
+    let most = at_most (begun_cast c.args.item) in
+    omega (arith, begun, few, most, c.counted_cast.ensures, c.len.ensures)
+
+pub invariant_of-self : goal.invariant_of-self
+invariant_of-self c =
+    let log = c.self.inside.log.records in
+    let lists = c.self.inside.roll.lists in
+    let keys = c.self.inside.pairs.keys in
+    let leaver = c.self.inside.leaver in
+    let item = c.args.item in
+    let kept = c.self.invariant.kept in
+    let room = c.self.invariant.room in
+    let step = accepted_after (last_of log) item in
+    let departs = option_and_then depart_name step in
+    let Can : LedgerValue → Type 0 = λ l. CanAdd l.records (item ∷ []) in
+    let can = subst Can (sym c.self.view_is) c.requires.can_add in
+    let accepted : c.accepted_by-accepted.result ≡ step = c.accepted_by-accepted.ensures
+    ∙ ap (λ (l : LedgerValue). accepted_after (last_of l.records) item) (sym c.self.view_is) in
+    let departing : c.departing.result ≡ departing_of log = c.departing.ensures
+    ∙ ap (λ (l : LedgerValue). departing_of l.records) (sym c.self.view_is) in
+    let leaves : c.departs.result ≡ departs = c.departs.ensures ∙ ap (option_and_then depart_name) accepted in
+    let leaves' : c.departs-2.result ≡ departs = c.departs-2.ensures ∙ ap (option_and_then depart_name) accepted in
+    let Keeps : List Record → Type 0 = λ l. Kept l c.self.inside.settings c.follow.new.frames c.change-2.new.self.lists
+    c.change.new.self.keys (c.self.inside.tickets + c.counted_ticket.result) (c.self.inside.casts + c.counted_cast.result)
+    c.leaver_next-self-inside.result in
+    let spare : c.self.inside.room ≡ c.args.self.now.spare = ap (λ (l : LedgerValue). l.spare) c.self.view_is in
+    let some : 1 ≤ c.self.inside.room = let asked = c.requires.room in omega (arith, spare, asked) in
+    record {
+      kept = subst Keeps (sym c.push_reserved.ensures.records) (kept_push log c.self.inside.settings c.self.inside.frames lists keys
+          c.self.inside.tickets c.self.inside.casts leaver item c.follow.new.frames c.change-2.new.self.lists c.change.new.self.keys
+          (c.self.inside.tickets + c.counted_ticket.result) (c.self.inside.casts + c.counted_cast.result)
+          c.leaver_next-self-inside.result kept can c.follow.ensures.ascending.ascending
+          (c.follow.ensures.frames ∙ ap (λ n. followed c.self.inside.frames n item) c.len.ensures)
+          (c.change-2.ensures.lists ∙ ap (λ s. lists_after lists s item) accepted)
+          (λ q. c.change.ensures.pairs q
+          ∙ ap (λ w. has_after (has_key keys) w c.published_pair.result c.departed.result.now.names c.departs-2.result q)
+          c.withdrawn_pair.ensures
+          ∙ ap (λ p. has_after (has_key keys) (withdrawn_pair item) p c.departed.result.now.names c.departs-2.result q)
+          c.published_pair.ensures
+          ∙ ap (λ d. has_after (has_key keys) (withdrawn_pair item) (published_pair item) d c.departs-2.result q) c.departed.ensures
+          ∙ ap (λ s. has_after (has_key keys) (withdrawn_pair item) (published_pair item) lists.departed s q) leaves')
+          (ap (λ n. c.self.inside.tickets + n) c.counted_ticket.ensures)
+          (ap (λ n. c.self.inside.casts + n) c.counted_cast.ensures)
+          (c.leaver_next-self-inside.ensures
+          ∙ ap (λ b. leaver_next b c.departing.result c.departs.result leaver) c.begins_group-begins.ensures
+          ∙ ap (λ d. leaver_next (begins_group false item) d c.departs.result leaver) departing
+          ∙ ap (λ s. leaver_next (begins_group false item) (departing_of log) s leaver) leaves));
+      room = record {
+        in_log = let was = room.in_log in omega (arith, was, some, c.push_reserved.ensures.spare);
+        in_frames = let was = room.in_frames in omega (arith, was, some, c.follow.ensures.room);
+        in_roll = let was = room.in_roll in omega (arith, was, some, c.change-2.ensures.room);
+        in_pairs = let was = room.in_pairs in omega (arith, was, some, c.change.ensures.room);
+      };
+    }

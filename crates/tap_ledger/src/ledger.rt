@@ -1,0 +1,428 @@
+ghost use Rattle.std.specs.Prelude.{◌≡◌, ◌==◌, ◌≤◌, ◌+◌, ◌-◌, max, [], ◌∷◌, ◌++◌, false, if◌then◌else◌, length, nat_eq, option_copied, position, slice_get, IfOk, OnOk, OnErr, None, Some};
+ghost use Rattle.tap_name.specs.Names.{has_name};
+ghost use Rattle.tap_log.specs.declared.record.Record.TheVariants.{Begin};
+ghost use Rattle.tap_log.specs.Counts.{cast_count, resent_count, sent_count, ticket_count};
+ghost use Rattle.tap_log.specs.Kinds.{is_carried};
+ghost use Rattle.tap_log.specs.Log.{last_of};
+ghost use Rattle.tap_history.specs.Core.{abandoned_of, core_of, present_of};
+ghost use Rattle.tap_history.specs.Departing.{departing_of};
+ghost use Rattle.tap_history.specs.Flights.{bytes_at, flight_count};
+ghost use Rattle.tap_history.specs.GroupLaws.{IsNumbered};
+ghost use Rattle.tap_history.specs.Moments.{awaiting, is_rest, outstanding};
+ghost use Rattle.tap_history.specs.Names.{name_count, names_of};
+ghost use Rattle.tap_history.specs.Published.{has_pair, published_of};
+ghost use Rattle.tap_history.specs.Refusals.{begin_settings};
+ghost use Rattle.tap_ledger.specs.Added.{CanAdd};
+ghost use Rattle.tap_ledger.specs.Kept.{leaver_next};
+ghost use Rattle.tap_ledger.specs.NameLists.{accepted_after};
+
+use crate::counts::{counted_cast, counted_ticket};
+use crate::flights::{follow, payload};
+use crate::pairs::Pairs;
+use crate::roll::Roll;
+use crate::steps::{accepted_step, departs};
+use std::alloc::Global;
+use std::marker::Model;
+use tap_log::{Log, NoMemory, Pair, Record, begins_group, published_pair, withdrawn_pair};
+use tap_name::{List, Name, Settings};
+use tap_outstanding::Outstanding;
+use tap_scenario::Step;
+
+/// The log of a run that isn't carried, together with what it says of the run, kept at hand: who takes part, what is published,
+/// which frames are outstanding, and how much there was of each. Contracts see the records of the log, and for how many more there
+/// is room.
+///
+/// A look-up of a frame, a pair or a count takes at most logarithmic time, and one of a name goes over at most all names that
+/// were ever present, of which a run has at most 256. All of it holds after each record that is added.
+///
+/// Rule: docs/FORMATS.md, "Groups and moments".
+#[derive(Drop)]
+pub struct Ledger {
+    log: Log,
+    settings: Settings,
+    frames: Outstanding,
+    roll: Roll,
+    pairs: Pairs,
+    tickets: usize,
+    casts: usize,
+    leaver: Option<Name>,
+    room: usize,
+}
+
+impl Model for Ledger {
+    ghost use Rattle.std.specs.Prelude.{◌≤◌};
+    ghost use Rattle.tap_ledger.specs.Kept.{HasRoom, Kept};
+    ghost use Rattle.tap_ledger.specs.Ledger.{LedgerValue};
+
+    ghost Value = { LedgerValue };
+
+    ghost view = { λ l. record { records = l.log.records; spare = l.room } };
+
+    ghost invariant = { λ l. record {
+      kept : Kept l.log.records l.settings l.frames l.roll.lists l.pairs.keys l.tickets l.casts l.leaver;
+      room : HasRoom l.room l.log.spare l.frames.room l.roll.room l.pairs.room;
+    } };
+}
+
+impl Ledger {
+    /// The ledger of a log that has its beginning alone: these members, as core nodes, and so many frames that may be sent. Later
+    /// calls take memory of `alloc`.
+    ///
+    /// Rule: docs/FORMATS.md, "Groups and moments".
+    pub fn new(
+        alloc: Global,
+        settings: &Settings,
+        frames: u32,
+        members: &List<Name>,
+    ) -> Result<Ledger, NoMemory>
+        ensures { IfOk result (λ l. l ≡ record { records = Begin settings.now frames members.now ∷ []; spare = 0 }) }
+    {
+        let roll = Roll::of(alloc, members.as_slice())?;
+        let mut log = Log::new(alloc);
+        log.push(Record::Begin {
+            settings: *settings,
+            frames,
+            members: List::from_vec(Vec::from_slice(alloc, members.as_slice())?),
+        })?;
+        Ok(Ledger {
+            log,
+            settings: *settings,
+            frames: Outstanding::new(alloc),
+            roll,
+            pairs: Pairs::new(alloc),
+            tickets: 0,
+            casts: 0,
+            leaver: None,
+            room: 0,
+        })
+    }
+
+    /// Makes room for so many more records, of any kind, so that adding them takes no memory. A refused call changes nothing.
+    ///
+    /// Rule: docs/DECISIONS.md, "The logs of a run".
+    pub fn reserve(&mut self, more: usize) -> Result<(), NoMemory>
+        ensures records { self.new.records ≡ self.old.records }
+        ensures ok { OnOk result (self.new.spare ≡ max self.old.spare more) }
+        ensures err { OnErr result (self.new ≡ self.old) }
+    {
+        if self.room < more {
+            self.log.reserve(more)?;
+            self.roll.reserve(more)?;
+            self.pairs.reserve(more)?;
+            reserve_frames(&mut self.frames, more)?;
+            self.room = more;
+        }
+        Ok(())
+    }
+
+    /// Adds a record for which there is room. It takes no memory.
+    ///
+    /// Rule: docs/DECISIONS.md, "The logs of a run".
+    pub fn push_reserved(&mut self, item: Record)
+        requires room { 1 ≤ self.old.spare }
+        requires can_add { CanAdd self.old.records (item ∷ []) }
+        ensures records { self.new.records ≡ self.old.records ++ item ∷ [] }
+        ensures spare { self.new.spare + 1 ≡ self.old.spare }
+    {
+        let accepted = self.accepted_by(&item);
+        let begins = begins_group(false, &item);
+        self.leaver = leaver_next(begins, self.departing(), departs(&accepted), self.leaver);
+        self.pairs.change(
+            withdrawn_pair(&item),
+            published_pair(&item),
+            self.roll.departed(),
+            departs(&accepted),
+        );
+        self.roll.change(&accepted, &item);
+        follow(&mut self.frames, &item, self.log.len());
+        self.tickets += counted_ticket(&item);
+        self.casts += counted_cast(&item);
+        self.log.push_reserved(item);
+        self.room -= 1;
+    }
+
+    /// Adds a group of records, and leaves room for so many more. A refused call changes nothing.
+    ///
+    /// Rule: docs/DECISIONS.md, "The logs of a run".
+    pub fn add_group(&mut self, group: Vec<Record>, room: usize) -> Result<(), NoMemory>
+        requires { CanAdd self.old.records group.items }
+        ensures records { OnOk result (self.new.records ≡ self.old.records ++ group.items) }
+        ensures spare { OnOk result (room ≤ self.new.spare) }
+        ensures err { OnErr result (self.new ≡ self.old) }
+    {
+        let Some(all) = group.len().checked_add(room) else {
+            return Err(NoMemory);
+        };
+        self.reserve(all)?;
+        self.push_all(group);
+        Ok(())
+    }
+
+    // Adds these records, for which there is room.
+    fn push_all(&mut self, group: Vec<Record>)
+        requires room { length group.items ≤ self.old.spare }
+        requires can_add { CanAdd self.old.records group.items }
+        ensures records { self.new.records ≡ self.old.records ++ group.items }
+        ensures spare { self.new.spare + length group.items ≡ self.old.spare }
+    {
+        for item in group {
+            self.push_reserved(item);
+        }
+    }
+
+    // The step of the last record, if this next one accepts it.
+    fn accepted_by(&self, item: &Record) -> Option<Step>
+        ensures { result ≡ accepted_after (last_of self.now.records) item.now }
+    {
+        let last = self.log.as_slice().last()?;
+        accepted_step(last, item)
+    }
+
+    /// The log.
+    ///
+    /// Rule: docs/FORMATS.md, "Groups and moments".
+    pub fn log(&self) -> &Log
+        ensures records { result.now.records ≡ self.now.records }
+        ensures begun { 1 ≤ length self.now.records }
+        ensures uncarried { is_carried self.now.records ≡ false }
+        ensures numbered { IsNumbered self.now.records }
+    {
+        &self.log
+    }
+
+    /// The settings of the beginning.
+    ///
+    /// Rule: docs/FORMATS.md, "Groups and moments".
+    pub fn settings(&self) -> Settings
+        ensures { begin_settings self.now.records ≡ Some result }
+    {
+        self.settings
+    }
+
+    /// The core nodes, the members first, then in the order in which they became core. A node that departs is core until it is
+    /// gone.
+    ///
+    /// Rule: docs/FORMATS.md, "Groups and moments".
+    pub fn core(&self) -> &[Name]
+        ensures { result.now ≡ core_of self.now.records }
+    {
+        self.roll.core().as_slice()
+    }
+
+    /// Whether the node is core. A node that departs is core until it is gone.
+    ///
+    /// Rule: docs/FORMATS.md, "Groups and moments".
+    pub fn is_core(&self, name: &Name) -> bool
+        ensures { result ≡ has_name (core_of self.now.records) name.now }
+    {
+        self.roll.core().has(name)
+    }
+
+    /// How many nodes are core.
+    ///
+    /// Rule: docs/FORMATS.md, "Groups and moments".
+    pub fn core_count(&self) -> usize
+        ensures { result ≡ length (core_of self.now.records) }
+    {
+        self.roll.core().len()
+    }
+
+    /// Whether the node is present: it is a member or its join was accepted, and it isn't gone.
+    ///
+    /// Rule: docs/FORMATS.md, "Groups and moments".
+    pub fn is_present(&self, name: &Name) -> bool
+        ensures { result ≡ has_name (present_of self.now.records) name.now }
+    {
+        self.roll.present().has(name)
+    }
+
+    /// Whether a node of this name was ever present.
+    ///
+    /// Rule: docs/FORMATS.md, "Groups and moments".
+    pub fn was_present(&self, name: &Name) -> bool
+        ensures { result ≡ has_name (names_of self.now.records) name.now }
+    {
+        self.roll.names().has(name)
+    }
+
+    /// How many names were ever present.
+    ///
+    /// Rule: docs/FORMATS.md, "Groups and moments".
+    pub fn name_count(&self) -> usize
+        ensures { result ≡ name_count self.now.records }
+    {
+        self.roll.names().len()
+    }
+
+    /// Whether the node is to give up joining, or has.
+    ///
+    /// Rule: docs/FORMATS.md, "Groups and moments".
+    pub fn is_abandoned(&self, name: &Name) -> bool
+        ensures { result ≡ has_name (abandoned_of self.now.records) name.now }
+    {
+        self.roll.abandoned().has(name)
+    }
+
+    /// The node that is departing: the last one whose departure was accepted since the last moment at which no frame was
+    /// outstanding.
+    ///
+    /// Rule: docs/FORMATS.md, "Groups and moments".
+    pub fn departing(&self) -> Option<Name>
+        ensures { result ≡ departing_of self.now.records }
+    {
+        if self.frames.is_empty() {
+            None
+        } else {
+            self.leaver
+        }
+    }
+
+    /// Whether the pair is published.
+    ///
+    /// Rule: docs/FORMATS.md, "Groups and moments".
+    pub fn is_published(&self, pair: &Pair) -> bool
+        ensures { result ≡ has_pair (published_of self.now.records) pair.now }
+    {
+        self.pairs.has(pair)
+    }
+
+    /// How many lookups were asked.
+    ///
+    /// Rule: docs/FORMATS.md, "Groups and moments".
+    pub fn tickets(&self) -> usize
+        ensures { result ≡ ticket_count self.now.records }
+    {
+        self.tickets
+    }
+
+    /// How many casts began.
+    ///
+    /// Rule: docs/FORMATS.md, "Groups and moments".
+    pub fn casts(&self) -> usize
+        ensures { result ≡ cast_count self.now.records }
+    {
+        self.casts
+    }
+
+    /// How many frames were sent, which is the number of the next one.
+    ///
+    /// Rule: docs/FORMATS.md, "Groups and moments".
+    pub fn sent(&self) -> u32
+        ensures { result ≡ sent_count self.now.records }
+    {
+        self.frames.sent()
+    }
+
+    /// How many frames are outstanding.
+    ///
+    /// Rule: docs/FORMATS.md, "Groups and moments".
+    pub fn outstanding(&self) -> u32
+        ensures { result ≡ length (outstanding self.now.records) }
+    {
+        self.frames.len()
+    }
+
+    /// Whether the log is at rest: no frame is outstanding.
+    ///
+    /// Rule: docs/FORMATS.md, "Groups and moments".
+    pub fn is_rest(&self) -> bool
+        ensures { result ≡ is_rest self.now.records }
+    {
+        self.frames.is_empty()
+    }
+
+    /// The number of the frame at this place of the outstanding ones, from 0; `None` exactly if there are not so many.
+    ///
+    /// Rule: docs/FORMATS.md, "Groups and moments".
+    pub fn number_at(&self, place: u32) -> Option<u32>
+        ensures { result ≡ slice_get (outstanding self.now.records) place }
+    {
+        Some(self.frames.frame_at(place)?.number)
+    }
+
+    /// The bytes of the frame at this place of the outstanding ones, as the log has them; `None` exactly if there are not so many.
+    ///
+    /// Rule: docs/FORMATS.md, "Groups and moments".
+    pub fn bytes_at(&self, place: u32) -> Option<&[u8]>
+        ensures { option_copied result ≡ bytes_at self.now.records place }
+    {
+        let flight = self.frames.frame_at(place)?;
+        payload(self.log.as_slice(), flight.record_place)
+    }
+
+    /// The place of this frame among the outstanding ones; `None` exactly if it isn't outstanding.
+    ///
+    /// Rule: docs/FORMATS.md, "Groups and moments".
+    pub fn place_of(&self, number: u32) -> Option<u32>
+        ensures { result ≡ position (nat_eq number) (outstanding self.now.records) }
+    {
+        self.frames.place_of(number)
+    }
+
+    /// The place of the outstanding frame that was sent last; `None` exactly if none is outstanding.
+    ///
+    /// Rule: docs/FORMATS.md, "Groups and moments".
+    pub fn newest(&self) -> Option<u32>
+        ensures { result ≡ (if length (outstanding self.now.records) == 0
+            then None else Some (length (outstanding self.now.records) - 1)) }
+    {
+        self.frames.newest()
+    }
+
+    // How many frames are outstanding. Packets are of carried logs alone.
+    pub(crate) fn flight_count(&self) -> u32
+        ensures { result ≡ flight_count self.now.records }
+    {
+        self.frames.len()
+    }
+
+    // How many packets ticks and repeats made: none, since the log isn't carried.
+    pub(crate) fn resent(&self) -> u32
+        ensures { result ≡ resent_count self.now.records }
+    {
+        // No record of the log is of a packet.
+        let _ = &self.log;
+        0
+    }
+
+    // How many frames await their acknowledgement: all that were sent, since no packet was made.
+    pub(crate) fn awaiting(&self) -> u32
+        ensures { result ≡ length (awaiting self.now.records) }
+    {
+        self.frames.sent()
+    }
+}
+
+// Makes room for so many more frames.
+fn reserve_frames(frames: &mut Outstanding, more: usize) -> Result<(), NoMemory>
+    ensures sent { frames.new.sent ≡ frames.old.sent }
+    ensures frames { frames.new.frames ≡ frames.old.frames }
+    ensures ok { OnOk result (frames.new.room ≡ max frames.old.room more) }
+    ensures err { OnErr result (frames.new.room ≡ frames.old.room) }
+{
+    let Ok(more) = u32::try_from(more) else {
+        return Err(NoMemory);
+    };
+    match frames.reserve(more) {
+        Ok(()) => Ok(()),
+        Err(_) => Err(NoMemory),
+    }
+}
+
+// Who departs after one more record, unless no frame is outstanding then: before a group begins, who departs then.
+fn leaver_next(
+    begins: bool,
+    departing: Option<Name>,
+    departs: Option<Name>,
+    leaver: Option<Name>,
+) -> Option<Name>
+    ensures { result ≡ leaver_next begins departing departs leaver }
+{
+    if begins {
+        return departing;
+    }
+    match departs {
+        Some(name) => Some(name),
+        None => leaver,
+    }
+}

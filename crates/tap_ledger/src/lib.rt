@@ -1,0 +1,15 @@
+//! A log together with what it says of its run, kept at hand.
+#![tactic(auto)]
+
+mod counts;
+mod flights;
+mod ledger;
+mod names;
+mod pairs;
+mod refusals;
+mod roll;
+mod steps;
+#[cfg(test)]
+mod tests;
+
+pub use ledger::Ledger;
