@@ -10,3 +10,4 @@ pub mod Moments
 pub mod Printed
 pub mod Taken
 pub mod Each
+pub mod Lawful

@@ -4,3 +4,4 @@ pub mod Moments
 pub mod Printed
 pub mod Taken
 pub mod Each
+pub mod Lawful

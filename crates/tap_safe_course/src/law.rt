@@ -1,4 +1,5 @@
 ghost use Rattle.tap_safe_course.specs.Each.{GroupsAreRight};
+ghost use Rattle.tap_safe_course.specs.Lawful.{LawfulLogsAreSafe};
 ghost use Rattle.tap_safe_course.specs.Moments.{AtEachMoment, HasNoHole, RestIsAllCore, WalksEndAtRoots};
 ghost use Rattle.tap_safe_course.specs.Moves.{GroupMayMove};
 ghost use Rattle.tap_safe_course.specs.Printed.{RootsAreFound, WalksAreToRoots};
@@ -92,4 +93,14 @@ pub fn printed_law()
 /// Rule: docs/FORMATS.md, "The course of a run".
 pub fn each_group_law()
     ensures { GroupsAreRight }
+{}
+
+/// The log of a run of a scenario, however far it has come, is a run. So at each of its moments no core node's table has a hole that another
+/// core node could fill, each walk from a core node leads to the one root of its object, and at rest each node that is present is core.
+///
+/// It does nothing: its contract is the law.
+///
+/// Rule: docs/FORMATS.md, "What comes next" and "The course of a run".
+pub fn lawful_logs_law()
+    ensures { LawfulLogsAreSafe }
 {}

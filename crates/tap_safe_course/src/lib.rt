@@ -7,6 +7,6 @@
 mod law;
 
 pub use law::{
-    each_group_law, group_moves_law, growing_runs_law, hole_free_law, printed_law, run_rest_law,
-    run_walks_law, sound_runs_law, taken_law,
+    each_group_law, group_moves_law, growing_runs_law, hole_free_law, lawful_logs_law, printed_law,
+    run_rest_law, run_walks_law, sound_runs_law, taken_law,
 };
