@@ -7,7 +7,7 @@ use Rattle.tap_rule.specs.Node.{NodeState, Status, link_to}
 use Rattle.tap_rule.specs.Node.Status.{Core, Leaving}
 use Rattle.tap_safety.specs.System.{System, HasLink, IsCoreNode}
 use Rattle.tap_safety.specs.Departing.{Departs, FitsSlot, HasOther, HasReplaced, WhileLeaving}
-use Rattle.tap_safety.specs.Notices.{IsAwaiting, UntilRest}
+use Rattle.tap_safety.specs.Notices.{HasAnswered, IsAwaiting, UntilRest}
 use Rattle.tap_safety.specs.Remembered.{Leaver}
 use Rattle.tap_safety.specs.Step.{ChangesAt}
 use Rattle.tap_safety.specs.Ties.{link_in, link_of, status_in, status_of}
@@ -168,8 +168,7 @@ over_at_rest s s' rest leaver departs over = elim (rest.0 over) [
   | inr none ↦ none
 ]
 
--- who held the leaver at its start, and is awaited no more, has its slot filled, or no link to the leaver
+-- who held the leaver at its start, and is awaited no more, has answered
 abbrev pub HaveAnswered : System → Leaver → Type 0
 HaveAnswered s leaver =
-    (a : List ℕ) → Among a leaver.holders → (IsAwaiting s leaver.name a → ⊥)
-    → HasReplaced s a leaver.name ⊎ (link_of s a leaver.name ≡ None)
+    (a : List ℕ) → Among a leaver.holders → (IsAwaiting s leaver.name a → ⊥) → HasAnswered s a leaver.name

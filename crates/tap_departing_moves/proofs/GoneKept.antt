@@ -12,11 +12,12 @@ use Rattle.tap_safety.specs.Remembered.{Leaver}
 use Rattle.tap_safety.specs.System.{System, AmongFrames, HasLink, IsCoreNode, IsUnderWay}
 use Rattle.tap_safety.specs.Departing.{Departs, Departure, HasOther, HasReplaced, WhileDeparting, WhileLeaving}
 use Rattle.tap_safety.specs.FrameSteps.{TakesFrame}
-use Rattle.tap_safety.specs.Notices.{HasOneNotice, IsAwaiting, IsBetween, Notices, UntilRest}
+use Rattle.tap_safety.specs.Notices.{HasAnswered, HasOneNotice, IsAwaiting, IsBetween, IsGoneLeaver, Notices, UntilRest}
 use Rattle.tap_safety.specs.Soft.{NamesSoft}
 use Rattle.tap_safety.specs.Step.{numbered_from}
 use Rattle.tap_safety.specs.Ties.{link_of, status_of}
 use Rattle.tap_safety.proofs.LinkKeeps.{some_state, status_seen}
+use Rattle.tap_safety.proofs.NoticesKept.{gone_leaver_stays}
 use Rattle.tap_safety.proofs.TellKeeps.{node_before}
 use Rattle.tap_safety.proofs.Told.{among_out, among_sent, among_was, still_under_way, taken_under_way, was_under_way}
 use Rattle.tap_safety.proofs.WordsKept.{at_link, link_at}
@@ -57,9 +58,18 @@ module _ (s s' : System) (number : ℕ) (n x : List ℕ) (takes : TakesGone s s'
   before : WhileDeparting s leaver
   before = departure.during leaver departs
 
-  -- the sender has left
+  -- the sender is the leaver, and is gone
+  sender_gone : IsGoneLeaver s n
+  sender_gone = notices.gones n x (taken_under_way s s' number frame step.sent step.taken)
+
   n_gone : status_of s n ≡ Some HasGone
-  n_gone = notices.gones n x (taken_under_way s s' number frame step.sent step.taken)
+  n_gone = sender_gone.gone
+
+  leaver_gone : status_of s leaver.name ≡ Some HasGone
+  leaver_gone =
+      let same : Some leaver ≡ Some sender_gone.leaver = sym departs ∙ sender_gone.departs in
+      let one : leaver ≡ sender_gone.leaver = cc in
+      ap (status_of s) (ap (λ (l : Leaver). l.name) one ∙ sender_gone.is) ∙ n_gone
 
   -- ---- what is under way
 
@@ -314,27 +324,32 @@ module _ (s s' : System) (number : ℕ) (n x : List ℕ) (takes : TakesGone s s'
         only = λ m f among between. one.only m f (between_was y a m f between among) between;
       }
 
-  -- a holder that has answered keeps its link, or has none any more
-  answered_on : (a : List ℕ) → HasReplaced s a leaver.name ⊎ (link_of s a leaver.name ≡ None)
-      → HasReplaced s' a leaver.name ⊎ (link_of s' a leaver.name ≡ None)
+  -- a holder that has answered keeps its link, or has none any more, the leaver being gone
+  answered_on : (a : List ℕ) → HasAnswered s a leaver.name → HasAnswered s' a leaver.name
   answered_on a (inl replaced) =
       elim (link_on a leaver.name Marked replaced.marked) [
         | inr marked ↦ inl (still_replaced a leaver.name replaced marked)
-        | inl gone ↦ inr (no_kind (link_of s' a leaver.name) (λ kind has.
-            let link = at_link s' a leaver.name kind has in
-            let at : s'.node a ≡ Some step.after = ap s'.node gone.0 ∙ step.at.is in
-            let is = link.is in
-            let state : link.state ≡ step.after = cc in
-            let wrong : None ≡ Some kind =
-            sym takes.unlinked ∙ ap (link_to step.after) (sym gone.1) ∙ ap (λ (m : NodeState). link_to m leaver.name) (sym state)
-            ∙ link.link in
-            cc))
+        | inl gone ↦ inr (
+          no_kind (link_of s' a leaver.name) (λ kind has.
+              let link = at_link s' a leaver.name kind has in
+              let at : s'.node a ≡ Some step.after = ap s'.node gone.0 ∙ step.at.is in
+              let is = link.is in
+              let state : link.state ≡ step.after = cc in
+              let wrong : None ≡ Some kind =
+              sym takes.unlinked ∙ ap (link_to step.after) (sym gone.1) ∙ ap (λ (m : NodeState). link_to m leaver.name) (sym state)
+              ∙ link.link in
+              cc),
+          same leaver.name ∙ leaver_gone,
+        )
       ]
   answered_on a (inr none) =
-      inr (no_kind (link_of s' a leaver.name) (λ kind has.
-      let was = link_at s a leaver.name kind (link_was a leaver.name kind (at_link s' a leaver.name kind has)) in
-      let wrong : None ≡ Some kind = sym none ∙ was in
-      cc))
+      inr (
+        no_kind (link_of s' a leaver.name) (λ kind has.
+            let was = link_at s a leaver.name kind (link_was a leaver.name kind (at_link s' a leaver.name kind has)) in
+            let wrong : None ≡ Some kind = sym none.0 ∙ was in
+            cc),
+        same leaver.name ∙ leaver_gone,
+      )
 
   -- who is awaited no more has answered
   answered : HaveAnswered s' leaver
@@ -358,7 +373,7 @@ module _ (s s' : System) (number : ℕ) (n x : List ℕ) (takes : TakesGone s s'
       leaves = λ y a replacement way. on y a (notices.leaves y a replacement (way_was y a (Leave replacement) (λ never. never) way));
       lefts = λ a y way. on y a (notices.lefts a y (way_was a y Left (λ never. never) way));
       one = one_still;
-      gones = λ y t way. same y ∙ notices.gones y t (way_was y t Gone (λ never. never) way);
+      gones = λ y t way. gone_leaver_stays s s' rest same y t way (notices.gones y t (way_was y t Gone (λ never. never) way));
       answered = λ other a departs' among none. subst (HaveAnswered s') (same_leaver other departs') answered a among none;
       words = λ other y t version departs' way.
           let old = notices.words leaver y t version departs (way_was y t (Link version true) (λ never. never) way) in

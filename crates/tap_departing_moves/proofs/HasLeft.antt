@@ -1,5 +1,5 @@
 -- A node that departs has left: it is gone, and whoever had a link to it has its slot filled, and is told.
-use Rattle.std.proofs.Common.{◌≡◌, ◌≢◌, inl, inr, ℕ, ◌+◌, ◌<◌, true, false, List, [], ◌⊎◌, Option, None, Some, arith, sym, ap, subst, ◌∙◌}
+use Rattle.std.proofs.Common.{◌≡◌, ◌≢◌, inl, inr, ℕ, ◌+◌, ◌<◌, true, false, List, [], ◌⊎◌, Option, None, Some, arith, refl, sym, ap, subst, ◌∙◌}
 use Rattle.tap_name.specs.Names.{Among}
 use Rattle.tap_link.specs.declared.kind.Kind.{Kind}
 use Rattle.tap_link.specs.declared.kind.Kind.TheVariants.{Pin, Settled, Leaving as Marked}
@@ -11,6 +11,7 @@ use Rattle.tap_rule.specs.Node.Status.{Ceased as HasCeased, Core, Gone as HasGon
 use Rattle.tap_safety.specs.Remembered.{Leaver}
 use Rattle.tap_safety.specs.System.{System, AmongFrames, HasLink, IsCoreNode, IsUnderWay}
 use Rattle.tap_safety.specs.Departing.{Departs, HasOther, HasReplaced, WhileDeparting, may_be_then}
+use Rattle.tap_safety.specs.Notices.{IsGoneLeaver}
 use Rattle.tap_safety.specs.Step.{ChangesAt}
 use Rattle.tap_safety.specs.Ties.{link_of, status_of}
 use Rattle.tap_safety.proofs.LinkKeeps.{some_state, status_seen}
@@ -29,13 +30,13 @@ use Rattle.tap_safety.specs.Soft.{NamesSoft}
 use Rattle.tap_name.specs.Prefix.{lcp}
 use Rattle.tap_name.proofs.Prefixes.{lcp-least, lcp-sym, lcp-triangle}
 
--- what may be left of before: no Leave, Left or Forget; the Gone of a node that is gone; and a word of a new link, or a Release, that goes
--- neither to the leaver nor comes from it
+-- what may be left of before: no Leave, Left, Gone or Forget; and a word of a new link, or a Release, that neither goes to the leaver nor
+-- comes from it
 abbrev pub IsLeftOver : System → Leaver → List ℕ → List ℕ → Body → Type 0
 IsLeftOver s leaver from to (Leave replacement) = ⊥
 IsLeftOver s leaver from to Left = ⊥
 IsLeftOver s leaver from to Forget = ⊥
-IsLeftOver s leaver from to Gone = status_of s from ≡ Some HasGone
+IsLeftOver s leaver from to Gone = ⊥
 IsLeftOver s leaver from to (Link version true) =
     (to ≡ leaver.name → ⊥) × (from ≡ leaver.name → ⊥) × (status_of s to ≡ Some HasCeased → ⊥)
 IsLeftOver s leaver from to Release = (to ≡ leaver.name → ⊥) × (from ≡ leaver.name → ⊥)
@@ -53,7 +54,7 @@ left_over_may_be : (s : System) (leaver : Leaver) (from to : List ℕ) (body : B
 left_over_may_be s leaver from to (Leave replacement) left = absurd left
 left_over_may_be s leaver from to Left left = absurd left
 left_over_may_be s leaver from to Forget left = absurd left
-left_over_may_be s leaver from to Gone left = tt
+left_over_may_be s leaver from to Gone left = absurd left
 left_over_may_be s leaver from to (Link version true) left = tt
 left_over_may_be s leaver from to (Link version false) left = tt
 left_over_may_be s leaver from to Release left = tt
@@ -68,7 +69,7 @@ farewell_may_be leaver from to (Lay object server level version on) farewell = t
 farewell_may_be leaver from to _ farewell = absurd farewell
 
 -- The leaver has ended. Before, nobody joined, no link was a pin or marked but to the leaver, and nobody else left; who had a link to it
--- has its slot filled, and is told; each holder has answered, or has no link; and no other frame is under way than such.
+-- is told; it and each holder have the slot filled; and no other frame is under way than such.
 pub record HasLeft (s s' : System) (leaver : Leaver) (before after : NodeState) : Type 0 where
   pub at : ChangesAt s s' leaver.name before after
   pub status : after.status ≡ HasGone
@@ -79,7 +80,7 @@ pub record HasLeft (s s' : System) (leaver : Leaver) (before after : NodeState) 
   pub leaving : (y : List ℕ) → status_of s y ≡ Some Leaving → y ≡ leaver.name
   pub filled : (y : List ℕ) (kind : Kind) → HasLink s y leaver.name kind → HasReplaced s y leaver.name
   pub told : (y : List ℕ) (kind : Kind) → HasLink s y leaver.name kind → IsUnderWay s' leaver.name y Gone
-  pub answered : (a : List ℕ) → Among a leaver.holders → HasReplaced s a leaver.name ⊎ (link_of s a leaver.name ≡ None)
+  pub answered : (a : List ℕ) → Among a leaver.holders → HasReplaced s a leaver.name
   pub frames : (y t : List ℕ) (body : Body) → IsUnderWay s' y t body → IsLeftOver s leaver y t body ⊎ IsFarewell leaver y t body
   pub releases : (t y : List ℕ) → IsUnderWay s' t y Release → IsUnderWay s t y Release
   pub departs : (other : Leaver) → Departs s' other → leaver ≡ other
@@ -115,13 +116,6 @@ module _ (s s' : System) (leaver : Leaver) (before after : NodeState) (left : Ha
         | inl here ↦ absurd (other here)
         | inr stays ↦ at_link s' y t kind (stays ∙ link_at s y t kind link)
       ]
-
-  -- none is new
-  unlinked_now : (y t : List ℕ) → link_of s y t ≡ None → link_of s' y t ≡ None
-  unlinked_now y t none =
-      no_kind (link_of s' y t) (λ kind has.
-      let was = link_at s y t kind (link_was y t kind (at_link s' y t kind has)).0 in
-      let wrong : None ≡ Some kind = sym none ∙ was in cc)
 
   -- ---- statuses
 
@@ -183,21 +177,29 @@ module _ (s s' : System) (leaver : Leaver) (before after : NodeState) (left : Ha
   release_left : (y t : List ℕ) → IsUnderWay s' y t Release → (t ≡ own → ⊥) × (y ≡ own → ⊥)
   release_left y t now = elim (left.frames y t Release now) [ inl old ↦ old | inr never ↦ absurd never ]
 
-  -- a Gone is from a node that is gone
-  gone_from : (y t : List ℕ) → IsUnderWay s' y t Gone → status_of s' y ≡ Some HasGone
-  gone_from y t now =
-      elim (left.frames y t Gone now) [
-        | inr here ↦ ap (status_of s') here ∙ gone_now
-        | inl was ↦ elim (status_apart s s' own before after left.at y) [
-          | inr same ↦ same ∙ was
-          | inl here ↦ ap (status_of s') here ∙ gone_now
-        ]
-      ]
-
   none_under_way : s'.departing ≡ None → (y t : List ℕ) (body : Body) → IsUnderWay s' y t body → ⊥
   none_under_way over y t body now =
       let f : Frame = record { from = y; to = t; body = body } in
       let nothing : AmongFrames now.number f [] = subst (AmongFrames now.number f) (left.over over) now.among in nothing
+
+  -- the leaver departs yet, while a frame is under way
+  departs_yet : (y t : List ℕ) (body : Body) → IsUnderWay s' y t body → Departs s' leaver
+  departs_yet y t body now = by s'.departing refl
+    where
+      by : (departing : Option Leaver) → s'.departing ≡ departing → Departs s' leaver
+      by None over = absurd (none_under_way over y t body now)
+      by (Some other) departs = departs ∙ ap (λ l. Some l) (sym (left.departs other departs))
+
+  -- a Gone is from the leaver
+  gone_from : (y t : List ℕ) → IsUnderWay s' y t Gone → IsGoneLeaver s' y
+  gone_from y t now =
+      let here : y ≡ own = elim (left.frames y t Gone now) [ inl never ↦ absurd never | inr from ↦ from ] in
+      record {
+        leaver = leaver;
+        departs = departs_yet y t Gone now;
+        is = sym here;
+        gone = ap (status_of s') here ∙ gone_now;
+      }
 
   -- ---- while it goes on
 
@@ -225,15 +227,13 @@ module _ (s s' : System) (leaver : Leaver) (before after : NodeState) (left : Ha
     forgets = λ y t now. no_such y t Forget (λ never. never) (λ never. never) now;
   }
 
-  -- each holder has answered, or has no link
+  -- each holder has answered
   answered_now : HaveAnswered s' leaver
   answered_now a holds none =
       elim (same_name a own) [
-        | inl here ↦ inr (no_kind (link_of s' a own) (λ kind has. (link_was a own kind (at_link s' a own kind has)).1 here))
-        | inr other ↦ elim (left.answered a holds) [
-          | inl replaced ↦ inl (still_replaced a other replaced)
-          | inr none ↦ inr (unlinked_now a own none)
-        ]
+        | inl here ↦
+            inr (no_kind (link_of s' a own) (λ kind has. (link_was a own kind (at_link s' a own kind has)).1 here), gone_now)
+        | inr other ↦ inl (still_replaced a other (left.answered a holds))
       ]
 
   -- the departure is in order then

@@ -20,18 +20,19 @@ use Rattle.tap_safety.specs.Remembered.{Leaver}
 use Rattle.tap_safety.specs.System.{System, AmongFrames, HasLink, IsCoreNode, IsUnderWay}
 use Rattle.tap_safety.specs.Departing.{Departs, Departure, FitsSlot, HasOther, HasReplaced, WhileDeparting, WhileLeaving, may_be_then}
 use Rattle.tap_safety.specs.FrameSteps.{TakesFrame}
-use Rattle.tap_safety.specs.Notices.{HasOneNotice, IsAwaiting, IsBetween, Notices, UntilRest}
+use Rattle.tap_safety.specs.Notices.{HasAnswered, HasOneNotice, IsAwaiting, IsBetween, Notices, UntilRest}
 use Rattle.tap_safety.specs.Soft.{NamesSoft}
 use Rattle.tap_safety.specs.Step.{AreNumbered, IsSent, numbered_from}
-use Rattle.tap_safety.specs.Ties.{link_of, status_of}
+use Rattle.tap_safety.specs.Ties.{status_of}
 use Rattle.tap_safety.proofs.Exchanged.{exchanged}
 use Rattle.tap_safety.proofs.LinkKeeps.{status_seen}
+use Rattle.tap_safety.proofs.NoticesKept.{gone_leaver_stays}
 use Rattle.tap_safety.proofs.TellKeeps.{node_before}
 use Rattle.tap_safety.proofs.Told.{among_sent, among_there, was_under_way}
 use Rattle.tap_safety.proofs.WordsKept.{at_link, link_at}
 use Rattle.tap_moves.proofs.Got.{same_name}
 use Rattle.tap_departing_moves.specs.DepartingMoves.{DepartsInOrder}
-use Rattle.tap_departing_moves.proofs.Alike.{HaveAnswered, awaiting_leaves, awaits_on, awaits_was, core_on, core_was, fits_on, leaver_stays, link_apart, no_kind, one_kind, one_status, other_was, over_at_rest, replaced_on, status_same}
+use Rattle.tap_departing_moves.proofs.Alike.{HaveAnswered, awaiting_leaves, awaits_on, awaits_was, core_on, core_was, fits_on, leaver_stays, link_apart, one_kind, one_status, other_was, over_at_rest, replaced_on, status_same}
 use Rattle.tap_departing_moves.proofs.LeaveMade.{HeedsLeave}
 use Rattle.tap_departing_moves.proofs.OneFrame.{only_after, sent_after}
 use Rattle.tap_name.specs.Settings.{SettingsValue}
@@ -417,19 +418,12 @@ module _ (s s' : System) (number : ℕ) (n x : List ℕ) (replacement : Option (
         | inr other ↦ one_there y a other (notices.one y a old)
       ]
 
-  answered_on : (a : List ℕ) → HasReplaced s a leaver.name ⊎ (link_of s a leaver.name ≡ None)
-      → HasReplaced s' a leaver.name ⊎ (link_of s' a leaver.name ≡ None)
+  -- who has answered has its slot filled yet, since the leaver isn't gone
+  answered_on : (a : List ℕ) → HasAnswered s a leaver.name → HasAnswered s' a leaver.name
   answered_on a (inl replaced) =
       inl (subst (HasReplaced s' a) is_leaver (still_replaced a (subst (HasReplaced s a) (sym is_leaver) replaced)))
-  answered_on a (inr none) =
-      inr (no_kind (link_of s' a leaver.name) (λ kind has.
-      elim (link_was a leaver.name kind (at_link s' a leaver.name kind has)) [
-        | inl old ↦ (let wrong : None ≡ Some kind = sym none ∙ link_at s a leaver.name kind old in cc)
-        | inr new ↦
-            let there = subst (λ m. HasLink s x m Settled) is_leaver settled in
-            let mine = subst (λ y. HasLink s y leaver.name Settled) (sym new.0) there in
-            let wrong : None ≡ Some Settled = sym none ∙ link_at s a leaver.name Settled mine in cc
-      ]))
+  answered_on a (inr unlinked) =
+      let wrong = one_status s leaver.name HasGone Leaving unlinked.1 (ap (status_of s) (sym is_leaver) ∙ n_leaves) in cc
 
   answered : HaveAnswered s' leaver
   answered a holds none =
@@ -467,7 +461,7 @@ module _ (s s' : System) (number : ℕ) (n x : List ℕ) (replacement : Option (
         | inr new ↦ on y a (subst (λ m. IsAwaiting s m a) (sym new.1) (subst (IsAwaiting s n) (sym new.0) awaiting))
       ];
       one = one_each;
-      gones = λ y t now. same y ∙ notices.gones y t (way_was y t Gone (λ never. never) now);
+      gones = λ y t now. gone_leaver_stays s s' rest same y t now (notices.gones y t (way_was y t Gone (λ never. never) now));
       answered = λ other a departs' mine none. subst (HaveAnswered s') (same_leaver other departs') answered a mine none;
       words = λ other y t version departs' now. elim (was_or_sent y t (Link version true) now) [
         | inl old ↦

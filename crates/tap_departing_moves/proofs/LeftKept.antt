@@ -18,6 +18,7 @@ use Rattle.tap_safety.specs.Step.{AreNumbered}
 use Rattle.tap_safety.specs.Ties.{link_in, link_of, status_of}
 use Rattle.tap_safety.proofs.Exchanged.{exchanged}
 use Rattle.tap_safety.proofs.LinkKeeps.{some_state}
+use Rattle.tap_safety.proofs.NoticesKept.{gone_leaver_stays}
 use Rattle.tap_safety.proofs.Told.{among_sent, among_there, was_under_way}
 use Rattle.tap_safety.proofs.WordsKept.{at_link, link_at}
 use Rattle.tap_moves.proofs.Got.{same_name}
@@ -276,7 +277,7 @@ module _ (s s' : System) (number : ℕ) (a n : List ℕ) (takes : TakesLeft s s'
             inl (subst (HasReplaced s' b) is_leaver (subst (λ c. HasReplaced s' c n) (sym here) (still_replaced a n replaced)))
         | inr other ↦ elim (notices.answered leaver b departs holds (λ waits. none (on leaver.name b other waits))) [
           | inl filled ↦ inl (still_replaced b leaver.name filled)
-          | inr unlinked ↦ inr (link_same b leaver.name ∙ unlinked)
+          | inr unlinked ↦ inr (link_same b leaver.name ∙ unlinked.0, same leaver.name ∙ unlinked.1)
         ]
       ]
 
@@ -315,7 +316,7 @@ module _ (s s' : System) (number : ℕ) (a n : List ℕ) (takes : TakesLeft s s'
       leaves = leave_on;
       lefts = left_on;
       one = one_each;
-      gones = λ y t now. same y ∙ notices.gones y t (way_was y t Gone (λ never. never) now);
+      gones = λ y t now. gone_leaver_stays s s' rest same y t now (notices.gones y t (way_was y t Gone (λ never. never) now));
       answered = λ other b departs' mine none. subst (HaveAnswered s') (same_leaver other departs') answered b mine none;
       words = λ other y t version departs' now.
           let old = notices.words leaver y t version departs (way_was y t (Link version true) (λ never. never) now) in

@@ -34,7 +34,7 @@ use Rattle.tap_safety.specs.Notices.{IsAwaiting, IsBetween, IsNotice}
 use Rattle.tap_safety.specs.Remembered.{Leaver}
 use Rattle.tap_safety.specs.Step.{ChangesAt}
 use Rattle.tap_safety.specs.System.{System, AmongFrames, HasLink, IsUnderWay}
-use Rattle.tap_safety.specs.Ties.{hears_words, link_of, status_of}
+use Rattle.tap_safety.specs.Ties.{hears_words, status_of}
 use Rattle.tap_safety.proofs.Exchanged.{exchanged}
 use Rattle.tap_safety.proofs.LinkKeeps.{status_seen}
 use Rattle.tap_safety.proofs.NoticesKept.{until_rest_law}
@@ -128,7 +128,7 @@ module _ (p : SettingsValue) (s : System) (number : ℕ) (node : NodeState) (fro
   gone_acted = taken_at node from GoneBody
 
   pub from_gone : status_of s from ≡ Some Gone
-  from_gone = is.invariant.notices.gones from (name_of node) (way p s number node from GoneBody is)
+  from_gone = (is.invariant.notices.gones from (name_of node) (way p s number node from GoneBody is)).gone
 
   -- whoever has a link to a node that has left is core
   pub gone_linked : (kind : Kind) → link_to node from ≡ Some kind → node.status ≡ Core
@@ -367,14 +367,23 @@ module _ (p : SettingsValue) (s : System) (number : ℕ) (node : NodeState) (fro
         none_left [] none c among = among
         none_left (d ∷ names) none c among = cc
 
-    answered_all : (a : List ℕ) → Among a left_leaver.holders
-        → HasReplaced s a left_leaver.name ⊎ (link_of s a left_leaver.name ≡ None)
+    -- the leaver isn't gone before
+    not_gone : (y : List ℕ) → y ≡ left_leaver.name → status_of s y ≡ Some Gone → ⊥
+    not_gone y here gone =
+        let own = status_seen s (name_of node) node Leaving is.at left_leaving in
+        let wrong = one_status s y Gone Leaving gone (ap (status_of s) (here ∙ sym left_said.0) ∙ own) in cc
+
+    -- so each holder has its slot filled
+    answered_all : (a : List ℕ) → Among a left_leaver.holders → HasReplaced s a left_leaver.name
     answered_all a holds = elim (same_name a from) [
-      | inl same ↦
-          inl (subst (HasReplaced s a) left_said.0 (subst (λ b. HasReplaced s b (name_of node)) (sym same) left_said.1))
+      | inl same ↦ subst (HasReplaced s a) left_said.0 (subst (λ b. HasReplaced s b (name_of node)) (sym same) left_said.1)
       | inr other ↦
-          is.invariant.notices.answered left_leaver a (who_departs p s number node from Left is tt).1 holds
-          (λ waits. other (alone left_leaver.name a (sym left_said.0) waits))
+          let departs = (who_departs p s number node from Left is tt).1 in
+          elim (is.invariant.notices.answered left_leaver a departs holds
+          (λ waits. other (alone left_leaver.name a (sym left_said.0) waits))) [
+            | inl replaced ↦ replaced
+            | inr unlinked ↦ absurd (not_gone left_leaver.name refl unlinked.1)
+          ]
     ]
 
     -- whoever has a link to the leaver was a holder, and is one yet
@@ -384,10 +393,7 @@ module _ (p : SettingsValue) (s : System) (number : ℕ) (node : NodeState) (fro
         (left_during.goes node at left_leaving).linked y kind link
 
     filled_all : (y : List ℕ) (kind : Kind) → HasLink s y left_leaver.name kind → HasReplaced s y left_leaver.name
-    filled_all y kind link = elim (answered_all y (linked_holds y kind link)) [
-      | inl replaced ↦ replaced
-      | inr none ↦ (let wrong : None ≡ Some kind = sym none ∙ link_at s y left_leaver.name kind link in cc)
-    ]
+    filled_all y kind link = answered_all y (linked_holds y kind link)
 
     -- its word stands in the register, since no new word is under way to the leaver
     holder_on : (y : List ℕ) (kind : Kind) → HasLink s y left_leaver.name kind → Among y (holders_on node.ties)
@@ -443,7 +449,12 @@ module _ (p : SettingsValue) (s : System) (number : ℕ) (node : NodeState) (fro
         (inr (ap (λ z. record { from = z; to = t; body = Left }) to
         ∙ ap (λ z. record { from = from; to = z; body = Left }) here)) old now
     left_over y t Forget m old now = left_during.forgets y t (record { number = m; among = old })
-    left_over y t GoneBody m old now = is.invariant.notices.gones y t (record { number = m; among = old })
+    left_over y t GoneBody m old now =
+        let sender = is.invariant.notices.gones y t (record { number = m; among = old }) in
+        let departs = (who_departs p s number node from Left is tt).1 in
+        let same : Some left_leaver ≡ Some sender.leaver = sym departs ∙ sender.departs in
+        let one : left_leaver ≡ sender.leaver = cc in
+        not_gone y (sym sender.is ∙ ap (λ (l : Leaver). l.name) (sym one)) sender.gone
     left_over y t (Link version true) m old now =
         let quiet = left_during.quiet y t version (record { number = m; among = old }) in
         let heard = is.invariant.notices.words left_leaver y t version (who_departs p s number node from Left is tt).1

@@ -17,7 +17,7 @@ use Rattle.tap_safety.specs.Departing.{Departs, HasReplaced}
 use Rattle.tap_safety.specs.FrameSteps.{TakesFrame}
 use Rattle.tap_safety.specs.KnownLaws.{DepartsUntilRest, FrameLeavesNotices, NoticesKeptBySteps}
 use Rattle.tap_safety.specs.Moved.{delivered, departing_with, has_taken, moved, numbered_frame, received, without}
-use Rattle.tap_safety.specs.Notices.{HasOneNotice, IsAwaiting, IsBetween, IsNotice, IsNoticeless, LeavesNotices, Notices, UntilRest}
+use Rattle.tap_safety.specs.Notices.{HasOneNotice, IsAwaiting, IsBetween, IsGoneLeaver, IsNotice, IsNoticeless, LeavesNotices, Notices, UntilRest}
 use Rattle.tap_safety.specs.Step.{IsSent, numbered_from}
 use Rattle.tap_safety.specs.Ties.{link_in, link_of, status_in, status_of}
 use Rattle.tap_safety.proofs.SoftKept.{sent_each}
@@ -45,6 +45,29 @@ delivered_so s number (Some frame) = by (s.node frame.to)
 pub until_rest_law : DepartsUntilRest
 unfolding moved
 until_rest_law p s number = delivered_so s number (numbered_frame number s.frames)
+
+-- whoever departs does so yet, while a frame is under way
+pub departs_on : (s s' : System) → UntilRest s s' → (leaver : Leaver) → Departs s leaver → (m : ℕ) (f : Frame)
+    → AmongFrames m f s'.frames → Departs s' leaver
+departs_on s s' rest leaver departs m f among = by s'.departing refl
+  where
+    by : (departing : Option Leaver) → s'.departing ≡ departing → Departs s' leaver
+    by None none =
+        elim (rest.0 none) [
+          | inl before ↦ let no : None ≡ Some leaver = sym before ∙ departs in cc
+          | inr empty ↦ absurd (rw empty at among)
+        ]
+    by (Some other) is = is ∙ (sym (rest.1 other is) ∙ departs)
+
+-- so whoever was the leaver, and gone, is so yet while its Gone is under way, if statuses stay
+pub gone_leaver_stays : (s s' : System) → UntilRest s s' → ((y : List ℕ) → status_of s' y ≡ status_of s y) → (x t : List ℕ)
+    → IsUnderWay s' x t Gone → IsGoneLeaver s x → IsGoneLeaver s' x
+gone_leaver_stays s s' rest same x t way was = record {
+  leaver = was.leaver;
+  departs = departs_on s s' rest was.leaver was.departs way.number (record { from = x; to = t; body = Gone }) way.among;
+  is = was.is;
+  gone = same x ∙ was.gone;
+}
 
 -- ---- notices
 
@@ -106,12 +129,13 @@ module _ (s s' : System) (step : LeavesNotices s s') (notices : Notices s) where
         step.awaits x a (notices.leaves x a replacement (way_was x a (Leave replacement) tt way));
     lefts = λ a x way. step.awaits x a (notices.lefts a x (way_was a x Left tt way));
     one = one_kept;
-    gones = λ x t way. step.status x ∙ notices.gones x t (way_was x t Gone tt way);
+    gones = λ x t way.
+        gone_leaver_stays s s' step.until_rest step.status x t way (notices.gones x t (way_was x t Gone tt way));
     answered = λ leaver a departs among none.
         let before = step.until_rest.1 leaver departs in
         elim (notices.answered leaver a before among (λ awaiting. none (step.awaits leaver.name a awaiting))) [
           | inl replaced ↦ inl (still_replaced leaver a leaver.name before replaced)
-          | inr unlinked ↦ inr (step.links leaver a leaver.name before ∙ unlinked)
+          | inr unlinked ↦ inr (step.links leaver a leaver.name before ∙ unlinked.0, step.status leaver.name ∙ unlinked.1)
         ];
     words = λ leaver x t version departs way.
         elim (step.words x t version way) [

@@ -43,17 +43,28 @@ pub record HasOneNotice (s : System) (x a : List ℕ) : Type 0 where
   pub between : IsBetween x a frame
   pub only : (m : ℕ) (f : Frame) → AmongFrames m f s.frames → IsBetween x a f → m ≡ number
 
+-- x is the node that departs, and is gone
+pub record IsGoneLeaver (s : System) (x : List ℕ) : Type 0 where
+  pub leaver : Leaver
+  pub departs : Departs s leaver
+  pub is : leaver.name ≡ x
+  pub gone : status_of s x ≡ Some HasGone
+
+-- a has answered n: its link to n is marked, and the slot filled by another; or it has none any more, and n is gone
+abbrev pub HasAnswered : System → List ℕ → List ℕ → Type 0
+HasAnswered s a n = HasReplaced s a n ⊎ ((link_of s a n ≡ None) × (status_of s n ≡ Some HasGone))
+
 -- While nobody departs no notice is under way. A Leave goes to one that its sender awaits, and a Left comes from one that its receiver awaits;
--- of each that is awaited there is one of the two; and a Gone comes from one that is gone. A holder of the leaver that isn't awaited any more
--- has its link marked and the slot filled by another, or has no link; and no word of a new link goes to a node that leaves or has ceased.
+-- of each that is awaited there is one of the two; and a Gone comes from the leaver, once it is gone. A holder of the leaver that isn't awaited
+-- any more has answered; and no word of a new link goes to a node that leaves or has ceased.
 pub record Notices (s : System) : Type 0 where
   pub none : (x t : List ℕ) (body : Body) → s.departing ≡ None → IsUnderWay s x t body → IsNotice body → ⊥
   pub leaves : (x a : List ℕ) (replacement : Option (List ℕ)) → IsUnderWay s x a (Leave replacement) → IsAwaiting s x a
   pub lefts : (a x : List ℕ) → IsUnderWay s a x Left → IsAwaiting s x a
   pub one : (x a : List ℕ) → IsAwaiting s x a → HasOneNotice s x a
-  pub gones : (x t : List ℕ) → IsUnderWay s x t Gone → status_of s x ≡ Some HasGone
+  pub gones : (x t : List ℕ) → IsUnderWay s x t Gone → IsGoneLeaver s x
   pub answered : (leaver : Leaver) (a : List ℕ) → Departs s leaver → Among a leaver.holders → (IsAwaiting s leaver.name a → ⊥)
-      → HasReplaced s a leaver.name ⊎ (link_of s a leaver.name ≡ None)
+      → HasAnswered s a leaver.name
   pub words : (leaver : Leaver) (x t : List ℕ) (version : ℕ) → Departs s leaver → IsUnderWay s x t (Link version true)
       → (status_of s t ≡ Some Leaving → ⊥) × (status_of s t ≡ Some HasCeased → ⊥)
 
