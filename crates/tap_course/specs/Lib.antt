@@ -4,5 +4,6 @@ pub mod Acts
 pub mod Observed
 pub mod Damage
 pub mod Group
+pub mod Named
 pub mod Course
 pub mod Laws

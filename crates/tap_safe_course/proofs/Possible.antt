@@ -9,7 +9,6 @@ use Rattle.tap_name.specs.Settings.{SettingsValue}
 use Rattle.tap_name.proofs.Membership.{has_name-Decides, has_name-no}
 use Rattle.tap_scenario.specs.declared.step.Step.{Step}
 use Rattle.tap_scenario.specs.declared.step.Step.TheVariants.{Join, Depart, Publish, Withdraw, Find, Abandon, Cast}
-use Rattle.tap_scenario.specs.Step.{IsStep}
 use Rattle.tap_wire.specs.declared.frame.Frame.{Frame}
 use Rattle.tap_log.specs.declared.record.Record.{Record}
 use Rattle.tap_log.specs.declared.record.Record.TheVariants.{Step as StepRecord, Taken}
@@ -29,6 +28,7 @@ use Rattle.tap_safety.specs.Move.{MayAct, MayArrive, Move, may_move, may_start}
 use Rattle.tap_safety.specs.Move.Move.{Begins, Delivers}
 use Rattle.tap_safety.specs.System.{System, AmongFrames, IsCoreNode}
 use Rattle.tap_safety.proofs.LinkKeeps.{status_seen}
+use Rattle.tap_course.specs.Named.{HasNames, HaveNames}
 use Rattle.tap_course.specs.Beginning.{Beginning}
 use Rattle.tap_course.specs.Course.{IsCourse, MayFollow, move_of_group, system_of}
 use Rattle.tap_course.specs.Group.{start_at}
@@ -40,7 +40,7 @@ use Rattle.tap_course.proofs.Nodes.{asked_is_present}
 use Rattle.tap_course.proofs.Within.{step_kind}
 use Rattle.tap_ranges.specs.Range.{HasNotMetNext}
 use Rattle.tap_ranges.proofs.Courses.{numbers_in_range_holds}
-use Rattle.tap_safe_course.specs.Moves.{AreStepsOf, GroupMayMove}
+use Rattle.tap_safe_course.specs.Moves.{GroupMayMove}
 use Rattle.tap_safe_course.proofs.Accepted.{asked_is_core, departs_at_rest, gives_up_joining, gives_up_once, has_room, joins_anew, nobody_departs, others_stay}
 use Rattle.tap_safe_course.proofs.Groups.{IsTold, is_told}
 use Rattle.tap_safe_course.proofs.There.{core_there, joining_there, no_leaver, no_node}
@@ -141,9 +141,9 @@ module _ (b : Beginning) (log : List Record) (course : IsCourse b log) (going : 
 
     -- a join: the name is new, one more has room, and the node asked is core
     joins_by : (x via : List ℕ) → step ≡ Join x via → asked_node step ≡ Some via → join_name step ≡ Some x → suits_joining step ≡ false
-        → suits_departure step ≡ false → IsStep p false step → may_start p s x (Joins via)
+        → suits_departure step ≡ false → HasNames p step → may_start p s x (Joins via)
     joins_by x via is asked joins joining departure names =
-        let named : IsStep p false (Join x via) = subst (IsStep p false) is names in
+        let named : HasNames p (Join x via) = subst (HasNames p) is names in
         record {
           name = named.0;
           fresh = no_node (s.node x) (sym (nodes.ever x) ∙ joins_anew log step accepted x joins);
@@ -187,9 +187,9 @@ module _ (b : Beginning) (log : List Record) (course : IsCourse b log) (going : 
 
     -- a cast: of a word, under a number that its node hasn't met
     casts_by : (x prefix word : List ℕ) → step ≡ Cast word prefix x → asked_node step ≡ Some x → suits_joining step ≡ false
-        → suits_departure step ≡ false → IsStep p false step → may_start p s x (Casts (next_cast log) (length prefix) word)
+        → suits_departure step ≡ false → HasNames p step → may_start p s x (Casts (next_cast log) (length prefix) word)
     casts_by x prefix word is asked joining departure names =
-        let named : IsStep p false (Cast word prefix x) = subst (IsStep p false) is names in
+        let named : HasNames p (Cast word prefix x) = subst (HasNames p) is names in
         let acts = acts_for x asked joining departure in
         record {
           acts = acts;
@@ -205,7 +205,7 @@ module _ (b : Beginning) (log : List Record) (course : IsCourse b log) (going : 
       subst (λ (both : Option (List ℕ × Start)). IfSome both (λ one. may_start p s one.0 one.1)) at may
 
   -- each start that is accepted is possible
-  may_begin : (step : Step) (name : List ℕ) (start : Start) → first_refusal log step ≡ None → IsStep p false step
+  may_begin : (step : Step) (name : List ℕ) (start : Start) → first_refusal log step ≡ None → HasNames p step
       → start_at log step ≡ Some (name, start) → may_start p s name start
   unfolding actor_of start_of_step asked_node join_name depart_name abandon_name suits_joining suits_departure
   may_begin (Join x via) name start accepted names at =
@@ -243,7 +243,7 @@ module _ (b : Beginning) (log : List Record) (course : IsCourse b log) (going : 
   same_move one other same may = subst (λ (move : Option Move). IfSome move (may_move p s)) same may
 
   -- the move of each group is possible
-  group_moves : (group : List Record) (move : Move) → MayFollow p log s group → AreStepsOf p group → move_of_group log group ≡ Some move
+  group_moves : (group : List Record) (move : Move) → MayFollow p log s group → HaveNames p group → move_of_group log group ≡ Some move
       → may_move p s move
   unfolding MayFollow
   group_moves (StepRecord index step ∷ items) move may steps is =
@@ -252,7 +252,7 @@ module _ (b : Beginning) (log : List Record) (course : IsCourse b log) (going : 
         | inr starting ↦
             same_move (Begins starting.name starting.start) move (sym (starting_moves p log s index step items starting) ∙ is)
             (may_begin step starting.name starting.start starting.accepted
-            (All-head (IsStep p false) step (begun_steps items) steps) starting.at)
+            (All-head (HasNames p) step (begun_steps items) steps) starting.at)
       ]
   group_moves (Taken number ∷ items) move may steps is =
       same_move (Delivers number) move (sym (taken_moves log number items) ∙ is) (may_take number may.waits)

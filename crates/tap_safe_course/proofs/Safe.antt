@@ -4,20 +4,19 @@ use Rattle.std.specs.Prelude.{All, drop}
 use Rattle.std.proofs.lemmas.List.{take-append-drop}
 use Rattle.std.proofs.lemmas.List.Elements.{All-append, All-cons, All-head, All-nil, All-tail, filter_map-append}
 use Rattle.tap_name.specs.Settings.{SettingsValue}
-use Rattle.tap_scenario.specs.Step.{IsStep}
 use Rattle.tap_log.specs.declared.record.Record.{Record}
 use Rattle.tap_log.specs.Kinds.{step_of}
 use Rattle.tap_log.specs.Log.{begun_steps}
 use Rattle.tap_history.specs.Groups.{ends_log, is_ended}
 use Rattle.tap_history.specs.Moments.{is_moment}
 use Rattle.tap_safety.specs.Move.{Move}
+use Rattle.tap_course.specs.Named.{HasNames, HaveNames}
 use Rattle.tap_course.specs.Beginning.{Beginning, IsWithinLimits, begin_record}
 use Rattle.tap_course.specs.Course.{Follows, IsCourse, move_of_group, moved_by, system_of}
 use Rattle.tap_course.proofs.Growing.{by_groups, course_grows_holds, grown_system, start_system}
 use Rattle.tap_invariant.specs.Sound.{Sound}
 use Rattle.tap_invariant.proofs.Members.{sound_at_rest}
 use Rattle.tap_invariant.proofs.Moves.{move_keeps}
-use Rattle.tap_safe_course.specs.Moves.{AreStepsOf}
 use Rattle.tap_safe_course.specs.Safe.{IsRun, RunsAreSound, RunsGrow}
 use Rattle.tap_safe_course.proofs.Possible.{group_may_move}
 
@@ -34,28 +33,28 @@ module _ {X : Type 0} (P : X → Type 0) where
   All-after [] ys all = all
   All-after (x ∷ xs) ys all = All-after xs ys (All-tail P x (xs ++ ys) all)
 
-module _ (p : SettingsValue) (log more : List Record) (steps : AreStepsOf p (log ++ more)) where
+module _ (p : SettingsValue) (log more : List Record) (steps : HaveNames p (log ++ more)) where
   -- the steps of a log and of what follows
-  both_steps : All (IsStep p false) (begun_steps log ++ begun_steps more)
-  both_steps = subst (All (IsStep p false)) (filter_map-append step_of log more) steps
+  both_steps : All (HasNames p) (begun_steps log ++ begun_steps more)
+  both_steps = subst (All (HasNames p)) (filter_map-append step_of log more) steps
 
   -- so those of the log are of the settings
-  pub steps_before : AreStepsOf p log
-  steps_before = All-before (IsStep p false) (begun_steps log) (begun_steps more) both_steps
+  pub steps_before : HaveNames p log
+  steps_before = All-before (HasNames p) (begun_steps log) (begun_steps more) both_steps
 
   -- and those of what follows
-  pub steps_after : AreStepsOf p more
-  steps_after = All-after (IsStep p false) (begun_steps log) (begun_steps more) both_steps
+  pub steps_after : HaveNames p more
+  steps_after = All-after (HasNames p) (begun_steps log) (begun_steps more) both_steps
 
 -- ---- one more group
 
 module _ (b : Beginning) where
   -- the system of a log is sound, if the log's steps are of the settings
   abbrev IsSoundIf : List Record → Type 0
-  IsSoundIf log = AreStepsOf b.settings log → Sound b.settings (system_of log)
+  IsSoundIf log = HaveNames b.settings log → Sound b.settings (system_of log)
 
   module _ (log group : List Record) (course : IsCourse b log) (going : is_ended log ≡ false) (follows : Follows b log group)
-      (steps : AreStepsOf b.settings group) (sound : Sound b.settings (system_of log)) where
+      (steps : HaveNames b.settings group) (sound : Sound b.settings (system_of log)) where
     -- the move of the group keeps the whole invariant, if it makes one
     moved_sound : (move : Option Move) → move_of_group log group ≡ move → Sound b.settings (moved_by b.settings (system_of log) move)
     moved_sound None is = sound
@@ -91,18 +90,18 @@ pub run_begins : (b : Beginning) → IsWithinLimits b → IsRun b (begin_record 
 run_begins b limits = record {
   course = course_grows_holds.starts b limits;
   going = begins_going b;
-  steps = All-nil (IsStep b.settings false);
+  steps = All-nil (HasNames b.settings);
 }
 
 -- and so is a run with one more group
-pub run_more : (b : Beginning) (log group : List Record) → IsRun b log → Follows b log group → AreStepsOf b.settings group
+pub run_more : (b : Beginning) (log group : List Record) → IsRun b log → Follows b log group → HaveNames b.settings group
     → IsRun b (log ++ group)
 run_more b log group run follows steps = record {
   course = course_grows_holds.course b log group run.course run.going follows;
   going = course_grows_holds.going b log group run.course run.going follows;
   steps =
-      subst (All (IsStep b.settings false)) (sym (filter_map-append step_of log group))
-      (All-append (IsStep b.settings false) (begun_steps log) (begun_steps group) run.steps steps);
+      subst (All (HasNames b.settings)) (sym (filter_map-append step_of log group))
+      (All-append (HasNames b.settings) (begun_steps log) (begun_steps group) run.steps steps);
 }
 
 -- and a run at one of its moments
@@ -112,7 +111,7 @@ run_at_moment b log m run is =
     record {
       course = at.0;
       going = at.1;
-      steps = steps_before b.settings (take m log) (drop m log) (subst (AreStepsOf b.settings) (sym (take-append-drop m log)) run.steps);
+      steps = steps_before b.settings (take m log) (drop m log) (subst (HaveNames b.settings) (sym (take-append-drop m log)) run.steps);
     }
 
 pub runs_grow : RunsGrow
