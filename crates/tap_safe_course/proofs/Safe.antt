@@ -49,7 +49,7 @@ module _ (p : SettingsValue) (log more : List Record) (steps : HaveNames p (log 
 -- ---- one more group
 
 module _ (b : Beginning) where
-  -- the system of a log is sound, if the log's steps are of the settings
+  -- the system of a log is sound, if the log's steps have names of the settings
   abbrev IsSoundIf : List Record → Type 0
   IsSoundIf log = HaveNames b.settings log → Sound b.settings (system_of log)
 

@@ -10,13 +10,13 @@ use Rattle.tap_course.specs.Named.{HaveNames}
 use Rattle.tap_course.specs.Course.{Follows, IsCourse, system_of}
 use Rattle.tap_invariant.specs.Sound.{Sound}
 
--- a run, as far as its log has come: a course that hasn't ended, whose steps are of the settings
+-- a run, as far as its log has come: a course that hasn't ended, whose steps have names of the settings
 pub record IsRun (b : Beginning) (log : List Record) : Type 0 where
   pub course : IsCourse b log
   pub going : is_ended log ≡ false
   pub steps : HaveNames b.settings log
 
--- A beginning within the limits is a run. With one more group that may follow, whose steps are of the settings, it is one again, and at
+-- A beginning within the limits is a run. With one more group that may follow, whose steps have names of the settings, it is one again, and at
 -- each of its moments it is one.
 pub record RunsGrow : Type 0 where
   pub begins : (b : Beginning) → IsWithinLimits b → IsRun b (begin_record b ∷ [])

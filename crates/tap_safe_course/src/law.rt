@@ -17,7 +17,7 @@ pub fn group_moves_law()
     ensures { GroupMayMove }
 {}
 
-/// A beginning within the limits is a run. With one more group that may follow, whose steps are of the settings, it is one again, and at
+/// A beginning within the limits is a run. With one more group that may follow, whose steps have names of the settings, it is one again, and at
 /// each of its moments it is one.
 ///
 /// It does nothing: its contract is the law.

@@ -1,0 +1,5 @@
+use Rattle.tap_readable.proofs.Courses.{courses_are_readable}
+use Rattle.tap_readable.proofs.law.readable_law.Goals as goal
+
+pub returns : goal.returns
+returns c = courses_are_readable
