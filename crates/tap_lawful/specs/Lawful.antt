@@ -2,7 +2,7 @@
 --
 -- Rule: docs/FORMATS.md, "What comes next" and "The ways a run ends".
 use Rattle.std.specs.Prelude.{◌≡◌, ◌⊎◌, ◌<◌, ◌≤◌, false, List, [], ◌∷◌, ◌++◌, length, None, Some}
-use Rattle.tap_scenario.specs.Scenario.{IsScript, ScenarioValue}
+use Rattle.tap_scenario.specs.Scenario.{EachStepIsPlayed, IsScript, ScenarioValue}
 use Rattle.tap_log.specs.declared.record.Record.{Record}
 use Rattle.tap_log.specs.declared.record.Record.TheVariants.{Step as StepRecord, Spent, Finished}
 use Rattle.tap_log.specs.Counts.{sent_count}
@@ -55,8 +55,9 @@ pub record IsWholeLogOf (s : ScenarioValue) (log : List Record) : Type 0 where
   pub is_played : IsPlayed s played
   pub over : IsOver s played log
 
--- the log is lawful: it is that of a run of some scenario
+-- The log is lawful: it is that of a run of some scenario, which isn't carried and has no root sets.
 pub record IsLawful (log : List Record) : Type 0 where
   pub script : ScenarioValue
   pub valid : IsScript script
+  pub plays : EachStepIsPlayed script
   pub run : IsLogOf script log

@@ -1,14 +1,15 @@
 -- made scenarios are within the limits of scenarios
-use Rattle.std.proofs.Common.{◌≡◌, ℕ, zero, suc, ◌+◌, ◌*◌, ◌^◌, ◌<◌, ◌≤◌, false, min, List, [], ◌∷◌, ◌++◌, map, length, get_or, All, flat_map, ap, sym, subst, ◌∙◌, arith, length-append, mul-suc}
+use Rattle.std.proofs.Common.{◌≡◌, ℕ, zero, suc, ◌+◌, ◌*◌, ◌^◌, ◌<◌, ◌≤◌, false, min, List, [], ◌∷◌, ◌++◌, map, length, get_or, All, flat_map, refl, ap, sym, subst, ◌∙◌, arith, length-append, mul-suc}
+use Rattle.std.specs.Prelude.{IsTrue}
 use Rattle.std.specs.List.{range_with_len}
 use Rattle.std.proofs.lemmas.List.Elements.{All-append, All-cons, All-map, All-nil}
 use Rattle.std.proofs.lemmas.List.FromFn.{length-map-range_with_len, length-range_with_len}
 use Rattle.tap_name.specs.Name.{IsName}
 use Rattle.tap_name.specs.Settings.{SettingsValue}
 use Rattle.tap_scenario.specs.declared.step.Step.{Step}
-use Rattle.tap_scenario.specs.declared.step.Step.TheVariants.{Depart, Settle, SettleMixed}
-use Rattle.tap_scenario.specs.Scenario.{IsScript, ScenarioValue}
-use Rattle.tap_scenario.specs.Step.{IsStep}
+use Rattle.tap_scenario.specs.declared.step.Step.TheVariants.{Depart, Find, Join, Publish, Settle, SettleMixed, Walk}
+use Rattle.tap_scenario.specs.Scenario.{EachStepIsPlayed, IsScript, ScenarioValue}
+use Rattle.tap_scenario.specs.Step.{IsStep, is_played}
 use Rattle.tap_scenario.proofs.Steps.{step_of_text-text}
 use Rattle.tap_make.specs.Laws.{IsWellMade}
 use Rattle.tap_make.specs.Made.{made, made_settings}
@@ -38,59 +39,75 @@ length-parts f most (i ∷ places) few =
     let one = few i in
     omega arith
 
--- ---- each step is one of the settings
-
-abbrev Fits : Step → Type 0
-Fits = IsStep made_settings false
-
-named : (number place : ℕ) → IsName made_settings (marked_name number place)
-named = marked_name-IsName
+-- ---- what holds of each step
 
 few_waves : (joins : ℕ) → joins ≤ 100 → wave_count joins ≤ 25
 few_waves joins few = omega arith
 
+-- what holds of steps of each kind that are made holds of all steps
+module _ (P : Step → Type 0) (settle : P Settle) (mixed : (wave : ℕ) → wave < 100 → P (SettleMixed (wave + 1)))
+    (depart : (n p : ℕ) → P (Depart (marked_name n p)))
+    (publish : (n p m q : ℕ) → P (Publish (marked_name n p) (marked_name m q)))
+    (join : (n p m q : ℕ) → P (Join (marked_name n p) (marked_name m q)))
+    (walk : (n p m q : ℕ) → P (Walk (marked_name n p) (marked_name m q)))
+    (find : (n p m q : ℕ) → P (Find (marked_name n p) (marked_name m q))) where
+  each_publication : (joins seed : ℕ) → All P (made_publications joins seed)
+  each_publication joins seed = All-range P (made_publication joins seed) object_count (λ i. publish _ _ _ _)
+
+  one_settle : All P (Settle ∷ [])
+  one_settle = All-cons P Settle [] settle (All-nil P)
+
+  each_of_wave : (joins seed wave : ℕ) → wave < 100 → All P (made_wave joins seed wave)
+  each_of_wave joins seed wave few =
+      All-append P (map (made_join joins seed wave) (range_with_len 0 (wave_size joins wave)))
+      (SettleMixed (wave + 1) ∷ map (made_walk joins seed wave) (range_with_len 0 wave_walks))
+      (All-range P (made_join joins seed wave) (wave_size joins wave) (λ i. join _ _ _ _))
+      (All-cons P (SettleMixed (wave + 1)) (map (made_walk joins seed wave) (range_with_len 0 wave_walks)) (mixed wave few)
+      (All-range P (made_walk joins seed wave) wave_walks (λ i. walk _ _ _ _)))
+
+  each_of_waves : (joins seed : ℕ) → joins ≤ 100 → All P (made_waves joins seed)
+  each_of_waves joins seed few =
+      All-parts P (made_wave joins seed) 0 (wave_count joins)
+      (λ i within. each_of_wave joins seed i (let most = few_waves joins few in omega arith))
+
+  each_lookup : (joins seed : ℕ) → All P (made_lookups joins seed)
+  each_lookup joins seed =
+      All-parts P (λ number. made_lookup joins seed number ∷ Settle ∷ []) 0 lookup_count
+      (λ i within. All-cons P (made_lookup joins seed i) (Settle ∷ []) (find _ _ _ _) one_settle)
+
+  each_departure : (joins seed : ℕ) → All P (made_departures joins seed)
+  each_departure joins seed =
+      All-parts P (λ number. Depart (newcomer seed number) ∷ Settle ∷ []) 0 (min 2 joins)
+      (λ i within. All-cons P (Depart (newcomer seed i)) (Settle ∷ []) (depart _ _) one_settle)
+
+  each_step : (joins seed : ℕ) → joins ≤ 100 → All P (made_steps joins seed)
+  each_step joins seed few =
+      let begun = All-append P (made_publications joins seed) (Settle ∷ made_waves joins seed) (each_publication joins seed)
+      (All-cons P Settle (made_waves joins seed) settle (each_of_waves joins seed few)) in
+      let asked = All-append P (made_publications joins seed ++ Settle ∷ made_waves joins seed) (made_lookups joins seed) begun
+      (each_lookup joins seed) in
+      All-append P (made_publications joins seed ++ Settle ∷ made_waves joins seed ++ made_lookups joins seed)
+      (made_departures joins seed) asked
+      (each_departure joins seed)
+
+-- each step is one of the settings
+named : (number place : ℕ) → IsName made_settings (marked_name number place)
+named = marked_name-IsName
+
 mixed_fits : (wave : ℕ) → wave < 100 → wave + 1 < 2 ^ 64
 mixed_fits wave few = let least : 101 ≤ 2 ^ 64 = omega arith in omega arith
 
-publications_fit : (joins seed : ℕ) → All Fits (made_publications joins seed)
-publications_fit joins seed =
-    All-range Fits (made_publication joins seed) object_count (λ i. (named _ _, named _ _))
-
-settle_fits : All Fits (Settle ∷ [])
-settle_fits = All-cons Fits Settle [] tt (All-nil Fits)
-
-wave_fits : (joins seed wave : ℕ) → wave < 100 → All Fits (made_wave joins seed wave)
-wave_fits joins seed wave few =
-    All-append Fits (map (made_join joins seed wave) (range_with_len 0 (wave_size joins wave)))
-    (SettleMixed (wave + 1) ∷ map (made_walk joins seed wave) (range_with_len 0 wave_walks))
-    (All-range Fits (made_join joins seed wave) (wave_size joins wave) (λ i. (named _ _, named _ _)))
-    (All-cons Fits (SettleMixed (wave + 1)) (map (made_walk joins seed wave) (range_with_len 0 wave_walks)) (mixed_fits wave few)
-    (All-range Fits (made_walk joins seed wave) wave_walks (λ i. (named _ _, named _ _))))
-
-waves_fit : (joins seed : ℕ) → joins ≤ 100 → All Fits (made_waves joins seed)
-waves_fit joins seed few =
-    All-parts Fits (made_wave joins seed) 0 (wave_count joins)
-    (λ i within. wave_fits joins seed i (let most = few_waves joins few in omega arith))
-
-lookups_fit : (joins seed : ℕ) → All Fits (made_lookups joins seed)
-lookups_fit joins seed =
-    All-parts Fits (λ number. made_lookup joins seed number ∷ Settle ∷ []) 0 lookup_count
-    (λ i within. All-cons Fits (made_lookup joins seed i) (Settle ∷ []) (named _ _, named _ _) settle_fits)
-
-departures_fit : (joins seed : ℕ) → All Fits (made_departures joins seed)
-departures_fit joins seed =
-    All-parts Fits (λ number. Depart (newcomer seed number) ∷ Settle ∷ []) 0 (min 2 joins)
-    (λ i within. All-cons Fits (Depart (newcomer seed i)) (Settle ∷ []) (named _ _) settle_fits)
-
-steps_fit : (joins seed : ℕ) → joins ≤ 100 → All Fits (made_steps joins seed)
+steps_fit : (joins seed : ℕ) → joins ≤ 100 → All (IsStep made_settings false) (made_steps joins seed)
 steps_fit joins seed few =
-    let begun = All-append Fits (made_publications joins seed) (Settle ∷ made_waves joins seed) (publications_fit joins seed)
-    (All-cons Fits Settle (made_waves joins seed) tt (waves_fit joins seed few)) in
-    let asked = All-append Fits (made_publications joins seed ++ Settle ∷ made_waves joins seed) (made_lookups joins seed) begun
-    (lookups_fit joins seed) in
-    All-append Fits (made_publications joins seed ++ Settle ∷ made_waves joins seed ++ made_lookups joins seed)
-    (made_departures joins seed) asked
-    (departures_fit joins seed)
+    each_step (IsStep made_settings false) tt mixed_fits (λ n p. named n p) (λ n p m q. (named n p, named m q))
+    (λ n p m q. (named n p, named m q)) (λ n p m q. (named n p, named m q)) (λ n p m q. (named n p, named m q)) joins seed few
+
+-- and one of a kind that a run takes
+steps_played : (joins seed : ℕ) → joins ≤ 100 → EachStepIsPlayed (made joins seed)
+unfolding is_played
+steps_played joins seed few =
+    each_step (λ step. IsTrue (is_played step)) refl (λ wave within. refl) (λ n p. refl) (λ n p m q. refl) (λ n p m q. refl)
+    (λ n p m q. refl) (λ n p m q. refl) joins seed few
 
 -- ---- there are few steps
 
@@ -160,6 +177,7 @@ made_well joins seed few = record {
   script = made_script joins seed few;
   read_back = λ k d within. step_of_text-text made_settings false (get_or (made_steps joins seed) k d) (omega arith)
       (steps_fit joins seed few k d within);
+  played = steps_played joins seed few;
   nodes = distinct_nodes joins seed few;
   objects = distinct_objects joins seed;
 }

@@ -13,10 +13,10 @@ use Rattle.tap_scenario.specs.declared.fault.Key.TheVariants.{Base, Digits, Widt
 use Rattle.tap_scenario.specs.declared.fault.Fault.{Fault}
 use Rattle.tap_scenario.specs.declared.fault.Fault.TheVariants.{BadValue, BadStep}
 use Rattle.tap_scenario.specs.declared.step.Step.{Step}
-use Rattle.tap_scenario.specs.Document.{read_at, settings_of_table, default_frames, frames_of_table, members_of_table, if_runs, numbered_step, steps_from, steps_of_table}
+use Rattle.tap_scenario.specs.Document.{read_at, settings_of_table, default_frames, frames_of_table, members_of_table, if_played, numbered_step, steps_from, steps_of_table}
 use Rattle.tap_scenario.specs.Key.{value_at}
-use Rattle.tap_scenario.specs.Scenario.{EachStepRuns, IsScript, most_frames, most_members, most_steps}
-use Rattle.tap_scenario.specs.Step.{IsStep, step_of_text, can_run}
+use Rattle.tap_scenario.specs.Scenario.{EachStepIsPlayed, IsScript, most_frames, most_members, most_steps}
+use Rattle.tap_scenario.specs.Step.{IsStep, step_of_text, is_played}
 use Rattle.tap_scenario.specs.Fault.{◌>>=◌, cons_result}
 use Rattle.tap_scenario.specs.Value.{whole_number, array_of_strings, strings_up_to, cons_both, names_of_texts, distinct_names, members_of_texts}
 use Rattle.tap_name.proofs.Membership.{are_distinct-Decides}
@@ -141,11 +141,11 @@ cons_result-Ok (Ok x) (Ok xs) all e = (x, xs, refl, refl, cc)
 -- a step of these settings that a run takes
 record IsRunning (p : SettingsValue) (step : Step) : Type 0 where
   is_step : IsStep p false step
-  runs : IsTrue (can_run step)
+  runs : IsTrue (is_played step)
 
-if_runs-Some : (read step : Step) → if_runs read ≡ Some step → (read ≡ step) × IsTrue (can_run step)
-if_runs-Some read step e =
-    elim (cases_Bool (can_run read)) [
+if_played-Some : (read step : Step) → if_played read ≡ Some step → (read ≡ step) × IsTrue (is_played step)
+if_played-Some read step e =
+    elim (cases_Bool (is_played read)) [
       | inr other ↦ absurd (let none : None ≡ Some step = rw other at e in cc)
       | inl runs ↦ let whole : Some read ≡ Some step = rw runs at e in let same : read ≡ step = cc in (same, rw (← same) runs)
     ]
@@ -153,9 +153,9 @@ if_runs-Some read step e =
 numbered_step-Ok : (p : SettingsValue) (number : ℕ) (text : List ℕ) (step : Step) → p.base ≤ 16 → numbered_step p number text ≡ Ok step
     → IsRunning p step
 numbered_step-Ok p number text step small e =
-    let told = ok_or-Ok (option_and_then if_runs (step_of_text p false text)) (BadStep number) step e in
-    let read = and_then-back if_runs (step_of_text p false text) step told in
-    let runs = if_runs-Some read.0 step read.2 in
+    let told = ok_or-Ok (option_and_then if_played (step_of_text p false text)) (BadStep number) step e in
+    let read = and_then-back if_played (step_of_text p false text) step told in
+    let runs = if_played-Some read.0 step read.2 in
     record { is_step = (step_of_text-back p false text step small (read.1 ∙ ap Some runs.0)).1; runs = runs.1 }
 
 steps_from-limits : (p : SettingsValue) (number : ℕ) (texts : List (List ℕ)) (steps : List Step) → p.base ≤ 16
@@ -211,10 +211,10 @@ IsScript-parts t p frames members steps is_p is_frames is_members is_steps =
     }
 
 -- a run takes each of the steps that a table gives
-pub EachStepRuns-parts : (t : Table) (p : SettingsValue) (frames : ℕ) (members : List (List ℕ)) (steps : List Step)
+pub EachStepIsPlayed-parts : (t : Table) (p : SettingsValue) (frames : ℕ) (members : List (List ℕ)) (steps : List Step)
     → settings_of_table t ≡ Ok p → steps_of_table p t ≡ Ok steps
-    → EachStepRuns (record { settings = p; frames = frames; members = members; steps = steps })
-EachStepRuns-parts t p frames members steps is_p is_steps =
+    → EachStepIsPlayed (record { settings = p; frames = frames; members = members; steps = steps })
+EachStepIsPlayed-parts t p frames members steps is_p is_steps =
     let settings = settings_of_table-limits t p is_p in
     let read = steps_of_table-limits p t steps settings.base_to is_steps in
     λ k d h. (read.1 k d h).runs

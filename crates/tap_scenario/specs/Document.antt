@@ -11,7 +11,7 @@ use Rattle.tap_scenario.specs.declared.fault.Fault.TheVariants.{NotUtf8, NotToml
 use Rattle.tap_scenario.specs.declared.step.Step.{Step}
 use Rattle.tap_scenario.specs.Key.{value_at, wrong_key}
 use Rattle.tap_scenario.specs.Scenario.{ScenarioValue, most_frames, most_steps}
-use Rattle.tap_scenario.specs.Step.{step_of_text, can_run}
+use Rattle.tap_scenario.specs.Step.{step_of_text, is_played}
 use Rattle.tap_scenario.specs.Fault.{◌>>=◌, cons_result}
 use Rattle.tap_scenario.specs.Value.{whole_number, array_of_strings, strings_up_to, members_of_texts}
 
@@ -41,12 +41,12 @@ abbrev pub members_of_table : SettingsValue → Table → Result (List (List ℕ
 members_of_table p table = read_at Members array_of_strings table >>= (λ texts. ok_or (members_of_texts p texts) (BadValue Members))
 
 -- a step that a run takes
-abbrev pub if_runs : Step → Option Step
-if_runs step = if can_run step then Some step else None
+abbrev pub if_played : Step → Option Step
+if_played step = if is_played step then Some step else None
 
 -- the step of the string of this number
 abbrev pub numbered_step : SettingsValue → ℕ → List ℕ → Result Step Fault
-numbered_step p number text = ok_or (option_and_then if_runs (step_of_text p false text)) (BadStep number)
+numbered_step p number text = ok_or (option_and_then if_played (step_of_text p false text)) (BadStep number)
 
 -- the steps so far and this one, or its fault
 abbrev pub with_step : List Step → Result Step Fault → Result (List Step) Fault

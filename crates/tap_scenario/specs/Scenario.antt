@@ -4,7 +4,7 @@ use Rattle.tap_name.specs.Settings.{SettingsValue, AreWithinLimits}
 use Rattle.tap_name.specs.Name.{IsName}
 use Rattle.tap_name.specs.Names.{AreDistinct}
 use Rattle.tap_scenario.specs.declared.step.Step.{Step}
-use Rattle.tap_scenario.specs.Step.{IsStep, can_run}
+use Rattle.tap_scenario.specs.Step.{IsStep, is_played}
 
 -- the settings, how many frames may be sent, the members at the start, and the steps
 pub record ScenarioValue : Type 0 where
@@ -38,5 +38,5 @@ pub record IsScript (s : ScenarioValue) : Type 0 where
   pub steps : All (IsStep s.settings false) s.steps
 
 -- a run takes each of the steps
-abbrev pub EachStepRuns : ScenarioValue → Type 0
-EachStepRuns s = All (λ step. IsTrue (can_run step)) s.steps
+abbrev pub EachStepIsPlayed : ScenarioValue → Type 0
+EachStepIsPlayed s = All (λ step. IsTrue (is_played step)) s.steps

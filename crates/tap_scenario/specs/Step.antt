@@ -194,9 +194,10 @@ step_of_words p carrier (word ∷ others) =
 abbrev pub step_of_text : SettingsValue → Bool → List ℕ → Option Step
 step_of_text p carrier text = step_of_words p carrier (words text)
 
--- the kinds of step that a run takes
-abbrev pub can_run : Step → Bool
-can_run (Walk object asker) = true
-can_run (Root object) = true
-can_run (Table name) = true
-can_run _ = false
+-- a run takes each kind of step but those of a carrier and root sets
+unfoldable pub is_played : Step → Bool
+is_played Tick = false
+is_played (Lose place) = false
+is_played (Repeat place) = false
+is_played (RootSet object asker) = false
+is_played other = true

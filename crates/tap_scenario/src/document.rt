@@ -3,7 +3,7 @@ ghost use Rattle.std.specs.Option.{ok_or};
 ghost use Rattle.toml.specs.View.{table_view, items_view};
 ghost use Rattle.tap_scenario.specs.Document.{read_at, settings_of_table, frames_of_table, members_of_table, numbered_step, with_step, steps_from, steps_of_table, script_of, scenario_of_table, scenario_of};
 ghost use Rattle.tap_scenario.specs.Key.{missing_key, is_known, has_known_keys, wrong_key};
-ghost use Rattle.tap_scenario.specs.Scenario.{EachStepRuns, IsScript};
+ghost use Rattle.tap_scenario.specs.Scenario.{EachStepIsPlayed, IsScript};
 ghost use Rattle.tap_scenario.specs.ReadRefusal.{AnswersUnlessMemory, TellsFault};
 ghost use Rattle.tap_scenario.specs.Value.{whole_number, array_of_strings, strings_up_to, are_strings, names_of_texts, texts_of};
 
@@ -192,7 +192,7 @@ fn add_step(settings: &Settings, steps: &mut Vec<Step>, text: &[u8]) -> Result<(
     ensures len { OnOk result (length steps.new.items ≡ length steps.old.items + 1) }
 {
     match read_step(settings, false, text) {
-        Some(step) if step.can_run() => {
+        Some(step) if step.is_played() => {
             steps.push(step)?;
             Ok(())
         }
@@ -218,7 +218,7 @@ fn read_steps(alloc: Global, settings: &Settings, table: &Table) -> Result<List<
 fn read_table(alloc: Global, table: &Table) -> Result<Scenario, ReadRefusal>
     ensures value { AnswersUnlessMemory (scenario_of_table (table_view table.now)) result }
     ensures valid { IfOk result IsScript }
-    ensures runs { IfOk result EachStepRuns }
+    ensures runs { IfOk result EachStepIsPlayed }
 {
     if let Some(key) = wrong_key(table) {
         return Err(ReadRefusal::Fault(Fault::BadKey(key)));
@@ -242,7 +242,7 @@ fn read_table(alloc: Global, table: &Table) -> Result<Scenario, ReadRefusal>
 pub fn read(alloc: Global, bytes: &[u8]) -> Result<Scenario, ReadRefusal>
     ensures value { AnswersUnlessMemory (scenario_of bytes.now) result }
     ensures valid { IfOk result IsScript }
-    ensures runs { IfOk result EachStepRuns }
+    ensures runs { IfOk result EachStepIsPlayed }
 {
     let text = match std::str::from_utf8(bytes) {
         Ok(text) => text,

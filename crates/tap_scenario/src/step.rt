@@ -1,5 +1,5 @@
 ghost use Rattle.std.specs.Prelude.{◌≡◌, ◌↔◌, Some};
-ghost use Rattle.tap_scenario.specs.Step.{IsStep, settle_of_words, garble_of_words, cast_of_words, step_of_kind, step_of_words, step_of_text, text_of_step, can_run};
+ghost use Rattle.tap_scenario.specs.Step.{IsStep, settle_of_words, garble_of_words, cast_of_words, step_of_kind, step_of_words, step_of_text, text_of_step, is_played};
 
 use crate::cast::{Prefix, Word};
 use crate::kind::{FROM, Kind, MIXED, NEWEST, TO};
@@ -135,15 +135,17 @@ pub enum Step {
 }
 
 impl Step {
-    /// Whether a run takes steps of this kind: a walk, a root or a table.
+    /// Whether a run takes steps of this kind: all but those of a carrier, which are ticks, losses and repeated packets, and
+    /// root sets.
     ///
     /// Rule: docs/FORMATS.md, "The scenario".
-    pub fn can_run(&self) -> bool
-        ensures { result ≡ can_run self.now }
+    #[tactic(auto, unfolding(crate::specs::Step::is_played))]
+    pub fn is_played(&self) -> bool
+        ensures { result ≡ is_played self.now }
     {
         match self {
-            Step::Walk { .. } | Step::Root { .. } | Step::Table { .. } => true,
-            _ => false,
+            Step::Tick | Step::Lose { .. } | Step::Repeat { .. } | Step::RootSet { .. } => false,
+            _ => true,
         }
     }
 }

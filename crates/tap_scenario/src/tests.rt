@@ -142,7 +142,7 @@ const REFUSED: [(&str, &str, Fault); 40] = [
     (
         "steps",
         "steps = [\"root 000\", \"settle\", \"\"]\n",
-        Fault::BadStep(2),
+        Fault::BadStep(3),
     ),
     (
         "steps",
@@ -151,8 +151,8 @@ const REFUSED: [(&str, &str, Fault); 40] = [
     ),
     (
         "steps",
-        "steps = [\"table 000\", \"join 123 via 000\"]\n",
-        Fault::BadStep(2),
+        "steps = [\"table 000\", \"join 123 via 000\", \"tick\"]\n",
+        Fault::BadStep(3),
     ),
 ];
 
@@ -470,11 +470,14 @@ fn reads_packets(rt: HostRuntime) -> Result<(), Fail> {
 #[test]
 fn tells_what_runs(rt: HostRuntime) -> Result<(), Fail> {
     let (_, object, asker) = named()?;
-    assert_eq!(rt; Step::Walk { object, asker }.can_run(), true);
-    assert_eq!(rt; Step::Root { object }.can_run(), true);
-    assert_eq!(rt; Step::Table { name: asker }.can_run(), true);
-    assert_eq!(rt; Step::Find { object, asker }.can_run(), false);
-    assert_eq!(rt; Step::Settle.can_run(), false);
+    assert_eq!(rt; Step::Walk { object, asker }.is_played(), true);
+    assert_eq!(rt; Step::Find { object, asker }.is_played(), true);
+    assert_eq!(rt; Step::SettleMixed { seed: 1 }.is_played(), true);
+    assert_eq!(rt; Step::Cut { place: 0, bytes: 3 }.is_played(), true);
+    assert_eq!(rt; Step::Tick.is_played(), false);
+    assert_eq!(rt; Step::Lose { place: 0 }.is_played(), false);
+    assert_eq!(rt; Step::Repeat { place: 0 }.is_played(), false);
+    assert_eq!(rt; Step::RootSet { object, asker }.is_played(), false);
     Ok(())
 }
 
@@ -495,6 +498,20 @@ fn reads_root_sets(rt: HostRuntime) -> Result<(), Fail> {
     );
     let shorter = Settings::new(16, 39, 2).ok_or("settings")?;
     assert_eq!(rt; read_step(&shorter, false, text), None);
+    Ok(())
+}
+
+// No run takes a root set, so no scenario has one.
+#[test]
+fn refuses_root_sets(rt: HostRuntime) -> Result<(), Fail> {
+    let name = "da39a3ee5e6b4b0d3255bfef95601890afd80709";
+    let text = format!(in rt.alloc();
+        "base = 16\ndigits = 40\nwidth = 2\nmembers = [\"{name}\"]\nsteps = [\"rootset {name} from {name}\"]\n"
+    )?;
+    assert_eq!(rt;
+        counts(rt.alloc(), text.as_str()),
+        Err(ReadRefusal::Fault(Fault::BadStep(1)))
+    );
     Ok(())
 }
 

@@ -1,7 +1,7 @@
 use Rattle.std.proofs.Common.{subst, sym}
 use Rattle.toml.specs.View.{table_view}
-use Rattle.tap_scenario.specs.Scenario.{EachStepRuns}
-use Rattle.tap_scenario.proofs.Scripts.{IsScript-parts, EachStepRuns-parts}
+use Rattle.tap_scenario.specs.Scenario.{EachStepIsPlayed}
+use Rattle.tap_scenario.proofs.Scripts.{IsScript-parts, EachStepIsPlayed-parts}
 use Rattle.tap_scenario.proofs.document.read_table.Goals as goal
 
 pub from_lists-requires : goal.from_lists-requires
@@ -12,6 +12,6 @@ from_lists-requires c =
 
 pub returns-clause-runs : goal.returns-clause-runs
 returns-clause-runs c =
-    subst EachStepRuns (sym c.from_lists.ensures)
-    (EachStepRuns-parts (table_view c.args.table.now) c.in_ok-settings.settings c.in_ok-frames.frames c.in_ok-members.members
+    subst EachStepIsPlayed (sym c.from_lists.ensures)
+    (EachStepIsPlayed-parts (table_view c.args.table.now) c.in_ok-settings.settings c.in_ok-frames.frames c.in_ok-members.members
     c.in_ok-steps.steps (sym c.in_ok-settings.ensures) c.in_ok-steps.ensures)
