@@ -5,3 +5,4 @@ pub mod Status
 pub mod Nodes
 pub mod Departing
 pub mod OneCourse
+pub mod Named

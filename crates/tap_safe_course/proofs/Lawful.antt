@@ -1,13 +1,10 @@
 -- The log of a run of a scenario is a run, as its steps are the scenario's; so what holds of runs holds of it.
-use Rattle.std.proofs.Common.{false, List, All, get_or, sym, subst}
+use Rattle.std.proofs.Common.{List, All, get_or, sym, subst}
 use Rattle.std.proofs.lemmas.List.Elements.{All-take}
 use Rattle.tap_scenario.specs.Scenario.{IsScript, ScenarioValue}
-use Rattle.tap_name.specs.Settings.{SettingsValue}
-use Rattle.tap_scenario.specs.Step.{IsStep}
-use Rattle.tap_scenario.specs.declared.step.Step.{Step}
-use Rattle.tap_scenario.specs.declared.step.Step.TheVariants.{Deliver, Settle, SettleNewest, SettleMixed, Garble, Cut, Tick, Lose, Repeat, RootSet}
 use Rattle.tap_log.specs.declared.record.Record.{Record}
 use Rattle.tap_course.specs.Named.{HasNames}
+use Rattle.tap_course.proofs.Named.{step_has_names}
 use Rattle.tap_lawful.specs.Next.{begun_count, beginning_in}
 use Rattle.tap_lawful.specs.Lawful.{IsPlayed}
 use Rattle.tap_lawful.proofs.Played.{played_course}
@@ -15,20 +12,6 @@ use Rattle.tap_lawful.proofs.Steps.{played_steps}
 use Rattle.tap_safe_course.specs.Safe.{IsRun}
 use Rattle.tap_safe_course.specs.Lawful.{LawfulLogsAreSafe}
 use Rattle.tap_safe_course.proofs.Moments.{all_core_at, no_hole_at, walks_end_at}
-
--- what a step of a scenario starts or observes is named by names of the settings
-step_has_names : (p : SettingsValue) (step : Step) → IsStep p false step → HasNames p step
-step_has_names p (Deliver place) is = tt
-step_has_names p Settle is = tt
-step_has_names p SettleNewest is = tt
-step_has_names p (SettleMixed seed) is = tt
-step_has_names p (Garble place at byte) is = tt
-step_has_names p (Cut place bytes) is = tt
-step_has_names p Tick is = tt
-step_has_names p (Lose place) is = tt
-step_has_names p (Repeat place) is = tt
-step_has_names p (RootSet object asker) is = tt
-step_has_names p other is = is
 
 -- its steps are the scenario's first ones, whose names are names of the settings
 played_run : (s : ScenarioValue) (log : List Record) → IsScript s → IsPlayed s log → IsRun (beginning_in s) log
