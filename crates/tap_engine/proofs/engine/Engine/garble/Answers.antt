@@ -1,0 +1,98 @@
+use Rattle.std.proofs.Common.{◌≡◌, inr, None, [], ◌∷◌, ◌++◌, ap, sym, ◌∙◌, arith}
+use Rattle.std.proofs.lemmas.Result.{err_from_is_err_and}
+use Rattle.tap_log.specs.declared.record.Record.TheVariants.{Step as StepRecord}
+use Rattle.tap_log.specs.Laws.{at_most_one}
+use Rattle.tap_history.specs.Refusals.{first_refusal}
+use Rattle.tap_engine.specs.declared.engine.Engine.{Engine}
+use Rattle.tap_engine.proofs.Leading.{reserved_ready}
+use Rattle.tap_engine.proofs.Named.{damaging_names}
+use Rattle.tap_engine.proofs.Quiet.{alone_fits, copied_group, log_alone, quiet_fits, quiet_refused, short_leads, quiet_whole, same_alone}
+use Rattle.tap_engine.proofs.engine.Engine.garble.Goals as goal
+
+pub returns-in_err-refusal : goal.returns-in_err-refusal
+returns-in_err-refusal c =
+    let made = err_from_is_err_and c.from_residual.result c.from_residual.ensures.1 in
+    rw (made.1, made.2)
+    (short_leads c.args.self.now c.requires.ready c.args.index c.args.step.now c.refusal_of.new.self c.refusal_of.ensures.same
+    c.refusal_of.ensures.log)
+
+pub add_step-requires-clause-can_add : goal.add_step-requires-clause-can_add
+add_step-requires-clause-can_add c =
+    alone_fits c.args.self.now c.requires.ready c.args.index c.args.step.now c.refusal_of.new.self c.refusal_of.ensures.log
+
+pub returns-in-Some : goal.returns-in-Some
+returns-in-Some c =
+    let m = c.args.self.now in
+    let after = c.add_step.new.self in
+    quiet_refused m c.requires.ready c.args.index c.args.step.now c.requires.next (inr c.requires.kind)
+    (damaging_names m.settings c.args.step.now c.requires.kind) after
+    (log_alone m c.refusal_of.new.self after c.refusal_of.ensures.same c.add_step.ensures.same)
+    (omega (arith, c.add_step.ensures.spare, c.in_ok-refusal.ensures.room)) c.in-Some.refusal
+    (sym c.in_ok-refusal.ensures.refusal ∙ c.in-Some.is)
+    (c.add_step.ensures.log ∙ ap (λ l. l ++ StepRecord c.args.index c.args.step.now ∷ []) c.refusal_of.ensures.log)
+
+pub returns-in_err-group : goal.returns-in_err-group
+returns-in_err-group c =
+    let made = err_from_is_err_and c.from_residual-in_err-group.result c.from_residual-in_err-group.ensures.1 in
+    rw (made.1, made.2)
+    (short_leads c.args.self.now c.requires.ready c.args.index c.args.step.now c.refusal_of.new.self c.refusal_of.ensures.same
+    c.refusal_of.ensures.log)
+
+pub garbled-requires-clause-ready : goal.garbled-requires-clause-ready
+garbled-requires-clause-ready c =
+    reserved_ready c.args.self.now c.refusal_of.new.self c.requires.ready c.refusal_of.ensures.same c.refusal_of.ensures.log
+    c.in_ok-refusal.ensures.room
+
+pub garbled-requires-clause-accepted : goal.garbled-requires-clause-accepted
+garbled-requires-clause-accepted c =
+    ap (λ l. first_refusal l c.args.step.now) c.refusal_of.ensures.log ∙ sym c.in_ok-refusal.ensures.refusal ∙ c.in_default.is
+
+pub returns-in_err-garbled : goal.returns-in_err-garbled
+returns-in_err-garbled c =
+    let made = err_from_is_err_and c.from_residual-in_err-garbled.result c.from_residual-in_err-garbled.ensures.1 in
+    rw (made.1, made.2)
+    (short_leads c.args.self.now c.requires.ready c.args.index c.args.step.now c.garbled.new.self (same_alone c.args.self.now c.refusal_of.new.self c.garbled.new.self c.garbled.ensures.same c.refusal_of.ensures.same)
+    (ap (λ (q : Engine). q.ledger.records) c.garbled.ensures.same ∙ c.refusal_of.ensures.log))
+
+pub returns-in_err-add_some : goal.returns-in_err-add_some
+returns-in_err-add_some c =
+    let made = err_from_is_err_and c.from_residual-in_err-add_some.result c.from_residual-in_err-add_some.ensures.1 in
+    rw (made.1, made.2)
+    (short_leads c.args.self.now c.requires.ready c.args.index c.args.step.now c.garbled.new.self (same_alone c.args.self.now c.refusal_of.new.self c.garbled.new.self c.garbled.ensures.same c.refusal_of.ensures.same)
+    (ap (λ (q : Engine). q.ledger.records) c.garbled.ensures.same ∙ c.refusal_of.ensures.log))
+
+pub add_group-requires : goal.add_group-requires
+add_group-requires c =
+    let m = c.args.self.now in
+    let n = c.refusal_of.new.self in
+    let step = c.args.step.now in
+    quiet_fits m c.requires.ready c.args.index step c.garbled.new.self c.add_some.new.group.items (ap (λ (q : Engine). q.ledger.records) c.garbled.ensures.same ∙ c.refusal_of.ensures.log)
+    (inr c.requires.kind)
+    (copied_group m n c.args.index step c.in_ok-garbled.field-0 c.add_some.new.group.items c.refusal_of.ensures.same c.refusal_of.ensures.log
+    c.requires.kind (sym c.in_ok-refusal.ensures.refusal ∙ c.in_default.is) c.in_ok-garbled.ensures.garbled
+    (c.in_ok-add_some.ensures ∙ ap (λ g. g ++ at_most_one c.in_ok-garbled.field-0) c.in_ok-group.ensures))
+
+pub returns-in_err-add_group : goal.returns-in_err-add_group
+returns-in_err-add_group c =
+    let m = c.args.self.now in
+    let made = err_from_is_err_and c.from_residual-in_err-add_group.result c.from_residual-in_err-add_group.ensures.1 in
+    rw (made.1, made.2)
+    (short_leads m c.requires.ready c.args.index c.args.step.now c.add_group.new.self
+    (log_alone m c.garbled.new.self c.add_group.new.self ((same_alone c.args.self.now c.refusal_of.new.self c.garbled.new.self c.garbled.ensures.same c.refusal_of.ensures.same)) c.add_group.ensures.same)
+    (ap (λ (q : Engine). q.ledger.records) c.in_err-add_group.ensures.err ∙ (ap (λ (q : Engine). q.ledger.records) c.garbled.ensures.same ∙ c.refusal_of.ensures.log)))
+
+pub returns : goal.returns
+returns c =
+    let m = c.args.self.now in
+    let n = c.refusal_of.new.self in
+    let after = c.add_group.new.self in
+    let step = c.args.step.now in
+    let accepted : first_refusal m.ledger.records step ≡ None = sym c.in_ok-refusal.ensures.refusal ∙ c.in_default.is in
+    quiet_whole m c.requires.ready c.args.index step c.requires.next (inr c.requires.kind)
+    (damaging_names m.settings c.args.step.now c.requires.kind) after
+    (log_alone m c.garbled.new.self after ((same_alone c.args.self.now c.refusal_of.new.self c.garbled.new.self c.garbled.ensures.same c.refusal_of.ensures.same)) c.in_ok-add_group.ensures.same) c.in_ok-add_group.ensures.room
+    c.add_some.new.group.items accepted
+    (copied_group m n c.args.index step c.in_ok-garbled.field-0 c.add_some.new.group.items c.refusal_of.ensures.same c.refusal_of.ensures.log
+    c.requires.kind accepted c.in_ok-garbled.ensures.garbled
+    (c.in_ok-add_some.ensures ∙ ap (λ g. g ++ at_most_one c.in_ok-garbled.field-0) c.in_ok-group.ensures))
+    (c.in_ok-add_group.ensures.ok ∙ ap (λ l. l ++ c.add_some.new.group.items) ((ap (λ (q : Engine). q.ledger.records) c.garbled.ensures.same ∙ c.refusal_of.ensures.log)))

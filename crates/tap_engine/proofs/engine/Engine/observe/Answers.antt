@@ -1,0 +1,103 @@
+use Rattle.std.proofs.Common.{◌≡◌, inl, false, None, [], ◌∷◌, ◌++◌, ap, sym, subst, ◌∙◌, arith}
+use Rattle.std.proofs.lemmas.Result.{err_from_is_err_and}
+use Rattle.tap_scenario.specs.Step.{IsStep}
+use Rattle.tap_log.specs.declared.record.Record.TheVariants.{Step as StepRecord}
+use Rattle.tap_log.specs.Laws.{at_most_one}
+use Rattle.tap_history.specs.Refusals.{first_refusal}
+use Rattle.tap_engine.specs.declared.engine.Engine.{Engine}
+use Rattle.tap_engine.proofs.Leading.{reserved_ready}
+use Rattle.tap_course.proofs.Named.{step_has_names}
+use Rattle.tap_engine.proofs.Quiet.{alone_fits, seen_group, log_alone, quiet_fits, quiet_refused, short_leads, quiet_whole}
+use Rattle.tap_engine.proofs.engine.Engine.observe.Goals as goal
+
+pub returns-in_err-refusal : goal.returns-in_err-refusal
+returns-in_err-refusal c =
+    let made = err_from_is_err_and c.from_residual.result c.from_residual.ensures.1 in
+    rw (made.1, made.2)
+    (short_leads c.args.self.now c.requires.ready c.args.index c.args.step.now c.refusal_of.new.self c.refusal_of.ensures.same
+    c.refusal_of.ensures.log)
+
+pub add_step-requires-clause-can_add : goal.add_step-requires-clause-can_add
+add_step-requires-clause-can_add c =
+    alone_fits c.args.self.now c.requires.ready c.args.index c.args.step.now c.refusal_of.new.self c.refusal_of.ensures.log
+
+pub returns-in-Some : goal.returns-in-Some
+returns-in-Some c =
+    let m = c.args.self.now in
+    let after = c.add_step.new.self in
+    quiet_refused m c.requires.ready c.args.index c.args.step.now c.requires.next (inl c.requires.kind)
+    (step_has_names m.settings c.args.step.now c.requires.names) after
+    (log_alone m c.refusal_of.new.self after c.refusal_of.ensures.same c.add_step.ensures.same)
+    (omega (arith, c.add_step.ensures.spare, c.in_ok-refusal.ensures.room)) c.in-Some.refusal
+    (sym c.in_ok-refusal.ensures.refusal ∙ c.in-Some.is)
+    (c.add_step.ensures.log ∙ ap (λ l. l ++ StepRecord c.args.index c.args.step.now ∷ []) c.refusal_of.ensures.log)
+
+pub returns-in_err-group : goal.returns-in_err-group
+returns-in_err-group c =
+    let made = err_from_is_err_and c.from_residual-in_err-group.result c.from_residual-in_err-group.ensures.1 in
+    rw (made.1, made.2)
+    (short_leads c.args.self.now c.requires.ready c.args.index c.args.step.now c.refusal_of.new.self c.refusal_of.ensures.same
+    c.refusal_of.ensures.log)
+
+pub observed-requires-clause-ready : goal.observed-requires-clause-ready
+observed-requires-clause-ready c =
+    reserved_ready c.args.self.now c.refusal_of.new.self c.requires.ready c.refusal_of.ensures.same c.refusal_of.ensures.log
+    c.in_ok-refusal.ensures.room
+
+pub observed-requires-clause-accepted : goal.observed-requires-clause-accepted
+observed-requires-clause-accepted c =
+    ap (λ l. first_refusal l c.args.step.now) c.refusal_of.ensures.log ∙ sym c.in_ok-refusal.ensures.refusal ∙ c.in_default.is
+
+pub observed-requires-clause-names : goal.observed-requires-clause-names
+observed-requires-clause-names c =
+    subst (λ p. IsStep p false c.args.step.now) (sym (ap (λ (q : Engine). q.settings) c.refusal_of.ensures.same)) c.requires.names
+
+pub returns-in_err-observed : goal.returns-in_err-observed
+returns-in_err-observed c =
+    let made = err_from_is_err_and c.from_residual-in_err-observed.result c.from_residual-in_err-observed.ensures.1 in
+    rw (made.1, made.2)
+    (short_leads c.args.self.now c.requires.ready c.args.index c.args.step.now c.refusal_of.new.self c.refusal_of.ensures.same
+    c.refusal_of.ensures.log)
+
+pub returns-in_err-add_some : goal.returns-in_err-add_some
+returns-in_err-add_some c =
+    let made = err_from_is_err_and c.from_residual-in_err-add_some.result c.from_residual-in_err-add_some.ensures.1 in
+    rw (made.1, made.2)
+    (short_leads c.args.self.now c.requires.ready c.args.index c.args.step.now c.refusal_of.new.self c.refusal_of.ensures.same
+    c.refusal_of.ensures.log)
+
+pub add_group-requires : goal.add_group-requires
+add_group-requires c =
+    let m = c.args.self.now in
+    let n = c.refusal_of.new.self in
+    let step = c.args.step.now in
+    quiet_fits m c.requires.ready c.args.index step c.refusal_of.new.self c.add_some.new.group.items c.refusal_of.ensures.log
+    (inl c.requires.kind)
+    (seen_group m n c.args.index step c.in_ok-observed.field-0 c.add_some.new.group.items c.refusal_of.ensures.same c.refusal_of.ensures.log
+    c.requires.kind (sym c.in_ok-refusal.ensures.refusal ∙ c.in_default.is) c.in_ok-observed.ensures
+    (c.in_ok-add_some.ensures ∙ ap (λ g. g ++ at_most_one c.in_ok-observed.field-0) c.in_ok-group.ensures))
+
+pub returns-in_err-add_group : goal.returns-in_err-add_group
+returns-in_err-add_group c =
+    let m = c.args.self.now in
+    let made = err_from_is_err_and c.from_residual-in_err-add_group.result c.from_residual-in_err-add_group.ensures.1 in
+    rw (made.1, made.2)
+    (short_leads m c.requires.ready c.args.index c.args.step.now c.add_group.new.self
+    (log_alone m c.refusal_of.new.self c.add_group.new.self (c.refusal_of.ensures.same) c.add_group.ensures.same)
+    (ap (λ (q : Engine). q.ledger.records) c.in_err-add_group.ensures.err ∙ c.refusal_of.ensures.log))
+
+pub returns : goal.returns
+returns c =
+    let m = c.args.self.now in
+    let n = c.refusal_of.new.self in
+    let after = c.add_group.new.self in
+    let step = c.args.step.now in
+    let accepted : first_refusal m.ledger.records step ≡ None = sym c.in_ok-refusal.ensures.refusal ∙ c.in_default.is in
+    quiet_whole m c.requires.ready c.args.index step c.requires.next (inl c.requires.kind)
+    (step_has_names m.settings c.args.step.now c.requires.names) after
+    (log_alone m c.refusal_of.new.self after (c.refusal_of.ensures.same) c.in_ok-add_group.ensures.same) c.in_ok-add_group.ensures.room
+    c.add_some.new.group.items accepted
+    (seen_group m n c.args.index step c.in_ok-observed.field-0 c.add_some.new.group.items c.refusal_of.ensures.same c.refusal_of.ensures.log
+    c.requires.kind accepted c.in_ok-observed.ensures
+    (c.in_ok-add_some.ensures ∙ ap (λ g. g ++ at_most_one c.in_ok-observed.field-0) c.in_ok-group.ensures))
+    (c.in_ok-add_group.ensures.ok ∙ ap (λ l. l ++ c.add_some.new.group.items) (c.refusal_of.ensures.log))

@@ -1,0 +1,59 @@
+-- Which steps each call of a world takes, and what the last records of a log are.
+--
+-- Rule: docs/FORMATS.md, "The course of a run".
+use Rattle.std.specs.Prelude.{ℕ, Bool, true, false, List, Option, None, Some}
+use Rattle.std.specs.List.{filter_map, last_or}
+use Rattle.std.specs.Option.{option_map_or}
+use Rattle.tap_scenario.specs.declared.step.Step.{Step}
+use Rattle.tap_scenario.specs.declared.step.Step.TheVariants.{Walk, Root, Deliver, Table, Pointers, Garble, Cut, Tick, Lose, Repeat, RootSet}
+use Rattle.tap_log.specs.declared.record.Record.{Record}
+use Rattle.tap_log.specs.declared.record.Record.TheVariants.{Step as StepRecord, Finished}
+use Rattle.tap_log.specs.Log.{last_of}
+
+-- the step observes: it changes nothing, and the log has what it sees
+unfoldable pub observes : Step → Bool
+observes (Walk object asker) = true
+observes (Root object) = true
+observes (Table name) = true
+observes (Pointers name) = true
+observes other = false
+
+-- the step offers a damaged copy of a frame to its receiver
+unfoldable pub damages : Step → Bool
+damages (Garble place at byte) = true
+damages (Cut place bytes) = true
+damages other = false
+
+-- a choice of which whoever runs the steps may note a refusal
+unfoldable pub may_be_refused : Step → Bool
+may_be_refused (Deliver place) = true
+may_be_refused Tick = true
+may_be_refused (Lose place) = true
+may_be_refused (Repeat place) = true
+may_be_refused (RootSet object asker) = true
+may_be_refused other = false
+
+-- the index of a step that begins
+unfoldable pub begun_index : Record → Option ℕ
+begun_index (StepRecord index step) = Some index
+begun_index other = None
+
+-- the indices of the steps that have begun, and the last one
+abbrev pub begun_indices : List Record → List ℕ
+begun_indices log = filter_map begun_index log
+
+abbrev pub last_index : List Record → Option ℕ
+last_index log = last_or None (begun_indices log)
+
+-- the greatest index of a step
+abbrev pub most_index : ℕ
+most_index = 1000000
+
+-- all steps were run
+unfoldable pub finishes : Record → Bool
+finishes (Finished steps) = true
+finishes other = false
+
+-- the log ends with its `Finished`
+abbrev pub is_finished : List Record → Bool
+is_finished log = option_map_or finishes (last_of log) false

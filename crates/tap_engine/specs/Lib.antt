@@ -1,0 +1,9 @@
+pub mod Kinds
+pub mod World
+pub mod Outcome
+pub mod WorldLog
+pub mod Unheeded
+pub mod Places
+pub mod Kept
+pub mod Working
+pub mod Laws

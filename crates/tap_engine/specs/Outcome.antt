@@ -1,0 +1,150 @@
+-- What the calls of a world answer, and what its log is then.
+--
+-- Rule: docs/FORMATS.md, "The course of a run" and "The ways a run ends".
+use Rattle.std.specs.Prelude.{◌≡◌, ◌≢◌, ◌<◌, ◌≤◌, ◌⊎◌, ℕ, nat_le, Bool, true, false, if◌then◌else◌, List, [], ◌∷◌, ◌++◌, length, slice_get, Option, None, Some, IfSome, Result, Ok, Err}
+use Rattle.tap_scenario.specs.declared.step.Step.{Step}
+use Rattle.tap_log.specs.declared.record.Record.{Record}
+use Rattle.tap_log.specs.declared.record.Record.TheVariants.{Step as StepRecord, Taken, Refused as RefusedRecord, Spent as SpentRecord, Finished}
+use Rattle.tap_log.specs.declared.record.Refusal.{Refusal}
+use Rattle.tap_log.specs.declared.record.Refusal.TheVariants.{NoSuchFlight}
+use Rattle.tap_log.specs.Counts.{sent_count}
+use Rattle.tap_log.specs.Log.{last_of}
+use Rattle.tap_history.specs.Moments.{outstanding}
+use Rattle.tap_history.specs.Refusals.{first_refusal}
+use Rattle.tap_course.specs.Beginning.{Beginning}
+use Rattle.tap_course.specs.Course.{system_of}
+use Rattle.tap_course.specs.Group.{step_records, taken_records}
+use Rattle.tap_engine.specs.Kinds.{is_finished, last_index, may_be_refused, most_index}
+use Rattle.tap_engine.specs.World.{WorldValue}
+use Rattle.tap_engine.specs.declared.stop.Stop.{Stop}
+use Rattle.tap_engine.specs.declared.stop.Stop.TheVariants.{Refused, Spent, NoMemory, Ended}
+
+-- ---- groups
+
+-- the group that a step adds to a log that begins so: the step, and what the rule of a node and the refusals give
+abbrev pub step_group : Beginning → List Record → ℕ → Step → List Record
+step_group b log index step = StepRecord index step ∷ step_records b.settings log (system_of log) index step
+
+-- the group of the frame of this number that is taken
+abbrev pub taken_group : Beginning → List Record → ℕ → List Record
+taken_group b log number = Taken number ∷ taken_records b.settings log (system_of log) number
+
+-- with this group no more frames are sent in all than may be
+abbrev pub is_within : Beginning → List Record → List Record → Bool
+is_within b log group = nat_le (sent_count (log ++ group)) b.frames
+
+-- ---- outcomes
+
+-- the answer of a call, and what is then seen of the world but for its nodes
+pub record Outcome : Type 0 where
+  pub answer : Result (Unit {0}) Stop
+  pub log : List Record
+  pub refused : Option Refusal
+  pub stopped : Bool
+
+-- the world stays as it was
+abbrev pub stays : WorldValue → Stop → Outcome
+stays w stop = record { answer = Err stop; log = w.log; refused = w.refused; stopped = w.stopped }
+
+-- these records are added
+abbrev pub adds : WorldValue → List Record → Outcome
+adds w items = record { answer = Ok tt; log = w.log ++ items; refused = w.refused; stopped = w.stopped }
+
+-- the step is added, and its refusal isn't noted yet
+abbrev pub refuses : WorldValue → ℕ → Step → Refusal → Outcome
+refuses w index step refusal =
+    record (adds w (StepRecord index step ∷ [])) { answer = Err (Refused refusal); refused = Some refusal }
+
+-- these records are added, and then `Spent`: the world is stopped
+abbrev pub spends : WorldValue → List Record → Outcome
+spends w first = record (adds w (first ++ SpentRecord w.beginning.frames ∷ [])) { answer = Err Spent; stopped = true }
+
+-- the group is added if no more frames are sent in all than may be; else the first of its records that are given, and `Spent`
+abbrev pub adds_within : WorldValue → List Record → List Record → Outcome
+adds_within w first group = if is_within w.beginning w.log group then adds w group else spends w first
+
+-- a world that was stopped does nothing
+abbrev pub unless_stopped : WorldValue → Outcome → Outcome
+unless_stopped w outcome = if w.stopped then stays w Ended else outcome
+
+-- the refusal of an answer, if it is one
+abbrev pub refusal_in : Result (Unit {0}) Stop → Option Refusal
+refusal_in (Ok done) = None
+refusal_in (Err (Refused refusal)) = Some refusal
+refusal_in (Err stop) = None
+
+-- whether a world is stopped by it
+abbrev pub stops : Result (Unit {0}) Stop → Bool
+stops (Ok done) = false
+stops (Err Spent) = true
+stops (Err NoMemory) = true
+stops (Err stop) = false
+
+-- ---- the calls
+
+-- a start, an observation or a damaged copy: refused for the first cause that holds, and else its group is added
+abbrev pub unless_refused : WorldValue → ℕ → Step → Option Refusal → Outcome
+unless_refused w index step (Some refusal) = refuses w index step refusal
+unless_refused w index step None = adds_within w (StepRecord index step ∷ []) (step_group w.beginning w.log index step)
+
+abbrev pub step_outcome : WorldValue → ℕ → Step → Outcome
+step_outcome w index step = unless_stopped w (unless_refused w index step (first_refusal w.log step))
+
+-- the frame of this number is taken; without one the place is refused, with the number of those outstanding
+abbrev pub takes_number : WorldValue → Option ℕ → Outcome
+takes_number w (Some number) = adds_within w [] (taken_group w.beginning w.log number)
+takes_number w None = stays w (Refused (NoSuchFlight (length (outstanding w.log))))
+
+-- the frame at this place of the outstanding ones is taken
+abbrev pub deliver_outcome : WorldValue → ℕ → Outcome
+deliver_outcome w place = unless_stopped w (takes_number w (slice_get (outstanding w.log) place))
+
+-- a choice: the step alone
+abbrev pub mark_outcome : WorldValue → ℕ → Step → Outcome
+mark_outcome w index step = unless_stopped w (adds w (StepRecord index step ∷ []))
+
+-- the refusal of the step with this index: none is left that isn't noted
+abbrev pub note_outcome : WorldValue → ℕ → Refusal → Outcome
+note_outcome w index refusal =
+    unless_stopped w (record (adds w (RefusedRecord index refusal ∷ [])) { refused = None })
+
+-- all steps were run, which were so many
+abbrev pub finish_outcome : WorldValue → ℕ → Outcome
+finish_outcome w steps = unless_stopped w (adds w (Finished steps ∷ []))
+
+-- ---- how a call goes
+
+-- memory was refused: the world had not been stopped, and now is; its log stays as it was
+pub record IsStoppedShort (before after : WorldValue) : Type 0 where
+  pub went_on : before.stopped ≡ false
+  pub stopped : after.stopped ≡ true
+  pub log : after.log ≡ before.log
+  pub refused : after.refused ≡ before.refused
+
+-- The answer and the world afterwards are those of the outcome, unless memory was refused. With what the log begins stays.
+pub record AnswersAs (outcome : Outcome) (before : WorldValue) (given : Result (Unit {0}) Stop) (after : WorldValue) : Type 0 where
+  pub answer : given ≢ Err NoMemory → given ≡ outcome.answer
+  pub log : given ≢ Err NoMemory → after.log ≡ outcome.log
+  pub refused : given ≢ Err NoMemory → after.refused ≡ outcome.refused
+  pub stopped : given ≢ Err NoMemory → after.stopped ≡ outcome.stopped
+  pub memory : given ≡ Err NoMemory → IsStoppedShort before after
+  pub beginning : after.beginning ≡ before.beginning
+
+-- ---- what the calls ask
+
+-- the world may go on: no refusal is left to be noted, and the log doesn't end with `Finished`
+pub record MayGoOn (w : WorldValue) : Type 0 where
+  pub noted : w.refused ≡ None
+  pub unfinished : is_finished w.log ≡ false
+
+-- the index is above that of the last step, and at most 1,000,000
+pub record IsNextIndex (w : WorldValue) (index : ℕ) : Type 0 where
+  pub above : IfSome (last_index w.log) (λ last. last < index)
+  pub most : index ≤ most_index
+
+-- The refusal may be noted: the last record is the step with this index, whose refusal it is; or the step is a choice that may be
+-- refused.
+pub record MayNote (w : WorldValue) (index : ℕ) (refusal : Refusal) : Type 0 where
+  pub step : Step
+  pub last : last_of w.log ≡ Some (StepRecord index step)
+  pub may : (w.refused ≡ Some refusal) ⊎ (may_be_refused step ≡ true)

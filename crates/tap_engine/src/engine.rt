@@ -1,0 +1,110 @@
+ghost use Rattle.std.specs.Prelude.{◌≡◌, ◌≤◌, ◌+◌, ◌-◌, nat_lt, [], ◌∷◌, ◌++◌, length, IfOk, OnOk, OnErr, Err};
+ghost use Rattle.tap_log.specs.Counts.{sent_count};
+ghost use Rattle.tap_history.specs.Refusals.{first_refusal};
+
+use crate::stop::{NoMemory, Stop};
+use std::alloc::Global;
+use tap_ledger::Ledger;
+use tap_log::{Record, Refusal};
+use tap_name::{Name, Settings};
+use tap_node::Turn;
+use tap_overlay::Overlay;
+use tap_scenario::Step;
+
+/// What a world works on. Between its calls the nodes are those that the log has come to; in the midst of one they are ahead of it.
+///
+/// Rule: docs/FORMATS.md, "The course of a run".
+#[derive(Drop)]
+pub struct Engine {
+    /// Of which calls take memory.
+    pub alloc: Global,
+    /// The settings of the run.
+    pub settings: Settings,
+    /// How many frames may be sent in all: 1 to 500,000.
+    pub frames: u32,
+    /// The log, with what it says of the run at hand.
+    pub ledger: Ledger,
+    /// The nodes.
+    pub overlay: Overlay,
+    /// How many frames were taken to no effect: they had no receiver, or were strange to it.
+    pub unheeded: u32,
+}
+
+// A node, by its name, and what it did.
+#[derive(Drop)]
+pub(crate) struct Acted {
+    pub(crate) name: Name,
+    pub(crate) turn: Turn,
+}
+
+impl Engine {
+    ghost use Rattle.tap_ledger.specs.Added.{CanAdd};
+
+    // Why a step is refused, if it is. Room is taken for the step, for its refusal or `Spent`, and for the last record.
+    pub(crate) fn refusal_of(&mut self, step: &Step) -> Result<Option<Refusal>, NoMemory>
+        ensures refusal { IfOk result (λ refusal. refusal ≡ first_refusal self.old.ledger.records step.now) }
+        ensures room { OnOk result (3 ≤ self.new.ledger.spare) }
+        ensures same { self.new ≡ record self.old { ledger = self.new.ledger } }
+        ensures log { self.new.ledger.records ≡ self.old.ledger.records }
+    {
+        self.ledger.reserve(3)?;
+        Ok(self.ledger.refusal(self.alloc, step)?)
+    }
+
+    // Whether with the frames of a turn more are sent in all than may be.
+    pub(crate) fn is_too_many(&self, turn: &Turn) -> bool
+        requires { sent_count self.now.ledger.records ≤ self.now.frames }
+        ensures { result ≡ nat_lt (self.now.frames - sent_count self.now.ledger.records) (length turn.now.sent) }
+    {
+        let left = self.frames - self.ledger.sent();
+        (left as usize) < turn.sent.len()
+    }
+
+    /// Adds a step alone, for which there is room. It takes no memory.
+    ///
+    /// Rule: docs/FORMATS.md, "The course of a run".
+    pub fn add_step(&mut self, index: u32, step: &Step)
+        requires room { 1 ≤ self.old.ledger.spare }
+        requires can_add { CanAdd self.old.ledger.records (Record.Step index step.now ∷ []) }
+        ensures same { self.new ≡ record self.old { ledger = self.new.ledger } }
+        ensures log { self.new.ledger.records ≡ self.old.ledger.records ++ Record.Step index step.now ∷ [] }
+        ensures spare { self.new.ledger.spare + 1 ≡ self.old.ledger.spare }
+    {
+        self.ledger
+            .push_reserved(Record::Step { index, step: *step });
+    }
+
+    // Adds that too many frames would be sent, for which there is room.
+    pub(crate) fn spend(&mut self) -> Result<(), Stop>
+        requires room { 1 ≤ self.old.ledger.spare }
+        requires can_add { CanAdd self.old.ledger.records (Record.Spent self.old.frames ∷ []) }
+        ensures answer { result ≡ Err Stop.Spent }
+        ensures same { self.new ≡ record self.old { ledger = self.new.ledger } }
+        ensures log { self.new.ledger.records ≡ self.old.ledger.records ++ Record.Spent self.old.frames ∷ [] }
+    {
+        self.ledger
+            .push_reserved(Record::Spent { limit: self.frames });
+        Err(Stop::Spent)
+    }
+
+    // Adds a whole group, and keeps room for a refusal and the last record. A refused call changes nothing.
+    pub(crate) fn add_group(&mut self, group: Vec<Record>) -> Result<(), NoMemory>
+        requires { CanAdd self.old.ledger.records group.items }
+        ensures ok { OnOk result (self.new.ledger.records ≡ self.old.ledger.records ++ group.items) }
+        ensures room { OnOk result (2 ≤ self.new.ledger.spare) }
+        ensures same { self.new ≡ record self.old { ledger = self.new.ledger } }
+        ensures err { OnErr result (self.new ≡ self.old) }
+    {
+        self.ledger.add_group(group, 2)?;
+        Ok(())
+    }
+}
+
+// The group of a step, with the step alone.
+pub(crate) fn group_of(alloc: Global, index: u32, step: &Step) -> Result<Vec<Record>, NoMemory>
+    ensures { IfOk result (λ group. group.items ≡ Record.Step index step.now ∷ []) }
+{
+    let mut group = Vec::new(alloc);
+    group.push(Record::Step { index, step: *step })?;
+    Ok(group)
+}

@@ -1,0 +1,95 @@
+ghost use Rattle.std.specs.Prelude.{◌≡◌, true, false, None, IfOk};
+ghost use Rattle.std.specs.Option.{option_map};
+ghost use Rattle.tap_name.specs.Name.{IsName};
+ghost use Rattle.tap_name.specs.Root.{AreNames, root};
+ghost use Rattle.tap_scenario.specs.Step.{IsStep};
+ghost use Rattle.tap_log.specs.declared.record.Record.TheVariants.{RootOf};
+ghost use Rattle.tap_history.specs.Core.{core_of};
+ghost use Rattle.tap_history.specs.Refusals.{first_refusal};
+ghost use Rattle.tap_course.specs.Course.{system_of};
+ghost use Rattle.tap_course.specs.Observed.{observed};
+ghost use Rattle.tap_engine.specs.Kinds.{observes};
+
+use crate::engine::{Engine, group_of};
+use crate::stop::{NoMemory, Stop};
+use tap_log::Record;
+use tap_name::{List, Name};
+use tap_records::{add_some, pointers_record, table_record};
+use tap_scenario::Step;
+use tap_surrogate::{root_of, walk_path};
+
+// The observations.
+impl Engine {
+    ghost use Rattle.tap_engine.specs.Kept.{AreReady, LeadTo, world_value};
+    ghost use Rattle.tap_engine.specs.Outcome.{IsNextIndex, unless_refused};
+
+    /// A step observes: its group is the step, and what it sees. No node changes.
+    ///
+    /// What the step names are names of the settings. Its index is above that of the last step, and 1,000,000 at most. No refusal is
+    /// left to be noted, and the log hasn't its end.
+    ///
+    /// `Refused` comes exactly if the step is refused, with the first refusal whose cause holds: the step is added alone. `NoMemory`
+    /// adds nothing, and the engine takes no further call. No other answer comes.
+    ///
+    /// Rule: docs/FORMATS.md, "The course of a run".
+    pub fn observe(&mut self, index: u32, step: &Step) -> Result<(), Stop>
+        requires ready { AreReady self.old }
+        requires next { IsNextIndex (world_value self.old None false) index }
+        requires kind { observes step.now ≡ true }
+        requires names { IsStep self.old.settings false step.now }
+        ensures { LeadTo (unless_refused (world_value self.old None false) index step.now (first_refusal self.old.ledger.records step.now))
+            self.old result self.new }
+    {
+        if let Some(refusal) = self.refusal_of(step)? {
+            self.add_step(index, step);
+            return Err(Stop::Refused(refusal));
+        }
+        let mut group = group_of(self.alloc, index, step)?;
+        add_some(&mut group, self.observed(step)?)?;
+        self.add_group(group)?;
+        Ok(())
+    }
+
+    // What a step sees that observes, and isn't refused.
+    #[tactic(auto, unfolding(tap_course::specs::Observed::observed))]
+    fn observed(&self, step: &Step) -> Result<Option<Record>, NoMemory>
+        requires ready { AreReady self.now }
+        requires accepted { first_refusal self.now.ledger.records step.now ≡ None }
+        requires names { IsStep self.now.settings false step.now }
+        ensures { IfOk result (λ item. item ≡ observed self.now.settings self.now.ledger.records (system_of self.now.ledger.records) step.now) }
+    {
+        match step {
+            Step::Walk { object, asker } => Ok(Some(Record::Walked {
+                object: *object,
+                path: walk_path(self.alloc, &self.overlay, *asker, *object)?,
+            })),
+            Step::Root { object } => self.root(object),
+            Step::Table { name } => match self.overlay.node(name) {
+                Some(node) => Ok(table_record(self.alloc, *name, node)?),
+                None => Ok(None),
+            },
+            Step::Pointers { name } => match self.overlay.node(name) {
+                Some(node) => Ok(pointers_record(self.alloc, *name, node)?),
+                None => Ok(None),
+            },
+            _ => Ok(None),
+        }
+    }
+
+    // The root of an object over the core nodes, if there are any.
+    fn root(&self, object: &Name) -> Result<Option<Record>, NoMemory>
+        requires core { AreNames self.now.settings (core_of self.now.ledger.records) }
+        requires object { IsName self.now.settings object.now }
+        ensures { IfOk result (λ item. item
+            ≡ option_map (RootOf object.now) (root self.now.settings.base (core_of self.now.ledger.records) object.now)) }
+    {
+        let core = List::from_vec(Vec::from_slice(self.alloc, self.ledger.core())?);
+        match root_of(&core, &self.settings, object) {
+            Some(root) => Ok(Some(Record::RootOf {
+                object: *object,
+                root,
+            })),
+            None => Ok(None),
+        }
+    }
+}

@@ -1,0 +1,278 @@
+ghost use Rattle.std.specs.Prelude.{◌≡◌, ◌≤◌, ◌⊎◌, ◌∷◌, ◌++◌, [], true, false, None, Some, Ok, Err, IfOk, IfSome, IsOk};
+ghost use Rattle.std.specs.Option.{ForSome};
+ghost use Rattle.tap_scenario.specs.Step.{IsStep};
+ghost use Rattle.tap_log.specs.Counts.{sent_count};
+ghost use Rattle.tap_log.specs.Laws.{at_most_one};
+ghost use Rattle.tap_history.specs.Refusals.{first_refusal};
+ghost use Rattle.tap_history.specs.Steps.{is_start};
+ghost use Rattle.tap_node.specs.Node.{node_status};
+ghost use Rattle.tap_overlay.specs.Overlay.{node_at};
+ghost use Rattle.tap_overlay.specs.Start.{begun};
+ghost use Rattle.tap_course.specs.Starts.{announced, next_cast, next_ticket};
+ghost use Rattle.tap_course.specs.Group.{start_at};
+ghost use Rattle.tap_records.specs.Seen.{turn_records};
+ghost use Rattle.tap_engine.specs.Working.{CanBegin, HasBegunOf, IsNamed, nothing_by, suits};
+
+use crate::engine::{Acted, Engine, group_of};
+use crate::stop::{NoMemory, Stop};
+use tap_log::Record;
+use tap_name::Name;
+use tap_node::{News, NodeFault, NodeStatus, Turn};
+use tap_overlay::{OverlayFault, Start};
+use tap_records::{add_some, add_turn};
+use tap_scenario::Step;
+use tap_turn::FrameList;
+use tap_wire::Bytes;
+
+// The starts.
+impl Engine {
+    ghost use Rattle.tap_ledger.specs.Added.{CanAdd};
+    ghost use Rattle.tap_engine.specs.Kept.{AreReady, LeadTo, world_value};
+    ghost use Rattle.tap_engine.specs.Outcome.{IsNextIndex, adds_within, unless_refused};
+    ghost use Rattle.tap_engine.specs.Working.{CanAddTurn, HasBegunAt, LogsAs, StillHas};
+
+    /// A step has a node start something: its group is added, the step first.
+    ///
+    /// What the step names are names of the settings. Its index is above that of the last step, and 1,000,000 at most. No refusal is
+    /// left to be noted, and the log hasn't its end.
+    ///
+    /// `Refused` comes exactly if the step is refused, with the first refusal whose cause holds: the step is added alone, and no node
+    /// changes. `Spent` comes exactly if the step isn't refused and more frames would then have been sent in all than may be: the step
+    /// is added alone, and then `Spent`. `NoMemory` adds nothing. After `Spent` and `NoMemory` the nodes may be ahead of the log, and
+    /// the engine takes no further call. `Ended` never comes.
+    ///
+    /// Rule: docs/FORMATS.md, "The course of a run".
+    pub fn start(&mut self, index: u32, step: &Step) -> Result<(), Stop>
+        requires ready { AreReady self.old }
+        requires next { IsNextIndex (world_value self.old None false) index }
+        requires kind { is_start step.now ≡ true }
+        requires names { IsStep self.old.settings false step.now }
+        ensures { LeadTo (unless_refused (world_value self.old None false) index step.now (first_refusal self.old.ledger.records step.now))
+            self.old result self.new }
+    {
+        if let Some(refusal) = self.refusal_of(step)? {
+            self.add_step(index, step);
+            return Err(Stop::Refused(refusal));
+        }
+        let mut group = group_of(self.alloc, index, step)?;
+        add_some(&mut group, self.announced(step)?)?;
+        let acted = self.begin(step)?;
+        self.add_started(index, step, group, acted)
+    }
+
+    // Adds the group of an accepted start, of which this is what stands before the records of its node.
+    fn add_started(
+        &mut self,
+        index: u32,
+        step: &Step,
+        group: Vec<Record>,
+        acted: Acted,
+    ) -> Result<(), Stop>
+        requires room { 3 ≤ self.old.ledger.spare }
+        requires sent { sent_count self.old.ledger.records ≤ self.old.frames }
+        requires step { CanAdd self.old.ledger.records (Record.Step index step.now ∷ []) }
+        requires spent { CanAdd (self.old.ledger.records ++ Record.Step index step.now ∷ []) (Record.Spent self.old.frames ∷ []) }
+        requires can_add { CanAddTurn self.old group.items acted }
+        ensures { let w = world_value self.old None false in
+            let all = group.items ++ turn_records (sent_count self.old.ledger.records) acted.name acted.turn in
+            LogsAs (adds_within w (Record.Step index step.now ∷ []) all) self.old result self.new }
+    {
+        if self.is_too_many(&acted.turn) {
+            self.add_step(index, step);
+            return self.spend();
+        }
+        let mut group = group;
+        add_turn(&mut group, self.ledger.sent(), acted.name, acted.turn)?;
+        self.add_group(group)?;
+        Ok(())
+    }
+
+    // What the log says of an accepted start before it says what the node did.
+    #[tactic(auto, unfolding(tap_course::specs::Starts::announced))]
+    fn announced(&self, step: &Step) -> Result<Option<Record>, NoMemory>
+        requires ready { AreReady self.now }
+        requires names { IsStep self.now.settings false step.now }
+        ensures { IfOk result (λ item. at_most_one item ≡ announced self.now.ledger.records step.now) }
+    {
+        match step {
+            Step::Publish { object, server } => Ok(Some(Record::Published {
+                object: *object,
+                server: *server,
+            })),
+            Step::Withdraw { object, server } => Ok(Some(Record::Withdrawn {
+                object: *object,
+                server: *server,
+            })),
+            Step::Find { object, asker } => Ok(Some(Record::Asked {
+                ticket: self.next_ticket(),
+                object: *object,
+                asker: *asker,
+            })),
+            Step::Abandon { name } => Ok(Some(Record::Abandoned { name: *name })),
+            Step::Cast {
+                word,
+                prefix,
+                asker,
+            } => Ok(Some(Record::CastFrom {
+                cast: self.next_cast(),
+                word: Bytes::copy_of(self.alloc, word.as_slice())?,
+                level: prefix.as_slice().len() as u8,
+                name: *asker,
+            })),
+            _ => Ok(None),
+        }
+    }
+
+    // The ticket of the next lookup.
+    fn next_ticket(&self) -> u32
+        requires { AreReady self.now }
+        ensures { result ≡ next_ticket self.now.ledger.records }
+    {
+        self.ledger.tickets() as u32 + 1
+    }
+
+    // The number of the next cast.
+    fn next_cast(&self) -> u32
+        requires { AreReady self.now }
+        ensures { result ≡ next_cast self.now.ledger.records }
+    {
+        self.ledger.casts() as u32 + 1
+    }
+
+    // The node of an accepted start starts it; one that joins comes.
+    fn begin(&mut self, step: &Step) -> Result<Acted, NoMemory>
+        requires ready { AreReady self.old }
+        requires kind { is_start step.now ≡ true }
+        requires accepted { first_refusal self.old.ledger.records step.now ≡ None }
+        requires names { IsStep self.old.settings false step.now }
+        ensures begun { IfOk result (HasBegunAt self.old self.new step.now) }
+        ensures same { self.new ≡ record self.old { overlay = self.new.overlay } }
+        ensures still { StillHas self.old.overlay self.new.overlay }
+    {
+        if let Step::Join { name, via } = step {
+            let turn = self.overlay.join(*name, *via)?;
+            return Ok(Acted { name: *name, turn });
+        }
+        match self.begun_by(step) {
+            Some(one) => self.begin_at(&one),
+            None => Err(NoMemory),
+        }
+    }
+
+    // What a step has a node start that is there; nothing of a join, and of a step that is no start.
+    #[tactic(auto, unfolding(tap_course::specs::Starts::start_of_step, tap_history::specs::Steps::actor_of))]
+    fn begun_by<'a>(&self, step: &'a Step) -> Option<Begun<'a>>
+        requires ready { AreReady self.now }
+        requires names { IsStep self.now.settings false step.now }
+        ensures start { IfSome result (λ b. start_at self.now.ledger.records step.now ≡ Some (b.name, begun b.start)) }
+        ensures named { IfSome result (λ b. IsNamed self.now.settings self.now.ledger.records b.start) }
+    {
+        match step {
+            Step::Depart { name } => Some(Begun {
+                name: *name,
+                start: Start::Leave,
+            }),
+            Step::Publish { object, server } => Some(Begun {
+                name: *server,
+                start: Start::Publish { object: *object },
+            }),
+            Step::Withdraw { object, server } => Some(Begun {
+                name: *server,
+                start: Start::Withdraw { object: *object },
+            }),
+            Step::Find { object, asker } => Some(Begun {
+                name: *asker,
+                start: Start::Find {
+                    ticket: self.next_ticket(),
+                    object: *object,
+                },
+            }),
+            Step::Abandon { name } => Some(Begun {
+                name: *name,
+                start: Start::Abandon,
+            }),
+            Step::Cast {
+                word,
+                prefix,
+                asker,
+            } => Some(Begun {
+                name: *asker,
+                start: Start::Cast {
+                    cast: self.next_cast(),
+                    level: prefix.as_slice().len() as u8,
+                    word: word.as_slice(),
+                },
+            }),
+            _ => None,
+        }
+    }
+
+    // The node of a name, which is there, starts something. A node of another status than that wants does nothing.
+    fn begin_at(&mut self, one: &Begun<'_>) -> Result<Acted, NoMemory>
+        requires { CanBegin self.old.overlay one.now.name one.now.start }
+        ensures begun { IfOk result (HasBegunOf self.old.overlay self.new.overlay one.now.name (begun one.now.start)) }
+        ensures same { self.new ≡ record self.old { overlay = self.new.overlay } }
+        ensures still { StillHas self.old.overlay self.new.overlay }
+    {
+        if self.is_suited(one) {
+            return started_by(one.name, self.overlay.start(&one.name, &one.start));
+        }
+        Ok(self.nothing_by(one.name))
+    }
+
+    // Whether the node of a name has the status that a start wants.
+    fn is_suited(&self, one: &Begun<'_>) -> bool
+        ensures { ForSome (node_at self.now.overlay one.now.name) (λ node. result ≡ suits (node_status node) one.now.start) }
+    {
+        match self.overlay.node(&one.name) {
+            Some(node) => suits(node.status(), &one.start),
+            None => false,
+        }
+    }
+
+    // The node of a name has done nothing.
+    fn nothing_by(&self, name: Name) -> Acted
+        ensures { result ≡ nothing_by name }
+    {
+        Acted {
+            name,
+            turn: Turn {
+                sent: FrameList::new(self.alloc),
+                news: News::Nothing,
+            },
+        }
+    }
+}
+
+// What the node of a name starts.
+#[derive(Drop)]
+struct Begun<'a> {
+    name: Name,
+    start: Start<'a>,
+}
+
+// What the node of a name has done, by the answer of the nodes. It is there, and has room for a step, so want of memory is the one
+// refusal.
+fn started_by(name: Name, answer: Result<Turn, OverlayFault>) -> Result<Acted, NoMemory>
+    requires { answer ≡ Err (OverlayFault.Node NodeFault.NoMemory) ⊎ IsOk answer }
+    ensures { IfOk result (λ acted. (acted.name ≡ name) × (answer ≡ Ok acted.turn)) }
+{
+    match answer {
+        Ok(turn) => Ok(Acted { name, turn }),
+        Err(_) => Err(NoMemory),
+    }
+}
+
+// Whether a node of this status may start this.
+fn suits(status: NodeStatus, start: &Start<'_>) -> bool
+    ensures { result ≡ suits status start.now }
+{
+    match start {
+        Start::Abandon => matches!(status, NodeStatus::Joining),
+        Start::Publish { .. }
+        | Start::Withdraw { .. }
+        | Start::Find { .. }
+        | Start::Leave
+        | Start::Cast { .. } => matches!(status, NodeStatus::Core),
+    }
+}
