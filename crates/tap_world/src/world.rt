@@ -1,0 +1,375 @@
+ghost use Rattle.std.specs.Prelude.{◌≡◌, ◌≢◌, ◌≤◌, ◌↔◌, ℕ, true, false, nat_eq, length, position, option_copied, IfOk, IfSome, IsNone, Err};
+ghost use Rattle.tap_name.specs.Names.{has_name};
+ghost use Rattle.tap_log.specs.Log.{begun_steps};
+ghost use Rattle.tap_scenario.specs.Step.{IsStep};
+ghost use Rattle.tap_history.specs.Moments.{is_still, outstanding};
+ghost use Rattle.tap_history.specs.Names.{names_of};
+ghost use Rattle.tap_history.specs.Steps.{is_start};
+ghost use Rattle.tap_node.specs.Node.{has_room_left};
+ghost use Rattle.tap_course.specs.Course.{is_choice, system_of};
+ghost use Rattle.tap_overlay.specs.Overlay.{IsNodeOf};
+ghost use Rattle.tap_engine.specs.Kinds.{damages, observes};
+ghost use Rattle.tap_engine.specs.Outcome.{refusal_in, stops};
+ghost use Rattle.tap_engine.specs.Places.{last_place};
+ghost use Rattle.tap_engine.specs.Unheeded.{unheeded_count};
+
+use std::alloc::Global;
+use std::marker::Model;
+use tap_engine::{Engine, NoMemory, Stop};
+use tap_ledger::Ledger;
+use tap_log::{Log, Record, Refusal};
+use tap_name::{List, Name, Settings};
+use tap_node::{Node, NodeStatus};
+use tap_overlay::Overlay;
+use tap_scenario::Step;
+use tap_surrogate::Tables;
+use tap_table::Table;
+
+/// The world of a run: its nodes, each found by its name, the frames that are outstanding, and the log. Each call adds one group
+/// to the log, or says why it adds none.
+///
+/// Contracts see with what the log begins, the log, the refusal that isn't noted yet, whether an earlier call answered `Spent`
+/// or `NoMemory`, and the nodes with their names, ascending by name.
+///
+/// Until it was stopped so, its nodes are those of the system that its log has come to, so its log says what they have done; and
+/// there is room in the log for its last record, and after a step for a refusal.
+///
+/// Rule: docs/FORMATS.md, "The course of a run".
+#[derive(Drop)]
+pub struct World {
+    engine: Engine,
+    refused: Option<Refusal>,
+    stopped: bool,
+}
+
+impl Model for World {
+    ghost use Rattle.tap_engine.specs.Kept.{AreKept, world_value};
+    ghost use Rattle.tap_engine.specs.World.{WorldValue};
+
+    ghost Value = { WorldValue };
+
+    ghost view = { λ w. world_value w.engine w.refused w.stopped };
+
+    ghost invariant = { λ w. AreKept w.engine w.refused w.stopped };
+}
+
+impl World {
+    ghost use Rattle.tap_course.specs.Named.{HaveNames};
+    ghost use Rattle.tap_course.specs.Beginning.{Beginning, IsWithinLimits};
+    ghost use Rattle.tap_engine.specs.Outcome.{AnswersAs, IsNextIndex, MayGoOn, MayNote, deliver_outcome, finish_outcome, mark_outcome, note_outcome, step_outcome};
+    ghost use Rattle.tap_engine.specs.WorldLog.{IsWorldLog};
+    ghost use Rattle.tap_engine.specs.World.{HasBegun, node_of, nodes_running};
+
+    /// The world of members that are core nodes at rest. Its log has the record `Begin` alone, and nothing is outstanding.
+    ///
+    /// There are 1 to 64 distinct members, and the most frames that may be sent are within the limit of a scenario.
+    ///
+    /// Later calls take memory of `alloc`.
+    ///
+    /// Rule: docs/FORMATS.md, "The course of a run".
+    pub fn new(
+        alloc: Global,
+        settings: &Settings,
+        frames: u32,
+        members: &List<Name>,
+    ) -> Result<World, NoMemory>
+        requires { IsWithinLimits (record { settings = settings.now; frames = frames; members = members.now }) }
+        ensures { IfOk result (HasBegun (record { settings = settings.now; frames = frames; members = members.now })) }
+    {
+        let overlay = Overlay::at_rest(alloc, settings, members)?;
+        let mut ledger = Ledger::new(alloc, settings, frames, members)?;
+        ledger.reserve(1)?;
+        let engine = Engine {
+            alloc,
+            settings: *settings,
+            frames,
+            ledger,
+            overlay,
+            unheeded: 0,
+        };
+        Ok(World {
+            engine,
+            refused: None,
+            stopped: false,
+        })
+    }
+
+    /// A step has a node start something: a join, a departure, a publication, a withdrawal, a lookup, a cast, or that a join is
+    /// given up. Its group is added, the step first.
+    ///
+    /// `Refused` comes exactly if the step is refused, with the first refusal whose cause holds: the step is added alone, and its
+    /// refusal is still to be noted. `Spent` comes exactly if more frames would then have been sent in all than may be: the step is
+    /// added alone, and then `Spent`. `NoMemory` adds nothing. `Ended` comes exactly if an earlier call answered `Spent` or
+    /// `NoMemory`, and changes nothing.
+    ///
+    /// Rule: docs/FORMATS.md, "The course of a run".
+    pub fn start(&mut self, index: u32, step: &Step) -> Result<(), Stop>
+        requires goes_on { MayGoOn self.old }
+        requires next { IsNextIndex self.old index }
+        requires kind { is_start step.now ≡ true }
+        requires names { IsStep self.old.beginning.settings false step.now }
+        ensures { AnswersAs (step_outcome self.old index step.now) self.old result self.new }
+    {
+        if self.stopped {
+            return Err(Stop::Ended);
+        }
+        let answer = self.engine.start(index, step);
+        self.refused = refusal_in(&answer);
+        self.stopped = stops(&answer);
+        answer
+    }
+
+    /// A step observes: a walk, a root, a table, or the pairs that a node holds. Its group is the step, and what it sees.
+    ///
+    /// The answers are those of `start`, but that `Spent` never comes. No node changes.
+    ///
+    /// Rule: docs/FORMATS.md, "The course of a run".
+    pub fn observe(&mut self, index: u32, step: &Step) -> Result<(), Stop>
+        requires goes_on { MayGoOn self.old }
+        requires next { IsNextIndex self.old index }
+        requires kind { observes step.now ≡ true }
+        requires names { IsStep self.old.beginning.settings false step.now }
+        ensures answers { AnswersAs (step_outcome self.old index step.now) self.old result self.new }
+        ensures unspent { result ≢ Err Stop.Spent }
+    {
+        if self.stopped {
+            return Err(Stop::Ended);
+        }
+        let answer = self.engine.observe(index, step);
+        self.refused = refusal_in(&answer);
+        self.stopped = stops(&answer);
+        answer
+    }
+
+    /// A step offers a damaged copy of an outstanding frame to the frame's receiver, by `Node::take`: one byte is another, or only
+    /// so many first bytes are there. Its group is the step, and why the copy is no frame.
+    ///
+    /// The frame stays outstanding. The answers are those of `start`, but that `Spent` never comes. No node changes.
+    ///
+    /// Rule: docs/FORMATS.md, "The course of a run".
+    pub fn garble(&mut self, index: u32, step: &Step) -> Result<(), Stop>
+        requires goes_on { MayGoOn self.old }
+        requires next { IsNextIndex self.old index }
+        requires kind { damages step.now ≡ true }
+        ensures answers { AnswersAs (step_outcome self.old index step.now) self.old result self.new }
+        ensures unspent { result ≢ Err Stop.Spent }
+    {
+        if self.stopped {
+            return Err(Stop::Ended);
+        }
+        let answer = self.engine.garble(index, step);
+        self.refused = refusal_in(&answer);
+        self.stopped = stops(&answer);
+        answer
+    }
+
+    /// The outstanding frame at a place, from 0, in the order in which they were sent, is taken by its receiver.
+    ///
+    /// A frame that has no receiver or is strange to it is taken to no effect.
+    ///
+    /// `Refused` comes exactly if no frame is at the place, with the number of those outstanding, and leaves the world as it was.
+    /// `Spent` comes exactly if more frames would then have been sent in all than may be: `Spent` alone is added. `NoMemory` adds
+    /// nothing. `Ended` comes exactly if an earlier call answered `Spent` or `NoMemory`, and changes nothing.
+    ///
+    /// Rule: docs/FORMATS.md, "The course of a run".
+    pub fn deliver(&mut self, place: u32) -> Result<(), Stop>
+        requires { MayGoOn self.old }
+        ensures { AnswersAs (deliver_outcome self.old place) self.old result self.new }
+    {
+        if self.stopped {
+            return Err(Stop::Ended);
+        }
+        let answer = self.engine.deliver(place);
+        self.stopped = stops(&answer);
+        answer
+    }
+
+    /// A step only chooses what is taken next, what becomes of packets, or whose roots are asked for: it is added alone.
+    ///
+    /// `NoMemory` adds nothing. `Ended` comes exactly if an earlier call answered `Spent` or `NoMemory`, and changes nothing.
+    ///
+    /// Rule: docs/FORMATS.md, "The course of a run".
+    pub fn mark(&mut self, index: u32, step: &Step) -> Result<(), Stop>
+        requires goes_on { MayGoOn self.old }
+        requires next { IsNextIndex self.old index }
+        requires kind { is_choice step.now ≡ true }
+        ensures { AnswersAs (mark_outcome self.old index step.now) self.old result self.new }
+    {
+        if self.stopped {
+            return Err(Stop::Ended);
+        }
+        let Ok(()) = self.engine.ledger.reserve(3) else {
+            self.stopped = true;
+            return Err(Stop::NoMemory);
+        };
+        self.engine.add_step(index, step);
+        Ok(())
+    }
+
+    /// Notes the refusal of the step with this index, which is the last record. The refusal is that which a call has answered and
+    /// which isn't noted yet; or the step is a `deliver`, `tick`, `lose`, `repeat` or `rootset`.
+    ///
+    /// It takes no memory. `Ended` comes exactly if an earlier call answered `Spent` or `NoMemory`, and changes nothing.
+    ///
+    /// Rule: docs/FORMATS.md, "The course of a run".
+    pub fn note(&mut self, index: u32, refusal: Refusal) -> Result<(), Stop>
+        requires { MayNote self.old index refusal }
+        ensures answers { AnswersAs (note_outcome self.old index refusal) self.old result self.new }
+        ensures memory { result ≢ Err Stop.NoMemory }
+    {
+        if self.stopped {
+            return Err(Stop::Ended);
+        }
+        self.engine
+            .ledger
+            .push_reserved(Record::Refused { index, refusal });
+        self.refused = None;
+        Ok(())
+    }
+
+    /// All steps were run, which are as many as the log has: `Finished` is added. No call changes the world any more.
+    ///
+    /// It takes no memory. `Ended` comes exactly if an earlier call answered `Spent` or `NoMemory`, and changes nothing.
+    ///
+    /// Rule: docs/FORMATS.md, "The ways a run ends".
+    pub fn finish(&mut self, steps: u32) -> Result<(), Stop>
+        requires goes_on { MayGoOn self.old }
+        requires all { steps ≡ length (begun_steps self.old.log) }
+        ensures answers { AnswersAs (finish_outcome self.old steps) self.old result self.new }
+        ensures memory { result ≢ Err Stop.NoMemory }
+    {
+        if self.stopped {
+            return Err(Stop::Ended);
+        }
+        self.engine.ledger.push_reserved(Record::Finished { steps });
+        Ok(())
+    }
+
+    /// The refusal that a `start`, `observe` or `garble` has answered and that isn't noted yet. Until it is, the last group isn't
+    /// whole.
+    ///
+    /// Rule: docs/FORMATS.md, "The course of a run".
+    pub fn refused(&self) -> Option<Refusal>
+        ensures { result ≡ self.now.refused }
+    {
+        self.refused
+    }
+
+    /// The log. Up to its last moment it is the course of a run, and what stands after that is a step whose refusal isn't noted
+    /// yet, or how the run has ended. What its steps start or observe is named by names of the settings.
+    ///
+    /// Rule: docs/FORMATS.md, "The course of a run".
+    pub fn log(&self) -> &Log
+        ensures records { result.now.records ≡ self.now.log }
+        ensures course { IsWorldLog self.now }
+        ensures named { HaveNames self.now.beginning.settings self.now.log }
+    {
+        self.engine.ledger.log()
+    }
+
+    /// How many frames are outstanding.
+    ///
+    /// Rule: docs/FORMATS.md, "Groups and moments".
+    pub fn outstanding(&self) -> u32
+        ensures { result ≡ length (outstanding self.now.log) }
+    {
+        self.engine.ledger.outstanding()
+    }
+
+    /// Whether no frame is outstanding.
+    ///
+    /// Rule: docs/FORMATS.md, "Groups and moments".
+    pub fn is_rest(&self) -> bool
+        ensures { result ≡ is_still self.now.log }
+    {
+        self.outstanding() == 0
+    }
+
+    /// The place of the outstanding frame that was sent last, `None` exactly if no frame is outstanding.
+    ///
+    /// Rule: docs/FORMATS.md, "Groups and moments".
+    pub fn newest(&self) -> Option<u32>
+        ensures { result ≡ last_place (outstanding self.now.log) }
+    {
+        self.engine.ledger.newest()
+    }
+
+    /// The place of the frame of a number among those outstanding, `None` exactly if it isn't one of them.
+    ///
+    /// Rule: docs/FORMATS.md, "Groups and moments".
+    pub fn place_of(&self, number: u32) -> Option<u32>
+        ensures { result ≡ position (nat_eq number) (outstanding self.now.log) }
+    {
+        self.engine.ledger.place_of(number)
+    }
+
+    /// The node of a name, `None` exactly if the name is no member's and never joined. It has this name and the settings. Until a call
+    /// has answered `Spent` or `NoMemory` it is the node of the system that the log has come to, and has room for a further step.
+    ///
+    /// Rule: docs/FORMATS.md, "The course of a run".
+    pub fn node(&self, name: Name) -> Option<&Node>
+        ensures node { option_copied result ≡ node_of self.now name }
+        ensures never { IsNone result ↔ (has_name (names_of self.now.log) name ≡ false) }
+        ensures own { IfSome result (λ node. IsNodeOf self.now.beginning.settings name node.now) }
+        ensures state { self.now.stopped ≡ false → option_copied result ≡ nodes_running (system_of self.now.log) name }
+        ensures room { self.now.stopped ≡ false → IfSome result (λ node. has_room_left node.now ≡ true) }
+    {
+        if self.engine.ledger.was_present(&name) {
+            self.engine.overlay.node(&name)
+        } else {
+            None
+        }
+    }
+
+    /// How many frames were taken to no effect: they had no receiver, or were strange to it.
+    ///
+    /// Rule: docs/FORMATS.md, "The course of a run".
+    pub fn unheeded(&self) -> u32
+        ensures { result ≡ unheeded_count self.now.log }
+    {
+        self.engine.unheeded
+    }
+}
+
+// The refusal of an answer, if it is one.
+fn refusal_in(answer: &Result<(), Stop>) -> Option<Refusal>
+    ensures { result ≡ refusal_in answer.now }
+{
+    match answer {
+        Err(Stop::Refused(refusal)) => Some(*refusal),
+        Ok(()) | Err(Stop::Spent | Stop::NoMemory | Stop::Ended) => None,
+    }
+}
+
+// Whether a world is stopped by an answer.
+fn stops(answer: &Result<(), Stop>) -> bool
+    ensures { result ≡ stops answer.now }
+{
+    match answer {
+        Err(Stop::Spent | Stop::NoMemory) => true,
+        Ok(()) | Err(Stop::Refused(_) | Stop::Ended) => false,
+    }
+}
+
+impl Tables for World {
+    ghost use Rattle.tap_engine.specs.Kept.{nodes_lent};
+
+    ghost parameters = { λ w. w.beginning.settings };
+
+    ghost nodes = { nodes_lent };
+
+    fn settings(&self) -> Settings {
+        self.engine.settings
+    }
+
+    fn table_of(&self, name: Name) -> Option<&Table> {
+        self.node(name)?.table()
+    }
+
+    fn is_core(&self, name: Name) -> bool {
+        match self.node(name) {
+            Some(node) => matches!(node.status(), NodeStatus::Core | NodeStatus::Leaving),
+            None => false,
+        }
+    }
+}
