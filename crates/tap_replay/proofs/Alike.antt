@@ -1,0 +1,210 @@
+-- A run of a scenario is one of each other scenario by which a player may turn.
+use Rattle.std.proofs.Common.{◌≡◌, inl, inr, ℕ, zero, suc, ◌+◌, ◌<◌, ◌≤◌, Bool, true, false, List, [], ◌∷◌, ◌++◌, length, take, Some, refl, ap, sym, subst, ◌∙◌, arith, append-nil}
+use Rattle.std.specs.Prelude.{if◌then◌else◌, slice_get}
+use Rattle.std.specs.Option.{option_map, option_map_or}
+use Rattle.std.proofs.lemmas.List.Elements.{filter_map-append}
+use Rattle.tap_scenario.specs.declared.step.Step.{Step}
+use Rattle.tap_scenario.specs.Scenario.{ScenarioValue}
+use Rattle.tap_log.specs.declared.record.Record.{Record}
+use Rattle.tap_log.specs.declared.record.Record.TheVariants.{Begin, Finished, Spent as SpentRecord, Step as StepRecord}
+use Rattle.tap_log.specs.Counts.{sent_count}
+use Rattle.tap_log.specs.Kinds.{is_carried, step_of}
+use Rattle.tap_log.specs.Log.{begun_steps}
+use Rattle.tap_log.proofs.Growing.{filter_map-same, last_of-push}
+use Rattle.tap_history.specs.Groups.{beginning_of}
+use Rattle.tap_course.specs.Beginning.{Beginning, begin_record}
+use Rattle.tap_course.specs.Course.{system_of}
+use Rattle.tap_course.specs.Group.{step_records}
+use Rattle.tap_course.proofs.Growing.{starts_begun}
+use Rattle.tap_engine.specs.Kinds.{finishes, is_finished}
+use Rattle.tap_engine.specs.World.{WorldValue}
+use Rattle.tap_lawful.specs.Next.{beginning_in, begun_count, group_after, next_group, step_group, taken_group}
+use Rattle.tap_lawful.specs.Lawful.{IsFinished, IsPlayed, IsSpent, step_alone}
+use Rattle.tap_lawful.specs.Laws.{BeginsAlike}
+use Rattle.tap_lawful.proofs.Alike.{played_alike}
+use Rattle.tap_lawful.proofs.Coming.{BeginsNext, TakesDue, coming}
+use Rattle.tap_lawful.proofs.Steps.{played_all, played_steps}
+use Rattle.tap_replay.specs.Player.{HasEnded, MayTurn}
+use Rattle.tap_replay.specs.Run.{GoesOn, IsRunOf}
+use Rattle.tap_replay.specs.declared.end.End.{End}
+use Rattle.tap_replay.specs.declared.end.End.TheVariants.{Done, NoMemory, Spent}
+use Rattle.tap_replay.specs.declared.run.Run.{Run}
+use Rattle.tap_replay.proofs.Running.{unfinished}
+
+-- ---- lists
+
+-- the first ones of the first ones
+take_first : {X : Type 0} (n : ℕ) (xs ys zs : List X) → take n xs ≡ ys ++ zs → take (length ys) xs ≡ ys
+take_first n xs [] zs is = refl
+take_first zero xs (y ∷ ys) zs is = absurd (cc)
+take_first (suc n) [] (y ∷ ys) zs is = absurd (cc)
+take_first (suc n) (x ∷ xs) (y ∷ ys) zs is =
+    let same : x ≡ y = cc in
+    let rest : take n xs ≡ ys ++ zs = cc in
+    ap (λ l. x ∷ l) (take_first n xs ys zs rest) ∙ ap (λ z. z ∷ ys) same
+
+-- the element at a place of the first ones
+at_of_take : {X : Type 0} (n : ℕ) (xs ys zs : List X) (y : X) → take n xs ≡ ys ++ y ∷ zs → slice_get xs (length ys) ≡ Some y
+at_of_take zero xs [] zs y is = absurd (cc)
+at_of_take zero xs (z ∷ ys) zs y is = absurd (cc)
+at_of_take (suc n) [] [] zs y is = absurd (cc)
+at_of_take (suc n) [] (z ∷ ys) zs y is = absurd (cc)
+at_of_take (suc n) (x ∷ xs) [] zs y is = let same : x ≡ y = cc in ap Some same
+at_of_take (suc n) (x ∷ xs) (z ∷ ys) zs y is = let rest : take n xs ≡ ys ++ y ∷ zs = cc in at_of_take n xs ys zs y rest
+
+-- ---- with what a log begins
+
+abbrev first_or : Record → List Record → Record
+first_or other [] = other
+first_or other (item ∷ items) = item
+
+first_of_two : (other : Record) (carried : Bool) (log : List Record)
+    → first_or other (take (if carried then 2 else 1) log) ≡ first_or other log
+first_of_two other true [] = refl
+first_of_two other true (item ∷ items) = refl
+first_of_two other false [] = refl
+first_of_two other false (item ∷ items) = refl
+
+first_begins : (other item : Record) (log : List Record) → beginning_of log ≡ item ∷ [] → first_or other log ≡ item
+first_begins other item log is = sym (first_of_two other (is_carried log) log) ∙ ap (first_or other) is
+
+first_more : (other : Record) (log rest : List Record) → 1 ≤ length log → first_or other (log ++ rest) ≡ first_or other log
+first_more other [] rest some = absurd (omega (arith, some))
+first_more other (item ∷ items) rest some = refl
+
+abbrev begun_with : Beginning → Record → Beginning
+begun_with other (Begin settings frames members) = record { settings = settings; frames = frames; members = members }
+begun_with other item = other
+
+-- ---- another scenario by which a player may turn
+
+module _ (s other : ScenarioValue) (log played rest : List Record) (is : log ≡ played ++ rest) (was : IsPlayed s played)
+    (may : MayTurn other log) where
+  all_steps : take (begun_count log) other.steps ≡ begun_steps played ++ begun_steps rest
+  all_steps = sym may.steps ∙ ap begun_steps is ∙ filter_map-append step_of played rest
+
+  begins_so : begin_record (beginning_in other) ≡ begin_record (beginning_in s)
+  begins_so =
+      let first = begin_record (beginning_in s) in
+      sym (first_begins first (begin_record (beginning_in other)) log may.begins) ∙ ap (first_or first) is
+      ∙ first_more first played rest (starts_begun played first was.begins) ∙ first_begins first first played was.begins
+
+  pub alike : BeginsAlike s other played
+  alike = record {
+    beginning = ap (begun_with (beginning_in s)) begins_so;
+    steps = take_first (begun_count log) other.steps (begun_steps played) (begun_steps rest) all_steps;
+  }
+
+  pub other_played : IsPlayed other played
+  other_played = played_alike s other played was alike
+
+  settings_same : other.settings ≡ s.settings
+  settings_same = ap (λ b. b.settings) alike.beginning
+
+  frames_same : other.frames ≡ s.frames
+  frames_same = ap (λ b. b.frames) alike.beginning
+
+  -- the frame that is due is the same
+  taken_alike : (group : List Record) → TakesDue s played group → next_group other played ≡ Some group
+  taken_alike group taken =
+      ap (group_after other played) taken.due ∙ ap (λ p. Some (taken_group p played taken.number)) settings_same ∙ ap Some taken.is
+
+  -- so is the next step, if it was begun
+  begun_alike : (group : List Record) (step : Step) (steps : List Step) → (begun : BeginsNext s played group)
+      → begun_steps rest ≡ step ∷ steps → begun.step ≡ step → next_group other played ≡ Some group
+  begun_alike group step steps begun first same =
+      let index = begun_count played + 1 in
+      let at : slice_get other.steps (begun_count played) ≡ Some step =
+      at_of_take (begun_count log) other.steps (begun_steps played) steps step (all_steps ∙ ap (λ l. begun_steps played ++ l) first) in
+      ap (group_after other played) begun.none ∙ ap (option_map (step_group other.settings played index)) (at ∙ ap Some (sym same))
+      ∙ ap (λ p. Some (step_group p played index begun.step)) settings_same ∙ ap Some begun.is
+
+-- ---- a run that goes on
+
+module _ (s other : ScenarioValue) (log : List Record) (played : IsPlayed s log) (may : MayTurn other log) where
+  still : IsPlayed other log
+  still = other_played s other log log [] (sym (append-nil log)) played may
+
+  pub goes_on_alike : (w : WorldValue) → w.log ≡ log → GoesOn s w → GoesOn other w
+  goes_on_alike w is on = record {
+    played = subst (IsPlayed other) (sym is) still;
+    beginning = on.beginning ∙ sym (alike s other log log [] (sym (append-nil log)) played may).beginning;
+    noted = on.noted;
+    unstopped = on.unstopped;
+  }
+
+pub run_alike : (s other : ScenarioValue) (run : Run) → IsRunOf s run → MayTurn other run.world.log → IsRunOf other run
+run_alike s other run of may = record {
+  goes_on = goes_on_alike s other run.world.log of.goes_on.played may run.world refl of.goes_on;
+  begun = of.begun;
+  choice = of.choice;
+}
+
+-- ---- a run that has ended
+
+-- a step that stands alone has begun
+alone_begins : (p : ScenarioValue) (log group : List Record) (limit : ℕ) → (begun : BeginsNext p log group)
+    → begun_steps (step_alone group ++ SpentRecord limit ∷ []) ≡ begun.step ∷ []
+unfolding step_alone
+alone_begins p log group limit begun =
+    subst (λ g. begun_steps (step_alone g ++ SpentRecord limit ∷ []) ≡ begun.step ∷ []) begun.is
+    (first_begun (begun_count log + 1) begun.step
+    (step_records p.settings log (system_of log) (begun_count log + 1) begun.step))
+  where
+    first_begun : (index : ℕ) (step : Step) (items : List Record)
+        → begun_steps (step_alone (StepRecord index step ∷ items) ++ SpentRecord limit ∷ []) ≡ step ∷ []
+    first_begun index step items = refl
+
+spent_alike : (s other : ScenarioValue) (log played : List Record) → IsPlayed s played → (spent : IsSpent s played log) → MayTurn other log
+    → HasEnded other Spent log
+spent_alike s other log played was spent may =
+    let rest = step_alone spent.group ++ SpentRecord s.frames ∷ [] in
+    let frames = frames_same s other log played rest spent.log_is was may in (
+      played,
+      other_played s other log played rest spent.log_is was may,
+      record {
+        group = spent.group;
+        next =
+            elim (coming s played spent.group spent.next) [
+              | inl taken ↦ taken_alike s other log played rest spent.log_is was may spent.group taken
+              | inr begun ↦
+                  begun_alike s other log played rest spent.log_is was may spent.group begun.step [] begun
+                  (alone_begins s played spent.group s.frames begun) refl
+            ];
+        over = subst (λ n. n < sent_count (played ++ spent.group)) (sym frames) spent.over;
+        log_is = spent.log_is ∙ ap (λ n. played ++ (step_alone spent.group ++ SpentRecord n ∷ [])) (sym frames);
+      },
+    )
+
+pub finished_so : (played : List Record) (steps : ℕ) → is_finished (played ++ Finished steps ∷ []) ≡ true
+unfolding finishes
+finished_so played steps = ap (λ last. option_map_or finishes last false) (last_of-push played (Finished steps))
+
+-- a scenario by which a player may turn after the last step is the same
+finished_alike : (s other : ScenarioValue) (log played : List Record) → IsPlayed s played → IsFinished s played log → MayTurn other log
+    → HasEnded other Done log
+finished_alike s other log played was finished may =
+    let rest : List Record = Finished (length s.steps) ∷ [] in
+    let beginning = (alike s other log played rest finished.log_is was may).beginning in
+    let steps : other.steps ≡ s.steps =
+    sym (may.all (ap is_finished finished.log_is ∙ finished_so played (length s.steps))) ∙ ap begun_steps finished.log_is
+    ∙ filter_map-same step_of played (Finished (length s.steps)) refl ∙ played_all s played was finished.none in
+    let same : other ≡ s =
+    ap (λ b. record { settings = b.settings; frames = b.frames; members = b.members; steps = other.steps }) beginning
+    ∙ ap (λ l. record { settings = s.settings; frames = s.frames; members = s.members; steps = l }) steps in
+    subst (λ x. HasEnded x Done log) (sym same) (played, was, finished)
+
+pub ended_alike : (s other : ScenarioValue) (end : End) (log : List Record) → HasEnded s end log → MayTurn other log → HasEnded other end log
+ended_alike s other Done log ended may = finished_alike s other log ended.0 ended.1 ended.2 may
+ended_alike s other Spent log ended may = spent_alike s other log ended.0 ended.1 ended.2 may
+ended_alike s other NoMemory log ended may = still s other log ended may
+
+-- ---- the scenario itself
+
+-- a player may turn by the scenario that it runs
+pub may_turn : (s : ScenarioValue) (log : List Record) → IsPlayed s log → MayTurn s log
+may_turn s log played = record {
+  begins = played.begins;
+  steps = played_steps s log played;
+  all = λ over. let on = unfinished log played.going in let wrong : true ≡ false = sym over ∙ on in absurd (cc);
+}

@@ -1,0 +1,7 @@
+pub mod Choosing
+pub mod Stepping
+pub mod Running
+pub mod Alike
+pub mod Turning
+pub mod Again
+pub mod Lawfulness

@@ -1,0 +1,21 @@
+use Rattle.tap_replay.proofs.Alike.{may_turn}
+use Rattle.tap_replay.proofs.Running.{starts_run}
+use Rattle.tap_replay.proofs.player.Player.new.Goals as goal
+
+pub invariant_of-result : goal.invariant_of-result
+invariant_of-result c = record {
+  script = c.args.scenario.now;
+  run_is = starts_run c.args.scenario.now _ c.in_ok-world.world c.settings.ensures.value c.frames.ensures.value c.members.ensures.value
+      c.in_ok-world.ensures;
+}
+
+pub returns-clause-played : goal.returns-clause-played
+returns-clause-played c =
+    (starts_run c.args.scenario.now _ c.in_ok-world.world c.settings.ensures.value c.frames.ensures.value c.members.ensures.value
+    c.in_ok-world.ensures).goes_on
+
+pub returns-clause-may : goal.returns-clause-may
+returns-clause-may c =
+    may_turn c.args.scenario.now c.in_ok-world.world.log
+    (starts_run c.args.scenario.now _ c.in_ok-world.world c.settings.ensures.value c.frames.ensures.value c.members.ensures.value
+    c.in_ok-world.ensures).goes_on.played

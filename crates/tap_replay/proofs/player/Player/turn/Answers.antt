@@ -1,0 +1,48 @@
+use Rattle.std.proofs.Common.{◌≡◌, ◌<◌, MatchOption, sym, subst}
+use Rattle.tap_lawful.specs.Laws.{left_of}
+use Rattle.tap_replay.specs.Player.{GoesOnUnless, HasEnded, MayTurn, PlayerValue, Turns, over_by}
+use Rattle.tap_replay.specs.Run.{GoesOn}
+use Rattle.tap_replay.proofs.Again.{may_turn_again}
+use Rattle.tap_replay.proofs.Alike.{ended_alike, run_alike}
+use Rattle.tap_replay.proofs.player.Player.turn.Goals as goal
+
+pub returns-in-Some-clause-played : goal.returns-in-Some-clause-played
+returns-in-Some-clause-played c =
+    let s = c.args.scenario.now in
+    let run = c.self.inside.run in
+    let script = c.self.invariant.script in
+    let seen : record { world = run.world; over = c.self.inside.over } ≡ c.args.self.now = c.self.view_is in
+    let may = subst (λ (p : PlayerValue). MayTurn s p.world.log) (sym seen) c.requires.script in
+    let ended = subst (λ o. GoesOnUnless o script run) c.in-Some.is c.self.invariant.run_is in
+    subst (λ (p : PlayerValue). MatchOption p.over (GoesOn s p.world) (λ end. HasEnded s end p.world.log)) seen
+    (subst (λ o. MatchOption o (GoesOn s run.world) (λ end. HasEnded s end run.world.log)) (sym c.in-Some.is)
+    (ended_alike script s c.in-Some.end run.world.log ended may))
+
+pub turn-turned-requires-clause-run : goal.turn-turned-requires-clause-run
+turn-turned-requires-clause-run c =
+    let s = c.args.scenario.now in
+    let run = c.self.inside.run in
+    let script = c.self.invariant.script in
+    let seen : record { world = run.world; over = c.self.inside.over } ≡ c.args.self.now = c.self.view_is in
+    let may = subst (λ (p : PlayerValue). MayTurn s p.world.log) (sym seen) c.requires.script in
+    run_alike script s run (subst (λ o. GoesOnUnless o script run) c.in_default.is c.self.invariant.run_is) may
+
+pub returns-clause-turns : goal.returns-clause-turns
+returns-clause-turns c =
+    let s = c.args.scenario.now in
+    let run = c.self.inside.run in
+    let given = c.turn-turned.result in
+    let after : PlayerValue = record { world = c.turn-turned.new.self.world; over = c.end_in-self-inside.result } in
+    let seen : record { world = run.world; over = c.self.inside.over } ≡ c.args.self.now = c.self.view_is in
+    subst (λ (p : PlayerValue). Turns s p given after) seen
+    (subst (λ o. Turns s (record { world = run.world; over = o }) given after) (sym c.in_default.is) c.turn-turned.ensures.turns)
+
+pub returns-clause-less : goal.returns-clause-less
+returns-clause-less c = λ more.
+    let s = c.args.scenario.now in
+    subst (λ (p : PlayerValue). left_of s c.turn-turned.new.self.world.log < left_of s p.world.log) c.self.view_is
+    (c.turn-turned.ensures.less more)
+
+pub returns-clause-may : goal.returns-clause-may
+returns-clause-may c =
+    may_turn_again c.args.scenario.now (over_by c.turn-turned.result) c.turn-turned.new.self c.turn-turned.ensures.run

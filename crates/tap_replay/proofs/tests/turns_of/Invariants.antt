@@ -1,0 +1,6 @@
+use Rattle.tap_replay.specs.Player.{MayTurn}
+use Rattle.tap_replay.proofs.tests.turns_of.Given as goal
+
+-- the scenario may be played on
+abbrev pub invariant-loop-turns : goal.invariant-loop-turns
+invariant-loop-turns l = MayTurn l.scenario l.player.world.log

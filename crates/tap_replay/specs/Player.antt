@@ -1,0 +1,83 @@
+-- What contracts see of a player, and what its turns make of it.
+--
+-- Rule: docs/FORMATS.md, "What comes next" and "The ways a run ends".
+use Rattle.std.specs.Prelude.{◌≡◌, ◌≢◌, true, List, [], ◌∷◌, take, Option, None, Some, MatchOption, Result, Ok, Err}
+use Rattle.tap_scenario.specs.Scenario.{ScenarioValue}
+use Rattle.tap_log.specs.declared.record.Record.{Record}
+use Rattle.tap_log.specs.Log.{begun_steps}
+use Rattle.tap_history.specs.Groups.{beginning_of}
+use Rattle.tap_course.specs.Beginning.{begin_record}
+use Rattle.tap_engine.specs.Kinds.{is_finished}
+use Rattle.tap_engine.specs.World.{WorldValue}
+use Rattle.tap_engine.specs.declared.stop.Stop.{Stop}
+use Rattle.tap_engine.specs.declared.stop.Stop.TheVariants.{Spent as StopSpent}
+use Rattle.tap_lawful.specs.Next.{beginning_in, begun_count}
+use Rattle.tap_lawful.specs.Lawful.{IsFinished, IsPlayed, IsSpent}
+use Rattle.tap_replay.specs.Run.{GoesOn, IsRunOf}
+use Rattle.tap_replay.specs.Turn.{TurnOutcome, turn_outcome}
+use Rattle.tap_replay.specs.declared.end.End.{End}
+use Rattle.tap_replay.specs.declared.end.End.TheVariants.{Done, Spent, NoMemory}
+use Rattle.tap_replay.specs.declared.end.Turned.{Turned}
+use Rattle.tap_replay.specs.declared.end.Turned.TheVariants.{Over}
+use Rattle.tap_replay.specs.declared.run.Run.{Run}
+
+-- the world, and how the run has ended, if it has
+pub record PlayerValue : Type 0 where
+  pub world : WorldValue
+  pub over : Option End
+
+-- ---- how far a run has come
+
+-- The log is that of a run of the scenario that ended so: all steps were run, too many frames would have been sent, or memory was
+-- refused.
+abbrev pub HasEnded : ScenarioValue → End → List Record → Type 0
+HasEnded s Done log = (played : List Record) × IsPlayed s played × IsFinished s played log
+HasEnded s Spent log = (played : List Record) × IsPlayed s played × IsSpent s played log
+HasEnded s NoMemory log = IsPlayed s log
+
+-- the player has run the scenario so far
+abbrev pub HasPlayed : ScenarioValue → PlayerValue → Type 0
+HasPlayed s p = MatchOption p.over (GoesOn s p.world) (λ end. HasEnded s end p.world.log)
+
+-- ---- turns
+
+-- the log begins as the scenario does, its steps are the scenario's first ones, and they are all of them if it has its end
+pub record MayTurn (s : ScenarioValue) (log : List Record) : Type 0 where
+  pub begins : beginning_of log ≡ begin_record (beginning_in s) ∷ []
+  pub steps : begun_steps log ≡ take (begun_count log) s.steps
+  pub all : is_finished log ≡ true → begun_steps log ≡ s.steps
+
+-- how a run has ended, by the last answer of its world
+abbrev pub end_of : Result (Unit {0}) Stop → End
+end_of (Ok done) = Done
+end_of (Err StopSpent) = Spent
+end_of (Err other) = NoMemory
+
+-- how the run is over after this answer
+abbrev pub over_by : Turned → Option End
+over_by (Over end) = Some end
+over_by _ = None
+
+-- the answer and the log are those of the outcome, unless memory was refused: then the log stays as it was
+pub record TurnsAs (outcome : TurnOutcome) (before : List Record) (given : Turned) (after : List Record) : Type 0 where
+  pub answer : given ≢ Over NoMemory → given ≡ outcome.answer
+  pub log : given ≢ Over NoMemory → after ≡ outcome.log
+  pub memory : given ≡ Over NoMemory → after ≡ before
+
+-- a run that is over stays as it is; another one takes its turn
+abbrev pub Turns : ScenarioValue → PlayerValue → Turned → PlayerValue → Type 0
+Turns s before given after =
+    MatchOption before.over (TurnsAs (turn_outcome s before.world.log) before.world.log given after.world.log)
+    (λ end. (given ≡ Over end) × (after ≡ before))
+
+-- ---- the player itself
+
+-- a run that isn't over goes on from here
+abbrev pub GoesOnUnless : Option End → ScenarioValue → Run → Type 0
+GoesOnUnless None s run = IsRunOf s run
+GoesOnUnless (Some end) s run = HasEnded s end run.world.log
+
+-- the player runs some scenario, from here on or to this end
+pub record IsPlayer (run : Run) (over : Option End) : Type 0 where
+  pub script : ScenarioValue
+  pub run_is : GoesOnUnless over script run

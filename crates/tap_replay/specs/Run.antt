@@ -1,0 +1,54 @@
+-- What a player works on, and what the next group makes of it.
+--
+-- Rule: docs/FORMATS.md, "What comes next".
+use Rattle.std.specs.Prelude.{◌≡◌, ◌<◌, false, List, [], ◌∷◌, ◌++◌, Option, None, Some, Result, Ok, Err}
+use Rattle.tap_scenario.specs.Scenario.{ScenarioValue}
+use Rattle.tap_log.specs.declared.record.Record.{Record}
+use Rattle.tap_log.specs.declared.record.Record.TheVariants.{Spent as SpentRecord}
+use Rattle.tap_log.specs.Counts.{sent_count}
+use Rattle.tap_engine.specs.World.{WorldValue}
+use Rattle.tap_engine.specs.declared.stop.Stop.{Stop}
+use Rattle.tap_engine.specs.declared.stop.Stop.TheVariants.{Spent, NoMemory}
+use Rattle.tap_lawful.specs.Due.{chosen_in}
+use Rattle.tap_lawful.specs.Next.{beginning_in, begun_count, next_group}
+use Rattle.tap_lawful.specs.Lawful.{IsPlayed, step_alone}
+use Rattle.tap_replay.specs.Choice.{IsChoiceOf}
+use Rattle.tap_replay.specs.declared.run.Run.{Run}
+
+-- the world goes on, and its log is that of a run of the scenario which isn't over
+pub record GoesOn (s : ScenarioValue) (w : WorldValue) : Type 0 where
+  pub played : IsPlayed s w.log
+  pub beginning : w.beginning ≡ beginning_in s
+  pub noted : w.refused ≡ None
+  pub unstopped : w.stopped ≡ false
+
+-- a run of the scenario that isn't over, with the number of the steps that were begun, and what the last one has chosen
+pub record IsRunOf (s : ScenarioValue) (run : Run) : Type 0 where
+  pub goes_on : GoesOn s run.world
+  pub begun : run.begun ≡ begun_count run.world.log
+  pub choice : IsChoiceOf (chosen_in run.world.log) run.choice
+
+-- the group was added
+pub record HasAdded (s : ScenarioValue) (group : List Record) (before after : Run) : Type 0 where
+  pub log : after.world.log ≡ before.world.log ++ group
+  pub run : IsRunOf s after
+
+-- with the group too many frames would be sent, and the log says so
+pub record HasSpent (s : ScenarioValue) (group : List Record) (before after : Run) : Type 0 where
+  pub over : s.frames < sent_count (before.world.log ++ group)
+  pub log : after.world.log ≡ before.world.log ++ (step_alone group ++ SpentRecord s.frames ∷ [])
+
+-- by the answer: the group was added; or it would send too many frames; or memory was refused, and the log stays
+abbrev pub AddsGroup : ScenarioValue → List Record → Run → Result (Unit {0}) Stop → Run → Type 0
+AddsGroup s group before (Ok done) after = HasAdded s group before after
+AddsGroup s group before (Err Spent) after = HasSpent s group before after
+AddsGroup s group before (Err NoMemory) after = after.world.log ≡ before.world.log
+AddsGroup s group before (Err other) after = ⊥
+
+-- the group that comes next is added; nothing changes if none does
+abbrev pub AddsComing : ScenarioValue → Option (List Record) → Run → Result (Unit {0}) Stop → Run → Type 0
+AddsComing s (Some group) before given after = AddsGroup s group before given after
+AddsComing s None before given after = (given ≡ Ok tt) × (after.world ≡ before.world) × IsRunOf s after
+
+abbrev pub AddsNext : ScenarioValue → Run → Result (Unit {0}) Stop → Run → Type 0
+AddsNext s before given after = AddsComing s (next_group s before.world.log) before given after

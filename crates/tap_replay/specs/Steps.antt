@@ -1,0 +1,21 @@
+-- When a world may run a step, and what it answers to one.
+--
+-- Rule: docs/FORMATS.md, "What comes next".
+use Rattle.std.specs.Prelude.{◌≡◌, ◌≤◌, ℕ, false, [], ◌∷◌}
+use Rattle.tap_scenario.specs.declared.step.Step.{Step}
+use Rattle.tap_log.specs.declared.record.Record.TheVariants.{Step as StepRecord}
+use Rattle.tap_log.specs.Counts.{sent_count}
+use Rattle.tap_log.specs.Kinds.{is_carried}
+use Rattle.tap_engine.specs.Outcome.{MayGoOn, Outcome, adds_within, step_group, unless_stopped}
+use Rattle.tap_engine.specs.World.{WorldValue}
+
+-- The world may run a step: it goes on, its log isn't carried, and no more frames were sent than may be.
+pub record MayRun (w : WorldValue) : Type 0 where
+  pub goes_on : MayGoOn w
+  pub runs : w.stopped ≡ false
+  pub uncarried : is_carried w.log ≡ false
+  pub few : sent_count w.log ≤ w.beginning.frames
+
+-- The group of a step is added, its refusal with it; or the step alone, and then `Spent`, if too many frames would be sent.
+abbrev pub run_outcome : WorldValue → ℕ → Step → Outcome
+run_outcome w index step = unless_stopped w (adds_within w (StepRecord index step ∷ []) (step_group w.beginning w.log index step))

@@ -1,0 +1,17 @@
+//! Runs of scenarios: which group of records comes next in a run, and the player that has a world add one after the other.
+#![tactic(auto)]
+
+mod choice;
+mod end;
+mod law;
+mod player;
+mod run;
+mod steps;
+#[cfg(test)]
+mod tests;
+mod whole;
+
+pub use end::{End, Turned};
+pub use law::replay_law;
+pub use player::Player;
+pub use whole::{Played, replay};

@@ -1,0 +1,148 @@
+// A small scenario, turn by turn and whole: it is run to its end, or until too many frames would be sent.
+ghost use Rattle.std.specs.Prelude.{◌≤◌, ◌≡◌, All, IfOk, IsTrue, length, false};
+ghost use Rattle.tap_name.specs.Name.{IsName};
+ghost use Rattle.tap_name.specs.Settings.{AreWithinLimits};
+ghost use Rattle.tap_scenario.specs.Step.{IsStep, is_played};
+ghost use Rattle.tap_replay.specs.Player.{MayTurn};
+ghost use Rattle.tap_scenario.specs.Scenario.{EachStepIsPlayed};
+
+use crate::end::{End, Turned};
+use crate::player::Player;
+use crate::whole::{Played, replay};
+use std::alloc::Global;
+use std::test::Fail;
+use tap_name::{List, Name, Settings, read_name};
+use tap_scenario::{Scenario, Step};
+
+// The settings of the scenarios: names of two binary digits.
+fn settings() -> Result<Settings, Fail>
+    ensures { IfOk result AreWithinLimits }
+{
+    Ok(Settings::new(2, 2, 1).ok_or("settings")?)
+}
+
+// The name of a text.
+fn name(settings: &Settings, text: &str) -> Result<Name, Fail>
+    ensures { IfOk result (IsName settings.now) }
+{
+    match read_name(settings, text.as_bytes()) {
+        Ok(name) => Ok(name),
+        Err(_) => Err("a name")?,
+    }
+}
+
+// A delivery that is refused, since nothing is outstanding; a join; and the frames that are taken then, in each way.
+#[tactic(auto, unfolding(tap_scenario::specs::Step::is_played))]
+fn steps(settings: &Settings) -> Result<[Step; 6], Fail>
+    ensures names { IfOk result (λ steps. All (IsStep settings.now false) steps) }
+    ensures plays { IfOk result (λ steps. All (λ step. IsTrue (is_played step)) steps) }
+{
+    let (newcomer, member) = (name(settings, "01")?, name(settings, "00")?);
+    Ok([
+        Step::Deliver { place: 0 },
+        Step::SettleNewest,
+        Step::Join {
+            name: newcomer,
+            via: member,
+        },
+        Step::Deliver { place: 0 },
+        Step::SettleMixed { seed: 7 },
+        Step::Table { name: newcomer },
+    ])
+}
+
+// The scenario of one member with these steps, in which so many frames may be sent.
+fn scenario_of(
+    alloc: Global,
+    settings: &Settings,
+    frames: u32,
+    steps: &[Step],
+) -> Result<Scenario, Fail>
+    requires limits { AreWithinLimits settings.now }
+    requires from { 1 ≤ frames }
+    requires to { frames ≤ 1000 }
+    requires few { length steps.now ≤ 1000 }
+    requires steps { All (IsStep settings.now false) steps.now }
+    ensures { IfOk result (λ s. s.steps ≡ steps.now) }
+{
+    let member = name(settings, "00")?;
+    let mut members = List::new(alloc);
+    members.push(member)?;
+    Ok(Scenario::of(alloc, settings, frames, &members, steps)?)
+}
+
+// The scenario of those steps.
+fn scenario(alloc: Global, frames: u32) -> Result<Scenario, Fail>
+    requires from { 1 ≤ frames }
+    requires to { frames ≤ 1000 }
+    ensures { IfOk result EachStepIsPlayed }
+{
+    let settings = settings()?;
+    let steps = steps(&settings)?;
+    scenario_of(alloc, &settings, frames, &steps)
+}
+
+// Whether a further turn answers the same, and adds nothing.
+fn is_over(player: &mut Player, scenario: &Scenario, end: End) -> bool
+    requires script { MayTurn scenario.now player.old.world.log }
+    requires plays { EachStepIsPlayed scenario.now }
+    ensures { MayTurn scenario.now player.new.world.log }
+{
+    let count = player.log().len();
+    player.turn(scenario) == Turned::Over(end) && player.log().len() == count
+}
+
+// The turns of a player until its run is over: how many they are, how it ends, and how long its log is then.
+fn turns_of(player: &mut Player, scenario: &Scenario) -> Result<(u32, End, usize), Fail>
+    requires script { MayTurn scenario.now player.old.world.log }
+    requires plays { EachStepIsPlayed scenario.now }
+{
+    for turns in 1..100 {
+        if let Turned::Over(end) = player.turn(scenario) {
+            if !is_over(player, scenario, end) {
+                return Err("a run that is over")?;
+            }
+            return Ok((turns, end, player.log().len()));
+        }
+    }
+    Err("a run that doesn't end")?
+}
+
+// Those of a player of this scenario.
+fn play(alloc: Global, scenario: &Scenario) -> Result<(u32, End, usize), Fail>
+    requires { EachStepIsPlayed scenario.now }
+{
+    match Player::new(alloc, scenario) {
+        Ok(mut player) => turns_of(&mut player, scenario),
+        Err(_) => Err("memory")?,
+    }
+}
+
+// The end of a replay, and how long its log is.
+fn replayed(alloc: Global, scenario: &Scenario) -> Result<(End, usize), Fail>
+    requires { EachStepIsPlayed scenario.now }
+{
+    let Played { world, end } = replay(alloc, scenario);
+    match world {
+        Some(world) => Ok((end, world.log().len())),
+        None => Err("memory")?,
+    }
+}
+
+// Fourteen groups: six steps, and eight frames that are taken.
+#[test]
+fn a_scenario_is_played_to_its_end(rt: HostRuntime) -> Result<(), Fail> {
+    let scenario = scenario(rt.alloc(), 1000)?;
+    assert_eq!(rt; play(rt.alloc(), &scenario)?, (14, End::Done, 27));
+    assert_eq!(rt; replayed(rt.alloc(), &scenario)?, (End::Done, 27));
+    Ok(())
+}
+
+// The second frame may not be sent.
+#[test]
+fn a_run_is_spent(rt: HostRuntime) -> Result<(), Fail> {
+    let scenario = scenario(rt.alloc(), 1)?;
+    assert_eq!(rt; play(rt.alloc(), &scenario)?, (5, End::Spent, 8));
+    assert_eq!(rt; replayed(rt.alloc(), &scenario)?, (End::Spent, 8));
+    Ok(())
+}

@@ -1,0 +1,47 @@
+ghost use Rattle.tap_scenario.specs.Scenario.{EachStepIsPlayed};
+ghost use Rattle.tap_replay.specs.Whole.{IsReplay};
+
+use crate::end::{End, Turned};
+use crate::player::Player;
+use std::alloc::Global;
+use tap_scenario::Scenario;
+use tap_world::World;
+
+/// What a replay leaves: its world, and how it has ended.
+///
+/// Rule: docs/FORMATS.md, "The ways a run ends".
+#[derive(Drop)]
+pub struct Played {
+    /// The world, whose log is that of the replay. There is none only if memory was refused, and the log is empty then.
+    pub world: Option<World>,
+    /// How the run has ended.
+    pub end: End,
+}
+
+/// Runs a scenario to its end: the turns of a player, until the run is over.
+///
+/// `Done` comes exactly if every step was run, and `Spent` exactly if the next group would have sent more frames than may be sent; the
+/// log ends with the record that says so. `NoMemory` comes only if memory was refused. The run takes memory of `alloc`.
+///
+/// Condition: no step is one of a carrier or a root set.
+///
+/// Rule: docs/FORMATS.md, "What comes next".
+pub fn replay(alloc: Global, scenario: &Scenario) -> Played
+    requires { EachStepIsPlayed scenario.now }
+    ensures { IsReplay scenario.now result }
+{
+    let Ok(mut player) = Player::new(alloc, scenario) else {
+        return Played {
+            world: None,
+            end: End::NoMemory,
+        };
+    };
+    loop {
+        if let Turned::Over(end) = player.turn(scenario) {
+            return Played {
+                world: Some(player.into_world()),
+                end,
+            };
+        }
+    }
+}
