@@ -1,0 +1,36 @@
+ghost use Rattle.tap_headline.specs.Endings.{LogsEndSo};
+ghost use Rattle.tap_headline.specs.Headline.{LogsFollowScripts, LogsHaveHeadline};
+ghost use Rattle.tap_headline.specs.Printable.{LogsCanBePrinted};
+
+/// The log of a run begins as its scenario does, and its steps are the scenario's first ones. At each of its moments, before it says how the
+/// run has ended, no core node's table has a hole that another core node could fill, each walk from a core node leads to the one root of
+/// its object, and at rest each node that is present is core.
+///
+/// It does nothing: its contract is the law.
+///
+/// Rule: docs/FORMATS.md, "What comes next" and "The course of a run".
+pub fn headline_law()
+    ensures follows { LogsFollowScripts }
+    ensures headline { LogsHaveHeadline }
+{}
+
+/// The log of a run that isn't over has neither `Finished` nor `Spent` at its end. That of a run whose steps were all run has every step
+/// of the scenario, and `Finished` with their number; that of one which would send too many frames ends with `Spent`.
+///
+/// It does nothing: its contract is the law.
+///
+/// Rule: docs/FORMATS.md, "The ways a run ends".
+pub fn endings_law()
+    ensures { LogsEndSo }
+{}
+
+/// The log of a run can be printed in each mode: it begins with its only `Begin`, the head of each frame is read with its settings, each
+/// walk went through some node, the digits of slots are below the base, and want of memory is no fault of a damaged copy. It has far
+/// fewer records than may be printed.
+///
+/// It does nothing: its contract is the law.
+///
+/// Rule: docs/FORMATS.md, "The printed text".
+pub fn printable_law()
+    ensures { LogsCanBePrinted }
+{}
