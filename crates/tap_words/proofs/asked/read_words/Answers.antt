@@ -1,0 +1,32 @@
+use Rattle.std.proofs.Common.{◌≡◌, ◌∙◌, List, None, [], ap, inl, inr, map, ◌∷◌, refl}
+use Rattle.std.specs.Prelude.{◌≢◌, ok_or}
+use Rattle.std.specs.String.{string_bytes}
+use Rattle.clap.specs.Words.{HasKind, Kinds, Row, Text, kind_of, matches_of}
+use Rattle.clap.specs.declared.error.Error.{Error}
+use Rattle.clap.specs.declared.error.ErrorKind.TheVariants.{OutOfMemory}
+use Rattle.tap_words.specs.Command.{command_app, faults}
+use Rattle.tap_words.specs.Words.{asked_by, asked_of_rows, asked_unless}
+use Rattle.tap_words.specs.declared.asked.WordsRefusal.TheVariants.{Usage}
+use Rattle.tap_words.proofs.asked.read_words.Goals as goal
+
+accepted : (words : List Text) (rows : List Row) → faults words ≡ [] → rows ≡ matches_of command_app words → asked_of_rows rows ≡ asked_by words
+unfolding asked_by
+accepted words rows none same = rw (none, same) refl
+
+refused_by : (kinds : Kinds) (rows : List Row) (e : Error) → HasKind kinds e → kind_of e ≢ OutOfMemory → None ≡ asked_unless kinds rows
+refused_by [] rows e (inl memory) other = absurd (other memory)
+refused_by [] rows e (inr h) other = absurd h
+refused_by (kind ∷ kinds) rows e h other = refl
+
+refused : (words : List Text) (e : Error) → HasKind (faults words) e → kind_of e ≢ OutOfMemory → None ≡ asked_by words
+unfolding asked_by
+refused words e h other = refused_by (faults words) (matches_of command_app words) e h other
+
+pub returns-in-Ok-clause-value : goal.returns-in-Ok-clause-value
+returns-in-Ok-clause-value c = λ _.
+    c.asked_in.ensures.value ∙ ap (λ asked. ok_or asked Usage) (accepted (map string_bytes c.args.words.now) _ c.in-Ok.ensures.faults c.in-Ok.ensures.ok)
+
+pub returns-clause-value : goal.returns-clause-value
+returns-clause-value c = λ _.
+    ap (λ asked. ok_or asked Usage) (refused (map string_bytes c.args.words.now) c.in-Err.error c.in-Err.ensures.faults
+    (λ e. c.in_default.not-OutOfMemory (c.kind.ensures ∙ e)))

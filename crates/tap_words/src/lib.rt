@@ -1,0 +1,11 @@
+//! The words of the command line: which are accepted, and what they ask for.
+#![tactic(auto)]
+
+mod asked;
+mod command;
+mod law;
+#[cfg(test)]
+mod tests;
+
+pub use asked::{Asked, MOST_JOINS, WordsRefusal, read_words};
+pub use law::plain_words_law;
