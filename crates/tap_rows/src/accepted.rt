@@ -1,6 +1,46 @@
-use crate::outcome::{PRINTED, brief_text, run_text, with_line};
+use crate::outcome::{PRINTED, run_text, run_words, with_line};
 use std::test::Fail;
 use tap_top::Status;
+
+// What is printed of a join, and of the two tables after it.
+const JOINED: &str = "begin base 2 digits 2 width 1 frames 200000
+member 00
+step 1 join 01 via 00
+sent 0 seek 01 00 01010002000100000001
+step 2 settle
+taken 0
+sent 1 link 00 01 01080005000000010000000101
+sent 2 hello 00 01 01030005000000010000000101
+taken 1
+taken 2
+sent 3 link 01 00 01080005000100000000000101
+sent 4 heard 01 00 010400040001000000000001
+taken 3
+sent 5 release 00 01 0107000000000001
+taken 4
+sent 6 done 00 01 0106000000000001
+taken 5
+taken 6
+core 01
+sent 7 release 01 00 0107000000010000
+taken 7
+step 3 table 00
+table 00 core links 1
+link 1 1 01 settled
+step 4 table 01
+table 01 core links 1
+link 1 0 00 settled
+done 4
+";
+
+// What is printed of it if only one frame may be sent.
+const SPENT: &str = "begin base 2 digits 2 width 1 frames 1
+member 00
+step 1 join 01 via 00
+sent 0 seek 01 00 01010002000100000001
+step 2 settle
+spent 1
+";
 
 #[test]
 fn accepted_texts_run_to_their_end(rt: HostRuntime) -> Result<(), Fail> {
@@ -44,10 +84,10 @@ fn accepted_texts_run_to_their_end(rt: HostRuntime) -> Result<(), Fail> {
     ];
     for (text, printed, brief) in cases.iter() {
         let outcome = run_text(alloc, text.as_bytes(), &[], &[])?;
-        assert_eq!(rt; outcome.ended.status, Status::Done, "{text}");
+        assert_eq!(rt; outcome.status, Status::Done, "{text}");
         assert_eq!(rt; outcome.written.as_slice(), printed.as_bytes(), "{text}");
-        let in_brief = brief_text(alloc, &outcome.ended.log)?;
-        assert_eq!(rt; in_brief.as_slice(), brief.as_bytes(), "{text}");
+        let in_brief = run_words(alloc, &["--brief"], text.as_bytes(), &[], &[])?;
+        assert_eq!(rt; in_brief.written.as_slice(), brief.as_bytes(), "{text}");
     }
     Ok(())
 }
@@ -58,10 +98,54 @@ fn a_walk_over_five_members(rt: HostRuntime) -> Result<(), Fail> {
     for line in ["base = 4", "base = 0x4", "base = 0b100 # four"] {
         let text = with_line(alloc, 0, line)?;
         let outcome = run_text(alloc, text.as_bytes(), &[], &[])?;
-        assert_eq!(rt; outcome.ended.status, Status::Done, "{line}");
-        assert_eq!(rt; outcome.ended.before, Status::Done, "{line}");
+        assert_eq!(rt; outcome.status, Status::Done, "{line}");
+        assert_eq!(rt; outcome.before, Status::Done, "{line}");
         assert_eq!(rt; outcome.written.as_slice(), PRINTED.as_bytes(), "{line}");
-        assert_eq!(rt; outcome.ended.log.len(), 4);
+        assert_eq!(rt; outcome.records, 4);
     }
+    Ok(())
+}
+
+// A newcomer joins: each frame is printed as it is sent and taken.
+#[test]
+fn a_newcomer_joins(rt: HostRuntime) -> Result<(), Fail> {
+    let text =
+        "base = 2\ndigits = 2\nwidth = 1\nmembers = [\"00\"]\nsteps = [\"join 01 via 00\", \"settle\", \"table 00\", \"table 01\"]\n";
+    let outcome = run_text(rt.alloc(), text.as_bytes(), &[], &[])?;
+    assert_eq!(rt; outcome.status, Status::Done);
+    assert_eq!(rt; outcome.written.as_slice(), JOINED.as_bytes());
+    assert_eq!(rt; outcome.records, 25);
+    Ok(())
+}
+
+// With a limit of one frame the next step of a node would send a second one.
+#[test]
+fn a_run_is_spent(rt: HostRuntime) -> Result<(), Fail> {
+    let text =
+        "base = 2\ndigits = 2\nwidth = 1\nframes = 1\nmembers = [\"00\"]\nsteps = [\"join 01 via 00\", \"settle\", \"table 00\"]\n";
+    let outcome = run_text(rt.alloc(), text.as_bytes(), &[], &[])?;
+    assert_eq!(rt; outcome.status, Status::Spent);
+    assert_eq!(rt; outcome.before, Status::Spent);
+    assert_eq!(rt; outcome.written.as_slice(), SPENT.as_bytes());
+    assert_eq!(rt; outcome.records, 5);
+    Ok(())
+}
+
+// A scenario that is made is printed as its summary, and the source isn't touched: its first read would fail.
+#[test]
+fn a_scenario_is_made(rt: HostRuntime) -> Result<(), Fail> {
+    let words = ["--make", "1", "--seed", "2"];
+    let outcome = run_words(rt.alloc(), &words, b"no scenario".as_slice(), &[1], &[])?;
+    assert_eq!(rt; outcome.status, Status::Done);
+    assert_eq!(rt;
+        outcome.written.as_slice(),
+        b"nodes 28\nframes 137\nhops 2\nanswered 30\n".as_slice()
+    );
+    // Without a seed it is 1.
+    let outcome = run_words(rt.alloc(), &["--make", "1"], b"".as_slice(), &[1], &[])?;
+    assert_eq!(rt;
+        outcome.written.as_slice(),
+        b"nodes 28\nframes 131\nhops 2\nanswered 30\n".as_slice()
+    );
     Ok(())
 }

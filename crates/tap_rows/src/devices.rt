@@ -1,8 +1,7 @@
-use crate::outcome::{PRINTED, run_text, with_line};
+use crate::outcome::{PRINTED, run_text, run_words, with_line};
 use std::test::Fail;
-use tap_io::{MemorySink, MemorySource};
 use tap_scenario::Fault;
-use tap_top::{Status, run};
+use tap_top::Status;
 
 #[test]
 fn each_read_fails_once(rt: HostRuntime) -> Result<(), Fail> {
@@ -23,7 +22,7 @@ fn each_read_fails_once(rt: HostRuntime) -> Result<(), Fail> {
         } else {
             PRINTED
         };
-        assert_eq!(rt; outcome.ended.status, wanted, "read {call}");
+        assert_eq!(rt; outcome.status, wanted, "read {call}");
         assert_eq!(rt;
             outcome.written.as_slice(),
             printed.as_bytes(),
@@ -49,7 +48,7 @@ fn each_write_fails_once(rt: HostRuntime) -> Result<(), Fail> {
         } else {
             Status::Done
         };
-        assert_eq!(rt; outcome.ended.status, wanted, "write {call}");
+        assert_eq!(rt; outcome.status, wanted, "write {call}");
         assert!(rt; PRINTED.as_bytes().starts_with(written), "write {call}");
         // The first write that fails is the last one: what stands is what the writes before it took.
         let count = PRINTED.len().min(10 * (call as usize - 1));
@@ -60,26 +59,35 @@ fn each_write_fails_once(rt: HostRuntime) -> Result<(), Fail> {
         );
         before = written.len();
         // The log doesn't depend on the sink.
-        assert_eq!(rt; outcome.ended.before, Status::Done, "write {call}");
-        assert_eq!(rt; outcome.ended.log.len(), 4, "write {call}");
+        assert_eq!(rt; outcome.before, Status::Done, "write {call}");
+        assert_eq!(rt; outcome.records, 4, "write {call}");
     }
     Ok(())
 }
 
 #[test]
-fn a_word_is_refused(rt: HostRuntime) -> Result<(), Fail> {
+fn words_are_refused(rt: HostRuntime) -> Result<(), Fail> {
     let alloc = rt.alloc();
     let text = with_line(alloc, 5, "")?;
-    let mut words = Vec::new(alloc);
-    words.push(String::from_str(alloc, "--nope")?)?;
-    let mut source = MemorySource::new(alloc, text.as_bytes(), 16, &[1]).map_err(|_| "no memory")?;
-    let mut sink = MemorySink::new(alloc, 10, 100, &[]).map_err(|_| "no memory")?;
-    let ended = run(alloc, &words, &mut source, &mut sink);
-    assert_eq!(rt; ended.status, Status::Usage);
-    assert_eq!(rt;
-        sink.bytes(),
-        b"tapestry: usage: tapestry [--brief] [--make N] [--seed S]\n".as_slice()
-    );
+    let refused: [&[&str]; 7] = [
+        &["--nope"],
+        &["--help"],
+        &["--brief", "--brief"],
+        &["--make"],
+        &["--make", "0"],
+        &["--make", "101"],
+        &["--seed", "-1"],
+    ];
+    for words in refused.iter() {
+        // The source isn't touched: its first read would fail.
+        let outcome = run_words(alloc, words, text.as_bytes(), &[1], &[])?;
+        assert_eq!(rt; outcome.status, Status::Usage);
+        assert_eq!(rt;
+            outcome.written.as_slice(),
+            b"tapestry: usage: tapestry [--brief] [--make N] [--seed S]\n".as_slice()
+        );
+        assert_eq!(rt; outcome.records, 0);
+    }
     Ok(())
 }
 
@@ -92,6 +100,7 @@ fn each_status_has_its_exit_code(rt: HostRuntime) -> Result<(), Fail> {
         (Status::TooLong, 3),
         (Status::NotScenario(Fault::BadStep(7)), 3),
         (Status::WriteFault, 4),
+        (Status::Spent, 5),
         (Status::NoMemory, 6),
     ];
     for (status, code) in cases.iter() {
@@ -104,8 +113,8 @@ fn each_status_has_its_exit_code(rt: HostRuntime) -> Result<(), Fail> {
 fn a_text_is_refused_and_no_line_is_written(rt: HostRuntime) -> Result<(), Fail> {
     let alloc = rt.alloc();
     let outcome = run_text(alloc, b"base = ".as_slice(), &[], &[1])?;
-    assert_eq!(rt; outcome.ended.status, Status::WriteFault);
-    assert_eq!(rt; outcome.ended.before, Status::NotScenario(Fault::NotToml));
+    assert_eq!(rt; outcome.status, Status::WriteFault);
+    assert_eq!(rt; outcome.before, Status::NotScenario(Fault::NotToml));
     assert!(rt; outcome.written.is_empty());
     Ok(())
 }

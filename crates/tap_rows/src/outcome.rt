@@ -1,12 +1,7 @@
-ghost use Rattle.std.specs.Prelude.{IfOk};
-ghost use Rattle.tap_report.specs.Text.{IsPrintableLog};
-
 use std::alloc::{AllocError, Global};
 use std::test::Fail;
 use tap_io::{MemorySink, MemorySource};
-use tap_log::Log;
-use tap_report::{Mode, Written, write_log};
-use tap_top::{Ended, run};
+use tap_top::{Ended, Status, run};
 
 /// A scenario of one walk over five members, line by line.
 pub(crate) const LINES: [&str; 5] = [
@@ -39,37 +34,65 @@ pub(crate) fn with_line(alloc: Global, place: usize, line: &str) -> Result<Strin
     Ok(text)
 }
 
-/// What a run left: its answer, and the bytes that it wrote.
+/// What a run left: how it ended, with regard to writing and without, how many records the log of its world has, none if no
+/// world is left, and the bytes that it wrote.
 #[derive(Drop)]
 pub(crate) struct Outcome {
-    pub(crate) ended: Ended,
+    pub(crate) status: Status,
+    pub(crate) before: Status,
+    pub(crate) records: usize,
     pub(crate) written: Vec<u8>,
 }
 
-/// Runs a text, read in pieces of 16 bytes and written in pieces of 10. The calls with these numbers fail.
+/// Runs a text with no word, read in pieces of 16 bytes and written in pieces of 10. The calls with these numbers fail.
 pub(crate) fn run_text(
     alloc: Global,
     text: &[u8],
     read_fails: &[u32],
     write_fails: &[u32],
-) -> Result<Outcome, Fail>
-    ensures { IfOk result (λ outcome. IsPrintableLog outcome.ended.log.records) }
-{
-    let mut source = MemorySource::new(alloc, text, 16, read_fails).map_err(|_| "no memory")?;
-    let mut sink = MemorySink::new(alloc, 10, 65536, write_fails).map_err(|_| "no memory")?;
-    let words = Vec::new(alloc);
-    let ended = run(alloc, &words, &mut source, &mut sink);
-    let written = Vec::from_slice(alloc, sink.bytes())?;
-    Ok(Outcome { ended, written })
+) -> Result<Outcome, Fail> {
+    run_words(alloc, &[], text, read_fails, write_fails)
 }
 
-/// The brief text of a log.
-pub(crate) fn brief_text(alloc: Global, log: &Log) -> Result<Vec<u8>, Fail>
-    requires { IsPrintableLog log.now.records }
-{
-    let mut sink = MemorySink::new(alloc, 4096, 65536, &[]).map_err(|_| "no memory")?;
-    match write_log(Mode::Brief, log, &mut sink) {
-        Written::All => Ok(Vec::from_slice(alloc, sink.bytes())?),
-        Written::Failed => Err("a write failed")?,
+/// The same, with these words.
+pub(crate) fn run_words(
+    alloc: Global,
+    words: &[&str],
+    text: &[u8],
+    read_fails: &[u32],
+    write_fails: &[u32],
+) -> Result<Outcome, Fail> {
+    let mut source = MemorySource::new(alloc, text, 16, read_fails).map_err(|_| "no memory")?;
+    let mut sink = MemorySink::new(alloc, 10, 65536, write_fails).map_err(|_| "no memory")?;
+    let words = owned(alloc, words)?;
+    let (status, before, records) = seen_of(run(alloc, &words, &mut source, &mut sink));
+    let written = Vec::from_slice(alloc, sink.bytes())?;
+    Ok(Outcome {
+        status,
+        before,
+        records,
+        written,
+    })
+}
+
+// What is looked at of what a run left.
+fn seen_of(ended: Ended) -> (Status, Status, usize) {
+    (ended.status, ended.before, record_count(&ended))
+}
+
+// These words, as a command line has them.
+fn owned(alloc: Global, words: &[&str]) -> Result<Vec<String>, Fail> {
+    let mut texts = Vec::new(alloc);
+    for word in words {
+        texts.push(String::from_str(alloc, word)?)?;
+    }
+    Ok(texts)
+}
+
+// How many records the log of the world has that is left; none if no world is.
+fn record_count(ended: &Ended) -> usize {
+    match &ended.world {
+        Some(world) => world.log().len(),
+        None => 0,
     }
 }

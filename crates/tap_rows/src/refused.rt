@@ -86,9 +86,9 @@ fn each_refused_text_has_its_fault(rt: HostRuntime) -> Result<(), Fail> {
         let text = with_line(alloc, *place, line)?;
         let outcome = run_text(alloc, text.as_bytes(), &[], &[])?;
         let printed = format!(in alloc; "tapestry: not a scenario: {told}\n")?;
-        assert_eq!(rt; outcome.ended.status, Status::NotScenario(*fault), "{line}");
+        assert_eq!(rt; outcome.status, Status::NotScenario(*fault), "{line}");
         assert_eq!(rt; outcome.written.as_slice(), printed.as_bytes(), "{line}");
-        assert_eq!(rt; outcome.ended.log.len(), 0, "{line}");
+        assert_eq!(rt; outcome.records, 0, "{line}");
     }
     Ok(())
 }
@@ -127,7 +127,7 @@ fn texts_that_are_none(rt: HostRuntime) -> Result<(), Fail> {
     ];
     for (text, status, printed) in cases.iter() {
         let outcome = run_text(alloc, text, &[], &[])?;
-        assert_eq!(rt; outcome.ended.status, *status, "{printed}");
+        assert_eq!(rt; outcome.status, *status, "{printed}");
         assert_eq!(rt; outcome.written.as_slice(), printed.as_bytes(), "{printed}");
     }
     Ok(())

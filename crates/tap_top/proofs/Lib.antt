@@ -1,5 +1,4 @@
 pub mod Flushing
-pub mod Kept
-pub mod Lines
-pub mod RunLemmas
 pub mod Texts
+pub mod Turning
+pub mod Causes

@@ -1,56 +1,80 @@
 -- Why the top call ends as it does, and what it has then written. The states of the source, and those of the sink, were
--- `old` and are `new`.
-use Rattle.std.specs.Prelude.{◌≡◌, ◌⊎◌, ℕ, ◌<◌, ◌++◌, List, []}
-use Rattle.tap_io.specs.Faults.{HasRisen}
+-- `old` and are `new`. The log is that of the world which is left, and empty if none is.
+use Rattle.std.specs.Prelude.{◌≡◌, ◌⊎◌, ◌++◌, ℕ, IsSome, List, [], Option, None, Some}
 use Rattle.tap_io.specs.Sink.{SinkState}
 use Rattle.tap_io.specs.Source.{SourceState}
-use Rattle.tap_scenario.specs.Scenario.{ScenarioValue}
+use Rattle.tap_scenario.specs.Scenario.{IsScript, ScenarioValue}
 use Rattle.tap_log.specs.declared.record.Record.{Record}
+use Rattle.tap_engine.specs.World.{WorldValue}
+use Rattle.tap_replay.specs.Player.{HasEnded}
+use Rattle.tap_replay.specs.declared.end.End.TheVariants as end
 use Rattle.tap_report.specs.Text.{text_of_log}
 use Rattle.tap_report.specs.Written.{AppendsAll, FirstFails}
 use Rattle.tap_report.specs.declared.mode.Mode.{Mode}
+use Rattle.tap_report.specs.declared.mode.Mode.TheVariants.{Long}
 use Rattle.tap_report.specs.declared.written.Written.{Written}
 use Rattle.tap_report.specs.declared.written.Written.TheVariants.{All, Failed}
+use Rattle.tap_words.specs.declared.asked.Asked.{Asked}
 use Rattle.tap_top.specs.declared.status.Status.{Status}
-use Rattle.tap_top.specs.declared.status.Status.TheVariants.{Done, Usage, TooLong, NotScenario, ReadFault, WriteFault, NoMemory}
-use Rattle.tap_top.specs.Headline.{IsLogOf, IsWholeLogOf}
+use Rattle.tap_top.specs.declared.status.Status.TheVariants.{Done, Usage, TooLong, NotScenario, ReadFault, WriteFault, Spent, NoMemory}
 use Rattle.tap_top.specs.FaultLine.{fault_line}
-use Rattle.tap_top.specs.Reading.{HasReadFault, HasReadScript, HasReadTooMany}
+use Rattle.tap_top.specs.Wanted.{IsUnread, IsWanted, mode_of}
 
--- why no script was read; if a script was read or nothing was tried, there is no such reason
-abbrev pub IsUnread : SourceState → SourceState → Status → Type 0
-IsUnread old new ReadFault = HasRisen old.faults new.faults
-IsUnread old new TooLong = HasReadTooMany old new
-IsUnread old new (NotScenario fault) = HasReadFault old new fault
-IsUnread old new NoMemory = Unit {0}
-IsUnread old new Done = ⊥
-IsUnread old new Usage = ⊥
-IsUnread old new WriteFault = ⊥
+-- ---- the world
 
--- how the run of a script ends, writing aside, and what its log then is
-abbrev pub HasRunAs : ScenarioValue → List Record → Status → Type 0
-HasRunAs script log Done = IsWholeLogOf script log
-HasRunAs script log NoMemory = (log ≡ []) ⊎ IsLogOf script log
-HasRunAs script log other = ⊥
+-- the log of a world, if there is one
+abbrev pub log_of : Option WorldValue → List Record
+log_of None = []
+log_of (Some world) = world.log
 
--- A script was read to the end of its text, and the log is that of its run up to the end of a group.
-pub record HasRunSome (old new : SourceState) (log : List Record) : Type 0 where
+-- whether a world is left: if a run has ended, and else none; want of memory may come with one or without
+abbrev pub LeavesWorld : Status → Option WorldValue → Type 0
+LeavesWorld Done world = IsSome world
+LeavesWorld Spent world = IsSome world
+LeavesWorld NoMemory world = Unit {0}
+LeavesWorld other world = world ≡ None
+
+-- ---- the cause
+
+-- the run of a scenario ends with this status, writing aside, and this log
+abbrev pub HasRunAs : ScenarioValue → Status → List Record → Type 0
+HasRunAs script Done log = HasEnded script end.Done log
+HasRunAs script Spent log = HasEnded script end.Spent log
+HasRunAs script NoMemory log = HasEnded script end.NoMemory log
+HasRunAs script other log = ⊥
+
+-- the same, or memory was refused before the first record
+abbrev pub HasRunOf : ScenarioValue → Status → List Record → Type 0
+HasRunOf script status log = ((status ≡ NoMemory) × (log ≡ [])) ⊎ HasRunAs script status log
+
+-- the scenario that the words ask for was had, and its run has ended with this status and this log
+pub record HasRun (asked : Asked) (old new : SourceState) (status : Status) (log : List Record) : Type 0 where
   pub script : ScenarioValue
-  pub read : HasReadScript old new script
-  pub run : IsLogOf script log
+  pub valid : IsScript script
+  pub wanted : IsWanted asked old new script
+  pub ended : HasRunAs script status log
 
--- A script was read to the end of its text, and every step of it was run.
-pub record HasRunAll (old new : SourceState) (log : List Record) : Type 0 where
-  pub script : ScenarioValue
-  pub read : HasReadScript old new script
-  pub run : IsWholeLogOf script log
+-- Why a call whose words ask for this ends with a status, writing aside, and what its log then is: a run has ended so; or no scenario
+-- could be read, or memory was refused before the first record.
+abbrev pub HasCauseOf : Asked → SourceState → SourceState → List Record → Status → Type 0
+HasCauseOf asked old new log Done = HasRun asked old new Done log
+HasCauseOf asked old new log Spent = HasRun asked old new Spent log
+HasCauseOf asked old new log NoMemory = (log ≡ []) ⊎ HasRun asked old new NoMemory log
+HasCauseOf asked old new log Usage = ⊥
+HasCauseOf asked old new log WriteFault = ⊥
+HasCauseOf asked old new log other = (log ≡ []) × (asked.make ≡ None) × IsUnread old new other
 
--- why a call with so many words ends with a status, writing aside, and what its log then is
-abbrev pub HasCause : ℕ → SourceState → SourceState → List Record → Status → Type 0
-HasCause words old new log Done = (words ≡ 0) × HasRunAll old new log
-HasCause words old new log Usage = (0 < words) × (log ≡ []) × (new ≡ old)
-HasCause words old new log NoMemory = (words ≡ 0) × ((log ≡ []) ⊎ HasRunSome old new log)
-HasCause words old new log other = (words ≡ 0) × (log ≡ []) × IsUnread old new other
+-- the same by what the words ask for, if they are accepted; if they aren't, nothing is read
+abbrev pub HasCause : Option Asked → SourceState → SourceState → List Record → Status → Type 0
+HasCause None old new log status = (log ≡ []) × (new ≡ old) × ((status ≡ Usage) ⊎ (status ≡ NoMemory))
+HasCause (Some asked) old new log status = HasCauseOf asked old new log status
+
+-- ---- what is written
+
+-- the mode, by what the words ask for
+abbrev pub mode_asked : Option Asked → Mode
+mode_asked None = Long
+mode_asked (Some asked) = mode_of asked
 
 -- the whole text: that of the log, and then the fault line
 abbrev pub text_of_run : Mode → List Record → Status → List ℕ

@@ -4,7 +4,7 @@ use Rattle.tap_scenario.specs.Key.{text_of_key}
 use Rattle.tap_scenario.specs.declared.fault.Fault.{Fault}
 use Rattle.tap_scenario.specs.declared.fault.Fault.TheVariants.{NotUtf8, NotToml, BadKey, BadValue, BadStep}
 use Rattle.tap_top.specs.declared.status.Status.{Status}
-use Rattle.tap_top.specs.declared.status.Status.TheVariants.{Done, Usage, TooLong, NotScenario, ReadFault, WriteFault, NoMemory}
+use Rattle.tap_top.specs.declared.status.Status.TheVariants.{Done, Usage, TooLong, NotScenario, ReadFault, WriteFault, Spent, NoMemory}
 
 -- what is wrong with a scenario's text
 abbrev pub text_of_fault : Fault → List ℕ
@@ -22,4 +22,5 @@ fault_line TooLong = codes "tapestry: text too long\n"
 fault_line (NotScenario fault) = codes "tapestry: not a scenario: " ++ text_of_fault fault ++ codes "\n"
 fault_line ReadFault = codes "tapestry: read fault\n"
 fault_line WriteFault = []
+fault_line Spent = []
 fault_line NoMemory = codes "tapestry: no memory\n"

@@ -1,11 +1,7 @@
 pub mod Limits
-pub mod Members
-pub mod AtRest
-pub mod Lines
 pub mod Status
 pub mod FaultLine
 pub mod Reading
-pub mod Lawful
-pub mod Headline
-pub mod Running
+pub mod Wanted
 pub mod Ending
+pub mod Headline

@@ -8,13 +8,13 @@ use tap_io::Sink;
 use tap_report::{Written, write_text};
 use tap_scenario::Fault;
 
-// Writes the line that says why a run didn't end with `done`, after the text of its log.
+// Writes the line that says why it ended so, after the text of the log, if that doesn't say it.
 pub(crate) fn write_fault_line<K: Sink>(sink: &mut K, so_far: Written, status: Status) -> Written
     ensures { WritesText (K.state sink.old) (K.state sink.new) (fault_line status) so_far result }
 {
     match status {
         Status::NotScenario(fault) => write_not_scenario(sink, so_far, fault),
-        Status::Done | Status::WriteFault => write_text(sink, so_far, b""),
+        Status::Done | Status::Spent | Status::WriteFault => write_text(sink, so_far, b""),
         Status::Usage => write_text(
             sink,
             so_far,

@@ -1,18 +1,17 @@
-//! The top call: a scenario is read from a source, run, and printed to a sink.
+//! The top call: a scenario is read from a source, or made, and run; the text of its log is printed to a sink.
 //!
 //! [`run`] is all that a program needs: its contract says why it ends as it does, what its log is, and what it has
-//! written. A log is that of a run over fixed members, whose tables have no hole, and whose walks find the one root.
+//! written. The log is that of a run of the scenario: at each of its moments no core node's table has a hole that another
+//! core node could fill, each walk finds the one root, and at rest each node that is present is core.
 #![tactic(auto)]
 
-mod answers;
 mod fault_line;
-mod members;
-mod memory;
 mod printing;
 mod reading;
 mod running;
 mod status;
 mod top;
+mod wanted;
 
 pub use reading::MOST_BYTES;
 pub use status::{Ended, Status};

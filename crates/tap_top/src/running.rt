@@ -1,67 +1,28 @@
-ghost use Rattle.std.specs.Prelude.{◌≡◌, ◌<◌, ◌≤◌, ◌+◌, [], None, OnOk, OnErr, IfOk, length, ◌⊎◌, fold, take};
-ghost use Rattle.tap_report.specs.Text.{IsPrintableLog};
+ghost use Rattle.std.specs.Prelude.{◌≡◌, ◌<◌, ◌≤◌, None, length, fold, take};
 ghost use Rattle.tap_io.specs.Sink.{SinkState};
-ghost use Rattle.tap_report.specs.Reporter.{Reports, most_records, new_reporter, settings_after};
+ghost use Rattle.tap_lawful.specs.Laws.{left_of};
+ghost use Rattle.tap_replay.specs.Player.{HasEnded, HasPlayed, over_by};
+ghost use Rattle.tap_report.specs.Reporter.{Reports, most_records, settings_after};
+ghost use Rattle.tap_report.specs.Text.{IsPrintableLog};
 ghost use Rattle.tap_report.specs.declared.mode.Mode.{Mode as ReportMode};
-ghost use Rattle.tap_scenario.specs.Scenario.{EachStepRuns};
-ghost use Rattle.tap_top.specs.AtRest.{AreKeptAtRest, nodes_of};
-ghost use Rattle.tap_top.specs.Headline.{IsLogOf, IsWholeLogOf};
-ghost use Rattle.tap_top.specs.Running.{HasRun};
+ghost use Rattle.tap_scenario.specs.Scenario.{EachStepIsPlayed, IsScript};
 
-use crate::answers::answer;
-use crate::members::Members;
-use crate::memory::NoMemory;
-use std::alloc::Global;
 use tap_io::Sink;
-use tap_log::{Log, Record};
-use tap_name::List;
+use tap_log::Log;
+use tap_replay::{End, Player, Turned};
 use tap_report::Reporter;
 use tap_scenario::Scenario;
 
-// Adds the group of the step at a place: the step, and the record that answers it. A refused call adds nothing.
-fn add_group(
-    alloc: Global,
-    scenario: &Scenario,
-    members: &Members,
-    place: usize,
-    log: &mut Log,
-) -> Result<(), NoMemory>
-    requires at_rest { AreKeptAtRest scenario.now.settings scenario.now.members members.now }
-    requires place { place < length scenario.now.steps }
-    requires runs { EachStepRuns scenario.now }
-    requires run { HasRun scenario.now (nodes_of members.now) log.old.records place }
-    ensures ok { OnOk result (HasRun scenario.now (nodes_of members.now) log.new.records (place + 1)) }
-    ensures grows { OnOk result (take (length log.old.records) log.new.records ≡ log.old.records) }
-    ensures err { OnErr result (log.new.records ≡ log.old.records) }
-{
-    log.reserve(2)?;
-    let step = scenario.step_at(place);
-    let index = place as u32 + 1;
-    let record = answer(alloc, scenario, members, index, &step)?;
-    log.push_reserved(Record::Step { index, step });
-    log.push_reserved(record);
-    Ok(())
-}
-
-// The first record of a run.
-fn begin(alloc: Global, scenario: &Scenario) -> Result<Record, NoMemory>
-    ensures { IfOk result (λ first. first ≡ Record.Begin scenario.now.settings scenario.now.frames scenario.now.members) }
-{
-    Ok(Record::Begin {
-        settings: scenario.settings(),
-        frames: scenario.frames(),
-        members: List::from_vec(Vec::from_slice(alloc, scenario.members().as_slice())?),
-    })
-}
-
 // Puts the records from a place on.
-fn put_from<K: Sink>(log: &Log, from: usize, reporter: &mut Reporter, sink: &mut K)
+pub(crate) fn put_from<K: Sink>(log: &Log, from: usize, reporter: &mut Reporter, sink: &mut K)
     requires printable { IsPrintableLog log.now.records }
     requires few { length log.now.records < most_records }
     requires from { from ≤ length log.now.records }
     requires put { reporter.old.records ≡ from }
     requires settings { reporter.old.settings ≡ fold settings_after None (take from log.now.records) }
-    ensures { (mode : ReportMode) (first : SinkState)
+    ensures put { reporter.new.records ≡ length log.now.records }
+    ensures settings { reporter.new.settings ≡ fold settings_after None log.now.records }
+    ensures reports { (mode : ReportMode) (first : SinkState)
         → Reports mode (take from log.now.records) first (K.state sink.old) reporter.old
         → Reports mode log.now.records first (K.state sink.new) reporter.new }
 {
@@ -70,36 +31,55 @@ fn put_from<K: Sink>(log: &Log, from: usize, reporter: &mut Reporter, sink: &mut
     }
 }
 
-// Runs a scenario: adds its records to an empty log, and puts each once its group is whole.
-pub(crate) fn run_scenario<K: Sink>(
-    alloc: Global,
+// Plays a scenario to its end, and puts the records of each turn once it is over.
+pub(crate) fn play<K: Sink>(
+    player: &mut Player,
     scenario: &Scenario,
-    log: &mut Log,
     reporter: &mut Reporter,
     sink: &mut K,
-) -> Result<(), NoMemory>
-    requires runs { EachStepRuns scenario.now }
-    requires empty { log.old.records ≡ [] }
-    requires fresh { reporter.old ≡ new_reporter reporter.old.mode }
-    ensures done { OnOk result (IsWholeLogOf scenario.now log.new.records) }
-    ensures part { OnErr result ((log.new.records ≡ []) ⊎ IsLogOf scenario.now log.new.records) }
-    ensures printable { IsPrintableLog log.new.records }
-    ensures reports { Reports reporter.old.mode log.new.records (K.state sink.old) (K.state sink.new) reporter.new }
+) -> End
+    requires valid { IsScript scenario.now }
+    requires plays { EachStepIsPlayed scenario.now }
+    requires played { HasPlayed scenario.now player.old }
+    requires begun { player.old.over ≡ None }
+    requires put { reporter.old.records ≡ length player.old.world.log }
+    requires settings { reporter.old.settings ≡ fold settings_after None player.old.world.log }
+    ensures ended { HasEnded scenario.now result player.new.world.log }
+    ensures reports { (mode : ReportMode) (first : SinkState)
+        → Reports mode player.old.world.log first (K.state sink.old) reporter.old
+        → Reports mode player.new.world.log first (K.state sink.new) reporter.new }
 {
-    let members = Members::new(alloc, scenario.settings(), scenario.members())?;
-    let first = begin(alloc, scenario)?;
-    log.push(first)?;
-    put_from(log, 0, reporter, sink);
-    let count = scenario.step_count();
-    for place in 0..count {
-        let from = log.len();
-        add_group(alloc, scenario, &members, place, log)?;
-        put_from(log, from, reporter, sink);
+    loop {
+        if let Turned::Over(end) = turn_and_put(player, scenario, reporter, sink) {
+            return end;
+        }
     }
-    let from = log.len();
-    log.push(Record::Finished {
-        steps: count as u32,
-    })?;
-    put_from(log, from, reporter, sink);
-    Ok(())
+}
+
+// Takes a turn, and puts the records that it has added.
+fn turn_and_put<K: Sink>(
+    player: &mut Player,
+    scenario: &Scenario,
+    reporter: &mut Reporter,
+    sink: &mut K,
+) -> Turned
+    requires valid { IsScript scenario.now }
+    requires plays { EachStepIsPlayed scenario.now }
+    requires played { HasPlayed scenario.now player.old }
+    requires begun { player.old.over ≡ None }
+    requires put { reporter.old.records ≡ length player.old.world.log }
+    requires settings { reporter.old.settings ≡ fold settings_after None player.old.world.log }
+    ensures played { HasPlayed scenario.now player.new }
+    ensures over { player.new.over ≡ over_by result }
+    ensures put { reporter.new.records ≡ length player.new.world.log }
+    ensures settings { reporter.new.settings ≡ fold settings_after None player.new.world.log }
+    ensures reports { (mode : ReportMode) (first : SinkState)
+        → Reports mode player.old.world.log first (K.state sink.old) reporter.old
+        → Reports mode player.new.world.log first (K.state sink.new) reporter.new }
+    ensures less { result ≡ Turned.More → left_of scenario.now player.new.world.log < left_of scenario.now player.old.world.log }
+{
+    let from = player.log().len();
+    let turned = player.turn(scenario);
+    put_from(player.log(), from, reporter, sink);
+    turned
 }

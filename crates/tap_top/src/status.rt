@@ -1,10 +1,11 @@
 ghost use Rattle.std.specs.Prelude.{◌≡◌};
 ghost use Rattle.tap_top.specs.Ending.{with_writing};
-ghost use Rattle.tap_top.specs.Status.{exit_code};
+ghost use Rattle.tap_top.specs.Status.{exit_code, status_of};
 
-use tap_log::Log;
+use tap_replay::End;
 use tap_report::Written;
 use tap_scenario::Fault;
+use tap_world::World;
 
 /// How the top call ended.
 ///
@@ -23,6 +24,8 @@ pub enum Status {
     ReadFault,
     /// A write failed.
     WriteFault,
+    /// The next step of a node would have sent more frames than may be sent, and all text was written.
+    Spent,
     /// Memory was refused.
     NoMemory,
 }
@@ -40,7 +43,19 @@ impl Status {
             Status::Usage => 2,
             Status::TooLong | Status::NotScenario(_) => 3,
             Status::WriteFault => 4,
+            Status::Spent => 5,
             Status::NoMemory => 6,
+        }
+    }
+
+    // How it ends, if its run ends so.
+    pub(crate) fn of(end: End) -> Status
+        ensures { result ≡ status_of end }
+    {
+        match end {
+            End::Done => Status::Done,
+            End::Spent => Status::Spent,
+            End::NoMemory => Status::NoMemory,
         }
     }
 
@@ -58,12 +73,12 @@ impl Status {
 /// What the top call leaves.
 ///
 /// Rule: docs/FORMATS.md, "The fault line and the exit status".
-#[derive(Debug, Drop)]
+#[derive(Drop)]
 pub struct Ended {
     /// How it ended.
     pub status: Status,
     /// How it would have ended without a failed write; never `WriteFault`.
     pub before: Status,
-    /// What the run did. It is empty if no run began.
-    pub log: Log,
+    /// The world of the run, whose log says what the run did. There is none if no run began.
+    pub world: Option<World>,
 }

@@ -1,65 +1,36 @@
-ghost use Rattle.std.specs.Prelude.{◌≡◌, ◌≢◌, ◌<◌, ◌↔◌, ◌⊎◌, [], length, vec_len, IfOk, IfErr};
+ghost use Rattle.std.specs.Prelude.{◌≡◌, ◌≢◌, ◌↔◌, ◌⊎◌, [], IfSome, IsTrue, None, map};
+ghost use Rattle.std.specs.String.{string_bytes};
+ghost use Rattle.tap_engine.specs.Kinds.{is_finished};
 ghost use Rattle.tap_io.specs.Faults.{HasRisen};
+ghost use Rattle.tap_replay.specs.Player.{HasPlayed};
 ghost use Rattle.tap_report.specs.Text.{IsPrintableLog};
-ghost use Rattle.tap_report.specs.declared.mode.Mode.TheVariants.{Long as LongMode};
-ghost use Rattle.tap_scenario.specs.Scenario.{EachStepRuns};
-ghost use Rattle.tap_top.specs.Ending.{HasCause, HasRunAll, HasRunAs, HasRunSome, HasWritten, IsUnread, text_of_run};
+ghost use Rattle.tap_report.specs.declared.mode.Mode.{Mode as ReportMode};
+ghost use Rattle.tap_scenario.specs.Scenario.{EachStepIsPlayed, IsScript};
+ghost use Rattle.tap_top.specs.Ending.{HasCause, HasCauseOf, HasRunAs, HasRunOf, HasWritten, LeavesWorld, log_of, mode_asked, text_of_run};
 ghost use Rattle.tap_top.specs.FaultLine.{fault_line};
-ghost use Rattle.tap_top.specs.Reading.{HasReadFault, HasReadScript, HasReadTooMany};
+ghost use Rattle.tap_top.specs.Headline.{HasRunAll, IsLogAsked, ends_spent};
+ghost use Rattle.tap_top.specs.Reading.{HasReadFault, HasReadTooMany};
+ghost use Rattle.tap_top.specs.Wanted.{AsksWithin, mode_of};
+ghost use Rattle.tap_words.specs.Words.{asked_by};
 
 use crate::fault_line::write_fault_line;
 use crate::printing::flush_after;
-use crate::reading::{Unread, read_all};
-use crate::running::run_scenario;
+use crate::running::{play, put_from};
 use crate::status::{Ended, Status};
+use crate::wanted::{mode_of, wanted_scenario};
 use std::alloc::Global;
 use tap_io::{BufferedSink, Sink, Source};
-use tap_log::Log;
+use tap_replay::Player;
 use tap_report::{Mode, Reporter, Written};
-use tap_scenario::{Fault, ReadRefusal, Scenario, read};
+use tap_scenario::{Fault, Scenario};
+use tap_words::{Asked, WordsRefusal, read_words};
 
 // How many bytes of text may wait to be written together.
 const TEXT_ROOM: usize = 16_384;
 
-// Reads the scenario of a source, or says why there is none.
-fn read_scenario<S: Source>(alloc: Global, source: &mut S) -> Result<Scenario, Status>
-    ensures script { IfOk result (HasReadScript (S.state source.old) (S.state source.new)) }
-    ensures runs { IfOk result EachStepRuns }
-    ensures unread { IfErr result (IsUnread (S.state source.old) (S.state source.new)) }
-{
-    let bytes = match read_all(alloc, source) {
-        Ok(bytes) => bytes,
-        Err(Unread::Failed) => return Err(Status::ReadFault),
-        Err(Unread::TooLong) => return Err(Status::TooLong),
-        Err(Unread::NoMemory) => return Err(Status::NoMemory),
-    };
-    match read(alloc, bytes.as_slice()) {
-        Ok(scenario) => Ok(scenario),
-        Err(ReadRefusal::Fault(fault)) => Err(Status::NotScenario(fault)),
-        Err(ReadRefusal::NoMemory) => Err(Status::NoMemory),
-    }
-}
-
-// Looks at the words, and then reads the scenario, or says why nothing is run.
-fn scenario_to_run<S: Source>(
-    alloc: Global,
-    words: &[String],
-    source: &mut S,
-) -> Result<Scenario, Status>
-    ensures none { IfOk result (λ script. length words.now ≡ 0) }
-    ensures script { IfOk result (HasReadScript (S.state source.old) (S.state source.new)) }
-    ensures runs { IfOk result EachStepRuns }
-    ensures cause { IfErr result (HasCause (length words.now) (S.state source.old) (S.state source.new) []) }
-{
-    if !words.is_empty() {
-        return Err(Status::Usage);
-    }
-    read_scenario(alloc, source)
-}
-
 // Ends without a run: writes the fault line alone.
-fn end_without_run<K: Sink>(alloc: Global, before: Status, sink: &mut K) -> Ended
-    ensures log { result.log.records ≡ [] }
+fn end_without_run<K: Sink>(before: Status, sink: &mut K) -> Ended
+    ensures world { result.world ≡ None }
     ensures before { result.before ≡ before }
     ensures written { HasWritten (K.state sink.old) (K.state sink.new) (fault_line before) before result.status }
 {
@@ -67,46 +38,119 @@ fn end_without_run<K: Sink>(alloc: Global, before: Status, sink: &mut K) -> Ende
     Ended {
         status: before.with_writing(written),
         before,
-        log: Log::new(alloc),
+        world: None,
     }
 }
 
-// Runs a scenario, and writes the text of its log and the fault line, gathered into large pieces.
-fn run_and_print<K: Sink>(alloc: Global, scenario: &Scenario, sink: &mut K) -> Ended
-    requires { EachStepRuns scenario.now }
-    ensures run { HasRunAs scenario.now result.log.records result.before }
+// How a run has ended that was printed: with regard to writing, and without.
+#[derive(Clone, Copy)]
+struct Printed {
+    status: Status,
+    before: Status,
+}
+
+// Plays a scenario to its end, and writes the text of its log and the fault line, gathered into large pieces.
+fn print_run<K: Sink>(
+    player: &mut Player,
+    scenario: &Scenario,
+    mode: Mode,
+    room: Vec<u8>,
+    sink: &mut K,
+) -> Printed
+    requires valid { IsScript scenario.now }
+    requires plays { EachStepIsPlayed scenario.now }
+    requires played { HasPlayed scenario.now player.old }
+    requires begun { player.old.over ≡ None }
+    ensures run { HasRunAs scenario.now result.before player.new.world.log }
     ensures written { HasWritten (K.state sink.old) (K.state sink.new)
-        (text_of_run LongMode result.log.records result.before) result.before result.status }
-    ensures printable { IsPrintableLog result.log.records }
+        (text_of_run mode player.new.world.log result.before) result.before result.status }
 {
-    let Ok(room) = Vec::with_capacity(alloc, TEXT_ROOM) else {
-        return end_without_run(alloc, Status::NoMemory, sink);
-    };
     let mut text = BufferedSink::new(sink, room);
-    let mut log = Log::new(alloc);
-    let mut reporter = Reporter::new(Mode::Long);
-    let before = match run_scenario(alloc, scenario, &mut log, &mut reporter, &mut text) {
-        Ok(()) => Status::Done,
-        Err(_) => Status::NoMemory,
-    };
+    let mut reporter = Reporter::new(mode);
+    put_from(player.log(), 0, &mut reporter, &mut text);
+    let before = Status::of(play(player, scenario, &mut reporter, &mut text));
     let finished = reporter.finish(&mut text);
     let so_far = write_fault_line(&mut text, finished, before);
     let written = flush_after(&mut text, so_far);
     // No effect at run time. The proof reads what the sink holds from this use of it.
     let _ = &*text.into_inner();
-    Ended {
+    Printed {
         status: before.with_writing(written),
         before,
-        log,
     }
 }
 
-/// Reads a scenario from a source, runs it, and writes the text of its log to a sink, with a fault line after it if
-/// it doesn't end with `done`. No word of a command line is known yet.
+// Runs a scenario, and writes what is printed of it.
+fn run_and_print<K: Sink>(alloc: Global, scenario: &Scenario, mode: Mode, sink: &mut K) -> Ended
+    requires valid { IsScript scenario.now }
+    requires plays { EachStepIsPlayed scenario.now }
+    ensures run { HasRunOf scenario.now result.before (log_of result.world) }
+    ensures world { LeavesWorld result.before result.world }
+    ensures written { HasWritten (K.state sink.old) (K.state sink.new)
+        (text_of_run mode (log_of result.world) result.before) result.before result.status }
+{
+    let Ok(room) = Vec::with_capacity(alloc, TEXT_ROOM) else {
+        return end_without_run(Status::NoMemory, sink);
+    };
+    let Ok(mut player) = Player::new(alloc, scenario) else {
+        return end_without_run(Status::NoMemory, sink);
+    };
+    let printed = print_run(&mut player, scenario, mode, room, sink);
+    Ended {
+        status: printed.status,
+        before: printed.before,
+        world: Some(player.into_world()),
+    }
+}
+
+// Runs and prints what the words ask for.
+fn run_asked<S: Source, K: Sink>(
+    alloc: Global,
+    asked: &Asked,
+    source: &mut S,
+    sink: &mut K,
+) -> Ended
+    requires joins { AsksWithin asked.now }
+    ensures cause { HasCauseOf asked.now (S.state source.old) (S.state source.new) (log_of result.world) result.before }
+    ensures world { LeavesWorld result.before result.world }
+    ensures written { HasWritten (K.state sink.old) (K.state sink.new)
+        (text_of_run (mode_of asked.now) (log_of result.world) result.before) result.before result.status }
+{
+    match wanted_scenario(alloc, asked, source) {
+        Ok(scenario) => run_and_print(alloc, &scenario, mode_of(asked), sink),
+        Err(before) => end_without_run(before, sink),
+    }
+}
+
+// Runs and prints what the words ask for, if they are accepted.
+fn run_words<S: Source, K: Sink>(
+    alloc: Global,
+    words: &[String],
+    source: &mut S,
+    sink: &mut K,
+) -> Ended
+    ensures cause { HasCause (asked_by (map string_bytes words.now)) (S.state source.old) (S.state source.new)
+        (log_of result.world) result.before }
+    ensures world { LeavesWorld result.before result.world }
+    ensures written { HasWritten (K.state sink.old) (K.state sink.new)
+        (text_of_run (mode_asked (asked_by (map string_bytes words.now))) (log_of result.world) result.before)
+        result.before result.status }
+{
+    match read_words(alloc, words) {
+        Ok(asked) => run_asked(alloc, &asked, source, sink),
+        Err(WordsRefusal::Usage) => end_without_run(Status::Usage, sink),
+        Err(WordsRefusal::NoMemory) => end_without_run(Status::NoMemory, sink),
+    }
+}
+
+/// Runs what the words of a command line ask for, and writes the text of its log to a sink, with a fault line after it if the log
+/// doesn't say how it ended. A scenario is read from a source; with `--make` one is made, of which the summary is written, and the
+/// source isn't touched.
 ///
-/// The words come first, then the reading, the scenario, and then the run and the writing side by side, record by record;
-/// the fault line is last. The first read that fails ends the reading, and the first write that fails ends the writing,
-/// but not the run: the log and `before` don't depend on the sink. If there is no run, the log is empty.
+/// The words come first, then the reading, the scenario, and then the run and the writing side by side: the records of a turn are
+/// written once it is over. The fault line is last. The first read that fails ends the reading, and the first write that fails ends
+/// the writing, but not the run: the log and `before` don't depend on the sink. The log is that of the world that is left. If none
+/// is left, it is empty.
 ///
 /// Rule: docs/FORMATS.md, "The fault line and the exit status".
 pub fn run<S: Source, K: Sink>(
@@ -115,15 +159,21 @@ pub fn run<S: Source, K: Sink>(
     source: &mut S,
     sink: &mut K,
 ) -> Ended
-    // Why it ends so, and what the log is: of a run that is lawful, over tables without a hole, whose walks find the one root.
-    ensures cause { HasCause (vec_len words.now) (S.state source.old) (S.state source.new) result.log.records result.before }
+    // Why it ends so, and what the log is.
+    ensures cause { HasCause (asked_by (map string_bytes words.now.items)) (S.state source.old) (S.state source.new)
+        (log_of result.world) result.before }
     // What is written: the text of the log and the fault line, or some first bytes of them.
     ensures written { HasWritten (K.state sink.old) (K.state sink.new)
-        (text_of_run LongMode result.log.records result.before) result.before result.status }
+        (text_of_run (mode_asked (asked_by (map string_bytes words.now.items))) (log_of result.world) result.before)
+        result.before result.status }
 
     // The same, status by status.
-    ensures usage { (result.before ≡ Status.Usage) ↔ (0 < vec_len words.now) }
-    ensures done { result.before ≡ Status.Done → HasRunAll (S.state source.old) (S.state source.new) result.log.records }
+    ensures usage { result.before ≡ Status.Usage → asked_by (map string_bytes words.now.items) ≡ None }
+    ensures refused { asked_by (map string_bytes words.now.items) ≡ None → result.before ≢ Status.NoMemory → result.before ≡ Status.Usage }
+    ensures done { result.before ≡ Status.Done → IfSome (asked_by (map string_bytes words.now.items))
+        (λ asked. HasRunAll asked (S.state source.old) (S.state source.new) (log_of result.world)) }
+    ensures finished { (result.before ≡ Status.Done) ↔ IsTrue (is_finished (log_of result.world)) }
+    ensures spent { (result.before ≡ Status.Spent) ↔ IsTrue (ends_spent (log_of result.world)) }
     ensures read_fault { result.before ≡ Status.ReadFault → HasRisen (S.state source.old).faults (S.state source.new).faults }
     ensures too_long { result.before ≡ Status.TooLong → HasReadTooMany (S.state source.old) (S.state source.new) }
     ensures not_scenario { (fault : Fault) → result.before ≡ Status.NotScenario fault
@@ -131,14 +181,16 @@ pub fn run<S: Source, K: Sink>(
     ensures write_fault { result.status ≡ Status.WriteFault → HasRisen (K.state sink.old).faults (K.state sink.new).faults }
     ensures before { result.before ≢ Status.WriteFault }
 
-    // Its log can be printed in each mode.
-    ensures printable { IsPrintableLog result.log.records }
+    // A world is left if a run has ended.
+    ensures world { LeavesWorld result.before result.world }
 
-    // The headline: there is no log, or it is that of a run.
-    ensures headline { (result.log.records ≡ []) ⊎ HasRunSome (S.state source.old) (S.state source.new) result.log.records }
+    // Its log can be printed in each mode.
+    ensures printable { IsPrintableLog (log_of result.world) }
+
+    // The headline: there is no log, or it is that of a run; at each of its moments no table has a hole, each walk finds the one root,
+    // and at rest each node that is present is core.
+    ensures headline { (log_of result.world ≡ []) ⊎ IfSome (asked_by (map string_bytes words.now.items))
+        (λ asked. IsLogAsked asked (S.state source.old) (S.state source.new) (log_of result.world)) }
 {
-    match scenario_to_run(alloc, words.as_slice(), source) {
-        Ok(scenario) => run_and_print(alloc, &scenario, sink),
-        Err(before) => end_without_run(alloc, before, sink),
-    }
+    run_words(alloc, words.as_slice(), source, sink)
 }

@@ -1,6 +1,8 @@
-use Rattle.std.proofs.Common.{arith, ap, ◌∙◌, ◌+◌, ℕ, Option}
+use Rattle.std.proofs.Common.{◌≡◌, arith, ap, ◌∙◌, ◌+◌, ℕ, None, Option, take}
+use Rattle.std.specs.Prelude.{fold}
+use Rattle.std.proofs.lemmas.List.{take_all}
 use Rattle.tap_name.specs.Settings.{SettingsValue}
-use Rattle.tap_report.specs.Reporter.{ReporterValue}
+use Rattle.tap_report.specs.Reporter.{ReporterValue, settings_after}
 use Rattle.tap_report.proofs.ReportsLemmas.{Reports-next, begins_next}
 use Rattle.tap_report.proofs.PiecewiseLemmas.{IsPrintable-at, Reports-all, item_at, settings_so_far-next}
 use Rattle.tap_top.proofs.running.put_from.Goals as goal
@@ -32,7 +34,13 @@ loop-place-preserved g c =
           (c.loop-place.invariant.reports mode first reports) c.put.ensures;
     }
 
-pub returns : goal.returns
-returns g c = λ mode first reports.
+pub returns-clause-settings : goal.returns-clause-settings
+returns-clause-settings g c =
+    let all : take c.loop-place.place c.args.log.now.records ≡ c.args.log.now.records =
+    take_all c.loop-place.place c.args.log.now.records (omega arith) in
+    c.loop-place.invariant.settings ∙ ap (fold settings_after None) all
+
+pub returns-clause-reports : goal.returns-clause-reports
+returns-clause-reports g c = λ mode first reports.
     Reports-all mode c.args.log.now.records c.loop-place.place first (g.K.Sink.state c.loop-place.sink) c.loop-place.reporter
     (omega arith) (c.loop-place.invariant.reports mode first reports)

@@ -1,0 +1,13 @@
+use Rattle.std.proofs.Common.{ap, subst, sym}
+use Rattle.std.proofs.lemmas.Result.{IfOk-weaker}
+use Rattle.tap_scenario.specs.Scenario.{EachStepIsPlayed, IsScript}
+use Rattle.tap_make.proofs.Limits.{made_well}
+use Rattle.tap_top.proofs.wanted.make_scenario.Goals as goal
+
+pub returns-in-Ok-clause-valid : goal.returns-in-Ok-clause-valid
+returns-in-Ok-clause-valid c =
+    subst IsScript (sym c.in-Ok.ensures) (made_well c.args.joins c.args.seed c.requires.to).script
+
+pub returns-in-Ok-clause-played : goal.returns-in-Ok-clause-played
+returns-in-Ok-clause-played c =
+    subst EachStepIsPlayed (sym c.in-Ok.ensures) (made_well c.args.joins c.args.seed c.requires.to).played

@@ -1,0 +1,78 @@
+ghost use Rattle.std.specs.Prelude.{◌≡◌, ◌≤◌, IfOk, IfErr};
+ghost use Rattle.tap_make.specs.Made.{made};
+ghost use Rattle.tap_scenario.specs.Scenario.{EachStepIsPlayed, IsScript};
+ghost use Rattle.tap_top.specs.Reading.{HasReadScript};
+ghost use Rattle.tap_top.specs.Wanted.{AsksWithin, IsNotHad, IsUnread, IsWanted, mode_of};
+
+use crate::reading::{Unread, read_all};
+use crate::status::Status;
+use std::alloc::Global;
+use tap_io::Source;
+use tap_make::make;
+use tap_report::Mode;
+use tap_scenario::{ReadRefusal, Scenario, read};
+use tap_words::Asked;
+
+// What is printed of the log.
+pub(crate) fn mode_of(asked: &Asked) -> Mode
+    ensures { result ≡ mode_of asked.now }
+{
+    match (asked.make, asked.brief) {
+        (Some(_), _) => Mode::Summary,
+        (None, true) => Mode::Brief,
+        (None, false) => Mode::Long,
+    }
+}
+
+// The scenario that is to be run, or why there is none: that which is made, and else that of the source.
+pub(crate) fn wanted_scenario<S: Source>(
+    alloc: Global,
+    asked: &Asked,
+    source: &mut S,
+) -> Result<Scenario, Status>
+    requires joins { AsksWithin asked.now }
+    ensures wanted { IfOk result (IsWanted asked.now (S.state source.old) (S.state source.new)) }
+    ensures valid { IfOk result IsScript }
+    ensures played { IfOk result EachStepIsPlayed }
+    ensures cause { IfErr result (IsNotHad asked.now (S.state source.old) (S.state source.new)) }
+{
+    match asked.make {
+        Some(joins) => make_scenario(alloc, joins, asked.seed),
+        None => read_scenario(alloc, source),
+    }
+}
+
+// The scenario that is made for so many joins from a seed.
+fn make_scenario(alloc: Global, joins: u32, seed: u64) -> Result<Scenario, Status>
+    requires from { 1 ≤ joins }
+    requires to { joins ≤ 100 }
+    ensures made { IfOk result (λ script. script ≡ made joins seed) }
+    ensures valid { IfOk result IsScript }
+    ensures played { IfOk result EachStepIsPlayed }
+    ensures cause { IfErr result (λ status. status ≡ Status.NoMemory) }
+{
+    match make(alloc, joins, seed) {
+        Ok(scenario) => Ok(scenario),
+        Err(_) => Err(Status::NoMemory),
+    }
+}
+
+// The scenario that all bytes of a source spell.
+fn read_scenario<S: Source>(alloc: Global, source: &mut S) -> Result<Scenario, Status>
+    ensures script { IfOk result (HasReadScript (S.state source.old) (S.state source.new)) }
+    ensures valid { IfOk result IsScript }
+    ensures played { IfOk result EachStepIsPlayed }
+    ensures unread { IfErr result (IsUnread (S.state source.old) (S.state source.new)) }
+{
+    let bytes = match read_all(alloc, source) {
+        Ok(bytes) => bytes,
+        Err(Unread::Failed) => return Err(Status::ReadFault),
+        Err(Unread::TooLong) => return Err(Status::TooLong),
+        Err(Unread::NoMemory) => return Err(Status::NoMemory),
+    };
+    match read(alloc, bytes.as_slice()) {
+        Ok(scenario) => Ok(scenario),
+        Err(ReadRefusal::Fault(fault)) => Err(Status::NotScenario(fault)),
+        Err(ReadRefusal::NoMemory) => Err(Status::NoMemory),
+    }
+}
