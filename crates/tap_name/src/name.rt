@@ -223,7 +223,17 @@ impl PartialEq for Name {
     ghost laws = { partial_equiv_from_equiv nat_list_eq_equiv };
 
     fn eq(&self, other: &Name) -> bool {
-        self.as_slice() == other.as_slice()
+        let mine = self.as_slice();
+        let theirs = other.as_slice();
+        if mine.len() != theirs.len() {
+            return false;
+        }
+        for at in 0..mine.len() {
+            if mine[at] != theirs[at] {
+                return false;
+            }
+        }
+        true
     }
 }
 
@@ -251,7 +261,17 @@ impl Ord for Name {
     ghost matches_eq = { texts_ties };
 
     fn cmp(&self, other: &Name) -> Ordering {
-        self.as_slice().cmp(other.as_slice())
+        let mine = self.as_slice();
+        let theirs = other.as_slice();
+        if mine.len() != theirs.len() {
+            return mine.cmp(theirs);
+        }
+        for at in 0..mine.len() {
+            if mine[at] != theirs[at] {
+                return mine[at].cmp(&theirs[at]);
+            }
+        }
+        Ordering::Equal
     }
 }
 
