@@ -10,7 +10,8 @@ use Rattle.std.proofs.lemmas.List.Sums.{sum_by-set, sum_by_push}
 use Rattle.tap_outstanding.specs.declared.outstanding.Flight.{Flight}
 use Rattle.tap_outstanding.specs.Levels.{sum_before, level, lists_of, IsTower, HaveRoom}
 use Rattle.tap_outstanding.specs.Outstanding.{OutstandingValue, frame_with, flights_from}
-use Rattle.tap_outstanding.specs.Kept.{IsKept}
+use Rattle.tap_outstanding.specs.Kept.{IsKept, AreTakenBefore, IsKeptFrom}
+use Rattle.tap_outstanding.proofs.Sums.{sum-cleared, sum-pushed}
 use Rattle.tap_outstanding.proofs.Towers.{marked, mark-within, same-tower}
 use Rattle.tap_outstanding.proofs.Flights.{AreMarks, length-flights, flights-sent, flights-without, remove-past}
 
@@ -134,3 +135,32 @@ unmarked marks number are other =
       | inr (inl within) ↦ let most = are number 0 within in omega (arith, most, ne)
       | inr (inr past) ↦ get_or_past marks number 0 (omega arith)
     ]
+
+-- before a number all frames stay taken, if one is sent, and if one is taken
+pub taken-sent : (marks marks' : List ℕ) (low : ℕ) → marks' ≡ marks ++ 1 ∷ [] → AreTakenBefore marks low → AreTakenBefore marks' low
+taken-sent marks marks' low is taken =
+    let within = taken.within in
+    let long = ap (λ (xs : List ℕ). length xs) is in
+    record {
+      within = omega (arith, within, long, length-append marks (1 ∷ []));
+      none = ap (λ (xs : List ℕ). sum_before xs low) is ∙ sum-pushed marks (1 ∷ []) low within ∙ taken.none;
+    }
+
+pub taken-less : (marks marks' : List ℕ) (number low : ℕ) → marks' ≡ set marks number 0 → AreTakenBefore marks low
+    → AreTakenBefore marks' low
+taken-less marks marks' number low is taken =
+    let within = taken.within in
+    let none = taken.none in
+    let long = ap (λ (xs : List ℕ). length xs) is in
+    let sums = ap (λ (xs : List ℕ). sum_before xs low) is in
+    record {
+      within = omega (arith, within, long, length-set marks number 0);
+      none = omega (arith, none, sums, sum-cleared marks number low);
+    }
+
+pub taken-further : (marks : List ℕ) (low next : ℕ) → next ≤ length marks → sum_before marks next ≡ sum_before marks low
+    → AreTakenBefore marks low → AreTakenBefore marks next
+taken-further marks low next within same taken = record { within = within; none = same ∙ taken.none }
+
+pub taken-same : (marks marks' : List ℕ) (low : ℕ) → marks' ≡ marks → AreTakenBefore marks low → AreTakenBefore marks' low
+taken-same marks marks' low is taken = subst (λ (xs : List ℕ). AreTakenBefore xs low) (sym is) taken

@@ -1,6 +1,7 @@
 -- Sums of the counts before a place, and what one more or one less makes of them.
 use Rattle.std.proofs.Common.{◌≡◌, ℕ, zero, suc, ◌+◌, ◌-◌, ◌<◌, ◌≤◌, max, List, [], ◌∷◌, ◌++◌, length, take, get_or, set, refl, ap, arith}
 use Rattle.std.specs.List.{sum}
+use Rattle.std.proofs.lemmas.List.{take-append-le}
 use Rattle.std.proofs.lemmas.List.Sums.{sum_by-cons, sum_by-take-le}
 use Rattle.tap_outstanding.specs.Levels.{sum_before, raised}
 
@@ -75,3 +76,15 @@ sum-lowered (x ∷ xs) zero (suc i) within some = omega (arith, sum-cons (x - 1)
 sum-lowered (x ∷ xs) (suc at) zero within some = refl
 sum-lowered (x ∷ xs) (suc at) (suc i) within some =
     omega (arith, sum-lowered xs at i (omega arith) some, sum-cons x (take i (set xs at (get_or xs at 0 - 1))), sum-cons x (take i xs))
+
+-- a count that is taken away leaves no more before any place
+pub sum-cleared : (xs : List ℕ) (at i : ℕ) → sum_before (set xs at 0) i ≤ sum_before xs i
+sum-cleared [] at i = omega arith
+sum-cleared (x ∷ xs) at zero = omega arith
+sum-cleared (x ∷ xs) zero (suc i) = omega (arith, sum-cons 0 (take i xs), sum-cons x (take i xs))
+sum-cleared (x ∷ xs) (suc at) (suc i) =
+    omega (arith, sum-cleared xs at i, sum-cons x (take i (set xs at 0)), sum-cons x (take i xs))
+
+-- what is added at the end isn't before a place that was there
+pub sum-pushed : (xs ys : List ℕ) (i : ℕ) → i ≤ length xs → sum_before (xs ++ ys) i ≡ sum_before xs i
+sum-pushed xs ys i within = ap (λ (zs : List ℕ). sum zs) (take-append-le i xs ys within)

@@ -1,7 +1,7 @@
 -- What the fields keep of the frames that are outstanding.
 use Rattle.std.specs.Prelude.{◌≡◌, ℕ, ◌+◌, ◌≤◌, List, length, sum, vec_len, vec_capacity}
 use Rattle.std.specs.declared.vec.Vec.{Vec}
-use Rattle.tap_outstanding.specs.Levels.{IsTower, HaveRoom, level}
+use Rattle.tap_outstanding.specs.Levels.{IsTower, HaveRoom, level, sum_before}
 
 -- there is a mark for the record of each frame that was sent, the marks of those that are outstanding are counted, and there is
 -- room for so many more frames
@@ -11,3 +11,13 @@ pub record IsKept {A : Type 0} (records : Vec ℕ A) (levels : List (Vec ℕ A))
   pub counted : count ≡ sum (level levels 0)
   pub spare : vec_len records + room ≤ vec_capacity records
   pub spares : HaveRoom levels room
+
+-- no frame before this number is outstanding
+pub record AreTakenBefore (marks : List ℕ) (low : ℕ) : Type 0 where
+  pub within : low ≤ length marks
+  pub none : sum_before marks low ≡ 0
+
+-- all this, and no frame before a number is outstanding
+pub record IsKeptFrom {A : Type 0} (records : Vec ℕ A) (levels : List (Vec ℕ A)) (count room low : ℕ) : Type 0 where
+  pub kept : IsKept records levels count room
+  pub taken : AreTakenBefore (level levels 0) low

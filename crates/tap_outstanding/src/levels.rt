@@ -29,6 +29,47 @@ pub(crate) fn find(levels: &[Vec<u32>], place: u32) -> usize
     spot.at
 }
 
+/// The same, if no mark stands before a number. The first mark is mostly there.
+pub(crate) fn find_after(levels: &[Vec<u32>], low: usize, place: u32) -> usize
+    requires tower { IsTower levels.now }
+    requires low { sum_before (level levels.now 0) low ≡ 0 }
+    requires within { place < sum (level levels.now 0) }
+    ensures within { result < length (level levels.now 0) }
+    ensures mark { slice_index (level levels.now 0) result ≡ 1 }
+    ensures place { sum_before (level levels.now 0) result ≡ place }
+{
+    if place == 0 {
+        if is_marked(levels, low) {
+            return low;
+        }
+    }
+    find(levels, place)
+}
+
+/// The first number from one on that has a mark, or how many numbers there are.
+pub(crate) fn next_mark(levels: &[Vec<u32>], number: usize) -> usize
+    requires tower { IsTower levels.now }
+    requires within { number ≤ length (level levels.now 0) }
+    ensures within { result ≤ length (level levels.now 0) }
+    ensures none { sum_before (level levels.now 0) result ≡ sum_before (level levels.now 0) number }
+{
+    next_count(&levels[0], number)
+}
+
+// Steps over counts while they are 0.
+fn next_count(counts: &[u32], from: usize) -> usize
+    requires from { from ≤ length counts.now }
+    ensures within { result ≤ length counts.now }
+    ensures none { sum_before counts.now result ≡ sum_before counts.now from }
+{
+    for at in from..counts.len() {
+        if counts[at] != 0 {
+            return at;
+        }
+    }
+    counts.len()
+}
+
 // Steps over counts while as many are left.
 fn find_from(counts: &[u32], from: usize, mut left: u32) -> Spot
     requires from { from ≤ length counts.now }

@@ -1,4 +1,5 @@
-ghost use Rattle.std.specs.Prelude.{◌≡◌, ◌==◌, ◌+◌, ◌-◌, ◌<◌, ◌≤◌, max, [], length, slice_get, if◌then◌else◌, IfOk, OnOk, OnErr, Some, None};
+ghost use Rattle.std.specs.Prelude.{◌≡◌, ◌==◌, ◌+◌, ◌-◌, ◌<◌, ◌≤◌, max, [], length, slice_get, if◌then◌else◌, IfOk, OnOk, OnErr, Some, None, is_some};
+ghost use Rattle.std.specs.Option.{option_map_or};
 ghost use Rattle.tap_outstanding.specs.Outstanding.{AreOutstanding, most_sent, place_of_number, sent_with, taken_at};
 
 use crate::levels;
@@ -30,7 +31,8 @@ pub struct Flight {
 /// The place of each frame's record is kept by the frame's number. Beside it lie marks, 1 for a frame
 /// that is outstanding and 0 for one that was taken, and above them sums of sixteen, sums of these, and
 /// so on. A call goes through the levels once, and through at most sixteen counts of each. Nothing is
-/// moved, and some 12 bytes are kept for each frame that was sent.
+/// moved, and some 12 bytes are kept for each frame that was sent. Before one number, which only grows, all
+/// frames are known to be taken, so that the oldest one is mostly found at once.
 ///
 /// Rule: docs/FORMATS.md, "Groups and moments".
 #[derive(Drop)]
@@ -39,11 +41,13 @@ pub struct Outstanding {
     levels: [Vec<u32>; 8],
     count: u32,
     room: usize,
+    // No frame before this number is outstanding.
+    low: usize,
 }
 
 impl Model for Outstanding {
     ghost use Rattle.std.specs.Prelude.{vec_len};
-    ghost use Rattle.tap_outstanding.specs.Kept.{IsKept};
+    ghost use Rattle.tap_outstanding.specs.Kept.{IsKeptFrom};
     ghost use Rattle.tap_outstanding.specs.Levels.{level};
     ghost use Rattle.tap_outstanding.specs.Outstanding.{OutstandingValue, flights_from};
 
@@ -51,7 +55,7 @@ impl Model for Outstanding {
 
     ghost view = { λ o. record { sent = vec_len o.records; frames = flights_from 0 o.records.items (level o.levels 0); room = o.room } };
 
-    ghost invariant = { λ o. IsKept o.records o.levels o.count o.room };
+    ghost invariant = { λ o. IsKeptFrom o.records o.levels o.count o.room o.low };
 }
 
 impl Outstanding {
@@ -73,6 +77,7 @@ impl Outstanding {
             ],
             count: 0,
             room: 0,
+            low: 0,
         }
     }
 
@@ -149,7 +154,7 @@ impl Outstanding {
         ensures { result ≡ slice_get self.now.frames place }
     {
         if place < self.count {
-            let number = levels::find(&self.levels, place);
+            let number = levels::find_after(&self.levels, self.low, place);
             Some(Flight {
                 number: number as u32,
                 record_place: self.records[number],
@@ -187,14 +192,31 @@ impl Outstanding {
         if place >= self.count {
             return None;
         }
-        let number = levels::find(&self.levels, place);
+        let number = levels::find_after(&self.levels, self.low, place);
         levels::lower(&mut self.levels, number);
+        self.low = levels::next_mark(&self.levels, self.low);
         self.count -= 1;
         let record_place = self.records[number];
         Some(Flight {
             number: number as u32,
             record_place,
         })
+    }
+
+    /// Takes the frame with this number, if it is outstanding, and answers whether it was; the order of the
+    /// others stays.
+    pub fn take_number(&mut self, number: u32) -> bool
+        ensures taken { result ≡ is_some (place_of_number self.old.frames number) }
+        ensures after { self.new ≡ option_map_or (taken_at self.old) (place_of_number self.old.frames number) self.old }
+    {
+        let number = number as usize;
+        if !levels::is_marked(&self.levels, number) {
+            return false;
+        }
+        levels::lower(&mut self.levels, number);
+        self.low = levels::next_mark(&self.levels, self.low);
+        self.count -= 1;
+        true
     }
 }
 

@@ -9,14 +9,14 @@ use Rattle.tap_outstanding.proofs.outstanding.Outstanding.frame_at.Goals as goal
 pub returns-then-place-self : goal.returns-then-place-self
 returns-then-place-self c =
     rw (← c.self.view_is)
-    (ap (λ (x : ℕ). Some (frame_with c.find-number.result x)) c.index.ensures
-    ∙ sym (frame-found c.find-number.result c.args.place c.index.result.now c.self.inside.records.items (level c.self.inside.levels 0)
-    (kept-size c.self.inside.records c.self.inside.levels c.self.inside.count c.self.inside.room c.self.invariant)
-    c.self.invariant.tower.marks c.find-number.ensures.mark c.find-number.ensures.place))
+    (ap (λ (x : ℕ). Some (frame_with c.find_after-number.result x)) c.index.ensures
+    ∙ sym (frame-found c.find_after-number.result c.args.place c.index.result.now c.self.inside.records.items (level c.self.inside.levels 0)
+    (kept-size c.self.inside.records c.self.inside.levels c.self.inside.count c.self.inside.room c.self.invariant.kept)
+    c.self.invariant.kept.tower.marks c.find_after-number.ensures.mark c.find_after-number.ensures.place))
 
 pub returns-else-place-self : goal.returns-else-place-self
 returns-else-place-self c =
-    let count = kept-count c.self.inside.records c.self.inside.levels c.self.inside.count c.self.inside.room c.self.invariant in
+    let count = kept-count c.self.inside.records c.self.inside.levels c.self.inside.count c.self.inside.room c.self.invariant.kept in
     let past : length (flights_from 0 c.self.inside.records.items (level c.self.inside.levels 0)) ≤ c.args.place = omega arith in
     rw (← c.self.view_is)
     (sym (slice_get_past (flights_from 0 c.self.inside.records.items (level c.self.inside.levels 0)) c.args.place past))

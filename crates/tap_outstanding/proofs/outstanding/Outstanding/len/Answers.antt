@@ -8,7 +8,7 @@ use Rattle.tap_outstanding.proofs.outstanding.Outstanding.len.Goals as goal
 pub returns-clause-count : goal.returns-clause-count
 returns-clause-count c =
     rw (← c.self.view_is)
-    (kept-count c.self.inside.records c.self.inside.levels c.self.inside.count c.self.inside.room c.self.invariant)
+    (kept-count c.self.inside.records c.self.inside.levels c.self.inside.count c.self.inside.room c.self.invariant.kept)
 
 pub returns-clause-outstanding : goal.returns-clause-outstanding
 returns-clause-outstanding c =

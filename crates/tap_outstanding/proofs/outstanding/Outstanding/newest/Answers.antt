@@ -8,4 +8,4 @@ pub returns : goal.returns
 returns c =
     rw (← c.self.view_is)
     (newest-of c.checked_sub.result c.self.inside.count (length (flights_from 0 c.self.inside.records.items (level c.self.inside.levels 0)))
-    (kept-count c.self.inside.records c.self.inside.levels c.self.inside.count c.self.inside.room c.self.invariant) c.checked_sub.ensures)
+    (kept-count c.self.inside.records c.self.inside.levels c.self.inside.count c.self.inside.room c.self.invariant.kept) c.checked_sub.ensures)

@@ -13,12 +13,12 @@ returns-then-is_marked c =
     rw (← c.self.view_is)
     (ap (λ (x : ℕ). Some x) c.rank.ensures
     ∙ sym (place-found c.args.number c.self.inside.records.items (level c.self.inside.levels 0)
-    (kept-size c.self.inside.records c.self.inside.levels c.self.inside.count c.self.inside.room c.self.invariant)
-    c.self.invariant.tower.marks (mark-within (level c.self.inside.levels 0) c.args.number mark) mark))
+    (kept-size c.self.inside.records c.self.inside.levels c.self.inside.count c.self.inside.room c.self.invariant.kept)
+    c.self.invariant.kept.tower.marks (mark-within (level c.self.inside.levels 0) c.args.number mark) mark))
 
 pub returns-else-is_marked : goal.returns-else-is_marked
 returns-else-is_marked c =
     rw (← c.self.view_is)
     (sym (place-absent c.args.number c.self.inside.records.items (level c.self.inside.levels 0)
-    (unmarked (level c.self.inside.levels 0) c.args.number c.self.invariant.tower.marks
+    (unmarked (level c.self.inside.levels 0) c.args.number c.self.invariant.kept.tower.marks
     (sym c.is_marked.ensures ∙ c.if-is_marked.false))))
