@@ -1,5 +1,5 @@
 -- whole frames: read where they were written, and written as they are read
-use Rattle.std.proofs.Common.{◌≡◌, ◌<◌, ◌≤◌, ◌++◌, ◌+◌, ◌-◌, ℕ, Bool, true, false, cond, List, [], ◌∷◌, length, drop, All, Result, Ok, Err, IsOk, IfOk, IsTrue, Vec, vec_len, vec_capacity, arith, refl, ap, sym, subst, ◌∙◌, append_assoc, length-append}
+use Rattle.std.proofs.Common.{◌≡◌, ◌<◌, ◌≤◌, ◌++◌, ◌+◌, ◌-◌, ℕ, Bool, true, false, cond, List, [], ◌∷◌, length, drop, All, Result, Ok, Err, IsOk, IsTrue, Vec, vec_len, vec_capacity, arith, refl, ap, sym, subst, ◌∙◌, append_assoc, length-append}
 use Rattle.byteorder.specs.Endian.{big_bytes}
 use Rattle.byteorder.specs.Numbers.{length-bytes_high_first}
 use Rattle.tap_name.specs.Settings.{SettingsValue, AreWithinLimits}
@@ -126,6 +126,33 @@ next_body p bytes o = in_frame (λ b. fault_of_body (faults.Field b)) (body_at p
 abbrev headed : Opening → Result Head HeadFault
 headed o = Ok (record { kind = code_of o.kind; from = o.sender; to = o.receiver })
 
+-- a frame whose head and body are read
+pub frame_read : (p : SettingsValue) (bytes : List ℕ) (o : Opening) (body : Body) → opening_of p bytes ≡ Ok o
+    → body_at p o.kind (body_start p) bytes ≡ Ok body → frame_of p bytes ≡ framed o body
+frame_read p bytes o body opened read =
+    bind_is (in_frame fault_of_head (opening_of p bytes)) (next_body p bytes) o (framed o body)
+    (in_frame_is fault_of_head (opening_of p bytes) o opened)
+    (bind_is (in_frame (λ b. fault_of_body (faults.Field b)) (body_at p o.kind (body_start p) bytes)) (framed o) body (framed o body)
+    (in_frame_is (λ b. fault_of_body (faults.Field b)) (body_at p o.kind (body_start p) bytes) body read) refl)
+
+-- bytes whose head is refused are no frame
+pub head_refused : (p : SettingsValue) (bytes : List ℕ) (fault : HeadFault) (frame : Frame) → opening_of p bytes ≡ Err fault
+    → frame_of p bytes ≡ Ok frame → ⊥
+head_refused p bytes fault frame refused read =
+    let is : frame_of p bytes ≡ Err (fault_of_head fault) = ap (λ r. in_frame fault_of_head r >>= next_body p bytes) refused in
+    absurd (let both = sym is ∙ read in cc)
+
+-- of a frame the body isn't read only if memory is wanted
+pub body_refused : (p : SettingsValue) (bytes : List ℕ) (o : Opening) (fault : BodyFault) (frame : Frame) → opening_of p bytes ≡ Ok o
+    → BodyFails fault (body_at p o.kind (body_start p) bytes) → frame_of p bytes ≡ Ok frame → fault_of_body fault ≡ NoMemory
+body_refused p bytes o (faults.Field broken) frame opened fails read =
+    let is : frame_of p bytes ≡ Err (fault_of_body (faults.Field broken)) =
+    bind_is (in_frame fault_of_head (opening_of p bytes)) (next_body p bytes) o (Err (fault_of_body (faults.Field broken)))
+    (in_frame_is fault_of_head (opening_of p bytes) o opened)
+    (ap (λ r. in_frame (λ b. fault_of_body (faults.Field b)) r >>= framed o) fails) in
+    absurd (let both = sym is ∙ read in cc)
+body_refused p bytes o faults.NoMemory frame opened fails read = refl
+
 frame_is : (p : SettingsValue) (frame : Frame) (bytes : List ℕ) → AreWithinLimits p → IsFrame p frame → IsTyped frame.body
     → Stands p frame bytes → frame_of p bytes ≡ Ok frame
 frame_is p frame bytes limits is typed h =
@@ -213,13 +240,6 @@ spelled_so p frame bytes limits all e =
     (frame_same (record { from = a.0.sender; to = a.0.receiver; body = b.0 }) frame b.2) taken in
     (all_of.parts, all_of.rules, all_of.typed)
 
--- what an answer says of its frame
-pub is_found : (p : SettingsValue) (bytes : List ℕ) (r : Result Frame WireFault) → AreWithinLimits p → All (λ b. b < 256) bytes
-    → ((r ≡ Err NoMemory → ⊥) → r ≡ frame_of p bytes)
-    → IfOk r (λ frame. IsFrame p frame × (bytes ≡ spelling p frame))
-is_found p bytes (Ok frame) limits all given = let is = spelled_so p frame bytes limits all (sym (given (λ e. cc))) in (is.1, is.0)
-is_found p bytes (Err fault) limits all given = tt
-
 -- ---- how long a spelling is
 
 pub length-spelling : (p : SettingsValue) (frame : Frame) → AreWithinLimits p → IsFrame p frame
@@ -269,11 +289,7 @@ listed p bytes o (Ok body) limits all opened e ok list =
     let h = opening_parts p bytes o opened in
     let long : length bytes - body_start p ≡ number_at 2 2 bytes = omega (arith, h.whole) in
     let taken = body_taken p o.kind (body_start p) bytes body all (omega (arith, h.whole)) (ap (is_length p o.kind) long ∙ h.possible) e in
-    let read : frame_of p bytes ≡ framed o body =
-    bind_is (in_frame fault_of_head (opening_of p bytes)) (next_body p bytes) o (framed o body)
-    (in_frame_is fault_of_head (opening_of p bytes) o opened)
-    (bind_is (in_frame (λ b. fault_of_body (faults.Field b)) (body_at p o.kind (body_start p) bytes)) (framed o) body (framed o body)
-    (in_frame_is (λ b. fault_of_body (faults.Field b)) (body_at p o.kind (body_start p) bytes) body e) refl) in
+    let read = frame_read p bytes o body opened e in
     let Q : Kind → Type 0 = λ kind. IsTrue (has_list kind) in
     subst WantsMemory (sym read) (subst Q (sym taken.same) list)
 

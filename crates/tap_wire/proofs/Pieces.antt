@@ -1,11 +1,11 @@
 -- pieces of bytes at their places: read where they were written, and written as they are read
-use Rattle.std.proofs.Common.{◌≡◌, ◌<◌, ◌≤◌, ◌^◌, ◌++◌, ◌+◌, ◌-◌, ℕ, suc, Bool, true, false, cond, nat_lt, nat_le, List, [], ◌∷◌, length, take, drop, get_or, slice_index, All, Option, Some, None, Ok, arith, refl, ap, sym, subst, ◌∙◌, inl, inr}
+use Rattle.std.proofs.Common.{◌≡◌, ◌<◌, ◌≤◌, ◌^◌, ◌++◌, ◌+◌, ◌*◌, ◌-◌, ℕ, suc, Bool, true, false, cond, nat_lt, nat_le, List, [], ◌∷◌, length, take, drop, get_or, slice_index, All, Option, Some, None, Ok, arith, refl, ap, sym, subst, ◌∙◌, inl, inr}
 use Rattle.std.specs.Bool.{OnTrue}
 use Rattle.std.specs.List.{position, position_or_len}
 use Rattle.std.specs.Ordering.{nat_cmp, ord_max}
 use Rattle.std.proofs.lemmas.Bool.Decides.{nat_tests}
 use Rattle.std.proofs.lemmas.Bool.{cases_lt, lt-ltb, le-ltb, lt-leb, leb-false, ltb-true}
-use Rattle.std.proofs.lemmas.List.{drop-drop, drop_at, take_at, take_all, get_or-drop, take-append-drop, length-take-le, length-drop}
+use Rattle.std.proofs.lemmas.List.{drop-drop, drop-take, drop_at, take_at, take_all, take-take, get_or-drop, take-append-drop, length-take-le, length-drop}
 use Rattle.std.proofs.lemmas.List.Elements.{All-from_get_or, All-drop, All-take}
 use Rattle.std.proofs.lemmas.List.Sums.{position_or_len_is, fails_before_first}
 use Rattle.std.proofs.Math.Seq.{drop-cons}
@@ -105,6 +105,24 @@ below_from true base start place bytes later all =
     drop-drop (place - start) start bytes ∙ ap (λ k. drop k bytes) (omega arith) in
     subst (All P) same (All-drop P (place - start) (drop start bytes) (subst (All P) rest all))
 below_from false base start place bytes later all = tt
+
+-- those of two names, one after the other
+pub below_pair : (known : Bool) (base start end digits : ℕ) (bytes : List ℕ) → end ≡ start + 2 * digits
+    → OnTrue known (All (λ d. d < base) (take (end - start) (drop start bytes)))
+    → OnTrue known (All (λ d. d < base) (take digits (drop start bytes)))
+    × OnTrue known (All (λ d. d < base) (take digits (drop (start + digits) bytes)))
+below_pair true base start end digits bytes is all =
+    let P : ℕ → Type 0 = λ d. d < base in
+    let rest = drop start bytes in
+    let both : take (end - start) rest ≡ take (digits + digits) rest = ap (λ k. take k rest) (omega arith) in
+    let pair = subst (All P) both all in
+    let first : take digits (take (digits + digits) rest) ≡ take digits rest = take-take digits (digits + digits) rest (omega arith) in
+    let second : drop digits (take (digits + digits) rest) ≡ take digits (drop (start + digits) bytes) =
+    drop-take digits digits rest ∙ ap (take digits) (drop-drop digits start bytes ∙ ap (λ k. drop k bytes) (omega arith)) in (
+      subst (All P) first (All-take P digits (take (digits + digits) rest) pair),
+      subst (All P) second (All-drop P digits (take (digits + digits) rest) pair),
+    )
+below_pair false base start end digits bytes is all = (tt, tt)
 
 all_below : (base : ℕ) (name : List ℕ) → position (λ d. nat_le base d) name ≡ None → All (λ d. d < base) name
 all_below base name none =

@@ -2,6 +2,7 @@ pub mod Fault
 pub mod Kind
 pub mod Layout
 pub mod Fields
+pub mod Names
 pub mod Reading
 pub mod Spelling
 pub mod Writing

@@ -1,4 +1,6 @@
-ghost use Rattle.std.specs.Prelude.{◌≡◌, ◌≢◌, ◌==◌, ◌+◌, ◌-◌, ◌≤◌, ◌↔◌, ◌&&◌, not, length, slice_index, IsTrue, IfOk, Ok, Err};
+ghost use Rattle.std.specs.Prelude.{◌≡◌, ◌≢◌, ◌==◌, ◌+◌, ◌*◌, ◌-◌, ◌≤◌, ◌<◌, ◌↔◌, ◌&&◌, not, length, take, drop, slice_index, All, IsTrue, IfOk, OnOk, IfErr, Ok, Err};
+ghost use Rattle.std.specs.Bool.{OnTrue};
+ghost use Rattle.tap_name.specs.Name.{IsName};
 ghost use Rattle.tap_name.specs.Settings.{AreWithinLimits};
 ghost use Rattle.tap_wire.specs.declared.fault.HeadFault.{HeadFault};
 ghost use Rattle.tap_wire.specs.declared.frame.Frame.{Frame};
@@ -7,50 +9,77 @@ ghost use Rattle.tap_wire.specs.Fields.{number_at, digits_at};
 ghost use Rattle.tap_wire.specs.Fault.{fault_of_head};
 ghost use Rattle.tap_wire.specs.Layout.{is_long, head_len, body_start, is_length};
 ghost use Rattle.tap_wire.specs.Reading.{names_at, sized, opening_of, head_of_frame, head_of, frame_of, WantsMemory};
+ghost use Rattle.tap_wire.specs.Names.{sender_in, receiver_in, HeadGives};
 ghost use Rattle.tap_wire.specs.Spelling.{IsFrame, IsTyped, spelling};
 
 use crate::fault::{HeadFault, WireFault};
-use crate::fields::{bad_digit, digits_at, name_of, u16_at};
+use crate::fields::{digits_at, name_of, u16_at};
 use crate::frame::{Frame, Head};
 use crate::kind::Kind;
-use crate::layout::{body_start, head_len, is_long, version_of};
+use crate::layout::{MOST_SHORT_DIGITS, body_start, head_len, is_long, version_of};
+use crate::lists::{are_below, bad_digit_unless};
 use crate::opening::Opening;
 use crate::reading::body_at;
 use std::alloc::Global;
 use tap_name::{Name, Settings};
 
-// One of the two names, each of its digits below the base.
-fn head_name_at(settings: &Settings, bytes: &[u8], place: usize) -> Result<Name, HeadFault>
-    requires { place + settings.now.digits ≤ length bytes.now }
-    ensures { result ≡ digits_at BadDigit settings.now place bytes.now }
+// Whether each digit of the two names is below the base.
+fn are_names(settings: &Settings, bytes: &[u8], start: usize) -> bool
+    requires { start + 2 * settings.now.digits ≤ length bytes.now }
+    ensures sender { OnTrue result (All (λ d. d < settings.now.base) (take settings.now.digits (drop start bytes.now))) }
+    ensures receiver { OnTrue result (All (λ d. d < settings.now.base) (take settings.now.digits (drop (start + settings.now.digits) bytes.now))) }
+{
+    let digits = settings.digits() as usize;
+    if digits == MOST_SHORT_DIGITS as usize {
+        // The usual number. Their length is known here, so that all sixteen bytes are compared at once.
+        return are_below(settings.base(), &bytes[start..start + 16]);
+    }
+    are_below(settings.base(), &bytes[start..start + 2 * digits])
+}
+
+// The refusal of one of the two names, if a digit isn't below the base, which needs no look if all are known to be.
+#[inline(always)]
+fn check_name(
+    settings: &Settings,
+    bytes: &[u8],
+    place: usize,
+    are_digits: bool,
+) -> Result<(), HeadFault>
+    requires there { place + settings.now.digits ≤ length bytes.now }
+    requires digits { OnTrue are_digits (All (λ d. d < settings.now.base) (take settings.now.digits (drop place bytes.now))) }
+    ensures ok { OnOk result (digits_at BadDigit settings.now place bytes.now ≡ Ok (take settings.now.digits (drop place bytes.now))) }
+    ensures name { OnOk result (IsName settings.now (take settings.now.digits (drop place bytes.now))) }
+    ensures err { IfErr result (λ fault. digits_at BadDigit settings.now place bytes.now ≡ Err fault) }
 {
     let digits = digits_at(settings, bytes, place);
-    match bad_digit(settings, digits) {
-        None => Ok(name_of(settings, digits)),
+    match bad_digit_unless(are_digits, settings, digits) {
+        None => Ok(()),
         Some(at) => Err(HeadFault::BadDigit(place + at)),
     }
 }
 
-// The two names after the head.
-fn names_at(settings: &Settings, kind: Kind, bytes: &[u8]) -> Result<Opening, HeadFault>
+// The kind, if the two names after the head are names.
+fn names_at(settings: &Settings, kind: Kind, bytes: &[u8]) -> Result<Kind, HeadFault>
     requires { body_start settings.now ≤ length bytes.now }
-    ensures { result ≡ names_at settings.now kind bytes.now }
+    ensures { HeadGives settings.now bytes.now result (names_at settings.now kind bytes.now) }
 {
     let start = head_len(settings);
-    let sender = head_name_at(settings, bytes, start)?;
-    let receiver = head_name_at(settings, bytes, start + settings.digits() as usize)?;
-    Ok(Opening {
-        kind,
-        sender,
-        receiver,
-    })
+    let are_digits = are_names(settings, bytes, start);
+    check_name(settings, bytes, start, are_digits)?;
+    check_name(
+        settings,
+        bytes,
+        start + settings.digits() as usize,
+        are_digits,
+    )?;
+    Ok(kind)
 }
 
 // What the head says of the number of bytes, and the two names.
-fn sized(settings: &Settings, kind: Kind, bytes: &[u8]) -> Result<Opening, HeadFault>
+fn sized(settings: &Settings, kind: Kind, bytes: &[u8]) -> Result<Kind, HeadFault>
     requires { head_len settings.now ≤ length bytes.now }
-    ensures value { result ≡ sized settings.now kind (number_at 2 2 bytes.now) bytes.now }
-    ensures long { IfOk result (λ o. IsTrue (is_length settings.now o.kind (length bytes.now - body_start settings.now))) }
+    ensures value { HeadGives settings.now bytes.now result (sized settings.now kind (number_at 2 2 bytes.now) bytes.now) }
+    ensures long { IfOk result (λ found. IsTrue (is_length settings.now found (length bytes.now - body_start settings.now))) }
     ensures within { IfOk result (λ _. body_start settings.now ≤ length bytes.now) }
 {
     let len = u16_at(bytes, 2);
@@ -78,11 +107,11 @@ fn has_other_count(settings: &Settings, bytes: &[u8]) -> bool
     is_long(settings) && bytes[4] != settings.digits()
 }
 
-// The kind and the two names, or the first refusal of a head.
-fn opening_of(settings: &Settings, bytes: &[u8]) -> Result<Opening, HeadFault>
-    ensures value { result ≡ opening_of settings.now bytes.now }
+// The kind, or the first refusal of a head. The two names are looked at in place, and made by who wants them.
+fn kind_at(settings: &Settings, bytes: &[u8]) -> Result<Kind, HeadFault>
+    ensures value { HeadGives settings.now bytes.now result (opening_of settings.now bytes.now) }
     ensures valid { AreWithinLimits settings.now }
-    ensures long { IfOk result (λ o. IsTrue (is_length settings.now o.kind (length bytes.now - body_start settings.now))) }
+    ensures long { IfOk result (λ found. IsTrue (is_length settings.now found (length bytes.now - body_start settings.now))) }
     ensures within { IfOk result (λ _. body_start settings.now ≤ length bytes.now) }
 {
     let head = head_len(settings);
@@ -96,6 +125,38 @@ fn opening_of(settings: &Settings, bytes: &[u8]) -> Result<Opening, HeadFault>
         None => Err(HeadFault::BadKind(bytes[1])),
         Some(kind) => sized(settings, kind, bytes),
     }
+}
+
+// The sender in bytes whose head is read.
+fn sender_in(settings: &Settings, bytes: &[u8]) -> Name
+    requires within { body_start settings.now ≤ length bytes.now }
+    requires name { IsName settings.now (sender_in settings.now bytes.now) }
+    ensures { result ≡ sender_in settings.now bytes.now }
+{
+    name_of(settings, digits_at(settings, bytes, head_len(settings)))
+}
+
+// The receiver in bytes whose head is read.
+fn receiver_in(settings: &Settings, bytes: &[u8]) -> Name
+    requires within { body_start settings.now ≤ length bytes.now }
+    requires name { IsName settings.now (receiver_in settings.now bytes.now) }
+    ensures { result ≡ receiver_in settings.now bytes.now }
+{
+    let place = head_len(settings) + settings.digits() as usize;
+    name_of(settings, digits_at(settings, bytes, place))
+}
+
+// The kind and the two names, or the first refusal of a head.
+fn opening_of(settings: &Settings, bytes: &[u8]) -> Result<Opening, HeadFault>
+    ensures value { result ≡ opening_of settings.now bytes.now }
+    ensures valid { AreWithinLimits settings.now }
+{
+    let kind = kind_at(settings, bytes)?;
+    Ok(Opening {
+        kind,
+        sender: sender_in(settings, bytes),
+        receiver: receiver_in(settings, bytes),
+    })
 }
 
 /// The kind, the sender and the receiver of a frame: its refusals are those of `decode` but for the fields of the body,
@@ -132,21 +193,12 @@ pub fn decode(alloc: Global, settings: &Settings, bytes: &[u8]) -> Result<Frame,
     ensures only { (frame : Frame) → IsFrame settings.now frame → IsTyped frame.body → bytes.now ≡ spelling settings.now frame
         → result ≢ Err WireFault.NoMemory → result ≡ Ok frame }
 {
-    read_frame(alloc, settings, bytes)
-}
-
-// The frame that the bytes spell, or the first refusal.
-fn read_frame(alloc: Global, settings: &Settings, bytes: &[u8]) -> Result<Frame, WireFault>
-    ensures value { result ≢ Err WireFault.NoMemory → result ≡ frame_of settings.now bytes.now }
-    ensures memory { result ≡ Err WireFault.NoMemory → WantsMemory (frame_of settings.now bytes.now) }
-    ensures valid { AreWithinLimits settings.now }
-{
     let start = body_start(settings);
-    let opening = opening_of(settings, bytes)?;
-    let body = body_at(alloc, settings, opening.kind, bytes, start)?;
+    let kind = kind_at(settings, bytes)?;
+    let body = body_at(alloc, settings, kind, bytes, start)?;
     Ok(Frame {
-        from: opening.sender,
-        to: opening.receiver,
+        from: sender_in(settings, bytes),
+        to: receiver_in(settings, bytes),
         body,
     })
 }

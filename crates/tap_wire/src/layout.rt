@@ -19,7 +19,7 @@ pub const MOST_LINKS: usize = 255;
 pub const MOST_LETTERS: usize = 32;
 
 // The most digits of a name in frames of the first version.
-const MOST_SHORT_DIGITS: u8 = 8;
+pub(crate) const MOST_SHORT_DIGITS: u8 = 8;
 
 // The bytes of a slot: its level and its digit.
 pub(crate) const SLOT_LEN: usize = 2;

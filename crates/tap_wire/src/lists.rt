@@ -111,7 +111,8 @@ pub(crate) fn watch_at(
 }
 
 // Whether all bytes are below a bound. No byte ends the pass, so that many are compared at a time.
-fn are_below(bound: u8, bytes: &[u8]) -> bool
+#[inline(always)]
+pub(crate) fn are_below(bound: u8, bytes: &[u8]) -> bool
     ensures { OnTrue result (All (λ b. b < bound) bytes.now) }
 {
     let mut greatest = 0;
@@ -123,7 +124,11 @@ fn are_below(bound: u8, bytes: &[u8]) -> bool
 
 // The place of the first digit that isn't below the base, which needs no look if all are known to be.
 #[inline(always)]
-fn bad_digit_unless(are_digits: bool, settings: &Settings, digits: &[u8]) -> Option<usize>
+pub(crate) fn bad_digit_unless(
+    are_digits: bool,
+    settings: &Settings,
+    digits: &[u8],
+) -> Option<usize>
     requires { OnTrue are_digits (All (λ d. d < settings.now.base) digits.now) }
     ensures { result ≡ position (λ d. nat_le settings.now.base d) digits.now }
 {

@@ -1,4 +1,4 @@
-ghost use Rattle.std.specs.Prelude.{◌≡◌, ◌+◌, ◌*◌, ◌-◌, ◌≤◌, ◌<◌, length, IsTrue, Err};
+ghost use Rattle.std.specs.Prelude.{◌≡◌, ◌≢◌, ◌+◌, ◌*◌, ◌-◌, ◌≤◌, ◌<◌, length, IsTrue, Err};
 ghost use Rattle.tap_wire.specs.Kind.{has_list};
 ghost use Rattle.tap_wire.specs.Layout.{is_length};
 ghost use Rattle.tap_wire.specs.Reading.{BodyGives, prefix_at, level_above_at, seek_at, tell_at, hello_at, link_body_at, lay_at, find_at, answer_at, leave_at, cast_at, body_at};
@@ -11,9 +11,11 @@ use crate::lists::{hello_links_at, watch_at, word_at};
 use std::alloc::Global;
 use tap_name::Settings;
 
-fn seek_at(settings: &Settings, bytes: &[u8], start: usize) -> Result<Body, Broken>
+#[inline(never)]
+fn seek_at(settings: &Settings, bytes: &[u8], start: usize) -> Result<Body, BodyFault>
     requires { start + settings.now.digits ≤ length bytes.now }
-    ensures { result ≡ seek_at settings.now start bytes.now }
+    ensures value { BodyGives result (seek_at settings.now start bytes.now) }
+    ensures memory { result ≢ Err BodyFault.NoMemory }
 {
     let joiner = name_at(settings, bytes, start)?;
     Ok(Body::Seek { joiner })
@@ -47,6 +49,7 @@ fn level_above_at(settings: &Settings, bytes: &[u8], place: usize, prefix: u8) -
 }
 
 #[tactic(auto, unfolding(crate::specs::Reading::tell_at))]
+#[inline(never)]
 fn tell_at(
     alloc: Global,
     settings: &Settings,
@@ -74,6 +77,7 @@ fn tell_at(
 }
 
 #[tactic(auto, unfolding(crate::specs::Reading::hello_at))]
+#[inline(never)]
 fn hello_at(
     alloc: Global,
     settings: &Settings,
@@ -103,9 +107,11 @@ fn link_body_at(bytes: &[u8], start: usize) -> Result<Body, Broken>
 }
 
 #[tactic(auto, unfolding(crate::specs::Reading::lay_at))]
-fn lay_at(settings: &Settings, bytes: &[u8], start: usize) -> Result<Body, Broken>
+#[inline(never)]
+fn lay_at(settings: &Settings, bytes: &[u8], start: usize) -> Result<Body, BodyFault>
     requires { start + 2 * settings.now.digits + 6 ≤ length bytes.now }
-    ensures { result ≡ lay_at settings.now start bytes.now }
+    ensures value { BodyGives result (lay_at settings.now start bytes.now) }
+    ensures memory { result ≢ Err BodyFault.NoMemory }
 {
     let digits = settings.digits() as usize;
     let at = start + 2 * digits;
@@ -124,9 +130,11 @@ fn lay_at(settings: &Settings, bytes: &[u8], start: usize) -> Result<Body, Broke
 }
 
 #[tactic(auto, unfolding(crate::specs::Reading::find_at))]
-fn find_at(settings: &Settings, bytes: &[u8], start: usize) -> Result<Body, Broken>
+#[inline(never)]
+fn find_at(settings: &Settings, bytes: &[u8], start: usize) -> Result<Body, BodyFault>
     requires { start + 2 * settings.now.digits + 5 ≤ length bytes.now }
-    ensures { result ≡ find_at settings.now start bytes.now }
+    ensures value { BodyGives result (find_at settings.now start bytes.now) }
+    ensures memory { result ≢ Err BodyFault.NoMemory }
 {
     let digits = settings.digits() as usize;
     let ticket = u32_at(bytes, start);
@@ -141,26 +149,31 @@ fn find_at(settings: &Settings, bytes: &[u8], start: usize) -> Result<Body, Brok
     })
 }
 
-fn answer_at(settings: &Settings, bytes: &[u8], start: usize) -> Result<Body, Broken>
+#[inline(never)]
+fn answer_at(settings: &Settings, bytes: &[u8], start: usize) -> Result<Body, BodyFault>
     requires flag { start + 5 ≤ length bytes.now }
     requires name { start + 5 < length bytes.now → start + 5 + settings.now.digits ≤ length bytes.now }
-    ensures { result ≡ answer_at settings.now start bytes.now }
+    ensures value { BodyGives result (answer_at settings.now start bytes.now) }
+    ensures memory { result ≢ Err BodyFault.NoMemory }
 {
     let ticket = u32_at(bytes, start);
     let server = optional_at(settings, bytes, start + 4)?;
     Ok(Body::Answer { ticket, server })
 }
 
-fn leave_at(settings: &Settings, bytes: &[u8], start: usize) -> Result<Body, Broken>
+#[inline(never)]
+fn leave_at(settings: &Settings, bytes: &[u8], start: usize) -> Result<Body, BodyFault>
     requires flag { start + 1 ≤ length bytes.now }
     requires name { start + 1 < length bytes.now → start + 1 + settings.now.digits ≤ length bytes.now }
-    ensures { result ≡ leave_at settings.now start bytes.now }
+    ensures value { BodyGives result (leave_at settings.now start bytes.now) }
+    ensures memory { result ≢ Err BodyFault.NoMemory }
 {
     let replacement = optional_at(settings, bytes, start)?;
     Ok(Body::Leave { replacement })
 }
 
 #[tactic(auto, unfolding(crate::specs::Reading::cast_at))]
+#[inline(never)]
 fn cast_at(
     alloc: Global,
     settings: &Settings,
@@ -184,7 +197,8 @@ fn cast_at(
     })
 }
 
-// The body from its start to the end of the bytes, which are as many as the kind may have.
+// The body from its start to the end of the bytes, which are as many as the kind may have. Bodies with names or lists are
+// read by calls that aren't inlined, so that the short ones don't clear room for them.
 pub(crate) fn body_at(
     alloc: Global,
     settings: &Settings,
@@ -197,29 +211,29 @@ pub(crate) fn body_at(
     ensures value { BodyGives result (body_at settings.now kind start bytes.now) }
     ensures memory { result ≡ Err BodyFault.NoMemory → IsTrue (has_list kind) }
 {
-    Ok(match kind {
-        Kind::Seek => seek_at(settings, bytes, start)?,
-        Kind::Tell => tell_at(alloc, settings, bytes, start)?,
-        Kind::Hello => hello_at(alloc, settings, bytes, start)?,
-        Kind::Heard => Body::Heard {
+    match kind {
+        Kind::Seek => seek_at(settings, bytes, start),
+        Kind::Tell => tell_at(alloc, settings, bytes, start),
+        Kind::Hello => hello_at(alloc, settings, bytes, start),
+        Kind::Heard => Ok(Body::Heard {
             session: session_at(bytes, start)?,
-        },
-        Kind::Ack => Body::Ack {
+        }),
+        Kind::Ack => Ok(Body::Ack {
             session: session_at(bytes, start)?,
-        },
-        Kind::Done => Body::Done,
-        Kind::Release => Body::Release,
-        Kind::Link => link_body_at(bytes, start)?,
-        Kind::Lay => lay_at(settings, bytes, start)?,
-        Kind::Find => find_at(settings, bytes, start)?,
-        Kind::Answer => answer_at(settings, bytes, start)?,
-        Kind::Leave => leave_at(settings, bytes, start)?,
-        Kind::Left => Body::Left,
-        Kind::Gone => Body::Gone,
-        Kind::Forget => Body::Forget,
-        Kind::Cast => cast_at(alloc, settings, bytes, start)?,
-        Kind::CastAck => Body::CastAck {
+        }),
+        Kind::Done => Ok(Body::Done),
+        Kind::Release => Ok(Body::Release),
+        Kind::Link => Ok(link_body_at(bytes, start)?),
+        Kind::Lay => lay_at(settings, bytes, start),
+        Kind::Find => find_at(settings, bytes, start),
+        Kind::Answer => answer_at(settings, bytes, start),
+        Kind::Leave => leave_at(settings, bytes, start),
+        Kind::Left => Ok(Body::Left),
+        Kind::Gone => Ok(Body::Gone),
+        Kind::Forget => Ok(Body::Forget),
+        Kind::Cast => cast_at(alloc, settings, bytes, start),
+        Kind::CastAck => Ok(Body::CastAck {
             session: session_at(bytes, start)?,
-        },
-    })
+        }),
+    }
 }

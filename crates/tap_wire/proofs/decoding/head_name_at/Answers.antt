@@ -1,8 +1,0 @@
-use Rattle.std.proofs.Common.{◌∙◌, sym}
-use Rattle.tap_wire.proofs.Pieces.{are_name}
-use Rattle.tap_wire.proofs.decoding.head_name_at.Goals as goal
-
-pub name_of-requires : goal.name_of-requires
-name_of-requires c =
-    are_name c.args.settings.now c.args.bytes.now c.args.place c.digits_at-digits.result.now c.digits_at-digits.ensures c.requires
-    (sym c.bad_digit.ensures ∙ c.in-None.is)
