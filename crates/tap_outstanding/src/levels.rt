@@ -29,7 +29,7 @@ pub(crate) fn find(levels: &[Vec<u32>], place: u32) -> usize
     spot.at
 }
 
-/// The same, if no mark stands before a number. The first mark is mostly there.
+/// What `find` gives, if no mark stands before a number. The first mark is mostly there.
 pub(crate) fn find_after(levels: &[Vec<u32>], low: usize, place: u32) -> usize
     requires tower { IsTower levels.now }
     requires low { sum_before (level levels.now 0) low ≡ 0 }
@@ -46,7 +46,7 @@ pub(crate) fn find_after(levels: &[Vec<u32>], low: usize, place: u32) -> usize
     find(levels, place)
 }
 
-/// The first number from one on that has a mark, or how many numbers there are.
+/// The first number, from this one on, that has a mark, or how many numbers there are.
 pub(crate) fn next_mark(levels: &[Vec<u32>], number: usize) -> usize
     requires tower { IsTower levels.now }
     requires within { number ≤ length (level levels.now 0) }

@@ -32,7 +32,8 @@ pub struct Flight {
 /// that is outstanding and 0 for one that was taken, and above them sums of sixteen, sums of these, and
 /// so on. A call goes through the levels once, and through at most sixteen counts of each. Nothing is
 /// moved, and some 12 bytes are kept for each frame that was sent. Before one number, which only grows, all
-/// frames are known to be taken, so that the oldest one is mostly found at once.
+/// frames are known to be taken, so that the oldest one is mostly found at once. Taking it moves that number
+/// on, which over all calls passes each frame once.
 ///
 /// Rule: docs/FORMATS.md, "Groups and moments".
 #[derive(Drop)]
