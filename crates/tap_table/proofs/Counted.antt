@@ -1,5 +1,5 @@
 -- How many links the sets of a table have, after a change of one of them.
-use Rattle.std.proofs.Common.{◌≡◌, inl, inr, ℕ, ◌+◌, ◌-◌, ◌*◌, ◌<◌, ◌≤◌, List, [], ◌∷◌, length, get_or, replicate, set, All, arith, ap, ◌∙◌}
+use Rattle.std.proofs.Common.{◌≡◌, inl, inr, ℕ, ◌+◌, ◌-◌, ◌*◌, ◌<◌, ◌≤◌, List, [], ◌∷◌, length, get_or, replicate, set, All, arith, ap, subst, ◌∙◌}
 use Rattle.std.proofs.lemmas.Bool.{cases_lt, cases_order}
 use Rattle.std.proofs.lemmas.Cmp.{nat_list_cmp_total}
 use Rattle.std.proofs.lemmas.Grind.{get_or-set_at}
@@ -8,8 +8,8 @@ use Rattle.std.proofs.lemmas.List.Elements.{All-get_or, All-head, All-replicate,
 use Rattle.std.proofs.lemmas.List.Folds.{sum_by-replicate}
 use Rattle.std.proofs.lemmas.List.Sums.{get_or-le-sum_by, sum_by-cons, sum_by-set}
 use Rattle.tap_link.specs.LinkSet.{IsLinkSet, LinkSetValue}
-use Rattle.tap_link.specs.LinkSet.{pinned as set_pinned, offered as set_offered, released as set_released, forgotten as set_forgotten, removed as set_removed}
-use Rattle.tap_link.proofs.Sizes.{length-forgotten, length-offered_le, length-pinned_le, length-released, length-removed}
+use Rattle.tap_link.specs.LinkSet.{pinned as set_pinned, offered as set_offered, released as set_released, forgotten as set_forgotten, marked as set_marked, removed as set_removed}
+use Rattle.tap_link.proofs.Sizes.{length-forgotten, length-marked, length-offered_le, length-pinned_le, length-released, length-removed}
 use Rattle.tap_table.specs.Sets.{AreCounted, AreEmptyFrom, all_links, most_links_of_slot, most_slots_of_table}
 use Rattle.tap_table.specs.Table.{name_cmp}
 
@@ -120,6 +120,14 @@ module _ (sets : List (LinkSetValue (List ℕ))) (links number from : ℕ) (old 
     pub counted_fewer : AreCounted (set sets number new) (links - before + now) from
     counted_fewer = after_set new before now from before_is now_is still_few (empty_after new from (omega arith) still_empty)
 
+    -- and no fewer
+    pub counted_as_many : length new.links ≡ length old.links → AreCounted (set sets number new) links from
+    counted_as_many as_many =
+        let one = get_or-le-sum_by (λ (s : LinkSetValue (List ℕ)). length s.links) sets number old within in
+        let same = ap (λ (s : LinkSetValue (List ℕ)). length s.links) here in
+        let all : links - before + now ≡ links = omega (arith, one, same, as_many, before_is, now_is, are.count) in
+        subst (λ n. AreCounted (set sets number new) n from) all counted_fewer
+
     pub fits_fewer : links - before + now ≤ 640 * most_links_of_slot
     fits_fewer = fits_after new before now before_is now_is still_few
 
@@ -157,3 +165,9 @@ few_offered old new name small is =
     let len = length-offered_le name_cmp old name in
     let same = ap (λ (s : LinkSetValue (List ℕ)). length s.links) is in
     omega (arith, len, same)
+
+-- a set of which a link was marked has as many
+module _ (old new : LinkSetValue (List ℕ)) (name : List ℕ) (is : new ≡ set_marked name_cmp old name) where
+  pub as_many_marked : length new.links ≡ length old.links
+  as_many_marked =
+      ap (λ (s : LinkSetValue (List ℕ)). length s.links) is ∙ length-marked name_cmp old name

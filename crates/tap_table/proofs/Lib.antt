@@ -1,6 +1,7 @@
 pub mod Slots
 pub mod SetChanges
 pub mod Counted
+pub mod WithPrimaries
 pub mod Taken
 pub mod RowLists
 pub mod Holders

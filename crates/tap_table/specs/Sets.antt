@@ -1,7 +1,7 @@
 -- The link sets of the slots of a table, by the slots' numbers, and how many links they have.
-use Rattle.std.specs.Prelude.{◌≡◌, ℕ, ◌≤◌, List, [], length, sum_by, All}
+use Rattle.std.specs.Prelude.{◌≡◌, ℕ, ◌≤◌, Bool, List, [], length, map, sum_by, is_some, All}
 use Rattle.std.specs.List.{slice_index_or}
-use Rattle.tap_link.specs.LinkSet.{LinkSetValue}
+use Rattle.tap_link.specs.LinkSet.{LinkSetValue, least_settled}
 
 -- No slot has more links than this many, and no table more slots: then the links of all slots are counted in 64 bits.
 abbrev pub most_links_of_slot : ℕ
@@ -28,3 +28,12 @@ pub record AreCounted (sets : List (LinkSetValue (List ℕ))) (links empty_from 
   pub few : All (λ s. length s.links ≤ most_links_of_slot) sets
   pub count : links ≡ all_links sets
   pub empty : AreEmptyFrom sets empty_from
+
+-- a set has a primary: a link that is settled and not leaving
+abbrev pub has_primary : LinkSetValue (List ℕ) → Bool
+has_primary s = is_some (least_settled s.links)
+
+-- what is kept of the sets: how many links they have, and which of them have a primary
+pub record AreKept (sets : List (LinkSetValue (List ℕ))) (links empty_from : ℕ) (with_primary : List Bool) : Type 0 where
+  pub counted : AreCounted sets links empty_from
+  pub primaries : with_primary ≡ map has_primary sets

@@ -1,7 +1,7 @@
 ghost use Rattle.std.specs.Prelude.{◌≡◌, ◌<◌, ◌≤◌, ◌&&◌, [], length, replicate, slice_set, IsOk, IsSome, IsTrue, IfOk, OnOk, OnErr};
 ghost use Rattle.std.specs.Option.{is_none};
 ghost use Rattle.tap_link.specs.LinkSet.{forgotten, has_room, is_pinned, is_settled, is_settled_or_leaving, kind_of, marked, offered, pinned, released, released_as, removed};
-ghost use Rattle.tap_table.specs.Sets.{AreEmptyFrom, all_links, most_links_of_slot, most_slots_of_table, set_in};
+ghost use Rattle.tap_table.specs.Sets.{AreEmptyFrom, all_links, has_primary, most_links_of_slot, most_slots_of_table, set_in};
 ghost use Rattle.tap_table.specs.Table.{name_cmp};
 
 use crate::memory::NoMemory;
@@ -15,24 +15,26 @@ use tap_name::Name;
 const MOST_LINKS_OF_SLOT: usize = 1 << 54;
 
 // The link sets of the slots of a table by the slots' numbers, how many links they have in all, and a number from
-// which on none of them has a link: the deep levels of most tables are empty, and are passed over at once.
+// which on none of them has a link: the deep levels of most tables are empty, and are passed over at once. Which sets
+// have a primary stands beside them, so that a message passes over those that have none without a look at their links.
 #[derive(Drop)]
 pub(crate) struct Sets {
     sets: Vec<LinkSet<Name>>,
     links: usize,
     empty_from: usize,
+    with_primary: Vec<bool>,
 }
 
 impl Model for Sets {
     ghost use Rattle.std.specs.Prelude.{List, ℕ};
     ghost use Rattle.tap_link.specs.LinkSet.{LinkSetValue};
-    ghost use Rattle.tap_table.specs.Sets.{AreCounted};
+    ghost use Rattle.tap_table.specs.Sets.{AreKept};
 
     ghost Value = { List (LinkSetValue (List ℕ)) };
 
     ghost view = { λ s. s.sets.items };
 
-    ghost invariant = { λ s. AreCounted s.sets.items s.links s.empty_from };
+    ghost invariant = { λ s. AreKept s.sets.items s.links s.empty_from s.with_primary.items };
 }
 
 impl Sets {
@@ -49,6 +51,7 @@ impl Sets {
             sets,
             links: 0,
             empty_from: 0,
+            with_primary: vec![in alloc; false; slots]?,
         })
     }
 
@@ -64,6 +67,14 @@ impl Sets {
         ensures { AreEmptyFrom self.now result }
     {
         self.empty_from
+    }
+
+    // Whether the set of a number has a primary.
+    pub(crate) fn has_primary(&self, number: usize) -> bool
+        requires { number < length self.now }
+        ensures { result ≡ has_primary (set_in self.now number) }
+    {
+        self.with_primary[number]
     }
 
     // All sets, by their numbers.
@@ -87,6 +98,7 @@ impl Sets {
         let before = set.len();
         let added = pin_in(set, target)?;
         let now = set.len();
+        self.with_primary[number] = set.primary().is_some();
         self.links = self.links - before + now;
         let empty_from = past(self.empty_from, number);
         self.empty_from = empty_from;
@@ -108,6 +120,7 @@ impl Sets {
         let before = set.len();
         let added = offer_in(set, target)?;
         let now = set.len();
+        self.with_primary[number] = set.primary().is_some();
         self.links = self.links - before + now;
         let empty_from = past(self.empty_from, number);
         self.empty_from = empty_from;
@@ -125,6 +138,7 @@ impl Sets {
         let before = set.len();
         let answer = set.release(by);
         let now = set.len();
+        self.with_primary[number] = set.primary().is_some();
         self.links = self.links - before + now;
         answer
     }
@@ -139,6 +153,7 @@ impl Sets {
         let before = set.len();
         let answer = set.forget(by);
         let now = set.len();
+        self.with_primary[number] = set.primary().is_some();
         self.links = self.links - before + now;
         answer
     }
@@ -149,7 +164,10 @@ impl Sets {
         ensures after { self.new
             ≡ slice_set self.old number (marked name_cmp (set_in self.old number) target) }
     {
-        self.sets[number].mark_leaving(target)
+        let set = &mut self.sets[number];
+        let answer = set.mark_leaving(target);
+        self.with_primary[number] = set.primary().is_some();
+        answer
     }
 
     pub(crate) fn remove_settled(&mut self, number: usize, target: Name) -> bool
@@ -162,6 +180,7 @@ impl Sets {
         let before = set.len();
         let answer = set.remove_settled(target);
         let now = set.len();
+        self.with_primary[number] = set.primary().is_some();
         self.links = self.links - before + now;
         answer
     }
@@ -172,6 +191,7 @@ impl Sets {
             sets,
             links: _,
             empty_from: _,
+            with_primary: _,
         } = self;
         for set in sets {
             set.cease(by);

@@ -23,7 +23,7 @@ use tap_name::{Name, Settings, Slot, next_cyclic};
 ///
 /// Each link stands in the slot of its target: the level is the number of digits that the owner and
 /// the target share, and the digit is the target's after them. Each slot has a link set, and all
-/// of them are made with the table, in one allocation: a slot is found by its number, and no look-up
+/// of them are made with the table: a slot is found by its number, and no look-up
 /// takes memory. With base 16 and 8 digits there are 128 sets.
 ///
 /// Rule: docs/PROTOCOL.md, "Slots and tables".
@@ -472,7 +472,11 @@ impl Table {
         requires digit { digit < self.now.settings.base }
         ensures { result ≡ can_take self.now level digit }
     {
-        self.owner.digit(level) == digit || self.primary(self.slot_on(level, digit)).is_some()
+        if self.owner.digit(level) == digit {
+            return true;
+        }
+        let number = level * self.settings.base() as usize + digit as usize;
+        self.sets.has_primary(number)
     }
 
     // The first digit, cyclically from the wanted one, that a message may take at a level.
