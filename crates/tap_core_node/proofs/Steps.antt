@@ -1,26 +1,30 @@
 -- The steps of a core node at links, lookups and departures, from the frames that were added.
-use Rattle.std.proofs.Common.{◌≡◌, ◌≢◌, ℕ, Bool, List, [], ◌++◌, Option, Some, refl, sym, ap, subst, ◌∙◌, append-nil}
+use Rattle.std.proofs.Common.{◌≡◌, ◌≢◌, ℕ, Bool, true, List, [], ◌∷◌, ◌++◌, Option, Some, refl, sym, ap, subst, ◌∙◌, append-nil}
 use Rattle.tap_name.specs.Name.{IsName}
 use Rattle.tap_session.specs.Session.{SessionsValue}
 use Rattle.tap_session.specs.Sessions.{answer_to, answered_at}
-use Rattle.tap_table.specs.Ties.{TiesValue, forgotten, held_word, released, stamp_after}
+use Rattle.tap_table.specs.Ties.{TiesValue, forgotten, held_word, released, removed, stamp_after}
 use Rattle.tap_table.proofs.Primaries.{primary_near}
+use Rattle.tap_depart.specs.Told.{told_leave}
 use Rattle.tap_join.specs.Hello.{words_of}
+use Rattle.tap_wire.specs.declared.frame.Body.TheVariants.{Left}
 use Rattle.tap_rule.specs.Answers.{answer_sends, answered}
 use Rattle.tap_rule.specs.Event.News.{Answered as RuleAnswered, Nothing as RuleNothing}
+use Rattle.tap_rule.specs.Leaving.{leave_word, takes_leave, takes_out}
 use Rattle.tap_rule.specs.Links.{forgets, hears_and_releases, release_answer, release_word, releases, with_word}
 use Rattle.tap_rule.specs.Node.{IsRunning, NodeState, join_session_at, name_of, settings_of}
 use Rattle.tap_rule.specs.Node.Status.{Core}
 use Rattle.tap_rule.specs.Pointers.{is_answered, lays_due, with_reconciled}
-use Rattle.tap_rule.specs.Reaction.{stays, with_ties}
+use Rattle.tap_rule.specs.Reaction.{Message, message, stays, with_ties}
 use Rattle.tap_step.specs.declared.news.News.TheVariants.{Answered, Nothing}
 use Rattle.tap_step.specs.Sender.{lay_bytes, message_bytes, node_sender, word_bytes}
 use Rattle.tap_step.specs.Sound.{IsSoundNode}
 use Rattle.tap_step.specs.Step.{FollowsAs, StepsAs}
 use Rattle.tap_step.proofs.Followed.{follows_rule}
 use Rattle.tap_step.proofs.Steps.{messages_step, reconciled_step, silent_step, words_step}
+use Rattle.tap_core_node.specs.Primaries.{has_other_primary}
 use Rattle.tap_core_node.proofs.Followed.{follows_quiet}
-use Rattle.tap_core_node.proofs.Laid.{laid-forgotten, laid-released}
+use Rattle.tap_core_node.proofs.Laid.{laid-forgotten, laid-released, laid-removed, laid-told_leave}
 
 module _ (node : NodeState) (sound : IsSoundNode node) (core : node.status ≡ Core) (before : List (List ℕ)) where
   -- an answer to a session of joins
@@ -97,6 +101,41 @@ module _ (node : NodeState) (sound : IsSoundNode node) (core : node.status ≡ C
         follows_rule node (releases node from) after before sent Nothing (subst IsRunning (sym core) tt)
         (reconciled_step node (releases node from) after let_go before added sent Nothing refl (released_step added words)
         (laid ∙ ap with_reconciled same) (lays ∙ ap (λ m. added ++ lay_bytes (node_sender m) (lays_due m)) same))
+
+    -- a Leave of a node that isn't the slot's primary
+    pub left_quietly : (replacement : Option (List ℕ)) (ties : TiesValue) (stamp : ℕ) (added sent : List (List ℕ))
+        → has_other_primary node.ties.table from ≡ true → ties ≡ told_leave node.ties from replacement
+        → stamp ≡ stamp_after node.stamp (leave_word node from replacement)
+        → added ≡ before ++ word_bytes (node_sender node) (words_of (leave_word node from replacement))
+        → sent ≡ added ++ message_bytes (node_sender node) (message from Left ∷ [])
+        → FollowsAs node (Some (takes_leave node from replacement)) (record node { ties = ties; stamp = stamp }) before sent Nothing
+    left_quietly replacement ties stamp added sent is_other same numbered words is =
+        let word = leave_word node from replacement in
+        let after : NodeState = with_ties (told_leave node.ties from replacement) word node in
+        let messages : List Message = message from Left ∷ [] in
+        rw (same, numbered) (follows_quiet node (takes_leave node from replacement) after before sent Nothing
+        (record {
+          status = core;
+          lays = refl;
+          laid = laid-told_leave node.ties from sound.valid.ties.table is_name other is_other replacement node.pointers sound.laid;
+        })
+        (words_step node after (words_of word) messages RuleNothing before sent
+        (is ∙ ap (λ first. first ++ message_bytes (node_sender node) messages) words)))
+
+    -- a Gone that leaves the slot's primary
+    pub removed_quietly : (ties : TiesValue) → ties ≡ removed node.ties from
+        → primary_near ties.table from ≡ primary_near node.ties.table from
+        → FollowsAs node (Some (takes_out node from)) (record node { ties = ties }) before before Nothing
+    removed_quietly ties same alike =
+        let after : NodeState = record node { ties = removed node.ties from } in
+        rw same (follows_quiet node (takes_out node from) after before before Nothing
+        (record {
+          status = core;
+          lays = refl;
+          laid = laid-removed node.ties.table from sound.valid.ties.table is_name other
+              (sym (ap (λ (t : TiesValue). primary_near t.table from) same) ∙ alike) node.pointers sound.laid;
+        })
+        (silent_step node after RuleNothing before))
 
 -- a change without frames, after which all pairs are laid as wanted
 pub silent_and_laid : (node changed after middle : NodeState) (before sent : List (List ℕ)) → changed.status ≡ Core

@@ -1,2 +1,3 @@
-pub mod State
+pub mod Primaries
 pub mod Requests
+pub mod State

@@ -3,7 +3,7 @@ ghost use Rattle.tap_name.specs.Distinct.{AreDistinct};
 ghost use Rattle.tap_name.specs.declared.slot.Slot.{Slot};
 ghost use Rattle.tap_name.specs.Name.{IsName};
 ghost use Rattle.tap_pointer.specs.Pointers.{held_or_laid_count, pair_of};
-ghost use Rattle.tap_pointer.specs.Reconcile.{AreLaidBut};
+ghost use Rattle.tap_pointer.specs.Reconcile.{AreLaidBeside, AreLaidBut};
 ghost use Rattle.tap_rule.specs.Answers.{answered};
 ghost use Rattle.tap_rule.specs.FrameRules.{frame_at_core};
 ghost use Rattle.tap_rule.specs.Leaving.{takes_leave, takes_out};
@@ -15,6 +15,7 @@ ghost use Rattle.tap_step.specs.Sender.{lay_bytes, sender_of};
 ghost use Rattle.tap_step.specs.Sound.{AreNamedHops, AreNamedPairs, IsSoundNode, MayTake, has_numbers_left};
 ghost use Rattle.tap_step.specs.States.{newly_core};
 ghost use Rattle.tap_step.specs.Step.{FollowsAs};
+ghost use Rattle.tap_core_node.specs.Primaries.{IsLevelOfLeave, has_other_primary};
 ghost use Rattle.tap_core_node.specs.State.{core_state};
 
 use crate::casting::CastCopy;
@@ -29,9 +30,9 @@ use tap_register::Stamp;
 use tap_session::{Parent, Sessions};
 use tap_step::{
     News, NoMemory, NodeParts, Sender, TakenFind, TakenLay, ask, hear_and_release, reconcile,
-    reconcile_pair, take_answer, take_find, take_lay,
+    reconcile_at, reconcile_pair, take_answer, take_find, take_lay,
 };
-use tap_table::Ties;
+use tap_table::{Table, Ties};
 use tap_turn::FrameList;
 use tap_wire::{Body, Frame};
 
@@ -222,8 +223,30 @@ impl CoreNode {
         if before == after {
             return Ok(News::Nothing);
         }
-        self.reconciles(sent)?;
+        let level = self.core.ties().table().owner().lcp(&from) as u8;
+        self.reconciles_at(sent, level)?;
         Ok(News::Nothing)
+    }
+
+    // Lays all pairs as wanted, if no pair needs it but those whose way passes a level.
+    fn reconciles_at(&mut self, sent: &mut FrameList, level: u8) -> Result<(), NoMemory>
+        requires owner { self.old.core.table.owner ≡ self.old.parts.pointers.owner }
+        requires names { AreNamedPairs self.old.core.table.settings self.old.parts.pointers }
+        requires hops { AreNamedHops self.old.core.table.settings self.old.parts.pointers }
+        requires numbers { self.old.parts.stamp + 2 * held_or_laid_count self.old.parts.pointers.pairs ≤ u32.MAX }
+        requires others { AreLaidBeside self.old.core.table level self.old.parts.pointers }
+        ensures after { OnOk result (core_state self.new ≡ with_reconciled (core_state self.old)) }
+        ensures sent { OnOk result (sent.new
+            ≡ sent.old ++ lay_bytes (sender_of self.old.core.table) (lays_due (core_state self.old))) }
+    {
+        let table = self.core.ties().table();
+        reconcile_at(
+            &mut self.parts.pointers,
+            table,
+            &mut self.parts.stamp,
+            sent,
+            level,
+        )
     }
 
     // Lays all pairs as wanted.
@@ -238,6 +261,23 @@ impl CoreNode {
     {
         let table = self.core.ties().table();
         reconcile(&mut self.parts.pointers, table, &mut self.parts.stamp, sent)
+    }
+
+    // Lays all pairs as wanted. If a level is given, no pair needs it but those whose way passes this level.
+    fn reconciles_beside(&mut self, sent: &mut FrameList, level: Option<u8>) -> Result<(), NoMemory>
+        requires owner { self.old.core.table.owner ≡ self.old.parts.pointers.owner }
+        requires names { AreNamedPairs self.old.core.table.settings self.old.parts.pointers }
+        requires hops { AreNamedHops self.old.core.table.settings self.old.parts.pointers }
+        requires numbers { self.old.parts.stamp + 2 * held_or_laid_count self.old.parts.pointers.pairs ≤ u32.MAX }
+        requires others { IfSome level (λ l. AreLaidBeside self.old.core.table l self.old.parts.pointers) }
+        ensures after { OnOk result (core_state self.new ≡ with_reconciled (core_state self.old)) }
+        ensures sent { OnOk result (sent.new
+            ≡ sent.old ++ lay_bytes (sender_of self.old.core.table) (lays_due (core_state self.old))) }
+    {
+        match level {
+            Some(level) => self.reconciles_at(sent, level),
+            None => self.reconciles(sent),
+        }
     }
 
     // Lays the pair of an object that it serves itself as wanted, if no other pair needs it.
@@ -352,7 +392,8 @@ impl CoreNode {
         Ok(News::Nothing)
     }
 
-    // Leave: it marks the leaver, takes the replacement if its slot wants one, and answers.
+    // Leave: it marks the leaver, takes the replacement if its slot wants one, and answers. If another node is the slot's
+    // primary, it stays so, and no replacement is wanted.
     fn takes_leave(
         &mut self,
         sent: &mut FrameList,
@@ -367,6 +408,8 @@ impl CoreNode {
         ensures { IfOk result (λ news. FollowsAs (core_state self.old) (Some (takes_leave (core_state self.old) from replacement))
             (core_state self.new) sent.old sent.new news) }
     {
+        let other = has_other_primary(self.core.ties().table(), &from);
+        let level = level_of_leave(self.core.ties().table(), &from, &replacement);
         let word = told_leave(
             self.core.ties_mut(),
             &mut self.parts.stamp,
@@ -376,11 +419,14 @@ impl CoreNode {
         let sender = self.sender();
         sender.send_word(sent, word)?;
         sender.send(sent, &from, Body::Left)?;
-        self.reconciles(sent)?;
+        if other {
+            return Ok(News::Nothing);
+        }
+        self.reconciles_beside(sent, level)?;
         Ok(News::Nothing)
     }
 
-    // Gone: its link to the sender is taken out.
+    // Gone: its link to the sender is taken out. That mostly leaves the slot's primary as it was, since the link was marked.
     fn takes_out(&mut self, sent: &mut FrameList, from: Name) -> Result<News, NoMemory>
         requires sound { IsSoundNode (core_state self.old) }
         requires room { has_numbers_left (core_state self.old) ≡ true }
@@ -389,7 +435,12 @@ impl CoreNode {
         ensures { IfOk result (λ news. FollowsAs (core_state self.old) (Some (takes_out (core_state self.old) from))
             (core_state self.new) sent.old sent.new news) }
     {
+        let old_primary = self.core.ties().table().near(&from).primary();
         self.core.ties_mut().remove_settled(from);
+        let new_primary = self.core.ties().table().near(&from).primary();
+        if old_primary == new_primary {
+            return Ok(News::Nothing);
+        }
         self.reconciles(sent)?;
         Ok(News::Nothing)
     }
@@ -475,5 +526,35 @@ impl CoreNode {
         ensures { result ≡ (self.core, self.parts) }
     {
         (self.core, self.parts)
+    }
+}
+
+// Whether the slot in which a name stands has a primary that is another node.
+fn has_other_primary(table: &Table, name: &Name) -> bool
+    requires name { IsName table.now.settings name.now }
+    requires other { name.now ≢ table.now.owner }
+    ensures { result ≡ has_other_primary table.now name.now }
+{
+    match table.near(name).primary() {
+        Some(primary) => primary != *name,
+        None => false,
+    }
+}
+
+// The level of the slot of a leaver, if its replacement stands at this level too, or there is none.
+fn level_of_leave(table: &Table, leaver: &Name, replacement: &Option<Name>) -> Option<u8>
+    ensures { IfSome result (IsLevelOfLeave table.now leaver.now replacement.now) }
+{
+    let owner = table.owner();
+    let level = owner.lcp(leaver);
+    match replacement {
+        Some(next) => {
+            if owner.lcp(next) == level {
+                Some(level as u8)
+            } else {
+                None
+            }
+        }
+        None => Some(level as u8),
     }
 }

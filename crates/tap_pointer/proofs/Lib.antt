@@ -3,6 +3,7 @@ pub mod Entries
 pub mod Known
 pub mod Laws
 pub mod Layings
+pub mod Beside
 pub mod Least
 pub mod Levels
 pub mod Lookups

@@ -52,6 +52,33 @@ module _ (t : TableValue) (pair : Pair) where
   none_if_absent pairs absent all =
       none_if_laid t pairs (laid_if_absent pairs absent all)
 
+  -- the pair itself is laid as wanted: each pair is
+  pub laid_if_laid : (pairs : List (Pair × PairState)) (state : PairState) → IsStrictlySortedBy pair_cmp (keys_of pairs)
+      → lookup (is_at (pair_cmp pair)) pairs ≡ Some state → All LaidUnless pairs → Laid (pair, state) → All Laid pairs
+  laid_if_laid [] state sorted found all laid = All-nil Laid
+  laid_if_laid (e ∷ pairs) state sorted found all laid =
+      by_order (λ later. laid_if_laid pairs state (sorted_tail pair_cmp e.0 (keys_of pairs) sorted) later
+      (All-tail LaidUnless e pairs all) laid)
+      (pair_cmp pair e.0) refl
+    where
+      by_order : (lookup (is_at (pair_cmp pair)) pairs ≡ Some state → All Laid pairs)
+          → (order : Ordering) → pair_cmp pair e.0 ≡ order → All Laid (e ∷ pairs)
+      by_order later Less is =
+          let none = lookup-none (is_at (pair_cmp pair)) (e ∷ pairs) (none_below_head pair_cmp-total pair e pairs sorted is) in
+          let wrong : None ≡ Some state = sym none ∙ found in absurd (cc)
+      by_order later Equal is =
+          let same : pair ≡ e.0 = pair_cmp-equal pair e.0 is in
+          let first : Some e.1 ≡ Some state = rw is at found in
+          let state_is : e.1 ≡ state = ap (λ s. unwrap_or s e.1) first in
+          let entry : (pair, state) ≡ e = ap (λ p. (p, state)) same ∙ ap (λ s. (e.0, s)) (sym state_is) in
+          let above : AllByRecursion (λ key. pair_cmp pair key ≡ Less) (keys_of pairs) =
+          subst (λ p. AllByRecursion (λ key. pair_cmp p key ≡ Less) (keys_of pairs)) (sym same)
+          (sorted_head pair_cmp e.0 (keys_of pairs) sorted) in
+          All-cons Laid e pairs (subst Laid entry laid)
+          (others_laid pairs (later_apart pairs above) (All-tail LaidUnless e pairs all))
+      by_order later Greater is =
+          All-cons Laid e pairs (All-head LaidUnless e pairs all (ap is_eq is)) (later (rw is at found))
+
   -- what reconciling does if the pair has this state
   pub record Settles (pairs : List (Pair × PairState)) (state : PairState) : Type 0 where
     pub lays : layings_to_wanted t pairs ≡ layings pair state.laid (wanted_hop t (pair, state))

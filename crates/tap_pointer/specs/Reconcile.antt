@@ -1,5 +1,5 @@
 -- Where each pair is to be laid on to, and the Lays that this takes.
-use Rattle.std.specs.Prelude.{◌≡◌, ℕ, ◌+◌, nat_eq, ◌&&◌, ◌==◌, Bool, true, false, if◌then◌else◌, List, [], ◌∷◌, ◌++◌, map, drop, All, Option, None, Some}
+use Rattle.std.specs.Prelude.{◌≡◌, ℕ, ◌+◌, nat_eq, nat_lt, ◌&&◌, ◌==◌, not, Bool, true, false, if◌then◌else◌, List, [], ◌∷◌, ◌++◌, map, drop, All, Option, None, Some}
 use Rattle.std.specs.BTreeMap.{is_at}
 use Rattle.std.specs.Cmp.Lexicographic.{pointwise}
 use Rattle.std.specs.List.{flat_map}
@@ -107,6 +107,34 @@ AreLaid t p = All (λ e. e.1.laid ≡ wanted_hop t e) p.pairs
 -- each pair but this one is
 abbrev pub AreLaidBut : TableValue → Pair → PointersValue → Type 0
 AreLaidBut t pair p = All (λ e. is_at (pair_cmp pair) e.0 ≡ false → e.1.laid ≡ wanted_hop t e) p.pairs
+
+-- The way of a pair passes a level if the pair is held at this level or a lower one, and isn't laid on at a lower one.
+abbrev pub is_held_to : ℕ → Option ℕ → Bool
+is_held_to level None = false
+is_held_to level (Some held) = nat_lt held (level + 1)
+
+abbrev pub turns_off : ℕ → Option Hop → Bool
+turns_off level None = false
+turns_off level (Some hop) = nat_lt hop.level (level + 1)
+
+abbrev pub passes : ℕ → PairState → Bool
+passes level state = is_held_to level (level_held state) && not (turns_off level state.laid)
+
+-- each pair but those whose way passes a level is laid as wanted
+abbrev pub AreLaidBeside : TableValue → ℕ → PointersValue → Type 0
+AreLaidBeside t level p = All (λ e. passes level e.1 ≡ false → e.1.laid ≡ wanted_hop t e) p.pairs
+
+-- the pairs that may be laid elsewhere than wanted: all of them, or those whose way passes a level
+abbrev pub may_be_apart : Option ℕ → PairState → Bool
+may_be_apart None state = true
+may_be_apart (Some level) state = passes level state
+
+-- where a pair is laid on to afterwards if those pairs are laid as wanted
+abbrev pub hop_after : TableValue → Option ℕ → Pair × PairState → Option Hop
+hop_after t level e = if may_be_apart level e.1 then wanted_hop t e else e.1.laid
+
+abbrev pub AreLaidUnlessApart : TableValue → Option ℕ → List (Pair × PairState) → Type 0
+AreLaidUnlessApart t level pairs = All (λ e. may_be_apart level e.1 ≡ false → e.1.laid ≡ wanted_hop t e) pairs
 
 -- the object of each pair that is held or laid is a name of the settings
 abbrev pub AreNamesHeld : SettingsValue → PointersValue → Type 0

@@ -37,8 +37,10 @@ impl Ord for Pair {
     ghost matches_eq = { pair_cmp-ties };
 
     fn cmp(&self, other: &Pair) -> Ordering {
-        self.object
-            .cmp(&other.object)
-            .then(self.server.cmp(&other.server))
+        match self.object.cmp(&other.object) {
+            Ordering::Less => Ordering::Less,
+            Ordering::Equal => self.server.cmp(&other.server),
+            Ordering::Greater => Ordering::Greater,
+        }
     }
 }

@@ -1,15 +1,16 @@
 ghost use Rattle.std.specs.Prelude.{◌≡◌, ◌+◌, ◌*◌, ◌<◌, ◌≤◌, if◌then◌else◌, not, length, map, slice_get, Some, IfOk, OnOk, OnErr};
 ghost use Rattle.tap_pointer.specs.Pointers.{IsPointers, all_withdrawn, is_news, lay_applied, least_server, no_pointers, own_pair, pair_of, pairs_held, pointer_at, published, owner_publishes, held_or_laid_count, withdrawn};
-ghost use Rattle.tap_pointer.specs.Reconcile.{AreLaid, AreLaidBut, AreNamesHeld, clear_lays, cleared, reconcile_lays, reconciled};
+ghost use Rattle.tap_pointer.specs.Reconcile.{AreLaid, AreLaidBeside, AreLaidBut, AreLaidUnlessApart, AreNamesHeld, clear_lays, cleared, reconcile_lays, reconciled};
 
 use crate::change::{held_or_laid_count, lay, publish, take, withdraw};
 use crate::held::Held;
 use crate::lay::Lay;
-use crate::laying::{push_layings, wanted_hop};
+use crate::laying::{is_laid_so, push_layings, wanted_hop};
 use crate::pair::Pair;
 use crate::state::{PairState, Pointer};
 use crate::walk::{
-    held_at, held_count, lay_all, lays_to_none, lays_to_wanted, least_server, withdraw_all,
+    are_laid, held_at, held_count, lay_all, lays_to_none, lays_to_wanted, least_server,
+    withdraw_all,
 };
 use std::alloc::Global;
 use std::collections::BTreeMap;
@@ -168,8 +169,55 @@ impl Pointers {
         ensures stamped { IfOk result (λ lays. stamp.new ≡ stamp.old + length lays) }
         ensures laid { OnOk result (AreLaid table.now self.new) }
     {
-        let lays = lays_to_wanted(self.alloc, &self.pairs, table, stamp)?;
-        lay_all(&mut self.pairs, table);
+        self.lays_as_wanted(table, stamp, None)
+    }
+
+    /// Does what `reconcile` does, if no pair needs it but those whose way passes this level: those that are held at this
+    /// level or a lower one, and aren't laid on at a lower one. Each other pair is laid as wanted, and isn't looked up.
+    ///
+    /// So it serves after a step that changed primaries of this level alone.
+    ///
+    /// Rule: docs/PROTOCOL.md, "Pointers".
+    pub fn reconcile_at(
+        &mut self,
+        table: &Table,
+        stamp: &mut Stamp,
+        level: u8,
+    ) -> Result<List<Lay>, NoMemory>
+        requires owner { table.now.owner ≡ self.old.owner }
+        requires names { AreNamesHeld table.now.settings self.old }
+        requires numbers { stamp.old + 2 * held_or_laid_count self.old.pairs ≤ u32.MAX }
+        requires others { AreLaidBeside table.now level self.old }
+        ensures answer { IfOk result (λ lays. lays ≡ reconcile_lays table.now stamp.old self.old) }
+        ensures after { OnOk result (self.new ≡ reconciled table.now self.old) }
+        ensures stamped { IfOk result (λ lays. stamp.new ≡ stamp.old + length lays) }
+        ensures laid { OnOk result (AreLaid table.now self.new) }
+    {
+        self.lays_as_wanted(table, stamp, Some(level))
+    }
+
+    // Lays every pair as wanted, of which those that may be laid elsewhere alone are looked up, and gives the Lays that this
+    // takes.
+    fn lays_as_wanted(
+        &mut self,
+        table: &Table,
+        stamp: &mut Stamp,
+        level: Option<u8>,
+    ) -> Result<List<Lay>, NoMemory>
+        requires owner { table.now.owner ≡ self.old.owner }
+        requires names { AreNamesHeld table.now.settings self.old }
+        requires numbers { stamp.old + 2 * held_or_laid_count self.old.pairs ≤ u32.MAX }
+        requires others { AreLaidUnlessApart table.now level self.old.pairs }
+        ensures answer { IfOk result (λ lays. lays ≡ reconcile_lays table.now stamp.old self.old) }
+        ensures after { OnOk result (self.new ≡ reconciled table.now self.old) }
+        ensures stamped { IfOk result (λ lays. stamp.new ≡ stamp.old + length lays) }
+        ensures laid { OnOk result (AreLaid table.now self.new) }
+    {
+        if are_laid(&self.pairs, table, level) {
+            return Ok(List::from_vec(Vec::new(self.alloc)));
+        }
+        let lays = lays_to_wanted(self.alloc, &self.pairs, table, stamp, level)?;
+        lay_all(&mut self.pairs, table, level);
         self.held_or_laid = held_or_laid_count(&self.pairs);
         Ok(List::from_vec(lays))
     }
@@ -198,12 +246,17 @@ impl Pointers {
         ensures laid { OnOk result (AreLaid table.now self.new) }
         ensures same { OnErr result (self.new ≡ self.old) }
     {
+        // It tells that the pairs ascend.
+        let _ordered = self.pairs.len();
         let pair = Pair { object, server };
         let mut lays = Vec::new(self.alloc);
         let Some(state) = self.pairs.get(&pair) else {
             return Ok(List::from_vec(lays));
         };
         let wanted = wanted_hop(table, &pair, state);
+        if is_laid_so(&state.laid, &wanted) {
+            return Ok(List::from_vec(lays));
+        }
         push_layings(&mut lays, stamp, &pair, &state.laid, &wanted)?;
         let change = lay(&mut self.pairs, &pair, &wanted).unwrap();
         self.held_or_laid = change.count_after(self.held_or_laid, self.pairs.len());

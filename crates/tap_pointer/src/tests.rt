@@ -501,6 +501,8 @@ fn without_pairs_no_lay_is_sent(rt: HostRuntime) -> Result<(), Fail> {
         0
     );
     assert_eq!(rt; stamp.last(), 0);
+    assert_eq!(rt; pointers.reconcile_at(&table, &mut stamp, 1)?.len(), 0);
+    assert_eq!(rt; stamp.last(), 0);
     assert_eq!(rt; pointers.clear(&mut stamp)?.len(), 0);
     Ok(())
 }

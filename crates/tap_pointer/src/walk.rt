@@ -1,10 +1,12 @@
 ghost use Rattle.std.specs.Prelude.{◌≡◌, ◌+◌, ◌*◌, ◌≤◌, true, false, [], length, map, slice_get, All, IfOk};
 ghost use Rattle.tap_name.specs.Name.{IsName};
 ghost use Rattle.tap_pointer.specs.Pointers.{held_among, is_held_or_laid, is_of, pair_of, held_or_laid_count, server_among, with_published};
-ghost use Rattle.tap_pointer.specs.Reconcile.{layings_to_none, layings_to_wanted, lays_numbered, with_wanted};
+ghost use Rattle.tap_pointer.specs.Reconcile.{AreLaidUnlessApart, layings_to_none, layings_to_wanted, lays_numbered, wanted_hop, with_wanted};
 
 use crate::lay::Lay;
-use crate::laying::{push_layings, wanted_hop};
+use crate::laying::{
+    hop_after, is_laid_or_kept, is_laid_so, may_be_apart, push_layings, wanted_hop,
+};
 use crate::pair::Pair;
 use crate::state::PairState;
 use std::alloc::Global;
@@ -13,35 +15,60 @@ use tap_name::Name;
 use tap_register::Stamp;
 use tap_table::{NoMemory, Table};
 
+// Whether all pairs are laid as wanted, of which those that may be laid elsewhere alone are looked up. It takes no memory, and
+// changes of a table mostly leave all pairs so.
+pub(crate) fn are_laid(pairs: &BTreeMap<Pair, PairState>, table: &Table, level: Option<u8>) -> bool
+    requires names { All (λ e. is_held_or_laid e.1 ≡ true → IsName table.now.settings e.0.object) pairs.now.entries }
+    requires levels { All (λ e. All (λ r. r.value.level ≤ length e.0.object) e.1.registers) pairs.now.entries }
+    requires others { AreLaidUnlessApart table.now level pairs.now.entries }
+    ensures { result ≡ true → All (λ e. e.1.laid ≡ wanted_hop table.now e) pairs.now.entries }
+{
+    for (pair, state) in pairs {
+        if !is_laid_or_kept(table, pair, state, level) {
+            return false;
+        }
+    }
+    true
+}
+
 // The Lays that it takes to have all pairs laid as wanted.
 pub(crate) fn lays_to_wanted(
     alloc: Global,
     pairs: &BTreeMap<Pair, PairState>,
     table: &Table,
     stamp: &mut Stamp,
+    level: Option<u8>,
 ) -> Result<Vec<Lay>, NoMemory>
     requires names { All (λ e. is_held_or_laid e.1 ≡ true → IsName table.now.settings e.0.object) pairs.now.entries }
     requires levels { All (λ e. All (λ r. r.value.level ≤ length e.0.object) e.1.registers) pairs.now.entries }
+    requires others { AreLaidUnlessApart table.now level pairs.now.entries }
     requires numbers { stamp.old + 2 * held_or_laid_count pairs.now.entries ≤ u32.MAX }
     ensures value { IfOk result (λ lays. lays.items ≡ lays_numbered stamp.old (layings_to_wanted table.now pairs.now.entries)) }
     ensures stamped { IfOk result (λ lays. stamp.new ≡ stamp.old + length lays.items) }
 {
     let mut lays = Vec::new(alloc);
     for (pair, state) in pairs {
+        if !may_be_apart(level, state) {
+            continue;
+        }
         let wanted = wanted_hop(table, pair, state);
+        if is_laid_so(&state.laid, &wanted) {
+            continue;
+        }
         push_layings(&mut lays, stamp, pair, &state.laid, &wanted)?;
     }
     Ok(lays)
 }
 
 // Lays all pairs as wanted.
-pub(crate) fn lay_all(pairs: &mut BTreeMap<Pair, PairState>, table: &Table)
+pub(crate) fn lay_all(pairs: &mut BTreeMap<Pair, PairState>, table: &Table, level: Option<u8>)
     requires names { All (λ e. is_held_or_laid e.1 ≡ true → IsName table.now.settings e.0.object) pairs.old.entries }
     requires levels { All (λ e. All (λ r. r.value.level ≤ length e.0.object) e.1.registers) pairs.old.entries }
+    requires others { AreLaidUnlessApart table.now level pairs.old.entries }
     ensures { pairs.new.entries ≡ map (with_wanted table.now) pairs.old.entries }
 {
     pairs.retain(|pair, state| {
-        state.laid = wanted_hop(table, pair, state);
+        state.laid = hop_after(table, pair, state, level);
         true
     });
 }

@@ -15,5 +15,7 @@ pub use links::hear_and_release;
 pub use memory::NoMemory;
 pub use news::News;
 pub use parts::NodeParts;
-pub use pointing::{TakenFind, TakenLay, ask, reconcile, reconcile_pair, take_find, take_lay};
+pub use pointing::{
+    TakenFind, TakenLay, ask, reconcile, reconcile_at, reconcile_pair, take_find, take_lay,
+};
 pub use sender::Sender;

@@ -1,7 +1,7 @@
 ghost use Rattle.std.specs.Prelude.{◌≡◌, ◌+◌, ◌*◌, ◌≤◌, ◌++◌, length, IfOk, OnOk};
 ghost use Rattle.tap_name.specs.Name.{IsName};
 ghost use Rattle.tap_pointer.specs.Pointers.{held_or_laid_count, pair_of};
-ghost use Rattle.tap_pointer.specs.Reconcile.{AreLaid, AreLaidBut, reconcile_lays, reconciled};
+ghost use Rattle.tap_pointer.specs.Reconcile.{AreLaid, AreLaidBeside, AreLaidBut, reconcile_lays, reconciled};
 ghost use Rattle.tap_rule.specs.Pointers.{asks, finds};
 ghost use Rattle.tap_wire.specs.Spelling.{IsLevel};
 ghost use Rattle.tap_step.specs.Pointing.{EachStepsAs, lay_taken};
@@ -42,6 +42,33 @@ pub fn reconcile(
     // It tells what pointers keep.
     let _owner = pointers.owner();
     let lays = pointers.reconcile(table, stamp)?;
+    Sender::of(table).send_lays(sent, &lays)
+}
+
+/// Does what `reconcile` does, if no pair needs it but those whose way passes this level: each other pair is laid as wanted. So it
+/// serves after a step that changed primaries of this level alone.
+///
+/// Rule: docs/PROTOCOL.md, "Pointers".
+pub fn reconcile_at(
+    pointers: &mut Pointers,
+    table: &Table,
+    stamp: &mut Stamp,
+    sent: &mut FrameList,
+    level: u8,
+) -> Result<(), NoMemory>
+    requires owner { table.now.owner ≡ pointers.old.owner }
+    requires names { AreNamedPairs table.now.settings pointers.old }
+    requires hops { AreNamedHops table.now.settings pointers.old }
+    requires numbers { stamp.old + 2 * held_or_laid_count pointers.old.pairs ≤ u32.MAX }
+    requires others { AreLaidBeside table.now level pointers.old }
+    ensures after { OnOk result (pointers.new ≡ reconciled table.now pointers.old) }
+    ensures stamped { OnOk result (stamp.new ≡ stamp.old + length (reconcile_lays table.now stamp.old pointers.old)) }
+    ensures sent { OnOk result (sent.new
+        ≡ sent.old ++ lay_bytes (sender_of table.now) (reconcile_lays table.now stamp.old pointers.old)) }
+{
+    // It tells what pointers keep.
+    let _owner = pointers.owner();
+    let lays = pointers.reconcile_at(table, stamp, level)?;
     Sender::of(table).send_lays(sent, &lays)
 }
 

@@ -1,7 +1,8 @@
-use Rattle.std.proofs.Common.{◌≡◌, ◌≤◌, true, length, All, subst, rules, of_calls}
+use Rattle.std.proofs.Common.{◌≡◌, ◌≤◌, true, length, All, subst, rules, of_calls, ◌∙◌}
 use Rattle.tap_name.specs.Name.{IsName}
 use Rattle.tap_pointer.specs.Pointers.{is_held_or_laid, with_laid}
-use Rattle.tap_pointer.specs.Reconcile.{wanted_hop}
+use Rattle.tap_pointer.specs.Reconcile.{hop_after}
+use Rattle.tap_pointer.proofs.Layings.{hops_after}
 use Rattle.tap_pointer.proofs.Retained.{All-between, callable_pairs, written_pairs}
 use Rattle.tap_pointer.proofs.walk.lay_all.Goals as goal
 
@@ -23,5 +24,6 @@ retain-requires c =
 
 pub returns : goal.returns
 returns c =
-    written_pairs _ _ (λ k v. with_laid v (wanted_hop c.args.table.now (k, v))) (λ k v b w after called. search rules) _ _
+    written_pairs _ _ (λ k v. with_laid v (hop_after c.args.table.now c.args.level (k, v))) (λ k v b w after called. search rules) _ _
     c.retain.ensures.filtered
+    ∙ hops_after c.args.table.now c.args.level c.args.pairs.now.entries c.requires.others

@@ -1,11 +1,11 @@
-use Rattle.std.proofs.Common.{◌≡◌, ◌≤◌, ◌+◌, ◌++◌, ◌∷◌, true, length, All, arith, sym, ap, subst, ◌∙◌}
+use Rattle.std.proofs.Common.{◌≡◌, ◌≤◌, ◌+◌, ◌++◌, ◌∷◌, true, false, length, All, arith, sym, ap, subst, ◌∙◌}
 use Rattle.std.specs.Map.Iter.{deref_pair}
-use Rattle.std.proofs.lemmas.List.Elements.{All-tail}
+use Rattle.std.proofs.lemmas.List.Elements.{All-head, All-tail}
 use Rattle.std.proofs.lemmas.Map.Iter.{rest_more}
 use Rattle.tap_name.specs.Name.{IsName}
 use Rattle.tap_pointer.specs.Pointers.{is_held_or_laid, held_or_laid_count}
-use Rattle.tap_pointer.specs.Reconcile.{layings, layings_to_wanted, lays_numbered, wanted_hop}
-use Rattle.tap_pointer.proofs.Layings.{few_here, length_step, numbered_step}
+use Rattle.tap_pointer.specs.Reconcile.{AreLaidUnlessApart, layings, layings_to_wanted, lays_numbered, may_be_apart, wanted_hop}
+use Rattle.tap_pointer.proofs.Layings.{few_here, laid_already, length_step, numbered_step}
 use Rattle.tap_pointer.proofs.walk.lays_to_wanted.Goals as goal
 
 pub push_layings-requires : goal.push_layings-requires
@@ -47,4 +47,57 @@ loop-pair-preserved c =
           (subst (All (λ e. is_held_or_laid e.1 ≡ true → IsName t.settings e.0.object)) left c.loop-pair.invariant.3),
       All-tail (λ e. All (λ r. r.value.level ≤ length e.0.object) e.1.registers) (pair, state) rest
           (subst (All (λ e. All (λ r. r.value.level ≤ length e.0.object) e.1.registers)) left c.loop-pair.invariant.4),
+      All-tail (λ e. may_be_apart c.args.level e.1 ≡ false → e.1.laid ≡ wanted_hop t e) (pair, state) rest
+          (subst (AreLaidUnlessApart t c.args.level) left c.loop-pair.invariant.5),
+    )
+
+-- a pair that is laid as wanted takes no Lay
+pub loop-pair-preserved-then-is_laid_so : goal.loop-pair-preserved-then-is_laid_so
+loop-pair-preserved-then-is_laid_so c =
+    let t = c.args.table.now in
+    let pair = c.in-Some.pair.now in
+    let state = c.in-Some.state.now in
+    let rest = c.next.new.self in
+    let left : c.loop-pair.pair-iterator ≡ (pair, state) ∷ rest =
+    rest_more deref_pair _ _ c.next.result (c.in-Some.pair, c.in-Some.state) c.in-Some.is c.next.ensures.steps in
+    let laid : state.laid ≡ wanted_hop t (pair, state) =
+    c.is_laid_so.ensures c.if-is_laid_so.true ∙ c.wanted_hop-wanted.ensures in
+    let same : layings_to_wanted t c.loop-pair.pair-iterator ≡ layings_to_wanted t rest =
+    ap (layings_to_wanted t) left ∙ ap (λ here. here ++ layings_to_wanted t rest) (laid_already t (pair, state) laid) in
+    let spans : held_or_laid_count c.loop-pair.pair-iterator ≡ held_or_laid_count ((pair, state) ∷ rest) = ap held_or_laid_count left in (
+      ap (λ layings. c.loop-pair.lays.items ++ lays_numbered c.loop-pair.stamp layings) (sym same) ∙ c.loop-pair.invariant.0,
+      c.loop-pair.invariant.1,
+      omega (arith, spans, few_here t (pair, state) rest, c.loop-pair.invariant.2),
+      All-tail (λ e. is_held_or_laid e.1 ≡ true → IsName t.settings e.0.object) (pair, state) rest
+          (subst (All (λ e. is_held_or_laid e.1 ≡ true → IsName t.settings e.0.object)) left c.loop-pair.invariant.3),
+      All-tail (λ e. All (λ r. r.value.level ≤ length e.0.object) e.1.registers) (pair, state) rest
+          (subst (All (λ e. All (λ r. r.value.level ≤ length e.0.object) e.1.registers)) left c.loop-pair.invariant.4),
+      All-tail (λ e. may_be_apart c.args.level e.1 ≡ false → e.1.laid ≡ wanted_hop t e) (pair, state) rest
+          (subst (AreLaidUnlessApart t c.args.level) left c.loop-pair.invariant.5),
+    )
+
+-- nor does one that may not be laid elsewhere
+pub loop-pair-preserved-then-not-may_be_apart : goal.loop-pair-preserved-then-not-may_be_apart
+loop-pair-preserved-then-not-may_be_apart c =
+    let t = c.args.table.now in
+    let pair = c.in-Some.pair.now in
+    let state = c.in-Some.state.now in
+    let rest = c.next.new.self in
+    let left : c.loop-pair.pair-iterator ≡ (pair, state) ∷ rest =
+    rest_more deref_pair _ _ c.next.result (c.in-Some.pair, c.in-Some.state) c.in-Some.is c.next.ensures.steps in
+    let kept : state.laid ≡ wanted_hop t (pair, state) =
+    All-head (λ e. may_be_apart c.args.level e.1 ≡ false → e.1.laid ≡ wanted_hop t e) (pair, state) rest
+    (subst (AreLaidUnlessApart t c.args.level) left c.loop-pair.invariant.5) (sym c.may_be_apart.ensures ∙ c.if-not-may_be_apart.true) in
+    let same : layings_to_wanted t c.loop-pair.pair-iterator ≡ layings_to_wanted t rest =
+    ap (layings_to_wanted t) left ∙ ap (λ here. here ++ layings_to_wanted t rest) (laid_already t (pair, state) kept) in
+    let spans : held_or_laid_count c.loop-pair.pair-iterator ≡ held_or_laid_count ((pair, state) ∷ rest) = ap held_or_laid_count left in (
+      ap (λ layings. c.loop-pair.lays.items ++ lays_numbered c.loop-pair.stamp layings) (sym same) ∙ c.loop-pair.invariant.0,
+      c.loop-pair.invariant.1,
+      omega (arith, spans, few_here t (pair, state) rest, c.loop-pair.invariant.2),
+      All-tail (λ e. is_held_or_laid e.1 ≡ true → IsName t.settings e.0.object) (pair, state) rest
+          (subst (All (λ e. is_held_or_laid e.1 ≡ true → IsName t.settings e.0.object)) left c.loop-pair.invariant.3),
+      All-tail (λ e. All (λ r. r.value.level ≤ length e.0.object) e.1.registers) (pair, state) rest
+          (subst (All (λ e. All (λ r. r.value.level ≤ length e.0.object) e.1.registers)) left c.loop-pair.invariant.4),
+      All-tail (λ e. may_be_apart c.args.level e.1 ≡ false → e.1.laid ≡ wanted_hop t e) (pair, state) rest
+          (subst (AreLaidUnlessApart t c.args.level) left c.loop-pair.invariant.5),
     )

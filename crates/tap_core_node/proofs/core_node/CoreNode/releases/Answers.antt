@@ -1,15 +1,35 @@
-use Rattle.std.proofs.Common.{◌≡◌, refl, sym, ◌∙◌}
+use Rattle.std.proofs.Common.{◌≡◌, nat_eq, ap, refl, sym, ◌∙◌}
 use Rattle.tap_rule.specs.Node.{NodeState}
+use Rattle.std.specs.List.{common_prefix_len}
+use Rattle.tap_table.specs.Table.{TableValue, place_of, released as table_released}
+use Rattle.tap_table.specs.Ties.{TiesValue, released}
+use Rattle.tap_pointer.specs.Reconcile.{AreLaidBeside}
 use Rattle.tap_table.proofs.Primaries.{primary_near}
 use Rattle.tap_step.proofs.Sound.{hops-sound}
 use Rattle.tap_core_node.specs.State.{core_state}
-use Rattle.tap_core_node.proofs.Laid.{same_primary}
+use Rattle.tap_core_node.proofs.Laid.{laid-released_beside, same_primary}
 use Rattle.tap_core_node.proofs.Steps.{released_and_laid, released_quietly}
 use Rattle.tap_core_node.proofs.core_node.CoreNode.releases.Goals as goal
 
-pub reconciles-requires-clause-hops : goal.reconciles-requires-clause-hops
-reconciles-requires-clause-hops c =
+pub reconciles_at-requires-clause-hops : goal.reconciles_at-requires-clause-hops
+reconciles_at-requires-clause-hops c =
     rw (c.release-word.ensures.settings, c.ties_mut.ensures.value) (hops-sound (core_state c.args.self.now) c.requires.sound)
+
+pub reconciles_at-requires-clause-others : goal.reconciles_at-requires-clause-others
+reconciles_at-requires-clause-others c =
+    let node : NodeState = core_state c.args.self.now in
+    let t : TableValue = node.ties.table in
+    let from = c.args.by.from in
+    let ties : c.release-word.new.self ≡ released node.ties from = rw c.ties_mut.ensures.value at c.release-word.ensures.after in
+    let owner : c.owner.result ≡ t.owner = c.owner.ensures.value ∙ ap (λ (u : TableValue). u.owner) c.table-3.ensures.value
+    ∙ ap (λ (u : TiesValue). u.table.owner) (c.ties-3.ensures ∙ ties) in
+    let level : c.lcp-level.result ≡ (place_of t.owner from).level =
+    c.lcp-level.ensures.value ∙ ap (λ name. common_prefix_len nat_eq name from) owner in
+    let beside : AreLaidBeside (table_released t from) (place_of t.owner from).level node.pointers =
+    laid-released_beside t from c.requires.sound.valid.ties.table c.requires.name c.requires.other node.pointers c.requires.sound.pairs
+    c.requires.sound.laid in
+    let table : c.release-word.new.self.table ≡ table_released t from = ap (λ (u : TiesValue). u.table) ties in
+    rw (table, level) beside
 
 pub returns-then-eq : goal.returns-then-eq
 returns-then-eq c =
@@ -36,4 +56,4 @@ returns c =
     c.send_word.new.sent _ (rw (ties, stamp) refl)
     (rw (c.sender.ensures.value, c.release-word.ensures.after, c.release-word.ensures.answer, c.ties_mut.ensures.value)
     at c.in_ok-send_word.ensures)
-    c.in_ok-reconciles.ensures.after c.in_ok-reconciles.ensures.sent
+    c.in_ok-reconciles_at.ensures.after c.in_ok-reconciles_at.ensures.sent

@@ -9,8 +9,10 @@ use Rattle.tap_pointer.specs.Pointers.{IsPairState, is_held_or_laid, pair_of, st
 use Rattle.tap_pointer.specs.Reconcile.{AreLaid, AreLaidBut, AreNamesHeld, layings, lays_numbered, wanted_hop}
 use Rattle.tap_pointer.proofs.Known.{All-found, count_from, count_to, known-among, known-laid, lays_pair, put_keeps, some_if_found}
 use Rattle.tap_pointer.proofs.Layings.{all_laid}
-use Rattle.tap_pointer.proofs.OnePair.{laid_as_wanted, laid_if_absent, none_if_absent, settles}
+use Rattle.tap_pointer.proofs.OnePair.{laid_as_wanted, laid_if_absent, laid_if_laid, none_if_absent, settles}
+use Rattle.tap_pointer.proofs.Laws.{laid_sends_nothing}
 use Rattle.tap_pointer.proofs.pointers.Pointers.reconcile_pair.Goals as goal
+use Rattle.tap_pointer.proofs.pointers.Pointers.reconcile_pair.Goals.{After-is_laid_so}
 
 -- nothing is known of the pair
 pub returns-in_default-clause-answer : goal.returns-in_default-clause-answer
@@ -38,6 +40,31 @@ returns-in_default-clause-laid c =
     let pairs = c.self.inside.pairs.entries in
     let others = subst (AreLaidBut t pair) (sym c.self.view_is) c.requires.others in
     subst (AreLaid t) c.self.view_is (laid_if_absent t pair pairs (sym c.in_default.ensures.value) others)
+
+-- the pair is laid as wanted
+are_laid : (c : After-is_laid_so) → c.is_laid_so.result ≡ true → AreLaid c.args.table.now c.args.self.now
+are_laid c is =
+    let t = c.args.table.now in
+    let pair = pair_of c.args.object c.args.server in
+    let others = subst (AreLaidBut t pair) (sym c.self.view_is) c.requires.others in
+    subst (AreLaid t) c.self.view_is
+    (laid_if_laid t pair c.self.inside.pairs.entries c.in-Some.state.now c.len-ordered.ensures.ordered
+    (sym c.in-Some.ensures.value) others (c.is_laid_so.ensures is ∙ c.wanted_hop-wanted.ensures))
+
+pub returns-then-is_laid_so-clause-answer : goal.returns-then-is_laid_so-clause-answer
+returns-then-is_laid_so-clause-answer c =
+    let laid = are_laid (goal.at.returns-then-is_laid_so-clause-answer c).After-is_laid_so c.if-is_laid_so.true in
+    c.from_vec-then-is_laid_so.ensures ∙ c.new-lays.ensures.items
+    ∙ sym (laid_sends_nothing c.args.table.now c.args.stamp.now c.args.self.now laid).0
+
+pub returns-then-is_laid_so-clause-after : goal.returns-then-is_laid_so-clause-after
+returns-then-is_laid_so-clause-after c =
+    let laid = are_laid (goal.at.returns-then-is_laid_so-clause-after c).After-is_laid_so c.if-is_laid_so.true in
+    sym (laid_sends_nothing c.args.table.now c.args.stamp.now c.args.self.now laid).1
+
+pub returns-then-is_laid_so-clause-laid : goal.returns-then-is_laid_so-clause-laid
+returns-then-is_laid_so-clause-laid c =
+    are_laid (goal.at.returns-then-is_laid_so-clause-laid c).After-is_laid_so c.if-is_laid_so.true
 
 -- the pair is known
 pub wanted_hop-wanted-requires-clause-name : goal.wanted_hop-wanted-requires-clause-name
