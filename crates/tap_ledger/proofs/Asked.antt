@@ -1,6 +1,6 @@
 -- What is answered of a log from what is kept beside it.
-use Rattle.std.proofs.Common.{◌≡◌, ℕ, zero, suc, ◌+◌, Bool, not, cond, nat_eq, List, [], ◌∷◌, length, All, Option, None, Some, refl, ap, sym, ◌∙◌, arith}
-use Rattle.std.specs.Prelude.{◌&&◌, ◌||◌, ◌==◌, if◌then◌else◌, nat_lt, option_and_then, position, slice_get}
+use Rattle.std.proofs.Common.{◌≡◌, ℕ, zero, suc, ◌+◌, Bool, not, cond, nat_eq, List, [], ◌∷◌, length, All, Option, None, Some, refl, ap, sym, subst, ◌∙◌, arith}
+use Rattle.std.specs.Prelude.{◌&&◌, ◌||◌, ◌==◌, if◌then◌else◌, nat_lt, option_and_then, option_map, position, slice_get, IfSome}
 use Rattle.std.specs.List.{prefix_len}
 use Rattle.std.proofs.lemmas.Bool.{ne_eqb}
 use Rattle.std.proofs.lemmas.List.Elements.{All-head, All-tail}
@@ -8,10 +8,12 @@ use Rattle.tap_name.specs.Settings.{SettingsValue}
 use Rattle.tap_outstanding.specs.declared.outstanding.Flight.{Flight}
 use Rattle.tap_outstanding.specs.Outstanding.{OutstandingValue, place_of_number}
 use Rattle.tap_log.specs.declared.record.Record.{Record}
+use Rattle.tap_log.specs.declared.record.Record.TheVariants.{Sent}
 use Rattle.tap_log.specs.Frames.{bytes_of}
 use Rattle.tap_history.specs.Departing.{departing_of}
 use Rattle.tap_history.specs.Flights.{bytes_at, flight_count}
 use Rattle.tap_history.specs.Moments.{awaiting, is_none, is_rest, is_still, outstanding, under_way}
+use Rattle.tap_ledger.specs.declared.flights.OutstandingFrame.{OutstandingFrame}
 use Rattle.tap_ledger.specs.Flights.{sent_payload}
 use Rattle.tap_ledger.specs.Kept.{AreFlights, IsFlight, IsKeepable, Leaves, flight_numbers}
 use Rattle.tap_ledger.proofs.Conditions.{and_yes}
@@ -100,3 +102,35 @@ place_is log frames n are =
     ap (λ at. place_within at (length frames.frames)) (prefix_numbers n frames.frames)
     ∙ ap (place_within (prefix_len (λ k. not (nat_eq n k)) (flight_numbers frames.frames))) (sym (numbers_length frames.frames))
     ∙ ap (position (nat_eq n)) are.numbers
+
+-- ---- frames
+
+-- the record of a frame at a place of those that are kept is there
+pub flight_there : (log : List Record) (frames : List Flight) (place : ℕ) (f : Flight) → All (IsFlight log) frames
+    → Some f ≡ slice_get frames place → IsFlight log f
+flight_there log [] place f are is = absurd (cc)
+flight_there log (g ∷ gs) zero f are is =
+    let same : g ≡ f = cc in
+    subst (IsFlight log) same (All-head (IsFlight log) g gs are)
+flight_there log (g ∷ gs) (suc place) f are is = flight_there log gs place f (All-tail (IsFlight log) g gs are) is
+
+-- it sends these bytes
+pub flight_sends : (log : List Record) (f : Flight) (is : IsFlight log f) → record_bytes log f ≡ Some is.bytes
+unfolding sent_payload
+flight_sends log f is = ap (option_and_then sent_payload) is.there
+
+-- the number of a frame that is given, if its bytes are
+pub frame_number : (result : Option OutstandingFrame) (number : ℕ) (bytes : List ℕ) → IfSome result (λ f. f.number ≡ number)
+    → option_map (λ f. f.bytes.now) result ≡ Some bytes → option_map (λ f. f.number) result ≡ Some number
+frame_number None number bytes same is = absurd (cc)
+frame_number (Some f) number bytes same is = ap Some same
+
+-- and where its record stands
+pub frame_there : (log : List Record) (flight : Flight) (result : Option OutstandingFrame) (bytes : List ℕ)
+    → IfSome result (λ f. f.number ≡ flight.number) → IfSome result (λ f. f.record_place ≡ flight.record_place)
+    → option_map (λ f. f.bytes.now) result ≡ Some bytes → slice_get log flight.record_place ≡ Some (Sent flight.number bytes)
+    → IfSome result (λ f. slice_get log f.record_place ≡ Some (Sent f.number f.bytes.now))
+frame_there log flight None bytes number place is there = tt
+frame_there log flight (Some f) bytes number place is there =
+    let same : bytes ≡ f.bytes.now = cc in
+    ap (slice_get log) place ∙ there ∙ ap (λ n. Some (Sent n bytes)) (sym number) ∙ ap (λ b. Some (Sent f.number b)) same

@@ -1,7 +1,9 @@
 -- What a ledger keeps beside a log that has its beginning alone.
-use Rattle.std.proofs.Common.{◌≡◌, ℕ, ◌<◌, false, List, [], ◌∷◌, None, inl, refl, ap, sym, subst, ◌∙◌, arith}
+use Rattle.std.proofs.Common.{◌≡◌, ℕ, ◌<◌, false, not, List, [], ◌∷◌, None, inl, refl, ap, sym, subst, ◌∙◌, arith}
+use Rattle.std.specs.Prelude.{◌&&◌}
 use Rattle.std.specs.List.{filter_map}
 use Rattle.std.proofs.lemmas.List.Elements.{All-cons}
+use Rattle.tap_name.specs.Names.{has_name}
 use Rattle.tap_name.specs.Settings.{SettingsValue}
 use Rattle.tap_outstanding.specs.Outstanding.{OutstandingValue}
 use Rattle.tap_log.specs.declared.record.Pair.{Pair}
@@ -70,7 +72,7 @@ kept_begin p limit members frames lists keys frames_are lists_are none =
       begins = keepable_begin p limit members;
       flights = subst (AreFlights log) (sym frames_are) (no_flights p limit members);
       names = lists_are ∙ sym (lists_begin p limit members);
-      pairs = λ q. none q ∙ sym (ap (λ l. has_pair l q) new.published);
+      pairs = λ q. ap (λ b. b && not (has_name lists.departed q.server)) (none q) ∙ sym (ap (λ l. has_pair l q) new.published);
       asked = refl;
       begun = refl;
       leaves = inl (record {

@@ -1,5 +1,5 @@
 -- Tests that are joined.
-use Rattle.std.proofs.Common.{◌≡◌, Bool, true, false, refl, cond}
+use Rattle.std.proofs.Common.{◌≡◌, Bool, true, false, not, refl, sym, cond}
 use Rattle.std.specs.Prelude.{◌&&◌, ◌||◌}
 
 -- a test, or one that never passes
@@ -37,3 +37,19 @@ passes_or true false pq rest same = refl
 passes_or false true true rest same = absurd (let wrong = same refl in cc)
 passes_or false true false rest same = refl
 passes_or false false pq rest same = refl
+
+-- What is there and stays, or comes, and goes by neither of two: it goes by the second one, or it stays or comes and goes by the first.
+pub stays_or_comes : (comes goes there departed departs : Bool)
+    → ((comes || (not goes && there)) && not (departed || departs))
+    ≡ (not departs && ((not goes && (there && not departed)) || (not departed && comes)))
+stays_or_comes comes goes there true true = sym (and_no _)
+stays_or_comes comes goes there false true = sym (and_no _)
+stays_or_comes comes true there true false = sym (and_no _)
+stays_or_comes comes false true true false = sym (and_no _)
+stays_or_comes comes false false true false = sym (and_no _)
+stays_or_comes true true there false false = refl
+stays_or_comes true false true false false = refl
+stays_or_comes true false false false false = refl
+stays_or_comes false true there false false = refl
+stays_or_comes false false true false false = refl
+stays_or_comes false false false false false = refl

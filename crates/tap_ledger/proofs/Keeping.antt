@@ -1,7 +1,9 @@
 -- What a ledger keeps beside its log, after one more record.
-use Rattle.std.proofs.Common.{◌≡◌, ℕ, ◌+◌, ◌<◌, ◌≤◌, Bool, true, false, not, List, [], ◌∷◌, ◌++◌, length, AllPairs, Option, None, refl, ap, sym, subst, ◌∙◌, arith, length-append}
+use Rattle.std.proofs.Common.{◌≡◌, ℕ, ◌+◌, ◌<◌, ◌≤◌, Bool, true, false, not, List, [], ◌∷◌, ◌++◌, length, nat_eq, AllPairs, Option, None, refl, ap, sym, subst, ◌∙◌, arith, length-append}
 use Rattle.std.specs.Prelude.{◌&&◌, ◌||◌, option_and_then}
+use Rattle.std.specs.Cmp.Lexicographic.{pointwise}
 use Rattle.std.proofs.lemmas.List.Elements.{All-head}
+use Rattle.std.proofs.lemmas.List.Folds.{list_any-append}
 use Rattle.tap_name.specs.Settings.{SettingsValue}
 use Rattle.tap_outstanding.specs.Outstanding.{OutstandingValue}
 use Rattle.tap_log.specs.declared.record.Pair.{Pair}
@@ -21,11 +23,12 @@ use Rattle.tap_ledger.specs.Flights.{followed}
 use Rattle.tap_ledger.specs.Kept.{AreFlights, IsKeepable, Kept, Leaves, leaver_next}
 use Rattle.tap_ledger.specs.NameLists.{NameLists, accepted_after, lists_after}
 use Rattle.tap_name.specs.Names.{has_name}
-use Rattle.tap_ledger.specs.Pairs.{has_after, has_key, is_name, is_pair}
+use Rattle.tap_ledger.specs.Pairs.{has_after, has_key, is_name, is_pair, key_after, stays_published}
 use Rattle.tap_ledger.proofs.Accepted.{lists_push}
+use Rattle.tap_ledger.proofs.Conditions.{stays_or_comes}
 use Rattle.tap_ledger.proofs.Departing.{leaves_push}
 use Rattle.tap_ledger.proofs.Frames.{flights_push}
-use Rattle.tap_ledger.proofs.Published.{published_after}
+use Rattle.tap_ledger.proofs.Published.{has_one_name, published_after}
 
 -- ---- plain records
 
@@ -82,6 +85,16 @@ has_after-same has other withdrawn published departed departs q same =
     ap (λ b. not (is_name departs q.server)
     && ((not (is_pair withdrawn q) && b) || (not (has_name departed q.server) && is_pair published q))) same
 
+-- A pair stays published if it was and isn't withdrawn, or is published now, and its server neither departed nor departs.
+stays_after : (has : Pair → Bool) (withdrawn published : Option Pair) (departed : List (List ℕ)) (departs : Option (List ℕ)) (q : Pair)
+    → (key_after has withdrawn published q && not (has_name (departed ++ at_most_one departs) q.server))
+    ≡ has_after (λ pair. has pair && not (has_name departed pair.server)) withdrawn published departed departs q
+stays_after has withdrawn published departed departs q =
+    ap (λ b. key_after has withdrawn published q && not b)
+    (list_any-append (λ other. pointwise nat_eq other q.server) departed (at_most_one departs)
+    ∙ ap (λ b. has_name departed q.server || b) (has_one_name departs q.server))
+    ∙ stays_or_comes (is_pair published q) (is_pair withdrawn q) (has q) (has_name departed q.server) (is_name departs q.server)
+
 -- all that is kept, after one more record
 pub kept_push : (log : List Record) (settings : SettingsValue) (frames : OutstandingValue) (lists : NameLists)
     (keys : List (List ℕ × List ℕ)) (tickets casts : ℕ) (leaver : Option (List ℕ)) (item : Record)
@@ -91,8 +104,7 @@ pub kept_push : (log : List Record) (settings : SettingsValue) (frames : Outstan
     → AllPairs (λ a b. a.number < b.number) frames.frames
     → frames' ≡ followed frames (length log) item
     → lists' ≡ lists_after lists (accepted_after (last_of log) item) item
-    → ((q : Pair) → has_key keys' q ≡ has_after (has_key keys) (withdrawn_pair item) (published_pair item) lists.departed
-    (option_and_then depart_name (accepted_after (last_of log) item)) q)
+    → ((q : Pair) → has_key keys' q ≡ key_after (has_key keys) (withdrawn_pair item) (published_pair item) q)
     → tickets' ≡ tickets + length (at_most_one (asked_ticket item))
     → casts' ≡ casts + length (at_most_one (begun_cast item))
     → leaver' ≡ leaver_next (begins_group false item) (departing_of log)
@@ -109,9 +121,11 @@ kept_push log settings frames lists keys tickets casts leaver item frames' lists
       flights = subst (AreFlights new) (sym frames_are) (flights_push log frames item is.numbered can.numbers ascending kept.flights);
       names = lists_are ∙ ap (λ l. lists_after l (accepted_after (last_of log) item) item) kept.names
           ∙ sym (lists_push log item members is.uncarried);
-      pairs = λ q. has_is q
-          ∙ has_after-same (has_key keys) (has_pair (published_of log)) (withdrawn_pair item) (published_pair item) lists.departed
-          departs q (kept.pairs q)
+      pairs = λ q. ap (λ b. b && not (has_name lists'.departed q.server)) (has_is q)
+          ∙ ap (λ l. key_after (has_key keys) (withdrawn_pair item) (published_pair item) q && not (has_name l.departed q.server)) lists_are
+          ∙ stays_after (has_key keys) (withdrawn_pair item) (published_pair item) lists.departed departs q
+          ∙ has_after-same (stays_published keys lists.departed) (has_pair (published_of log)) (withdrawn_pair item) (published_pair item)
+          lists.departed departs q (kept.pairs q)
           ∙ ap (λ l. has_after (has_pair (published_of log)) (withdrawn_pair item) (published_pair item) l.departed departs q) kept.names
           ∙ sym (published_after log item is.uncarried q);
       asked = tickets_are ∙ ap (λ n. n + length (at_most_one (asked_ticket item))) kept.asked

@@ -11,3 +11,4 @@ pub mod Adding
 pub mod Single
 pub mod Begun
 pub mod Asked
+pub mod Staying

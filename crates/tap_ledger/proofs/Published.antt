@@ -53,7 +53,7 @@ has_one None q = refl
 has_one (Some x) q = or_no (same_pair x q)
 
 -- a name is among at most one if it is that one
-has_one_name : (one : Option (List ℕ)) (name : List ℕ) → has_name (at_most_one one) name ≡ is_name one name
+pub has_one_name : (one : Option (List ℕ)) (name : List ℕ) → has_name (at_most_one one) name ≡ is_name one name
 has_one_name None name = refl
 has_one_name (Some x) name = or_no (pointwise nat_eq x name)
 

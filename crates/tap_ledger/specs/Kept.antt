@@ -19,7 +19,7 @@ use Rattle.tap_history.specs.Published.{has_pair, published_of}
 use Rattle.tap_history.specs.Refusals.{begin_settings}
 use Rattle.tap_history.specs.Steps.{depart_name}
 use Rattle.tap_ledger.specs.NameLists.{NameLists, lists_of}
-use Rattle.tap_ledger.specs.Pairs.{has_key}
+use Rattle.tap_ledger.specs.Pairs.{stays_published}
 
 -- ---- frames
 
@@ -79,7 +79,7 @@ pub record Kept (log : List Record) (settings : SettingsValue) (frames : Outstan
   pub begins : IsKeepable settings log
   pub flights : AreFlights log frames
   pub names : lists ≡ lists_of log
-  pub pairs : (q : Pair) → has_key keys q ≡ has_pair (published_of log) q
+  pub pairs : (q : Pair) → stays_published keys lists.departed q ≡ has_pair (published_of log) q
   pub asked : tickets ≡ ticket_count log
   pub begun : casts ≡ cast_count log
   pub leaves : Leaves log leaver

@@ -5,3 +5,4 @@ pub mod NameLists
 pub mod Pairs
 pub mod Flights
 pub mod Kept
+pub mod Quiet

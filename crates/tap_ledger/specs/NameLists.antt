@@ -1,6 +1,8 @@
 -- The names that a log tells of, and what one more record changes in them.
-use Rattle.std.specs.Prelude.{ℕ, false, List, [], ◌++◌, fold, Option, None, Some, option_and_then}
-use Rattle.tap_name.specs.Names.{names_without}
+use Rattle.std.specs.Prelude.{◌≡◌, ℕ, false, List, [], ◌++◌, fold, nat_eq, Option, None, Some, option_and_then}
+use Rattle.std.specs.Cmp.Lexicographic.{pointwise}
+use Rattle.std.specs.List.{list_any}
+use Rattle.tap_name.specs.Names.{has_name, names_without}
 use Rattle.tap_scenario.specs.declared.step.Step.{Step}
 use Rattle.tap_log.specs.declared.record.Record.{Record}
 use Rattle.tap_log.specs.Kinds.{abandoned_name, core_name, gone_name}
@@ -54,6 +56,10 @@ lists_after r accepted item = record {
 pub record NamesValue : Type 0 where
   pub names : List (List ℕ)
   pub room : ℕ
+
+-- a name is among the first ones exactly if it is among the second ones
+abbrev pub HaveSame : List (List ℕ) → List (List ℕ) → Type 0
+HaveSame names found = (name : List ℕ) → list_any (pointwise nat_eq name) found ≡ has_name names name
 
 -- the lists of a roll, and for how many more names there is room in each
 pub record RollValue : Type 0 where

@@ -26,6 +26,14 @@ abbrev pub is_name : Option (List ℕ) → List ℕ → Bool
 is_name None name = false
 is_name (Some one) name = pointwise nat_eq one name
 
+-- the pair is among these, and its server isn't among those that departed
+abbrev pub stays_published : List (List ℕ × List ℕ) → List (List ℕ) → Pair → Bool
+stays_published keys departed pair = has_key keys pair && not (has_name departed pair.server)
+
+-- whether a pair is among these once one is withdrawn and one is published
+abbrev pub key_after : (Pair → Bool) → Option Pair → Option Pair → Pair → Bool
+key_after has withdrawn published pair = is_pair published pair || (not (is_pair withdrawn pair) && has pair)
+
 -- Whether a pair is there once this one is withdrawn, that one is published, unless its server has departed, and this server departs.
 abbrev pub has_after : (Pair → Bool) → Option Pair → Option Pair → List (List ℕ) → Option (List ℕ) → Pair → Bool
 has_after has withdrawn published departed departs pair =

@@ -1,11 +1,24 @@
-ghost use Rattle.std.specs.Prelude.{◌≡◌, ◌≤◌, ◌+◌, length, option_copied, option_and_then, slice_get};
+ghost use Rattle.std.specs.Prelude.{◌≡◌, ◌≤◌, ◌+◌, length, option_copied, option_map, option_and_then, slice_get, IfSome};
 ghost use Rattle.tap_log.specs.Kinds.{sent_number};
 ghost use Rattle.tap_log.specs.Laws.{at_most_one};
 ghost use Rattle.tap_outstanding.specs.Outstanding.{AreOutstanding, most_sent};
 ghost use Rattle.tap_ledger.specs.Flights.{followed, sent_payload, taken_by};
 
 use tap_log::Record;
-use tap_outstanding::Outstanding;
+use tap_outstanding::{Flight, Outstanding};
+
+/// A frame that is outstanding, as the log has it.
+///
+/// Rule: docs/FORMATS.md, "Groups and moments".
+#[derive(Clone, Copy, Debug)]
+pub struct OutstandingFrame<'a> {
+    /// Its number: how many frames were sent before it.
+    pub number: u32,
+    /// The place, from 0, of the record that sends it among those of the log.
+    pub record_place: usize,
+    /// Its bytes.
+    pub bytes: &'a [u8],
+}
 
 // Sends the frame that one more record sends, and takes the one that it takes. The record is to stand at this place.
 #[tactic(auto, unfolding(crate::specs::Flights::followed, tap_log::specs::Kinds::sent_number))]
@@ -31,9 +44,7 @@ pub(crate) fn follow(frames: &mut Outstanding, item: &Record, record_place: usiz
 fn take(frames: &mut Outstanding, number: u32)
     ensures { frames.new ≡ taken_by frames.old number }
 {
-    if let Some(place) = frames.place_of(number) {
-        frames.take(place);
-    }
+    frames.take_number(number);
 }
 
 // The bytes that the record at this place sends.
@@ -45,4 +56,18 @@ pub(crate) fn payload(records: &[Record], record_place: usize) -> Option<&[u8]>
         Record::Sent { bytes, .. } => Some(bytes.as_slice()),
         _ => None,
     }
+}
+
+// A frame with the bytes that its record sends; `None` exactly if that sends none.
+pub(crate) fn frame_of(records: &[Record], flight: Flight) -> Option<OutstandingFrame<'_>>
+    ensures number { IfSome result (λ f. f.number ≡ flight.number) }
+    ensures record_place { IfSome result (λ f. f.record_place ≡ flight.record_place) }
+    ensures bytes { option_map (λ f. f.bytes.now) result ≡ option_and_then sent_payload (slice_get records.now flight.record_place) }
+{
+    let bytes = payload(records, flight.record_place)?;
+    Some(OutstandingFrame {
+        number: flight.number,
+        record_place: flight.record_place,
+        bytes,
+    })
 }

@@ -1,6 +1,6 @@
-ghost use Rattle.std.specs.Prelude.{◌≡◌, ◌==◌, ◌≤◌, ◌+◌, ◌-◌, max, [], ◌∷◌, ◌++◌, false, if◌then◌else◌, length, nat_eq, option_copied, position, slice_get, IfOk, OnOk, OnErr, None, Some};
+ghost use Rattle.std.specs.Prelude.{◌≡◌, ◌==◌, ◌≤◌, ◌+◌, ◌-◌, max, [], ◌∷◌, ◌++◌, true, false, if◌then◌else◌, length, nat_eq, option_copied, option_map, position, slice_get, IfOk, IfSome, OnOk, OnErr, None, Some};
 ghost use Rattle.tap_name.specs.Names.{has_name};
-ghost use Rattle.tap_log.specs.declared.record.Record.TheVariants.{Begin};
+ghost use Rattle.tap_log.specs.declared.record.Record.TheVariants.{Begin, Sent};
 ghost use Rattle.tap_log.specs.Counts.{cast_count, resent_count, sent_count, ticket_count};
 ghost use Rattle.tap_log.specs.Kinds.{is_carried};
 ghost use Rattle.tap_log.specs.Log.{last_of};
@@ -15,10 +15,12 @@ ghost use Rattle.tap_history.specs.Refusals.{begin_settings};
 ghost use Rattle.tap_ledger.specs.Added.{CanAdd};
 ghost use Rattle.tap_ledger.specs.Kept.{leaver_next};
 ghost use Rattle.tap_ledger.specs.NameLists.{accepted_after};
+ghost use Rattle.tap_ledger.specs.Quiet.{is_quiet};
 
 use crate::counts::{counted_cast, counted_ticket};
-use crate::flights::{follow, payload};
-use crate::pairs::Pairs;
+use crate::flights::{OutstandingFrame, follow, frame_of, payload};
+use crate::pairs::{Pairs, stays_published};
+use crate::quiet::{moves_node, tells_more};
 use crate::roll::Roll;
 use crate::steps::{accepted_step, departs};
 use std::alloc::Global;
@@ -28,12 +30,15 @@ use tap_name::{List, Name, Settings};
 use tap_outstanding::Outstanding;
 use tap_scenario::Step;
 
+// For how many records room is made at once, at least.
+const MADE_AT_ONCE: usize = 256;
+
 /// The log of a run that isn't carried, together with what it says of the run, kept at hand: who takes part, what is published,
 /// which frames are outstanding, and how much there was of each. Contracts see the records of the log, and for how many more there
 /// is room.
 ///
-/// A look-up of a frame, a pair or a count takes at most logarithmic time, and one of a name goes over at most all names that
-/// were ever present, of which a run has at most 256. All of it holds after each record that is added.
+/// A look-up of a frame takes at most logarithmic time. A pair and a name are found by their hash, and a count stands ready. All of it
+/// holds after each record that is added.
 ///
 /// Rule: docs/FORMATS.md, "Groups and moments".
 #[derive(Drop)]
@@ -47,6 +52,8 @@ pub struct Ledger {
     casts: usize,
     leaver: Option<Name>,
     room: usize,
+    // For so many more records there is room in each part.
+    made: usize,
 }
 
 impl Model for Ledger {
@@ -60,7 +67,8 @@ impl Model for Ledger {
 
     ghost invariant = { λ l. record {
       kept : Kept l.log.records l.settings l.frames l.roll.lists l.pairs.keys l.tickets l.casts l.leaver;
-      room : HasRoom l.room l.log.spare l.frames.room l.roll.room l.pairs.room;
+      within : l.room ≤ l.made;
+      room : HasRoom l.made l.log.spare l.frames.room l.roll.room l.pairs.room;
     } };
 }
 
@@ -94,6 +102,7 @@ impl Ledger {
             casts: 0,
             leaver: None,
             room: 0,
+            made: 0,
         })
     }
 
@@ -105,13 +114,17 @@ impl Ledger {
         ensures ok { OnOk result (self.new.spare ≡ max self.old.spare more) }
         ensures err { OnErr result (self.new ≡ self.old) }
     {
-        if self.room < more {
-            self.log.reserve(more)?;
-            self.roll.reserve(more)?;
-            self.pairs.reserve(more)?;
-            reserve_frames(&mut self.frames, more)?;
-            self.room = more;
+        if more <= self.made {
+            self.room = self.room.max(more);
+            return Ok(());
         }
+        let all = more.max(MADE_AT_ONCE);
+        self.log.reserve(all)?;
+        self.roll.reserve(all)?;
+        self.pairs.reserve(all)?;
+        reserve_frames(&mut self.frames, all)?;
+        self.made = all;
+        self.room = more;
         Ok(())
     }
 
@@ -124,21 +137,61 @@ impl Ledger {
         ensures records { self.new.records ≡ self.old.records ++ item ∷ [] }
         ensures spare { self.new.spare + 1 ≡ self.old.spare }
     {
+        if self.is_quiet(&item) {
+            self.push_quiet(item);
+        } else {
+            self.push_any(item);
+        }
+    }
+
+    // Whether the record is quiet after the last one.
+    fn is_quiet(&self, item: &Record) -> bool
+        ensures { result ≡ is_quiet (last_of self.now.records) item.now }
+    {
+        if tells_more(item) {
+            return false;
+        }
+        match self.log.as_slice().last() {
+            Some(last) => !moves_node(last),
+            None => true,
+        }
+    }
+
+    // Adds a record that is quiet after the last one.
+    fn push_quiet(&mut self, item: Record)
+        requires room { 1 ≤ self.old.spare }
+        requires can_add { CanAdd self.old.records (item ∷ []) }
+        requires quiet { is_quiet (last_of self.old.records) item ≡ true }
+        ensures records { self.new.records ≡ self.old.records ++ item ∷ [] }
+        ensures spare { self.new.spare + 1 ≡ self.old.spare }
+    {
+        let rest = self.frames.is_empty();
+        settle_leaver(&mut self.leaver, begins_group(false, &item), rest);
+        follow(&mut self.frames, &item, self.log.len());
+        self.log.push_reserved(item);
+        self.room -= 1;
+        self.made -= 1;
+    }
+
+    // Adds a record of any kind.
+    fn push_any(&mut self, item: Record)
+        requires room { 1 ≤ self.old.spare }
+        requires can_add { CanAdd self.old.records (item ∷ []) }
+        ensures records { self.new.records ≡ self.old.records ++ item ∷ [] }
+        ensures spare { self.new.spare + 1 ≡ self.old.spare }
+    {
         let accepted = self.accepted_by(&item);
         let begins = begins_group(false, &item);
         self.leaver = leaver_next(begins, self.departing(), departs(&accepted), self.leaver);
-        self.pairs.change(
-            withdrawn_pair(&item),
-            published_pair(&item),
-            self.roll.departed(),
-            departs(&accepted),
-        );
+        self.pairs
+            .change(withdrawn_pair(&item), published_pair(&item));
         self.roll.change(&accepted, &item);
         follow(&mut self.frames, &item, self.log.len());
         self.tickets += counted_ticket(&item);
         self.casts += counted_cast(&item);
         self.log.push_reserved(item);
         self.room -= 1;
+        self.made -= 1;
     }
 
     /// Adds a group of records, and leaves room for so many more. A refused call changes nothing.
@@ -283,7 +336,7 @@ impl Ledger {
     pub fn is_published(&self, pair: &Pair) -> bool
         ensures { result ≡ has_pair (published_of self.now.records) pair.now }
     {
-        self.pairs.has(pair)
+        stays_published(&self.pairs, self.roll.departed(), pair)
     }
 
     /// How many lookups were asked.
@@ -348,6 +401,18 @@ impl Ledger {
     {
         let flight = self.frames.frame_at(place)?;
         payload(self.log.as_slice(), flight.record_place)
+    }
+
+    /// The frame at this place of the outstanding ones, from 0; `None` exactly if there are not so many.
+    ///
+    /// Rule: docs/FORMATS.md, "Groups and moments".
+    pub fn flight_at(&self, place: u32) -> Option<OutstandingFrame<'_>>
+        ensures number { option_map (λ f. f.number) result ≡ slice_get (outstanding self.now.records) place }
+        ensures bytes { option_map (λ f. f.bytes.now) result ≡ bytes_at self.now.records place }
+        ensures at { IfSome result (λ f. slice_get self.now.records f.record_place ≡ Some (Sent f.number f.bytes.now)) }
+    {
+        let flight = self.frames.frame_at(place)?;
+        frame_of(self.log.as_slice(), flight)
     }
 
     /// The place of this frame among the outstanding ones; `None` exactly if it isn't outstanding.
@@ -424,5 +489,16 @@ fn leaver_next(
     match departs {
         Some(name) => Some(name),
         None => leaver,
+    }
+}
+
+// Forgets who departs once a group begins at rest; else nothing changes.
+fn settle_leaver(leaver: &mut Option<Name>, begins: bool, rest: bool)
+    ensures { leaver.new ≡ leaver_next begins (if rest then None else leaver.old) None leaver.old }
+{
+    if begins {
+        if rest {
+            *leaver = None;
+        }
     }
 }

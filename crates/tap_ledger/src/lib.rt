@@ -6,10 +6,12 @@ mod flights;
 mod ledger;
 mod names;
 mod pairs;
+mod quiet;
 mod refusals;
 mod roll;
 mod steps;
 #[cfg(test)]
 mod tests;
 
+pub use flights::OutstandingFrame;
 pub use ledger::Ledger;

@@ -5,26 +5,33 @@ ghost use Rattle.tap_history.specs.Names.{with_name};
 ghost use Rattle.tap_ledger.specs.NameLists.{NamesValue, names_changed};
 
 use std::alloc::Global;
+use std::collections::HashSet;
 use std::marker::Model;
 use tap_log::NoMemory;
 use tap_name::Name;
 
-// Names in order, with room that was made for more. There are few of them: at most 256 names are ever present in a run.
-#[derive(Debug, Drop)]
+// Names in order, with room that was made for more, and the set of them, in which a name is found by its hash.
+#[derive(Drop)]
 pub(crate) struct Names {
     items: Vec<Name>,
+    found: HashSet<Name>,
     room: usize,
 }
 
 impl Model for Names {
     ghost use Rattle.std.specs.Prelude.{◌+◌, ◌≤◌, vec_len, vec_capacity};
-    ghost use Rattle.tap_ledger.specs.NameLists.{NamesValue};
+    ghost use Rattle.std.specs.HashSet.{spare};
+    ghost use Rattle.tap_ledger.specs.NameLists.{HaveSame, NamesValue};
 
     ghost Value = { NamesValue };
 
     ghost view = { λ n. record { names = n.items.items; room = n.room } };
 
-    ghost invariant = { λ n. vec_len n.items + n.room ≤ vec_capacity n.items };
+    ghost invariant = { λ n. record {
+      in_list : vec_len n.items + n.room ≤ vec_capacity n.items;
+      in_set : n.room ≤ spare n.found;
+      same : HaveSame n.items.items n.found.keys;
+    } };
 }
 
 impl Names {
@@ -34,6 +41,7 @@ impl Names {
     {
         Names {
             items: Vec::new(alloc),
+            found: HashSet::new(alloc),
             room: 0,
         }
     }
@@ -42,23 +50,24 @@ impl Names {
     pub(crate) fn of(alloc: Global, names: &[Name]) -> Result<Names, NoMemory>
         ensures { IfOk result (λ n. n ≡ record { names = names.now; room = 0 }) }
     {
-        Ok(Names {
-            items: Vec::from_slice(alloc, names)?,
-            room: 0,
-        })
+        let mut all = Names::new(alloc);
+        for name in names {
+            all.add(*name)?;
+        }
+        Ok(all)
     }
 
     // These names, each once.
     pub(crate) fn each_once(alloc: Global, names: &[Name]) -> Result<Names, NoMemory>
         ensures { IfOk result (λ n. n ≡ record { names = fold with_name [] names.now; room = 0 }) }
     {
-        let mut items = Vec::new(alloc);
+        let mut all = Names::new(alloc);
         for name in names {
-            if !items.contains(name) {
-                items.push(*name)?;
+            if !all.has(name) {
+                all.add(*name)?;
             }
         }
-        Ok(Names { items, room: 0 })
+        Ok(all)
     }
 
     pub(crate) fn len(&self) -> usize
@@ -76,7 +85,7 @@ impl Names {
     pub(crate) fn has(&self, name: &Name) -> bool
         ensures { result ≡ has_name self.now.names name.now }
     {
-        self.items.contains(name)
+        self.found.contains(name)
     }
 
     // Makes room for so many more names. A refused call changes nothing.
@@ -87,8 +96,19 @@ impl Names {
     {
         if self.room < more {
             self.items.reserve(more)?;
+            self.found.reserve(more)?;
             self.room = more;
         }
+        Ok(())
+    }
+
+    // Adds a name at the end, and makes room for it if there is none.
+    fn add(&mut self, name: Name) -> Result<(), NoMemory>
+        ensures names { OnOk result (self.new.names ≡ self.old.names ++ name ∷ []) }
+        ensures room { OnOk result (self.new.room + 1 ≡ max self.old.room 1) }
+    {
+        self.reserve(1)?;
+        self.push(name);
         Ok(())
     }
 
@@ -99,7 +119,8 @@ impl Names {
         ensures room { self.new.room + 1 ≡ self.old.room }
     {
         self.room -= 1;
-        self.items.push(name).unwrap();
+        self.items.push_reserved(name);
+        self.found.insert(name).unwrap();
     }
 
     // Adds a name, if there is one.
@@ -136,6 +157,7 @@ impl Names {
         ensures room { self.new.room ≡ self.old.room }
     {
         self.items.retain(|other| name != *other);
+        self.found.remove(&name);
     }
 
     // Takes a name away, if there is one.

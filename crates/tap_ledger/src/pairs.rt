@@ -1,9 +1,7 @@
-ghost use Rattle.std.specs.Prelude.{◌≡◌, ◌≤◌, ◌+◌, max, false, not, ◌&&◌, ◌||◌, nat_eq, OnOk, OnErr};
-ghost use Rattle.std.specs.Cmp.Lexicographic.{pointwise};
+ghost use Rattle.std.specs.Prelude.{◌≡◌, ◌≤◌, ◌+◌, max, false, not, ◌&&◌, ◌||◌, OnOk, OnErr};
 ghost use Rattle.tap_log.specs.declared.record.Pair.{Pair};
-ghost use Rattle.tap_name.specs.Names.{has_name};
 ghost use Rattle.tap_history.specs.Published.{same_pair};
-ghost use Rattle.tap_ledger.specs.Pairs.{has_after, has_key, is_name, is_pair};
+ghost use Rattle.tap_ledger.specs.Pairs.{has_key, is_pair, key_after, stays_published};
 
 use crate::names::Names;
 use std::alloc::Global;
@@ -12,7 +10,8 @@ use std::marker::Model;
 use tap_log::{NoMemory, Pair};
 use tap_name::Name;
 
-// Pairs, each once, with room that was made for more. Contracts see which pairs are there, and the room.
+// Pairs, each once, with room that was made for more. A pair goes once it is withdrawn, and not when its server departs. Contracts see
+// which pairs are there, and the room.
 #[derive(Drop)]
 pub(crate) struct Pairs {
     items: HashSet<(Name, Name)>,
@@ -79,14 +78,6 @@ impl Pairs {
         self.items.remove(&(pair.object, pair.server));
     }
 
-    // Takes the pairs of a server away. This goes over all pairs.
-    fn remove_server(&mut self, server: Name)
-        ensures pairs { (q : Pair) → has_key self.new.keys q ≡ (not (pointwise nat_eq server q.server) && has_key self.old.keys q) }
-        ensures room { self.new.room ≡ self.old.room }
-    {
-        self.items.retain(|key| server != key.1);
-    }
-
     // Takes a pair away, if there is one.
     fn remove_some(&mut self, pair: Option<Pair>)
         ensures pairs { (q : Pair) → has_key self.new.keys q ≡ (not (is_pair pair q) && has_key self.old.keys q) }
@@ -98,49 +89,32 @@ impl Pairs {
         }
     }
 
-    // Adds a pair, if there is one, unless its server has departed.
-    fn insert_some(&mut self, pair: Option<Pair>, departed: &Names)
+    // Adds a pair, if there is one.
+    fn insert_some(&mut self, pair: Option<Pair>)
         requires { 1 ≤ self.old.room }
-        ensures pairs { (q : Pair) → has_key self.new.keys q ≡
-            (has_key self.old.keys q || (not (has_name departed.now.names q.server) && is_pair pair q)) }
+        ensures pairs { (q : Pair) → has_key self.new.keys q ≡ (is_pair pair q || has_key self.old.keys q) }
         ensures room { self.old.room ≤ self.new.room + 1 }
     {
         match pair {
-            Some(pair) => {
-                if !departed.has(&pair.server) {
-                    self.insert(pair);
-                }
-            }
+            Some(pair) => self.insert(pair),
             None => {}
         }
     }
 
-    // Takes the pairs of a server away, if there is one.
-    fn remove_some_server(&mut self, server: Option<Name>)
-        ensures pairs { (q : Pair) → has_key self.new.keys q ≡ (not (is_name server q.server) && has_key self.old.keys q) }
-        ensures room { self.new.room ≡ self.old.room }
-    {
-        match server {
-            Some(server) => self.remove_server(server),
-            None => {}
-        }
-    }
-
-    // Takes a pair away that is withdrawn, adds one that is published, unless its server has departed, and takes away those of a
-    // server that departs.
-    pub(crate) fn change(
-        &mut self,
-        withdrawn: Option<Pair>,
-        published: Option<Pair>,
-        departed: &Names,
-        departs: Option<Name>,
-    )
+    // Takes a pair away that is withdrawn, and adds one that is published.
+    pub(crate) fn change(&mut self, withdrawn: Option<Pair>, published: Option<Pair>)
         requires { 1 ≤ self.old.room }
-        ensures pairs { (q : Pair) → has_key self.new.keys q ≡ has_after (has_key self.old.keys) withdrawn published departed.now.names departs q }
+        ensures pairs { (q : Pair) → has_key self.new.keys q ≡ key_after (has_key self.old.keys) withdrawn published q }
         ensures room { self.old.room ≤ self.new.room + 1 }
     {
         self.remove_some(withdrawn);
-        self.insert_some(published, departed);
-        self.remove_some_server(departs);
+        self.insert_some(published);
     }
+}
+
+// Whether the pair is among these, and its server isn't among those that departed.
+pub(crate) fn stays_published(pairs: &Pairs, departed: &Names, pair: &Pair) -> bool
+    ensures { result ≡ stays_published pairs.now.keys departed.now.names pair.now }
+{
+    pairs.has(pair) && !departed.has(&pair.server)
 }

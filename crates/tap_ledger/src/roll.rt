@@ -10,7 +10,7 @@ use tap_name::Name;
 use tap_scenario::Step;
 
 // The names that a log tells of, by what it tells of them, with room that was made for more of each.
-#[derive(Debug, Drop)]
+#[derive(Drop)]
 pub(crate) struct Roll {
     core: Names,
     present: Names,

@@ -24,5 +24,6 @@ invariant_of-result c =
     record {
       kept = subst Keeps (sym log) (kept_begin settings frames members c.new.result roll.lists pairs.keys c.new.ensures lists
           c.new-2.ensures.none);
+      within = omega arith;
       room = record { in_log = omega arith; in_frames = omega arith; in_roll = omega arith; in_pairs = omega arith };
     }

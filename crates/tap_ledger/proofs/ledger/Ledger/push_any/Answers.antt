@@ -1,7 +1,7 @@
 use Rattle.std.proofs.Common.{◌≡◌, ◌≤◌, ◌+◌, ◌∙◌, false, [], ◌∷◌, List, ap, sym, subst, arith}
 use Rattle.std.specs.Prelude.{option_and_then}
 use Rattle.tap_log.specs.declared.record.Record.{Record}
-use Rattle.tap_log.specs.Kinds.{asked_ticket, begins_group, begun_cast, published_pair, withdrawn_pair}
+use Rattle.tap_log.specs.Kinds.{asked_ticket, begins_group, begun_cast, withdrawn_pair}
 use Rattle.tap_log.specs.Log.{last_of}
 use Rattle.tap_log.proofs.Growing.{one_more_record_holds}
 use Rattle.tap_history.specs.Departing.{departing_of}
@@ -11,10 +11,10 @@ use Rattle.tap_ledger.specs.Flights.{followed}
 use Rattle.tap_ledger.specs.Kept.{Kept, leaver_next}
 use Rattle.tap_ledger.specs.Ledger.{LedgerValue}
 use Rattle.tap_ledger.specs.NameLists.{accepted_after, lists_after}
-use Rattle.tap_ledger.specs.Pairs.{has_after, has_key}
+use Rattle.tap_ledger.specs.Pairs.{has_key, key_after}
 use Rattle.tap_ledger.proofs.Keeping.{kept_push}
 use Rattle.tap_ledger.proofs.Uncarried.{at_most, casts_fit, tickets_fit}
-use Rattle.tap_ledger.proofs.ledger.Ledger.push_reserved.Goals as goal
+use Rattle.tap_ledger.proofs.ledger.Ledger.push_any.Goals as goal
 
 pub follow-requires-clause-few : goal.follow-requires-clause-few
 follow-requires-clause-few c =
@@ -52,6 +52,7 @@ invariant_of-self c =
     let item = c.args.item in
     let kept = c.self.invariant.kept in
     let room = c.self.invariant.room in
+    let within = c.self.invariant.within in
     let step = accepted_after (last_of log) item in
     let departs = option_and_then depart_name step in
     let Can : LedgerValue → Type 0 = λ l. CanAdd l.records (item ∷ []) in
@@ -61,7 +62,6 @@ invariant_of-self c =
     let departing : c.departing.result ≡ departing_of log = c.departing.ensures
     ∙ ap (λ (l : LedgerValue). departing_of l.records) (sym c.self.view_is) in
     let leaves : c.departs.result ≡ departs = c.departs.ensures ∙ ap (option_and_then depart_name) accepted in
-    let leaves' : c.departs-2.result ≡ departs = c.departs-2.ensures ∙ ap (option_and_then depart_name) accepted in
     let Keeps : List Record → Type 0 = λ l. Kept l c.self.inside.settings c.follow.new.frames c.change-2.new.self.lists
     c.change.new.self.keys (c.self.inside.tickets + c.counted_ticket.result) (c.self.inside.casts + c.counted_cast.result)
     c.leaver_next-self-inside.result in
@@ -75,22 +75,19 @@ invariant_of-self c =
           (c.follow.ensures.frames ∙ ap (λ n. followed c.self.inside.frames n item) c.len.ensures)
           (c.change-2.ensures.lists ∙ ap (λ s. lists_after lists s item) accepted)
           (λ q. c.change.ensures.pairs q
-          ∙ ap (λ w. has_after (has_key keys) w c.published_pair.result c.departed.result.now.names c.departs-2.result q)
-          c.withdrawn_pair.ensures
-          ∙ ap (λ p. has_after (has_key keys) (withdrawn_pair item) p c.departed.result.now.names c.departs-2.result q)
-          c.published_pair.ensures
-          ∙ ap (λ d. has_after (has_key keys) (withdrawn_pair item) (published_pair item) d c.departs-2.result q) c.departed.ensures
-          ∙ ap (λ s. has_after (has_key keys) (withdrawn_pair item) (published_pair item) lists.departed s q) leaves')
+          ∙ ap (λ w. key_after (has_key keys) w c.published_pair.result q) c.withdrawn_pair.ensures
+          ∙ ap (λ p. key_after (has_key keys) (withdrawn_pair item) p q) c.published_pair.ensures)
           (ap (λ n. c.self.inside.tickets + n) c.counted_ticket.ensures)
           (ap (λ n. c.self.inside.casts + n) c.counted_cast.ensures)
           (c.leaver_next-self-inside.ensures
           ∙ ap (λ b. leaver_next b c.departing.result c.departs.result leaver) c.begins_group-begins.ensures
           ∙ ap (λ d. leaver_next (begins_group false item) d c.departs.result leaver) departing
           ∙ ap (λ s. leaver_next (begins_group false item) (departing_of log) s leaver) leaves));
+      within = omega (arith, within, some);
       room = record {
-        in_log = let was = room.in_log in omega (arith, was, some, c.push_reserved.ensures.spare);
-        in_frames = let was = room.in_frames in omega (arith, was, some, c.follow.ensures.room);
-        in_roll = let was = room.in_roll in omega (arith, was, some, c.change-2.ensures.room);
-        in_pairs = let was = room.in_pairs in omega (arith, was, some, c.change.ensures.room);
+        in_log = let was = room.in_log in omega (arith, was, some, within, c.push_reserved.ensures.spare);
+        in_frames = let was = room.in_frames in omega (arith, was, some, within, c.follow.ensures.room);
+        in_roll = let was = room.in_roll in omega (arith, was, some, within, c.change-2.ensures.room);
+        in_pairs = let was = room.in_pairs in omega (arith, was, some, within, c.change.ensures.room);
       };
     }
