@@ -1,4 +1,6 @@
 pub mod WritesLemmas
+pub mod PrintsLemmas
+pub mod DecimalLemmas
 pub mod TextLemmas
 pub mod DepartedLemmas
 pub mod TallyLemmas

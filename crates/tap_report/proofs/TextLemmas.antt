@@ -1,12 +1,14 @@
 -- The texts of items and of records with one more, and what each record must meet.
-use Rattle.std.proofs.Common.{◌≡◌, ◌<◌, ◌≤◌, ℕ, zero, suc, ◌+◌, ◌-◌, List, [], ◌∷◌, ◌++◌, length, take, get_or, Option, None, refl, sym, ap, ◌∙◌, subst, arith, append_assoc, append-nil, take-add}
+use Rattle.std.proofs.Common.{◌≡◌, ◌<◌, ◌≤◌, ℕ, zero, suc, ◌+◌, ◌-◌, ◌==◌, ◌&&◌, Bool, inl, inr, List, [], ◌∷◌, ◌++◌, length, take, get_or, Option, None, refl, sym, ap, ◌∙◌, subst, arith, append_assoc, append-nil, take-add}
 use Rattle.std.specs.Prelude.{fold, true, false, if◌then◌else◌}
 use Rattle.std.specs.Prelude.{◌/◌, ◌%◌, slice_index, slice_range}
 use Rattle.std.specs.List.{flat_map}
+use Rattle.std.proofs.lemmas.Bool.{and_parts, cases_lt, eqb-true}
 use Rattle.std.proofs.lemmas.List.{take_more, get_or_default}
 use Rattle.std.proofs.lemmas.List.Concat.{flat_map-append}
 use Rattle.hex.specs.Hex.{encode_lower, encode_with, lower_digits}
 use Rattle.std.proofs.lemmas.List.Sums.{fold-append}
+use Rattle.tap_name.specs.Digits.{text_of_digit}
 use Rattle.tap_name.specs.Settings.{SettingsValue}
 use Rattle.tap_log.specs.declared.record.Record.{Record}
 use Rattle.tap_log.specs.declared.record.Record.TheVariants.{Begin}
@@ -90,3 +92,27 @@ encode_lower-piece bytes from to later =
     let length_of_piece : to ≡ from + (to - from) = omega arith in
     ap (λ n. encode_lower (take n bytes)) length_of_piece ∙ ap encode_lower (take-add from (to - from) bytes)
     ∙ encode_lower-append (take from bytes) (slice_range bytes from to)
+
+-- whether a digit is printed as the one at its place
+abbrev is_at_place : ℕ → Bool
+is_at_place d = text_of_digit d == slice_index lower_digits d
+
+-- whether each of the first ones is
+abbrev are_at_places : ℕ → Bool
+are_at_places zero = true
+are_at_places (suc n) = is_at_place n && are_at_places n
+
+at_place : (n d : ℕ) → are_at_places n ≡ true → d < n → is_at_place d ≡ true
+at_place zero d all below = absurd (omega arith)
+at_place (suc n) d all below =
+    let parts = and_parts (is_at_place n) (are_at_places n) all in
+    elim (cases_lt d n) [
+      | inl less ↦ at_place n d parts.1 less
+      | inr last ↦
+          let e : d ≡ n = omega arith in
+          rw e parts.0
+    ]
+
+-- a hexadecimal digit is printed as a digit of a name
+pub lower_digit : (d : ℕ) → d < 16 → text_of_digit d ≡ slice_index lower_digits d
+lower_digit d below = eqb-true (text_of_digit d) (slice_index lower_digits d) (at_place 16 d refl below)

@@ -1,4 +1,5 @@
 pub mod Written
+pub mod Printer
 pub mod Shapes
 pub mod Refusal
 pub mod Starts

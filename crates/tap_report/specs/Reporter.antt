@@ -4,7 +4,8 @@ use Rattle.tap_name.specs.Settings.{SettingsValue}
 use Rattle.tap_io.specs.Sink.{SinkState}
 use Rattle.tap_log.specs.declared.record.Record.{Record}
 use Rattle.tap_report.specs.Summary.{ending}
-use Rattle.tap_report.specs.Tally.{numbers_in, tally_after, tally_of}
+use Rattle.tap_report.specs.Printer.{PrinterValue}
+use Rattle.tap_report.specs.Tally.{CountsWithin, numbers_in, tally_after, tally_of}
 use Rattle.tap_report.specs.Text.{text_of_record, texts_after, text_of_log, settings_so_far}
 pub use Rattle.tap_report.specs.Text.{settings_after}
 use Rattle.tap_report.specs.Written.{WritesText}
@@ -25,6 +26,11 @@ pub record ReporterValue : Type 0 where
   pub records : ℕ
   pub tally : Tally
   pub so_far : Written
+
+-- what a reporter keeps beside them: none of its counts is above that of the records, and nothing waits to be written
+pub record IsKept (records : ℕ) (tally : Tally) (printer : PrinterValue) : Type 0 where
+  pub counts : CountsWithin records tally
+  pub written : printer.waiting ≡ []
 
 -- before the first put
 abbrev pub new_reporter : Mode → ReporterValue

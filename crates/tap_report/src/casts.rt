@@ -1,12 +1,12 @@
-ghost use Rattle.tap_report.specs.Written.{WritesText};
+ghost use Rattle.tap_report.specs.Printer.{Prints};
 ghost use Rattle.tap_report.specs.Casts.{cast_line, reached_line};
 
-use crate::written::Written;
+use crate::printer::Printer;
 use tap_io::Sink;
 use tap_name::Name;
 
 // The lines of casts.
-impl Written {
+impl Printer {
     pub(crate) fn add_cast<K: Sink>(
         &mut self,
         sink: &mut K,
@@ -15,7 +15,7 @@ impl Written {
         level: u8,
         name: &Name,
     )
-        ensures { WritesText (K.state sink.old) (K.state sink.new)
+        ensures { Prints (K.state sink.old) (K.state sink.new)
             (cast_line cast word.now level name.now) self.old self.new }
     {
         self.add_number_after(sink, b"cast ", cast);
@@ -26,7 +26,7 @@ impl Written {
     }
 
     pub(crate) fn add_reached<K: Sink>(&mut self, sink: &mut K, cast: u32, name: &Name)
-        ensures { WritesText (K.state sink.old) (K.state sink.new)
+        ensures { Prints (K.state sink.old) (K.state sink.new)
             (reached_line cast name.now) self.old self.new }
     {
         self.add_number_after(sink, b"reached ", cast);

@@ -29,39 +29,35 @@ impl Departures {
         }
     }
 
-    // With one record more, in a log that is carried or not.
-    pub(crate) fn with(&self, carried: bool, item: &Record) -> Departures
-        requires { self.now.gone < u64.MAX }
-        ensures { result ≡ departures_after carried self.now item.now }
+    // Adds one record more, in a log that is carried or not.
+    pub(crate) fn add(&mut self, carried: bool, item: &Record)
+        requires { self.old.gone < u64.MAX }
+        ensures { self.new ≡ departures_after carried self.old item.now }
     {
-        let accepted = self.accepted_with(carried, item);
-        let departed = is_gone(&accepted, item);
-        Departures {
-            asked: asked_by(item),
-            accepted,
-            gone: self.gone + u64::from(departed),
+        self.accept(carried, item);
+        self.gone += u64::from(is_gone(&self.accepted, item));
+        self.ask(item);
+    }
+
+    // Keeps the departure that a record asks for, and no other one.
+    fn ask(&mut self, item: &Record)
+        ensures { self.new ≡ record self.old { asked = asked_by item.now } }
+    {
+        match item {
+            Record::Step { step, .. } => self.asked = depart_name(step),
+            _ => self.asked = None,
         }
     }
 
-    // The departure that was accepted last, with one record more.
-    fn accepted_with(&self, carried: bool, item: &Record) -> Option<Name>
-        ensures { result ≡ accepted_after carried self.now item.now }
+    // Accepts the departure that was asked for, if there is one and the record does.
+    fn accept(&mut self, carried: bool, item: &Record)
+        ensures { self.new ≡ record self.old { accepted = accepted_after carried self.old item.now } }
     {
-        if accepts(carried, item) {
-            self.asked.or(self.accepted)
-        } else {
-            self.accepted
+        if self.asked.is_some() {
+            if accepts(carried, item) {
+                self.accepted = self.asked;
+            }
         }
-    }
-}
-
-// The departure that a record asks for.
-fn asked_by(item: &Record) -> Option<Name>
-    ensures { result ≡ asked_by item.now }
-{
-    match item {
-        Record::Step { step, .. } => depart_name(step),
-        _ => None,
     }
 }
 

@@ -1,11 +1,11 @@
-ghost use Rattle.std.specs.Prelude.{◌≡◌, ◌≢◌, ◌*◌, ◌≤◌, IsOk, IsSomeAnd, length};
+ghost use Rattle.std.specs.Prelude.{◌≡◌, ◌≢◌, IsOk, IsSomeAnd};
 ghost use Rattle.hex.specs.Hex.{encode_lower};
-ghost use Rattle.tap_report.specs.Written.{WritesText};
+ghost use Rattle.tap_report.specs.Printer.{Prints};
 ghost use Rattle.tap_report.specs.Frames.{garbled_line, heading, packet_line, packet_word, sent_line, text_of_head, word_of_kind, words_of_fault};
 ghost use Rattle.tap_wire.specs.declared.fault.WireFault.TheVariants.{NoMemory};
 ghost use Rattle.tap_wire.specs.Reading.{head_of};
 
-use crate::written::Written;
+use crate::printer::Printer;
 use tap_io::Sink;
 use tap_name::Settings;
 use tap_wire::{WireFault, decode_head};
@@ -14,7 +14,7 @@ use tap_wire::{WireFault, decode_head};
 const PIECE: usize = 64;
 
 // The lines of frames and of packets.
-impl Written {
+impl Printer {
     pub(crate) fn add_sent<K: Sink>(
         &mut self,
         sink: &mut K,
@@ -23,10 +23,10 @@ impl Written {
         bytes: &[u8],
     )
         requires { IsSomeAnd settings.now (λ p. IsOk (head_of p bytes.now)) }
-        ensures { WritesText (K.state sink.old) (K.state sink.new)
+        ensures { Prints (K.state sink.old) (K.state sink.new)
             (sent_line settings.now number bytes.now) self.old self.new }
     {
-        self.add_number_after(sink, b"sent ", number);
+        self.add_u32_after(sink, b"sent ", number);
         self.add(sink, b" ");
         self.add_heading(sink, settings, bytes);
         self.add(sink, b" ");
@@ -36,7 +36,7 @@ impl Written {
     // Adds what the head of a frame says, which is read with these settings.
     fn add_heading<K: Sink>(&mut self, sink: &mut K, settings: &Option<Settings>, bytes: &[u8])
         requires { IsSomeAnd settings.now (λ p. IsOk (head_of p bytes.now)) }
-        ensures { WritesText (K.state sink.old) (K.state sink.new)
+        ensures { Prints (K.state sink.old) (K.state sink.new)
             (heading settings.now bytes.now) self.old self.new }
     {
         match settings {
@@ -47,7 +47,7 @@ impl Written {
 
     fn add_head<K: Sink>(&mut self, sink: &mut K, settings: &Settings, bytes: &[u8])
         requires { IsOk (head_of settings.now bytes.now) }
-        ensures { WritesText (K.state sink.old) (K.state sink.new)
+        ensures { Prints (K.state sink.old) (K.state sink.new)
             (text_of_head (head_of settings.now bytes.now)) self.old self.new }
     {
         match decode_head(settings, bytes) {
@@ -62,7 +62,7 @@ impl Written {
 
     // Adds the word of the kind with this code, if there is one.
     fn add_kind<K: Sink>(&mut self, sink: &mut K, code: u8)
-        ensures { WritesText (K.state sink.old) (K.state sink.new)
+        ensures { Prints (K.state sink.old) (K.state sink.new)
             (word_of_kind code) self.old self.new }
     {
         match code {
@@ -89,32 +89,20 @@ impl Written {
 
     // Adds bytes in hexadecimal, a piece at a time.
     fn add_hex<K: Sink>(&mut self, sink: &mut K, bytes: &[u8])
-        ensures { WritesText (K.state sink.old) (K.state sink.new)
+        ensures { Prints (K.state sink.old) (K.state sink.new)
             (encode_lower bytes.now) self.old self.new }
     {
-        let mut room = [0; 2 * PIECE];
         let mut done = 0;
         while done < bytes.len() {
             let end = bytes.len().min(done + PIECE);
-            self.add_hex_piece(sink, &bytes[done..end], &mut room);
+            self.add_hex_piece(sink, &bytes[done..end]);
             done = end;
         }
     }
 
-    // Adds a piece of bytes in hexadecimal, by way of this room.
-    fn add_hex_piece<K: Sink>(&mut self, sink: &mut K, piece: &[u8], room: &mut [u8])
-        requires { 2 * length piece.now ≤ length room.old }
-        ensures { WritesText (K.state sink.old) (K.state sink.new)
-            (encode_lower piece.now) self.old self.new }
-    {
-        let text = &mut room[..2 * piece.len()];
-        hex::encode_to_slice(piece, text).unwrap();
-        self.add(sink, text);
-    }
-
     pub(crate) fn add_garbled<K: Sink>(&mut self, sink: &mut K, number: u32, fault: WireFault)
         requires { fault ≢ NoMemory }
-        ensures { WritesText (K.state sink.old) (K.state sink.new)
+        ensures { Prints (K.state sink.old) (K.state sink.new)
             (garbled_line number fault) self.old self.new }
     {
         self.add_number_after(sink, b"garbled ", number);
@@ -124,7 +112,7 @@ impl Written {
 
     fn add_fault<K: Sink>(&mut self, sink: &mut K, fault: WireFault)
         requires { fault ≢ NoMemory }
-        ensures { WritesText (K.state sink.old) (K.state sink.new)
+        ensures { Prints (K.state sink.old) (K.state sink.new)
             (words_of_fault fault) self.old self.new }
     {
         match fault {
@@ -141,7 +129,7 @@ impl Written {
     }
 
     pub(crate) fn add_packet<K: Sink>(&mut self, sink: &mut K, packet: u32, frame: u32, ack: bool)
-        ensures { WritesText (K.state sink.old) (K.state sink.new)
+        ensures { Prints (K.state sink.old) (K.state sink.new)
             (packet_line packet frame ack) self.old self.new }
     {
         self.add_number_after(sink, b"packet ", packet);

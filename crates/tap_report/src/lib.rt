@@ -11,6 +11,7 @@ mod lines;
 mod lookups;
 mod mode;
 mod opening;
+mod printer;
 mod refusals;
 mod reporter;
 mod shapes;

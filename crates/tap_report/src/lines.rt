@@ -1,6 +1,6 @@
 ghost use Rattle.std.specs.Prelude.{◌≡◌, ◌++◌, true, false};
 ghost use Rattle.tap_report.specs.Lookups.{is_lookup};
-ghost use Rattle.tap_report.specs.Written.{WritesText};
+ghost use Rattle.tap_report.specs.Printer.{Prints};
 ghost use Rattle.tap_report.specs.declared.mode.Mode.TheVariants.{Summary};
 ghost use Rattle.tap_report.specs.Shapes.{line};
 ghost use Rattle.tap_report.specs.Summary.{ending, summary_text};
@@ -9,15 +9,15 @@ ghost use Rattle.tap_report.specs.Text.{IsPrintable, further_lines, is_in_brief,
 
 use crate::lookups::is_lookup;
 use crate::mode::Mode;
+use crate::printer::Printer;
 use crate::tally::Tally;
-use crate::written::Written;
 use itoa::Integer;
 use tap_io::Sink;
 use tap_log::Record;
 use tap_name::Settings;
 
 // The lines of records, and the summary.
-impl Written {
+impl Printer {
     // Adds the text of a record, after a `Begin` with these settings.
     pub(crate) fn add_record<K: Sink>(
         &mut self,
@@ -27,7 +27,7 @@ impl Written {
         item: &Record,
     )
         requires { IsPrintable settings.now item.now }
-        ensures { WritesText (K.state sink.old) (K.state sink.new)
+        ensures { Prints (K.state sink.old) (K.state sink.new)
             (text_of_record mode settings.now item.now) self.old self.new }
     {
         if is_printed(mode, item) {
@@ -40,7 +40,7 @@ impl Written {
     // Adds the first line of a record.
     fn add_line<K: Sink>(&mut self, sink: &mut K, settings: &Option<Settings>, item: &Record)
         requires { IsPrintable settings.now item.now }
-        ensures { WritesText (K.state sink.old) (K.state sink.new)
+        ensures { Prints (K.state sink.old) (K.state sink.new)
             (line_of settings.now item.now) self.old self.new }
     {
         if is_in_brief(item) {
@@ -54,7 +54,7 @@ impl Written {
     fn add_brief_line<K: Sink>(&mut self, sink: &mut K, settings: &Option<Settings>, item: &Record)
         requires printable { IsPrintable settings.now item.now }
         requires brief { is_in_brief item.now ≡ true }
-        ensures { WritesText (K.state sink.old) (K.state sink.new)
+        ensures { Prints (K.state sink.old) (K.state sink.new)
             (line_of settings.now item.now) self.old self.new }
     {
         if is_lookup(item) {
@@ -69,7 +69,7 @@ impl Written {
         requires printable { IsPrintable settings.now item.now }
         requires brief { is_in_brief item.now ≡ true }
         requires event { is_lookup item.now ≡ false }
-        ensures { WritesText (K.state sink.old) (K.state sink.new)
+        ensures { Prints (K.state sink.old) (K.state sink.new)
             (line_of settings.now item.now) self.old self.new }
     {
         match item {
@@ -108,7 +108,7 @@ impl Written {
     fn add_detail<K: Sink>(&mut self, sink: &mut K, settings: &Option<Settings>, item: &Record)
         requires printable { IsPrintable settings.now item.now }
         requires detail { is_in_brief item.now ≡ false }
-        ensures { WritesText (K.state sink.old) (K.state sink.new)
+        ensures { Prints (K.state sink.old) (K.state sink.new)
             (line_of settings.now item.now) self.old self.new }
     {
         match item {
@@ -119,7 +119,7 @@ impl Written {
                 *number,
                 bytes.as_slice(),
             ),
-            Record::Taken { number } => self.add_number_after(sink, b"taken ", *number),
+            Record::Taken { number } => self.add_u32_after(sink, b"taken ", *number),
             Record::Packet { number, frame, ack } => self.add_packet(sink, *number, *frame, *ack),
             Record::Arrived { packet } => self.add_number_after(sink, b"arrived ", *packet),
             Record::Ticked => self.add(sink, b"ticked"),
@@ -137,7 +137,7 @@ impl Written {
         item: &Record,
     )
         requires { IsPrintable settings.now item.now }
-        ensures { WritesText (K.state sink.old) (K.state sink.new)
+        ensures { Prints (K.state sink.old) (K.state sink.new)
             (further_lines mode item.now) self.old self.new }
     {
         match item {
@@ -156,7 +156,7 @@ impl Written {
         settings: &Option<Settings>,
         tally: &Tally,
     )
-        ensures { WritesText (K.state sink.old) (K.state sink.new)
+        ensures { Prints (K.state sink.old) (K.state sink.new)
             (ending mode settings.now (numbers_in tally.now)) self.old self.new }
     {
         match mode {
@@ -166,7 +166,7 @@ impl Written {
     }
 
     fn add_summary<K: Sink>(&mut self, sink: &mut K, settings: &Option<Settings>, tally: &Tally)
-        ensures { WritesText (K.state sink.old) (K.state sink.new)
+        ensures { Prints (K.state sink.old) (K.state sink.new)
             (ending Summary settings.now (numbers_in tally.now)) self.old self.new }
     {
         if settings.is_some() {
@@ -175,7 +175,7 @@ impl Written {
     }
 
     fn add_numbers<K: Sink>(&mut self, sink: &mut K, tally: &Tally)
-        ensures { WritesText (K.state sink.old) (K.state sink.new)
+        ensures { Prints (K.state sink.old) (K.state sink.new)
             (summary_text (numbers_in tally.now)) self.old self.new }
     {
         self.add_count(sink, b"nodes ", tally.nodes_left());
@@ -186,7 +186,7 @@ impl Written {
 
     // Adds a line with one number.
     fn add_count<K: Sink, I: Integer>(&mut self, sink: &mut K, word: &[u8], count: I)
-        ensures { WritesText (K.state sink.old) (K.state sink.new)
+        ensures { Prints (K.state sink.old) (K.state sink.new)
             (line (word.now ++ I.text count)) self.old self.new }
     {
         self.add_number_after(sink, word, count);

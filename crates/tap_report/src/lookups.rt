@@ -1,15 +1,15 @@
 ghost use Rattle.std.specs.Prelude.{◌≡◌, ◌<◌, length, true};
-ghost use Rattle.tap_report.specs.Written.{WritesText};
+ghost use Rattle.tap_report.specs.Printer.{Prints};
 ghost use Rattle.tap_report.specs.Lookups.{answered_line, asked_line, is_lookup, roots_line, text_of_server, walked_line};
 ghost use Rattle.tap_report.specs.Text.{IsPrintable, line_of};
 
-use crate::written::Written;
+use crate::printer::Printer;
 use tap_io::Sink;
 use tap_log::Record;
 use tap_name::{Name, Settings};
 
 // The lines of walks, lookups and root sets.
-impl Written {
+impl Printer {
     // Adds the line of a record of these.
     pub(crate) fn add_lookup<K: Sink>(
         &mut self,
@@ -19,7 +19,7 @@ impl Written {
     )
         requires printable { IsPrintable settings.now item.now }
         requires lookup { is_lookup item.now ≡ true }
-        ensures { WritesText (K.state sink.old) (K.state sink.new)
+        ensures { Prints (K.state sink.old) (K.state sink.new)
             (line_of settings.now item.now) self.old self.new }
     {
         match item {
@@ -54,7 +54,7 @@ impl Written {
 
     fn add_walked<K: Sink>(&mut self, sink: &mut K, object: &Name, path: &[Name])
         requires { 0 < length path.now }
-        ensures { WritesText (K.state sink.old) (K.state sink.new)
+        ensures { Prints (K.state sink.old) (K.state sink.new)
             (walked_line object.now path.now) self.old self.new }
     {
         let hops = path.len() - 1;
@@ -66,23 +66,23 @@ impl Written {
     }
 
     fn add_asked<K: Sink>(&mut self, sink: &mut K, ticket: u32, object: &Name, asker: &Name)
-        ensures { WritesText (K.state sink.old) (K.state sink.new)
+        ensures { Prints (K.state sink.old) (K.state sink.new)
             (asked_line ticket object.now asker.now) self.old self.new }
     {
-        self.add_number_after(sink, b"asked ", ticket);
+        self.add_u32_after(sink, b"asked ", ticket);
         self.add_from(sink, b" ", object, asker);
     }
 
     fn add_answered<K: Sink>(&mut self, sink: &mut K, ticket: u32, server: &Option<Name>)
-        ensures { WritesText (K.state sink.old) (K.state sink.new)
+        ensures { Prints (K.state sink.old) (K.state sink.new)
             (answered_line ticket server.now) self.old self.new }
     {
-        self.add_number_after(sink, b"answered ", ticket);
+        self.add_u32_after(sink, b"answered ", ticket);
         self.add_server(sink, server);
     }
 
     fn add_server<K: Sink>(&mut self, sink: &mut K, server: &Option<Name>)
-        ensures { WritesText (K.state sink.old) (K.state sink.new)
+        ensures { Prints (K.state sink.old) (K.state sink.new)
             (text_of_server server.now) self.old self.new }
     {
         match server {
@@ -92,7 +92,7 @@ impl Written {
     }
 
     fn add_roots<K: Sink>(&mut self, sink: &mut K, object: &Name, asker: &Name, roots: &[Name])
-        ensures { WritesText (K.state sink.old) (K.state sink.new)
+        ensures { Prints (K.state sink.old) (K.state sink.new)
             (roots_line object.now asker.now roots.now) self.old self.new }
     {
         self.add_from(sink, b"rootset ", object, asker);

@@ -1,15 +1,15 @@
 ghost use Rattle.std.specs.Prelude.{◌≡◌};
-ghost use Rattle.tap_report.specs.Written.{WritesText};
+ghost use Rattle.tap_report.specs.Printer.{Prints};
 ghost use Rattle.tap_report.specs.Refusal.{code_of_refusal, refused_line, words_of_refusal};
 
-use crate::written::Written;
+use crate::printer::Printer;
 use tap_io::Sink;
 use tap_log::Refusal;
 
 // The lines of refused steps.
-impl Written {
+impl Printer {
     pub(crate) fn add_refused<K: Sink>(&mut self, sink: &mut K, index: u32, refusal: &Refusal)
-        ensures { WritesText (K.state sink.old) (K.state sink.new)
+        ensures { Prints (K.state sink.old) (K.state sink.new)
             (refused_line index refusal.now) self.old self.new }
     {
         self.add_number_after(sink, b"refused ", index);
@@ -20,7 +20,7 @@ impl Written {
 
     // Adds the words of a refusal.
     fn add_words<K: Sink>(&mut self, sink: &mut K, refusal: &Refusal)
-        ensures { WritesText (K.state sink.old) (K.state sink.new)
+        ensures { Prints (K.state sink.old) (K.state sink.new)
             (words_of_refusal refusal.now) self.old self.new }
     {
         match refusal {

@@ -4,6 +4,7 @@ ghost use Rattle.tap_report.specs.Text.{IsBegin, IsPrintable, IsPrintableLog, te
 ghost use Rattle.tap_report.specs.Written.{WritesText};
 
 use crate::mode::Mode;
+use crate::printer::Printer;
 use crate::tally::Tally;
 use crate::written::Written;
 use std::marker::Model;
@@ -28,19 +29,18 @@ pub struct Reporter {
     settings: Option<Settings>,
     records: u32,
     tally: Tally,
-    so_far: Written,
+    printer: Printer,
 }
 
 impl Model for Reporter {
     ghost use Rattle.std.specs.Prelude.{◌≤◌};
-    ghost use Rattle.tap_report.specs.Reporter.{ReporterValue};
-    ghost use Rattle.tap_report.specs.Tally.{CountsWithin};
+    ghost use Rattle.tap_report.specs.Reporter.{IsKept, ReporterValue};
 
     ghost Value = { ReporterValue };
 
-    ghost view = { λ r. record { mode = r.mode; settings = r.settings; records = r.records; tally = r.tally; so_far = r.so_far } };
+    ghost view = { λ r. record { mode = r.mode; settings = r.settings; records = r.records; tally = r.tally; so_far = r.printer.so_far } };
 
-    ghost invariant = { λ r. CountsWithin r.records r.tally };
+    ghost invariant = { λ r. IsKept r.records r.tally r.printer };
 }
 
 impl Reporter {
@@ -53,7 +53,7 @@ impl Reporter {
             settings: None,
             records: 0,
             tally: Tally::new(),
-            so_far: Written::All,
+            printer: Printer::new(),
         }
     }
 
@@ -76,12 +76,13 @@ impl Reporter {
         requires few { self.old.records < most_records }
         ensures { Puts self.old self.new item.now (K.state sink.old) (K.state sink.new) result }
     {
-        self.so_far
+        self.printer
             .add_record(sink, self.mode, &self.settings, item);
-        self.settings = settings_with(self.settings, item);
-        self.tally = self.tally.with(item);
+        let written = self.printer.flush(sink);
+        keep_settings(&mut self.settings, item);
+        self.tally.add(item);
         self.records += 1;
-        self.so_far
+        written
     }
 
     /// Ends the text. In the mode Summary the summary follows the last record, if a `Begin` was put, and in the
@@ -89,19 +90,19 @@ impl Reporter {
     pub fn finish<K: Sink>(&mut self, sink: &mut K) -> Written
         ensures { Finishes self.old self.new (K.state sink.old) (K.state sink.new) result }
     {
-        self.so_far
+        self.printer
             .add_ending(sink, self.mode, &self.settings, &self.tally);
-        self.so_far
+        self.printer.flush(sink)
     }
 }
 
-// The settings of the `Begin` that was put, with one record more.
-fn settings_with(settings: Option<Settings>, item: &Record) -> Option<Settings>
-    ensures { result ≡ settings_after settings item.now }
+// Keeps the settings of a record, if it is a `Begin`.
+fn keep_settings(kept: &mut Option<Settings>, item: &Record)
+    ensures { kept.new ≡ settings_after kept.old item.now }
 {
     match item {
-        Record::Begin { settings, .. } => Some(*settings),
-        _ => settings,
+        Record::Begin { settings, .. } => *kept = Some(*settings),
+        _ => {}
     }
 }
 
@@ -116,17 +117,17 @@ pub fn write_log<K: Sink>(mode: Mode, log: &Log, sink: &mut K) -> Written
     ensures { WritesText (K.state sink.old) (K.state sink.new)
         (text_of_log mode log.now.records) Written.All result }
 {
-    let mut written = Written::All;
+    let mut printer = Printer::new();
     let records = log.as_slice();
     let mut settings = None;
     let mut tally = Tally::new();
     for item in records {
-        written.add_record(sink, mode, &settings, item);
-        settings = settings_with(settings, item);
-        tally = tally.with(item);
+        printer.add_record(sink, mode, &settings, item);
+        keep_settings(&mut settings, item);
+        tally.add(item);
     }
-    written.add_ending(sink, mode, &settings, &tally);
-    written
+    printer.add_ending(sink, mode, &settings, &tally);
+    printer.flush(sink)
 }
 
 /// A law that runs nothing: the puts of a log's records to a new reporter, and then a finish, write the text of the log.

@@ -1,19 +1,20 @@
-ghost use Rattle.std.specs.Prelude.{◌≡◌, ◌<◌, ◌≤◌, ◌+◌, ◌∷◌, [], ◌++◌, All, codes, length, take};
+ghost use Rattle.std.specs.Prelude.{◌<◌, ◌∷◌, [], ◌++◌, codes};
 ghost use Rattle.tap_name.specs.Digits.{text_of_digit};
 ghost use Rattle.tap_name.specs.Name.{text_of_name};
-ghost use Rattle.tap_report.specs.Written.{WritesText};
-ghost use Rattle.tap_report.specs.Shapes.{name_after, object_at, object_from, spaced_names, two_names_after, two_numbers_after};
+ghost use Rattle.tap_report.specs.Printer.{Prints};
+ghost use Rattle.tap_report.specs.Shapes.{name_after, number_after, object_at, object_from, spaced_names, two_names_after, two_numbers_after};
 
-use crate::written::Written;
+use crate::printer::Printer;
 use itoa::{Buffer, Integer};
 use tap_io::Sink;
 use tap_name::{Name, text_of_digit};
 
-// The shapes of lines. A word before a name has at most 24 bytes, so that both are written at once.
-impl Written {
+// The shapes of lines.
+impl Printer {
     // Ends a line.
+    #[inline(always)]
     pub(crate) fn end_line<K: Sink>(&mut self, sink: &mut K)
-        ensures { WritesText (K.state sink.old) (K.state sink.new) (codes "\n") self.old self.new }
+        ensures { Prints (K.state sink.old) (K.state sink.new) (codes "\n") self.old self.new }
     {
         self.add(sink, b"\n");
     }
@@ -21,7 +22,7 @@ impl Written {
     // Adds a digit as it is printed.
     pub(crate) fn add_digit<K: Sink>(&mut self, sink: &mut K, digit: u8)
         requires { digit < 16 }
-        ensures { WritesText (K.state sink.old) (K.state sink.new)
+        ensures { Prints (K.state sink.old) (K.state sink.new)
             (text_of_digit digit ∷ []) self.old self.new }
     {
         self.add(sink, &[text_of_digit(digit)]);
@@ -29,7 +30,7 @@ impl Written {
 
     // Adds a number, in decimal.
     pub(crate) fn add_number<K: Sink, I: Integer>(&mut self, sink: &mut K, number: I)
-        ensures { WritesText (K.state sink.old) (K.state sink.new)
+        ensures { Prints (K.state sink.old) (K.state sink.new)
             (I.text number) self.old self.new }
     {
         let mut digits = Buffer::new();
@@ -37,46 +38,47 @@ impl Written {
     }
 
     // Adds a name, in printed digits.
+    #[inline(always)]
     pub(crate) fn add_name<K: Sink>(&mut self, sink: &mut K, name: &Name)
-        ensures { WritesText (K.state sink.old) (K.state sink.new)
+        ensures { Prints (K.state sink.old) (K.state sink.new)
             (text_of_name name.now) self.old self.new }
     {
         self.add_digits(sink, name.as_slice());
     }
 
-    // Adds at most 40 digits as they are printed.
-    pub(crate) fn add_digits<K: Sink>(&mut self, sink: &mut K, digits: &[u8])
-        requires few { length digits.now ≤ 40 }
-        requires below { All (λ digit. digit < 16) digits.now }
-        ensures { WritesText (K.state sink.old) (K.state sink.new)
-            (text_of_name digits.now) self.old self.new }
-    {
-        let text = text_after(b"", digits);
-        self.add(sink, &text[..digits.len()]);
-    }
-
     // Adds a word and a name.
+    #[inline(always)]
     pub(crate) fn add_name_after<K: Sink>(&mut self, sink: &mut K, word: &[u8], name: &Name)
-        requires { length word.now ≤ 24 }
-        ensures { WritesText (K.state sink.old) (K.state sink.new)
+        ensures { Prints (K.state sink.old) (K.state sink.new)
             (name_after word.now name.now) self.old self.new }
     {
-        let text = text_after(word, name.as_slice());
-        self.add(sink, &text[..word.len() + name.len()]);
+        self.add(sink, word);
+        self.add_name(sink, name);
     }
 
     // Adds a word and a number.
+    #[inline(always)]
     pub(crate) fn add_number_after<K: Sink, I: Integer>(
         &mut self,
         sink: &mut K,
         word: &[u8],
         number: I,
     )
-        ensures { WritesText (K.state sink.old) (K.state sink.new)
+        ensures { Prints (K.state sink.old) (K.state sink.new)
             (word.now ++ I.text number) self.old self.new }
     {
         self.add(sink, word);
         self.add_number(sink, number);
+    }
+
+    // Adds a word and a number of at most ten digits.
+    #[inline(always)]
+    pub(crate) fn add_u32_after<K: Sink>(&mut self, sink: &mut K, word: &[u8], number: u32)
+        ensures { Prints (K.state sink.old) (K.state sink.new)
+            (number_after word.now number) self.old self.new }
+    {
+        self.add(sink, word);
+        self.add_u32(sink, number);
     }
 
     // Adds a word and a name, and then another word and name.
@@ -88,9 +90,7 @@ impl Written {
         link: &[u8],
         second: &Name,
     )
-        requires few { length word.now ≤ 24 }
-        requires few_between { length link.now ≤ 24 }
-        ensures { WritesText (K.state sink.old) (K.state sink.new)
+        ensures { Prints (K.state sink.old) (K.state sink.new)
             (two_names_after word.now first.now link.now second.now) self.old self.new }
     {
         self.add_name_after(sink, word, first);
@@ -106,7 +106,7 @@ impl Written {
         link: &[u8],
         second: u32,
     )
-        ensures { WritesText (K.state sink.old) (K.state sink.new)
+        ensures { Prints (K.state sink.old) (K.state sink.new)
             (two_numbers_after word.now first link.now second) self.old self.new }
     {
         self.add(sink, word);
@@ -117,8 +117,7 @@ impl Written {
 
     // Adds a word, an object and the node that has it.
     pub(crate) fn add_at<K: Sink>(&mut self, sink: &mut K, word: &[u8], object: &Name, node: &Name)
-        requires { length word.now ≤ 24 }
-        ensures { WritesText (K.state sink.old) (K.state sink.new)
+        ensures { Prints (K.state sink.old) (K.state sink.new)
             (object_at word.now object.now node.now) self.old self.new }
     {
         self.add_two_names_after(sink, word, object, b" at ", node);
@@ -132,8 +131,7 @@ impl Written {
         object: &Name,
         asker: &Name,
     )
-        requires { length word.now ≤ 24 }
-        ensures { WritesText (K.state sink.old) (K.state sink.new)
+        ensures { Prints (K.state sink.old) (K.state sink.new)
             (object_from word.now object.now asker.now) self.old self.new }
     {
         self.add_two_names_after(sink, word, object, b" from ", asker);
@@ -141,26 +139,11 @@ impl Written {
 
     // Adds names, each with a space before it.
     pub(crate) fn add_names<K: Sink>(&mut self, sink: &mut K, names: &[Name])
-        ensures { WritesText (K.state sink.old) (K.state sink.new)
+        ensures { Prints (K.state sink.old) (K.state sink.new)
             (spaced_names names.now) self.old self.new }
     {
         for name in names {
             self.add_name_after(sink, b" ", name);
         }
     }
-}
-
-// A word of at most 24 bytes, and then a name's digits as they are printed, in the first places.
-fn text_after(word: &[u8], digits: &[u8]) -> [u8; 64]
-    requires few { length word.now ≤ 24 }
-    requires few_digits { length digits.now ≤ 40 }
-    requires below { All (λ digit. digit < 16) digits.now }
-    ensures { take (length word.now + length digits.now) result ≡ name_after word.now digits.now }
-{
-    let mut text = [0; 64];
-    text[..word.len()].copy_from_slice(word);
-    for at in 0..digits.len() {
-        text[word.len() + at] = text_of_digit(digits[at]);
-    }
-    text
 }

@@ -1,17 +1,17 @@
-ghost use Rattle.tap_report.specs.Written.{WritesText};
+ghost use Rattle.tap_report.specs.Printer.{Prints};
 ghost use Rattle.tap_report.specs.Starts.{begin_line, member_line, member_lines, step_line};
 ghost use Rattle.tap_report.specs.Text.{members_in};
 
 use crate::mode::Mode;
-use crate::written::Written;
+use crate::printer::Printer;
 use tap_io::Sink;
 use tap_name::{Name, Settings};
 use tap_scenario::Step;
 
 // The lines of the beginning of a run and of its steps.
-impl Written {
+impl Printer {
     pub(crate) fn add_begin<K: Sink>(&mut self, sink: &mut K, settings: &Settings, frames: u32)
-        ensures { WritesText (K.state sink.old) (K.state sink.new)
+        ensures { Prints (K.state sink.old) (K.state sink.new)
             (begin_line settings.now frames) self.old self.new }
     {
         self.add_number_after(sink, b"begin base ", settings.base());
@@ -21,7 +21,7 @@ impl Written {
     }
 
     fn add_member<K: Sink>(&mut self, sink: &mut K, name: &Name)
-        ensures { WritesText (K.state sink.old) (K.state sink.new)
+        ensures { Prints (K.state sink.old) (K.state sink.new)
             (member_line name.now) self.old self.new }
     {
         self.add_name_after(sink, b"member ", name);
@@ -29,7 +29,7 @@ impl Written {
     }
 
     fn add_members<K: Sink>(&mut self, sink: &mut K, members: &[Name])
-        ensures { WritesText (K.state sink.old) (K.state sink.new)
+        ensures { Prints (K.state sink.old) (K.state sink.new)
             (member_lines members.now) self.old self.new }
     {
         for name in members {
@@ -39,7 +39,7 @@ impl Written {
 
     // Adds the lines of members, if the mode has them.
     pub(crate) fn add_members_in<K: Sink>(&mut self, sink: &mut K, mode: Mode, members: &[Name])
-        ensures { WritesText (K.state sink.old) (K.state sink.new)
+        ensures { Prints (K.state sink.old) (K.state sink.new)
             (members_in mode members.now) self.old self.new }
     {
         match mode {
@@ -49,10 +49,10 @@ impl Written {
     }
 
     pub(crate) fn add_step<K: Sink>(&mut self, sink: &mut K, index: u32, step: &Step)
-        ensures { WritesText (K.state sink.old) (K.state sink.new)
+        ensures { Prints (K.state sink.old) (K.state sink.new)
             (step_line index step.now) self.old self.new }
     {
-        self.add_number_after(sink, b"step ", index);
+        self.add_u32_after(sink, b"step ", index);
         self.add(sink, b" ");
         self.add_step_text(sink, step);
     }

@@ -2,17 +2,17 @@ ghost use Rattle.std.specs.Prelude.{◌++◌, codes};
 ghost use Rattle.tap_scenario.specs.Step.{text_of_prefix, text_of_step};
 ghost use Rattle.tap_scenario.specs.Wording.{text_after};
 ghost use Rattle.tap_scenario.specs.declared.wording.WordsAfter.TheVariants.{Cast, Names};
-ghost use Rattle.tap_report.specs.Written.{WritesText};
+ghost use Rattle.tap_report.specs.Printer.{Prints};
 
-use crate::written::Written;
+use crate::printer::Printer;
 use tap_io::Sink;
 use tap_name::Name;
 use tap_scenario::{Prefix, Step, Word, WordsAfter};
 
 // Steps, as they are written in a scenario.
-impl Written {
+impl Printer {
     pub(crate) fn add_step_text<K: Sink>(&mut self, sink: &mut K, step: &Step)
-        ensures { WritesText (K.state sink.old) (K.state sink.new)
+        ensures { Prints (K.state sink.old) (K.state sink.new)
             (text_of_step step.now) self.old self.new }
     {
         let words = step.words();
@@ -22,7 +22,7 @@ impl Written {
 
     // Adds what stands after the first word of a step.
     fn add_words_after<K: Sink>(&mut self, sink: &mut K, after: &WordsAfter)
-        ensures { WritesText (K.state sink.old) (K.state sink.new)
+        ensures { Prints (K.state sink.old) (K.state sink.new)
             (text_after after.now) self.old self.new }
     {
         match after {
@@ -54,7 +54,7 @@ impl Written {
 
     // Adds two names and the word between them.
     fn add_pair_of_names<K: Sink>(&mut self, sink: &mut K, first: &Name, link: &str, second: &Name)
-        ensures { WritesText (K.state sink.old) (K.state sink.new)
+        ensures { Prints (K.state sink.old) (K.state sink.new)
             (text_after (Names first.now link.entry second.now)) self.old self.new }
     {
         self.add_name_after(sink, b" ", first);
@@ -73,7 +73,7 @@ impl Written {
         from: &str,
         asker: &Name,
     )
-        ensures { WritesText (K.state sink.old) (K.state sink.new)
+        ensures { Prints (K.state sink.old) (K.state sink.new)
             (text_after (Cast word.now to.entry prefix.now from.entry asker.now)) self.old self.new }
     {
         self.add(sink, b" ");
@@ -90,7 +90,7 @@ impl Written {
 
     // Adds a word with a space before it.
     fn add_word<K: Sink>(&mut self, sink: &mut K, word: &str)
-        ensures { WritesText (K.state sink.old) (K.state sink.new)
+        ensures { Prints (K.state sink.old) (K.state sink.new)
             (codes " " ++ word.now) self.old self.new }
     {
         self.add(sink, b" ");
@@ -98,7 +98,7 @@ impl Written {
     }
 
     fn add_prefix<K: Sink>(&mut self, sink: &mut K, prefix: &Prefix)
-        ensures { WritesText (K.state sink.old) (K.state sink.new)
+        ensures { Prints (K.state sink.old) (K.state sink.new)
             (text_of_prefix prefix.now) self.old self.new }
     {
         let digits = prefix.as_slice();

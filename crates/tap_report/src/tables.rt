@@ -1,14 +1,14 @@
 ghost use Rattle.std.specs.Prelude.{◌≡◌, ◌<◌, All, IsSomeAnd};
-ghost use Rattle.tap_report.specs.Written.{WritesText};
+ghost use Rattle.tap_report.specs.Printer.{Prints};
 ghost use Rattle.tap_report.specs.Tables.{link_line, link_lines, pointer_line, pointer_lines, pointers_line, table_line, words_of_link, words_of_node};
 
-use crate::written::Written;
+use crate::printer::Printer;
 use tap_io::Sink;
 use tap_log::{LinkLine, LinkWord, NodeWord, Pair};
 use tap_name::{Name, Settings};
 
 // The lines of tables and pointers.
-impl Written {
+impl Printer {
     // Adds the first line of a table with so many links.
     pub(crate) fn add_table<K: Sink>(
         &mut self,
@@ -17,7 +17,7 @@ impl Written {
         status: NodeWord,
         count: usize,
     )
-        ensures { WritesText (K.state sink.old) (K.state sink.new)
+        ensures { Prints (K.state sink.old) (K.state sink.new)
             (table_line name.now status count) self.old self.new }
     {
         self.add_name_after(sink, b"table ", name);
@@ -34,7 +34,7 @@ impl Written {
         links: &[LinkLine],
     )
         requires { IsSomeAnd settings.now (λ p. All (λ link. link.slot.digit < p.base) links.now) }
-        ensures { WritesText (K.state sink.old) (K.state sink.new)
+        ensures { Prints (K.state sink.old) (K.state sink.new)
             (link_lines links.now) self.old self.new }
     {
         match settings {
@@ -45,7 +45,7 @@ impl Written {
 
     fn add_links_below<K: Sink>(&mut self, sink: &mut K, settings: &Settings, links: &[LinkLine])
         requires { All (λ link. link.slot.digit < settings.now.base) links.now }
-        ensures { WritesText (K.state sink.old) (K.state sink.new)
+        ensures { Prints (K.state sink.old) (K.state sink.new)
             (link_lines links.now) self.old self.new }
     {
         let base = settings.base();
@@ -55,7 +55,7 @@ impl Written {
 
     fn add_links<K: Sink>(&mut self, sink: &mut K, links: &[LinkLine])
         requires { All (λ link. link.slot.digit < 16) links.now }
-        ensures { WritesText (K.state sink.old) (K.state sink.new)
+        ensures { Prints (K.state sink.old) (K.state sink.new)
             (link_lines links.now) self.old self.new }
     {
         for link in links {
@@ -65,7 +65,7 @@ impl Written {
 
     fn add_link<K: Sink>(&mut self, sink: &mut K, link: &LinkLine)
         requires { link.now.slot.digit < 16 }
-        ensures { WritesText (K.state sink.old) (K.state sink.new)
+        ensures { Prints (K.state sink.old) (K.state sink.new)
             (link_line link.now) self.old self.new }
     {
         self.add_number_after(sink, b"link ", link.slot.level);
@@ -79,7 +79,7 @@ impl Written {
 
     // Adds the first line of so many pointers.
     pub(crate) fn add_pointers<K: Sink>(&mut self, sink: &mut K, name: &Name, count: usize)
-        ensures { WritesText (K.state sink.old) (K.state sink.new)
+        ensures { Prints (K.state sink.old) (K.state sink.new)
             (pointers_line name.now count) self.old self.new }
     {
         self.add_name_after(sink, b"pointers ", name);
@@ -88,7 +88,7 @@ impl Written {
 
     // Adds the lines of pointers.
     pub(crate) fn add_pairs<K: Sink>(&mut self, sink: &mut K, pairs: &[Pair])
-        ensures { WritesText (K.state sink.old) (K.state sink.new)
+        ensures { Prints (K.state sink.old) (K.state sink.new)
             (pointer_lines pairs.now) self.old self.new }
     {
         for pair in pairs {
@@ -97,7 +97,7 @@ impl Written {
     }
 
     fn add_pair<K: Sink>(&mut self, sink: &mut K, pair: &Pair)
-        ensures { WritesText (K.state sink.old) (K.state sink.new)
+        ensures { Prints (K.state sink.old) (K.state sink.new)
             (pointer_line pair.now) self.old self.new }
     {
         self.add_two_names_after(sink, b"pointer ", &pair.object, b" ", &pair.server);

@@ -1,4 +1,4 @@
-ghost use Rattle.std.specs.Prelude.{◌≡◌, ◌-◌, length, []};
+ghost use Rattle.std.specs.Prelude.{◌≡◌, ◌+◌, ◌-◌, cond, max, length, []};
 ghost use Rattle.tap_log.specs.Kinds.{begin_members};
 ghost use Rattle.tap_report.specs.Summary.{finds_server, hops_in};
 ghost use Rattle.tap_report.specs.Tally.{CountsWithin, is_core, is_sent, members_after, numbers_in, tally_after, tally_of};
@@ -42,20 +42,34 @@ impl Tally {
         }
     }
 
-    // With one record more.
-    pub(crate) fn with(&self, item: &Record) -> Tally
-        requires { CountsWithin (u64.MAX - 1) self.now }
-        ensures { result ≡ tally_after self.now item.now }
+    // Adds one record more.
+    pub(crate) fn add(&mut self, item: &Record)
+        requires { CountsWithin (u64.MAX - 1) self.old }
+        ensures { self.new ≡ tally_after self.old item.now }
     {
-        let carried = self.opening.is_carried();
-        Tally {
-            opening: self.opening.with(item),
-            members: members_with(self.opening, self.members, item),
-            core: self.core + u64::from(is_core(item)),
-            departures: self.departures.with(carried, item),
-            frames: self.frames + u64::from(is_sent(item)),
-            hops: self.hops.max(hops_in(item)),
-            answered: self.answered + u64::from(finds_server(item)),
+        self.count(item);
+        self.departures.add(self.opening.is_carried(), item);
+        self.members = members_with(self.opening, self.members, item);
+        self.opening = self.opening.with(item);
+    }
+
+    // Counts a record.
+    #[tactic(auto, unfolding(tap_log::specs::Kinds::core_name, tap_log::specs::Kinds::sent_number))]
+    fn count(&mut self, item: &Record)
+        requires { CountsWithin (u64.MAX - 1) self.old }
+        ensures { self.new ≡ record self.old {
+          core = self.old.core + cond (is_core item.now) 1 0;
+          frames = self.old.frames + cond (is_sent item.now) 1 0;
+          hops = max self.old.hops (hops_in item.now);
+          answered = self.old.answered + cond (finds_server item.now) 1 0;
+        } }
+    {
+        match item {
+            Record::Core { .. } => self.core += 1,
+            Record::Sent { .. } => self.frames += 1,
+            Record::Walked { path, .. } => self.hops = self.hops.max(path.len().saturating_sub(1)),
+            Record::Answered { server, .. } => self.answered += u64::from(server.is_some()),
+            _ => {}
         }
     }
 
@@ -85,46 +99,6 @@ fn begin_members(item: &Record) -> usize
 {
     match item {
         Record::Begin { members, .. } => members.len(),
-        _ => 0,
-    }
-}
-
-#[tactic(auto, unfolding(tap_log::specs::Kinds::core_name))]
-fn is_core(item: &Record) -> bool
-    ensures { result ≡ is_core item.now }
-{
-    match item {
-        Record::Core { .. } => true,
-        _ => false,
-    }
-}
-
-#[tactic(auto, unfolding(tap_log::specs::Kinds::sent_number))]
-fn is_sent(item: &Record) -> bool
-    ensures { result ≡ is_sent item.now }
-{
-    match item {
-        Record::Sent { .. } => true,
-        _ => false,
-    }
-}
-
-// Whether a lookup is answered with a server.
-fn finds_server(item: &Record) -> bool
-    ensures { result ≡ finds_server item.now }
-{
-    match item {
-        Record::Answered { server, .. } => server.is_some(),
-        _ => false,
-    }
-}
-
-// The hops of a walk, and 0 of another record.
-fn hops_in(item: &Record) -> usize
-    ensures { result ≡ hops_in item.now }
-{
-    match item {
-        Record::Walked { path, .. } => path.len().saturating_sub(1),
         _ => 0,
     }
 }

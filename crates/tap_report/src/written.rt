@@ -40,12 +40,3 @@ fn write_all<K: Sink>(sink: &mut K, text: &[u8]) -> Written
     }
     Written::All
 }
-
-// Pieces of a text are added to what was written so far.
-impl Written {
-    pub(crate) fn add<K: Sink>(&mut self, sink: &mut K, piece: &[u8])
-        ensures { WritesText (K.state sink.old) (K.state sink.new) piece.now self.old self.new }
-    {
-        *self = write_text(sink, *self, piece);
-    }
-}

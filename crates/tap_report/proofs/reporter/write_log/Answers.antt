@@ -3,7 +3,7 @@ use Rattle.std.proofs.lemmas.List.{take_all}
 use Rattle.tap_report.specs.Summary.{ending, numbers_of}
 use Rattle.tap_report.specs.Tally.{tally_after}
 use Rattle.tap_report.specs.Text.{ArePrintable, settings_after, settings_so_far, texts_after}
-use Rattle.tap_report.proofs.WritesLemmas.{◌⨾◌, WritesText-none, WritesText-then}
+use Rattle.tap_report.proofs.PrintsLemmas.{◌⨾◌, Prints-none, Prints-then, Prints-written}
 use Rattle.tap_report.proofs.TallyLemmas.{CountsWithin-after, tally_of-push}
 use Rattle.tap_report.proofs.TextLemmas.{ArePrintable-at, settings_so_far-push, take_next, texts_after-push}
 use Rattle.tap_report.proofs.reporter.write_log.Goals as goal
@@ -17,7 +17,7 @@ add_record-requires g c =
 
 pub loop-item-init : goal.loop-item-init
 loop-item-init g c = record {
-  text = WritesText-none _ _;
+  text = rw c.new-printer.ensures (Prints-none _ _);
   settings = refl;
   tally = c.new-tally.ensures;
   within = search rules;
@@ -31,7 +31,7 @@ loop-item-preserved g c =
     let was = c.loop-item.invariant in
     let first = take i records in
     let next = take_next records i item c.loop-item-test.true c.item-item.is in
-    rw (next, c.settings_with-settings.ensures, c.with-tally.ensures) (record {
+    rw (next, c.keep_settings.ensures, c.add.ensures) (record {
       text = rw (texts_after-push c.args.mode None first item) (was.text ⨾ rw was.settings at c.add_record.ensures);
       settings = ap (λ s. settings_after s item) was.settings ∙ sym (settings_so_far-push first item);
       tally = ap (λ t. tally_after t item) was.tally ∙ sym (tally_of-push first item);
@@ -46,5 +46,5 @@ returns g c =
     let mode = c.args.mode in
     let all : take c.loop-item.item-index records ≡ records = take_all c.loop-item.item-index records c.loop-item-test.false in
     let ends = rw (was.settings, was.tally) at c.add_ending.ensures in
-    rw (← c.as_slice-records.ensures) (rw all at
-    (WritesText-then {text = texts_after mode None first} {more = ending mode (settings_so_far first) (numbers_of first)} was.text ends))
+    let text = Prints-then {text = texts_after mode None first} {more = ending mode (settings_so_far first) (numbers_of first)} was.text ends in
+    rw (← c.as_slice-records.ensures) (rw all at (Prints-written refl text c.flush.ensures.prints c.flush.ensures.emptied))

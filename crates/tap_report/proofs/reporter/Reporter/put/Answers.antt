@@ -1,12 +1,17 @@
-use Rattle.std.proofs.Common.{refl}
+use Rattle.std.proofs.Common.{ap, refl}
+use Rattle.tap_report.specs.Printer.{PrinterValue}
+use Rattle.tap_report.proofs.PrintsLemmas.{Prints-written}
 use Rattle.tap_report.proofs.TallyLemmas.{CountsWithin-after}
 use Rattle.tap_report.proofs.reporter.Reporter.put.Goals as goal
 
 pub invariant_of-self : goal.invariant_of-self
-invariant_of-self g c =
-    rw c.with-self-inside.ensures (CountsWithin-after c.self.inside.records c.self.inside.tally c.args.item.now c.self.invariant)
+invariant_of-self g c = record {
+  counts = rw c.add.ensures (CountsWithin-after c.self.inside.records c.self.inside.tally c.args.item.now c.self.invariant.counts);
+  written = ap (λ (p : PrinterValue). p.waiting) c.flush-written.ensures.emptied;
+}
 
 pub returns : goal.returns
 returns g c =
-    rw (← c.self.view_is, c.settings_with-self-inside.ensures, c.with-self-inside.ensures)
-    (record { text = c.add_record.ensures; reporter = refl })
+    let text = Prints-written c.self.invariant.written c.add_record.ensures c.flush-written.ensures.prints c.flush-written.ensures.emptied in
+    rw (← c.self.view_is, c.keep_settings.ensures, c.add.ensures, c.flush-written.ensures.emptied)
+    (record { text = text; reporter = refl })

@@ -1,0 +1,6 @@
+use Rattle.tap_report.proofs.PrintsLemmas.{◌⨾◌}
+use Rattle.tap_report.proofs.printer.Printer.add_member.Goals as goal
+
+pub returns : goal.returns
+returns g c =
+    c.add_name_after.ensures ⨾ c.end_line.ensures

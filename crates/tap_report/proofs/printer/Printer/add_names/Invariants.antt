@@ -1,0 +1,9 @@
+use Rattle.std.proofs.Common.{take}
+use Rattle.std.specs.List.{flat_map}
+use Rattle.tap_report.specs.Printer.{Prints}
+use Rattle.tap_report.specs.Shapes.{spaced_name}
+use Rattle.tap_report.proofs.printer.Printer.add_names.Given as goal
+
+abbrev pub invariant-loop-name : goal.invariant-loop-name
+invariant-loop-name g l =
+    Prints (g.K.Sink.state l.fn.sink) (g.K.Sink.state l.sink) (flat_map spaced_name (take l.name-index l.names)) l.fn.self l.self

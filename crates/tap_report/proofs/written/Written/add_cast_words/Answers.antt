@@ -1,8 +1,0 @@
-use Rattle.tap_report.proofs.WritesLemmas.{◌⨾◌}
-use Rattle.tap_report.proofs.written.Written.add_cast_words.Goals as goal
-
-pub returns : goal.returns
-returns g c =
-    c.add.ensures ⨾ rw c.as_slice.ensures.value at c.add-2.ensures ⨾ c.add-3.ensures ⨾ rw c.as_bytes.ensures.value at c.add-4.ensures
-    ⨾ c.add-5.ensures ⨾ c.add_prefix.ensures ⨾ c.add-6.ensures ⨾ rw c.as_bytes-2.ensures.value at c.add-7.ensures
-    ⨾ c.add-8.ensures ⨾ c.add_name.ensures

@@ -1,4 +1,0 @@
-use Rattle.tap_report.proofs.written.Written.add_fault.Goals as goal
-
-pub returns-in-BadVersion : goal.returns-in-BadVersion
-returns-in-BadVersion g c = rw c.in-BadVersion.is c.add_number_after-in-BadVersion.ensures

@@ -1,9 +1,0 @@
-use Rattle.std.proofs.Common.{take}
-use Rattle.std.specs.List.{flat_map}
-use Rattle.tap_report.specs.Written.{WritesText}
-use Rattle.tap_report.specs.Shapes.{spaced_name}
-use Rattle.tap_report.proofs.written.Written.add_names.Given as goal
-
-abbrev pub invariant-loop-name : goal.invariant-loop-name
-invariant-loop-name g l =
-    WritesText (g.K.Sink.state l.fn.sink) (g.K.Sink.state l.sink) (flat_map spaced_name (take l.name-index l.names)) l.fn.self l.self

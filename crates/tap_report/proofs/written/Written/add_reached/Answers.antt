@@ -1,6 +1,0 @@
-use Rattle.tap_report.proofs.WritesLemmas.{◌⨾◌}
-use Rattle.tap_report.proofs.written.Written.add_reached.Goals as goal
-
-pub returns : goal.returns
-returns g c =
-    c.add_number_after.ensures ⨾ c.add_name_after.ensures

@@ -1,6 +1,0 @@
-use Rattle.tap_report.proofs.WritesLemmas.{◌⨾◌}
-use Rattle.tap_report.proofs.written.Written.add_roots.Goals as goal
-
-pub returns : goal.returns
-returns g c =
-    c.add_from.ensures ⨾ c.add.ensures ⨾ c.add_names.ensures

@@ -1,6 +1,0 @@
-use Rattle.tap_report.proofs.WritesLemmas.{◌⨾◌}
-use Rattle.tap_report.proofs.written.Written.add_step.Goals as goal
-
-pub returns : goal.returns
-returns g c =
-    c.add_number_after.ensures ⨾ c.add.ensures ⨾ c.add_step_text.ensures

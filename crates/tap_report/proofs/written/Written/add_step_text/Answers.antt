@@ -1,6 +1,0 @@
-use Rattle.tap_report.proofs.WritesLemmas.{◌⨾◌}
-use Rattle.tap_report.proofs.written.Written.add_step_text.Goals as goal
-
-pub returns : goal.returns
-returns g c =
-    rw (← c.words-words.ensures) (rw c.as_bytes.ensures.value at c.add.ensures ⨾ c.add_words_after.ensures)

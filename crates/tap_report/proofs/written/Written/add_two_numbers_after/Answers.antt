@@ -1,6 +1,0 @@
-use Rattle.tap_report.proofs.WritesLemmas.{◌⨾◌}
-use Rattle.tap_report.proofs.written.Written.add_two_numbers_after.Goals as goal
-
-pub returns : goal.returns
-returns g c =
-    c.add.ensures ⨾ c.add_number.ensures ⨾ c.add-2.ensures ⨾ c.add_number-2.ensures

@@ -1,6 +1,0 @@
-use Rattle.tap_report.proofs.WritesLemmas.{◌⨾◌}
-use Rattle.tap_report.proofs.written.Written.add_word.Goals as goal
-
-pub returns : goal.returns
-returns g c =
-    c.add.ensures ⨾ rw c.as_bytes.ensures.value at c.add-2.ensures
