@@ -1,17 +1,16 @@
 -- Members at rest under their names, as a loop makes them.
 use Rattle.std.proofs.Common.{◌≡◌, inl, inr, ℕ, ◌+◌, ◌<◌, Bool, cond, true, false, List, [], ◌∷◌, ◌++◌, length, take, get_or, Option, None, Some, refl, ap, sym, subst, ◌∙◌}
 use Rattle.std.specs.Prelude.{if◌then◌else◌, ◌||◌, bytes_eq}
-use Rattle.std.specs.BTreeMap.{BTreeMap, UpdatesBy}
 use Rattle.std.proofs.lemmas.Bool.{cases_Bool}
 use Rattle.std.proofs.lemmas.List.{take_more}
-use Rattle.std.proofs.lemmas.Map.Text.{is_eq-slice_cmp}
 use Rattle.std.proofs.lemmas.Slice.Eq.{bytes_eq-Decides}
 use Rattle.tap_name.specs.Names.{has_name}
-use Rattle.tap_name.specs.Order.{name_cmp}
 use Rattle.tap_name.specs.Settings.{SettingsValue}
 use Rattle.tap_rule.specs.Node.{member_at_rest, name_of, settings_of}
 use Rattle.tap_node.specs.Node.{NodeValue, running}
+use Rattle.indexmap.specs.IndexMap.{IndexMap, Updates}
 use Rattle.tap_overlay.specs.Overlay.{HaveOwnNames, IsNodeOf, member_at, node_among}
+use Rattle.tap_overlay.proofs.Found.{found_same}
 
 -- the member of a name as it is at rest, if it is one of those made so far
 abbrev pub made_at : SettingsValue → List (List ℕ) → List (List ℕ) → List ℕ → Option NodeValue
@@ -33,14 +32,16 @@ has_other [] last name e = rw e refl
 has_other (x ∷ xs) last name e = ap (λ (b : Bool). bytes_eq x name || b) (has_other xs last name e)
 
 -- one more member
-one_more : (p : SettingsValue) (members made : List (List ℕ)) (member : List ℕ) (before after : BTreeMap (List ℕ) NodeValue)
-    → UpdatesBy name_cmp (name_cmp member) before after (Some (running (member_at_rest p members member)))
+one_more : {S : Type 0} (p : SettingsValue) (members made : List (List ℕ)) (member : List ℕ)
+    (before after : IndexMap (List ℕ) NodeValue S)
+    → Updates bytes_eq before after member (Some (running (member_at_rest p members member)))
     → AreMade p members made before.entries → AreMade p members (made ++ member ∷ []) after.entries
 one_more p members made member before after updates so_far name =
     let node_is : List ℕ → NodeValue = λ n. running (member_at_rest p members n) in
     let chosen : Bool → Option NodeValue = λ b. cond b (Some (node_is member)) (node_among before.entries name) in
     let found : node_among after.entries name ≡ chosen (bytes_eq member name) =
-    updates.0 name ∙ ap chosen (is_eq-slice_cmp member name) in
+    sym (found_same after.entries name) ∙ updates.0 name
+    ∙ ap (λ (o : Option NodeValue). cond (bytes_eq member name) (Some (node_is member)) o) (found_same before.entries name) in
     let there : Bool → Option NodeValue = λ b. if b then Some (node_is name) else None in
     elim (cases_Bool (bytes_eq member name)) [
       | inl e ↦
@@ -50,16 +51,16 @@ one_more p members made member before after updates so_far name =
     ]
 
 -- the same by the member's place
-pub made_more : (p : SettingsValue) (members : List (List ℕ)) (i : ℕ) (member : List ℕ) (node : NodeValue)
-    (before after : BTreeMap (List ℕ) NodeValue) → i < length members → member ≡ get_or members i member
+pub made_more : {S : Type 0} (p : SettingsValue) (members : List (List ℕ)) (i : ℕ) (member : List ℕ) (node : NodeValue)
+    (before after : IndexMap (List ℕ) NodeValue S) → i < length members → member ≡ get_or members i member
     → node ≡ running (member_at_rest p members member)
-    → UpdatesBy name_cmp (name_cmp member) before after (Some node)
+    → Updates bytes_eq before after member (Some node)
     → AreMade p members (take i members) before.entries → AreMade p members (take (i + 1) members) after.entries
 made_more p members i member node before after within is rest updates so_far =
     let more : take (i + 1) members ≡ take i members ++ member ∷ [] =
     take_more members i member within ∙ ap (λ (x : List ℕ). take i members ++ x ∷ []) (sym is) in
     let Made : List (List ℕ) → Type 0 = λ names. AreMade p members names after.entries in
-    let Updated : NodeValue → Type 0 = λ n. UpdatesBy name_cmp (name_cmp member) before after (Some n) in
+    let Updated : NodeValue → Type 0 = λ n. Updates bytes_eq before after member (Some n) in
     subst Made (sym more) (one_more p members (take i members) member before after (subst Updated rest updates) so_far)
 
 -- each member has its own name

@@ -1,7 +1,8 @@
 -- A node that has come and has started its join.
 use Rattle.std.proofs.Common.{◌≡◌, ℕ, List, Some, Result, Ok, Err, ap, sym, subst, ◌∙◌}
-use Rattle.std.specs.Prelude.{◌≢◌, OnErr, OnOk}
-use Rattle.std.specs.BTreeMap.{BTreeMap, UpdatesBy}
+use Rattle.std.specs.Prelude.{◌≢◌, OnErr, OnOk, bytes_eq}
+use Rattle.std.specs.List.Sorted.{IsSorted}
+use Rattle.std.specs.Map.{keys_of}
 use Rattle.tap_name.specs.Order.{name_cmp}
 use Rattle.tap_name.specs.Settings.{SettingsValue}
 use Rattle.tap_rule.specs.Node.{joiner, name_of, settings_of}
@@ -11,7 +12,8 @@ use Rattle.tap_node.specs.declared.fault.NodeFault.TheVariants.{NoMemory}
 use Rattle.tap_node.specs.declared.turn.Turn.{Turn}
 use Rattle.tap_node.specs.Node.{NodeValue, running}
 use Rattle.tap_node.specs.Outcome.{AnswersAs, start_outcome, turn_made}
-use Rattle.tap_overlay.specs.Overlay.{ChangesOnly, HaveOwnNames, IsNodeOf}
+use Rattle.indexmap.specs.IndexMap.{IndexMap, Updates}
+use Rattle.tap_overlay.specs.Overlay.{AreNodesOf, ChangesOnly, IsNodeOf}
 use Rattle.tap_overlay.specs.Step.{HasJoined, joined}
 use Rattle.tap_overlay.proofs.Nodes.{changes_only, own_names}
 
@@ -19,7 +21,7 @@ use Rattle.tap_overlay.proofs.Nodes.{changes_only, own_names}
 one_turn : (given : Result Turn NodeFault) (a b : Turn) → given ≡ Ok a → given ≡ Ok b → a ≡ b
 one_turn given a b first second = cc
 
-module _ (p : SettingsValue) (name via : List ℕ) (before after : BTreeMap (List ℕ) NodeValue) (node is : NodeValue)
+module _ {S : Type 0} (p : SettingsValue) (name via : List ℕ) (before after : IndexMap (List ℕ) NodeValue S) (node is : NodeValue)
     (given : Result Turn NodeFault) (turn : Turn) (new : node ≡ running (joiner p name))
     (answers : AnswersAs (start_outcome node (Join via)) node given is) (given_is : given ≡ Ok turn) where
   -- memory wasn't refused
@@ -35,7 +37,7 @@ module _ (p : SettingsValue) (name via : List ℕ) (before after : BTreeMap (Lis
   node_is = answers.node served ∙ ap (λ (n : NodeValue). (start_outcome n (Join via)).node) new
 
   -- it is there, its join started
-  pub has_joined : UpdatesBy name_cmp (name_cmp name) before after (Some is)
+  pub has_joined : Updates bytes_eq before after name (Some is)
       → HasJoined p name via before.entries after.entries turn
   has_joined updates =
       let Of : NodeValue → Type 0 = λ n. ChangesOnly before.entries after.entries name n in
@@ -47,10 +49,13 @@ module _ (p : SettingsValue) (name via : List ℕ) (before after : BTreeMap (Lis
     settings_are = answers.settings ∙ ap (λ (n : NodeValue). settings_of n.state) new;
   }
 
-  -- each node has its own name, whether it has come or not
-  pub inserted_named : {T E : Type 0} (inserted : Result T E) → OnOk inserted (UpdatesBy name_cmp (name_cmp name) before after (Some is))
-      → OnErr inserted (after.entries ≡ before.entries) → HaveOwnNames p before.entries → HaveOwnNames p after.entries
-  inserted_named (Ok old) updates same own =
-      own_names p before.entries after.entries name is own (changes_only before after name is updates) named
-  inserted_named (Err refused) updates same own =
-      let Own : List (List ℕ × NodeValue) → Type 0 = λ nodes. HaveOwnNames p nodes in subst Own (sym same) own
+  -- the nodes still ascend, each under its own name, whether it has come or not
+  pub inserted_named : {T E : Type 0} (inserted : Result T E) → OnOk inserted (Updates bytes_eq before after name (Some is))
+      → OnOk inserted (IsSorted name_cmp (keys_of before.entries) → IsSorted name_cmp (keys_of after.entries))
+      → OnErr inserted (after.entries ≡ before.entries) → AreNodesOf p before.entries → AreNodesOf p after.entries
+  inserted_named (Ok old) updates sorted same nodes = record {
+    own = own_names p before.entries after.entries name is nodes.own (changes_only before after name is updates) named;
+    ascending = sorted nodes.ascending;
+  }
+  inserted_named (Err refused) updates sorted same nodes =
+      let Of : List (List ℕ × NodeValue) → Type 0 = λ l. AreNodesOf p l in subst Of (sym same) nodes

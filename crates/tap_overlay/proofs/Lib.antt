@@ -1,4 +1,5 @@
 pub mod AtRest
+pub mod Found
 pub mod Joined
 pub mod Nodes
 pub mod Stepped

@@ -1,14 +1,13 @@
 -- Nodes by name, before and after one of them changes.
 use Rattle.std.proofs.Common.{◌≡◌, inl, inr, ℕ, false, List, Some, sym, subst, ◌∙◌}
 use Rattle.std.specs.Prelude.{◌≢◌, bytes_eq}
-use Rattle.std.specs.BTreeMap.{BTreeMap, UpdatesBy}
 use Rattle.std.proofs.lemmas.Bool.{cases_Bool, true≢false}
-use Rattle.std.proofs.lemmas.Map.Text.{is_eq-slice_cmp}
 use Rattle.std.proofs.lemmas.Slice.Eq.{bytes_eq-Decides}
-use Rattle.tap_name.specs.Order.{name_cmp}
 use Rattle.tap_name.specs.Settings.{SettingsValue}
 use Rattle.tap_node.specs.Node.{NodeValue}
+use Rattle.indexmap.specs.IndexMap.{IndexMap, Updates}
 use Rattle.tap_overlay.specs.Overlay.{ChangesOnly, HaveOwnNames, IsNodeOf, node_among}
+use Rattle.tap_overlay.proofs.Found.{found_same}
 
 -- names that differ aren't one
 pub differ : (name other : List ℕ) → other ≢ name → bytes_eq name other ≡ false
@@ -19,11 +18,12 @@ differ name other apart =
     ]
 
 -- a map after one of its nodes has changed, or has come
-pub changes_only : (before after : BTreeMap (List ℕ) NodeValue) (name : List ℕ) (node : NodeValue)
-    → UpdatesBy name_cmp (name_cmp name) before after (Some node) → ChangesOnly before.entries after.entries name node
+pub changes_only : {S : Type 0} (before after : IndexMap (List ℕ) NodeValue S) (name : List ℕ) (node : NodeValue)
+    → Updates bytes_eq before after name (Some node) → ChangesOnly before.entries after.entries name node
 changes_only before after name node updates = record {
-  here = updates.1;
-  others = λ other apart. updates.2 other (is_eq-slice_cmp name other ∙ differ name other apart);
+  here = sym (found_same after.entries name) ∙ updates.1;
+  others = λ other apart.
+      sym (found_same after.entries other) ∙ updates.2 other (differ name other apart) ∙ found_same before.entries other;
 }
 
 -- the node that has changed has its name and the settings, so each node still has its own

@@ -2,8 +2,10 @@
 use Rattle.std.proofs.Common.{◌≡◌, ℕ, Bool, true, false, List, Option, None, Some, Result, Err, ap, refl, sym, subst, ◌∙◌}
 use Rattle.std.specs.Option.{IfSome, is_some, option_copied}
 use denote.Ref.{Bor}
-use Rattle.std.specs.BTreeMap.{BTreeMap, WritesThrough, is_at}
-use Rattle.std.specs.Map.{set_value}
+use Rattle.std.specs.Prelude.{bytes_eq}
+use Rattle.std.specs.List.Sorted.{IsSorted}
+use Rattle.std.specs.Map.{lookup, set_value}
+use Rattle.indexmap.specs.IndexMap.{IndexMap, WritesThrough}
 use Rattle.std.proofs.lemmas.Bool.{true≢false}
 use Rattle.std.proofs.lemmas.Map.Steps.{set_value_same}
 use Rattle.tap_name.specs.Order.{name_cmp}
@@ -14,10 +16,11 @@ use Rattle.tap_node.specs.Node.{NodeValue, has_room_left}
 use Rattle.tap_node.specs.Outcome.{AnswersAs, Outcome}
 use Rattle.tap_overlay.specs.declared.fault.OverlayFault.{OverlayFault}
 use Rattle.tap_overlay.specs.declared.fault.OverlayFault.TheVariants.{NoNode, NoRoom}
-use Rattle.tap_overlay.specs.Overlay.{HaveOwnNames, IsNodeOf, node_among}
+use Rattle.tap_overlay.specs.Overlay.{AreNodesOf, HaveOwnNames, IsNodeOf, node_among}
 use Rattle.tap_overlay.specs.declared.start.Start.{Start}
 use Rattle.tap_overlay.specs.Start.{MayStart}
 use Rattle.tap_overlay.specs.Step.{HasAnswered, HasStepped, IfRoom, StepsAt, answer_given}
+use Rattle.tap_overlay.proofs.Found.{found_same}
 use Rattle.tap_overlay.proofs.Nodes.{changes_only, own_names}
 
 -- without room the node is left as it was
@@ -36,24 +39,25 @@ with_room outcome node is answer free answers = record {
 }
 
 -- without a node of the name nothing changes
-pub without_node : (outcome : NodeValue → Outcome) (nodes : List (List ℕ × NodeValue)) (name : List ℕ)
-    → node_among nodes name ≡ None → StepsAt outcome nodes nodes name (Err NoNode)
-without_node outcome nodes name none = record {
-  absent = λ _. record { given_is = refl; same = refl };
-  there = λ node there. let wrong : None ≡ Some node = sym none ∙ there in absurd (cc);
+pub without_node : {S : Type 0} (outcome : NodeValue → Outcome) (before after : IndexMap (List ℕ) NodeValue S) (name : List ℕ)
+    → lookup (bytes_eq name) before.entries ≡ None → after ≡ before
+    → StepsAt outcome before.entries after.entries name (Err NoNode)
+without_node {S} outcome before after name none same = record {
+  absent = λ _. record { given_is = refl; same = ap (λ (m : IndexMap (List ℕ) NodeValue S). m.entries) same };
+  there = λ node there. let wrong : None ≡ Some node = sym none ∙ (found_same before.entries name ∙ there) in absurd (cc);
 }
 
 -- the node of the name has answered, and has been written back
-pub with_node : (outcome : NodeValue → Outcome) (before after : BTreeMap (List ℕ) NodeValue) (name : List ℕ) (node is : NodeValue)
-    (given : Result Turn OverlayFault) → node_among before.entries name ≡ Some node
-    → WritesThrough name_cmp (name_cmp name) before is after → IfRoom (outcome node) node is given
+pub with_node : {S : Type 0} (outcome : NodeValue → Outcome) (before after : IndexMap (List ℕ) NodeValue S) (name : List ℕ)
+    (node is : NodeValue) (given : Result Turn OverlayFault) → lookup (bytes_eq name) before.entries ≡ Some node
+    → WritesThrough bytes_eq (bytes_eq name) before is after → IfRoom (outcome node) node is given
     → StepsAt outcome before.entries after.entries name given
 with_node outcome before after name node is given there written step = record {
-  absent = λ none. let wrong : None ≡ Some node = sym none ∙ there in absurd (cc);
+  absent = λ none. let wrong : None ≡ Some node = sym none ∙ (sym (found_same before.entries name) ∙ there) in absurd (cc);
   there = λ other found.
-      let both : Some node ≡ Some other = sym there ∙ found in
+      let both : Some node ≡ Some other = sym there ∙ (found_same before.entries name ∙ found) in
       let same : node ≡ other = cc in
-      let test : List ℕ → Bool = is_at (name_cmp name) in
+      let test : List ℕ → Bool = bytes_eq name in
       let Of : NodeValue → Type 0 = λ n. HasStepped (outcome n) before.entries after.entries name n given in
       subst Of same (record {
         is = is;
@@ -79,19 +83,29 @@ stays_named p name outcome node is given step named = by_room (has_room_left nod
         }
 
 -- after a call each node has its own name
+own_stays : (p : SettingsValue) (outcome : NodeValue → Outcome) (before after : List (List ℕ × NodeValue)) (name : List ℕ)
+    (given : Result Turn OverlayFault) (node : NodeValue) → HaveOwnNames p before → node_among before name ≡ Some node
+    → HasStepped (outcome node) before after name node given → HaveOwnNames p after
+own_stays p outcome before after name given node own there stepped =
+    let named : IsNodeOf p name stepped.is =
+    stays_named p name (outcome node) node stepped.is given stepped.step (own name node there) in
+    own_names p before after name stepped.is own stepped.changes named
+
+-- after a call the nodes still ascend, each under its own name
 pub steps_named : (p : SettingsValue) (outcome : NodeValue → Outcome) (before after : List (List ℕ × NodeValue)) (name : List ℕ)
-    (given : Result Turn OverlayFault) → HaveOwnNames p before → StepsAt outcome before after name given → HaveOwnNames p after
-steps_named p outcome before after name given own steps = by_node (node_among before name) refl
+    (given : Result Turn OverlayFault) → AreNodesOf p before → StepsAt outcome before after name given → AreNodesOf p after
+steps_named p outcome before after name given nodes steps = by_node (node_among before name) refl
   where
-    by_node : (found : Option NodeValue) → node_among before name ≡ found → HaveOwnNames p after
+    by_node : (found : Option NodeValue) → node_among before name ≡ found → AreNodesOf p after
     by_node None none =
-        let Own : List (List ℕ × NodeValue) → Type 0 = λ nodes. HaveOwnNames p nodes in
-        subst Own (sym (steps.absent none).same) own
+        let Of : List (List ℕ × NodeValue) → Type 0 = λ l. AreNodesOf p l in subst Of (sym (steps.absent none).same) nodes
     by_node (Some node) there =
         let stepped : HasStepped (outcome node) before after name node given = steps.there node there in
-        let named : IsNodeOf p name stepped.is =
-        stays_named p name (outcome node) node stepped.is given stepped.step (own name node there) in
-        own_names p before after name stepped.is own stepped.changes named
+        let Ascend : List (List ℕ) → Type 0 = λ names. IsSorted name_cmp names in
+        record {
+          own = own_stays p outcome before after name given node nodes.own there stepped;
+          ascending = subst Ascend (sym stepped.names) nodes.ascending;
+        }
 
 -- what holds of a node that is found holds of the node of the name
 pub of_found : (P : NodeValue → Type 0) (nodes : List (List ℕ × NodeValue)) (name : List ℕ) (node other : NodeValue)
@@ -107,6 +121,6 @@ may_start own p start node same may = let May : SettingsValue → Type 0 = λ q.
 
 -- a node that is lent has its name and the settings
 pub lent_named : (p : SettingsValue) (nodes : List (List ℕ × NodeValue)) (name : List ℕ) (lent : Option (Bor NodeValue))
-    → HaveOwnNames p nodes → option_copied lent ≡ node_among nodes name → IfSome lent (λ node. IsNodeOf p name node.now)
-lent_named p nodes name None own is = tt
-lent_named p nodes name (Some node) own is = own name node.now (sym is)
+    → AreNodesOf p nodes → option_copied lent ≡ lookup (bytes_eq name) nodes → IfSome lent (λ node. IsNodeOf p name node.now)
+lent_named p nodes name None of is = tt
+lent_named p nodes name (Some node) of is = of.own name node.now (sym (found_same nodes name) ∙ sym is)

@@ -3,7 +3,8 @@
 -- Rule: docs/PROTOCOL.md, "Nodes".
 use Rattle.std.specs.Prelude.{◌≡◌, ◌≢◌, ℕ, Bool, true, false, if◌then◌else◌, List, Option, None, Some, option_and_then}
 use Rattle.std.specs.BTreeMap.{is_at}
-use Rattle.std.specs.Map.{lookup}
+use Rattle.std.specs.List.Sorted.{IsSorted}
+use Rattle.std.specs.Map.{keys_of, lookup}
 use Rattle.tap_name.specs.Names.{has_name}
 use Rattle.tap_name.specs.Order.{name_cmp}
 use Rattle.tap_name.specs.Settings.{SettingsValue}
@@ -36,6 +37,11 @@ pub record IsNodeOf (p : SettingsValue) (name : List ℕ) (node : NodeValue) : T
 -- the node under each name has that name
 abbrev pub HaveOwnNames : SettingsValue → List (List ℕ × NodeValue) → Type 0
 HaveOwnNames p nodes = (name : List ℕ) (node : NodeValue) → node_among nodes name ≡ Some node → IsNodeOf p name node
+
+-- the nodes ascend by name, and the node under each name has that name
+pub record AreNodesOf (p : SettingsValue) (nodes : List (List ℕ × NodeValue)) : Type 0 where
+  pub own : HaveOwnNames p nodes
+  pub ascending : IsSorted name_cmp (keys_of nodes)
 
 -- ---- at rest
 

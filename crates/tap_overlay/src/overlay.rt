@@ -1,5 +1,5 @@
 ghost use Rattle.std.specs.Prelude.{◌≡◌, ◌==◌, ◌≤◌, ℕ, List, None, Err, length, All, IfOk, IfSome, OnErr};
-ghost use Rattle.std.specs.List.Sorted.{IsStrictlySortedBy};
+ghost use Rattle.std.specs.List.Sorted.{IsSorted, IsStrictlySortedBy};
 ghost use Rattle.std.specs.Map.{keys_of};
 ghost use Rattle.std.specs.Option.{ForSome, option_copied};
 ghost use Rattle.tap_name.specs.Distinct.{AreDistinct};
@@ -11,8 +11,8 @@ ghost use Rattle.tap_node.specs.Outcome.{MayWant, start_outcome, take_outcome};
 use crate::fault::OverlayFault;
 use crate::start::Start;
 use crate::step::{start_at, take_at};
+use indexmap::IndexMap;
 use std::alloc::Global;
-use std::collections::BTreeMap;
 use std::marker::Model;
 use tap_name::{List, Name, Settings};
 use tap_node::{NoMemory, Node, NodeFault, NodeStatus, Turn};
@@ -24,24 +24,24 @@ use tap_table::Table;
 ///
 /// Contracts see the settings, and the nodes with their names, ascending by name.
 ///
-/// The nodes lie in an ordered map, so a node is found and added in time that grows with the logarithm of their number.
+/// The nodes lie in the order of their names, and a node is found by the hash of its name.
 ///
 /// Rule: docs/PROTOCOL.md, "Nodes".
 #[derive(Drop)]
 pub struct Overlay {
     alloc: Global,
     settings: Settings,
-    nodes: BTreeMap<Name, Node>,
+    nodes: IndexMap<Name, Node>,
 }
 
 impl Model for Overlay {
-    ghost use Rattle.tap_overlay.specs.Overlay.{HaveOwnNames, OverlayValue};
+    ghost use Rattle.tap_overlay.specs.Overlay.{AreNodesOf, OverlayValue};
 
     ghost Value = { OverlayValue };
 
     ghost view = { λ o. record { settings = o.settings; nodes = o.nodes.entries } };
 
-    ghost invariant = { λ o. HaveOwnNames o.settings o.nodes.entries };
+    ghost invariant = { λ o. AreNodesOf o.settings o.nodes.entries };
 }
 
 impl Overlay {
@@ -110,7 +110,7 @@ impl Overlay {
         let mut node = Node::joiner(self.alloc, name, &self.settings)?;
         match node.seek_by(via) {
             Ok(turn) => {
-                self.nodes.insert(name, node)?;
+                self.nodes.insert_sorted(name, node)?;
                 Ok(turn)
             }
             Err(_) => Err(NoMemory),
@@ -158,11 +158,11 @@ impl Tables for Overlay {
     }
 
     fn table_of(&self, name: Name) -> Option<&Table> {
-        self.nodes.get(&name)?.table()
+        self.node(&name)?.table()
     }
 
     fn is_core(&self, name: Name) -> bool {
-        match self.nodes.get(&name) {
+        match self.node(&name) {
             Some(node) => is_core_status(node.status()),
             None => false,
         }
@@ -184,16 +184,17 @@ fn members_at_rest(
     alloc: Global,
     settings: &Settings,
     members: &List<Name>,
-) -> Result<BTreeMap<Name, Node>, NoMemory>
+) -> Result<IndexMap<Name, Node>, NoMemory>
     requires names { All (IsName settings.now) members.now }
     requires distinct { AreDistinct members.now }
     requires few { length members.now ≤ 256 }
-    ensures { IfOk result (λ nodes. (name : List ℕ) → node_among nodes.entries name ≡ member_at settings.now members.now name) }
+    ensures members { IfOk result (λ nodes. (name : List ℕ) → node_among nodes.entries name ≡ member_at settings.now members.now name) }
+    ensures ascending { IfOk result (λ nodes. IsSorted name_cmp (keys_of nodes.entries)) }
 {
-    let mut nodes = BTreeMap::new(alloc);
+    let mut nodes = IndexMap::new(alloc);
     for member in members.as_slice() {
         let node = Node::member(alloc, *member, settings, members)?;
-        nodes.insert(*member, node)?;
+        nodes.insert_sorted(*member, node)?;
     }
     Ok(nodes)
 }

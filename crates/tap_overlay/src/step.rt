@@ -9,13 +9,13 @@ ghost use Rattle.tap_overlay.specs.Step.{IfRoom, StepsAt, answer_given};
 
 use crate::fault::OverlayFault;
 use crate::start::Start;
-use std::collections::BTreeMap;
+use indexmap::IndexMap;
 use tap_name::Name;
 use tap_node::{Node, NodeFault, Turn};
 
 // The node of a name takes a frame.
 pub(crate) fn take_at(
-    nodes: &mut BTreeMap<Name, Node>,
+    nodes: &mut IndexMap<Name, Node>,
     name: &Name,
     bytes: &[u8],
 ) -> Result<Turn, OverlayFault>
@@ -30,7 +30,7 @@ pub(crate) fn take_at(
 
 // The node of a name starts something.
 pub(crate) fn start_at(
-    nodes: &mut BTreeMap<Name, Node>,
+    nodes: &mut IndexMap<Name, Node>,
     name: &Name,
     start: &Start<'_>,
 ) -> Result<Turn, OverlayFault>

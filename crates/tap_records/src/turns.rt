@@ -1,4 +1,4 @@
-ghost use Rattle.std.specs.Prelude.{◌≡◌, ◌≤◌, ◌+◌, ◌<◌, ◌^◌, ◌++◌, length, OnOk};
+ghost use Rattle.std.specs.Prelude.{◌≡◌, ◌≤◌, ◌+◌, ◌<◌, ◌^◌, ◌++◌, ◌∷◌, [], length, OnOk};
 ghost use Rattle.tap_log.specs.Laws.{at_most_one};
 ghost use Rattle.tap_records.specs.Seen.{bytes_records, seen_after, seen_before, turn_records};
 
@@ -7,36 +7,44 @@ use tap_name::Name;
 use tap_node::{News, Turn};
 use tap_wire::Bytes;
 
-// The record of news that stands before the frames of a turn, if one does.
+// Adds a record to a group.
+fn add(group: &mut Vec<Record>, item: Record) -> Result<(), NoMemory>
+    ensures { OnOk result (group.new.items ≡ group.old.items ++ item ∷ []) }
+{
+    group.push(item)?;
+    Ok(())
+}
+
+// Adds the record of news that stands before the frames of a turn, if one does.
 #[tactic(auto, unfolding(tap_course::specs::Acts::news_before))]
-fn news_before(name: Name, news: &News) -> Option<Record>
-    ensures { at_most_one result ≡ seen_before name news.now }
+fn add_before(group: &mut Vec<Record>, name: Name, news: &News) -> Result<(), NoMemory>
+    ensures { OnOk result (group.new.items ≡ group.old.items ++ seen_before name news.now) }
 {
     match *news {
-        News::Core => Some(Record::Core { name }),
-        News::Gone => Some(Record::Gone { name }),
+        News::Core => add(group, Record::Core { name }),
+        News::Gone => add(group, Record::Gone { name }),
         News::Cast {
             cast,
             reached: true,
             ..
-        } => Some(Record::Reached { cast, name }),
-        News::Nothing | News::Answered { .. } | News::Cast { .. } => None,
+        } => add(group, Record::Reached { cast, name }),
+        News::Nothing | News::Answered { .. } | News::Cast { .. } => Ok(()),
     }
 }
 
-// The one that stands after them.
+// Adds the one that stands after them.
 #[tactic(auto, unfolding(tap_course::specs::Acts::news_after))]
-fn news_after(news: &News) -> Option<Record>
-    ensures { at_most_one result ≡ seen_after news.now }
+fn add_after(group: &mut Vec<Record>, news: &News) -> Result<(), NoMemory>
+    ensures { OnOk result (group.new.items ≡ group.old.items ++ seen_after news.now) }
 {
     match *news {
-        News::Answered { ticket, server } => Some(Record::Answered { ticket, server }),
+        News::Answered { ticket, server } => add(group, Record::Answered { ticket, server }),
         News::Cast {
             cast,
             closed: true,
             ..
-        } => Some(Record::Closed { cast }),
-        News::Nothing | News::Core | News::Gone | News::Cast { .. } => None,
+        } => add(group, Record::Closed { cast }),
+        News::Nothing | News::Core | News::Gone | News::Cast { .. } => Ok(()),
     }
 }
 
@@ -46,10 +54,10 @@ fn news_after(news: &News) -> Option<Record>
 pub fn add_some(group: &mut Vec<Record>, item: Option<Record>) -> Result<(), NoMemory>
     ensures { OnOk result (group.new.items ≡ group.old.items ++ at_most_one item) }
 {
-    if let Some(item) = item {
-        group.push(item)?;
+    match item {
+        Some(item) => add(group, item),
+        None => Ok(()),
     }
-    Ok(())
 }
 
 // Adds the frames of a step, numbered from this number on.
@@ -75,9 +83,8 @@ pub fn add_turn(group: &mut Vec<Record>, first: u32, name: Name, turn: Turn) -> 
     requires { first + length turn.sent < 2 ^ 32 }
     ensures { OnOk result (group.new.items ≡ group.old.items ++ turn_records first name turn) }
 {
-    let before = news_before(name, &turn.news);
-    let after = news_after(&turn.news);
-    add_some(group, before)?;
-    add_frames(group, first, turn.sent.into_frames())?;
-    add_some(group, after)
+    let Turn { sent, news } = turn;
+    add_before(group, name, &news)?;
+    add_frames(group, first, sent.into_frames())?;
+    add_after(group, &news)
 }

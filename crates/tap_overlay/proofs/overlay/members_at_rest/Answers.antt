@@ -12,5 +12,9 @@ pub loop-member-preserved : goal.loop-member-preserved
 loop-member-preserved c =
     let within = rw c.as_slice-member-items.ensures at c.loop-member-test.true in
     let item = rw c.as_slice-member-items.ensures at c.member-item.is in
-    made_more c.args.settings.now c.args.members.now c.loop-member.member-index c.member-item.result c.in_ok-node.node
-    c.loop-member.nodes c.insert.new.self within item c.in_ok-node.ensures c.in_ok-insert.ensures.updates c.loop-member.invariant
+    let call = c.in_ok-insert_sorted.ensures in
+    record {
+      made = made_more c.args.settings.now c.args.members.now c.loop-member.member-index c.member-item.result c.in_ok-node.node
+          c.loop-member.nodes c.insert_sorted.new.self within item c.in_ok-node.ensures call.updates c.loop-member.invariant.made;
+      ascending = call.sorted c.loop-member.invariant.ascending;
+    }

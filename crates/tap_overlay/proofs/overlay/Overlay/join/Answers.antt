@@ -3,20 +3,20 @@ use Rattle.tap_overlay.proofs.overlay.Overlay.join.Goals as goal
 
 pub invariant_of-self-in-Ok : goal.invariant_of-self-in-Ok
 invariant_of-self-in-Ok c =
-    let call = c.insert.ensures in
-    inserted_named c.self.inside.settings c.args.name c.args.via c.self.inside.nodes c.insert.new.self c.in_ok-node.node
-    c.seek_by.new.self c.seek_by.result c.in-Ok.turn c.in_ok-node.ensures c.seek_by.ensures c.in-Ok.is c.insert.result call.updates
-    call.err c.self.invariant
+    let call = c.insert_sorted.ensures in
+    inserted_named c.self.inside.settings c.args.name c.args.via c.self.inside.nodes c.insert_sorted.new.self c.in_ok-node.node
+    c.seek_by.new.self c.seek_by.result c.in-Ok.turn c.in_ok-node.ensures c.seek_by.ensures c.in-Ok.is c.insert_sorted.result call.updates
+    call.sorted call.err c.self.invariant
 
-pub returns-in_ok-insert-in-Ok-clause-joined : goal.returns-in_ok-insert-in-Ok-clause-joined
-returns-in_ok-insert-in-Ok-clause-joined c =
+pub returns-in_ok-insert_sorted-in-Ok-clause-joined : goal.returns-in_ok-insert_sorted-in-Ok-clause-joined
+returns-in_ok-insert_sorted-in-Ok-clause-joined c =
     rw (← c.self.view_is)
-    (has_joined c.self.inside.settings c.args.name c.args.via c.self.inside.nodes c.insert.new.self c.in_ok-node.node c.seek_by.new.self
-    c.seek_by.result c.in-Ok.turn c.in_ok-node.ensures c.seek_by.ensures c.in-Ok.is c.in_ok-insert-in-Ok.ensures.updates)
+    (has_joined c.self.inside.settings c.args.name c.args.via c.self.inside.nodes c.insert_sorted.new.self c.in_ok-node.node c.seek_by.new.self
+    c.seek_by.result c.in-Ok.turn c.in_ok-node.ensures c.seek_by.ensures c.in-Ok.is c.in_ok-insert_sorted-in-Ok.ensures.updates)
 
 pub invariant_of-self : goal.invariant_of-self
 invariant_of-self c =
-    let call = c.insert.ensures in
-    inserted_named c.self.inside.settings c.args.name c.args.via c.self.inside.nodes c.insert.new.self c.in_ok-node.node
-    c.seek_by.new.self c.seek_by.result c.in-Ok.turn c.in_ok-node.ensures c.seek_by.ensures c.in-Ok.is c.insert.result call.updates
-    call.err c.self.invariant
+    let call = c.insert_sorted.ensures in
+    inserted_named c.self.inside.settings c.args.name c.args.via c.self.inside.nodes c.insert_sorted.new.self c.in_ok-node.node
+    c.seek_by.new.self c.seek_by.result c.in-Ok.turn c.in_ok-node.ensures c.seek_by.ensures c.in-Ok.is c.insert_sorted.result call.updates
+    call.sorted call.err c.self.invariant
