@@ -6,4 +6,5 @@ pub mod Damage
 pub mod Group
 pub mod Named
 pub mod Course
+pub mod Groups
 pub mod Laws

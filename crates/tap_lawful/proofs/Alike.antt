@@ -13,7 +13,8 @@ use Rattle.tap_history.proofs.Parts.{log_is_groups}
 use Rattle.tap_course.specs.Beginning.{begin_record}
 use Rattle.tap_course.specs.Course.{system_of}
 use Rattle.tap_course.specs.Group.{step_records}
-use Rattle.tap_lawful.specs.Next.{begun_count, group_after, next_step, step_group, taken_group}
+use Rattle.tap_lawful.specs.Next.{begun_count, group_after, next_step}
+use Rattle.tap_course.specs.Groups.{step_group, taken_group}
 use Rattle.tap_lawful.specs.Lawful.{ComesNext, IsPlayed}
 use Rattle.tap_lawful.specs.Laws.{BeginsAlike}
 use Rattle.tap_lawful.proofs.Coming.{BeginsNext, TakesDue, coming}

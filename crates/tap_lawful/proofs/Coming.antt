@@ -19,7 +19,8 @@ use Rattle.tap_course.specs.Starts.{start_of_step}
 use Rattle.tap_course.specs.Group.{accepted_records, records_unless, step_records}
 use Rattle.tap_course.specs.Course.{FollowStep, Follows, IsRefused, MayFollow, is_choice, system_of}
 use Rattle.tap_lawful.specs.Due.{number_due, place_due}
-use Rattle.tap_lawful.specs.Next.{beginning_in, begun_count, group_after, next_step, step_group, taken_group}
+use Rattle.tap_lawful.specs.Next.{beginning_in, begun_count, group_after, next_step}
+use Rattle.tap_course.specs.Groups.{step_group, taken_group}
 use Rattle.tap_lawful.specs.Lawful.{ComesNext}
 
 -- ---- what comes next

@@ -17,7 +17,8 @@ use Rattle.tap_course.specs.Course.{MayFollow, system_of}
 use Rattle.tap_course.proofs.Frames.{none_of}
 use Rattle.tap_course.proofs.Within.{Within, step_within, taken_within}
 use Rattle.tap_lawful.specs.Due.{number_due}
-use Rattle.tap_lawful.specs.Next.{beginning_in, begun_count, group_after, next_group, next_step, step_group, taken_group}
+use Rattle.tap_lawful.specs.Next.{beginning_in, begun_count, group_after, next_group, next_step}
+use Rattle.tap_course.specs.Groups.{step_group, taken_group}
 use Rattle.tap_lawful.specs.Lawful.{ComesNext, IsPlayed}
 use Rattle.tap_lawful.specs.Laws.{index_of}
 use Rattle.tap_lawful.proofs.Coming.{coming, comes_may}

@@ -1,30 +1,19 @@
 -- Which group comes next in the run of a scenario.
 --
 -- Rule: docs/FORMATS.md, "What comes next".
-use Rattle.std.specs.Prelude.{ℕ, ◌+◌, List, ◌∷◌, length, slice_get, Option, None, Some}
+use Rattle.std.specs.Prelude.{ℕ, ◌+◌, List, length, slice_get, Option, None, Some}
 use Rattle.std.specs.Option.{option_map}
-use Rattle.tap_name.specs.Settings.{SettingsValue}
 use Rattle.tap_scenario.specs.declared.step.Step.{Step}
 use Rattle.tap_scenario.specs.Scenario.{ScenarioValue}
 use Rattle.tap_log.specs.declared.record.Record.{Record}
-use Rattle.tap_log.specs.declared.record.Record.TheVariants.{Step as StepRecord, Taken}
 use Rattle.tap_log.specs.Log.{begun_steps}
 use Rattle.tap_course.specs.Beginning.{Beginning}
-use Rattle.tap_course.specs.Course.{system_of}
-use Rattle.tap_course.specs.Group.{step_records, taken_records}
+use Rattle.tap_course.specs.Groups.{step_group, taken_group}
 use Rattle.tap_lawful.specs.Due.{number_due}
 
 -- with what the log of a scenario's run begins
 abbrev pub beginning_in : ScenarioValue → Beginning
 beginning_in s = record { settings = s.settings; frames = s.frames; members = s.members }
-
--- the group of the step with this index: it, and what the refusals and the rule of a node give
-abbrev pub step_group : SettingsValue → List Record → ℕ → Step → List Record
-step_group p log index step = StepRecord index step ∷ step_records p log (system_of log) index step
-
--- the group of the frame of this number that is taken: it, and what its receiver does
-abbrev pub taken_group : SettingsValue → List Record → ℕ → List Record
-taken_group p log number = Taken number ∷ taken_records p log (system_of log) number
 
 -- how many steps were begun, the step that is begun next, and its group
 abbrev pub begun_count : List Record → ℕ
