@@ -1,4 +1,4 @@
--- Each log of a run begins as its scenario does, with the scenario's first steps; and one that isn't over has the headline.
+-- Each log of a run begins as its scenario does, with the scenario's first steps, and has the headline, also if the run is over.
 use Rattle.std.proofs.Common.{◌≡◌, inl, inr, ℕ, zero, suc, ◌+◌, List, [], ◌∷◌, ◌++◌, length, take, Some, refl, ap, sym, subst, ◌∙◌, arith, append-nil, length-append}
 use Rattle.std.specs.Prelude.{slice_get}
 use Rattle.std.proofs.lemmas.List.Elements.{filter_map-append}
@@ -11,19 +11,16 @@ use Rattle.tap_log.specs.Log.{begun_steps}
 use Rattle.tap_history.specs.Groups.{groups_of, records_of}
 use Rattle.tap_history.proofs.Parts.{log_is_groups}
 use Rattle.tap_course.specs.Beginning.{begin_record}
-use Rattle.tap_lawful.specs.Next.{beginning_in, begun_count, step_group, taken_group}
+use Rattle.tap_lawful.specs.Next.{beginning_in, begun_count}
+use Rattle.tap_course.specs.Groups.{step_group, taken_group}
 use Rattle.tap_lawful.specs.Lawful.{IsFinished, IsPlayed, IsSpent, step_alone}
 use Rattle.tap_lawful.proofs.Coming.{coming}
 use Rattle.tap_lawful.proofs.Steps.{played_steps}
+use Rattle.tap_safe_course.specs.Headline.{HasHeadline}
+use Rattle.tap_safe_course.specs.Safe.{IsRun}
+use Rattle.tap_safe_course.proofs.Headline.{ended_logs_have_headline}
 use Rattle.tap_safe_course.proofs.Lawful.{lawful_logs_are_safe}
 use Rattle.tap_headline.specs.Headline.{FollowsScript, LogsFollowScripts, LogsHaveHeadline}
-
-pub logs_have_headline : LogsHaveHeadline
-logs_have_headline s log valid played = record {
-  hole_free = λ m moment. lawful_logs_are_safe.hole_free s log m valid played moment;
-  walks = λ m moment. lawful_logs_are_safe.walks s log m valid played moment;
-  rest = λ m moment. lawful_logs_are_safe.rest s log m valid played moment;
-}
 
 -- ---- a run that isn't over
 
@@ -104,5 +101,36 @@ logs_follow_scripts s log run =
       | inr over ↦ elim over [
         | inl finished ↦ finished_follows s run.played log follows finished
         | inr spent ↦ spent_follows s run.played log follows spent
+      ]
+    ]
+
+-- ---- the headline
+
+-- what stands alone of the group that would send too many frames, and then `Spent`, keeps it
+spent_has : (s : ScenarioValue) (played log : List Record) → IsRun (beginning_in s) played → IsSpent s played log → HasHeadline s.settings log
+spent_has s played log run over =
+    let Ends : List Record → Type 0 = λ alone. HasHeadline s.settings (played ++ (alone ++ Spent s.frames ∷ [])) in
+    subst (HasHeadline s.settings) (sym over.log_is) (
+    elim (coming s played over.group over.next) [
+      | inl takes ↦
+          subst Ends (sym (taken_alone s played takes.number) ∙ ap step_alone takes.is)
+          (ended_logs_have_headline.spent (beginning_in s) played s.frames run)
+      | inr begins ↦
+          let index = begun_count played + 1 in
+          subst Ends (sym (begun_alone s played index begins.step) ∙ ap step_alone begins.is)
+          (ended_logs_have_headline.cut (beginning_in s) played index begins.step s.frames run)
+    ]
+    )
+
+pub logs_have_headline : LogsHaveHeadline
+logs_have_headline s log valid of =
+    let run = lawful_logs_are_safe.runs s of.played valid of.is_played in
+    elim of.ending [
+      | inl same ↦ subst (HasHeadline s.settings) (sym same) (lawful_logs_are_safe.headline s of.played valid of.is_played)
+      | inr over ↦ elim over [
+        | inl finished ↦
+            subst (HasHeadline s.settings) (sym finished.log_is)
+            (ended_logs_have_headline.finished (beginning_in s) of.played (length s.steps) run)
+        | inr spent ↦ spent_has s of.played log run spent
       ]
     ]

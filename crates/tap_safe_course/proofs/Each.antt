@@ -1,5 +1,5 @@
 -- What each group of a run says, after the records before it.
-use Rattle.std.proofs.Common.{false, List, [], ◌∷◌, ◌++◌, sym, subst}
+use Rattle.std.proofs.Common.{List, [], ◌∷◌, ◌++◌, sym, subst}
 use Rattle.std.proofs.lemmas.List.Elements.{All-head}
 use Rattle.tap_scenario.specs.declared.step.Step.TheVariants.{Root, Walk}
 use Rattle.tap_log.specs.declared.record.Record.{Record}

@@ -1,4 +1,4 @@
--- The log of a run of a scenario is a run, as its steps are the scenario's; so what holds of runs holds of it.
+-- The log of a run of a scenario is a run, as its steps are the scenario's; so it has the headline.
 use Rattle.std.proofs.Common.{List, All, get_or, sym, subst}
 use Rattle.std.proofs.lemmas.List.Elements.{All-take}
 use Rattle.tap_scenario.specs.Scenario.{IsScript, ScenarioValue}
@@ -11,7 +11,7 @@ use Rattle.tap_lawful.proofs.Played.{played_course}
 use Rattle.tap_lawful.proofs.Steps.{played_steps}
 use Rattle.tap_safe_course.specs.Safe.{IsRun}
 use Rattle.tap_safe_course.specs.Lawful.{LawfulLogsAreSafe}
-use Rattle.tap_safe_course.proofs.Moments.{all_core_at, no_hole_at, walks_end_at}
+use Rattle.tap_safe_course.proofs.Headline.{run_has_headline}
 
 -- its steps are the scenario's first ones, whose names are names of the settings
 played_run : (s : ScenarioValue) (log : List Record) → IsScript s → IsPlayed s log → IsRun (beginning_in s) log
@@ -26,7 +26,5 @@ played_run s log valid played = record {
 pub lawful_logs_are_safe : LawfulLogsAreSafe
 lawful_logs_are_safe = record {
   runs = played_run;
-  hole_free = λ s log m valid played. no_hole_at (beginning_in s) log m (played_run s log valid played);
-  walks = λ s log m valid played. walks_end_at (beginning_in s) log m (played_run s log valid played);
-  rest = λ s log m valid played. all_core_at (beginning_in s) log m (played_run s log valid played);
+  headline = λ s log valid played. run_has_headline (beginning_in s) log (played_run s log valid played);
 }

@@ -10,4 +10,7 @@ pub mod Moments
 pub mod Printed
 pub mod Taken
 pub mod Each
+pub mod Alone
+pub mod Ended
+pub mod Headline
 pub mod Lawful

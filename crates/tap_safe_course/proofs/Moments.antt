@@ -3,7 +3,7 @@ use Rattle.std.proofs.Common.{◌≡◌, inl, inr, ℕ, true, false, not, List, 
 use Rattle.std.specs.Prelude.{◌&&◌, ◌||◌}
 use Rattle.std.specs.Option.{option_map}
 use Rattle.std.proofs.lemmas.Bool.{and_parts}
-use Rattle.tap_name.specs.Names.{has_name}
+use Rattle.tap_name.specs.Names.{Among, has_name}
 use Rattle.tap_name.specs.Settings.{SettingsValue}
 use Rattle.tap_name.proofs.Membership.{has_name-Decides}
 use Rattle.tap_session.specs.Session.{Session}
@@ -34,7 +34,7 @@ use Rattle.tap_invariant.specs.Sound.{Sound}
 use Rattle.tap_invariant.specs.Walks.{AreCoreNames}
 use Rattle.tap_invariant.proofs.Consequences.{nothing_is_left}
 use Rattle.tap_invariant.proofs.Walks.{tables_hole_free, walks_lead}
-use Rattle.tap_safe_course.specs.Moments.{AtEachMoment, HasNoHole, IsAllCore, RestIsAllCore, WalksEndAtRoots}
+use Rattle.tap_safe_course.specs.Moments.{AtEachMoment, HasCoreNodes, HasNoHole, IsAllCore, RestIsAllCore, WalksEndAtRoots}
 use Rattle.tap_safe_course.specs.Safe.{IsRun}
 use Rattle.tap_safe_course.proofs.Groups.{is_told}
 use Rattle.tap_safe_course.proofs.Safe.{runs_are_sound, run_at_moment}
@@ -118,8 +118,14 @@ module _ (b : Beginning) (log : List Record) (run : IsRun b log) where
     λ core. (has_name-Decides (core_of log) x).0 (nodes.core x ∙ core_said s x core),
   )
 
+  -- there is a core node, so a core name
+  pub some_core : HasCoreNodes p log
+  some_core none =
+      let has = sound.invariant.basis.has_core in
+      subst (Among has.name) none ((core_names has.name).1 has.core)
+
   -- no table has a hole
-  no_hole : HasNoHole p log
+  pub no_hole : HasNoHole p log
   no_hole = tables_hole_free p s (core_of log) sound core_names
 
   -- each walk leads to the root
@@ -179,7 +185,7 @@ module _ (b : Beginning) (log : List Record) (run : IsRun b log) where
     }
 
   -- at rest no frame is under way
-  rest_is_all_core : RestIsAllCore p log
+  pub rest_is_all_core : RestIsAllCore p log
   rest_is_all_core rest =
       let still = (and_parts (is_still log) (not (is_carried log) || (is_none (under_way log) && is_none (awaiting log))) rest).0 in
       let frames = course_frames_holds b log run.course run.going in
@@ -187,7 +193,10 @@ module _ (b : Beginning) (log : List Record) (run : IsRun b log) where
 
 -- ---- each moment
 
--- the three laws: at a moment a run is a run
+-- the laws: at a moment a run is a run
+pub core_nodes_at : AtEachMoment HasCoreNodes
+core_nodes_at b log m run is = some_core b (take m log) (run_at_moment b log m run is)
+
 pub no_hole_at : AtEachMoment HasNoHole
 no_hole_at b log m run is = no_hole b (take m log) (run_at_moment b log m run is)
 

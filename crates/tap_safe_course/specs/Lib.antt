@@ -4,4 +4,5 @@ pub mod Moments
 pub mod Printed
 pub mod Taken
 pub mod Each
+pub mod Headline
 pub mod Lawful

@@ -1,7 +1,7 @@
 -- What holds at each moment of a run, in the words of its log.
 --
 -- Rule: docs/FORMATS.md, "The course of a run".
-use Rattle.std.specs.Prelude.{◌≡◌, ℕ, true, List, take, None, Some}
+use Rattle.std.specs.Prelude.{◌≡◌, ◌≢◌, ℕ, true, List, [], take, None, Some}
 use Rattle.tap_name.specs.Name.{IsName}
 use Rattle.tap_name.specs.Names.{Among, has_name}
 use Rattle.tap_name.specs.Settings.{SettingsValue}
@@ -31,6 +31,10 @@ tables_of log = core_links (nodes_of (system_of log))
 -- this holds of the log of each run, up to each of its moments
 abbrev pub AtEachMoment : (SettingsValue → List Record → Type 0) → Type 0
 AtEachMoment Holds = (b : Beginning) (log : List Record) (m : ℕ) → IsRun b log → is_moment log m ≡ true → Holds b.settings (take m log)
+
+-- there is a core node
+abbrev pub HasCoreNodes : SettingsValue → List Record → Type 0
+HasCoreNodes p log = core_of log ≢ []
 
 -- no core node's table has a hole that another core node could fill
 abbrev pub HasNoHole : SettingsValue → List Record → Type 0

@@ -2,7 +2,6 @@
 --
 -- Rule: docs/FORMATS.md, "The course of a run".
 use Rattle.std.specs.Prelude.{◌≡◌, false, List, Some}
-use Rattle.tap_name.specs.Settings.{SettingsValue}
 use Rattle.tap_log.specs.declared.record.Record.{Record}
 use Rattle.tap_history.specs.Groups.{is_ended}
 use Rattle.tap_safety.specs.Invariant.{Basis}

@@ -1,6 +1,7 @@
 ghost use Rattle.tap_safe_course.specs.Each.{GroupsAreRight};
+ghost use Rattle.tap_safe_course.specs.Headline.{EndedLogsHaveHeadline};
 ghost use Rattle.tap_safe_course.specs.Lawful.{LawfulLogsAreSafe};
-ghost use Rattle.tap_safe_course.specs.Moments.{AtEachMoment, HasNoHole, RestIsAllCore, WalksEndAtRoots};
+ghost use Rattle.tap_safe_course.specs.Moments.{AtEachMoment, HasCoreNodes, HasNoHole, RestIsAllCore, WalksEndAtRoots};
 ghost use Rattle.tap_safe_course.specs.Moves.{GroupMayMove};
 ghost use Rattle.tap_safe_course.specs.Printed.{RootsAreFound, WalksAreToRoots};
 ghost use Rattle.tap_safe_course.specs.Safe.{RunsAreSound, RunsGrow};
@@ -43,6 +44,15 @@ pub fn sound_runs_law()
 /// Rule: docs/FORMATS.md, "The course of a run".
 pub fn taken_law()
     ensures { FramesAreReceived }
+{}
+
+/// At each moment of a run there is a core node.
+///
+/// It does nothing: its contract is the law.
+///
+/// Rule: docs/FORMATS.md, "The course of a run".
+pub fn core_law()
+    ensures { AtEachMoment HasCoreNodes }
 {}
 
 /// At each moment of a run no core node's table has a hole that another core node could fill.
@@ -95,12 +105,22 @@ pub fn each_group_law()
     ensures { GroupsAreRight }
 {}
 
-/// The log of a run of a scenario, however far it has come, is a run. So at each of its moments no core node's table has a hole that another
-/// core node could fill, each walk from a core node leads to the one root of its object, and at rest each node that is present is core.
+/// The log of a run of a scenario, however far it has come, is a run. So it has the headline.
 ///
 /// It does nothing: its contract is the law.
 ///
 /// Rule: docs/FORMATS.md, "What comes next" and "The course of a run".
 pub fn lawful_logs_law()
     ensures { LawfulLogsAreSafe }
+{}
+
+/// At each of its moments the log of a run has the headline: there is a core node, no core node's table has a hole that another core node
+/// could fill, each walk from a core node leads to the one root of its object, and at rest each node that is present is core. So it is too
+/// once how the run has ended stands after it, or a step that is refused and whose refusal doesn't stand there yet: this changes no node.
+///
+/// It does nothing: its contract is the law.
+///
+/// Rule: docs/FORMATS.md, "The course of a run" and "The ways a run ends".
+pub fn ended_logs_law()
+    ensures { EndedLogsHaveHeadline }
 {}
