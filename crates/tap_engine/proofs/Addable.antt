@@ -187,19 +187,6 @@ limit_fits b limits =
     let few = few_frames b.settings.digits in
     omega (arith, most, few)
 
-few_below : (digits : ℕ) → most_sent digits < most_frames
-few_below digits = by_long (nat_le digits 8)
-  where
-    by_long : (short : Bool) → (if short then 500000 else 100000) < most_frames
-    by_long true = omega arith
-    by_long false = omega arith
-
-pub limit_below : (b : Beginning) → IsWithinLimits b → b.frames < most_frames
-limit_below b limits =
-    let most = limits.frames_to in
-    let few = few_below b.settings.digits in
-    omega (arith, most, few)
-
 -- ---- what may be added
 
 -- a group that may follow

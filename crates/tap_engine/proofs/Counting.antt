@@ -1,5 +1,5 @@
 -- How many frames the records of a turn send, and that they may be added.
-use Rattle.std.proofs.Common.{◌≡◌, ℕ, ◌+◌, ◌-◌, ◌<◌, ◌≤◌, nat_lt, Bool, true, false, not, Result, Ok, Err, List, [], ◌∷◌, ◌++◌, length, Option, None, Some, refl, ap, sym, subst, ◌∙◌, arith}
+use Rattle.std.proofs.Common.{◌≡◌, ℕ, ◌+◌, ◌-◌, ◌≤◌, nat_lt, Bool, true, false, not, Result, Ok, Err, List, [], ◌∷◌, ◌++◌, length, Option, None, Some, refl, ap, sym, subst, ◌∙◌, arith}
 use Rattle.std.specs.List.{cons_option}
 use Rattle.std.specs.Prelude.{if◌then◌else◌}
 use Rattle.std.proofs.lemmas.Bool.{le-leb, lt-leb, ltb-false, ltb-true}
@@ -26,8 +26,7 @@ use Rattle.tap_engine.specs.declared.stop.Stop.{Stop}
 use Rattle.tap_engine.specs.declared.stop.Stop.TheVariants.{NoMemory, Spent as IsSpent}
 use Rattle.tap_engine.specs.declared.engine.Acted.{Acted}
 use Rattle.tap_engine.specs.declared.engine.Engine.{Engine}
-use Rattle.tap_engine.proofs.Unheeding.{unheeded_most}
-use Rattle.tap_engine.proofs.Addable.{group_fits, limit_below, limit_fits, spent_fits}
+use Rattle.tap_engine.proofs.Addable.{group_fits, limit_fits, spent_fits}
 use Rattle.tap_engine.proofs.Courses.{sent_within}
 use Rattle.tap_engine.proofs.Keeping.{on, seen}
 use Rattle.tap_engine.proofs.Steps.{follows_within}
@@ -187,12 +186,3 @@ room_left m ready =
     let room = (ready.kept.go_on refl).room ready.unfinished in
     let one = room_one (last_of m.ledger.records) in
     omega (arith, room, one)
-
--- and frames that were taken to no effect are far fewer than numbers
-pub few_unheeded : (m : Engine) → AreReady m → m.unheeded < most_frames
-few_unheeded m ready =
-    let goes = on m ready in
-    let most = unheeded_most (seen m).beginning m.ledger.records goes.course goes.going in
-    let below = limit_below (seen m).beginning goes.course.limits in
-    let is = ready.kept.unheeded_is in
-    omega (arith, most, below, is)

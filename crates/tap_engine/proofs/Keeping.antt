@@ -20,12 +20,11 @@ use Rattle.tap_course.specs.Course.{IsCourse, is_choice, system_of}
 use Rattle.tap_course.proofs.Departing.{course_nodes_holds}
 use Rattle.tap_overlay.specs.Law.{HasNodesOf}
 use Rattle.tap_overlay.specs.Overlay.{OverlayValue, node_at}
-use Rattle.tap_engine.specs.Kept.{AreKept, AreReady, GoOn, LeadTo, room_kept, room_of_record, world_value}
+use Rattle.tap_engine.specs.Kept.{AreKept, AreReady, GoesOn, LeadsTo, room_kept, room_of_record, world_value}
 use Rattle.tap_course.specs.Named.{HasNames, HaveNames}
 use Rattle.tap_engine.specs.Kinds.{is_finished}
 use Rattle.tap_engine.specs.Laws.{left_by}
 use Rattle.tap_engine.specs.Outcome.{IsNextIndex, Outcome, adds, refuses}
-use Rattle.tap_engine.specs.Unheeded.{unheeded_by, unheeded_count}
 use Rattle.tap_engine.specs.Working.{StillHas}
 use Rattle.tap_engine.specs.World.{WorldValue}
 use Rattle.tap_engine.specs.WorldLog.{HasGoneTo, HasIndices, IsWorldLog}
@@ -35,15 +34,14 @@ use Rattle.tap_engine.specs.declared.stop.Stop.TheVariants.{NoMemory, Refused}
 use Rattle.tap_engine.proofs.Courses.{course_begun, members_more}
 use Rattle.tap_engine.proofs.Grown.{end_names, end_system, pending_system, step_names}
 use Rattle.tap_engine.proofs.Named.{named_more, nothing_named, step_named}
-use Rattle.tap_engine.proofs.Unheeding.{step_heeded, unheeded_stays}
-use Rattle.tap_engine.proofs.WorldLogs.{GoesOn, goes_on, refuses_log, short_log}
+use Rattle.tap_engine.proofs.WorldLogs.{IsAtCourse, goes_on, refuses_log, short_log}
 
 -- ---- an engine that is ready
 
 abbrev pub seen : Engine → WorldValue
 seen engine = world_value engine None false
 
-pub on : (engine : Engine) → AreReady engine → GoesOn (seen engine)
+pub on : (engine : Engine) → AreReady engine → IsAtCourse (seen engine)
 on engine ready = goes_on (seen engine) ready.kept.log (record { noted = refl; unfinished = ready.unfinished }) refl
 
 pub begun : (engine : Engine) → AreReady engine → 1 ≤ length engine.ledger.records
@@ -109,7 +107,7 @@ room_two (Some item) = omega arith
 
 -- an engine whose log is a course goes on, if its nodes are those of its system and there is room for two more records
 pub course_goes_on : (engine : Engine) (b : Beginning) → IsCourse b engine.ledger.records → is_ended engine.ledger.records ≡ false
-    → HasNodesOf (system_of engine.ledger.records) engine.overlay → 2 ≤ engine.ledger.spare → GoOn engine
+    → HasNodesOf (system_of engine.ledger.records) engine.overlay → 2 ≤ engine.ledger.spare → GoesOn engine
 course_goes_on engine b course going nodes two = record {
   nodes = nodes;
   ever = (course_nodes_holds b engine.ledger.records course going).ever;
@@ -128,35 +126,27 @@ grown_named before after more grown theirs named =
 pub record SaysSame (log more : List Record) : Type 0 where
   pub names : names_of (log ++ more) ≡ names_of log
   pub system : system_of (log ++ more) ≡ system_of log
-  pub unheeded : unheeded_count (log ++ more) ≡ unheeded_count log
 
 pending_same : (b : Beginning) (log : List Record) (index : ℕ) (step : Step) (refusal : Refusal) → IsCourse b log
     → is_ended log ≡ false → first_refusal log step ≡ Some refusal → SaysSame log (StepRecord index step ∷ [])
 pending_same b log index step refusal course going is = record {
   names = step_names log index step;
   system = pending_system b log course going index step refusal is;
-  unheeded = unheeded_stays log (StepRecord index step) (step_heeded log index step);
 }
-
-finish_heeded : (log : List Record) (steps : ℕ) → unheeded_count (log ++ Finished steps ∷ []) ≡ unheeded_count log
-unfolding unheeded_by
-finish_heeded log steps = unheeded_stays log (Finished steps) refl
 
 pub end_same : (b : Beginning) (log : List Record) (steps : ℕ) → IsCourse b log → is_ended log ≡ false
     → SaysSame log (Finished steps ∷ [])
 end_same b log steps course going = record {
   names = end_names b log course going steps;
   system = end_system b log course going steps;
-  unheeded = finish_heeded log steps;
 }
 
 -- an engine with the same nodes, whose log says the same, keeps what it kept
 pub kept_same : (before after : Engine) (more : List Record) (refused : Option Refusal) → AreReady before → HasGrown before after more
     → SaysSame before.ledger.records more → HaveNames before.settings more → after.overlay ≡ before.overlay
-    → after.unheeded ≡ before.unheeded
     → (is_finished after.ledger.records ≡ false → room_kept (last_of after.ledger.records) ≤ after.ledger.spare)
     → IsWorldLog (world_value after refused false) → AreKept after refused false
-kept_same before after more refused ready grown same named overlay unheeded room log =
+kept_same before after more refused ready grown same named overlay room log =
     let was = ready.kept in
     let on_before = was.go_on refl in
     let names : names_of after.ledger.records ≡ names_of before.ledger.records = ap names_of grown.log ∙ same.names in
@@ -167,7 +157,6 @@ kept_same before after more refused ready grown same named overlay unheeded room
       settings = ap (λ o. o.settings) overlay ∙ was.settings ∙ sym grown.settings;
       present = λ name is.
           ap (λ o. is_some (node_at o name)) overlay ∙ was.present name (sym (ap (λ l. has_name l name) names) ∙ is);
-      unheeded_is = unheeded ∙ was.unheeded_is ∙ sym (ap unheeded_count grown.log ∙ same.unheeded);
       go_on = λ runs. record {
         nodes = record {
           nodes_are = λ name.
@@ -181,16 +170,16 @@ kept_same before after more refused ready grown same named overlay unheeded room
 -- ---- a step that is refused
 
 pub kept_pending : (before after : Engine) (index : ℕ) (step : Step) (refusal : Refusal) → (ready : AreReady before)
-    → HasGrown before after (StepRecord index step ∷ []) → after.overlay ≡ before.overlay → after.unheeded ≡ before.unheeded
+    → HasGrown before after (StepRecord index step ∷ []) → after.overlay ≡ before.overlay
     → 2 ≤ after.ledger.spare → IsNextIndex (seen before) index → first_refusal before.ledger.records step ≡ Some refusal
     → is_choice step ≡ false → HasNames before.settings step → AreKept after (Some refusal) false
-kept_pending before after index step refusal ready grown overlay unheeded two next is unchosen named =
+kept_pending before after index step refusal ready grown overlay two next is unchosen named =
     let goes = on before ready in
     let more = StepRecord index step ∷ [] in
     kept_same before after more (Some refusal) ready grown
     (pending_same (seen before).beginning before.ledger.records index step refusal goes.course goes.going is)
     (step_named before.settings index step [] named (All-nil (λ item. step_of item ≡ None)))
-    overlay unheeded (λ unfinished. let few = room_two (last_of after.ledger.records) in omega (arith, few, two))
+    overlay (λ unfinished. let few = room_two (last_of after.ledger.records) in omega (arith, few, two))
     (grown_log before after more (Some refusal) false ready grown
     (refuses_log (seen before) (seen before).nodes goes index step next refusal is unchosen))
 
@@ -198,10 +187,9 @@ kept_pending before after index step refusal ready grown overlay unheeded two ne
 
 pub kept_stopped : (before after : Engine) (more : List Record) → AreReady before → HasGrown before after more
     → names_of (before.ledger.records ++ more) ≡ names_of before.ledger.records
-    → unheeded_count (before.ledger.records ++ more) ≡ unheeded_count before.ledger.records
-    → StillHas before.overlay after.overlay → after.unheeded ≡ before.unheeded → HaveNames before.settings more
+    → StillHas before.overlay after.overlay → HaveNames before.settings more
     → IsWorldLog (world_value after None true) → AreKept after None true
-kept_stopped before after more ready grown names heeded still unheeded named log =
+kept_stopped before after more ready grown names still named log =
     let was = ready.kept in
     record {
       log = log;
@@ -209,7 +197,6 @@ kept_stopped before after more ready grown names heeded still unheeded named log
       settings = still.settings ∙ was.settings ∙ sym grown.settings;
       present = λ name is.
           still.there name (was.present name (sym (ap (λ l. has_name (names_of l) name) grown.log ∙ ap (λ l. has_name l name) names) ∙ is));
-      unheeded_is = unheeded ∙ was.unheeded_is ∙ sym (ap unheeded_count grown.log ∙ heeded);
       go_on = λ runs. absurd (cc);
     }
 
@@ -221,12 +208,12 @@ none_more before after settings frames log =
     record { settings = settings; frames = frames; log = log ∙ sym (append-nil before.ledger.records) }
 
 pub kept_short : (before after : Engine) → AreReady before → after.settings ≡ before.settings → after.frames ≡ before.frames
-    → after.ledger.records ≡ before.ledger.records → StillHas before.overlay after.overlay → after.unheeded ≡ before.unheeded
+    → after.ledger.records ≡ before.ledger.records → StillHas before.overlay after.overlay
     → AreKept after None true
-kept_short before after ready settings frames log still unheeded =
+kept_short before after ready settings frames log still =
     let same = sym (append-nil before.ledger.records) in
     let grown = none_more before after settings frames log in
-    kept_stopped before after [] ready grown (ap names_of (sym same)) (ap unheeded_count (sym same)) still unheeded
+    kept_stopped before after [] ready grown (ap names_of (sym same)) still
     (nothing_named before.settings)
     (as_log (record (seen before) { stopped = true }) (world_value after None true)
     (same_beginning before after [] (begun before ready) grown) log refl refl (short_log (seen before) (seen before).nodes (on before ready)))
@@ -243,7 +230,7 @@ all_still o o' same = record {
 pub done : (outcome : Outcome) (before : Engine) (given : Result (Unit {0}) Stop) (after : Engine) → given ≢ Err NoMemory
     → given ≡ outcome.answer → after.ledger.records ≡ outcome.log → AreKept after outcome.refused outcome.stopped
     → ((refusal : Refusal) → given ≡ Err (Refused refusal) → after.overlay ≡ before.overlay)
-    → after.settings ≡ before.settings → after.frames ≡ before.frames → LeadTo outcome before given after
+    → after.settings ≡ before.settings → after.frames ≡ before.frames → LeadsTo outcome before given after
 done outcome before given after other answer log kept nodes settings frames = record {
   answer = λ _. answer;
   log = λ _. log;
@@ -257,14 +244,14 @@ done outcome before given after other answer log kept nodes settings frames = re
 
 -- and one that was
 pub wanting : (outcome : Outcome) (before after : Engine) → AreReady before → after.settings ≡ before.settings → after.frames ≡ before.frames
-    → after.ledger.records ≡ before.ledger.records → StillHas before.overlay after.overlay → after.unheeded ≡ before.unheeded
-    → LeadTo outcome before (Err NoMemory) after
-wanting outcome before after ready settings frames log still unheeded = record {
+    → after.ledger.records ≡ before.ledger.records → StillHas before.overlay after.overlay
+    → LeadsTo outcome before (Err NoMemory) after
+wanting outcome before after ready settings frames log still = record {
   answer = λ other. absurd (other refl);
   log = λ other. absurd (other refl);
   kept = λ other. absurd (other refl);
   same = λ _. log;
-  short = λ _. kept_short before after ready settings frames log still unheeded;
+  short = λ _. kept_short before after ready settings frames log still;
   nodes = λ refusal is. absurd (cc);
   settings = settings;
   frames = frames;
@@ -272,11 +259,11 @@ wanting outcome before after ready settings frames log still unheeded = record {
 
 -- a step that is refused
 pub refused_leads : (before after : Engine) (index : ℕ) (step : Step) (refusal : Refusal) → (ready : AreReady before)
-    → HasGrown before after (StepRecord index step ∷ []) → after.overlay ≡ before.overlay → after.unheeded ≡ before.unheeded
+    → HasGrown before after (StepRecord index step ∷ []) → after.overlay ≡ before.overlay
     → 2 ≤ after.ledger.spare → IsNextIndex (seen before) index → first_refusal before.ledger.records step ≡ Some refusal
     → is_choice step ≡ false → HasNames before.settings step
-    → LeadTo (refuses (seen before) index step refusal) before (Err (Refused refusal)) after
-refused_leads before after index step refusal ready grown overlay unheeded two next is unchosen named =
+    → LeadsTo (refuses (seen before) index step refusal) before (Err (Refused refusal)) after
+refused_leads before after index step refusal ready grown overlay two next is unchosen named =
     done (refuses (seen before) index step refusal) before (Err (Refused refusal)) after (λ never. cc) refl grown.log
-    (kept_pending before after index step refusal ready grown overlay unheeded two next is unchosen named) (λ _ _. overlay) grown.settings
+    (kept_pending before after index step refusal ready grown overlay two next is unchosen named) (λ _ _. overlay) grown.settings
     grown.frames

@@ -1,9 +1,7 @@
 -- Where each call leads: the group that it has added, and the nodes then.
 use Rattle.std.proofs.Common.{◌≡◌, ◌≢◌, ◌⊎◌, inl, inr, ℕ, ◌+◌, ◌<◌, ◌≤◌, IfSome, Bool, true, false, List, [], ◌∷◌, ◌++◌, slice_get, All, Option, None, Some, Result, Ok, Err, refl, ap, sym, subst, ◌∙◌, arith, append-nil, append_assoc}
-use Rattle.std.specs.Prelude.{bytes_eq, if◌then◌else◌}
-use Rattle.std.specs.Option.{option_map, option_zip}
-use Rattle.std.proofs.lemmas.Bool.{cases_Bool, le-leb}
-use Rattle.std.proofs.lemmas.Slice.Eq.{bytes_eq-Decides}
+use Rattle.std.specs.Prelude.{if◌then◌else◌}
+use Rattle.std.specs.Option.{option_zip}
 use Rattle.std.proofs.lemmas.List.Elements.{All-cons, All-nil}
 use Rattle.tap_name.specs.Settings.{SettingsValue}
 use Rattle.tap_scenario.specs.declared.step.Step.{Step}
@@ -14,30 +12,26 @@ use Rattle.tap_log.specs.declared.record.Record.{Record}
 use Rattle.tap_log.specs.declared.record.Record.TheVariants.{Spent, Step as StepRecord, Taken}
 use Rattle.tap_log.specs.declared.record.Refusal.{Refusal}
 use Rattle.tap_log.specs.Counts.{sent_count}
-use Rattle.tap_log.specs.Kinds.{sent_number, step_of}
+use Rattle.tap_log.specs.Kinds.{step_of}
 use Rattle.tap_log.specs.Laws.{at_most_one}
 use Rattle.tap_log.specs.Log.{last_of}
-use Rattle.tap_log.proofs.Growing.{sent_count-append}
 use Rattle.tap_history.specs.Groups.{is_ended}
 use Rattle.tap_history.specs.Moments.{has_number, outstanding}
 use Rattle.tap_history.specs.Names.{names_of}
 use Rattle.tap_history.specs.Refusals.{first_refusal}
 use Rattle.tap_history.specs.Steps.{actor_of, is_start}
 use Rattle.tap_rule.specs.Act.{act}
-use Rattle.tap_rule.specs.Event.{Acted as RuleActed, Event, Start as Begun}
-use Rattle.tap_rule.specs.Event.News.{Nothing as NothingNew}
+use Rattle.tap_rule.specs.Event.{Event, Start as Begun}
 use Rattle.tap_rule.specs.Event.Event.{Starts, Takes}
 use Rattle.tap_rule.specs.Event.Start.{Join as Joins, Abandon as GivesUp, Publish as Publishes, Withdraw as Withdraws, Find as Finds, Leave as Leaves, Cast as Casts}
 use Rattle.tap_rule.specs.Node.{NodeState, joiner, settings_of}
-use Rattle.tap_rule.specs.Strange.{is_strange}
-use Rattle.tap_rule.proofs.CarriedOut.{strange_law}
 use Rattle.tap_node.specs.Node.{running}
 use Rattle.tap_safety.specs.Move.{Move}
 use Rattle.tap_safety.specs.Move.Move.{Begins, Delivers}
 use Rattle.tap_safety.specs.Moved.{moved, numbered_frame, starter}
 use Rattle.tap_safety.specs.Step.{with_at}
 use Rattle.tap_safety.specs.System.{System}
-use Rattle.tap_course.specs.Acts.{acted_records, news_after, news_before, sent_records}
+use Rattle.tap_course.specs.Acts.{acted_records}
 use Rattle.tap_course.specs.Beginning.{Beginning}
 use Rattle.tap_course.specs.Course.{FollowStep, Follows, IsCourse, MayFollow, is_choice, move_of_group, move_of_start, moved_by, system_of}
 use Rattle.tap_course.specs.Damage.{damage_record}
@@ -51,32 +45,28 @@ use Rattle.tap_course.proofs.Within.{IsStarting, Within, step_kind, step_within,
 use Rattle.tap_overlay.specs.Law.{HasNodesOf}
 use Rattle.tap_overlay.specs.Overlay.{ChangesOnly, OverlayValue}
 use Rattle.tap_overlay.proofs.Systems.{same_changes}
-use Rattle.tap_ledger.specs.Added.{CanAdd}
-use Rattle.tap_engine.proofs.Addable.{group_fits}
-use Rattle.tap_engine.specs.Kept.{AreKept, AreReady, LeadTo}
+use Rattle.tap_engine.specs.Kept.{AreKept, AreReady, LeadsTo}
 use Rattle.tap_course.specs.Named.{HasNames, HaveNames}
 use Rattle.tap_engine.specs.Kinds.{damages, is_finished, last_index, observes}
 use Rattle.tap_engine.specs.Laws.{left_by}
-use Rattle.tap_engine.specs.Outcome.{IsNextIndex, Outcome, adds, adds_within, is_within, spends, step_group, taken_group, takes_number, unless_refused}
+use Rattle.tap_engine.specs.Outcome.{IsNextIndex, Outcome, adds, adds_within, is_within, spends, takes_number, unless_refused}
+use Rattle.tap_course.specs.Groups.{step_group, taken_group}
 use Rattle.tap_records.specs.Seen.{turn_records}
-use Rattle.tap_engine.specs.Unheeded.{unheeded_at, unheeded_by, unheeded_count, unheeded_frame}
 use Rattle.tap_engine.specs.Working.{HasActed, HasBegunAt, HasHeeded, HasTakenAt, LogsAs, StillHas}
 use Rattle.tap_engine.specs.World.{WorldValue}
 use Rattle.tap_engine.specs.WorldLog.{IsWorldLog}
 use Rattle.tap_engine.specs.declared.engine.Acted.{Acted}
 use Rattle.tap_engine.specs.declared.engine.Engine.{Engine}
 use Rattle.tap_engine.specs.declared.stop.Stop.{Stop}
-use Rattle.tap_engine.specs.declared.stop.Stop.TheVariants.{NoMemory, Refused, Spent as IsSpent}
-use Rattle.tap_engine.proofs.Courses.{sent_within}
+use Rattle.tap_engine.specs.declared.stop.Stop.TheVariants.{NoMemory, Refused}
 use Rattle.tap_engine.proofs.Grown.{spent_names, step_names}
-use Rattle.tap_engine.proofs.Keeping.{HasGrown, all_still, as_log, begun, course_goes_on, done, grown_log, grown_named, kept_same, kept_short, kept_stopped, on, room_two, same_beginning, seen, there}
+use Rattle.tap_engine.proofs.Keeping.{HasGrown, as_log, begun, course_goes_on, done, grown_log, grown_named, kept_same, kept_short, kept_stopped, on, room_two, same_beginning, seen, there}
 use Rattle.tap_engine.proofs.Indices.{indices_stay}
 use Rattle.tap_course.proofs.Named.{step_has_names}
 use Rattle.tap_engine.proofs.Named.{nothing_named, spent_named, step_named, unbegun_named}
 use Rattle.tap_engine.proofs.Steps.{at_none, follows_within, no_choice, number_there, quiet_within, step_may, taken_may}
 use Rattle.tap_engine.proofs.Taking.{sound}
 use Rattle.tap_records.proofs.TurnRecords.{turns_are_told}
-use Rattle.tap_engine.proofs.Unheeding.{step_heeded, unheeded_group, unheeded_stays}
 use Rattle.tap_engine.proofs.WorldLogs.{adds_log, over_log, takes_over, within_log}
 
 -- ---- a whole group
@@ -84,13 +74,11 @@ use Rattle.tap_engine.proofs.WorldLogs.{adds_log, over_log, takes_over, within_l
 -- an engine that has added a whole group keeps what a world keeps
 pub kept_group : (before after : Engine) (first : Record) (items : List Record) → (ready : AreReady before)
     → HasGrown before after (first ∷ items) → (follows : Follows (seen before).beginning before.ledger.records (first ∷ items))
-    → All Within items
     → HasNodesOf (moved_by before.settings (system_of before.ledger.records) (move_of_group before.ledger.records (first ∷ items))) after.overlay
     → after.overlay.settings ≡ before.overlay.settings
-    → after.unheeded ≡ before.unheeded + unheeded_by before.ledger.records first → 2 ≤ after.ledger.spare
-    → HaveNames before.settings (first ∷ items)
+    → 2 ≤ after.ledger.spare → HaveNames before.settings (first ∷ items)
     → IsWorldLog (left_by (seen before) (adds (seen before) (first ∷ items)) (seen before).nodes) → AreKept after None false
-kept_group before after first items ready grows follows within nodes settings unheeded two named log =
+kept_group before after first items ready grows follows nodes settings two named log =
     let b = (seen before).beginning in
     let goes = on before ready in
     let was = before.ledger.records in
@@ -99,14 +87,11 @@ kept_group before after first items ready grows follows within nodes settings un
     let system : system_of after.ledger.records ≡ moved_by before.settings (system_of was) (move_of_group was (first ∷ items)) =
     ap system_of grows.log ∙ grown_system b was (first ∷ items) goes.course goes.going follows in
     let go_on = course_goes_on after b course going (subst (λ s. HasNodesOf s after.overlay) (sym system) nodes) two in
-    let count = ap unheeded_count grows.log ∙ unheeded_group was first items within in
-    let heeded = ready.kept.unheeded_is in
     record {
       log = grown_log before after (first ∷ items) None false ready grows log;
       named = grown_named before after (first ∷ items) grows named ready.kept.named;
       settings = settings ∙ ready.kept.settings ∙ sym grows.settings;
       present = there after.ledger.records after.overlay go_on.ever go_on.nodes;
-      unheeded_is = let now : after.unheeded ≡ unheeded_count after.ledger.records = omega (arith, unheeded, count, heeded) in now;
       go_on = λ runs. go_on;
     }
 
@@ -114,14 +99,14 @@ kept_group before after first items ready grows follows within nodes settings un
 
 -- an engine whose log has more room is ready as it was
 pub still_ready : (before after : Engine) → AreReady before → after.settings ≡ before.settings → after.frames ≡ before.frames
-    → after.ledger.records ≡ before.ledger.records → after.overlay ≡ before.overlay → after.unheeded ≡ before.unheeded
+    → after.ledger.records ≡ before.ledger.records → after.overlay ≡ before.overlay
     → 2 ≤ after.ledger.spare → AreReady after
-still_ready before after ready settings frames log overlay unheeded two =
+still_ready before after ready settings frames log overlay two =
     let same = append-nil before.ledger.records in
     let grows : HasGrown before after [] = record { settings = settings; frames = frames; log = log ∙ sym same } in
     record {
-      kept = kept_same before after [] None ready grows (record { names = ap names_of same; system = ap system_of same; unheeded = ap unheeded_count same })
-          (nothing_named before.settings) overlay unheeded (λ unfinished. let few = room_two (last_of after.ledger.records) in omega (arith, few, two))
+      kept = kept_same before after [] None ready grows (record { names = ap names_of same; system = ap system_of same })
+          (nothing_named before.settings) overlay (λ unfinished. let few = room_two (last_of after.ledger.records) in omega (arith, few, two))
           (as_log (seen before) (seen after) (same_beginning before after [] (begun before ready) grows) log refl refl ready.kept.log);
       unfinished = ap is_finished log ∙ ready.unfinished;
     }
@@ -143,8 +128,8 @@ within_items b log index step unchosen =
 
 module _ (before after : Engine) (index : ℕ) (step : Step) (ready : AreReady before) (next : IsNextIndex (seen before) index)
     (kind : (observes step ≡ true) ⊎ (damages step ≡ true)) (accepted : first_refusal before.ledger.records step ≡ None)
-    (grows : HasGrown before after (step_group (seen before).beginning before.ledger.records index step))
-    (overlay : after.overlay ≡ before.overlay) (unheeded : after.unheeded ≡ before.unheeded) (two : 2 ≤ after.ledger.spare)
+    (grows : HasGrown before after (step_group before.settings before.ledger.records index step))
+    (overlay : after.overlay ≡ before.overlay) (two : 2 ≤ after.ledger.spare)
     (named : HasNames before.settings step) where
   abbrev log : List Record
   log = before.ledger.records
@@ -164,31 +149,29 @@ module _ (before after : Engine) (index : ℕ) (step : Step) (ready : AreReady b
       let goes = on before ready in
       let unchosen = no_choice step (inr kind) in
       let stays = quiet_moves before.settings (system_of log) log index step items (at_none step kind) accepted in
-      let heeded = step_heeded log index step in
       kept_group before after (StepRecord index step) items ready grows quiet_follows
-      (within_items (seen before).beginning log index step unchosen)
       (subst (λ s. HasNodesOf s after.overlay) (sym stays) (subst (HasNodesOf (system_of log)) (sym overlay) (ready.kept.go_on refl).nodes))
-      (ap (λ o. o.settings) overlay) (omega (arith, unheeded, heeded)) two
+      (ap (λ o. o.settings) overlay) two
       (step_named before.settings index step items named
       (no_steps items (within_items (seen before).beginning log index step unchosen)))
       (within_log (seen before) (seen before).nodes goes index step next unchosen
       (quiet_within (seen before).beginning log goes.course goes.going index step kind))
 
-  pub quiet_leads : LeadTo (unless_refused (seen before) index step (first_refusal log step)) before (Ok tt) after
+  pub quiet_leads : LeadsTo (unless_refused (seen before) index step (first_refusal log step)) before (Ok tt) after
   quiet_leads =
       let goes = on before ready in
       let w = seen before in
-      let group = step_group w.beginning log index step in
+      let group = step_group w.beginning.settings log index step in
       let is : unless_refused w index step (first_refusal log step) ≡ adds w group =
       ap (unless_refused w index step) accepted
       ∙ ap (λ within. if within then adds w group else spends w (StepRecord index step ∷ []))
       (quiet_within w.beginning log goes.course goes.going index step kind) in
-      subst (λ o. LeadTo o before (Ok tt) after) (sym is)
+      subst (λ o. LeadsTo o before (Ok tt) after) (sym is)
       (done (adds w group) before (Ok tt) after (λ never. cc) refl grows.log quiet_kept (λ _ _. overlay) grows.settings grows.frames)
 
 -- what an observation and a damaged copy add
 pub sees_group : (b : Beginning) (log : List Record) (index : ℕ) (step : Step) → observes step ≡ true → first_refusal log step ≡ None
-    → StepRecord index step ∷ at_most_one (observed b.settings log (system_of log) step) ≡ step_group b log index step
+    → StepRecord index step ∷ at_most_one (observed b.settings log (system_of log) step) ≡ step_group b.settings log index step
 unfolding observes accepted_records
 sees_group b log index (Walk object asker) is accepted =
     ap (λ l. StepRecord index (Walk object asker) ∷ l)
@@ -202,7 +185,7 @@ sees_group b log index (Pointers name) is accepted =
 sees_group b log index step is accepted = absurd (cc)
 
 pub copies_group : (b : Beginning) (log : List Record) (index : ℕ) (step : Step) → damages step ≡ true → first_refusal log step ≡ None
-    → StepRecord index step ∷ at_most_one (damage_record b.settings log step) ≡ step_group b log index step
+    → StepRecord index step ∷ at_most_one (damage_record b.settings log step) ≡ step_group b.settings log index step
 unfolding damages accepted_records
 copies_group b log index (Garble place at byte) is accepted =
     ap (λ l. StepRecord index (Garble place at byte) ∷ l)
@@ -240,13 +223,13 @@ never_refused w first all given refusal answer is =
 -- an engine that begins so leads where the other leads
 pub lead_from : (of : SettingsValue → ℕ → List Record → Outcome) (before now after : Engine) (given : Result (Unit {0}) Stop)
     → now.settings ≡ before.settings → now.frames ≡ before.frames → now.ledger.records ≡ before.ledger.records → now.overlay ≡ before.overlay
-    → LeadTo (of now.settings now.frames now.ledger.records) now given after
-    → LeadTo (of before.settings before.frames before.ledger.records) before given after
+    → LeadsTo (of now.settings now.frames now.ledger.records) now given after
+    → LeadsTo (of before.settings before.frames before.ledger.records) before given after
 lead_from of before now after given settings frames log overlay leads =
     let is : of now.settings now.frames now.ledger.records ≡ of before.settings before.frames before.ledger.records =
     ap (λ p. of p now.frames now.ledger.records) settings ∙ ap (λ f. of before.settings f now.ledger.records) frames
     ∙ ap (of before.settings before.frames) log in
-    let same = subst (λ o. LeadTo o now given after) is leads in
+    let same = subst (λ o. LeadsTo o now given after) is leads in
     record {
       answer = same.answer;
       log = same.log;
@@ -264,11 +247,7 @@ lead_from of before now after given settings frames log overlay leads =
 abbrev either : WorldValue → List Record → List Record → Bool → Outcome
 either w first all within = if within then adds w all else spends w first
 
-spent_heeded : (before : List Record) (limit : ℕ) → unheeded_by before (Spent limit) ≡ 0
-unfolding unheeded_by
-spent_heeded before limit = refl
-
--- a step alone and `Spent` add no name, and no frame that is taken
+-- a step alone and `Spent` add no name
 step_spent_names : (log : List Record) (index : ℕ) (step : Step) (limit : ℕ)
     → names_of (log ++ StepRecord index step ∷ Spent limit ∷ []) ≡ names_of log
 step_spent_names log index step limit =
@@ -277,13 +256,6 @@ step_spent_names log index step limit =
 
 no_spent_step : (limit : ℕ) → All (λ item. step_of item ≡ None) (Spent limit ∷ [])
 no_spent_step limit = All-cons (λ item. step_of item ≡ None) (Spent limit) [] refl (All-nil (λ item. step_of item ≡ None))
-
-step_spent_heeded : (log : List Record) (index : ℕ) (step : Step) (limit : ℕ)
-    → unheeded_count (log ++ StepRecord index step ∷ Spent limit ∷ []) ≡ unheeded_count log
-step_spent_heeded log index step limit =
-    ap unheeded_count (sym (append_assoc log (StepRecord index step ∷ []) (Spent limit ∷ [])))
-    ∙ unheeded_stays (log ++ StepRecord index step ∷ []) (Spent limit) (spent_heeded (log ++ StepRecord index step ∷ []) limit)
-    ∙ unheeded_stays log (StepRecord index step) (step_heeded log index step)
 
 module _ (m : Engine) (ready : AreReady m) (index : ℕ) (step : Step) (next : IsNextIndex (seen m) index) (starts : is_start step ≡ true)
     (accepted : first_refusal m.ledger.records step ≡ None) (names : IsStep m.settings false step) where
@@ -362,20 +334,17 @@ module _ (m : Engine) (ready : AreReady m) (index : ℕ) (step : Step) (next : I
         (same_changes s (moved p s (Begins has.name has.start)) m.overlay o has.name (act has.node (Starts has.start)).state
         (ready.kept.go_on refl).nodes has.acts.changes (start_node has.name has.start has.node has.at has.was))
 
-    module _ (after : Engine) (settings : after.settings ≡ m.settings) (frames : after.frames ≡ m.frames) (overlay : after.overlay ≡ o)
-        (unheeded : after.unheeded ≡ m.unheeded) where
+    module _ (after : Engine) (settings : after.settings ≡ m.settings) (frames : after.frames ≡ m.frames) (overlay : after.overlay ≡ o) where
       started_still : StillHas m.overlay after.overlay
       started_still = subst (StillHas m.overlay) (sym overlay) still
 
       started_kept : after.ledger.records ≡ was ++ group → is_within b was group ≡ true → 2 ≤ after.ledger.spare → AreKept after None false
       started_kept log within two =
           let goes = on m ready in
-          let heeded = step_heeded was index step in
           kept_group m after (StepRecord index step) start_items ready (record { settings = settings; frames = frames; log = log })
           (follows_within b was group (step_may b was index step unchosen) within)
-          (within_items b was index step unchosen)
           (subst (HasNodesOf (moved_by p s (move_of_group was group))) (sym overlay) started_nodes)
-          (ap (λ x. x.settings) overlay ∙ still.settings) (omega (arith, unheeded, heeded)) two
+          (ap (λ x. x.settings) overlay ∙ still.settings) two
           (step_named p index step start_items (step_has_names m.settings step names) (no_steps start_items (within_items b was index step unchosen)))
           (within_log (seen m) (seen m).nodes goes index step next unchosen within)
 
@@ -385,23 +354,23 @@ module _ (m : Engine) (ready : AreReady m) (index : ℕ) (step : Step) (next : I
           let goes = on m ready in
           let more = StepRecord index step ∷ Spent m.frames ∷ [] in
           let grows : HasGrown m after more = record { settings = settings; frames = frames; log = log } in
-          kept_stopped m after more ready grows (step_spent_names was index step m.frames) (step_spent_heeded was index step m.frames)
-          started_still unheeded (step_named p index step (Spent m.frames ∷ []) (step_has_names m.settings step names) (no_spent_step m.frames))
+          kept_stopped m after more ready grows (step_spent_names was index step m.frames)
+          started_still (step_named p index step (Spent m.frames ∷ []) (step_has_names m.settings step names) (no_spent_step m.frames))
           (grown_log m after more None true ready grows
           (over_log (seen m) (seen m).nodes goes index step next starts accepted over))
 
       started_leads : (given : Result (Unit {0}) Stop)
           → LogsAs (adds_within (seen m) (StepRecord index step ∷ []) group) (record m { overlay = o }) given after
-          → LeadTo (unless_refused (seen m) index step (first_refusal was step)) m given after
+          → LeadsTo (unless_refused (seen m) index step (first_refusal was step)) m given after
       started_leads given logs =
           let outcome = adds_within (seen m) (StepRecord index step ∷ []) group in
           let is : unless_refused (seen m) index step (first_refusal was step) ≡ outcome = ap (unless_refused (seen m) index step) accepted in
-          subst (λ x. LeadTo x m given after) (sym is) (record {
+          subst (λ x. LeadsTo x m given after) (sym is) (record {
             answer = logs.answer;
             log = logs.log;
             kept = λ other. by_within other (is_within b was group) refl (logs.answer other) (logs.log other);
             same = logs.short;
-            short = λ none. kept_short m after ready settings frames (logs.short none) started_still unheeded;
+            short = λ none. kept_short m after ready settings frames (logs.short none) started_still;
             nodes = λ refusal is. absurd (never_refused (seen m) (StepRecord index step ∷ []) group given refusal logs.answer is);
             settings = settings;
             frames = frames;
@@ -423,7 +392,7 @@ abbrev StartLeads : Engine → Engine → ℕ → Step → Acted → List Record
 StartLeads m after index step acted first given x = HasBegunAt m x step acted → StillHas m.overlay x.overlay
     → LogsAs (adds_within (seen x) (StepRecord index step ∷ []) (first ++ turn_records (sent_count x.ledger.records) acted.name acted.turn))
     x given after
-    → LeadTo (unless_refused (seen m) index step (first_refusal m.ledger.records step)) m given after
+    → LeadsTo (unless_refused (seen m) index step (first_refusal m.ledger.records step)) m given after
 
 -- an accepted start, whose node has started it
 pub start_leads : (m n after : Engine) (ready : AreReady m) (index : ℕ) (step : Step) (next : IsNextIndex (seen m) index)
@@ -432,7 +401,7 @@ pub start_leads : (m n after : Engine) (ready : AreReady m) (index : ℕ) (step 
     → first ≡ StepRecord index step ∷ announced m.ledger.records step
     → LogsAs (adds_within (seen n) (StepRecord index step ∷ []) (first ++ turn_records (sent_count n.ledger.records) acted.name acted.turn))
     n given after
-    → LeadTo (unless_refused (seen m) index step (first_refusal m.ledger.records step)) m given after
+    → LeadsTo (unless_refused (seen m) index step (first_refusal m.ledger.records step)) m given after
 start_leads m n after ready index step next starts accepted names acted first given same has still first_is logs =
     subst (StartLeads m after index step acted first given) (sym same) from_record has still logs
   where
@@ -443,7 +412,7 @@ start_leads m n after ready index step next starts accepted names acted first gi
         ap (λ l. l ++ turn_records (sent_count m.ledger.records) acted.name acted.turn) first_is
         ∙ started_group m ready index step next starts accepted names o acted has still in
         started_leads m ready index step next starts accepted names o acted has still after (ap (λ q. q.settings) logs.same)
-        (ap (λ q. q.frames) logs.same) (ap (λ q. q.overlay) logs.same) (ap (λ q. q.unheeded) logs.same) given
+        (ap (λ q. q.frames) logs.same) (ap (λ q. q.overlay) logs.same) given
         (subst (λ g. LogsAs (adds_within (seen m) (StepRecord index step ∷ []) g) (record m { overlay = o }) given after) all logs)
 
 -- ---- a frame that is taken
@@ -461,7 +430,7 @@ module _ (m : Engine) (ready : AreReady m) (number : ℕ) (waits : has_number (o
   taken_b = (seen m).beginning
 
   abbrev taking : List Record
-  taking = taken_group taken_b taken_was number
+  taking = taken_group taken_b.settings taken_was number
 
   taking_within : All Within (taken_records m.settings taken_was taken_s number)
   taking_within = taken_within m.settings taken_was taken_s number (taken_records m.settings taken_was taken_s number)
@@ -470,31 +439,26 @@ module _ (m : Engine) (ready : AreReady m) (number : ℕ) (waits : has_number (o
   taking_moves : move_of_group taken_was taking ≡ Some (Delivers number)
   taking_moves = taken_moves taken_was number (taken_records m.settings taken_was taken_s number)
 
-  heeds : unheeded_by taken_was (Taken number) ≡ unheeded_at (taken_s.node frame.to) frame
-  unfolding unheeded_by
-  heeds = ap (unheeded_frame taken_s) is
-
   -- an engine that has added the group
   taking_kept : (after : Engine) → HasGrown m after taking → HasNodesOf (moved m.settings taken_s (Delivers number)) after.overlay
-      → after.overlay.settings ≡ m.overlay.settings → after.unheeded ≡ m.unheeded + unheeded_at (taken_s.node frame.to) frame
+      → after.overlay.settings ≡ m.overlay.settings
       → is_within taken_b taken_was taking ≡ true → 2 ≤ after.ledger.spare → AreKept after None false
-  taking_kept after grows nodes settings unheeded within two =
+  taking_kept after grows nodes settings within two =
       let goes = on m ready in
       let items = taken_records m.settings taken_was taken_s number in
       let follows = follows_within taken_b taken_was taking (taken_may taken_b taken_was number waits) within in
-      kept_group m after (Taken number) items ready grows follows taking_within
+      kept_group m after (Taken number) items ready grows follows
       (subst (λ move. HasNodesOf (moved_by m.settings taken_s move) after.overlay) (sym taking_moves) nodes) settings
-      (unheeded ∙ ap (λ n. m.unheeded + n) (sym heeds)) two
+      two
       (unbegun_named m.settings taking (All-cons (λ item. step_of item ≡ None) (Taken number) items refl (no_steps items taking_within)))
       (adds_log (seen m) (seen m).nodes goes taking follows
       (indices_stay taken_was taking (All-cons (λ item. step_of item ≡ None) (Taken number) items refl (no_steps items taking_within)) goes.indices))
 
   -- or would have sent too many frames
-  taking_spent : (after : Engine) → HasGrown m after (Spent m.frames ∷ []) → StillHas m.overlay after.overlay → after.unheeded ≡ m.unheeded
+  taking_spent : (after : Engine) → HasGrown m after (Spent m.frames ∷ []) → StillHas m.overlay after.overlay
       → is_within taken_b taken_was taking ≡ false → AreKept after None true
-  taking_spent after grows still unheeded over =
-      kept_stopped m after (Spent m.frames ∷ []) ready grows (spent_names taken_was m.frames)
-      (unheeded_stays taken_was (Spent m.frames) (spent_heeded taken_was m.frames)) still unheeded
+  taking_spent after grows still over =
+      kept_stopped m after (Spent m.frames ∷ []) ready grows (spent_names taken_was m.frames) still
       (spent_named m.settings m.frames)
       (grown_log m after (Spent m.frames ∷ []) None true ready grows
       (takes_over (seen m) (seen m).nodes (on m ready) number waits over))
@@ -523,19 +487,16 @@ module _ (m : Engine) (ready : AreReady m) (number : ℕ) (waits : has_number (o
         same_changes taken_s (moved m.settings taken_s (Delivers number)) m.overlay o frame.to (act has.node (Takes frame)).state
         (ready.kept.go_on refl).nodes has.acts.changes heeded_node
 
-    none_unheeded : unheeded_at (taken_s.node frame.to) frame ≡ 0
-    none_unheeded = ap (λ n. unheeded_at n frame) has.was ∙ ap (λ b. if b then 1 else 0) has.fits
-
     module _ (after : Engine) (settings : after.settings ≡ m.settings) (frames : after.frames ≡ m.frames) (overlay : after.overlay ≡ o)
-        (unheeded : after.unheeded ≡ m.unheeded) (still : StillHas m.overlay o) where
+        (still : StillHas m.overlay o) where
       pub heeded_leads : (given : Result (Unit {0}) Stop) → LogsAs (adds_within (seen m) [] taking) (record m { overlay = o }) given after
-          → LeadTo (adds_within (seen m) [] taking) m given after
+          → LeadsTo (adds_within (seen m) [] taking) m given after
       heeded_leads given logs = record {
         answer = logs.answer;
         log = logs.log;
         kept = λ other. by_within (is_within taken_b taken_was taking) refl (logs.answer other) (logs.log other);
         same = logs.short;
-        short = λ none. kept_short m after ready settings frames (logs.short none) (subst (StillHas m.overlay) (sym overlay) still) unheeded;
+        short = λ none. kept_short m after ready settings frames (logs.short none) (subst (StillHas m.overlay) (sym overlay) still);
         nodes = λ refusal is. absurd (never_refused (seen m) [] taking given refusal logs.answer is);
         settings = settings;
         frames = frames;
@@ -547,130 +508,19 @@ module _ (m : Engine) (ready : AreReady m) (number : ℕ) (waits : has_number (o
               → AreKept after (either (seen m) [] taking (is_within taken_b taken_was taking)).refused (either (seen m) [] taking (is_within taken_b taken_was taking)).stopped
           by_within true at answer log =
               let ok : given ≡ Ok tt = answer ∙ ap (λ w. (either (seen m) [] taking w).answer) at in
-              let none = none_unheeded in
               subst (λ w. AreKept after (either (seen m) [] taking w).refused (either (seen m) [] taking w).stopped) (sym at)
               (taking_kept after (record { settings = settings; frames = frames; log = log ∙ ap (λ w. (either (seen m) [] taking w).log) at })
               (subst (HasNodesOf (moved m.settings taken_s (Delivers number))) (sym overlay) heeded_nodes)
-              (ap (λ x. x.settings) overlay ∙ still.settings) (omega (arith, unheeded, none)) at (logs.room ok))
+              (ap (λ x. x.settings) overlay ∙ still.settings) at (logs.room ok))
           by_within false at answer log =
               subst (λ w. AreKept after (either (seen m) [] taking w).refused (either (seen m) [] taking w).stopped) (sym at)
               (taking_spent after (record { settings = settings; frames = frames; log = log ∙ ap (λ w. (either (seen m) [] taking w).log) at })
-              (subst (StillHas m.overlay) (sym overlay) still) unheeded at)
-
--- ---- a frame that is taken to no effect
-
-is_strange_so : (strange : Bool) → ◌≡◌ {A = ℕ} (if strange then 1 else 0) 1 → strange ≡ true
-is_strange_so true is = refl
-is_strange_so false is = absurd (omega (arith, is))
-
-ignored_records : (p : SettingsValue) (number : ℕ) (name : List ℕ) (acted : RuleActed) → acted.sent ≡ [] → acted.news ≡ NothingNew
-    → acted_records p number name acted ≡ []
-unfolding news_before news_after
-ignored_records p number name acted sent news =
-    ap (λ n. news_before name n ++ (sent_records p number acted.sent ++ news_after n)) news
-    ∙ ap (λ l. sent_records p number l ++ []) sent
-
--- the node stays as it is
-same_at : (of : List ℕ → Option NodeState) (x other : List ℕ) (node : NodeState) → of x ≡ Some node
-    → with_at of x (Some node) other ≡ of other
-same_at of x other node is = elim (cases_Bool (bytes_eq other x)) [
-  | inl same ↦
-      ap (λ b. if b then Some node else of other) same ∙ sym is ∙ ap of (sym ((bytes_eq-Decides other x).0 same))
-  | inr apart ↦ ap (λ b. if b then Some node else of other) apart
-]
-
-module _ (m : Engine) (ready : AreReady m) (number : ℕ) (waits : has_number (outstanding m.ledger.records) number ≡ true) (frame : Frame)
-    (is : numbered_frame number (system_of m.ledger.records).frames ≡ Some frame)
-    (one : unheeded_at ((system_of m.ledger.records).node frame.to) frame ≡ 1) where
-  abbrev ignored_s : System
-  ignored_s = system_of m.ledger.records
-
-  -- nothing is said of it
-  none_by : (node : Option NodeState) → unheeded_at node frame ≡ 1
-      → records_of_act m.settings m.ledger.records frame.to node (Takes frame) ≡ []
-  none_by None unheeded = refl
-  none_by (Some node) unheeded =
-      let ignored = (strange_law node frame (is_strange_so (is_strange node frame) unheeded)).0 in
-      ignored_records m.settings (sent_count m.ledger.records) frame.to (act node (Takes frame)) ignored.sent ignored.news
-
-  nothing_taken : taken_records m.settings m.ledger.records ignored_s number ≡ []
-  nothing_taken = ap (received_records m.settings m.ledger.records ignored_s) is ∙ none_by (ignored_s.node frame.to) one
-
-  pub taken_alone_is : Taken number ∷ [] ≡ taken_group (seen m).beginning m.ledger.records number
-  taken_alone_is = ap (λ l. Taken number ∷ l) (sym nothing_taken)
-
-  -- nothing is sent
-  sends_nothing : sent_count (m.ledger.records ++ Taken number ∷ []) ≡ sent_count m.ledger.records
-  unfolding sent_number
-  sends_nothing = let all = sent_count-append m.ledger.records (Taken number ∷ []) in omega (arith, all)
-
-  pub alone_within : is_within (seen m).beginning m.ledger.records (taken_group (seen m).beginning m.ledger.records number) ≡ true
-  alone_within =
-      let goes = on m ready in
-      let few = sent_within (seen m).beginning m.ledger.records goes.course goes.going in
-      let same = ap (λ g. sent_count (m.ledger.records ++ g)) (sym taken_alone_is) ∙ sends_nothing in
-      le-leb (sent_count (m.ledger.records ++ taken_group (seen m).beginning m.ledger.records number)) m.frames (omega (arith, same, few))
-
-  -- the nodes stay
-  lost_node : ignored_s.node frame.to ≡ None → (other : List ℕ) → (moved m.settings ignored_s (Delivers number)).node other ≡ ignored_s.node other
-  unfolding moved
-  lost_node none other = rw (is, none) refl
-
-  strange_node : (node : NodeState) → ignored_s.node frame.to ≡ Some node → (other : List ℕ)
-      → (moved m.settings ignored_s (Delivers number)).node other
-      ≡ with_at ignored_s.node frame.to (Some (act node (Takes frame)).state) other
-  unfolding moved
-  strange_node node at other = rw (is, at) refl
-
-  same_node : (node : Option NodeState) → ignored_s.node frame.to ≡ node → (other : List ℕ)
-      → (moved m.settings ignored_s (Delivers number)).node other ≡ ignored_s.node other
-  same_node None none other = lost_node none other
-  same_node (Some node) at other =
-      let unheeded = ap (λ n. unheeded_at n frame) (sym at) ∙ one in
-      let ignored = (strange_law node frame (is_strange_so (is_strange node frame) unheeded)).0 in
-      strange_node node at other ∙ ap (λ n. with_at ignored_s.node frame.to (Some n) other) ignored.state
-      ∙ same_at ignored_s.node frame.to other node at
-
-  same_nodes : HasNodesOf (moved m.settings ignored_s (Delivers number)) m.overlay
-  same_nodes = record {
-    nodes_are = λ other. (ready.kept.go_on refl).nodes.nodes_are other
-        ∙ ap (option_map running) (sym (same_node (ignored_s.node frame.to) refl other));
-  }
-
-  module _ (after : Engine) (settings : after.settings ≡ m.settings) (frames : after.frames ≡ m.frames) (overlay : after.overlay ≡ m.overlay) where
-    ignored_kept : after.ledger.records ≡ m.ledger.records ++ Taken number ∷ [] → after.unheeded ≡ m.unheeded + 1 → 2 ≤ after.ledger.spare
-        → AreKept after None false
-    ignored_kept log unheeded two =
-        let at = one in
-        taking_kept m ready number waits frame is after
-        (record { settings = settings; frames = frames; log = log ∙ ap (λ g. m.ledger.records ++ g) taken_alone_is })
-        (subst (HasNodesOf (moved m.settings ignored_s (Delivers number))) (sym overlay) same_nodes) (ap (λ x. x.settings) overlay)
-        (omega (arith, unheeded, at)) alone_within two
-
-    pub ignored_leads : (given : Result (Unit {0}) Stop) → (given ≢ Err NoMemory → given ≡ Ok tt)
-        → (given ≢ Err NoMemory → after.ledger.records ≡ m.ledger.records ++ Taken number ∷ [])
-        → (given ≡ Ok tt → 2 ≤ after.ledger.spare) → (given ≡ Ok tt → after.unheeded ≡ m.unheeded + 1)
-        → (given ≡ Err NoMemory → after.ledger.records ≡ m.ledger.records) → (given ≡ Err NoMemory → after.unheeded ≡ m.unheeded)
-        → LeadTo (adds_within (seen m) [] (taken_group (seen m).beginning m.ledger.records number)) m given after
-    ignored_leads given answer log two count short heeded =
-        let group = taken_group (seen m).beginning m.ledger.records number in
-        let added : adds_within (seen m) [] group ≡ adds (seen m) (Taken number ∷ []) =
-        ap (λ w. if w then adds (seen m) group else spends (seen m) []) alone_within ∙ ap (adds (seen m)) (sym taken_alone_is) in
-        subst (λ o. LeadTo o m given after) (sym added) (record {
-          answer = answer;
-          log = log;
-          kept = λ other. ignored_kept (log other) (count (answer other)) (two (answer other));
-          same = short;
-          short = λ none. kept_short m after ready settings frames (short none) (all_still m.overlay after.overlay overlay) (heeded none);
-          nodes = λ _ _. overlay;
-          settings = settings;
-          frames = frames;
-        })
+              (subst (StillHas m.overlay) (sym overlay) still) at)
 
 -- ---- a delivery
 
 -- the frame at a place, by its number
-numbered_so : (m n : Engine) (place number : ℕ) (acted : Option Acted) (t : HasTakenAt m n place acted)
+numbered_so : (m n : Engine) (place number : ℕ) (acted : Acted) (t : HasTakenAt m n place acted)
     → slice_get (outstanding m.ledger.records) place ≡ Some number
     → numbered_frame number (system_of m.ledger.records).frames ≡ Some t.frame
 numbered_so m n place number acted t at =
@@ -679,69 +529,36 @@ numbered_so m n place number acted t at =
     ap (λ k. numbered_frame k (system_of m.ledger.records).frames) (sym same) ∙ t.is
 
 module _ (m n : Engine) (ready : AreReady m) (place number : ℕ) (at : slice_get (outstanding m.ledger.records) place ≡ Some number)
-    (same : n ≡ record m { overlay = n.overlay }) where
+    (same : n ≡ record m { overlay = n.overlay }) (acted : Acted) (t : HasTakenAt m n place acted) where
   delivered_waits : has_number (outstanding m.ledger.records) number ≡ true
   delivered_waits = number_there (outstanding m.ledger.records) place number at
 
-  -- the receiver has heeded the frame
-  module _ (acted : Acted) (t : HasTakenAt m n place (Some acted)) where
-    heeded_so : HasHeeded m (record m { overlay = n.overlay }) t.frame acted
-    heeded_so = record { node = t.taken.node; was = t.taken.was; fits = t.taken.fits; acts = t.taken.acts }
+  heeded_so : HasHeeded m (record m { overlay = n.overlay }) t.frame acted
+  heeded_so = record { node = t.heeded.node; was = t.heeded.was; fits = t.heeded.fits; acts = t.heeded.acts }
 
-    delivered_group : Taken number ∷ turn_records (sent_count m.ledger.records) acted.name acted.turn
-        ≡ taken_group (seen m).beginning m.ledger.records number
-    delivered_group =
-        heeded_group m ready number delivered_waits t.frame (numbered_so m n place number (Some acted) t at) n.overlay acted heeded_so
+  delivered_group : Taken number ∷ turn_records (sent_count m.ledger.records) acted.name acted.turn
+      ≡ taken_group m.settings m.ledger.records number
+  delivered_group =
+      heeded_group m ready number delivered_waits t.frame (numbered_so m n place number acted t at) n.overlay acted heeded_so
 
-    pub delivered_may : MayFollow m.settings m.ledger.records (system_of m.ledger.records)
-        (Taken number ∷ turn_records (sent_count m.ledger.records) acted.name acted.turn)
-    delivered_may =
-        subst (MayFollow m.settings m.ledger.records (system_of m.ledger.records)) (sym delivered_group)
-        (taken_may (seen m).beginning m.ledger.records number delivered_waits)
+  pub delivered_may : MayFollow m.settings m.ledger.records (system_of m.ledger.records)
+      (Taken number ∷ turn_records (sent_count m.ledger.records) acted.name acted.turn)
+  delivered_may =
+      subst (MayFollow m.settings m.ledger.records (system_of m.ledger.records)) (sym delivered_group)
+      (taken_may (seen m).beginning m.ledger.records number delivered_waits)
 
-    pub taken_leads : (after : Engine) (given : Result (Unit {0}) Stop) → StillHas m.overlay n.overlay
-        → LogsAs (adds_within (seen n) [] (Taken number ∷ turn_records (sent_count n.ledger.records) acted.name acted.turn)) n given after
-        → LeadTo (takes_number (seen m) (slice_get (outstanding m.ledger.records) place)) m given after
-    taken_leads after given still logs =
-        let by_record : LogsAs (adds_within (seen m) [] (Taken number ∷ turn_records (sent_count m.ledger.records) acted.name acted.turn))
-        (record m { overlay = n.overlay }) given after =
-        subst (λ x. LogsAs (adds_within (seen x) [] (Taken number ∷ turn_records (sent_count x.ledger.records) acted.name acted.turn)) x given after)
-        same logs in
-        let by_group = subst (λ g. LogsAs (adds_within (seen m) [] g) (record m { overlay = n.overlay }) given after) delivered_group by_record in
-        subst (λ x. LeadTo (takes_number (seen m) x) m given after) (sym at)
-        (heeded_leads m ready number delivered_waits t.frame (numbered_so m n place number (Some acted) t at) n.overlay acted heeded_so after
-        (ap (λ q. q.settings) by_group.same) (ap (λ q. q.frames) by_group.same) (ap (λ q. q.overlay) by_group.same)
-        (ap (λ q. q.unheeded) by_group.same) still given by_group)
-
-  -- it was taken to no effect
-  module _ (t : HasTakenAt m n place None) where
-    alone_so : Taken number ∷ [] ≡ taken_group (seen m).beginning m.ledger.records number
-    alone_so = taken_alone_is m ready number delivered_waits t.frame (numbered_so m n place number None t at) t.taken.0
-
-    pub alone_fits : CanAdd n.ledger.records (Taken number ∷ [])
-    alone_fits =
-        let goes = on m ready in
-        let within = alone_within m ready number delivered_waits t.frame (numbered_so m n place number None t at) t.taken.0 in
-        let fits = group_fits (seen m).beginning m.ledger.records (taken_group (seen m).beginning m.ledger.records number) goes.course goes.going
-        (follows_within (seen m).beginning m.ledger.records (taken_group (seen m).beginning m.ledger.records number)
-        (taken_may (seen m).beginning m.ledger.records number delivered_waits) within) in
-        subst (λ l. CanAdd l (Taken number ∷ [])) (sym (ap (λ q. q.ledger.records) same))
-        (subst (CanAdd m.ledger.records) (sym alone_so) fits)
-
-    pub alone_leads : (after : Engine) (given : Result (Unit {0}) Stop)
-        → LogsAs (adds (seen n) (Taken number ∷ [])) n given (record after { unheeded = n.unheeded })
-        → (given ≡ Ok tt → after.unheeded ≡ n.unheeded + 1) → (given ≢ Ok tt → after.unheeded ≡ n.unheeded)
-        → LeadTo (takes_number (seen m) (slice_get (outstanding m.ledger.records) place)) m given after
-    alone_leads after given logs count short =
-        let records = ap (λ q. q.ledger.records) same in
-        let unheeded = ap (λ q. q.unheeded) same in
-        subst (λ x. LeadTo (takes_number (seen m) x) m given after) (sym at)
-        (ignored_leads m ready number delivered_waits t.frame (numbered_so m n place number None t at) t.taken.0 after
-        (ap (λ q. q.settings) logs.same ∙ ap (λ q. q.settings) same) (ap (λ q. q.frames) logs.same ∙ ap (λ q. q.frames) same)
-        (ap (λ q. q.overlay) logs.same ∙ t.taken.1) given
-        logs.answer (λ other. logs.log other ∙ ap (λ l. l ++ Taken number ∷ []) records) logs.room
-        (λ ok. count ok ∙ ap (λ u. u + 1) unheeded) (λ none. logs.short none ∙ records)
-        (λ none. short (λ ok. let never : Err NoMemory ≡ Ok tt = sym none ∙ ok in cc) ∙ unheeded))
+  pub taken_leads : (after : Engine) (given : Result (Unit {0}) Stop) → StillHas m.overlay n.overlay
+      → LogsAs (adds_within (seen n) [] (Taken number ∷ turn_records (sent_count n.ledger.records) acted.name acted.turn)) n given after
+      → LeadsTo (takes_number (seen m) (slice_get (outstanding m.ledger.records) place)) m given after
+  taken_leads after given still logs =
+      let by_record : LogsAs (adds_within (seen m) [] (Taken number ∷ turn_records (sent_count m.ledger.records) acted.name acted.turn))
+      (record m { overlay = n.overlay }) given after =
+      subst (λ x. LogsAs (adds_within (seen x) [] (Taken number ∷ turn_records (sent_count x.ledger.records) acted.name acted.turn)) x given after)
+      same logs in
+      let by_group = subst (λ g. LogsAs (adds_within (seen m) [] g) (record m { overlay = n.overlay }) given after) delivered_group by_record in
+      subst (λ x. LeadsTo (takes_number (seen m) x) m given after) (sym at)
+      (heeded_leads m ready number delivered_waits t.frame (numbered_so m n place number acted t at) n.overlay acted heeded_so after
+      (ap (λ q. q.settings) by_group.same) (ap (λ q. q.frames) by_group.same) (ap (λ q. q.overlay) by_group.same) still given by_group)
 
 -- ---- a start, from the room that it has made
 
@@ -749,8 +566,7 @@ module _ (m n : Engine) (ready : AreReady m) (place number : ℕ) (at : slice_ge
 pub reserved_ready : (m n : Engine) → AreReady m → n ≡ record m { ledger = n.ledger } → n.ledger.records ≡ m.ledger.records
     → 3 ≤ n.ledger.spare → AreReady n
 reserved_ready m n ready same log three =
-    still_ready m n ready (ap (λ (q : Engine). q.settings) same) (ap (λ (q : Engine). q.frames) same) log (ap (λ (q : Engine). q.overlay) same)
-    (ap (λ (q : Engine). q.unheeded) same) (omega (arith, three))
+    still_ready m n ready (ap (λ (q : Engine). q.settings) same) (ap (λ (q : Engine). q.frames) same) log (ap (λ (q : Engine). q.overlay) same) (omega (arith, three))
 
 pub next_still : (m n : Engine) (index : ℕ) → n.ledger.records ≡ m.ledger.records → IsNextIndex (seen m) index → IsNextIndex (seen n) index
 next_still m n index log next = record {

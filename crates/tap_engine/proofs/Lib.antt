@@ -3,8 +3,9 @@ pub mod Named
 pub mod Courses
 pub mod Steps
 pub mod WorldLogs
+pub mod Endings
+pub mod HeadlineOfWorld
 pub mod Grown
-pub mod Unheeding
 pub mod Addable
 pub mod Deliveries
 pub mod Keeping

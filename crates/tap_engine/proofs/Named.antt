@@ -7,8 +7,7 @@ use Rattle.tap_name.specs.Name.{IsName}
 use Rattle.tap_name.specs.Names.{has_name}
 use Rattle.tap_name.specs.Settings.{SettingsValue}
 use Rattle.tap_scenario.specs.declared.step.Step.{Step}
-use Rattle.tap_scenario.specs.declared.step.Step.TheVariants.{Cut, Deliver, Garble, Join, Lose, Repeat, RootSet, Settle, SettleMixed, SettleNewest, Tick}
-use Rattle.tap_scenario.specs.Step.{IsStep}
+use Rattle.tap_scenario.specs.declared.step.Step.TheVariants.{Cut, Garble, Join}
 use Rattle.tap_log.specs.declared.record.Record.{Record}
 use Rattle.tap_log.specs.declared.record.Record.TheVariants.{Spent, Step as StepRecord}
 use Rattle.tap_log.specs.Kinds.{accepts, is_carried, step_of}
@@ -18,7 +17,6 @@ use Rattle.tap_history.specs.Names.{names_of, with_name}
 use Rattle.tap_history.specs.Steps.{join_name}
 use Rattle.tap_course.proofs.Frames.{none_of}
 use Rattle.tap_engine.specs.Kinds.{damages}
-use Rattle.tap_course.specs.Course.{is_choice}
 use Rattle.tap_course.specs.Named.{HasNames, HaveNames}
 
 -- ---- one more group

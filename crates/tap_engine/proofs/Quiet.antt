@@ -11,9 +11,10 @@ use Rattle.tap_course.specs.Damage.{damage_record}
 use Rattle.tap_course.specs.Named.{HasNames}
 use Rattle.tap_course.specs.Observed.{observed}
 use Rattle.tap_ledger.specs.Added.{CanAdd}
-use Rattle.tap_engine.specs.Kept.{AreReady, LeadTo}
+use Rattle.tap_engine.specs.Kept.{AreReady, LeadsTo}
 use Rattle.tap_engine.specs.Kinds.{damages, observes}
-use Rattle.tap_engine.specs.Outcome.{IsNextIndex, step_group, unless_refused}
+use Rattle.tap_engine.specs.Outcome.{IsNextIndex, unless_refused}
+use Rattle.tap_course.specs.Groups.{step_group}
 use Rattle.tap_engine.specs.declared.engine.Engine.{Engine}
 use Rattle.tap_engine.specs.declared.stop.Stop.{Stop}
 use Rattle.tap_engine.specs.declared.stop.Stop.TheVariants.{NoMemory, Refused}
@@ -34,7 +35,7 @@ same_alone m n after still same = still ∙ same ∙ ap (λ (q : Engine). record
 
 -- the group of such a step
 abbrev pub group_at : Engine → ℕ → Step → List Record
-group_at m index step = step_group (seen m).beginning m.ledger.records index step
+group_at m index step = step_group m.settings m.ledger.records index step
 
 -- is the step, and what it sees of the nodes of an engine that has only made room
 pub seen_group : (m n : Engine) (index : ℕ) (step : Step) (item : Option Record) (group : List Record) → n ≡ record m { ledger = n.ledger }
@@ -72,7 +73,7 @@ module _ (m : Engine) (ready : AreReady m) (index : ℕ) (step : Step) where
   quiet_fits n group log kind is =
       let goes = on m ready in
       let b = (seen m).beginning in
-      let all = step_group b m.ledger.records index step in
+      let all = step_group b.settings m.ledger.records index step in
       let fits = group_fits b m.ledger.records all goes.course goes.going
       (follows_within b m.ledger.records all (step_may b m.ledger.records index step (no_choice step (inr kind)))
       (quiet_within b m.ledger.records goes.course goes.going index step kind)) in
@@ -80,7 +81,7 @@ module _ (m : Engine) (ready : AreReady m) (index : ℕ) (step : Step) where
 
   -- such a call leads so
   abbrev pub Leads : Result (Unit {0}) Stop → Engine → Type 0
-  Leads given after = LeadTo (unless_refused (seen m) index step (first_refusal m.ledger.records step)) m given after
+  Leads given after = LeadsTo (unless_refused (seen m) index step (first_refusal m.ledger.records step)) m given after
 
   -- memory was refused, and the log stays
   pub short_leads : (after : Engine) → after ≡ record m { ledger = after.ledger } → after.ledger.records ≡ m.ledger.records
@@ -88,7 +89,7 @@ module _ (m : Engine) (ready : AreReady m) (index : ℕ) (step : Step) where
   short_leads after same log =
       wanting (unless_refused (seen m) index step (first_refusal m.ledger.records step)) m after ready
       (ap (λ (q : Engine). q.settings) same) (ap (λ (q : Engine). q.frames) same) log
-      (all_still m.overlay after.overlay (ap (λ (q : Engine). q.overlay) same)) (ap (λ (q : Engine). q.unheeded) same)
+      (all_still m.overlay after.overlay (ap (λ (q : Engine). q.overlay) same))
 
   module _ (next : IsNextIndex (seen m) index) (kind : (observes step ≡ true) ⊎ (damages step ≡ true)) (named : HasNames m.settings step)
       (after : Engine) (same : after ≡ record m { ledger = after.ledger }) (two : 2 ≤ after.ledger.spare) where
@@ -96,10 +97,10 @@ module _ (m : Engine) (ready : AreReady m) (index : ℕ) (step : Step) where
     pub quiet_refused : (refusal : Refusal) → first_refusal m.ledger.records step ≡ Some refusal
         → after.ledger.records ≡ m.ledger.records ++ StepRecord index step ∷ [] → Leads (Err (Refused refusal)) after
     quiet_refused refusal is log =
-        subst (λ r. LeadTo (unless_refused (seen m) index step r) m (Err (Refused refusal)) after) (sym is)
+        subst (λ r. LeadsTo (unless_refused (seen m) index step r) m (Err (Refused refusal)) after) (sym is)
         (refused_leads m after index step refusal ready
         (record { settings = ap (λ (q : Engine). q.settings) same; frames = ap (λ (q : Engine). q.frames) same; log = log })
-        (ap (λ (q : Engine). q.overlay) same) (ap (λ (q : Engine). q.unheeded) same) two next is (no_choice step (inr kind)) named)
+        (ap (λ (q : Engine). q.overlay) same) two next is (no_choice step (inr kind)) named)
 
     -- its group is added
     pub quiet_whole : (group : List Record) → first_refusal m.ledger.records step ≡ None → group ≡ group_at m index step
@@ -111,4 +112,4 @@ module _ (m : Engine) (ready : AreReady m) (index : ℕ) (step : Step) where
           frames = ap (λ (q : Engine). q.frames) same;
           log = log ∙ ap (λ g. m.ledger.records ++ g) is;
         })
-        (ap (λ (q : Engine). q.overlay) same) (ap (λ (q : Engine). q.unheeded) same) two named
+        (ap (λ (q : Engine). q.overlay) same) two named

@@ -21,7 +21,8 @@ use Rattle.tap_course.specs.Starts.{start_of_step}
 use Rattle.tap_course.proofs.Frames.{none_of}
 use Rattle.tap_course.proofs.Within.{step_kind}
 use Rattle.tap_engine.specs.Kinds.{damages, may_be_refused, observes}
-use Rattle.tap_engine.specs.Outcome.{is_within, step_group, taken_group}
+use Rattle.tap_engine.specs.Outcome.{is_within}
+use Rattle.tap_course.specs.Groups.{step_group, taken_group}
 use Rattle.tap_engine.proofs.Courses.{sent_within}
 
 -- ---- kinds of steps
@@ -93,7 +94,7 @@ at_none step (inr copies) = copies_at_none step copies
 
 -- the group of a step that is no choice, and of a choice alone
 pub step_may : (b : Beginning) (log : List Record) (index : ℕ) (step : Step) → is_choice step ≡ false
-    → MayFollow b.settings log (system_of log) (step_group b log index step)
+    → MayFollow b.settings log (system_of log) (step_group b.settings log index step)
 unfolding MayFollow
 step_may b log index step unchosen =
     let s = system_of log in
@@ -120,7 +121,7 @@ number_there (first ∷ numbers) (suc place) number at =
 
 -- the group of a frame that is outstanding
 pub taken_may : (b : Beginning) (log : List Record) (number : ℕ) → has_number (outstanding log) number ≡ true
-    → MayFollow b.settings log (system_of log) (taken_group b log number)
+    → MayFollow b.settings log (system_of log) (taken_group b.settings log number)
 unfolding MayFollow
 taken_may b log number waits = record { waits = waits; are = refl }
 
@@ -147,7 +148,7 @@ module _ (b : Beginning) (log : List Record) (course : IsCourse b log) (going : 
       le-leb (sent_count (log ++ StepRecord index step ∷ items)) b.frames (omega (arith, same, few))
 
   -- an observation, or a damaged copy, sends nothing
-  pub quiet_within : (observes step ≡ true) ⊎ (damages step ≡ true) → is_within b log (step_group b log index step) ≡ true
+  pub quiet_within : (observes step ≡ true) ⊎ (damages step ≡ true) → is_within b log (step_group b.settings log index step) ≡ true
   quiet_within kind =
       let s = system_of log in
       let items = step_records b.settings log s index step in

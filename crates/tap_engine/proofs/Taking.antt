@@ -1,5 +1,5 @@
 -- A frame that is outstanding, and what its receiver makes of it.
-use Rattle.std.proofs.Common.{◌≡◌, ◌≢◌, inl, inr, ℕ, zero, suc, ◌<◌, true, false, List, [], ◌∷◌, length, slice_get, All, Option, None, Some, Result, Ok, Err, IsErr, IfOk, is_some, refl, ap, sym, subst, ◌∙◌, arith}
+use Rattle.std.proofs.Common.{◌≡◌, ◌≢◌, ◌⊎◌, inl, inr, ℕ, zero, suc, ◌<◌, Bool, true, false, List, [], ◌∷◌, length, slice_get, All, Option, None, Some, Result, Ok, Err, IfOk, IsOk, is_some, refl, ap, sym, subst, ◌∙◌, arith}
 use Rattle.std.specs.Prelude.{bytes_eq, if◌then◌else◌, option_and_then}
 use Rattle.std.specs.Option.{option_map}
 use Rattle.std.proofs.lemmas.Bool.{cases_Bool, true≢false}
@@ -28,13 +28,14 @@ use Rattle.tap_safety.proofs.Moves.{found}
 use Rattle.tap_course.specs.Course.{system_of}
 use Rattle.tap_course.specs.Laws.{HasBytes, frame_numbers}
 use Rattle.tap_course.proofs.Frames.{frames_kept}
+use Rattle.tap_invariant.proofs.Consequences.{none_is_strange}
+use Rattle.tap_safe_course.proofs.Safe.{runs_are_sound}
 use Rattle.tap_overlay.specs.Overlay.{ChangesOnly, OverlayValue, node_among, node_at}
 use Rattle.tap_overlay.specs.Step.{HasAnswered, HasStepped, StepsAt, answer_given}
 use Rattle.tap_overlay.specs.declared.fault.OverlayFault.{OverlayFault}
-use Rattle.tap_overlay.specs.declared.fault.OverlayFault.TheVariants.{NoNode, Node as NodeRefuses}
+use Rattle.tap_overlay.specs.declared.fault.OverlayFault.TheVariants.{Node as NodeRefuses}
 use Rattle.tap_engine.specs.Kept.{AreReady}
-use Rattle.tap_engine.specs.Unheeded.{unheeded_at}
-use Rattle.tap_engine.specs.Working.{HasTaken, HasTakenAt, IsActed, StillHas}
+use Rattle.tap_engine.specs.Working.{HasTakenAt, IsActed, StillHas}
 use Rattle.tap_engine.specs.declared.engine.Acted.{Acted}
 use Rattle.tap_engine.specs.declared.engine.Engine.{Engine}
 use Rattle.tap_engine.specs.declared.stop.NoMemory.{NoMemory}
@@ -69,6 +70,7 @@ pub record IsOutstanding (p : SettingsValue) (log : List Record) (place : ℕ) :
   pub number : ℕ
   pub frame : Frame
   pub at : slice_get (outstanding log) place ≡ Some number
+  pub among : AmongFrames number frame (system_of log).frames
   pub is : numbered_frame number (system_of log).frames ≡ Some frame
   pub bytes : bytes_at log place ≡ Some (spelling p frame)
   pub read : frame_of p (spelling p frame) ≡ Ok frame
@@ -93,10 +95,35 @@ is_outstanding engine ready place number at =
       number = number;
       frame = one.frame;
       at = at;
+      among = one.among;
       is = found number one.frame 0 s.frames s.next kept.system_is.numbers one.among;
       bytes = ap (option_and_then (bytes_of log)) at ∙ all_at (HasBytes p log) s.frames place (number, one.frame) kept.agree.bytes one.at;
       read = all_at (λ f. frame_of p (spelling p f.1) ≡ Ok f.1) s.frames place (number, one.frame) (sound engine ready).frames one.at;
     }
+
+-- ---- its receiver
+
+-- the node to which the frame goes: the frame isn't strange to it
+pub record IsReceiver (s : System) (frame : Frame) : Type 0 where
+  pub node : NodeState
+  pub at : s.node frame.to ≡ Some node
+  pub fits : is_strange node frame ≡ false
+
+-- each outstanding frame of a run has one
+pub receiver_of : (engine : Engine) → AreReady engine → (place : ℕ) (o : IsOutstanding engine.settings engine.ledger.records place)
+    → IsReceiver (system_of engine.ledger.records) o.frame
+receiver_of engine ready place o =
+    let goes = on engine ready in
+    let log = engine.ledger.records in
+    let safe = runs_are_sound (seen engine).beginning log (record { course = goes.course; going = goes.going; steps = ready.kept.named }) in
+    let there = (safe.invariant.basis.ends.known o.number o.frame o.among).1 in
+    record {
+      node = there.state;
+      at = there.is;
+      fits = none_is_strange engine.settings (system_of log) o.number o.frame there.state safe o.among there.is;
+    }
+
+-- ---- the frame at a place within those outstanding
 
 -- a number at each place within these
 record HasAt (numbers : List ℕ) (place : ℕ) : Type 0 where
@@ -143,140 +170,109 @@ module _ (outcome : NodeValue → Outcome) (before after : OverlayValue) (name :
   pub still_has : StillHas before after
   still_has = record { settings = settings; there = stays_there (node_at before name) refl }
 
--- ---- what a node answers
+-- ---- what the receiver answers
 
+-- a node answers so, or wants memory
 pub answer_ok : (answer : Result Turn NodeFault) (turn : Turn) → answer_given answer ≡ Ok turn → answer ≡ Ok turn
 answer_ok (Ok other) turn is = let same : other ≡ turn = cc in ap (λ t. Ok t) same
 answer_ok (Err fault) turn is = let never : Err (NodeRefuses fault) ≡ Ok turn = is in cc
 
-not_ok : (answer : Result Turn NodeFault) (turn : Turn) → answer ≡ Ok turn → IsErr (answer_given answer) → ⊥
-not_ok answer turn is fails = let wrong : IsErr (answer_given (Ok turn)) = subst (λ a. IsErr (answer_given a)) is fails in absurd (true≢false (sym wrong))
+memory_or_other : (answer : Result Turn NodeFault) → (answer ≡ Err OutOfMemory) ⊎ (answer ≢ Err OutOfMemory)
+memory_or_other (Ok turn) = inr (λ never. cc)
+memory_or_other (Err OutOfMemory) = inl refl
+memory_or_other (Err fault) = inr (λ never. cc)
 
 own_name : (node : NodeState) (name : List ℕ) → name_of node ≡ name → is_own_name node name ≡ true
 own_name node name is = (bytes_eq-Decides name (name_of node)).1 (sym is)
 
+-- a frame that is read, and isn't strange to its receiver, makes this act by its rule
 module _ (p : SettingsValue) (node : NodeState) (frame : Frame) where
-  -- what a frame that is read makes its receiver answer
-  abbrev pub read_outcome : Outcome
-  read_outcome = if is_strange node frame then refused_by (running node) Strange else acted_as node (act node (Takes frame))
-
-  pub outcome_is : settings_of node ≡ p → name_of node ≡ frame.to → frame_of p (spelling p frame) ≡ Ok frame
-      → take_outcome (running node) (spelling p frame) ≡ read_outcome
-  outcome_is settings name read =
+  pub outcome_is : settings_of node ≡ p → name_of node ≡ frame.to → frame_of p (spelling p frame) ≡ Ok frame → is_strange node frame ≡ false
+      → take_outcome (running node) (spelling p frame) ≡ acted_as node (act node (Takes frame))
+  outcome_is settings name read fits =
       ap (λ q. at_read (running node) (frame_of q (spelling p frame))) settings ∙ ap (at_read (running node)) read
-      ∙ ap (λ own. if own then read_outcome else refused_by (running node) (NotMine frame.to)) (own_name node frame.to name)
+      ∙ ap (λ own. if own then by_strange (is_strange node frame) else refused_by (running node) (NotMine frame.to)) (own_name node frame.to name)
+      ∙ ap by_strange fits
+    where
+      by_strange : Bool → Outcome
+      by_strange strange = if strange then refused_by (running node) Strange else acted_as node (act node (Takes frame))
 
 module _ (before after : Engine) (ready : AreReady before) (place : ℕ) (o : IsOutstanding before.settings before.ledger.records place)
     (given : Result Turn OverlayFault)
     (step : StepsAt (λ node. take_outcome node (spelling before.settings o.frame)) before.overlay.nodes after.overlay.nodes o.frame.to given)
     (settings : after.overlay.settings ≡ before.overlay.settings) where
-  abbrev s : System
-  s = system_of before.ledger.records
-
   abbrev frame : Frame
   frame = o.frame
 
-  same_overlay : after.overlay.nodes ≡ before.overlay.nodes → after.overlay ≡ before.overlay
-  same_overlay nodes =
-      ap (λ p. record { settings = p; nodes = after.overlay.nodes }) settings
-      ∙ ap (λ n. record { settings = before.overlay.settings; nodes = n }) nodes
+  abbrev receiver : IsReceiver (system_of before.ledger.records) frame
+  receiver = receiver_of before ready place o
 
-  node_is : (found_node : Option NodeState) → s.node frame.to ≡ found_node → node_at before.overlay frame.to ≡ option_map running found_node
-  node_is found_node is = (ready.kept.go_on refl).nodes.nodes_are frame.to ∙ ap (option_map running) is
+  abbrev node : NodeState
+  node = receiver.node
 
-  -- there is no receiver
-  nobody : s.node frame.to ≡ None → (acted : Option Acted) → IsActed frame.to given acted → HasTaken before after frame acted
-  nobody none (Some acted) is =
-      let no_node = step.absent (node_is None none) in
-      let never : Err NoNode ≡ Ok acted.turn = sym no_node.given_is ∙ is.1 in
-      cc
-  nobody none None is =
-      let no_node = step.absent (node_is None none) in
-      (ap (λ n. unheeded_at n frame) none, same_overlay no_node.same)
+  facts : IsSoundAt (seen before).beginning before.ledger.records frame.to node
+  facts = (sound before ready).nodes frame.to node receiver.at
 
-  module _ (node : NodeState) (at : s.node frame.to ≡ Some node) where
-    abbrev facts : IsSoundAt (seen before).beginning before.ledger.records frame.to node
-    facts = (sound before ready).nodes frame.to node at
+  has : HasStepped (take_outcome (running node) (spelling before.settings frame)) before.overlay.nodes after.overlay.nodes frame.to (running node) given
+  has = step.there (running node) ((ready.kept.go_on refl).nodes.nodes_are frame.to ∙ ap (option_map running) receiver.at)
 
-    has : HasStepped (take_outcome (running node) (spelling before.settings frame)) before.overlay.nodes after.overlay.nodes frame.to (running node) given
-    has = step.there (running node) (node_is (Some node) at)
+  answered : HasAnswered (take_outcome (running node) (spelling before.settings frame)) (running node) has.is given
+  answered = has.step.free facts.left
 
-    answered : HasAnswered (take_outcome (running node) (spelling before.settings frame)) (running node) has.is given
-    answered = has.step.free facts.left
+  answers : AnswersAs (acted_as node (act node (Takes frame))) (running node) answered.answer has.is
+  answers = subst (λ x. AnswersAs x (running node) answered.answer has.is)
+      (outcome_is before.settings node frame facts.settings_are facts.name_is o.read receiver.fits) answered.answers
 
-    answers : AnswersAs (read_outcome before.settings node frame) (running node) answered.answer has.is
-    answers = subst (λ x. AnswersAs x (running node) answered.answer has.is)
-        (outcome_is before.settings node frame facts.settings_are facts.name_is o.read) answered.answers
+  -- it acts, or memory was refused
+  pub takes_or_wants : (given ≡ Err (NodeRefuses OutOfMemory)) ⊎ IsOk given
+  takes_or_wants = elim (memory_or_other answered.answer) [
+    | inl memory ↦ inl (answered.given_is ∙ ap answer_given memory)
+    | inr other ↦ inr (subst IsOk (sym (answered.given_is ∙ ap answer_given (answers.answer other))) refl)
+  ]
 
-    -- the frame is strange to the receiver
-    strange : is_strange node frame ≡ true → (acted : Option Acted) → IsActed frame.to given acted → HasTaken before after frame acted
-    strange is (Some acted) (named, ok) =
-        let is_ok = answer_ok answered.answer acted.turn (sym answered.given_is ∙ ok) in
-        let other : answered.answer ≢ Err OutOfMemory = λ memory. let never : Ok acted.turn ≡ Err OutOfMemory = sym is_ok ∙ memory in cc in
-        let refused : answered.answer ≡ Err Strange =
-        answers.answer other ∙ ap (λ b. (if b then refused_by (running node) Strange else acted_as node (act node (Takes frame))).answer) is in
-        let never : Ok acted.turn ≡ Err Strange = sym is_ok ∙ refused in
-        cc
-    strange is None (fails, other) =
-        let not_memory : answered.answer ≢ Err OutOfMemory = λ memory. other (answered.given_is ∙ ap answer_given memory) in
-        let stays : has.is ≡ running node =
-        answers.node not_memory ∙ ap (λ b. (if b then refused_by (running node) Strange else acted_as node (act node (Takes frame))).node) is in
-        (ap (λ n. unheeded_at n frame) at ∙ ap (λ b. if b then 1 else 0) is, same_overlay (has.same stays))
-
-    -- the receiver acts
-    fits : is_strange node frame ≡ false → (acted : Option Acted) → IsActed frame.to given acted → HasTaken before after frame acted
-    fits is (Some acted) (named, ok) =
-        let is_ok = answer_ok answered.answer acted.turn (sym answered.given_is ∙ ok) in
-        let other : answered.answer ≢ Err OutOfMemory = λ memory. let never : Ok acted.turn ≡ Err OutOfMemory = sym is_ok ∙ memory in cc in
-        let by_rule : answered.answer ≡ Ok (turn_made node (act node (Takes frame))) =
-        answers.answer other ∙ ap (λ b. (if b then refused_by (running node) Strange else acted_as node (act node (Takes frame))).answer) is in
-        let left : has.is ≡ running (act node (Takes frame)).state =
-        answers.node other ∙ ap (λ b. (if b then refused_by (running node) Strange else acted_as node (act node (Takes frame))).node) is in
-        let both : Ok acted.turn ≡ Ok (turn_made node (act node (Takes frame))) = sym is_ok ∙ by_rule in
-        record {
+  pub has_taken_at : (acted : Acted) → IsActed frame.to given acted → HasTakenAt before after place acted
+  has_taken_at acted (named, ok) =
+      let is_ok = answer_ok answered.answer acted.turn (sym answered.given_is ∙ ok) in
+      let other : answered.answer ≢ Err OutOfMemory = λ memory. let never : Ok acted.turn ≡ Err OutOfMemory = sym is_ok ∙ memory in cc in
+      let both : Ok acted.turn ≡ Ok (turn_made node (act node (Takes frame))) = sym is_ok ∙ answers.answer other in
+      record {
+        number = o.number;
+        frame = frame;
+        at = o.at;
+        is = o.is;
+        heeded = record {
           node = node;
-          was = at;
-          fits = is;
+          was = receiver.at;
+          fits = receiver.fits;
           acts = record {
             name_is = named;
             turn_is = cc;
-            changes = subst (ChangesOnly before.overlay.nodes after.overlay.nodes frame.to) left has.changes;
+            changes = subst (ChangesOnly before.overlay.nodes after.overlay.nodes frame.to) (answers.node other) has.changes;
             settings = settings;
           };
-        }
-    fits is None (fails, other) =
-        let not_memory : answered.answer ≢ Err OutOfMemory = λ memory. other (answered.given_is ∙ ap answer_given memory) in
-        let by_rule : answered.answer ≡ Ok (turn_made node (act node (Takes frame))) =
-        answers.answer not_memory ∙ ap (λ b. (if b then refused_by (running node) Strange else acted_as node (act node (Takes frame))).answer) is in
-        absurd (not_ok answered.answer (turn_made node (act node (Takes frame))) by_rule (subst IsErr answered.given_is fails))
-
-  pub has_taken : (acted : Option Acted) → IsActed frame.to given acted → HasTaken before after frame acted
-  has_taken acted is = by_node (s.node frame.to) refl
-    where
-      by_node : (node : Option NodeState) → s.node frame.to ≡ node → HasTaken before after frame acted
-      by_node None none = nobody none acted is
-      by_node (Some node) at = elim (cases_Bool (is_strange node frame)) [
-        | inl is_so ↦ strange node at is_so acted is
-        | inr usual ↦ fits node at usual acted is
-      ]
-
-  pub has_taken_at : (acted : Option Acted) → IsActed frame.to given acted → HasTakenAt before after place acted
-  has_taken_at acted is = record { number = o.number; frame = frame; at = o.at; is = o.is; taken = has_taken acted is }
+        };
+      }
 
 -- what holds of each that is made so holds of what is made
 pub if_ok : {A E : Type 0} (P Q : A → Type 0) → ((x : A) → P x → Q x) → (r : Result A E) → IfOk r P → IfOk r Q
 if_ok P Q onward (Ok x) is = onward x is
 if_ok P Q onward (Err e) is = is
 
--- the receiver of an outstanding frame has taken its bytes
-pub take_done : (before after : Engine) (ready : AreReady before) (place : ℕ)
-    (o : IsOutstanding before.settings before.ledger.records place) (bytes name : List ℕ) (given : Result Turn OverlayFault)
-    → bytes ≡ spelling before.settings o.frame → name ≡ o.frame.to
-    → StepsAt (λ node. take_outcome node bytes) before.overlay.nodes after.overlay.nodes name given
-    → after.overlay.settings ≡ before.overlay.settings → (r : Result (Option Acted) NoMemory) → IfOk r (IsActed name given)
-    → IfOk r (HasTakenAt before after place)
-take_done before after ready place o bytes name given same named step settings r is =
-    let at_bytes = subst (λ l. StepsAt (λ node. take_outcome node l) before.overlay.nodes after.overlay.nodes name given) same step in
-    let at_name = subst (λ n. StepsAt (λ node. take_outcome node (spelling before.settings o.frame)) before.overlay.nodes after.overlay.nodes n given) named at_bytes in
-    if_ok (IsActed name given) (HasTakenAt before after place)
-    (λ acted acts. has_taken_at before after ready place o given at_name settings acted (subst (λ n. IsActed n given acted) named acts)) r is
+-- the receiver of an outstanding frame has been handed its bytes
+module _ (before after : Engine) (ready : AreReady before) (place : ℕ) (o : IsOutstanding before.settings before.ledger.records place)
+    (bytes name : List ℕ) (given : Result Turn OverlayFault) (same : bytes ≡ spelling before.settings o.frame) (named : name ≡ o.frame.to)
+    (step : StepsAt (λ node. take_outcome node bytes) before.overlay.nodes after.overlay.nodes name given)
+    (settings : after.overlay.settings ≡ before.overlay.settings) where
+  step_so : StepsAt (λ node. take_outcome node (spelling before.settings o.frame)) before.overlay.nodes after.overlay.nodes o.frame.to given
+  step_so =
+      subst (λ n. StepsAt (λ node. take_outcome node (spelling before.settings o.frame)) before.overlay.nodes after.overlay.nodes n given) named
+      (subst (λ l. StepsAt (λ node. take_outcome node l) before.overlay.nodes after.overlay.nodes name given) same step)
+
+  pub take_answers : (given ≡ Err (NodeRefuses OutOfMemory)) ⊎ IsOk given
+  take_answers = takes_or_wants before after ready place o given step_so settings
+
+  pub take_done : (r : Result Acted NoMemory) → IfOk r (IsActed name given) → IfOk r (HasTakenAt before after place)
+  take_done r is =
+      if_ok (IsActed name given) (HasTakenAt before after place)
+      (λ acted acts.
+      has_taken_at before after ready place o given step_so settings acted (subst (λ n. IsActed n given acted) named acts)) r is

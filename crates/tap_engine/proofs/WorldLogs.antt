@@ -24,7 +24,8 @@ use Rattle.tap_course.proofs.Nodes.{no_steps}
 use Rattle.tap_course.proofs.Within.{step_within, taken_within}
 use Rattle.tap_engine.specs.Kinds.{begun_index, finishes, is_finished}
 use Rattle.tap_engine.specs.Laws.{WorldLogGrows, left_by}
-use Rattle.tap_engine.specs.Outcome.{IsNextIndex, MayGoOn, MayNote, Outcome, adds, adds_within, is_within, refuses, spends, stays, step_group, taken_group, takes_number, unless_refused, unless_stopped}
+use Rattle.tap_engine.specs.Outcome.{IsNextIndex, MayGoOn, MayNote, Outcome, adds, adds_within, is_within, refuses, spends, stays, takes_number, unless_refused, unless_stopped}
+use Rattle.tap_course.specs.Groups.{step_group, taken_group}
 use Rattle.tap_engine.specs.World.{HasBegun, WorldValue}
 use Rattle.tap_engine.specs.WorldLog.{HasCome, HasGoneTo, HasIndices, HasStopped, IsCourseOrFinished, IsPending, IsWorldLog}
 use Rattle.tap_engine.specs.declared.stop.Stop.{Stop}
@@ -66,14 +67,14 @@ gone_finished : (b : Beginning) (stopped : Bool) (refused : Option Refusal) (cou
 gone_finished b stopped refused course log runs none is = rw (runs, none) (inr is)
 
 -- a world that goes on: its log is a course
-pub record GoesOn (w : WorldValue) : Type 0 where
+pub record IsAtCourse (w : WorldValue) : Type 0 where
   pub runs : w.stopped ≡ false
   pub noted : w.refused ≡ None
   pub course : IsCourse w.beginning w.log
   pub going : is_ended w.log ≡ false
   pub indices : HasIndices w.log
 
-pub goes_on : (w : WorldValue) → IsWorldLog w → MayGoOn w → w.stopped ≡ false → GoesOn w
+pub goes_on : (w : WorldValue) → IsWorldLog w → MayGoOn w → w.stopped ≡ false → IsAtCourse w
 goes_on w is may runs =
     let come = come_to w.beginning w.stopped w.refused is.course w.log runs may.noted is.gone_to in
     let same = unfinished_is is.course w.log come may.unfinished in
@@ -106,7 +107,7 @@ module _ (w : WorldValue) (nodes : List (List ℕ × NodeValue)) where
       by_stopped true at = stays_log Ended is
       by_stopped false at = left at
 
-  module _ (on : GoesOn w) where
+  module _ (on : IsAtCourse w) where
     -- a group that may follow is added
     pub adds_log : (group : List Record) → Follows w.beginning w.log group → HasIndices (w.log ++ group)
         → IsWorldLog (left_by w (adds w group) nodes)
@@ -141,7 +142,7 @@ module _ (w : WorldValue) (nodes : List (List ℕ × NodeValue)) where
       }
 
       abbrev group : List Record
-      group = step_group w.beginning w.log index step
+      group = step_group w.beginning.settings w.log index step
 
       items_begin_none : is_choice step ≡ false → All (λ item. step_of item ≡ None) (step_records w.beginning.settings w.log (system_of w.log) index step)
       items_begin_none unchosen =
@@ -196,7 +197,7 @@ module _ (w : WorldValue) (nodes : List (List ℕ × NodeValue)) where
     -- a frame that is outstanding
     module _ (number : ℕ) (waits : has_number (outstanding w.log) number ≡ true) where
       abbrev taking : List Record
-      taking = taken_group w.beginning w.log number
+      taking = taken_group w.beginning.settings w.log number
 
       taking_indices : MayFollow w.beginning.settings w.log (system_of w.log) taking → HasIndices (w.log ++ taking)
       unfolding MayFollow

@@ -17,7 +17,6 @@ use Rattle.tap_overlay.specs.Overlay.{is_core_node, node_at}
 use Rattle.tap_course.specs.Named.{HaveNames}
 use Rattle.tap_engine.specs.Kinds.{is_finished}
 use Rattle.tap_engine.specs.Outcome.{Outcome}
-use Rattle.tap_engine.specs.Unheeded.{unheeded_count}
 use Rattle.tap_engine.specs.World.{WorldValue, node_of}
 use Rattle.tap_engine.specs.WorldLog.{IsWorldLog}
 use Rattle.tap_engine.specs.declared.engine.Engine.{Engine}
@@ -53,20 +52,19 @@ room_kept (Some item) = room_of_record item
 
 -- The engine goes on: the nodes are those of the system that the log has come to, of the names that were ever present, and there is room
 -- unless the log has its end.
-pub record GoOn (engine : Engine) : Type 0 where
+pub record GoesOn (engine : Engine) : Type 0 where
   pub nodes : HasNodesOf (system_of engine.ledger.records) engine.overlay
   pub ever : (name : List ℕ) → has_name (names_of engine.ledger.records) name ≡ is_some ((system_of engine.ledger.records).node name)
   pub room : is_finished engine.ledger.records ≡ false → room_kept (last_of engine.ledger.records) ≤ engine.ledger.spare
 
--- The engine of a world: the log is a world's, the names of its steps are of the settings, there is a node of each name that was ever
--- present, and how many frames were taken to no effect is counted. Unless the world was stopped, the engine goes on.
+-- The engine of a world: the log is a world's, the names of its steps are of the settings, and there is a node of each name that was ever
+-- present. Unless the world was stopped, the engine goes on.
 pub record AreKept (engine : Engine) (refused : Option Refusal) (stopped : Bool) : Type 0 where
   pub log : IsWorldLog (world_value engine refused stopped)
   pub named : HaveNames engine.settings engine.ledger.records
   pub settings : engine.overlay.settings ≡ engine.settings
   pub present : (name : List ℕ) → has_name (names_of engine.ledger.records) name ≡ true → is_some (node_at engine.overlay name) ≡ true
-  pub unheeded_is : engine.unheeded ≡ unheeded_count engine.ledger.records
-  pub go_on : stopped ≡ false → GoOn engine
+  pub go_on : stopped ≡ false → GoesOn engine
 
 -- the engine of a world that may go on: it wasn't stopped, no refusal is to be noted, and the log hasn't its end
 pub record AreReady (engine : Engine) : Type 0 where
@@ -77,7 +75,7 @@ pub record AreReady (engine : Engine) : Type 0 where
 
 -- The answer and the log are those of the outcome, unless memory was refused, when the log stays. With what it begins stays, and so do
 -- the nodes if the call is refused.
-pub record LeadTo (outcome : Outcome) (before : Engine) (given : Result (Unit {0}) Stop) (after : Engine) : Type 0 where
+pub record LeadsTo (outcome : Outcome) (before : Engine) (given : Result (Unit {0}) Stop) (after : Engine) : Type 0 where
   pub answer : given ≢ Err NoMemory → given ≡ outcome.answer
   pub log : given ≢ Err NoMemory → after.ledger.records ≡ outcome.log
   pub kept : given ≢ Err NoMemory → AreKept after outcome.refused outcome.stopped

@@ -15,7 +15,8 @@ use Rattle.tap_node.specs.Node.{NodeValue}
 use Rattle.tap_course.specs.Beginning.{Beginning, IsWithinLimits}
 use Rattle.tap_course.specs.Course.{IsCourse, is_choice}
 use Rattle.tap_engine.specs.Kinds.{damages, observes}
-use Rattle.tap_engine.specs.Outcome.{IsNextIndex, MayGoOn, MayNote, Outcome, deliver_outcome, finish_outcome, is_within, mark_outcome, note_outcome, step_group, step_outcome}
+use Rattle.tap_engine.specs.Outcome.{IsNextIndex, MayGoOn, MayNote, Outcome, deliver_outcome, finish_outcome, is_within, mark_outcome, note_outcome, step_outcome}
+use Rattle.tap_course.specs.Groups.{step_group}
 use Rattle.tap_engine.specs.World.{HasBegun, WorldValue}
 use Rattle.tap_engine.specs.WorldLog.{IsWorldLog}
 
@@ -58,4 +59,4 @@ pub record WorldLogGrows : Type 0 where
   pub course : (w : WorldValue) → IsWorldLog w → MayGoOn w → w.stopped ≡ false
       → IsCourse w.beginning w.log × (is_ended w.log ≡ false)
   pub quiet : (w : WorldValue) (index : ℕ) (step : Step) → IsWorldLog w → MayGoOn w → w.stopped ≡ false
-      → (observes step ≡ true) ⊎ (damages step ≡ true) → is_within w.beginning w.log (step_group w.beginning w.log index step) ≡ true
+      → (observes step ≡ true) ⊎ (damages step ≡ true) → is_within w.beginning w.log (step_group w.beginning.settings w.log index step) ≡ true

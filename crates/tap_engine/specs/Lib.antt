@@ -1,8 +1,8 @@
 pub mod Kinds
 pub mod World
+pub mod Holders
 pub mod Outcome
 pub mod WorldLog
-pub mod Unheeded
 pub mod Places
 pub mod Kept
 pub mod Working

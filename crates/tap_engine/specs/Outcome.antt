@@ -4,7 +4,7 @@
 use Rattle.std.specs.Prelude.{◌≡◌, ◌≢◌, ◌<◌, ◌≤◌, ◌⊎◌, ℕ, nat_le, Bool, true, false, if◌then◌else◌, List, [], ◌∷◌, ◌++◌, length, slice_get, Option, None, Some, IfSome, Result, Ok, Err}
 use Rattle.tap_scenario.specs.declared.step.Step.{Step}
 use Rattle.tap_log.specs.declared.record.Record.{Record}
-use Rattle.tap_log.specs.declared.record.Record.TheVariants.{Step as StepRecord, Taken, Refused as RefusedRecord, Spent as SpentRecord, Finished}
+use Rattle.tap_log.specs.declared.record.Record.TheVariants.{Step as StepRecord, Refused as RefusedRecord, Spent as SpentRecord, Finished}
 use Rattle.tap_log.specs.declared.record.Refusal.{Refusal}
 use Rattle.tap_log.specs.declared.record.Refusal.TheVariants.{NoSuchFlight}
 use Rattle.tap_log.specs.Counts.{sent_count}
@@ -12,22 +12,11 @@ use Rattle.tap_log.specs.Log.{last_of}
 use Rattle.tap_history.specs.Moments.{outstanding}
 use Rattle.tap_history.specs.Refusals.{first_refusal}
 use Rattle.tap_course.specs.Beginning.{Beginning}
-use Rattle.tap_course.specs.Course.{system_of}
-use Rattle.tap_course.specs.Group.{step_records, taken_records}
+use Rattle.tap_course.specs.Groups.{step_group, taken_group}
 use Rattle.tap_engine.specs.Kinds.{is_finished, last_index, may_be_refused, most_index}
 use Rattle.tap_engine.specs.World.{WorldValue}
 use Rattle.tap_engine.specs.declared.stop.Stop.{Stop}
 use Rattle.tap_engine.specs.declared.stop.Stop.TheVariants.{Refused, Spent, NoMemory, Ended}
-
--- ---- groups
-
--- the group that a step adds to a log that begins so: the step, and what the rule of a node and the refusals give
-abbrev pub step_group : Beginning → List Record → ℕ → Step → List Record
-step_group b log index step = StepRecord index step ∷ step_records b.settings log (system_of log) index step
-
--- the group of the frame of this number that is taken
-abbrev pub taken_group : Beginning → List Record → ℕ → List Record
-taken_group b log number = Taken number ∷ taken_records b.settings log (system_of log) number
 
 -- with this group no more frames are sent in all than may be
 abbrev pub is_within : Beginning → List Record → List Record → Bool
@@ -85,14 +74,14 @@ stops (Err stop) = false
 -- a start, an observation or a damaged copy: refused for the first cause that holds, and else its group is added
 abbrev pub unless_refused : WorldValue → ℕ → Step → Option Refusal → Outcome
 unless_refused w index step (Some refusal) = refuses w index step refusal
-unless_refused w index step None = adds_within w (StepRecord index step ∷ []) (step_group w.beginning w.log index step)
+unless_refused w index step None = adds_within w (StepRecord index step ∷ []) (step_group w.beginning.settings w.log index step)
 
 abbrev pub step_outcome : WorldValue → ℕ → Step → Outcome
 step_outcome w index step = unless_stopped w (unless_refused w index step (first_refusal w.log step))
 
 -- the frame of this number is taken; without one the place is refused, with the number of those outstanding
 abbrev pub takes_number : WorldValue → Option ℕ → Outcome
-takes_number w (Some number) = adds_within w [] (taken_group w.beginning w.log number)
+takes_number w (Some number) = adds_within w [] (taken_group w.beginning.settings w.log number)
 takes_number w None = stays w (Refused (NoSuchFlight (length (outstanding w.log))))
 
 -- the frame at this place of the outstanding ones is taken

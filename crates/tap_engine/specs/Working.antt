@@ -1,7 +1,7 @@
 -- What the code of a world does between the steps of its nodes and the groups of its log.
 --
 -- Rule: docs/FORMATS.md, "The course of a run".
-use Rattle.std.specs.Prelude.{◌≡◌, ◌≢◌, ℕ, ◌+◌, ◌≤◌, Bool, true, false, List, [], ◌∷◌, ◌++◌, length, slice_get, is_some, Option, None, Some, Result, Ok, Err, IsErr}
+use Rattle.std.specs.Prelude.{◌≡◌, ◌≢◌, ℕ, ◌+◌, ◌≤◌, Bool, true, false, List, [], ◌∷◌, ◌++◌, length, slice_get, is_some, Some, Result, Ok, Err}
 use Rattle.std.specs.Option.{option_map}
 use Rattle.tap_name.specs.Name.{IsName}
 use Rattle.tap_name.specs.Settings.{SettingsValue}
@@ -23,7 +23,6 @@ use Rattle.tap_rule.specs.Strange.{is_strange}
 use Rattle.tap_node.specs.declared.status.NodeStatus.{NodeStatus}
 use Rattle.tap_node.specs.declared.status.NodeStatus.TheVariants as status
 use Rattle.tap_node.specs.Node.{has_room_left, node_status, running}
-use Rattle.tap_node.specs.declared.fault.NodeFault.TheVariants.{NoMemory as OutOfMemory}
 use Rattle.tap_node.specs.declared.turn.Turn.{Turn}
 use Rattle.tap_step.specs.declared.news.News.TheVariants.{Nothing}
 use Rattle.tap_node.specs.Outcome.{turn_made}
@@ -33,7 +32,6 @@ use Rattle.tap_course.specs.Group.{start_at}
 use Rattle.tap_course.specs.Starts.{next_cast}
 use Rattle.tap_ledger.specs.Added.{CanAdd, most_frames}
 use Rattle.tap_overlay.specs.declared.fault.OverlayFault.{OverlayFault}
-use Rattle.tap_overlay.specs.declared.fault.OverlayFault.TheVariants.{Node as NodeRefuses}
 use Rattle.tap_overlay.specs.declared.start.Start.{Start}
 use Rattle.tap_overlay.specs.declared.start.Start.TheVariants.{Abandon, Publish, Withdraw, Find, Leave, Cast}
 use Rattle.tap_overlay.specs.Overlay.{ChangesOnly, OverlayValue, node_at}
@@ -46,7 +44,6 @@ use Rattle.tap_engine.specs.Outcome.{Outcome}
 use Rattle.tap_records.specs.Damaged.{copy_damaged}
 use Rattle.tap_records.specs.Seen.{turn_records}
 use Rattle.tap_records.specs.declared.damage.Damage.{Damage}
-use Rattle.tap_engine.specs.Unheeded.{unheeded_at}
 
 -- The node of this name has acted by its rule, and its turn says so; every other node is as it was.
 pub record HasActed (before after : OverlayValue) (name : List ℕ) (node : NodeState) (event : Event) (acted : Acted) : Type 0 where
@@ -54,6 +51,10 @@ pub record HasActed (before after : OverlayValue) (name : List ℕ) (node : Node
   pub turn_is : acted.turn ≡ turn_made node (act node event)
   pub changes : ChangesOnly before.nodes after.nodes name (running (act node event).state)
   pub settings : after.settings ≡ before.settings
+
+-- the node of this name did so, by the answer of the nodes
+abbrev pub IsActed : List ℕ → Result Turn OverlayFault → Acted → Type 0
+IsActed name answer acted = (acted.name ≡ name) × (answer ≡ Ok acted.turn)
 
 -- these nodes have the settings that those have, and each of those is still there
 pub record StillHas (before after : OverlayValue) : Type 0 where
@@ -151,11 +152,6 @@ pub record CopiesAt (step : Step) (copies : ℕ × Damage) : Type 0 where
 
 -- ---- frames
 
--- what is made of the answer of the nodes: what the node of this name did, or nothing, if it refused otherwise than for want of memory
-abbrev pub IsActed : List ℕ → Result Turn OverlayFault → Option Acted → Type 0
-IsActed name answer (Some acted) = (acted.name ≡ name) × (answer ≡ Ok acted.turn)
-IsActed name answer None = IsErr answer × (answer ≢ Err (NodeRefuses OutOfMemory))
-
 -- the receiver is there, the frame isn't strange to it, and it has taken it
 pub record HasHeeded (before after : Engine) (frame : Frame) (acted : Acted) : Type 0 where
   pub node : NodeState
@@ -163,16 +159,10 @@ pub record HasHeeded (before after : Engine) (frame : Frame) (acted : Acted) : T
   pub fits : is_strange node frame ≡ false
   pub acts : HasActed before.overlay after.overlay frame.to node (Takes frame) acted
 
--- the frame is taken by its receiver, or to no effect
-abbrev pub HasTaken : Engine → Engine → Frame → Option Acted → Type 0
-HasTaken before after frame (Some acted) = HasHeeded before after frame acted
-HasTaken before after frame None =
-    (unheeded_at ((system_of before.ledger.records).node frame.to) frame ≡ 1) × (after.overlay ≡ before.overlay)
-
--- the frame at this place of those outstanding
-pub record HasTakenAt (before after : Engine) (place : ℕ) (acted : Option Acted) : Type 0 where
+-- the frame at this place of those outstanding has been taken by its receiver
+pub record HasTakenAt (before after : Engine) (place : ℕ) (acted : Acted) : Type 0 where
   pub number : ℕ
   pub frame : Frame
   pub at : slice_get (outstanding before.ledger.records) place ≡ Some number
   pub is : numbered_frame number (system_of before.ledger.records).frames ≡ Some frame
-  pub taken : HasTaken before after frame acted
+  pub heeded : HasHeeded before after frame acted

@@ -14,7 +14,8 @@ use Rattle.tap_history.specs.Steps.{is_start}
 use Rattle.tap_course.specs.Beginning.{Beginning}
 use Rattle.tap_course.specs.Course.{IsCourse, is_choice}
 use Rattle.tap_engine.specs.Kinds.{begun_indices, last_index, most_index}
-use Rattle.tap_engine.specs.Outcome.{is_within, step_group, taken_group}
+use Rattle.tap_engine.specs.Outcome.{is_within}
+use Rattle.tap_course.specs.Groups.{step_group, taken_group}
 use Rattle.tap_engine.specs.World.{WorldValue}
 
 -- after the course the step stands alone that is refused so, and its refusal isn't noted yet
@@ -37,7 +38,7 @@ HasCome course (Some refusal) log = IsPending course refusal log
 pub record TakesTooMany (b : Beginning) (course log : List Record) : Type 0 where
   pub number : ℕ
   pub waits : has_number (outstanding course) number ≡ true
-  pub over : is_within b course (taken_group b course number) ≡ false
+  pub over : is_within b course (taken_group b.settings course number) ≡ false
   pub log_is : log ≡ course ++ Spent b.frames ∷ []
 
 -- a start that isn't refused would
@@ -46,7 +47,7 @@ pub record StartsTooMany (b : Beginning) (course log : List Record) : Type 0 whe
   pub step : Step
   pub starts : is_start step ≡ true
   pub accepted : first_refusal course step ≡ None
-  pub over : is_within b course (step_group b course index step) ≡ false
+  pub over : is_within b course (step_group b.settings course index step) ≡ false
   pub log_is : log ≡ course ++ StepRecord index step ∷ Spent b.frames ∷ []
 
 -- the log of a world that was stopped: a course, and then nothing if memory was refused, and `Spent` if too many frames would have

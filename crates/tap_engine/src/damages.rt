@@ -17,7 +17,7 @@ use tap_wire::{WireFault, decode, decode_head};
 
 // The damaged copies.
 impl Engine {
-    ghost use Rattle.tap_engine.specs.Kept.{AreReady, LeadTo, world_value};
+    ghost use Rattle.tap_engine.specs.Kept.{AreReady, LeadsTo, world_value};
     ghost use Rattle.tap_engine.specs.Outcome.{IsNextIndex, unless_refused};
 
     /// A step offers a damaged copy of an outstanding frame to its receiver: its group is the step, and why the copy is no frame. The
@@ -33,8 +33,9 @@ impl Engine {
         requires ready { AreReady self.old }
         requires next { IsNextIndex (world_value self.old None false) index }
         requires kind { damages step.now ≡ true }
-        ensures { LeadTo (unless_refused (world_value self.old None false) index step.now (first_refusal self.old.ledger.records step.now))
+        ensures leads { LeadsTo (unless_refused (world_value self.old None false) index step.now (first_refusal self.old.ledger.records step.now))
             self.old result self.new }
+        ensures alone { self.new ≡ record self.old { ledger = self.new.ledger } }
     {
         if let Some(refusal) = self.refusal_of(step)? {
             self.add_step(index, step);

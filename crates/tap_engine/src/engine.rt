@@ -1,14 +1,15 @@
-ghost use Rattle.std.specs.Prelude.{◌≡◌, ◌≤◌, ◌+◌, ◌-◌, nat_lt, [], ◌∷◌, ◌++◌, length, IfOk, OnOk, OnErr, Err};
+ghost use Rattle.std.specs.Prelude.{◌≡◌, ◌≤◌, ◌+◌, ◌-◌, ◌⊎◌, nat_lt, [], ◌∷◌, ◌++◌, length, IfOk, IsOk, OnOk, OnErr, Err};
 ghost use Rattle.tap_log.specs.Counts.{sent_count};
 ghost use Rattle.tap_history.specs.Refusals.{first_refusal};
+ghost use Rattle.tap_engine.specs.Working.{IsActed};
 
 use crate::stop::{NoMemory, Stop};
 use std::alloc::Global;
 use tap_ledger::Ledger;
 use tap_log::{Record, Refusal};
 use tap_name::{Name, Settings};
-use tap_node::Turn;
-use tap_overlay::Overlay;
+use tap_node::{NodeFault, Turn};
+use tap_overlay::{Overlay, OverlayFault};
 use tap_scenario::Step;
 
 /// What a world works on. Between its calls the nodes are those that the log has come to; in the midst of one they are ahead of it.
@@ -26,8 +27,6 @@ pub struct Engine {
     pub ledger: Ledger,
     /// The nodes.
     pub overlay: Overlay,
-    /// How many frames were taken to no effect: they had no receiver, or were strange to it.
-    pub unheeded: u32,
 }
 
 // A node, by its name, and what it did.
@@ -60,10 +59,49 @@ impl Engine {
         (left as usize) < turn.sent.len()
     }
 
-    /// Adds a step alone, for which there is room. It takes no memory.
+    /// A step that only chooses is added alone, with room for its refusal and the last record. `NoMemory` adds nothing.
     ///
     /// Rule: docs/FORMATS.md, "The course of a run".
-    pub fn add_step(&mut self, index: u32, step: &Step)
+    pub fn mark(&mut self, index: u32, step: &Step) -> Result<(), NoMemory>
+        requires { CanAdd self.old.ledger.records (Record.Step index step.now ∷ []) }
+        ensures same { self.new ≡ record self.old { ledger = self.new.ledger } }
+        ensures ok { OnOk result (self.new.ledger.records ≡ self.old.ledger.records ++ Record.Step index step.now ∷ []) }
+        ensures room { OnOk result (2 ≤ self.new.ledger.spare) }
+        ensures err { OnErr result (self.new.ledger.records ≡ self.old.ledger.records) }
+    {
+        self.ledger.reserve(3)?;
+        self.add_step(index, step);
+        Ok(())
+    }
+
+    /// The refusal of a step is added, for which there is room. It takes no memory.
+    ///
+    /// Rule: docs/FORMATS.md, "The course of a run".
+    pub fn note(&mut self, index: u32, refusal: Refusal)
+        requires room { 1 ≤ self.old.ledger.spare }
+        requires can_add { CanAdd self.old.ledger.records (Record.Refused index refusal ∷ []) }
+        ensures same { self.new ≡ record self.old { ledger = self.new.ledger } }
+        ensures log { self.new.ledger.records ≡ self.old.ledger.records ++ Record.Refused index refusal ∷ [] }
+        ensures spare { self.new.ledger.spare + 1 ≡ self.old.ledger.spare }
+    {
+        self.ledger
+            .push_reserved(Record::Refused { index, refusal });
+    }
+
+    /// That all steps were run is added, for which there is room. It takes no memory.
+    ///
+    /// Rule: docs/FORMATS.md, "The ways a run ends".
+    pub fn finish(&mut self, steps: u32)
+        requires room { 1 ≤ self.old.ledger.spare }
+        requires can_add { CanAdd self.old.ledger.records (Record.Finished steps ∷ []) }
+        ensures same { self.new ≡ record self.old { ledger = self.new.ledger } }
+        ensures log { self.new.ledger.records ≡ self.old.ledger.records ++ Record.Finished steps ∷ [] }
+    {
+        self.ledger.push_reserved(Record::Finished { steps });
+    }
+
+    // Adds a step alone, for which there is room. It takes no memory.
+    pub(crate) fn add_step(&mut self, index: u32, step: &Step)
         requires room { 1 ≤ self.old.ledger.spare }
         requires can_add { CanAdd self.old.ledger.records (Record.Step index step.now ∷ []) }
         ensures same { self.new ≡ record self.old { ledger = self.new.ledger } }
@@ -97,6 +135,17 @@ impl Engine {
     {
         self.ledger.add_group(group, 2)?;
         Ok(())
+    }
+}
+
+// What the node of a name has done, by the answer of the nodes: it acts, or memory was refused.
+pub(crate) fn acted_by(name: Name, answer: Result<Turn, OverlayFault>) -> Result<Acted, NoMemory>
+    requires { answer ≡ Err (OverlayFault.Node NodeFault.NoMemory) ⊎ IsOk answer }
+    ensures { IfOk result (IsActed name answer) }
+{
+    match answer {
+        Ok(turn) => Ok(Acted { name, turn }),
+        Err(_) => Err(NoMemory),
     }
 }
 

@@ -20,7 +20,7 @@ use tap_surrogate::{root_of, walk_path};
 
 // The observations.
 impl Engine {
-    ghost use Rattle.tap_engine.specs.Kept.{AreReady, LeadTo, world_value};
+    ghost use Rattle.tap_engine.specs.Kept.{AreReady, LeadsTo, world_value};
     ghost use Rattle.tap_engine.specs.Outcome.{IsNextIndex, unless_refused};
 
     /// A step observes: its group is the step, and what it sees. No node changes.
@@ -37,8 +37,9 @@ impl Engine {
         requires next { IsNextIndex (world_value self.old None false) index }
         requires kind { observes step.now ≡ true }
         requires names { IsStep self.old.settings false step.now }
-        ensures { LeadTo (unless_refused (world_value self.old None false) index step.now (first_refusal self.old.ledger.records step.now))
+        ensures leads { LeadsTo (unless_refused (world_value self.old None false) index step.now (first_refusal self.old.ledger.records step.now))
             self.old result self.new }
+        ensures alone { self.new ≡ record self.old { ledger = self.new.ledger } }
     {
         if let Some(refusal) = self.refusal_of(step)? {
             self.add_step(index, step);

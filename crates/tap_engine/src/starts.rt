@@ -1,4 +1,4 @@
-ghost use Rattle.std.specs.Prelude.{◌≡◌, ◌≤◌, ◌⊎◌, ◌∷◌, ◌++◌, [], true, false, None, Some, Ok, Err, IfOk, IfSome, IsOk};
+ghost use Rattle.std.specs.Prelude.{◌≡◌, ◌≤◌, ◌∷◌, ◌++◌, [], true, false, None, Some, IfOk, IfSome};
 ghost use Rattle.std.specs.Option.{ForSome};
 ghost use Rattle.tap_scenario.specs.Step.{IsStep};
 ghost use Rattle.tap_log.specs.Counts.{sent_count};
@@ -13,21 +13,21 @@ ghost use Rattle.tap_course.specs.Group.{start_at};
 ghost use Rattle.tap_records.specs.Seen.{turn_records};
 ghost use Rattle.tap_engine.specs.Working.{CanBegin, HasBegunOf, IsNamed, nothing_by, suits};
 
-use crate::engine::{Acted, Engine, group_of};
+use crate::engine::{Acted, Engine, acted_by, group_of};
 use crate::stop::{NoMemory, Stop};
 use tap_log::Record;
 use tap_name::Name;
-use tap_node::{News, NodeFault, NodeStatus, Turn};
-use tap_overlay::{OverlayFault, Start};
+use tap_node::{News, NodeStatus, Turn};
+use tap_overlay::Start;
 use tap_records::{add_some, add_turn};
-use tap_scenario::Step;
+use tap_scenario::{Prefix, Step, Word};
 use tap_turn::FrameList;
 use tap_wire::Bytes;
 
 // The starts.
 impl Engine {
     ghost use Rattle.tap_ledger.specs.Added.{CanAdd};
-    ghost use Rattle.tap_engine.specs.Kept.{AreReady, LeadTo, world_value};
+    ghost use Rattle.tap_engine.specs.Kept.{AreReady, LeadsTo, world_value};
     ghost use Rattle.tap_engine.specs.Outcome.{IsNextIndex, adds_within, unless_refused};
     ghost use Rattle.tap_engine.specs.Working.{CanAddTurn, HasBegunAt, LogsAs, StillHas};
 
@@ -47,7 +47,7 @@ impl Engine {
         requires next { IsNextIndex (world_value self.old None false) index }
         requires kind { is_start step.now ≡ true }
         requires names { IsStep self.old.settings false step.now }
-        ensures { LeadTo (unless_refused (world_value self.old None false) index step.now (first_refusal self.old.ledger.records step.now))
+        ensures { LeadsTo (unless_refused (world_value self.old None false) index step.now (first_refusal self.old.ledger.records step.now))
             self.old result self.new }
     {
         if let Some(refusal) = self.refusal_of(step)? {
@@ -195,15 +195,26 @@ impl Engine {
                 word,
                 prefix,
                 asker,
-            } => Some(Begun {
-                name: *asker,
-                start: Start::Cast {
-                    cast: self.next_cast(),
-                    level: prefix.as_slice().len() as u8,
-                    word: word.as_slice(),
-                },
-            }),
+            } => Some(self.cast_by(word, prefix, asker)),
             _ => None,
+        }
+    }
+
+    // The next cast: a node sends this word to all names that begin so.
+    #[tactic(auto, unfolding(tap_course::specs::Starts::start_of_step, tap_history::specs::Steps::actor_of))]
+    fn cast_by<'a>(&self, word: &'a Word, prefix: &Prefix, asker: &Name) -> Begun<'a>
+        requires ready { AreReady self.now }
+        requires names { IsStep self.now.settings false (Step.Cast word.now prefix.now asker.now) }
+        ensures start { start_at self.now.ledger.records (Step.Cast word.now prefix.now asker.now) ≡ Some (result.name, begun result.start) }
+        ensures named { IsNamed self.now.settings self.now.ledger.records result.start }
+    {
+        Begun {
+            name: *asker,
+            start: Start::Cast {
+                cast: self.next_cast(),
+                level: prefix.as_slice().len() as u8,
+                word: word.as_slice(),
+            },
         }
     }
 
@@ -215,7 +226,7 @@ impl Engine {
         ensures still { StillHas self.old.overlay self.new.overlay }
     {
         if self.is_suited(one) {
-            return started_by(one.name, self.overlay.start(&one.name, &one.start));
+            return acted_by(one.name, self.overlay.start(&one.name, &one.start));
         }
         Ok(self.nothing_by(one.name))
     }
@@ -249,18 +260,6 @@ impl Engine {
 struct Begun<'a> {
     name: Name,
     start: Start<'a>,
-}
-
-// What the node of a name has done, by the answer of the nodes. It is there, and has room for a step, so want of memory is the one
-// refusal.
-fn started_by(name: Name, answer: Result<Turn, OverlayFault>) -> Result<Acted, NoMemory>
-    requires { answer ≡ Err (OverlayFault.Node NodeFault.NoMemory) ⊎ IsOk answer }
-    ensures { IfOk result (λ acted. (acted.name ≡ name) × (answer ≡ Ok acted.turn)) }
-{
-    match answer {
-        Ok(turn) => Ok(Acted { name, turn }),
-        Err(_) => Err(NoMemory),
-    }
 }
 
 // Whether a node of this status may start this.

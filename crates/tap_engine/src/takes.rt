@@ -1,25 +1,19 @@
-ghost use Rattle.std.specs.Prelude.{◌≡◌, ◌≢◌, ◌<◌, ◌≤◌, ◌+◌, ◌∷◌, [], false, length, slice_get, None, IfOk};
+ghost use Rattle.std.specs.Prelude.{◌≡◌, ◌<◌, ◌≤◌, ◌∷◌, [], false, length, slice_get, None, IfOk};
 ghost use Rattle.tap_log.specs.Counts.{sent_count};
 ghost use Rattle.tap_history.specs.Moments.{outstanding};
-ghost use Rattle.tap_ledger.specs.Added.{CanAdd};
 ghost use Rattle.tap_records.specs.Seen.{turn_records};
-ghost use Rattle.tap_engine.specs.Working.{IsActed};
 
-use crate::engine::{Acted, Engine};
+use crate::engine::{Acted, Engine, acted_by};
 use crate::stop::{NoMemory, Stop};
 use std::alloc::Global;
 use tap_log::{Record, Refusal};
-use tap_name::Name;
-use tap_node::{NodeFault, Turn};
-use tap_overlay::OverlayFault;
 use tap_records::add_turn;
 use tap_wire::decode_head;
 
 // The frames that are taken.
 impl Engine {
-    ghost use Rattle.tap_ledger.specs.Added.{most_frames};
-    ghost use Rattle.tap_engine.specs.Kept.{AreReady, LeadTo, world_value};
-    ghost use Rattle.tap_engine.specs.Outcome.{adds, adds_within, takes_number};
+    ghost use Rattle.tap_engine.specs.Kept.{AreReady, LeadsTo, world_value};
+    ghost use Rattle.tap_engine.specs.Outcome.{adds_within, takes_number};
     ghost use Rattle.tap_engine.specs.Working.{CanAddTurn, HasTakenAt, LogsAs, StillHas};
 
     /// The outstanding frame at a place, from 0, in the order in which they were sent, is taken by its receiver: its group is added.
@@ -34,21 +28,19 @@ impl Engine {
     /// Rule: docs/FORMATS.md, "The course of a run".
     pub fn deliver(&mut self, place: u32) -> Result<(), Stop>
         requires { AreReady self.old }
-        ensures { LeadTo (takes_number (world_value self.old None false) (slice_get (outstanding self.old.ledger.records) place))
+        ensures { LeadsTo (takes_number (world_value self.old None false) (slice_get (outstanding self.old.ledger.records) place))
             self.old result self.new }
     {
         let Some(number) = self.ledger.number_at(place) else {
             return Err(Stop::Refused(Refusal::NoSuchFlight(self.ledger.outstanding())));
         };
-        match self.take(place)? {
-            Some(acted) => self.add_taken(number, acted),
-            None => self.add_unheeded(number),
-        }
+        let acted = self.take(place)?;
+        self.add_taken(number, acted)
     }
 
-    // The frame at a place is taken by its receiver; nothing is done if that isn't there, or the frame is strange to it. No other refusal
-    // comes: the frame is read, it is its receiver's, and that has room for a step.
-    fn take(&mut self, place: u32) -> Result<Option<Acted>, NoMemory>
+    // The frame at a place is taken by its receiver: that is there, the frame is read and isn't strange to it, and there is room for a
+    // step, so want of memory is the one refusal.
+    fn take(&mut self, place: u32) -> Result<Acted, NoMemory>
         requires ready { AreReady self.old }
         requires there { place < length (outstanding self.old.ledger.records) }
         ensures taken { IfOk result (HasTakenAt self.old self.new place) }
@@ -56,10 +48,10 @@ impl Engine {
         ensures still { StillHas self.old.overlay self.new.overlay }
     {
         let Some(bytes) = self.ledger.bytes_at(place) else {
-            return Ok(None);
+            unreachable!()
         };
         let Ok(head) = decode_head(&self.settings, bytes) else {
-            return Ok(None);
+            unreachable!()
         };
         acted_by(head.to, self.overlay.take(&head.to, bytes))
     }
@@ -81,21 +73,6 @@ impl Engine {
         self.add_group(group)?;
         Ok(())
     }
-
-    // Adds that a frame was taken to no effect, and counts it.
-    fn add_unheeded(&mut self, number: u32) -> Result<(), Stop>
-        requires can_add { CanAdd self.old.ledger.records (Record.Taken number ∷ []) }
-        requires count { self.old.unheeded < most_frames }
-        ensures logs { LogsAs (adds (world_value self.old None false) (Record.Taken number ∷ [])) self.old result
-            (record self.new { unheeded = self.old.unheeded }) }
-        ensures count { result ≡ Ok tt → self.new.unheeded ≡ self.old.unheeded + 1 }
-        ensures short { result ≢ Ok tt → self.new.unheeded ≡ self.old.unheeded }
-    {
-        let group = taken_alone(self.alloc, number)?;
-        self.add_group(group)?;
-        self.unheeded += 1;
-        Ok(())
-    }
 }
 
 // The group of a frame that is taken, with its first record alone.
@@ -105,15 +82,4 @@ fn taken_alone(alloc: Global, number: u32) -> Result<Vec<Record>, NoMemory>
     let mut group = Vec::new(alloc);
     group.push(Record::Taken { number })?;
     Ok(group)
-}
-
-// What the node of a name did, by the answer of the nodes; nothing if it refused to.
-fn acted_by(name: Name, answer: Result<Turn, OverlayFault>) -> Result<Option<Acted>, NoMemory>
-    ensures { IfOk result (IsActed name answer) }
-{
-    match answer {
-        Ok(turn) => Ok(Some(Acted { name, turn })),
-        Err(OverlayFault::Node(NodeFault::NoMemory)) => Err(NoMemory),
-        Err(_) => Ok(None),
-    }
 }

@@ -1,5 +1,5 @@
 -- What the calls add that only note something: a choice, a refusal, and the end of all steps.
-use Rattle.std.proofs.Common.{◌≡◌, ◌⊎◌, inl, inr, ℕ, ◌+◌, ◌≤◌, Bool, true, false, List, [], ◌∷◌, ◌++◌, length, length-append, All, Option, None, Some, is_some, refl, ap, sym, subst, ◌∙◌, arith}
+use Rattle.std.proofs.Common.{◌≡◌, ℕ, ◌+◌, ◌≤◌, true, false, List, [], ◌∷◌, ◌++◌, length, length-append, All, Option, None, Some, is_some, refl, ap, sym, subst, ◌∙◌, arith}
 use Rattle.std.specs.Option.{option_map, option_map_or, option_zip}
 use Rattle.std.proofs.lemmas.List.Elements.{All-cons, All-nil}
 use Rattle.tap_name.specs.Names.{has_name}
@@ -22,11 +22,10 @@ use Rattle.tap_node.specs.Node.{running}
 use Rattle.tap_course.specs.Beginning.{Beginning}
 use Rattle.tap_course.specs.Course.{Follows, IsCourse, is_choice, move_of_group, move_of_start, moved_by, system_of}
 use Rattle.tap_course.specs.Group.{start_at}
-use Rattle.tap_course.specs.Named.{HasNames}
 use Rattle.tap_course.specs.Starts.{start_of_step}
 use Rattle.tap_course.proofs.Frames.{step_moves}
 use Rattle.tap_course.proofs.Growing.{grown_system}
-use Rattle.tap_course.proofs.Within.{Within, is_group}
+use Rattle.tap_course.proofs.Within.{is_group}
 use Rattle.tap_ledger.specs.Added.{CanAdd, most_frames}
 use Rattle.tap_overlay.specs.Law.{HasNodesOf}
 use Rattle.tap_overlay.specs.Overlay.{node_at}
@@ -34,8 +33,6 @@ use Rattle.tap_engine.specs.Kept.{AreKept, AreReady, room_kept, room_of_record, 
 use Rattle.tap_engine.specs.Kinds.{finishes, is_finished}
 use Rattle.tap_engine.specs.Laws.{left_by}
 use Rattle.tap_engine.specs.Outcome.{IsNextIndex, MayNote, adds}
-use Rattle.tap_engine.specs.Unheeded.{unheeded_by, unheeded_count}
-use Rattle.tap_engine.specs.World.{WorldValue}
 use Rattle.tap_engine.specs.WorldLog.{IsWorldLog}
 use Rattle.tap_engine.specs.declared.engine.Engine.{Engine}
 use Rattle.tap_engine.proofs.Addable.{limit_fits, refused_fits}
@@ -46,7 +43,6 @@ use Rattle.tap_course.proofs.Named.{choice_has_names}
 use Rattle.tap_engine.proofs.Leading.{kept_group}
 use Rattle.tap_engine.proofs.Named.{step_named, unbegun_named}
 use Rattle.tap_engine.proofs.Steps.{choice_may, clash, follows_within, silent_within}
-use Rattle.tap_engine.proofs.Unheeding.{step_heeded, unheeded_stays}
 use Rattle.tap_engine.proofs.WorldLogs.{IsNoted, finish_log, mark_log, note_log, noted}
 
 -- ---- a choice
@@ -78,7 +74,7 @@ choice_stays p log index step items choice =
 
 module _ (before after : Engine) (ready : AreReady before) (index : ℕ) (step : Step) (next : IsNextIndex (seen before) index)
     (choice : is_choice step ≡ true) (grows : HasGrown before after (StepRecord index step ∷ []))
-    (overlay : after.overlay ≡ before.overlay) (unheeded : after.unheeded ≡ before.unheeded) (two : 2 ≤ after.ledger.spare) where
+    (overlay : after.overlay ≡ before.overlay) (two : 2 ≤ after.ledger.spare) where
   mark_follows : Follows (seen before).beginning before.ledger.records (StepRecord index step ∷ [])
   mark_follows =
       let goes = on before ready in
@@ -92,10 +88,9 @@ module _ (before after : Engine) (ready : AreReady before) (index : ℕ) (step :
   marked_kept =
       let log = before.ledger.records in
       let stays = choice_stays before.settings log index step [] choice in
-      let heeded = step_heeded log index step in
-      kept_group before after (StepRecord index step) [] ready grows mark_follows (All-nil Within)
+      kept_group before after (StepRecord index step) [] ready grows mark_follows
       (subst (λ s. HasNodesOf s after.overlay) (sym stays) (subst (HasNodesOf (system_of log)) (sym overlay) (ready.kept.go_on refl).nodes))
-      (ap (λ o. o.settings) overlay) (omega (arith, unheeded, heeded)) two
+      (ap (λ o. o.settings) overlay) two
       (step_named before.settings index step [] (choice_has_names before.settings step choice)
       (All-nil (λ item. step_of item ≡ None)))
       (mark_log (seen before) (seen before).nodes (on before ready) index step next choice)
@@ -111,15 +106,14 @@ unfolding finishes
 finished_so log steps = ap (λ last. option_map_or finishes last false) (last_of-push log (Finished steps))
 
 module _ (before after : Engine) (ready : AreReady before) (steps : ℕ) (all : steps ≡ length (begun_steps before.ledger.records))
-    (grows : HasGrown before after (Finished steps ∷ [])) (overlay : after.overlay ≡ before.overlay)
-    (unheeded : after.unheeded ≡ before.unheeded) where
+    (grows : HasGrown before after (Finished steps ∷ [])) (overlay : after.overlay ≡ before.overlay) where
   -- `Finished` is added
   pub finished_kept : AreKept after None false
   finished_kept =
       let goes = on before ready in
       let log = before.ledger.records in
       kept_same before after (Finished steps ∷ []) None ready grows (end_same (seen before).beginning log steps goes.course goes.going)
-      (unbegun_named before.settings (Finished steps ∷ []) (no_step (Finished steps) refl)) overlay unheeded
+      (unbegun_named before.settings (Finished steps ∷ []) (no_step (Finished steps) refl)) overlay
       (λ unfinished. absurd (clash (is_finished after.ledger.records) (ap is_finished grows.log ∙ finished_so log steps) unfinished))
       (grown_log before after (Finished steps ∷ []) None false ready grows (finish_log (seen before) (seen before).nodes goes steps all))
 
@@ -166,11 +160,6 @@ module _ (b : Beginning) (log : List Record) (index : ℕ) (refusal : Refusal) (
   pub noted_fits : CanAdd log (Refused index refusal ∷ [])
   noted_fits = refused_fits log index refusal noted_sent
 
-refused_heeded : (log : List Record) (index : ℕ) (refusal : Refusal)
-    → unheeded_count (log ++ Refused index refusal ∷ []) ≡ unheeded_count log
-unfolding unheeded_by
-refused_heeded log index refusal = unheeded_stays log (Refused index refusal) refl
-
 room_of_step : (index : ℕ) (step : Step) → room_of_record (StepRecord index step) ≡ 2
 unfolding room_of_record
 room_of_step index step = refl
@@ -201,7 +190,7 @@ module _ (before : Engine) (refused : Option Refusal) (kept : AreKept before ref
       omega (arith, room, two)
 
   module _ (after : Engine) (grows : HasGrown before after (Refused index refusal ∷ [])) (overlay : after.overlay ≡ before.overlay)
-      (unheeded : after.unheeded ≡ before.unheeded) (one : 1 ≤ after.ledger.spare) where
+      (one : 1 ≤ after.ledger.spare) where
     noted_log : IsWorldLog (world_value after None false)
     noted_log =
         let w = world_value before refused false in
@@ -231,8 +220,6 @@ module _ (before : Engine) (refused : Option Refusal) (kept : AreKept before ref
               (unbegun_named before.settings (Refused index refusal ∷ []) (no_step (Refused index refusal) refl)) kept.named;
           settings = ap (λ o. o.settings) overlay ∙ kept.settings ∙ sym grows.settings;
           present = λ name is. ap (λ o. is_some (node_at o name)) overlay ∙ kept.present name (sym (ap (λ l. has_name l name) names) ∙ is);
-          unheeded_is =
-              unheeded ∙ kept.unheeded_is ∙ sym (ap unheeded_count grows.log ∙ refused_heeded before.ledger.records index refusal);
           go_on = λ runs. record {
             nodes = record {
               nodes_are = λ name.

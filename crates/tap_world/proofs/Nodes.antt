@@ -21,14 +21,13 @@ use Rattle.tap_course.specs.Beginning.{Beginning, IsWithinLimits, begin_record}
 use Rattle.tap_course.specs.Course.{IsCourse, system_of}
 use Rattle.tap_course.proofs.Departing.{course_nodes_holds}
 use Rattle.tap_course.proofs.Growing.{start_course, start_system}
-use Rattle.tap_ranges.specs.Range.{HasNumbersLeft, steps_with_room}
+use Rattle.tap_ranges.specs.Range.{HasNumbersLeft, IsInRange, steps_with_room}
 use Rattle.tap_ranges.proofs.Courses.{numbers_in_range_holds}
 use Rattle.tap_overlay.specs.Law.{HasNodesOf}
 use Rattle.tap_overlay.specs.Overlay.{IsAtRest, node_at}
 use Rattle.tap_overlay.proofs.Systems.{rest_nodes}
 use Rattle.tap_course.specs.Named.{HasNames, HaveNames}
-use Rattle.tap_engine.specs.Kept.{AreKept, GoOn, room_kept, room_of_record, world_value}
-use Rattle.tap_engine.specs.Unheeded.{unheeded_by, unheeded_count}
+use Rattle.tap_engine.specs.Kept.{AreKept, GoesOn, room_kept, room_of_record, world_value}
 use Rattle.tap_engine.specs.World.{HasBegun, WorldValue, node_of, nodes_running}
 use Rattle.tap_engine.specs.WorldLog.{HasCome, HasGoneTo, IsCourseOrFinished, IsWorldLog}
 use Rattle.tap_engine.specs.declared.engine.Engine.{Engine}
@@ -52,7 +51,7 @@ module _ (engine : Engine) (refused : Option Refusal) (kept : AreKept engine ref
   pub node_runs : (name : List ℕ) → node_of (world_value engine refused false) name ≡ nodes_running (system_of log) name
   node_runs name = by_ever (has_name (names_of log) name) refl
     where
-      goes : GoOn engine
+      goes : GoesOn engine
       goes = kept.go_on refl
 
       by_ever : (ever : Bool) → has_name (names_of log) name ≡ ever
@@ -101,43 +100,54 @@ module _ (b : Beginning) (course log : List Record) (is : IsCourse b course) (go
     system_is = ap system_of pending.log_is ∙ pending_system b course is going pending.index pending.step refusal pending.refused;
   }
 
--- each node of a world that goes on has numbers left for one more step
-numbers_left : (w : WorldValue) → IsWorldLog w → w.stopped ≡ false → (name : List ℕ) (node : NodeState)
-    → (system_of w.log).node name ≡ Some node → has_numbers_left node ≡ true
-numbers_left w is runs name node at =
+-- each node of a world that goes on has numbers left for one more step, and its numbers are in range
+record HasNumbers (node : NodeState) : Type 0 where
+  left : has_numbers_left node ≡ true
+  in_range : IsInRange node
+
+numbers_of : (w : WorldValue) → IsWorldLog w → w.stopped ≡ false → (name : List ℕ) (node : NodeState)
+    → (system_of w.log).node name ≡ Some node → HasNumbers node
+numbers_of w is runs name node at =
     let come : HasCome is.course w.refused w.log = subst (λ s. HasGoneTo w.beginning s w.refused is.course w.log) runs is.gone_to in
     let m = of_come w.beginning is.course w.log is.is_course is.open_end w.refused come in
     let size = ap (λ l. length (begun_steps l)) m.log_is ∙ ap length (filter_map-append step_of m.course m.more)
     ∙ length-append (begun_steps m.course) (begun_steps m.more) in
     let few = few_steps w.log is.indices in
     let room : length (begun_steps m.course) ≤ steps_with_room = omega (arith, size, few) in
-    subst (λ found. IfSome found HasNumbersLeft) (sym (ap (λ s. s.node name) m.system_is) ∙ at)
-    (numbers_in_range_holds.left w.beginning m.course m.is_course m.going room name)
+    let found : (system_of m.course).node name ≡ Some node = sym (ap (λ s. s.node name) m.system_is) ∙ at in
+    record {
+      left = subst (λ f. IfSome f HasNumbersLeft) found (numbers_in_range_holds.left w.beginning m.course m.is_course m.going room name);
+      in_range = subst (λ f. IfSome f IsInRange) found (numbers_in_range_holds.in_range w.beginning m.course m.is_course m.going name);
+    }
 
 module _ (engine : Engine) (refused : Option Refusal) (kept : AreKept engine refused false) (name : List ℕ) where
-  -- so it has room for one
-  pub room_left : (node : NodeValue) → node_of (world_value engine refused false) name ≡ Some node → has_room_left node ≡ true
-  room_left node at =
+  node_numbers : (node : NodeValue) → node_of (world_value engine refused false) name ≡ Some node
+      → (has_room_left node ≡ true) × IsInRange node.state
+  node_numbers node at =
       by_node ((system_of engine.ledger.records).node name) refl (sym (node_runs engine refused kept name) ∙ at)
     where
       by_node : (found : Option NodeState) → (system_of engine.ledger.records).node name ≡ found → option_map running found ≡ Some node
-          → has_room_left node ≡ true
+          → (has_room_left node ≡ true) × IsInRange node.state
       by_node None is none = cc
       by_node (Some state) is some =
           let same : running state ≡ node = cc in
-          ap has_room_left (sym same) ∙ numbers_left (world_value engine refused false) kept.log refl name state is
+          let has = numbers_of (world_value engine refused false) kept.log refl name state is in
+          (ap has_room_left (sym same) ∙ has.left, subst (λ (n : NodeValue). IsInRange n.state) same has.in_range)
 
--- so does a node that is lent
-pub lent_room : (lent : Option (Bor NodeValue)) (found : Option NodeValue) → option_copied lent ≡ found
-    → ((node : NodeValue) → found ≡ Some node → has_room_left node ≡ true) → IfSome lent (λ node. has_room_left node.now ≡ true)
-lent_room None found is rooms = tt
-lent_room (Some node) found is rooms = rooms node.now (sym is)
+  -- so it has room for one
+  pub room_left : (node : NodeValue) → node_of (world_value engine refused false) name ≡ Some node → has_room_left node ≡ true
+  room_left node at = (node_numbers node at).0
+
+  pub in_range : (node : NodeValue) → node_of (world_value engine refused false) name ≡ Some node → IsInRange node.state
+  in_range node at = (node_numbers node at).1
+
+-- what holds of each such node holds of one that is lent
+pub lent_each : (Holds : NodeValue → Type 0) (lent : Option (Bor NodeValue)) (found : Option NodeValue) → option_copied lent ≡ found
+    → ((node : NodeValue) → found ≡ Some node → Holds node) → IfSome lent (λ node. Holds node.now)
+lent_each Holds None found is each = tt
+lent_each Holds (Some node) found is each = each node.now (sym is)
 
 -- ---- a world that has just begun
-
-begin_heeded : (b : Beginning) → unheeded_count (begin_record b ∷ []) ≡ 0
-unfolding unheeded_by
-begin_heeded b = refl
 
 begin_room : (b : Beginning) → room_kept (last_of (begin_record b ∷ [])) ≡ 1
 unfolding room_of_record
@@ -152,7 +162,7 @@ begin_goes_on b = refl
 
 module _ (b : Beginning) (limits : IsWithinLimits b) (engine : Engine) (settings : engine.settings ≡ b.settings) (frames : engine.frames ≡ b.frames)
     (log_is : engine.ledger.records ≡ begin_record b ∷ []) (rest : IsAtRest b.settings b.members engine.overlay)
-    (unheeded : engine.unheeded ≡ 0) (one : 1 ≤ engine.ledger.spare) where
+    (one : 1 ≤ engine.ledger.spare) where
   begun_course : IsCourse b engine.ledger.records
   begun_course = subst (IsCourse b) (sym log_is) (start_course b limits)
 
@@ -163,7 +173,7 @@ module _ (b : Beginning) (limits : IsWithinLimits b) (engine : Engine) (settings
   begun_nodes =
       subst (λ s. HasNodesOf s engine.overlay) (sym (ap system_of log_is ∙ start_system b)) (rest_nodes b.settings b.members engine.overlay rest)
 
-  begun_goes : GoOn engine
+  begun_goes : GoesOn engine
   begun_goes = record {
     nodes = begun_nodes;
     ever = (course_nodes_holds b engine.ledger.records begun_course begun_going).ever;
@@ -199,6 +209,5 @@ module _ (b : Beginning) (limits : IsWithinLimits b) (engine : Engine) (settings
     named = subst (HaveNames engine.settings) (sym log_is) (begin_named engine.settings b);
     settings = rest.settings_are ∙ sym settings;
     present = there engine.ledger.records engine.overlay begun_goes.ever begun_nodes;
-    unheeded_is = unheeded ∙ sym (ap unheeded_count log_is ∙ begin_heeded b);
     go_on = λ runs. begun_goes;
   }

@@ -8,9 +8,10 @@ use Rattle.tap_log.specs.declared.record.Refusal.{Refusal}
 use Rattle.tap_history.specs.Core.{members_of}
 use Rattle.tap_history.specs.Moments.{outstanding}
 use Rattle.tap_history.specs.Refusals.{first_refusal}
-use Rattle.tap_engine.specs.Kept.{AreKept, AreReady, LeadTo, world_value}
+use Rattle.tap_engine.specs.Kept.{AreKept, AreReady, LeadsTo, world_value}
 use Rattle.tap_engine.specs.Kinds.{damages, observes}
-use Rattle.tap_engine.specs.Outcome.{AnswersAs, IsNextIndex, MayGoOn, Outcome, adds, deliver_outcome, is_within, refusal_in, spends, stays, step_group, step_outcome, stops, takes_number, unless_refused, unless_stopped}
+use Rattle.tap_engine.specs.Outcome.{AnswersAs, IsNextIndex, MayGoOn, Outcome, adds, deliver_outcome, is_within, refusal_in, spends, stays, step_outcome, stops, takes_number, unless_refused, unless_stopped}
+use Rattle.tap_course.specs.Groups.{step_group}
 use Rattle.tap_engine.specs.World.{WorldValue}
 use Rattle.tap_engine.specs.declared.engine.Engine.{Engine}
 use Rattle.tap_engine.specs.declared.stop.Stop.{Stop}
@@ -111,6 +112,34 @@ takes_says : (w : WorldValue) (number : Option ℕ) → w.stopped ≡ false → 
 takes_says w None runs = record { refused = refl; stopped = runs }
 takes_says w (Some number) runs = within_takes w [] _ runs (is_within w.beginning w.log _)
 
+-- ---- an engine never answers that a world was stopped
+
+within_goes : (w : WorldValue) (first group : List Record) (within : Bool)
+    → (if within then adds w group else spends w first).answer ≢ Err Ended
+within_goes w first group true = λ ended. cc
+within_goes w first group false = λ ended. cc
+
+step_goes : (w : WorldValue) (index : ℕ) (step : Step) (refusal : Option Refusal) → (unless_refused w index step refusal).answer ≢ Err Ended
+step_goes w index step None = within_goes w (StepRecord index step ∷ []) _ (is_within w.beginning w.log _)
+step_goes w index step (Some refusal) = λ ended. cc
+
+takes_goes : (w : WorldValue) (number : Option ℕ) → (takes_number w number).answer ≢ Err Ended
+takes_goes w None = λ ended. cc
+takes_goes w (Some number) = within_goes w [] _ (is_within w.beginning w.log _)
+
+module _ (before after : Engine) (given : Result (Unit {0}) Stop) where
+  unended : (outcome : Outcome) → outcome.answer ≢ Err Ended → LeadsTo outcome before given after → given ≢ Err Ended
+  unended outcome goes leads = λ ended.
+      let other : given ≢ Err NoMemory = λ none. let wrong : Err Ended ≡ Err NoMemory = sym ended ∙ none in cc in
+      goes (sym (leads.answer other) ∙ ended)
+
+  pub step_unended : (index : ℕ) (step : Step) (refusal : Option Refusal) → LeadsTo (unless_refused (seen before) index step refusal) before given after
+      → given ≢ Err Ended
+  step_unended index step refusal = unended (unless_refused (seen before) index step refusal) (step_goes (seen before) index step refusal)
+
+  pub takes_unended : (number : Option ℕ) → LeadsTo (takes_number (seen before) number) before given after → given ≢ Err Ended
+  takes_unended number = unended (takes_number (seen before) number) (takes_goes (seen before) number)
+
 -- ---- a call of a world that goes on
 
 by_memory : (given : Result (Unit {0}) Stop) → (given ≡ Err NoMemory) ⊎ (given ≢ Err NoMemory)
@@ -128,7 +157,7 @@ pub record AreSeen (outcome : Outcome) (given : Result (Unit {0}) Stop) (refused
   pub over : given ≡ Err NoMemory → stopped ≡ true
 
 module _ (before after : Engine) (ready : AreReady before) (outcome : Outcome) (given : Result (Unit {0}) Stop)
-    (leads : LeadTo outcome before given after) (extends : Extends (seen before) outcome) (refused : Option Refusal) (stopped : Bool)
+    (leads : LeadsTo outcome before given after) (extends : Extends (seen before) outcome) (refused : Option Refusal) (stopped : Bool)
     (are : AreSeen outcome given refused stopped) where
   members_same : members_of after.ledger.records ≡ members_of before.ledger.records
   members_same = elim (by_memory given) [
@@ -165,7 +194,7 @@ module _ (engine : Engine) (refused : Option Refusal) (stopped : Bool) (kept : A
     (may : MayGoOn (world_value engine refused stopped)) (runs : stopped ≡ false) (after : Engine) (given : Result (Unit {0}) Stop) where
   -- a start, an observation or a damaged copy
   module _ (index : ℕ) (step : Step)
-      (leads : LeadTo (unless_refused (seen engine) index step (first_refusal engine.ledger.records step)) engine given after) where
+      (leads : LeadsTo (unless_refused (seen engine) index step (first_refusal engine.ledger.records step)) engine given after) where
     step_seen : AreSeen (unless_refused (seen engine) index step (first_refusal engine.ledger.records step)) given (refusal_in given)
         (stops given)
     step_seen =
@@ -193,7 +222,7 @@ module _ (engine : Engine) (refused : Option Refusal) (stopped : Bool) (kept : A
         (step_extends (seen engine) index step (first_refusal engine.ledger.records step)) (refusal_in given) (stops given) step_seen
 
   -- a delivery
-  module _ (place : ℕ) (leads : LeadTo (takes_number (seen engine) (slice_get (outstanding engine.ledger.records) place)) engine given after) where
+  module _ (place : ℕ) (leads : LeadsTo (takes_number (seen engine) (slice_get (outstanding engine.ledger.records) place)) engine given after) where
     takes_seen : AreSeen (takes_number (seen engine) (slice_get (outstanding engine.ledger.records) place)) given refused (stops given)
     takes_seen =
         let says = takes_says (seen engine) (slice_get (outstanding engine.ledger.records) place) refl in
@@ -230,11 +259,11 @@ module _ (engine : Engine) (ready : AreReady engine) (index : ℕ) (step : Step)
       let w = seen engine in
       let within = quiet_within w.beginning w.log goes.course goes.going index step kind in
       let is : (unless_refused w index step None).answer ≡ Ok tt =
-      ap (λ (b : Bool). (if b then adds w (step_group w.beginning w.log index step) else spends w (StepRecord index step ∷ [])).answer) within in
+      ap (λ (b : Bool). (if b then adds w (step_group w.beginning.settings w.log index step) else spends w (StepRecord index step ∷ [])).answer) within in
       λ spent. let wrong : ◌≡◌ {A = Result (Unit {0}) Stop} (Ok tt) (Err IsSpent) = sym is ∙ spent in cc
 
   pub unspent : (given : Result (Unit {0}) Stop) (after : Engine)
-      → LeadTo (unless_refused (seen engine) index step (first_refusal engine.ledger.records step)) engine given after → given ≢ Err IsSpent
+      → LeadsTo (unless_refused (seen engine) index step (first_refusal engine.ledger.records step)) engine given after → given ≢ Err IsSpent
   unspent given after leads = λ spent.
       let other : given ≢ Err NoMemory = λ none. let wrong : Err IsSpent ≡ Err NoMemory = sym spent ∙ none in cc in
       quiet_answer (first_refusal engine.ledger.records step) (sym (leads.answer other) ∙ spent)

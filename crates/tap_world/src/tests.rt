@@ -267,7 +267,6 @@ fn see_joined(rt: &impl Abort, world: &World, name: Name) {
     assert!(rt; world.is_rest());
     assert_eq!(rt; world.newest(), None);
     assert_eq!(rt; world.place_of(0), None);
-    assert_eq!(rt; world.unheeded(), 0);
     assert!(rt; world.is_core(name));
     assert!(rt; world.table_of(name).is_some());
 }

@@ -1,23 +1,27 @@
-ghost use Rattle.std.specs.Prelude.{◌≡◌, ◌≢◌, ◌≤◌, ◌↔◌, ℕ, true, false, nat_eq, length, position, option_copied, IfOk, IfSome, IsNone, Err};
+ghost use Rattle.std.specs.Prelude.{◌≡◌, ◌≢◌, ◌≤◌, ◌+◌, ◌↔◌, ℕ, true, false, nat_eq, length, position, option_copied, IfOk, IfSome, IsNone, Err};
 ghost use Rattle.tap_name.specs.Names.{has_name};
+ghost use Rattle.tap_log.specs.Counts.{ticket_count};
 ghost use Rattle.tap_log.specs.Log.{begun_steps};
 ghost use Rattle.tap_scenario.specs.Step.{IsStep};
+ghost use Rattle.tap_history.specs.GroupLaws.{IsNumbered};
 ghost use Rattle.tap_history.specs.Moments.{is_still, outstanding};
 ghost use Rattle.tap_history.specs.Names.{names_of};
 ghost use Rattle.tap_history.specs.Steps.{is_start};
 ghost use Rattle.tap_node.specs.Node.{has_room_left};
 ghost use Rattle.tap_course.specs.Course.{is_choice, system_of};
+ghost use Rattle.tap_ranges.specs.Range.{IsInRange};
 ghost use Rattle.tap_overlay.specs.Overlay.{IsNodeOf};
-ghost use Rattle.tap_engine.specs.Kinds.{damages, observes};
+ghost use Rattle.tap_safe_course.specs.Headline.{HasHeadline};
+ghost use Rattle.tap_engine.specs.Holders.{HoldersAreExactAtRest};
+ghost use Rattle.tap_engine.specs.Kinds.{damages, most_index, observes};
 ghost use Rattle.tap_engine.specs.Outcome.{refusal_in, stops};
 ghost use Rattle.tap_engine.specs.Places.{last_place};
-ghost use Rattle.tap_engine.specs.Unheeded.{unheeded_count};
 
 use std::alloc::Global;
 use std::marker::Model;
 use tap_engine::{Engine, NoMemory, Stop};
 use tap_ledger::Ledger;
-use tap_log::{Log, Record, Refusal};
+use tap_log::{Log, Refusal};
 use tap_name::{List, Name, Settings};
 use tap_node::{Node, NodeStatus};
 use tap_overlay::Overlay;
@@ -74,7 +78,8 @@ impl World {
         members: &List<Name>,
     ) -> Result<World, NoMemory>
         requires { IsWithinLimits (record { settings = settings.now; frames = frames; members = members.now }) }
-        ensures { IfOk result (HasBegun (record { settings = settings.now; frames = frames; members = members.now })) }
+        ensures begun { IfOk result (HasBegun (record { settings = settings.now; frames = frames; members = members.now })) }
+        ensures headline { IfOk result (λ w. HasHeadline w.beginning.settings w.log) }
     {
         let overlay = Overlay::at_rest(alloc, settings, members)?;
         let mut ledger = Ledger::new(alloc, settings, frames, members)?;
@@ -85,7 +90,6 @@ impl World {
             frames,
             ledger,
             overlay,
-            unheeded: 0,
         };
         Ok(World {
             engine,
@@ -108,7 +112,10 @@ impl World {
         requires next { IsNextIndex self.old index }
         requires kind { is_start step.now ≡ true }
         requires names { IsStep self.old.beginning.settings false step.now }
-        ensures { AnswersAs (step_outcome self.old index step.now) self.old result self.new }
+        ensures answers { AnswersAs (step_outcome self.old index step.now) self.old result self.new }
+        ensures unchanged { (refusal : Refusal) → result ≡ Err (Stop.Refused refusal) → self.new.nodes ≡ self.old.nodes }
+        ensures ended { result ≡ Err Stop.Ended → self.new ≡ self.old }
+        ensures headline { HasHeadline self.new.beginning.settings self.new.log }
     {
         if self.stopped {
             return Err(Stop::Ended);
@@ -131,6 +138,10 @@ impl World {
         requires names { IsStep self.old.beginning.settings false step.now }
         ensures answers { AnswersAs (step_outcome self.old index step.now) self.old result self.new }
         ensures unspent { result ≢ Err Stop.Spent }
+        ensures unchanged { (refusal : Refusal) → result ≡ Err (Stop.Refused refusal) → self.new.nodes ≡ self.old.nodes }
+        ensures nodes { self.new.nodes ≡ self.old.nodes }
+        ensures ended { result ≡ Err Stop.Ended → self.new ≡ self.old }
+        ensures headline { HasHeadline self.new.beginning.settings self.new.log }
     {
         if self.stopped {
             return Err(Stop::Ended);
@@ -153,6 +164,10 @@ impl World {
         requires kind { damages step.now ≡ true }
         ensures answers { AnswersAs (step_outcome self.old index step.now) self.old result self.new }
         ensures unspent { result ≢ Err Stop.Spent }
+        ensures unchanged { (refusal : Refusal) → result ≡ Err (Stop.Refused refusal) → self.new.nodes ≡ self.old.nodes }
+        ensures nodes { self.new.nodes ≡ self.old.nodes }
+        ensures ended { result ≡ Err Stop.Ended → self.new ≡ self.old }
+        ensures headline { HasHeadline self.new.beginning.settings self.new.log }
     {
         if self.stopped {
             return Err(Stop::Ended);
@@ -163,9 +178,8 @@ impl World {
         answer
     }
 
-    /// The outstanding frame at a place, from 0, in the order in which they were sent, is taken by its receiver.
-    ///
-    /// A frame that has no receiver or is strange to it is taken to no effect.
+    /// The outstanding frame at a place, from 0, in the order in which they were sent, is taken by its receiver: that is there, and the
+    /// frame isn't strange to it.
     ///
     /// `Refused` comes exactly if no frame is at the place, with the number of those outstanding, and leaves the world as it was.
     /// `Spent` comes exactly if more frames would then have been sent in all than may be: `Spent` alone is added. `NoMemory` adds
@@ -174,7 +188,11 @@ impl World {
     /// Rule: docs/FORMATS.md, "The course of a run".
     pub fn deliver(&mut self, place: u32) -> Result<(), Stop>
         requires { MayGoOn self.old }
-        ensures { AnswersAs (deliver_outcome self.old place) self.old result self.new }
+        ensures answers { AnswersAs (deliver_outcome self.old place) self.old result self.new }
+        ensures unchanged { (refusal : Refusal) → result ≡ Err (Stop.Refused refusal) → self.new.nodes ≡ self.old.nodes }
+        ensures ended { result ≡ Err Stop.Ended → self.new ≡ self.old }
+        ensures headline { HasHeadline self.new.beginning.settings self.new.log }
+        ensures holders { HoldersAreExactAtRest self.new.log }
     {
         if self.stopped {
             return Err(Stop::Ended);
@@ -193,16 +211,18 @@ impl World {
         requires goes_on { MayGoOn self.old }
         requires next { IsNextIndex self.old index }
         requires kind { is_choice step.now ≡ true }
-        ensures { AnswersAs (mark_outcome self.old index step.now) self.old result self.new }
+        ensures answers { AnswersAs (mark_outcome self.old index step.now) self.old result self.new }
+        ensures nodes { self.new.nodes ≡ self.old.nodes }
+        ensures ended { result ≡ Err Stop.Ended → self.new ≡ self.old }
+        ensures headline { HasHeadline self.new.beginning.settings self.new.log }
     {
         if self.stopped {
             return Err(Stop::Ended);
         }
-        let Ok(()) = self.engine.ledger.reserve(3) else {
+        let Ok(()) = self.engine.mark(index, step) else {
             self.stopped = true;
             return Err(Stop::NoMemory);
         };
-        self.engine.add_step(index, step);
         Ok(())
     }
 
@@ -216,13 +236,14 @@ impl World {
         requires { MayNote self.old index refusal }
         ensures answers { AnswersAs (note_outcome self.old index refusal) self.old result self.new }
         ensures memory { result ≢ Err Stop.NoMemory }
+        ensures nodes { self.new.nodes ≡ self.old.nodes }
+        ensures ended { result ≡ Err Stop.Ended → self.new ≡ self.old }
+        ensures headline { HasHeadline self.new.beginning.settings self.new.log }
     {
         if self.stopped {
             return Err(Stop::Ended);
         }
-        self.engine
-            .ledger
-            .push_reserved(Record::Refused { index, refusal });
+        self.engine.note(index, refusal);
         self.refused = None;
         Ok(())
     }
@@ -237,11 +258,14 @@ impl World {
         requires all { steps ≡ length (begun_steps self.old.log) }
         ensures answers { AnswersAs (finish_outcome self.old steps) self.old result self.new }
         ensures memory { result ≢ Err Stop.NoMemory }
+        ensures nodes { self.new.nodes ≡ self.old.nodes }
+        ensures ended { result ≡ Err Stop.Ended → self.new ≡ self.old }
+        ensures headline { HasHeadline self.new.beginning.settings self.new.log }
     {
         if self.stopped {
             return Err(Stop::Ended);
         }
-        self.engine.ledger.push_reserved(Record::Finished { steps });
+        self.engine.finish(steps);
         Ok(())
     }
 
@@ -256,13 +280,17 @@ impl World {
     }
 
     /// The log. Up to its last moment it is the course of a run, and what stands after that is a step whose refusal isn't noted
-    /// yet, or how the run has ended. What its steps start or observe is named by names of the settings.
+    /// yet, or how the run has ended. What its steps start or observe is named by names of the settings. Lookups are numbered from 1, in
+    /// their order, up to 1,000,001 at most: the indices of steps may begin at 0.
     ///
     /// Rule: docs/FORMATS.md, "The course of a run".
     pub fn log(&self) -> &Log
         ensures records { result.now.records ≡ self.now.log }
         ensures course { IsWorldLog self.now }
         ensures named { HaveNames self.now.beginning.settings self.now.log }
+        ensures numbered { IsNumbered self.now.log }
+        ensures tickets { ticket_count self.now.log ≤ most_index + 1 }
+        ensures headline { HasHeadline self.now.beginning.settings self.now.log }
     {
         self.engine.ledger.log()
     }
@@ -304,7 +332,8 @@ impl World {
     }
 
     /// The node of a name, `None` exactly if the name is no member's and never joined. It has this name and the settings. Until a call
-    /// has answered `Spent` or `NoMemory` it is the node of the system that the log has come to, and has room for a further step.
+    /// has answered `Spent` or `NoMemory` it is the node of the system that the log has come to, has room for a further step, and its
+    /// numbers are in range: it has opened at most 500,000 sessions of joins and 500,001 of casts, and its stamp is below 3,000,000.
     ///
     /// Rule: docs/FORMATS.md, "The course of a run".
     pub fn node(&self, name: Name) -> Option<&Node>
@@ -313,21 +342,13 @@ impl World {
         ensures own { IfSome result (λ node. IsNodeOf self.now.beginning.settings name node.now) }
         ensures state { self.now.stopped ≡ false → option_copied result ≡ nodes_running (system_of self.now.log) name }
         ensures room { self.now.stopped ≡ false → IfSome result (λ node. has_room_left node.now ≡ true) }
+        ensures range { self.now.stopped ≡ false → IfSome result (λ node. IsInRange node.now.state) }
     {
         if self.engine.ledger.was_present(&name) {
             self.engine.overlay.node(&name)
         } else {
             None
         }
-    }
-
-    /// How many frames were taken to no effect: they had no receiver, or were strange to it.
-    ///
-    /// Rule: docs/FORMATS.md, "The course of a run".
-    pub fn unheeded(&self) -> u32
-        ensures { result ≡ unheeded_count self.now.log }
-    {
-        self.engine.unheeded
     }
 }
 

@@ -16,8 +16,8 @@ start-requires c =
     let suited = sym (c.is_suited.ensures (running c.requires.node) c.requires.there) ∙ c.if-is_suited.true in
     some_for (MayStart o.settings one.start) (node_at o one.name) (running c.requires.node) (c.requires.may suited) c.requires.there
 
-pub started_by-requires : goal.started_by-requires
-started_by-requires c =
+pub acted_by-requires : goal.acted_by-requires
+acted_by-requires c =
     only_memory c.args.self.now.overlay c.start.new.self c.args.one.now.name c.args.one.now.start c.requires c.start.result
     c.start.ensures.step c.start.ensures.settings
 
@@ -29,7 +29,7 @@ returns-then-is_suited-clause-begun c =
     (HasBegunOf o c.start.new.self one.name (begun one.start))
     (λ acted is. has_started o c.start.new.self one.name one.start c.requires c.start.result c.start.ensures.step c.start.ensures.settings
     acted is.0 is.1)
-    c.started_by.result c.started_by.ensures
+    c.acted_by.result c.acted_by.ensures
 
 pub returns-then-is_suited-clause-still : goal.returns-then-is_suited-clause-still
 returns-then-is_suited-clause-still c =

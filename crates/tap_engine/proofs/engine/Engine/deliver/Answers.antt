@@ -1,14 +1,13 @@
-use Rattle.std.proofs.Common.{[], ◌∷◌, slice_get, ap, sym, subst, arith}
+use Rattle.std.proofs.Common.{[], ◌∷◌, slice_get, ap, sym, arith}
 use Rattle.std.proofs.lemmas.Result.{err_from_is_err_and}
 use Rattle.tap_log.specs.declared.record.Record.TheVariants.{Taken}
 use Rattle.tap_log.specs.Counts.{sent_count}
 use Rattle.tap_history.specs.Moments.{outstanding}
 use Rattle.tap_engine.specs.Outcome.{takes_number}
-use Rattle.tap_engine.specs.Working.{HasTakenAt}
 use Rattle.tap_engine.specs.declared.engine.Engine.{Engine}
-use Rattle.tap_engine.proofs.Counting.{can_add_turn, few_sent, few_unheeded, room_left, taken_sent}
+use Rattle.tap_engine.proofs.Counting.{can_add_turn, few_sent, room_left, taken_sent}
 use Rattle.tap_engine.proofs.Keeping.{seen, wanting}
-use Rattle.tap_engine.proofs.Leading.{alone_fits, alone_leads, delivered_may, taken_leads}
+use Rattle.tap_engine.proofs.Leading.{delivered_may, taken_leads}
 use Rattle.tap_engine.proofs.engine.Engine.deliver.Goals as goal
 
 pub returns-in_err-acted : goal.returns-in_err-acted
@@ -19,7 +18,7 @@ returns-in_err-acted c =
     let made = err_from_is_err_and c.from_residual.result c.from_residual.ensures.1 in
     rw (made.1, made.2)
     (wanting (takes_number (seen m) (slice_get (outstanding m.ledger.records) c.args.place)) m n c.requires (ap (λ (q : Engine). q.settings) same)
-    (ap (λ (q : Engine). q.frames) same) (ap (λ (q : Engine). q.ledger.records) same) c.take.ensures.still (ap (λ (q : Engine). q.unheeded) same))
+    (ap (λ (q : Engine). q.frames) same) (ap (λ (q : Engine). q.ledger.records) same) c.take.ensures.still)
 
 pub add_taken-requires-clause-room : goal.add_taken-requires-clause-room
 add_taken-requires-clause-room c =
@@ -39,36 +38,11 @@ add_taken-requires-clause-can_add c =
     let m = c.args.self.now in
     let n = c.take.new.self in
     let same = c.take.ensures.same in
-    let t = subst (HasTakenAt m n c.args.place) c.in-Some-2.is c.in_ok-acted.ensures.taken in
-    can_add_turn m n (Taken c.in-Some.number ∷ []) c.in-Some-2.acted c.requires (ap (λ (q : Engine). q.settings) same) (ap (λ (q : Engine). q.frames) same)
+    can_add_turn m n (Taken c.in-Some.number ∷ []) c.in_ok-acted.acted c.requires (ap (λ (q : Engine). q.settings) same) (ap (λ (q : Engine). q.frames) same)
     (ap (λ (q : Engine). q.ledger.records) same) (taken_sent c.in-Some.number)
-    (delivered_may m n c.requires c.args.place c.in-Some.number (sym c.in-Some.ensures) same c.in-Some-2.acted t)
+    (delivered_may m n c.requires c.args.place c.in-Some.number (sym c.in-Some.ensures) same c.in_ok-acted.acted c.in_ok-acted.ensures.taken)
 
-pub add_unheeded-requires-clause-can_add : goal.add_unheeded-requires-clause-can_add
-add_unheeded-requires-clause-can_add c =
-    let m = c.args.self.now in
-    let n = c.take.new.self in
-    let t = subst (HasTakenAt m n c.args.place) c.in-None.is c.in_ok-acted.ensures.taken in
-    alone_fits m n c.requires c.args.place c.in-Some.number (sym c.in-Some.ensures) c.take.ensures.same t
-
-pub add_unheeded-requires-clause-count : goal.add_unheeded-requires-clause-count
-add_unheeded-requires-clause-count c =
-    let same = ap (λ (q : Engine). q.unheeded) c.take.ensures.same in
-    let few = few_unheeded c.args.self.now c.requires in
-    omega (arith, same, few)
-
-pub returns-in-Some-2 : goal.returns-in-Some-2
-returns-in-Some-2 c =
-    let m = c.args.self.now in
-    let n = c.take.new.self in
-    let t = subst (HasTakenAt m n c.args.place) c.in-Some-2.is c.in_ok-acted.ensures.taken in
-    taken_leads m n c.requires c.args.place c.in-Some.number (sym c.in-Some.ensures) c.take.ensures.same c.in-Some-2.acted t
-    c.add_taken.new.self c.add_taken.result c.take.ensures.still c.add_taken.ensures
-
-pub returns-in-None : goal.returns-in-None
-returns-in-None c =
-    let m = c.args.self.now in
-    let n = c.take.new.self in
-    let t = subst (HasTakenAt m n c.args.place) c.in-None.is c.in_ok-acted.ensures.taken in
-    alone_leads m n c.requires c.args.place c.in-Some.number (sym c.in-Some.ensures) c.take.ensures.same t c.add_unheeded.new.self
-    c.add_unheeded.result c.add_unheeded.ensures.logs c.add_unheeded.ensures.count c.add_unheeded.ensures.short
+pub returns : goal.returns
+returns c =
+    taken_leads c.args.self.now c.take.new.self c.requires c.args.place c.in-Some.number (sym c.in-Some.ensures) c.take.ensures.same c.in_ok-acted.acted
+    c.in_ok-acted.ensures.taken c.add_taken.new.self c.add_taken.result c.take.ensures.still c.add_taken.ensures

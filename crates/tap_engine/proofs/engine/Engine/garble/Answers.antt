@@ -9,8 +9,8 @@ use Rattle.tap_engine.proofs.Named.{damaging_names}
 use Rattle.tap_engine.proofs.Quiet.{alone_fits, copied_group, log_alone, quiet_fits, quiet_refused, short_leads, quiet_whole, same_alone}
 use Rattle.tap_engine.proofs.engine.Engine.garble.Goals as goal
 
-pub returns-in_err-refusal : goal.returns-in_err-refusal
-returns-in_err-refusal c =
+pub returns-in_err-refusal-clause-leads : goal.returns-in_err-refusal-clause-leads
+returns-in_err-refusal-clause-leads c =
     let made = err_from_is_err_and c.from_residual.result c.from_residual.ensures.1 in
     rw (made.1, made.2)
     (short_leads c.args.self.now c.requires.ready c.args.index c.args.step.now c.refusal_of.new.self c.refusal_of.ensures.same
@@ -20,8 +20,8 @@ pub add_step-requires-clause-can_add : goal.add_step-requires-clause-can_add
 add_step-requires-clause-can_add c =
     alone_fits c.args.self.now c.requires.ready c.args.index c.args.step.now c.refusal_of.new.self c.refusal_of.ensures.log
 
-pub returns-in-Some : goal.returns-in-Some
-returns-in-Some c =
+pub returns-in-Some-clause-leads : goal.returns-in-Some-clause-leads
+returns-in-Some-clause-leads c =
     let m = c.args.self.now in
     let after = c.add_step.new.self in
     quiet_refused m c.requires.ready c.args.index c.args.step.now c.requires.next (inr c.requires.kind)
@@ -31,8 +31,8 @@ returns-in-Some c =
     (sym c.in_ok-refusal.ensures.refusal ∙ c.in-Some.is)
     (c.add_step.ensures.log ∙ ap (λ l. l ++ StepRecord c.args.index c.args.step.now ∷ []) c.refusal_of.ensures.log)
 
-pub returns-in_err-group : goal.returns-in_err-group
-returns-in_err-group c =
+pub returns-in_err-group-clause-leads : goal.returns-in_err-group-clause-leads
+returns-in_err-group-clause-leads c =
     let made = err_from_is_err_and c.from_residual-in_err-group.result c.from_residual-in_err-group.ensures.1 in
     rw (made.1, made.2)
     (short_leads c.args.self.now c.requires.ready c.args.index c.args.step.now c.refusal_of.new.self c.refusal_of.ensures.same
@@ -47,15 +47,15 @@ pub garbled-requires-clause-accepted : goal.garbled-requires-clause-accepted
 garbled-requires-clause-accepted c =
     ap (λ l. first_refusal l c.args.step.now) c.refusal_of.ensures.log ∙ sym c.in_ok-refusal.ensures.refusal ∙ c.in_default.is
 
-pub returns-in_err-garbled : goal.returns-in_err-garbled
-returns-in_err-garbled c =
+pub returns-in_err-garbled-clause-leads : goal.returns-in_err-garbled-clause-leads
+returns-in_err-garbled-clause-leads c =
     let made = err_from_is_err_and c.from_residual-in_err-garbled.result c.from_residual-in_err-garbled.ensures.1 in
     rw (made.1, made.2)
     (short_leads c.args.self.now c.requires.ready c.args.index c.args.step.now c.garbled.new.self (same_alone c.args.self.now c.refusal_of.new.self c.garbled.new.self c.garbled.ensures.same c.refusal_of.ensures.same)
     (ap (λ (q : Engine). q.ledger.records) c.garbled.ensures.same ∙ c.refusal_of.ensures.log))
 
-pub returns-in_err-add_some : goal.returns-in_err-add_some
-returns-in_err-add_some c =
+pub returns-in_err-add_some-clause-leads : goal.returns-in_err-add_some-clause-leads
+returns-in_err-add_some-clause-leads c =
     let made = err_from_is_err_and c.from_residual-in_err-add_some.result c.from_residual-in_err-add_some.ensures.1 in
     rw (made.1, made.2)
     (short_leads c.args.self.now c.requires.ready c.args.index c.args.step.now c.garbled.new.self (same_alone c.args.self.now c.refusal_of.new.self c.garbled.new.self c.garbled.ensures.same c.refusal_of.ensures.same)
@@ -72,8 +72,8 @@ add_group-requires c =
     c.requires.kind (sym c.in_ok-refusal.ensures.refusal ∙ c.in_default.is) c.in_ok-garbled.ensures.garbled
     (c.in_ok-add_some.ensures ∙ ap (λ g. g ++ at_most_one c.in_ok-garbled.field-0) c.in_ok-group.ensures))
 
-pub returns-in_err-add_group : goal.returns-in_err-add_group
-returns-in_err-add_group c =
+pub returns-in_err-add_group-clause-leads : goal.returns-in_err-add_group-clause-leads
+returns-in_err-add_group-clause-leads c =
     let m = c.args.self.now in
     let made = err_from_is_err_and c.from_residual-in_err-add_group.result c.from_residual-in_err-add_group.ensures.1 in
     rw (made.1, made.2)
@@ -81,8 +81,8 @@ returns-in_err-add_group c =
     (log_alone m c.garbled.new.self c.add_group.new.self ((same_alone c.args.self.now c.refusal_of.new.self c.garbled.new.self c.garbled.ensures.same c.refusal_of.ensures.same)) c.add_group.ensures.same)
     (ap (λ (q : Engine). q.ledger.records) c.in_err-add_group.ensures.err ∙ (ap (λ (q : Engine). q.ledger.records) c.garbled.ensures.same ∙ c.refusal_of.ensures.log)))
 
-pub returns : goal.returns
-returns c =
+pub returns-clause-leads : goal.returns-clause-leads
+returns-clause-leads c =
     let m = c.args.self.now in
     let n = c.refusal_of.new.self in
     let after = c.add_group.new.self in

@@ -10,8 +10,8 @@ use Rattle.tap_course.proofs.Named.{step_has_names}
 use Rattle.tap_engine.proofs.Quiet.{alone_fits, seen_group, log_alone, quiet_fits, quiet_refused, short_leads, quiet_whole}
 use Rattle.tap_engine.proofs.engine.Engine.observe.Goals as goal
 
-pub returns-in_err-refusal : goal.returns-in_err-refusal
-returns-in_err-refusal c =
+pub returns-in_err-refusal-clause-leads : goal.returns-in_err-refusal-clause-leads
+returns-in_err-refusal-clause-leads c =
     let made = err_from_is_err_and c.from_residual.result c.from_residual.ensures.1 in
     rw (made.1, made.2)
     (short_leads c.args.self.now c.requires.ready c.args.index c.args.step.now c.refusal_of.new.self c.refusal_of.ensures.same
@@ -21,8 +21,8 @@ pub add_step-requires-clause-can_add : goal.add_step-requires-clause-can_add
 add_step-requires-clause-can_add c =
     alone_fits c.args.self.now c.requires.ready c.args.index c.args.step.now c.refusal_of.new.self c.refusal_of.ensures.log
 
-pub returns-in-Some : goal.returns-in-Some
-returns-in-Some c =
+pub returns-in-Some-clause-leads : goal.returns-in-Some-clause-leads
+returns-in-Some-clause-leads c =
     let m = c.args.self.now in
     let after = c.add_step.new.self in
     quiet_refused m c.requires.ready c.args.index c.args.step.now c.requires.next (inl c.requires.kind)
@@ -32,8 +32,8 @@ returns-in-Some c =
     (sym c.in_ok-refusal.ensures.refusal ∙ c.in-Some.is)
     (c.add_step.ensures.log ∙ ap (λ l. l ++ StepRecord c.args.index c.args.step.now ∷ []) c.refusal_of.ensures.log)
 
-pub returns-in_err-group : goal.returns-in_err-group
-returns-in_err-group c =
+pub returns-in_err-group-clause-leads : goal.returns-in_err-group-clause-leads
+returns-in_err-group-clause-leads c =
     let made = err_from_is_err_and c.from_residual-in_err-group.result c.from_residual-in_err-group.ensures.1 in
     rw (made.1, made.2)
     (short_leads c.args.self.now c.requires.ready c.args.index c.args.step.now c.refusal_of.new.self c.refusal_of.ensures.same
@@ -52,15 +52,15 @@ pub observed-requires-clause-names : goal.observed-requires-clause-names
 observed-requires-clause-names c =
     subst (λ p. IsStep p false c.args.step.now) (sym (ap (λ (q : Engine). q.settings) c.refusal_of.ensures.same)) c.requires.names
 
-pub returns-in_err-observed : goal.returns-in_err-observed
-returns-in_err-observed c =
+pub returns-in_err-observed-clause-leads : goal.returns-in_err-observed-clause-leads
+returns-in_err-observed-clause-leads c =
     let made = err_from_is_err_and c.from_residual-in_err-observed.result c.from_residual-in_err-observed.ensures.1 in
     rw (made.1, made.2)
     (short_leads c.args.self.now c.requires.ready c.args.index c.args.step.now c.refusal_of.new.self c.refusal_of.ensures.same
     c.refusal_of.ensures.log)
 
-pub returns-in_err-add_some : goal.returns-in_err-add_some
-returns-in_err-add_some c =
+pub returns-in_err-add_some-clause-leads : goal.returns-in_err-add_some-clause-leads
+returns-in_err-add_some-clause-leads c =
     let made = err_from_is_err_and c.from_residual-in_err-add_some.result c.from_residual-in_err-add_some.ensures.1 in
     rw (made.1, made.2)
     (short_leads c.args.self.now c.requires.ready c.args.index c.args.step.now c.refusal_of.new.self c.refusal_of.ensures.same
@@ -77,8 +77,8 @@ add_group-requires c =
     c.requires.kind (sym c.in_ok-refusal.ensures.refusal ∙ c.in_default.is) c.in_ok-observed.ensures
     (c.in_ok-add_some.ensures ∙ ap (λ g. g ++ at_most_one c.in_ok-observed.field-0) c.in_ok-group.ensures))
 
-pub returns-in_err-add_group : goal.returns-in_err-add_group
-returns-in_err-add_group c =
+pub returns-in_err-add_group-clause-leads : goal.returns-in_err-add_group-clause-leads
+returns-in_err-add_group-clause-leads c =
     let m = c.args.self.now in
     let made = err_from_is_err_and c.from_residual-in_err-add_group.result c.from_residual-in_err-add_group.ensures.1 in
     rw (made.1, made.2)
@@ -86,8 +86,8 @@ returns-in_err-add_group c =
     (log_alone m c.refusal_of.new.self c.add_group.new.self (c.refusal_of.ensures.same) c.add_group.ensures.same)
     (ap (λ (q : Engine). q.ledger.records) c.in_err-add_group.ensures.err ∙ c.refusal_of.ensures.log))
 
-pub returns : goal.returns
-returns c =
+pub returns-clause-leads : goal.returns-clause-leads
+returns-clause-leads c =
     let m = c.args.self.now in
     let n = c.refusal_of.new.self in
     let after = c.add_group.new.self in

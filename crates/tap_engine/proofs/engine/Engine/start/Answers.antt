@@ -9,7 +9,7 @@ use Rattle.tap_log.specs.Laws.{at_most_one}
 use Rattle.tap_history.specs.Core.{members_of}
 use Rattle.tap_history.specs.Refusals.{first_refusal}
 use Rattle.tap_ledger.specs.Added.{CanAdd}
-use Rattle.tap_engine.specs.Kept.{LeadTo}
+use Rattle.tap_engine.specs.Kept.{LeadsTo}
 use Rattle.tap_engine.specs.Outcome.{Outcome, unless_refused}
 use Rattle.tap_engine.specs.Working.{StillHas}
 use Rattle.tap_engine.specs.declared.engine.Engine.{Engine}
@@ -44,7 +44,7 @@ returns-in-Some c =
     let was = c.refusal_of.ensures.same in
     let step = c.args.step.now in
     let is : first_refusal m.ledger.records step ≡ Some c.in-Some.refusal = sym c.in_ok-refusal.ensures.refusal ∙ c.in-Some.is in
-    subst (λ r. LeadTo (unless_refused (seen m) c.args.index step r) m (Err (Refused c.in-Some.refusal)) after) (sym is)
+    subst (λ r. LeadsTo (unless_refused (seen m) c.args.index step r) m (Err (Refused c.in-Some.refusal)) after) (sym is)
     (refused_leads m after c.args.index step c.in-Some.refusal c.requires.ready
     (record {
       settings = ap (λ (q : Engine). q.settings) same ∙ ap (λ (q : Engine). q.settings) was;
@@ -52,7 +52,6 @@ returns-in-Some c =
       log = c.add_step.ensures.log ∙ ap (λ l. l ++ StepRecord c.args.index step ∷ []) c.refusal_of.ensures.log;
     })
     (ap (λ (q : Engine). q.overlay) same ∙ ap (λ (q : Engine). q.overlay) was)
-    (ap (λ (q : Engine). q.unheeded) same ∙ ap (λ (q : Engine). q.unheeded) was)
     (omega (arith, c.add_step.ensures.spare, c.in_ok-refusal.ensures.room)) c.requires.next is (no_choice step (inl c.requires.kind)) (step_has_names m.settings step c.requires.names))
 
 pub returns-in_err-group : goal.returns-in_err-group
@@ -98,8 +97,7 @@ returns-in_err-acted c =
     (ap (λ (q : Engine). q.settings) same ∙ ap (λ (q : Engine). q.settings) was)
     (ap (λ (q : Engine). q.frames) same ∙ ap (λ (q : Engine). q.frames) was)
     (ap (λ (q : Engine). q.ledger.records) same ∙ c.refusal_of.ensures.log)
-    (subst (λ o. StillHas o n.overlay) (ap (λ (q : Engine). q.overlay) was) c.begin.ensures.still)
-    (ap (λ (q : Engine). q.unheeded) same ∙ ap (λ (q : Engine). q.unheeded) was))
+    (subst (λ o. StillHas o n.overlay) (ap (λ (q : Engine). q.overlay) was) c.begin.ensures.still))
 
 pub add_started-requires-clause-sent : goal.add_started-requires-clause-sent
 add_started-requires-clause-sent c =

@@ -1,4 +1,11 @@
-use Rattle.tap_world.proofs.Worlds.{step_answers, step_keeps}
+use Rattle.std.proofs.Common.{ap, ◌∙◌, subst}
+use Rattle.tap_history.specs.Refusals.{first_refusal}
+use Rattle.tap_overlay.specs.Overlay.{OverlayValue}
+use Rattle.tap_engine.specs.World.{WorldValue}
+use Rattle.tap_world.proofs.Worlds.{step_answers, step_keeps, step_unended}
+use Rattle.tap_safe_course.specs.Headline.{HasHeadline}
+use Rattle.tap_engine.specs.Outcome.{refusal_in, stops}
+use Rattle.tap_engine.proofs.HeadlineOfWorld.{kept_headline}
 use Rattle.tap_world.proofs.world.World.start.Goals as goal
 
 pub invariant_of-self : goal.invariant_of-self
@@ -9,10 +16,35 @@ invariant_of-self c =
     (step_keeps w.engine w.refused w.stopped c.self.invariant may c.if-self.false c.start-answer.new.self c.start-answer.result c.args.index c.args.step.now
     c.start-answer.ensures)
 
-pub returns : goal.returns
-returns c =
+pub returns-clause-answers : goal.returns-clause-answers
+returns-clause-answers c =
     let w = c.self.inside in
     let may = rw (← c.self.view_is) at c.requires.goes_on in
     rw (c.refusal_in-self-inside.ensures, c.stops-self-inside.ensures, ← c.self.view_is)
     (step_answers w.engine w.refused w.stopped c.self.invariant may c.if-self.false c.start-answer.new.self c.start-answer.result c.args.index c.args.step.now
+    c.start-answer.ensures)
+
+pub returns-clause-unchanged : goal.returns-clause-unchanged
+returns-clause-unchanged c = λ refusal is.
+    ap (λ (o : OverlayValue). o.nodes) (c.start-answer.ensures.nodes refusal is) ∙ ap (λ (x : WorldValue). x.nodes) c.self.view_is
+
+pub returns-clause-ended : goal.returns-clause-ended
+returns-clause-ended c = λ is.
+    let m = c.self.inside.engine in
+    absurd (step_unended m c.start-answer.new.self c.start-answer.result c.args.index c.args.step.now
+    (first_refusal m.ledger.records c.args.step.now) c.start-answer.ensures is)
+
+pub returns-then-self-clause-headline : goal.returns-then-self-clause-headline
+returns-then-self-clause-headline c =
+    let w = c.self.inside in
+    subst (λ (v : WorldValue). HasHeadline v.beginning.settings v.log) c.self.view_is
+    (kept_headline w.engine w.refused w.stopped c.self.invariant)
+
+pub returns-clause-headline : goal.returns-clause-headline
+returns-clause-headline c =
+    let w = c.self.inside in
+    let may = rw (← c.self.view_is) at c.requires.goes_on in
+    let given = c.start-answer.result in
+    kept_headline c.start-answer.new.self (refusal_in given) (stops given)
+    (step_keeps w.engine w.refused w.stopped c.self.invariant may c.if-self.false c.start-answer.new.self given c.args.index c.args.step.now
     c.start-answer.ensures)

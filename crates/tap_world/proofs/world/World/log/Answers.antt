@@ -1,0 +1,21 @@
+use Rattle.std.proofs.Common.{subst, ◌+◌, ◌≤◌}
+use Rattle.tap_log.specs.Counts.{ticket_count}
+use Rattle.tap_safe_course.specs.Headline.{HasHeadline}
+use Rattle.tap_engine.specs.Kept.{world_value}
+use Rattle.tap_engine.specs.Kinds.{most_index}
+use Rattle.tap_engine.specs.World.{WorldValue}
+use Rattle.tap_engine.proofs.Endings.{few_tickets}
+use Rattle.tap_engine.proofs.HeadlineOfWorld.{kept_headline}
+use Rattle.tap_world.proofs.world.World.log.Goals as goal
+
+pub returns-clause-tickets : goal.returns-clause-tickets
+returns-clause-tickets c =
+    let w = c.self.inside in
+    subst (λ (v : WorldValue). ticket_count v.log ≤ most_index + 1) c.self.view_is
+    (few_tickets (world_value w.engine w.refused w.stopped) c.self.invariant.log)
+
+pub returns-clause-headline : goal.returns-clause-headline
+returns-clause-headline c =
+    let w = c.self.inside in
+    subst (λ (v : WorldValue). HasHeadline v.beginning.settings v.log) c.self.view_is
+    (kept_headline w.engine w.refused w.stopped c.self.invariant)
