@@ -1,0 +1,13 @@
+pub mod Hearing
+pub mod Rules
+pub mod Numbers
+pub mod Turns
+pub mod Hops
+pub mod Steps
+pub mod Wanted
+pub mod Moves
+pub mod Levels
+pub mod Chains
+pub mod Paths
+pub mod Publications
+pub mod Ever

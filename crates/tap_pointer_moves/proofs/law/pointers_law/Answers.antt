@@ -1,0 +1,5 @@
+use Rattle.tap_pointer_moves.proofs.Moves.{pointers_kept}
+use Rattle.tap_pointer_moves.proofs.law.pointers_law.Goals as goal
+
+pub returns : goal.returns
+returns c = pointers_kept
