@@ -1,0 +1,51 @@
+ghost use Rattle.tap_cast_course.specs.Begun.{CastsStayBegun, GroupsBeginRight};
+ghost use Rattle.tap_cast_course.specs.Casts.{RestHasNoCasts, RunCastsAreKept, RunCastsAreNumbered, RunCastsAreQuiet};
+ghost use Rattle.tap_cast_course.specs.Told.{ClosedHasReachedAll, GroupsReachRight, ReachesAtMostOnce, RestSaysClosed, RunIsToldOnce};
+
+/// In each run, whatever its steps are and in whichever order frames are taken, what is said of casts holds of the system that its log has
+/// come to: who keeps a cast is whom it has reached, whoever else is of its audience is reached or will be, and its sessions are exact. Each
+/// cast has a number up to how many the log has begun.
+///
+/// It does nothing: its contract is the law.
+///
+/// Rule: docs/PROTOCOL.md, "Cast" and "CastAck".
+pub fn run_casts_law()
+    ensures kept { RunCastsAreKept }
+    ensures numbered { RunCastsAreNumbered }
+{}
+
+/// In each run no cast goes on while a node departs, nor at rest: no session of casts is open, and each cast is closed.
+///
+/// It does nothing: its contract is the law.
+///
+/// Rule: docs/PROTOCOL.md, "CastAck" and "The start of a departure".
+pub fn run_rest_casts_law()
+    ensures departing { RunCastsAreQuiet }
+    ensures rest { RestHasNoCasts }
+{}
+
+/// In each run, the log says once, and not twice, that a cast has reached a name, and that it is closed: each `Reached` is of a name that is
+/// core then and begins with the prefix, a name has at most one of a cast, and once there is a `Closed` each name of the audience has one. At
+/// rest each cast has its `Closed`.
+///
+/// It does nothing: its contract is the law.
+///
+/// Rule: docs/PROTOCOL.md, "Cast" and "CastAck".
+pub fn told_casts_law()
+    ensures once { RunIsToldOnce }
+    ensures most { ReachesAtMostOnce }
+    ensures right { GroupsReachRight }
+    ensures all { ClosedHasReachedAll }
+    ensures rest { RestSaysClosed }
+{}
+
+/// In each run, what is remembered of a cast is what the log said as it began: who cast it, how many digits its prefix has, and its audience,
+/// which are the names that were core at the moment before, and begin with the prefix. It stays so with each group that follows.
+///
+/// It does nothing: its contract is the law.
+///
+/// Rule: docs/PROTOCOL.md, "Casts".
+pub fn begun_casts_law()
+    ensures begins { GroupsBeginRight }
+    ensures stays { CastsStayBegun }
+{}

@@ -1,0 +1,5 @@
+use Rattle.tap_cast_moves.proofs.Moves.{news_are_true}
+use Rattle.tap_cast_moves.proofs.law.cast_news_law.Goals as goal
+
+pub returns : goal.returns
+returns c = news_are_true

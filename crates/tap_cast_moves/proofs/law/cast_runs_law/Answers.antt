@@ -1,0 +1,5 @@
+use Rattle.tap_cast_moves.proofs.Moves.{run_casts}
+use Rattle.tap_cast_moves.proofs.law.cast_runs_law.Goals as goal
+
+pub returns : goal.returns
+returns c = run_casts

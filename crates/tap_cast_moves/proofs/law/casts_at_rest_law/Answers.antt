@@ -1,0 +1,5 @@
+use Rattle.tap_cast_moves.proofs.Moves.{casts_at_rest}
+use Rattle.tap_cast_moves.proofs.law.casts_at_rest_law.Goals as goal
+
+pub returns : goal.returns
+returns c = casts_at_rest

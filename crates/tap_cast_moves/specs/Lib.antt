@@ -1,0 +1,9 @@
+pub mod Remembered
+pub mod Seen
+pub mod Recalled
+pub mod Sessions
+pub mod Kept
+pub mod Cover
+pub mod Audience
+pub mod Moves
+pub mod News
