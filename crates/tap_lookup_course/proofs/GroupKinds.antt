@@ -1,0 +1,100 @@
+-- The groups that may follow a log: of a step that moves nothing, of a start, and of a frame that is taken.
+use Rattle.std.proofs.Common.{◌≡◌, ◌⊎◌, inl, inr, ℕ, List, ◌∷◌, All, None, Some, refl, ◌∙◌}
+use Rattle.tap_name.specs.Settings.{SettingsValue}
+use Rattle.tap_scenario.specs.declared.step.Step.{Step}
+use Rattle.tap_log.specs.Kinds.{asked_ticket}
+use Rattle.tap_log.specs.declared.record.Record.{Record}
+use Rattle.tap_log.specs.declared.record.Record.TheVariants.{Step as StepRecord, Taken}
+use Rattle.tap_safety.specs.Move.{MayArrive, Move, may_move, may_start}
+use Rattle.tap_safety.specs.Move.Move.{Begins, Delivers}
+use Rattle.tap_safety.specs.Moved.{numbered_frame}
+use Rattle.tap_safety.specs.System.{System}
+use Rattle.tap_course.specs.Course.{MayFollow, is_choice, move_of_group}
+use Rattle.tap_course.specs.Group.{received_records}
+use Rattle.tap_course.proofs.Frames.{starting_moves, step_moves, taken_moves}
+use Rattle.tap_course.proofs.Nodes.{HasNoStep, no_steps}
+use Rattle.tap_course.proofs.Within.{IsStarting, step_kind, step_within, taken_within}
+use Rattle.tap_lookup_course.proofs.Runs.{idle_starts_none}
+use Rattle.tap_lookup_course.proofs.Unanswered.{IsUnanswered, follow_unanswered}
+
+module _ (p : SettingsValue) (log : List Record) (s : System) (group : List Record) where
+  -- a step that moves nothing: it asks for no lookup, and answers none
+  pub record IsIdleGroup : Type 0 where
+    pub index : ℕ
+    pub step : Step
+    pub items : List Record
+    pub is : group ≡ StepRecord index step ∷ items
+    pub steps : All HasNoStep items
+    pub none : All IsUnanswered items
+    pub asks : All (λ item. asked_ticket item ≡ None) items
+    pub still : move_of_group log group ≡ None
+
+  -- a start
+  pub record IsStartGroup : Type 0 where
+    pub index : ℕ
+    pub step : Step
+    pub items : List Record
+    pub is : group ≡ StepRecord index step ∷ items
+    pub steps : All HasNoStep items
+    pub starting : IsStarting p log s step items
+    pub may : may_start p s starting.name starting.start
+    pub moves : move_of_group log group ≡ Some (Begins starting.name starting.start)
+
+  -- a frame that is taken
+  pub record IsTakenGroup : Type 0 where
+    pub number : ℕ
+    pub items : List Record
+    pub is : group ≡ Taken number ∷ items
+    pub steps : All HasNoStep items
+    pub are : items ≡ received_records p log s (numbered_frame number s.frames)
+    pub may : MayArrive s number
+    pub moves : move_of_group log group ≡ Some (Delivers number)
+
+  abbrev pub IsKnownGroup : Type 0
+  IsKnownGroup = IsIdleGroup ⊎ (IsStartGroup ⊎ IsTakenGroup)
+
+pub group_kind : (p : SettingsValue) (log : List Record) (s : System) (group : List Record) → MayFollow p log s group
+    → ((move : Move) → move_of_group log group ≡ Some move → may_move p s move) → IsKnownGroup p log s group
+unfolding MayFollow
+group_kind p log s (StepRecord index step ∷ items) may possible =
+    let steps = no_steps items (step_within p log s index step items may) in
+    elim (step_kind p log s index step items may) [
+      | inl idle ↦
+          elim (follow_unanswered p log s index step items (is_choice step) refl may) [
+            | inl none ↦ inl (record {
+              index = index;
+              step = step;
+              items = items;
+              is = refl;
+              steps = steps;
+              none = none;
+              asks = λ k d within. (idle.quiet k d within).asked;
+              still = step_moves log index step items ∙ idle.still;
+            })
+            | inr starts ↦ absurd (idle_starts_none log step items idle starts)
+          ]
+      | inr starting ↦
+          let moves = starting_moves p log s index step items starting in
+          inr (inl (record {
+            index = index;
+            step = step;
+            items = items;
+            is = refl;
+            steps = steps;
+            starting = starting;
+            may = possible (Begins starting.name starting.start) moves;
+            moves = moves;
+          }))
+    ]
+group_kind p log s (Taken number ∷ items) may possible =
+    let moves = taken_moves log number items in
+    inr (inr (record {
+      number = number;
+      items = items;
+      is = refl;
+      steps = no_steps items (taken_within p log s number items may);
+      are = may.are;
+      may = possible (Delivers number) moves;
+      moves = moves;
+    }))
+group_kind p log s group may possible = absurd may

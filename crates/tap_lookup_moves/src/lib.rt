@@ -1,0 +1,8 @@
+//! Lookups that are under way: where their frames go, and what they say.
+//!
+//! No code is here. Each function states what holds after a move.
+#![tactic(auto)]
+
+mod law;
+
+pub use law::{alone_law, answers_law, lookups_law};
