@@ -1,0 +1,10 @@
+pub mod Aside
+pub mod Spread
+pub mod Moves
+pub mod Runs
+pub mod Full
+pub mod Joining
+pub mod Follow
+pub mod HeldSteps
+pub mod HeldMoves
+pub mod HeldAnew

@@ -1,0 +1,56 @@
+-- What is remembered of watch lists, beside the nodes and frames of a system.
+use Rattle.std.specs.Prelude.{ℕ, Bool, if◌then◌else◌, List, [], ◌∷◌, ◌++◌, Option, None, Some, is_some}
+use Rattle.tap_name.specs.Slot.{slot_at}
+use Rattle.tap_name.specs.declared.slot.Slot.{Slot}
+use Rattle.tap_link.specs.LinkSet.{least_settled}
+use Rattle.tap_table.specs.Members.{is_slot}
+use Rattle.tap_table.specs.Table.{TableValue, links_at}
+
+-- ---- answers
+
+-- a node answered a slot of a joiner with this name: its own, or that of its primary there
+pub record Answer : Type 0 where
+  pub joiner : List ℕ
+  pub slot : Slot
+  pub answerer : List ℕ
+  pub named : List ℕ
+
+-- the name with which the owner of a table answers a slot, if it does: its own, if it stands there, or else that of its primary there
+abbrev pub answer_with : TableValue → List ℕ → Slot → Option (List ℕ)
+answer_with t joiner slot = if is_slot slot (slot_at joiner t.owner) then Some t.owner else least_settled (links_at t slot)
+
+abbrev pub answer_as : List ℕ → List ℕ → Slot → Option (List ℕ) → List Answer
+answer_as joiner answerer slot None = []
+answer_as joiner answerer slot (Some named) =
+    record { joiner = joiner; slot = slot; answerer = answerer; named = named } ∷ []
+
+-- the answers that the owner of a table gives to these slots
+unfoldable pub answers_for : TableValue → List ℕ → List Slot → List Answer
+answers_for t joiner [] = []
+answers_for t joiner (slot ∷ slots) = answer_as joiner t.owner slot (answer_with t joiner slot) ++ answers_for t joiner slots
+
+-- ---- covers
+
+-- A node covered a joiner with this prefix first: its table then, and the chain of Tells that led to it, from the node itself back to the
+-- joiner's surrogate.
+pub record FirstCover : Type 0 where
+  pub joiner : List ℕ
+  pub prefix : ℕ
+  pub table : TableValue
+  pub chain : List (List ℕ)
+
+-- the slot had a primary in that table
+abbrev pub had_primary : FirstCover → Slot → Bool
+had_primary cover slot = is_some (least_settled (links_at cover.table slot))
+
+-- ---- what is remembered
+
+-- the answers; the chain of the session of a node and a number, from the node back to the surrogate; and the first covers
+pub record WatchMemory : Type 0 where
+  pub answers : List Answer
+  pub chain : List ℕ → ℕ → List (List ℕ)
+  pub covers : List FirstCover
+
+-- nothing was answered, and nobody covered
+abbrev pub none_answered : WatchMemory
+none_answered = record { answers = []; chain = λ x k. []; covers = [] }

@@ -1,0 +1,5 @@
+pub mod Answers
+pub mod Recalled
+pub mod Watched
+pub mod Runs
+pub mod Had

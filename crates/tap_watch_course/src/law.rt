@@ -1,0 +1,89 @@
+ghost use Rattle.tap_watch_course.specs.Had.{AnswersAtRest, CoreHasAnswers, MoveKeepsAnswers, RunAnswersAreHeld};
+ghost use Rattle.tap_watch_course.specs.Runs.{LawfulWatchesHold, RunAnswersAreKept, RunCoreHasAnswers, RunCoversAreAnswered, RunWatchesAreKept};
+ghost use Rattle.tap_watch_course.specs.Watched.{MoveKeepsWatches, RunWatchesAreSound, WatchesAtRest};
+
+/// Members at rest answered nothing and cover nobody: what is said of watch lists is so of them.
+///
+/// It does nothing: its contract is the law.
+///
+/// Rule: docs/PROTOCOL.md, "Watch lists".
+pub fn answers_at_rest_law()
+    ensures { WatchesAtRest }
+{}
+
+/// If the whole invariant of joins holds, and what is said of watch lists, then each possible move keeps the latter. Each slot that a joiner
+/// waits for is in the watch of each Tell of it that is under way, or was answered by a node on the chain of Tells that leads to it. Whoever
+/// covers a joiner has covered it a first time, and each slot that the joiner waits for, and in which it had a primary then, was answered: by
+/// itself, or by another node on the chain of Tells that led to it from the joiner's surrogate. A slot is answered with the node's own name,
+/// or that of its primary, and the name fits the slot.
+///
+/// It does nothing: its contract is the law.
+///
+/// Rule: docs/PROTOCOL.md, "Watch lists" and "Covers".
+pub fn answers_moves_law()
+    ensures { MoveKeepsWatches }
+{}
+
+/// So it is at each moment of each run from members at rest, whatever its moves are and in whichever order frames are delivered.
+///
+/// It does nothing: its contract is the law.
+///
+/// Rule: docs/PROTOCOL.md, "Watch lists" and "Covers".
+pub fn run_answers_law()
+    ensures { RunWatchesAreSound }
+{}
+
+/// Members at rest are answered nothing: what is said of answers is so of them.
+///
+/// It does nothing: its contract is the law.
+///
+/// Rule: docs/PROTOCOL.md, "Watch lists".
+pub fn held_at_rest_law()
+    ensures { AnswersAtRest }
+{}
+
+/// If the whole invariant of joins holds, and what is said of answers, then each possible move keeps the latter. A slot is answered for a
+/// node, with a name that has been core; and while that node joins it has a link to the name, or a Hello on its way to it names it, or as
+/// many settled links as the width stand in its slot.
+///
+/// It does nothing: its contract is the law.
+///
+/// Rule: docs/PROTOCOL.md, "Watch lists" and "Hello".
+pub fn held_moves_law()
+    ensures { MoveKeepsAnswers }
+{}
+
+/// So it is at each moment of each run from members at rest. Hence a joiner that becomes core has, of each slot that was answered for it, a
+/// link to the name with which it was answered, or as many settled links as the width in the slot.
+///
+/// It does nothing: its contract is the law.
+///
+/// Rule: docs/PROTOCOL.md, "Watch lists" and "Done".
+pub fn run_held_law()
+    ensures runs { RunAnswersAreHeld }
+    ensures core { CoreHasAnswers }
+{}
+
+/// In each run, whatever its steps are and in whichever order frames are taken, what is said of watch lists and of answers holds of the system
+/// that its log has come to. Whoever covers a joiner covered it a first time, and each slot of the joiner's full watch list in which it had a
+/// primary then was answered: by itself, or by another node on the chain of Tells that led to that cover from the joiner's surrogate. When the
+/// joiner becomes core it has a link to each name with which a slot was answered for it, or as many settled links as the width in that slot.
+///
+/// It does nothing: its contract is the law.
+///
+/// Rule: docs/PROTOCOL.md, "Watch lists" and "Covers".
+pub fn run_watches_law()
+    ensures kept { RunWatchesAreKept }
+    ensures answered { RunCoversAreAnswered }
+    ensures held { RunAnswersAreKept }
+    ensures core { RunCoreHasAnswers }
+{}
+
+/// So it is in the log of each run of a scenario that isn't over, up to each of its moments.
+///
+/// It does nothing: its contract is the law.
+///
+/// Rule: docs/FORMATS.md, "What comes next" and "The course of a run".
+pub fn lawful_watches_law()
+    ensures { LawfulWatchesHold }
+{}

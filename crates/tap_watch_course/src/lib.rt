@@ -1,0 +1,11 @@
+//! What a run keeps of watch lists: that each slot which a joiner still waits for was answered, or is in the watch that goes on.
+//!
+//! No code is here. Each function states what holds of each run.
+#![tactic(auto)]
+
+mod law;
+
+pub use law::{
+    answers_at_rest_law, answers_moves_law, held_at_rest_law, held_moves_law, lawful_watches_law,
+    run_answers_law, run_held_law, run_watches_law,
+};
