@@ -1,0 +1,16 @@
+pub mod Counting
+pub mod Rules
+pub mod Sent
+pub mod SeekMoves
+pub mod Moves
+pub mod Lookups
+pub mod TellRules
+pub mod TellSteps
+pub mod TellMoves
+pub mod HelloRules
+pub mod HelloSteps
+pub mod HelloMoves
+pub mod Taken
+pub mod AckRules
+pub mod AckSteps
+pub mod AckMoves

@@ -1,0 +1,100 @@
+ghost use Rattle.tap_bounds.specs.Acks.{AcksAtRest, MoveKeepsAcks, RunAcksFew};
+ghost use Rattle.tap_bounds.specs.Hellos.{FewAreOnce, HellosAtRest, MoveKeepsHellos, RunHellosFew};
+ghost use Rattle.tap_bounds.specs.Lookups.{LookupSendsFew};
+ghost use Rattle.tap_bounds.specs.Moves.{FewAtRest, MoveKeepsFew, RunSendsFew};
+ghost use Rattle.tap_bounds.specs.Taken.{HeardsByHellos, KnownAtRest, MoveKeepsKnown, RunKnowsAll};
+ghost use Rattle.tap_bounds.specs.Tells.{MoveKeepsTells, RunTellsFew, TellsAtRest};
+
+/// The members with which an overlay begins have sent nothing: what is said of the frames of joins holds of them.
+///
+/// It does nothing: its contract is the law.
+///
+/// Rule: docs/PROTOCOL.md, "Steps of a node".
+pub fn few_at_rest_law()
+    ensures { FewAtRest }
+{}
+
+/// If the whole invariant of joins holds, and what is said of the frames of joins, then each possible move keeps the latter, whatever a
+/// node starts, and whatever frame is delivered to whom. It says that of each joiner at most as many Seeks were sent as names have digits,
+/// and, while one is on its way, at most one more than its receiver shares digits with the joiner; and that a node has sent at most as many
+/// Heards as it has taken Hellos.
+///
+/// It does nothing: its contract is the law.
+///
+/// Rule: docs/PROTOCOL.md, "Seek" and "Hello".
+pub fn few_moves_law()
+    ensures { MoveKeepsFew }
+{}
+
+/// What is said of the frames of joins holds at each moment of each run from members at rest, however many its moves are and in whichever
+/// order frames are delivered.
+///
+/// It does nothing: its contract is the law.
+///
+/// Rule: docs/PROTOCOL.md, "Seek" and "Hello".
+pub fn few_runs_law()
+    ensures { RunSendsFew }
+{}
+
+/// If the whole invariant of joins holds and no frame is under way, a lookup that starts sends at most one frame more than names have
+/// digits, however many frames are delivered after it, if nothing else starts.
+///
+/// It does nothing: its contract is the law.
+///
+/// Rule: docs/PROTOCOL.md, "Find" and "Answer".
+pub fn lookup_frames_law()
+    ensures { LookupSendsFew }
+{}
+
+/// If the whole invariant of joins holds, each possible move keeps how few Tells a node sends another of one joiner: a running node none
+/// without a cover of the joiner, two at most if its level is at most the digits that the two names share, and else one; and each name two
+/// at most, be its node running or not. So it is for the members with which an overlay begins, and at each moment of each run from them.
+///
+/// It does nothing: its contract is the law.
+///
+/// Rule: docs/PROTOCOL.md, "Seek" and "Tell" and "Covers of a node".
+pub fn tells_law()
+    ensures members { TellsAtRest }
+    ensures moves { MoveKeepsTells }
+    ensures runs { RunTellsFew }
+{}
+
+/// If the whole invariant of joins holds, each possible move keeps how few Hellos a node sends a joiner: as a core node none while it runs
+/// without a cover of the joiner, and else one at most; as a joining node none before it has greeted the joiner, and else one at most. So
+/// it is for the members with which an overlay begins, and at each moment of each run from them.
+///
+/// It does nothing: its contract is the law.
+///
+/// Rule: docs/PROTOCOL.md, "Tell" and "Covers of a node".
+pub fn hellos_law()
+    ensures members { HellosAtRest }
+    ensures moves { MoveKeepsHellos }
+    ensures runs { RunHellosFew }
+    ensures once { FewAreOnce }
+{}
+
+/// Of whichever frames one counts, as many were sent as were taken and are under way: each possible move keeps it, so it holds at each
+/// moment of each run from the members with which an overlay begins. So a name has sent at most as many Heards as Hellos were sent to it.
+///
+/// It does nothing: its contract is the law.
+///
+/// Rule: docs/PROTOCOL.md, "Steps of a node".
+pub fn taken_law()
+    ensures members { KnownAtRest }
+    ensures moves { MoveKeepsKnown }
+    ensures runs { RunKnowsAll }
+    ensures heards { HeardsByHellos }
+{}
+
+/// If the whole invariant of joins holds, each possible move keeps that a node has sent at most as many Acks as it has taken Tells, its open
+/// sessions whose parent is another node's counted as Acks. So it is for the members with which an overlay begins, and at each moment of
+/// each run from them.
+///
+/// It does nothing: its contract is the law.
+///
+/// Rule: docs/PROTOCOL.md, "Tell" and "Heard and Ack".
+pub fn acks_law()
+    ensures members { AcksAtRest }
+    ensures moves { MoveKeepsAcks }
+    ensures runs { RunAcksFew }
+{}

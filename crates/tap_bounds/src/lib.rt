@@ -1,0 +1,11 @@
+//! How many frames a system sends: what moves keep of the frames that were sent so far.
+//!
+//! No code is here. Each function states what holds after a move.
+#![tactic(auto)]
+
+mod law;
+
+pub use law::{
+    acks_law, few_at_rest_law, few_moves_law, few_runs_law, hellos_law, lookup_frames_law,
+    taken_law, tells_law,
+};
