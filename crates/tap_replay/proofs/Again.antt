@@ -14,7 +14,8 @@ use Rattle.tap_history.specs.Groups.{beginning_of}
 use Rattle.tap_course.specs.Beginning.{begin_record}
 use Rattle.tap_course.proofs.Growing.{starts_begun, starts_uncarried}
 use Rattle.tap_engine.specs.Kinds.{finishes, is_finished}
-use Rattle.tap_lawful.specs.Next.{beginning_in, begun_count, step_group, taken_group}
+use Rattle.tap_lawful.specs.Next.{beginning_in, begun_count}
+use Rattle.tap_course.specs.Groups.{step_group, taken_group}
 use Rattle.tap_lawful.specs.Lawful.{IsFinished, IsPlayed, IsSpent, step_alone}
 use Rattle.tap_lawful.proofs.Coming.{coming}
 use Rattle.tap_lawful.proofs.Steps.{played_all, played_steps}
@@ -143,4 +144,4 @@ ended_may s NoMemory log ended = may_turn s log ended
 
 pub may_turn_again : (s : ScenarioValue) (over : Option End) (run : Run) → GoesOnUnless over s run → MayTurn s run.world.log
 may_turn_again s None run of = may_turn s run.world.log of.goes_on.played
-may_turn_again s (Some end) run ended = ended_may s end run.world.log ended
+may_turn_again s (Some end) run left = ended_may s end run.world.log left.ended

@@ -18,13 +18,14 @@ use Rattle.tap_course.specs.Group.{step_records}
 use Rattle.tap_course.proofs.Growing.{starts_begun}
 use Rattle.tap_engine.specs.Kinds.{finishes, is_finished}
 use Rattle.tap_engine.specs.World.{WorldValue}
-use Rattle.tap_lawful.specs.Next.{beginning_in, begun_count, group_after, next_group, step_group, taken_group}
+use Rattle.tap_lawful.specs.Next.{beginning_in, begun_count, group_after, next_group}
+use Rattle.tap_course.specs.Groups.{step_group, taken_group}
 use Rattle.tap_lawful.specs.Lawful.{IsFinished, IsPlayed, IsSpent, step_alone}
 use Rattle.tap_lawful.specs.Laws.{BeginsAlike}
 use Rattle.tap_lawful.proofs.Alike.{played_alike}
 use Rattle.tap_lawful.proofs.Coming.{BeginsNext, TakesDue, coming}
 use Rattle.tap_lawful.proofs.Steps.{played_all, played_steps}
-use Rattle.tap_replay.specs.Player.{HasEnded, MayTurn}
+use Rattle.tap_replay.specs.Player.{HasEnded, IsLeft, MayTurn}
 use Rattle.tap_replay.specs.Run.{GoesOn, IsRunOf}
 use Rattle.tap_replay.specs.declared.end.End.{End}
 use Rattle.tap_replay.specs.declared.end.End.TheVariants.{Done, NoMemory, Spent}
@@ -194,10 +195,29 @@ finished_alike s other log played was finished may =
     ∙ ap (λ l. record { settings = s.settings; frames = s.frames; members = s.members; steps = l }) steps in
     subst (λ x. HasEnded x Done log) (sym same) (played, was, finished)
 
-pub ended_alike : (s other : ScenarioValue) (end : End) (log : List Record) → HasEnded s end log → MayTurn other log → HasEnded other end log
+ended_alike : (s other : ScenarioValue) (end : End) (log : List Record) → HasEnded s end log → MayTurn other log → HasEnded other end log
 ended_alike s other Done log ended may = finished_alike s other log ended.0 ended.1 ended.2 may
 ended_alike s other Spent log ended may = spent_alike s other log ended.0 ended.1 ended.2 may
 ended_alike s other NoMemory log ended may = still s other log ended may
+
+-- ---- what such a run leaves
+
+-- both begin alike
+begin_alike : (s other : ScenarioValue) (end : End) (log : List Record) → HasEnded s end log → MayTurn other log
+    → beginning_in other ≡ beginning_in s
+begin_alike s other Done log ended may =
+    (alike s other log ended.0 (Finished (length s.steps) ∷ []) ended.2.log_is ended.1 may).beginning
+begin_alike s other Spent log ended may =
+    (alike s other log ended.0 (step_alone ended.2.group ++ SpentRecord s.frames ∷ []) ended.2.log_is ended.1 may).beginning
+begin_alike s other NoMemory log ended may = (alike s other log log [] (sym (append-nil log)) ended may).beginning
+
+pub left_alike : (s other : ScenarioValue) (end : End) (w : WorldValue) → IsLeft s end w → MayTurn other w.log → IsLeft other end w
+left_alike s other end w left may = record {
+  ended = ended_alike s other end w.log left.ended may;
+  beginning = left.beginning ∙ sym (begin_alike s other end w.log left.ended may);
+  noted = left.noted;
+  stopped = left.stopped;
+}
 
 -- ---- the scenario itself
 

@@ -18,10 +18,10 @@ whole_log s Done log ended short = record { played = ended.0; is_played = ended.
 whole_log s Spent log ended short = record { played = ended.0; is_played = ended.1; over = inr ended.2 }
 whole_log s NoMemory log ended short = absurd (short refl)
 
-log_of : (s : ScenarioValue) (end : End) (log : List Record) → HasEnded s end log → IsLogOf s log
-log_of s Done log ended = record { played = ended.0; is_played = ended.1; ending = inr (inl ended.2) }
-log_of s Spent log ended = record { played = ended.0; is_played = ended.1; ending = inr (inr ended.2) }
-log_of s NoMemory log ended = record { played = log; is_played = ended; ending = inl refl }
+pub ended_log : (s : ScenarioValue) (end : End) (log : List Record) → HasEnded s end log → IsLogOf s log
+ended_log s Done log ended = record { played = ended.0; is_played = ended.1; ending = inr (inl ended.2) }
+ended_log s Spent log ended = record { played = ended.0; is_played = ended.1; ending = inr (inr ended.2) }
+ended_log s NoMemory log ended = record { played = log; is_played = ended; ending = inl refl }
 
 -- ---- how the log ends says how the run has ended
 
@@ -54,4 +54,4 @@ one_run s end other log more ended ends some enough =
     record { end_is = same_end s end other log more ended ends some enough same; log_is = same }
 
 pub runs_are_lawful : RunsAreLawful
-runs_are_lawful = record { log = log_of; whole = whole_log; one = one_run }
+runs_are_lawful = record { log = ended_log; whole = whole_log; one = one_run }

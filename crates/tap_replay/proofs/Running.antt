@@ -1,6 +1,6 @@
 -- The group that comes next in the run of a scenario is added.
 use Rattle.std.proofs.Common.{◌≡◌, inl, inr, ℕ, zero, suc, ◌+◌, ◌<◌, ◌≤◌, Bool, true, false, List, [], ◌∷◌, ◌++◌, length, get_or, All, Option, None, Some, Result, Ok, Err, IfSome, refl, ap, sym, subst, ◌∙◌, arith, append-nil, length-append}
-use Rattle.std.specs.Prelude.{◌-◌, if◌then◌else◌, is_some, nat_eq, nat_le, nat_lt, option_and_then, slice_get}
+use Rattle.std.specs.Prelude.{if◌then◌else◌, is_some, nat_eq, nat_le, nat_lt, option_and_then, slice_get}
 use Rattle.std.specs.List.{filter_map, last_or, range_with_len}
 use Rattle.std.specs.Option.{option_map}
 use Rattle.std.proofs.lemmas.Bool.{cases_lt, le-ltb, leb-false, leb-true, lt-ltb, ltb-true}
@@ -25,12 +25,13 @@ use Rattle.tap_course.proofs.Growing.{starts_uncarried}
 use Rattle.tap_course.proofs.Nodes.{no_steps}
 use Rattle.tap_course.proofs.Within.{Within, step_within, taken_within}
 use Rattle.tap_engine.specs.Kinds.{begun_index, finishes, is_finished}
-use Rattle.tap_engine.specs.Outcome.{AnswersAs, IsNextIndex, MayGoOn, adds, adds_within, deliver_outcome, is_within, spends, takes_number}
+use Rattle.tap_engine.specs.Outcome.{AnswersAs, IsNextIndex, MayGoOn, Outcome, adds, adds_within, deliver_outcome, is_within, spends, takes_number}
 use Rattle.tap_engine.specs.World.{HasBegun, WorldValue}
 use Rattle.tap_engine.specs.declared.stop.Stop.{Stop}
 use Rattle.tap_engine.specs.declared.stop.Stop.TheVariants.{Ended, NoMemory, Refused, Spent}
 use Rattle.tap_lawful.specs.Due.{chosen_after, chosen_in, number_due, place_by, place_chosen, place_of}
-use Rattle.tap_lawful.specs.Next.{beginning_in, begun_count, group_after, next_group, next_step, step_group, taken_group}
+use Rattle.tap_lawful.specs.Next.{beginning_in, begun_count, group_after, next_group, next_step}
+use Rattle.tap_course.specs.Groups.{step_group, taken_group}
 use Rattle.tap_lawful.specs.Lawful.{IsPlayed, step_alone}
 use Rattle.tap_lawful.specs.Laws.{index_of}
 use Rattle.tap_lawful.proofs.Choosing.{chosen_by_frame, chosen_by_step}
@@ -38,7 +39,7 @@ use Rattle.tap_lawful.proofs.Coming.{comes_may}
 use Rattle.tap_lawful.proofs.Played.{played_more, played_starts}
 use Rattle.tap_lawful.proofs.Steps.{played_all, played_indices}
 use Rattle.tap_replay.specs.Choice.{IsChoiceOf, begun_by, one_more_taken}
-use Rattle.tap_replay.specs.Run.{AddsGroup, AddsNext, GoesOn, HasAdded, IsRunOf}
+use Rattle.tap_replay.specs.Run.{AddsGroup, AddsNext, GoesOn, HasAdded, HasLacked, IsRunOf}
 use Rattle.tap_replay.specs.Steps.{MayRun, run_outcome}
 use Rattle.tap_replay.specs.declared.choice.Choice.TheVariants.{Nothing}
 use Rattle.tap_replay.specs.declared.run.Run.{Run}
@@ -190,10 +191,19 @@ module _ (s : ScenarioValue) (group : List Record) (before after : Run) (on : Go
         };
       }
 
+  -- memory was refused
+  lacked : {outcome : Outcome} → AnswersAs outcome before.world (Err NoMemory) after.world → HasLacked s before after
+  lacked so =
+      let short = so.memory refl in
+      record {
+        log = short.log;
+        world = record { beginning = so.beginning ∙ on.beginning; noted = short.refused ∙ on.noted; stopped = short.stopped };
+      }
+
   added : (given : Result (Unit {0}) Stop) → sent_count (before.world.log ++ group) ≤ s.frames
       → AnswersAs (adds before.world group) before.world given after.world → AddsGroup s group before given after
   added (Ok tt) within so = goes_added so within
-  added (Err NoMemory) within so = (so.memory refl).log
+  added (Err NoMemory) within so = lacked so
   added (Err Spent) within so = absurd (went_not_failed Spent (so.answer spent_not_short))
   added (Err (Refused refusal)) within so = absurd (went_not_failed (Refused refusal) (so.answer (refused_not_short refusal)))
   added (Err Ended) within so = absurd (went_not_failed Ended (so.answer ended_not_short))
@@ -206,8 +216,13 @@ module _ (s : ScenarioValue) (group : List Record) (before after : Run) (on : Go
     log =
         so.log spent_not_short ∙ ap (λ l. before.world.log ++ (l ++ SpentRecord before.world.beginning.frames ∷ [])) (sym alone)
         ∙ ap (λ b. before.world.log ++ (step_alone group ++ SpentRecord b.frames ∷ [])) on.beginning;
+    world = record {
+      beginning = so.beginning ∙ on.beginning;
+      noted = so.refused spent_not_short ∙ on.noted;
+      stopped = so.stopped spent_not_short;
+    };
   }
-  spent (Err NoMemory) first alone over so = (so.memory refl).log
+  spent (Err NoMemory) first alone over so = lacked so
   spent (Ok tt) first alone over so = absurd (went_not_failed Spent (sym (so.answer went_not_short)))
   spent (Err (Refused refusal)) first alone over so =
       absurd (let never : failed (Refused refusal) ≡ failed Spent = so.answer (refused_not_short refusal) in cc)

@@ -1,5 +1,5 @@
 -- What a world answers to a step: its group is added, or the step alone and `Spent`.
-use Rattle.std.proofs.Common.{◌≡◌, ◌≢◌, ℕ, ◌+◌, ◌<◌, ◌≤◌, Bool, true, false, List, [], ◌∷◌, ◌++◌, length, Option, None, Some, Result, Ok, Err, IsTrue, refl, ap, sym, subst, ◌∙◌, arith, append_assoc}
+use Rattle.std.proofs.Common.{◌≡◌, ◌≢◌, ℕ, ◌<◌, ◌≤◌, Bool, true, false, List, [], ◌∷◌, ◌++◌, length, Option, None, Some, Result, Ok, Err, IsTrue, refl, ap, sym, subst, ◌∙◌, arith, append_assoc}
 use Rattle.std.specs.Prelude.{if◌then◌else◌}
 use Rattle.std.proofs.lemmas.Bool.{le-leb, lt-leb}
 use Rattle.tap_scenario.specs.Step.{is_played}
@@ -19,7 +19,8 @@ use Rattle.std.specs.List.{filter_map}
 use Rattle.tap_course.specs.Course.{is_choice, system_of}
 use Rattle.tap_course.specs.Group.{records_unless, step_records}
 use Rattle.tap_engine.specs.Kinds.{may_be_refused}
-use Rattle.tap_engine.specs.Outcome.{AnswersAs, Outcome, adds, adds_within, mark_outcome, note_outcome, spends, stays, step_group, step_outcome, unless_refused, unless_stopped}
+use Rattle.tap_engine.specs.Outcome.{AnswersAs, Outcome, adds, adds_within, mark_outcome, note_outcome, spends, stays, step_outcome, unless_refused, unless_stopped}
+use Rattle.tap_course.specs.Groups.{step_group}
 use Rattle.tap_engine.specs.World.{WorldValue}
 use Rattle.tap_engine.specs.declared.stop.Stop.{Stop}
 use Rattle.tap_engine.specs.declared.stop.Stop.TheVariants.{Ended, NoMemory, Refused, Spent}
@@ -100,7 +101,7 @@ module _ (w : WorldValue) (may : MayRun w) (index : ℕ) (step : Step) where
       → run_outcome w index step ≡ adds w (StepRecord index step ∷ RefusedRecord index refusal ∷ [])
   refused_outcome refusal is =
       let more : List Record = StepRecord index step ∷ [] in
-      unless_goes w (adds_within w more (step_group w.beginning w.log index step)) may.runs
+      unless_goes w (adds_within w more (step_group w.beginning.settings w.log index step)) may.runs
       ∙ ap (λ r. adds_within w more (StepRecord index step ∷ records_unless w.beginning.settings w.log (system_of w.log) index step r)) is
       ∙ quiet_adds w more (StepRecord index step ∷ RefusedRecord index refusal ∷ []) may.few (refused_unsent w.log index step refusal)
 
@@ -112,7 +113,7 @@ module _ (w : WorldValue) (may : MayRun w) (index : ℕ) (step : Step) where
       let items : step_records w.beginning.settings w.log (system_of w.log) index step ≡ [] =
       ap (records_unless w.beginning.settings w.log (system_of w.log) index step) none
       ∙ choice_alone w.beginning.settings w.log (system_of w.log) index step chosen in
-      unless_goes w (adds_within w more (step_group w.beginning w.log index step)) may.runs
+      unless_goes w (adds_within w more (step_group w.beginning.settings w.log index step)) may.runs
       ∙ ap (λ l. adds_within w more (StepRecord index step ∷ l)) items
       ∙ quiet_adds w more more may.few (alone_unsent w.log index step)
 
@@ -172,7 +173,7 @@ module _ (w v : WorldValue) (index : ℕ) (step : Step) (refusal : Refusal) (run
   by_refusal : (first : Option Refusal) → first_refusal w.log step ≡ first
       → AnswersAs (unless_refused w index step first) w (Err (Refused refusal)) v → HasRefused w v index step refusal
   by_refusal None is so =
-      absurd (by_within _ (step_group w.beginning w.log index step) (so.answer (refused_not_short refusal)))
+      absurd (by_within _ (step_group w.beginning.settings w.log index step) (so.answer (refused_not_short refusal)))
   by_refusal (Some why) is so =
       let same : refusal ≡ why = let e : failed (Refused refusal) ≡ failed (Refused why) = so.answer (refused_not_short refusal) in cc in
       record {

@@ -1,5 +1,5 @@
 -- What a turn of a player answers.
-use Rattle.std.proofs.Common.{◌≡◌, ◌≢◌, ◌+◌, ◌<◌, ◌≤◌, true, false, List, [], ◌∷◌, ◌++◌, length, Option, None, Some, Ok, Err, refl, ap, sym, subst, ◌∙◌}
+use Rattle.std.proofs.Common.{◌≡◌, ◌≢◌, ◌<◌, ◌≤◌, true, false, List, [], ◌∷◌, ◌++◌, length, Option, None, Some, Ok, Err, refl, ap, sym, subst, ◌∙◌}
 use Rattle.std.specs.Prelude.{if◌then◌else◌, is_some}
 use Rattle.std.proofs.lemmas.Bool.{le-leb, lt-leb}
 use Rattle.tap_scenario.specs.Scenario.{ScenarioValue}
@@ -12,7 +12,7 @@ use Rattle.tap_lawful.specs.Next.{next_group}
 use Rattle.tap_lawful.specs.Lawful.{IsPlayed, step_alone}
 use Rattle.tap_lawful.specs.Laws.{left_of}
 use Rattle.tap_lawful.proofs.Less.{less_left}
-use Rattle.tap_replay.specs.Player.{HasEnded, TurnsAs, end_of}
+use Rattle.tap_replay.specs.Player.{IsLeft, TurnsAs, end_of}
 use Rattle.tap_replay.specs.Run.{AddsComing, AddsGroup, AddsNext, IsRunOf}
 use Rattle.tap_replay.specs.Turn.{TurnOutcome, outcome_by, turn_outcome, unless_finished, unless_spent}
 use Rattle.tap_replay.specs.declared.end.End.TheVariants.{Done, NoMemory, Spent}
@@ -116,16 +116,13 @@ module _ (s : ScenarioValue) (before after : Run) where
         as_outcome (turn_outcome s before.world.log) before.world.log (Over Done) log (λ same. cc) (sym (ap (λ o. o.answer) so))
         (is ∙ sym (ap (λ o. o.log) so))
 
-    pub done_ended : HasEnded s Done log
-    done_ended = (after.world.log, (added_run added).goes_on.played, record { none = none; log_is = is })
-
 -- ---- the call was stopped
 
 module _ (s : ScenarioValue) (before after : Run) (played : IsPlayed s before.world.log) where
   -- the run has ended so, and the turn says it
   pub record HasStopped (stop : Stop) : Type 0 where
     pub turns : TurnsAs (turn_outcome s before.world.log) before.world.log (Over (end_of (Err stop))) after.world.log
-    pub ended : HasEnded s (end_of (Err stop)) after.world.log
+    pub left : IsLeft s (end_of (Err stop)) after.world
 
   by_stop : (group : List Record) → next_group s before.world.log ≡ Some group → (stop : Stop)
       → AddsGroup s group before (Err stop) after → HasStopped stop
@@ -135,11 +132,21 @@ module _ (s : ScenarioValue) (before after : Run) (played : IsPlayed s before.wo
       record {
         turns = as_outcome (turn_outcome s old) old (Over Spent) after.world.log (λ same. cc) (sym (ap (λ o. o.answer) so))
             (spent.log ∙ sym (ap (λ o. o.log) so));
-        ended = (old, played, record { group = group; next = next; over = spent.over; log_is = spent.log });
+        left = record {
+          ended = (old, played, record { group = group; next = next; over = spent.over; log_is = spent.log });
+          beginning = spent.world.beginning;
+          noted = spent.world.noted;
+          stopped = spent.world.stopped;
+        };
       }
-  by_stop group next StopNoMemory same = record {
-    turns = record { answer = λ other. absurd (other refl); log = λ other. absurd (other refl); memory = λ _. same };
-    ended = subst (IsPlayed s) (sym same) played;
+  by_stop group next StopNoMemory lacked = record {
+    turns = record { answer = λ other. absurd (other refl); log = λ other. absurd (other refl); memory = λ _. lacked.log };
+    left = record {
+      ended = subst (IsPlayed s) (sym lacked.log) played;
+      beginning = lacked.world.beginning;
+      noted = lacked.world.noted;
+      stopped = lacked.world.stopped;
+    };
   }
   by_stop group next (StopRefused refusal) never = absurd never
   by_stop group next StopEnded never = absurd never

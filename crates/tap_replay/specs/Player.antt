@@ -1,7 +1,7 @@
 -- What contracts see of a player, and what its turns make of it.
 --
 -- Rule: docs/FORMATS.md, "What comes next" and "The ways a run ends".
-use Rattle.std.specs.Prelude.{◌≡◌, ◌≢◌, true, List, [], ◌∷◌, take, Option, None, Some, MatchOption, Result, Ok, Err}
+use Rattle.std.specs.Prelude.{◌≡◌, ◌≢◌, Bool, true, false, List, [], ◌∷◌, take, Option, None, Some, MatchOption, Result, Ok, Err}
 use Rattle.tap_scenario.specs.Scenario.{ScenarioValue}
 use Rattle.tap_log.specs.declared.record.Record.{Record}
 use Rattle.tap_log.specs.Log.{begun_steps}
@@ -35,9 +35,23 @@ HasEnded s Done log = (played : List Record) × IsPlayed s played × IsFinished 
 HasEnded s Spent log = (played : List Record) × IsPlayed s played × IsSpent s played log
 HasEnded s NoMemory log = IsPlayed s log
 
+-- whether a run that has ended so has stopped its world
+abbrev pub has_stopped : End → Bool
+has_stopped Done = false
+has_stopped Spent = true
+has_stopped NoMemory = true
+
+-- What the run of the scenario leaves that has ended so: the log is that of such a run, with what it begins is the scenario's, no refusal is
+-- left to be noted, and the world was stopped exactly if too many frames would have been sent or memory was refused.
+pub record IsLeft (s : ScenarioValue) (end : End) (w : WorldValue) : Type 0 where
+  pub ended : HasEnded s end w.log
+  pub beginning : w.beginning ≡ beginning_in s
+  pub noted : w.refused ≡ None
+  pub stopped : w.stopped ≡ has_stopped end
+
 -- the player has run the scenario so far
 abbrev pub HasPlayed : ScenarioValue → PlayerValue → Type 0
-HasPlayed s p = MatchOption p.over (GoesOn s p.world) (λ end. HasEnded s end p.world.log)
+HasPlayed s p = MatchOption p.over (GoesOn s p.world) (λ end. IsLeft s end p.world)
 
 -- ---- turns
 
@@ -75,7 +89,7 @@ Turns s before given after =
 -- a run that isn't over goes on from here
 abbrev pub GoesOnUnless : Option End → ScenarioValue → Run → Type 0
 GoesOnUnless None s run = IsRunOf s run
-GoesOnUnless (Some end) s run = HasEnded s end run.world.log
+GoesOnUnless (Some end) s run = IsLeft s end run.world
 
 -- the player runs some scenario, from here on or to this end
 pub record IsPlayer (run : Run) (over : Option End) : Type 0 where

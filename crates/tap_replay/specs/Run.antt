@@ -1,7 +1,7 @@
 -- What a player works on, and what the next group makes of it.
 --
 -- Rule: docs/FORMATS.md, "What comes next".
-use Rattle.std.specs.Prelude.{◌≡◌, ◌<◌, false, List, [], ◌∷◌, ◌++◌, Option, None, Some, Result, Ok, Err}
+use Rattle.std.specs.Prelude.{◌≡◌, ◌<◌, false, true, List, [], ◌∷◌, ◌++◌, Option, None, Some, Result, Ok, Err}
 use Rattle.tap_scenario.specs.Scenario.{ScenarioValue}
 use Rattle.tap_log.specs.declared.record.Record.{Record}
 use Rattle.tap_log.specs.declared.record.Record.TheVariants.{Spent as SpentRecord}
@@ -33,16 +33,28 @@ pub record HasAdded (s : ScenarioValue) (group : List Record) (before after : Ru
   pub log : after.world.log ≡ before.world.log ++ group
   pub run : IsRunOf s after
 
+-- the world of the run was stopped, and no refusal is left to be noted
+pub record WasStopped (s : ScenarioValue) (w : WorldValue) : Type 0 where
+  pub beginning : w.beginning ≡ beginning_in s
+  pub noted : w.refused ≡ None
+  pub stopped : w.stopped ≡ true
+
 -- with the group too many frames would be sent, and the log says so
 pub record HasSpent (s : ScenarioValue) (group : List Record) (before after : Run) : Type 0 where
   pub over : s.frames < sent_count (before.world.log ++ group)
   pub log : after.world.log ≡ before.world.log ++ (step_alone group ++ SpentRecord s.frames ∷ [])
+  pub world : WasStopped s after.world
 
--- by the answer: the group was added; or it would send too many frames; or memory was refused, and the log stays
+-- memory was refused, and the log stays
+pub record HasLacked (s : ScenarioValue) (before after : Run) : Type 0 where
+  pub log : after.world.log ≡ before.world.log
+  pub world : WasStopped s after.world
+
+-- by the answer: the group was added; or it would send too many frames; or memory was refused
 abbrev pub AddsGroup : ScenarioValue → List Record → Run → Result (Unit {0}) Stop → Run → Type 0
 AddsGroup s group before (Ok done) after = HasAdded s group before after
 AddsGroup s group before (Err Spent) after = HasSpent s group before after
-AddsGroup s group before (Err NoMemory) after = after.world.log ≡ before.world.log
+AddsGroup s group before (Err NoMemory) after = HasLacked s before after
 AddsGroup s group before (Err other) after = ⊥
 
 -- the group that comes next is added; nothing changes if none does

@@ -2,6 +2,7 @@ ghost use Rattle.std.specs.Prelude.{◌≡◌, ◌<◌, IfOk};
 ghost use Rattle.tap_lawful.specs.Laws.{left_of};
 ghost use Rattle.tap_lawful.specs.Next.{beginning_in};
 ghost use Rattle.tap_replay.specs.Player.{HasPlayed, MayTurn, Turns, over_by};
+ghost use Rattle.tap_safe_course.specs.Headline.{HasHeadline};
 ghost use Rattle.tap_scenario.specs.Scenario.{EachStepIsPlayed};
 
 use crate::choice::Choice;
@@ -79,9 +80,15 @@ impl Player {
         ensures played { HasPlayed scenario.now self.new }
         ensures may { MayTurn scenario.now self.new.world.log }
 
+        // At each moment of the log there is a core node, no table has a hole, each walk leads to the one root, and at rest each node that
+        // is present is core.
+        ensures headline { HasHeadline scenario.now.settings self.new.world.log }
+
         // So a caller that takes one turn after the other comes to an end.
         ensures less { result ≡ Turned.More → left_of scenario.now self.new.world.log < left_of scenario.now self.old.world.log }
     {
+        // No effect at run time. The proof reads from this call that the scenario is within its limits.
+        let _ = scenario.step_count();
         if let Some(end) = self.over {
             return Turned::Over(end);
         }

@@ -3,7 +3,7 @@ ghost use Rattle.tap_lawful.specs.Due.{number_due};
 ghost use Rattle.tap_log.specs.declared.record.Record.TheVariants.{Finished};
 ghost use Rattle.tap_lawful.specs.Next.{next_group};
 ghost use Rattle.tap_lawful.specs.Laws.{left_of};
-ghost use Rattle.tap_replay.specs.Player.{GoesOnUnless, TurnsAs, end_of, over_by};
+ghost use Rattle.tap_replay.specs.Player.{GoesOnUnless, IsLeft, TurnsAs, end_of, over_by};
 ghost use Rattle.tap_replay.specs.Run.{AddsNext, IsRunOf};
 ghost use Rattle.tap_scenario.specs.Scenario.{EachStepIsPlayed};
 ghost use Rattle.tap_replay.specs.Turn.{turn_outcome};
@@ -88,6 +88,7 @@ impl Run {
         requires none { next_group scenario.now self.old.world.log ≡ None }
         ensures answer { result ≡ Ok tt }
         ensures log { self.new.world.log ≡ self.old.world.log ++ Finished (length scenario.now.steps) ∷ [] }
+        ensures left { IsLeft scenario.now End.Done self.new.world }
     {
         self.world.finish(self.begun)
     }

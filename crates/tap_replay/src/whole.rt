@@ -1,3 +1,5 @@
+ghost use Rattle.std.specs.Prelude.{IfSome};
+ghost use Rattle.tap_safe_course.specs.Headline.{HasHeadline};
 ghost use Rattle.tap_scenario.specs.Scenario.{EachStepIsPlayed};
 ghost use Rattle.tap_replay.specs.Whole.{IsReplay};
 
@@ -23,12 +25,16 @@ pub struct Played {
 /// `Done` comes exactly if every step was run, and `Spent` exactly if the next group would have sent more frames than may be sent; the
 /// log ends with the record that says so. `NoMemory` comes only if memory was refused. The run takes memory of `alloc`.
 ///
+/// After `Done` the nodes of the world are those of the system that its log has come to; after `Spent` and `NoMemory` it was stopped.
+/// However the run has ended, its log has the headline.
+///
 /// Condition: no step is one of a carrier or a root set.
 ///
 /// Rule: docs/FORMATS.md, "What comes next".
 pub fn replay(alloc: Global, scenario: &Scenario) -> Played
     requires { EachStepIsPlayed scenario.now }
-    ensures { IsReplay scenario.now result }
+    ensures left { IsReplay scenario.now result }
+    ensures headline { IfSome result.world (λ world. HasHeadline scenario.now.settings world.log) }
 {
     let Ok(mut player) = Player::new(alloc, scenario) else {
         return Played {

@@ -1,6 +1,6 @@
 -- Why the top call ends as it does, and what follows of its log.
-use Rattle.std.proofs.Common.{◌≡◌, ◌≢◌, ◌⊎◌, inl, inr, Bool, true, false, List, [], ◌∷◌, ◌++◌, length, Option, None, Some, refl, ap, sym, subst, ◌∙◌, ℕ}
-use Rattle.std.specs.Prelude.{◌↔◌, IfSome, IsTrue, MatchOption}
+use Rattle.std.proofs.Common.{◌≡◌, ◌≢◌, ◌⊎◌, inl, inr, Bool, true, false, List, [], ◌∷◌, length, Option, None, Some, refl, ap, sym, subst, ◌∙◌, ℕ}
+use Rattle.std.specs.Prelude.{◌↔◌, IfSome, IsSome, IsTrue, MatchOption}
 use Rattle.tap_io.specs.Faults.{HasRisen}
 use Rattle.tap_io.specs.Source.{SourceState}
 use Rattle.tap_scenario.specs.Scenario.{IsScript, ScenarioValue}
@@ -9,73 +9,63 @@ use Rattle.tap_log.specs.declared.record.Record.{Record}
 use Rattle.tap_log.specs.declared.record.Record.TheVariants.{Spent as SpentRecord, Finished}
 use Rattle.tap_log.specs.Log.{last_of}
 use Rattle.tap_history.specs.Groups.{ends_log, is_ended, is_spent}
+use Rattle.tap_make.specs.Made.{made}
 use Rattle.tap_engine.specs.Kinds.{finishes, is_finished}
 use Rattle.tap_engine.specs.World.{WorldValue}
 use Rattle.tap_lawful.specs.Lawful.{IsLogOf}
-use Rattle.tap_headline.specs.Headline.{FollowsScript, HasHeadline}
 use Rattle.tap_headline.proofs.Endings.{finished_says, spent_says}
 use Rattle.tap_headline.proofs.Headline.{logs_follow_scripts, logs_have_headline}
 use Rattle.tap_headline.proofs.Printable.{logs_can_be_printed}
-use Rattle.tap_replay.specs.Player.{HasEnded}
+use Rattle.tap_replay.specs.Player.{IsLeft}
 use Rattle.tap_replay.specs.declared.end.End.{End}
 use Rattle.tap_replay.specs.declared.end.End.TheVariants as end
 use Rattle.tap_report.specs.Text.{IsPrintableLog}
 use Rattle.tap_words.specs.declared.asked.Asked.{Asked}
 use Rattle.tap_top.specs.declared.status.Status.{Status}
 use Rattle.tap_top.specs.declared.status.Status.TheVariants.{Done, Usage, TooLong, NotScenario, ReadFault, WriteFault, Spent, NoMemory}
-use Rattle.tap_top.specs.Ending.{HasCause, HasCauseOf, HasRun, HasRunAs, HasRunOf, LeavesWorld}
+use Rattle.tap_top.specs.Ending.{HasCause, HasCauseOf, HasRun, HasRunAs, HasRunOf, LeavesWorld, log_of}
 use Rattle.tap_top.specs.Headline.{HasRunAll, IsLogAsked, ends_spent}
-use Rattle.tap_top.specs.Reading.{HasReadFault, HasReadTooMany}
+use Rattle.tap_top.specs.Reading.{HasReadFault, HasReadScript, HasReadTooMany}
 use Rattle.tap_top.specs.Status.{status_of}
 use Rattle.tap_top.specs.Wanted.{IsNotHad, IsUnread, IsWanted}
 use Rattle.tap_replay.proofs.Running.{unfinished}
-use Rattle.tap_top.proofs.Turning.{ended_log}
+use Rattle.tap_replay.proofs.Lawfulness.{ended_log}
+use Rattle.tap_pointer_course.proofs.Runs.{lawful_on_paths}
+use Rattle.tap_lookup_course.proofs.Alone.{lawful_alone}
+use Rattle.tap_lookup_course.proofs.Runs.{lawful_answers}
+use Rattle.tap_top.proofs.Casts.{lawful_casts}
 
 -- ---- causes
 
-pub run_as : (s : ScenarioValue) (e : End) (log : List Record) → HasEnded s e log → HasRunAs s (status_of e) log
-run_as s end.Done log ended = ended
-run_as s end.Spent log ended = ended
-run_as s end.NoMemory log ended = ended
+pub run_as : (s : ScenarioValue) (e : End) (world : WorldValue) → IsLeft s e world → HasRunAs s (status_of e) world
+run_as s end.Done world left = left
+run_as s end.Spent world left = left
+run_as s end.NoMemory world left = left
+
+-- memory may be refused once a scenario was had
+memory_alone : (asked : Asked) (old new : SourceState) (s : ScenarioValue) → IsWanted asked old new s → IsNotHad asked old new NoMemory
+memory_alone asked old new s wanted = by_make asked.make wanted
+  where
+    by_make : (make : Option ℕ) → MatchOption make (HasReadScript old new s) (λ joins. (s ≡ made joins asked.seed) × (new ≡ old))
+        → MatchOption make (IsUnread old new NoMemory) (λ joins. (NoMemory ≡ NoMemory) × (new ≡ old))
+    by_make None read = tt
+    by_make (Some joins) is = (refl, is.1)
 
 -- a run that was had
-pub cause_of_run : (asked : Asked) (old new : SourceState) (s : ScenarioValue) (log : List Record) (status : Status) → IsScript s
-    → IsWanted asked old new s → HasRunOf s status log → HasCauseOf asked old new log status
-cause_of_run asked old new s log Done valid wanted (inl none) = absurd (let never = none.0 in cc)
-cause_of_run asked old new s log Done valid wanted (inr run) = record { script = s; valid = valid; wanted = wanted; ended = run }
-cause_of_run asked old new s log Spent valid wanted (inl none) = absurd (let never = none.0 in cc)
-cause_of_run asked old new s log Spent valid wanted (inr run) = record { script = s; valid = valid; wanted = wanted; ended = run }
-cause_of_run asked old new s log NoMemory valid wanted (inl none) = inl none.1
-cause_of_run asked old new s log NoMemory valid wanted (inr run) = inr (record { script = s; valid = valid; wanted = wanted; ended = run })
-cause_of_run asked old new s log other valid wanted (inl none) = absurd (let never = none.0 in cc)
-cause_of_run asked old new s log other valid wanted (inr run) = absurd run
-
--- a scenario that wasn't read
-cause_unread : (asked : Asked) (old new : SourceState) (status : Status) → asked.make ≡ None → IsUnread old new status
-    → HasCauseOf asked old new [] status
-cause_unread asked old new Done none unread = absurd unread
-cause_unread asked old new Usage none unread = absurd unread
-cause_unread asked old new WriteFault none unread = absurd unread
-cause_unread asked old new Spent none unread = absurd unread
-cause_unread asked old new NoMemory none unread = inl refl
-cause_unread asked old new other none unread = (refl, none, unread)
-
-pub cause_not_had : (asked : Asked) (old new : SourceState) (status : Status) → IsNotHad asked old new status
-    → HasCauseOf asked old new [] status
-cause_not_had asked old new status not_had = by_make asked.make refl not_had
-  where
-    by_make : (make : Option ℕ) → asked.make ≡ make → MatchOption make (IsUnread old new status) (λ joins. (status ≡ NoMemory) × (new ≡ old))
-        → HasCauseOf asked old new [] status
-    by_make None is unread = cause_unread asked old new status is unread
-    by_make (Some joins) is refused = subst (HasCauseOf asked old new []) (sym refused.0) (inl refl)
+pub cause_of_run : (asked : Asked) (old new : SourceState) (s : ScenarioValue) (world : Option WorldValue) (status : Status) → IsScript s
+    → IsWanted asked old new s → HasRunOf s status world → HasCauseOf asked old new world status
+cause_of_run asked old new s None status valid wanted memory =
+    subst (IsNotHad asked old new) (sym memory) (memory_alone asked old new s wanted)
+cause_of_run asked old new s (Some world) status valid wanted run =
+    record { script = s; valid = valid; wanted = wanted; ended = run }
 
 -- a world is left by a run, and none if no scenario was had
-pub leaves_some : (s : ScenarioValue) (status : Status) (log : List Record) (world : WorldValue) → HasRunAs s status log
+pub leaves_some : (s : ScenarioValue) (status : Status) (played world : WorldValue) → HasRunAs s status played
     → LeavesWorld status (Some world)
-leaves_some s Done log world run = refl
-leaves_some s Spent log world run = refl
-leaves_some s NoMemory log world run = tt
-leaves_some s other log world run = absurd run
+leaves_some s Done played world run = refl
+leaves_some s Spent played world run = refl
+leaves_some s NoMemory played world run = tt
+leaves_some s other played world run = absurd run
 
 unread_leaves : (old new : SourceState) (status : Status) → IsUnread old new status → LeavesWorld status None
 unread_leaves old new Done unread = absurd unread
@@ -93,83 +83,150 @@ leaves_none asked old new status not_had = by_make asked.make not_had
 
 -- ---- the same, status by status
 
-module _ (asked : Option Asked) (old new : SourceState) (log : List Record) where
-  pub usage_refused : HasCause asked old new log Usage → asked ≡ None
-  usage_refused cause = by_words asked refl cause
-    where
-      by_words : (words : Option Asked) → asked ≡ words → HasCause words old new log Usage → asked ≡ None
-      by_words None is cause = is
-      by_words (Some a) is cause = absurd cause
+-- a scenario that wasn't had was to be read, unless memory was refused
+not_had_unread : (asked : Asked) (old new : SourceState) (status : Status) → IsNotHad asked old new status → status ≢ NoMemory
+    → IsUnread old new status
+not_had_unread asked old new status not_had enough = by_make asked.make not_had
+  where
+    by_make : (make : Option ℕ) → MatchOption make (IsUnread old new status) (λ joins. (status ≡ NoMemory) × (new ≡ old))
+        → IsUnread old new status
+    by_make None unread = unread
+    by_make (Some joins) refused = absurd (enough refused.0)
 
-  pub refused_usage : (status : Status) → HasCause asked old new log status → asked ≡ None → status ≢ NoMemory → status ≡ Usage
-  refused_usage status cause none memory =
-      let so : HasCause None old new log status = subst (λ a. HasCause a old new log status) none cause in
-      elim so.2 [
-        | inl usage ↦ usage
-        | inr wants ↦ absurd (memory wants)
-      ]
+-- a run that has left this world
+pub record HasLeft (asked : Asked) (old new : SourceState) (world : Option WorldValue) (status : Status) : Type 0 where
+  pub left : WorldValue
+  pub is : world ≡ Some left
+  pub run : HasRun asked old new status left
 
 -- words that are refused, or memory
 refused_so : (status : Status) → ((status ≡ Usage) ⊎ (status ≡ NoMemory)) → status ≢ Usage → status ≢ NoMemory → ⊥
 refused_so status (inl usage) first second = first usage
 refused_so status (inr memory) first second = second memory
 
-pub done_ran : (asked : Option Asked) (old new : SourceState) (log : List Record) → HasCause asked old new log Done
-    → IfSome asked (λ a. HasRunAll a old new log)
-done_ran None old new log cause = absurd (refused_so Done cause.2 (λ is. cc) (λ is. cc))
-done_ran (Some asked) old new log cause = record {
-  script = cause.script;
-  valid = cause.valid;
-  wanted = cause.wanted;
-  ended = cause.ended;
-  steps = finished_says cause.script cause.ended.0 log cause.ended.1 cause.ended.2;
-}
+module _ (asked : Asked) (old new : SourceState) where
+  ran_or_unread : (world : Option WorldValue) (status : Status) → HasCauseOf asked old new world status → status ≢ NoMemory
+      → IsUnread old new status ⊎ HasLeft asked old new world status
+  ran_or_unread None status cause enough = inl (not_had_unread asked old new status cause enough)
+  ran_or_unread (Some world) status cause enough = inr (record { left = world; is = refl; run = cause })
 
-pub read_failed : (asked : Option Asked) (old new : SourceState) (log : List Record) → HasCause asked old new log ReadFault
+  never_usage : (world : Option WorldValue) → HasCauseOf asked old new world Usage → ⊥
+  never_usage world cause = elim (ran_or_unread world Usage cause (λ is. cc)) [ inl never ↦ never | inr ran ↦ ran.run.ended ]
+
+  never_writing : (world : Option WorldValue) → HasCauseOf asked old new world WriteFault → ⊥
+  never_writing world cause = elim (ran_or_unread world WriteFault cause (λ is. cc)) [ inl never ↦ never | inr ran ↦ ran.run.ended ]
+
+  all_run : (world : Option WorldValue) → HasCauseOf asked old new world Done → HasRunAll asked old new world
+  all_run world cause = elim (ran_or_unread world Done cause (λ is. cc)) [
+    | inl never ↦ absurd never
+    | inr ran ↦
+        let run = ran.run in
+        let ended = run.ended.ended in
+        record {
+          script = run.script;
+          valid = run.valid;
+          wanted = run.wanted;
+          left = ran.left;
+          world_is = ran.is;
+          run = run.ended;
+          steps = finished_says run.script ended.0 ran.left.log ended.1 ended.2;
+        }
+  ]
+
+module _ (asked : Option Asked) (old new : SourceState) (world : Option WorldValue) where
+  pub usage_refused : HasCause asked old new world Usage → asked ≡ None
+  usage_refused cause = by_words asked refl cause
+    where
+      by_words : (words : Option Asked) → asked ≡ words → HasCause words old new world Usage → asked ≡ None
+      by_words None is cause = is
+      by_words (Some a) is cause = absurd (never_usage a old new world cause)
+
+  pub refused_usage : (status : Status) → HasCause asked old new world status → asked ≡ None → status ≢ NoMemory → status ≡ Usage
+  refused_usage status cause none memory =
+      let so : HasCause None old new world status = subst (λ a. HasCause a old new world status) none cause in
+      elim so.2 [
+        | inl usage ↦ usage
+        | inr wants ↦ absurd (memory wants)
+      ]
+
+pub done_ran : (asked : Option Asked) (old new : SourceState) (world : Option WorldValue) → HasCause asked old new world Done
+    → IfSome asked (λ a. HasRunAll a old new world)
+done_ran None old new world cause = absurd (refused_so Done cause.2 (λ is. cc) (λ is. cc))
+done_ran (Some asked) old new world cause = all_run asked old new world cause
+
+pub read_failed : (asked : Option Asked) (old new : SourceState) (world : Option WorldValue) → HasCause asked old new world ReadFault
     → HasRisen old.faults new.faults
-read_failed None old new log cause = absurd (refused_so ReadFault cause.2 (λ is. cc) (λ is. cc))
-read_failed (Some asked) old new log cause = cause.2
+read_failed None old new world cause = absurd (refused_so ReadFault cause.2 (λ is. cc) (λ is. cc))
+read_failed (Some asked) old new world cause =
+    elim (ran_or_unread asked old new world ReadFault cause (λ is. cc)) [ inl unread ↦ unread | inr ran ↦ absurd ran.run.ended ]
 
-pub read_too_many : (asked : Option Asked) (old new : SourceState) (log : List Record) → HasCause asked old new log TooLong
+pub read_too_many : (asked : Option Asked) (old new : SourceState) (world : Option WorldValue) → HasCause asked old new world TooLong
     → HasReadTooMany old new
-read_too_many None old new log cause = absurd (refused_so TooLong cause.2 (λ is. cc) (λ is. cc))
-read_too_many (Some asked) old new log cause = cause.2
+read_too_many None old new world cause = absurd (refused_so TooLong cause.2 (λ is. cc) (λ is. cc))
+read_too_many (Some asked) old new world cause =
+    elim (ran_or_unread asked old new world TooLong cause (λ is. cc)) [ inl unread ↦ unread | inr ran ↦ absurd ran.run.ended ]
 
-pub read_no_scenario : (asked : Option Asked) (old new : SourceState) (log : List Record) (fault : Fault)
-    → HasCause asked old new log (NotScenario fault) → HasReadFault old new fault
-read_no_scenario None old new log fault cause = absurd (refused_so (NotScenario fault) cause.2 (λ is. cc) (λ is. cc))
-read_no_scenario (Some asked) old new log fault cause = cause.2
+pub read_no_scenario : (asked : Option Asked) (old new : SourceState) (world : Option WorldValue) (fault : Fault)
+    → HasCause asked old new world (NotScenario fault) → HasReadFault old new fault
+read_no_scenario None old new world fault cause = absurd (refused_so (NotScenario fault) cause.2 (λ is. cc) (λ is. cc))
+read_no_scenario (Some asked) old new world fault cause =
+    elim (ran_or_unread asked old new world (NotScenario fault) cause (λ is. cc)) [ inl unread ↦ unread | inr ran ↦ absurd ran.run.ended ]
 
 -- writing is no cause
-pub never_write_fault : (asked : Option Asked) (old new : SourceState) (log : List Record) (status : Status)
-    → HasCause asked old new log status → status ≢ WriteFault
-never_write_fault None old new log status cause = λ is.
+pub never_write_fault : (asked : Option Asked) (old new : SourceState) (world : Option WorldValue) (status : Status)
+    → HasCause asked old new world status → status ≢ WriteFault
+never_write_fault None old new world status cause = λ is.
     refused_so WriteFault (subst (λ s. (s ≡ Usage) ⊎ (s ≡ NoMemory)) is cause.2) (λ h. cc) (λ h. cc)
-never_write_fault (Some asked) old new log status cause = λ is. subst (HasCauseOf asked old new log) is cause
+never_write_fault (Some asked) old new world status cause = λ is.
+    never_writing asked old new world (subst (HasCauseOf asked old new world) is cause)
+
+-- a scenario that is to be made is made without the source
+made_untouched : (asked : Asked) (old new : SourceState) (world : Option WorldValue) (status : Status) → HasCauseOf asked old new world status
+    → IsSome asked.make → new ≡ old
+made_untouched asked old new None status not_had some = by_make asked.make some not_had
+  where
+    by_make : (make : Option ℕ) → IsSome make → MatchOption make (IsUnread old new status) (λ joins. (status ≡ NoMemory) × (new ≡ old))
+        → new ≡ old
+    by_make None some unread = absurd (cc)
+    by_make (Some joins) some refused = refused.1
+made_untouched asked old new (Some world) status run some = by_make asked.make some run.wanted
+  where
+    by_make : (make : Option ℕ) → IsSome make
+        → MatchOption make (HasReadScript old new run.script) (λ joins. (run.script ≡ made joins asked.seed) × (new ≡ old)) → new ≡ old
+    by_make None some read = absurd (cc)
+    by_make (Some joins) some wanted = wanted.1
+
+pub source_untouched : (asked : Option Asked) (old new : SourceState) (world : Option WorldValue) (status : Status)
+    → HasCause asked old new world status → MatchOption asked (new ≡ old) (λ a. IsSome a.make → new ≡ old)
+source_untouched None old new world status cause = cause.1
+source_untouched (Some asked) old new world status cause = made_untouched asked old new world status cause
 
 -- ---- the log
 
--- there is no log, or it is that of a run
+-- it is that of a run of the scenario that the words ask for
 pub record IsRunLog (asked : Asked) (old new : SourceState) (log : List Record) : Type 0 where
   pub script : ScenarioValue
   pub valid : IsScript script
   pub wanted : IsWanted asked old new script
   pub run : IsLogOf script log
 
-run_log : (asked : Asked) (old new : SourceState) (status : Status) (log : List Record) (e : End) (run : HasRun asked old new status log)
-    → HasEnded run.script e log → IsRunLog asked old new log
-run_log asked old new status log e run ended =
-    record { script = run.script; valid = run.valid; wanted = run.wanted; run = ended_log run.script e log ended }
+run_log : (s : ScenarioValue) (status : Status) (world : WorldValue) → HasRunAs s status world → IsLogOf s world.log
+run_log s Done world left = ended_log s end.Done world.log left.ended
+run_log s Spent world left = ended_log s end.Spent world.log left.ended
+run_log s NoMemory world left = ended_log s end.NoMemory world.log left.ended
+run_log s other world left = absurd left
 
-caused_log : (asked : Asked) (old new : SourceState) (log : List Record) (status : Status) → HasCauseOf asked old new log status
-    → (log ≡ []) ⊎ IsRunLog asked old new log
-caused_log asked old new log Done cause = inr (run_log asked old new Done log end.Done cause cause.ended)
-caused_log asked old new log Spent cause = inr (run_log asked old new Spent log end.Spent cause cause.ended)
-caused_log asked old new log NoMemory (inl none) = inl none
-caused_log asked old new log NoMemory (inr run) = inr (run_log asked old new NoMemory log end.NoMemory run run.ended)
-caused_log asked old new log Usage cause = absurd cause
-caused_log asked old new log WriteFault cause = absurd cause
-caused_log asked old new log other cause = inl cause.0
+-- there is no log, or it is that of a run
+caused_log : (asked : Asked) (old new : SourceState) (world : Option WorldValue) (status : Status) → HasCauseOf asked old new world status
+    → (log_of world ≡ []) ⊎ IsRunLog asked old new (log_of world)
+caused_log asked old new None status cause = inl refl
+caused_log asked old new (Some world) status cause =
+    inr (record {
+      script = cause.script;
+      valid = cause.valid;
+      wanted = cause.wanted;
+      run = run_log cause.script status world cause.ended;
+    })
 
 abbrev pub IsNoneOrRun : Option Asked → SourceState → SourceState → List Record → Type 0
 IsNoneOrRun asked old new log = (log ≡ []) ⊎ IfSome asked (λ a. IsLogAsked a old new log)
@@ -181,27 +238,32 @@ run_asked asked old new log run = record {
   wanted = run.wanted;
   run = run.run;
   follows = logs_follow_scripts run.script log run.run;
-  headline = logs_have_headline run.script run.run.played run.valid run.run.is_played;
+  headline = logs_have_headline run.script log run.valid run.run;
+  pointers = lawful_on_paths run.script run.run.played run.valid run.run.is_played;
+  lookups = lawful_alone run.script run.run.played run.valid run.run.is_played;
+  answers = lawful_answers run.script run.run.played run.valid run.run.is_played;
+  casts = lawful_casts run.script run.run.played run.valid run.run.is_played;
 }
 
 -- the headline
-pub log_asked : (asked : Option Asked) (old new : SourceState) (log : List Record) (status : Status) → HasCause asked old new log status
-    → IsNoneOrRun asked old new log
-log_asked None old new log status cause = inl cause.0
-log_asked (Some asked) old new log status cause =
-    elim (caused_log asked old new log status cause) [
+pub log_asked : (asked : Option Asked) (old new : SourceState) (world : Option WorldValue) (status : Status)
+    → HasCause asked old new world status → IsNoneOrRun asked old new (log_of world)
+log_asked None old new world status cause = inl (ap log_of cause.0)
+log_asked (Some asked) old new world status cause =
+    elim (caused_log asked old new world status cause) [
       | inl none ↦ inl none
-      | inr run ↦ inr (run_asked asked old new log run)
+      | inr run ↦ inr (run_asked asked old new (log_of world) run)
     ]
 
 -- its log can be printed
-pub log_prints : (asked : Option Asked) (old new : SourceState) (log : List Record) (status : Status) → HasCause asked old new log status
-    → IsPrintableLog log
-log_prints None old new log status cause = subst IsPrintableLog (sym cause.0) (record { begins = tt; each = tt })
-log_prints (Some asked) old new log status cause =
-    elim (caused_log asked old new log status cause) [
+pub log_prints : (asked : Option Asked) (old new : SourceState) (world : Option WorldValue) (status : Status)
+    → HasCause asked old new world status → IsPrintableLog (log_of world)
+log_prints None old new world status cause =
+    subst IsPrintableLog (sym (ap log_of cause.0)) (record { begins = tt; each = tt })
+log_prints (Some asked) old new world status cause =
+    elim (caused_log asked old new world status cause) [
       | inl none ↦ subst IsPrintableLog (sym none) (record { begins = tt; each = tt })
-      | inr run ↦ (logs_can_be_printed run.script log run.valid run.run).printable
+      | inr run ↦ (logs_can_be_printed run.script (log_of world) run.valid run.run).printable
     ]
 
 -- ---- the last record
@@ -241,28 +303,45 @@ abbrev pub stopped_spent : Status → Bool
 stopped_spent Spent = true
 stopped_spent other = false
 
-caused_last : (asked : Asked) (old new : SourceState) (log : List Record) (status : Status) → HasCauseOf asked old new log status
-    → HasLast log (is_done status) (stopped_spent status)
-caused_last asked old new log Done cause =
-    last_finished log (length cause.script.steps) (finished_says cause.script cause.ended.0 log cause.ended.1 cause.ended.2).last
-caused_last asked old new log Spent cause = last_spent log cause.script.frames (spent_says cause.script cause.ended.0 log cause.ended.2)
-caused_last asked old new log NoMemory (inl none) = subst (λ l. HasLast l false false) (sym none) (last_none [] refl)
-caused_last asked old new log NoMemory (inr run) = last_none log run.ended.going
-caused_last asked old new log Usage cause = absurd cause
-caused_last asked old new log WriteFault cause = absurd cause
-caused_last asked old new log (NotScenario fault) cause = subst (λ l. HasLast l false false) (sym cause.0) (last_none [] refl)
-caused_last asked old new log TooLong cause = subst (λ l. HasLast l false false) (sym cause.0) (last_none [] refl)
-caused_last asked old new log ReadFault cause = subst (λ l. HasLast l false false) (sym cause.0) (last_none [] refl)
+-- no log has no end, and comes with neither status
+none_last : (asked : Asked) (old new : SourceState) (status : Status) → IsNotHad asked old new status
+    → HasLast [] (is_done status) (stopped_spent status)
+none_last asked old new Done not_had = absurd (not_had_unread asked old new Done not_had (λ is. cc))
+none_last asked old new Spent not_had = absurd (not_had_unread asked old new Spent not_had (λ is. cc))
+none_last asked old new NoMemory not_had = last_none [] refl
+none_last asked old new Usage not_had = last_none [] refl
+none_last asked old new WriteFault not_had = last_none [] refl
+none_last asked old new (NotScenario fault) not_had = last_none [] refl
+none_last asked old new TooLong not_had = last_none [] refl
+none_last asked old new ReadFault not_had = last_none [] refl
 
-pub log_last : (asked : Option Asked) (old new : SourceState) (log : List Record) (status : Status) → HasCause asked old new log status
-    → HasLast log (is_done status) (stopped_spent status)
-log_last None old new log status cause =
-    let empty : HasLast log false false = subst (λ l. HasLast l false false) (sym cause.0) (last_none [] refl) in
+-- that of a run has the end that the status says
+run_last : (s : ScenarioValue) (status : Status) (world : WorldValue) → HasRunAs s status world
+    → HasLast world.log (is_done status) (stopped_spent status)
+run_last s Done world left =
+    let ended = left.ended in
+    last_finished world.log (length s.steps) (finished_says s ended.0 world.log ended.1 ended.2).last
+run_last s Spent world left =
+    let ended = left.ended in
+    last_spent world.log s.frames (spent_says s ended.0 world.log ended.2)
+run_last s NoMemory world left = last_none world.log left.ended.going
+run_last s other world left = absurd left
+
+caused_last : (asked : Asked) (old new : SourceState) (world : Option WorldValue) (status : Status) → HasCauseOf asked old new world status
+    → HasLast (log_of world) (is_done status) (stopped_spent status)
+caused_last asked old new None status cause = none_last asked old new status cause
+caused_last asked old new (Some world) status cause = run_last cause.script status world cause.ended
+
+pub log_last : (asked : Option Asked) (old new : SourceState) (world : Option WorldValue) (status : Status) → HasCause asked old new world status
+    → HasLast (log_of world) (is_done status) (stopped_spent status)
+log_last None old new world status cause =
+    let empty : HasLast (log_of world) false false =
+    subst (λ w. HasLast (log_of w) false false) (sym cause.0) (last_none [] refl) in
     elim cause.2 [
-      | inl usage ↦ subst (λ s. HasLast log (is_done s) (stopped_spent s)) (sym usage) empty
-      | inr memory ↦ subst (λ s. HasLast log (is_done s) (stopped_spent s)) (sym memory) empty
+      | inl usage ↦ subst (λ s. HasLast (log_of world) (is_done s) (stopped_spent s)) (sym usage) empty
+      | inr memory ↦ subst (λ s. HasLast (log_of world) (is_done s) (stopped_spent s)) (sym memory) empty
     ]
-log_last (Some asked) old new log status cause = caused_last asked old new log status cause
+log_last (Some asked) old new world status cause = caused_last asked old new world status cause
 
 done_is : (status : Status) → is_done status ≡ true → status ≡ Done
 done_is Done is = refl

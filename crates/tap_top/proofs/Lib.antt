@@ -1,4 +1,5 @@
 pub mod Flushing
 pub mod Texts
 pub mod Turning
+pub mod Casts
 pub mod Causes

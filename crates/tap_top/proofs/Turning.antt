@@ -13,7 +13,8 @@ use Rattle.tap_lawful.specs.Lawful.{IsLogOf, step_alone}
 use Rattle.tap_headline.specs.Printable.{CanBePrinted}
 use Rattle.tap_headline.proofs.Printable.{logs_can_be_printed}
 use Rattle.tap_replay.proofs.Alike.{may_turn}
-use Rattle.tap_replay.specs.Player.{HasEnded, HasPlayed, MayTurn, PlayerValue, Turns, TurnsAs}
+use Rattle.tap_replay.proofs.Lawfulness.{ended_log}
+use Rattle.tap_replay.specs.Player.{HasPlayed, IsLeft, MayTurn, PlayerValue, Turns, TurnsAs}
 use Rattle.tap_replay.specs.Run.{GoesOn}
 use Rattle.tap_replay.specs.Turn.{outcome_by, turn_outcome, unless_finished, unless_spent}
 use Rattle.tap_replay.specs.declared.end.End.{End}
@@ -26,17 +27,10 @@ use Rattle.tap_replay.specs.declared.end.Turned.TheVariants.{More, Over}
 -- a run that isn't over goes on, and one that is over has ended
 pub goes_on : (s : ScenarioValue) (p : PlayerValue) → HasPlayed s p → p.over ≡ None → GoesOn s p.world
 goes_on s p played none =
-    subst (λ over. MatchOption over (GoesOn s p.world) (λ end. HasEnded s end p.world.log)) none played
+    subst (λ over. MatchOption over (GoesOn s p.world) (λ end. IsLeft s end p.world)) none played
 
-pub has_ended : (s : ScenarioValue) (p : PlayerValue) (end : End) → HasPlayed s p → p.over ≡ Some end → HasEnded s end p.world.log
-has_ended s p end played over =
-    subst (λ o. MatchOption o (GoesOn s p.world) (λ e. HasEnded s e p.world.log)) over played
-
--- the log of a run that has ended so
-pub ended_log : (s : ScenarioValue) (end : End) (log : List Record) → HasEnded s end log → IsLogOf s log
-ended_log s Done log ended = record { played = ended.0; is_played = ended.1; ending = inr (inl ended.2) }
-ended_log s Spent log ended = record { played = ended.0; is_played = ended.1; ending = inr (inr ended.2) }
-ended_log s NoMemory log ended = record { played = log; is_played = ended; ending = inl refl }
+pub is_left : (s : ScenarioValue) (p : PlayerValue) (end : End) → HasPlayed s p → p.over ≡ Some end → IsLeft s end p.world
+is_left s p end played over = subst (λ o. MatchOption o (GoesOn s p.world) (λ e. IsLeft s e p.world)) over played
 
 -- the log of a run so far
 pub player_log : (s : ScenarioValue) (p : PlayerValue) → HasPlayed s p → IsLogOf s p.world.log
@@ -44,7 +38,7 @@ player_log s p played = by_over p.over refl
   where
     by_over : (over : Option End) → p.over ≡ over → IsLogOf s p.world.log
     by_over None is = let going = goes_on s p played is in record { played = p.world.log; is_played = going.played; ending = inl refl }
-    by_over (Some end) is = ended_log s end p.world.log (has_ended s p end played is)
+    by_over (Some end) is = ended_log s end p.world.log (is_left s p end played is).ended
 
 pub player_prints : (s : ScenarioValue) (p : PlayerValue) → IsScript s → HasPlayed s p → CanBePrinted p.world.log
 player_prints s p valid played = logs_can_be_printed s p.world.log valid (player_log s p played)

@@ -1,12 +1,12 @@
 -- Why the top call ends as it does, and what it has then written. The states of the source, and those of the sink, were
--- `old` and are `new`. The log is that of the world which is left, and empty if none is.
+-- `old` and are `new`. What is printed is the log of the world that is left, which is empty if none is.
 use Rattle.std.specs.Prelude.{◌≡◌, ◌⊎◌, ◌++◌, ℕ, IsSome, List, [], Option, None, Some}
 use Rattle.tap_io.specs.Sink.{SinkState}
 use Rattle.tap_io.specs.Source.{SourceState}
 use Rattle.tap_scenario.specs.Scenario.{IsScript, ScenarioValue}
 use Rattle.tap_log.specs.declared.record.Record.{Record}
 use Rattle.tap_engine.specs.World.{WorldValue}
-use Rattle.tap_replay.specs.Player.{HasEnded}
+use Rattle.tap_replay.specs.Player.{IsLeft}
 use Rattle.tap_replay.specs.declared.end.End.TheVariants as end
 use Rattle.tap_report.specs.Text.{text_of_log}
 use Rattle.tap_report.specs.Written.{AppendsAll, FirstFails}
@@ -16,9 +16,9 @@ use Rattle.tap_report.specs.declared.written.Written.{Written}
 use Rattle.tap_report.specs.declared.written.Written.TheVariants.{All, Failed}
 use Rattle.tap_words.specs.declared.asked.Asked.{Asked}
 use Rattle.tap_top.specs.declared.status.Status.{Status}
-use Rattle.tap_top.specs.declared.status.Status.TheVariants.{Done, Usage, TooLong, NotScenario, ReadFault, WriteFault, Spent, NoMemory}
+use Rattle.tap_top.specs.declared.status.Status.TheVariants.{Done, Usage, WriteFault, Spent, NoMemory}
 use Rattle.tap_top.specs.FaultLine.{fault_line}
-use Rattle.tap_top.specs.Wanted.{IsUnread, IsWanted, mode_of}
+use Rattle.tap_top.specs.Wanted.{IsNotHad, IsWanted, mode_of}
 
 -- ---- the world
 
@@ -36,38 +36,35 @@ LeavesWorld other world = world ≡ None
 
 -- ---- the cause
 
--- the run of a scenario ends with this status, writing aside, and this log
-abbrev pub HasRunAs : ScenarioValue → Status → List Record → Type 0
-HasRunAs script Done log = HasEnded script end.Done log
-HasRunAs script Spent log = HasEnded script end.Spent log
-HasRunAs script NoMemory log = HasEnded script end.NoMemory log
-HasRunAs script other log = ⊥
+-- the run of a scenario ends with this status, writing aside, and leaves this world
+abbrev pub HasRunAs : ScenarioValue → Status → WorldValue → Type 0
+HasRunAs script Done world = IsLeft script end.Done world
+HasRunAs script Spent world = IsLeft script end.Spent world
+HasRunAs script NoMemory world = IsLeft script end.NoMemory world
+HasRunAs script other world = ⊥
 
--- the same, or memory was refused before the first record
-abbrev pub HasRunOf : ScenarioValue → Status → List Record → Type 0
-HasRunOf script status log = ((status ≡ NoMemory) × (log ≡ [])) ⊎ HasRunAs script status log
+-- the same; no world is left only if memory was refused before the first record
+abbrev pub HasRunOf : ScenarioValue → Status → Option WorldValue → Type 0
+HasRunOf script status None = status ≡ NoMemory
+HasRunOf script status (Some world) = HasRunAs script status world
 
--- the scenario that the words ask for was had, and its run has ended with this status and this log
-pub record HasRun (asked : Asked) (old new : SourceState) (status : Status) (log : List Record) : Type 0 where
+-- the scenario that the words ask for was had, and its run has ended with this status and leaves this world
+pub record HasRun (asked : Asked) (old new : SourceState) (status : Status) (world : WorldValue) : Type 0 where
   pub script : ScenarioValue
   pub valid : IsScript script
   pub wanted : IsWanted asked old new script
-  pub ended : HasRunAs script status log
+  pub ended : HasRunAs script status world
 
--- Why a call whose words ask for this ends with a status, writing aside, and what its log then is: a run has ended so; or no scenario
--- could be read, or memory was refused before the first record.
-abbrev pub HasCauseOf : Asked → SourceState → SourceState → List Record → Status → Type 0
-HasCauseOf asked old new log Done = HasRun asked old new Done log
-HasCauseOf asked old new log Spent = HasRun asked old new Spent log
-HasCauseOf asked old new log NoMemory = (log ≡ []) ⊎ HasRun asked old new NoMemory log
-HasCauseOf asked old new log Usage = ⊥
-HasCauseOf asked old new log WriteFault = ⊥
-HasCauseOf asked old new log other = (log ≡ []) × (asked.make ≡ None) × IsUnread old new other
+-- Why a call whose words ask for this ends with a status, writing aside, and what world it leaves: a run has ended so, and leaves its world;
+-- or none is left, since no scenario could be read or memory was refused before the first record.
+abbrev pub HasCauseOf : Asked → SourceState → SourceState → Option WorldValue → Status → Type 0
+HasCauseOf asked old new None status = IsNotHad asked old new status
+HasCauseOf asked old new (Some world) status = HasRun asked old new status world
 
 -- the same by what the words ask for, if they are accepted; if they aren't, nothing is read
-abbrev pub HasCause : Option Asked → SourceState → SourceState → List Record → Status → Type 0
-HasCause None old new log status = (log ≡ []) × (new ≡ old) × ((status ≡ Usage) ⊎ (status ≡ NoMemory))
-HasCause (Some asked) old new log status = HasCauseOf asked old new log status
+abbrev pub HasCause : Option Asked → SourceState → SourceState → Option WorldValue → Status → Type 0
+HasCause None old new world status = (world ≡ None) × (new ≡ old) × ((status ≡ Usage) ⊎ (status ≡ NoMemory))
+HasCause (Some asked) old new world status = HasCauseOf asked old new world status
 
 -- ---- what is written
 

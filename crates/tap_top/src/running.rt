@@ -1,7 +1,7 @@
 ghost use Rattle.std.specs.Prelude.{◌≡◌, ◌<◌, ◌≤◌, None, length, fold, take};
 ghost use Rattle.tap_io.specs.Sink.{SinkState};
 ghost use Rattle.tap_lawful.specs.Laws.{left_of};
-ghost use Rattle.tap_replay.specs.Player.{HasEnded, HasPlayed, over_by};
+ghost use Rattle.tap_replay.specs.Player.{HasPlayed, IsLeft, over_by};
 ghost use Rattle.tap_report.specs.Reporter.{Reports, most_records, settings_after};
 ghost use Rattle.tap_report.specs.Text.{IsPrintableLog};
 ghost use Rattle.tap_report.specs.declared.mode.Mode.{Mode as ReportMode};
@@ -44,7 +44,7 @@ pub(crate) fn play<K: Sink>(
     requires begun { player.old.over ≡ None }
     requires put { reporter.old.records ≡ length player.old.world.log }
     requires settings { reporter.old.settings ≡ fold settings_after None player.old.world.log }
-    ensures ended { HasEnded scenario.now result player.new.world.log }
+    ensures left { IsLeft scenario.now result player.new.world }
     ensures reports { (mode : ReportMode) (first : SinkState)
         → Reports mode player.old.world.log first (K.state sink.old) reporter.old
         → Reports mode player.new.world.log first (K.state sink.new) reporter.new }

@@ -1,4 +1,4 @@
-ghost use Rattle.std.specs.Prelude.{◌≡◌, ◌≢◌, ◌↔◌, ◌⊎◌, [], IfSome, IsTrue, None, map};
+ghost use Rattle.std.specs.Prelude.{◌≡◌, ◌≢◌, ◌↔◌, ◌⊎◌, [], IfSome, IsSome, IsTrue, MatchOption, None, map};
 ghost use Rattle.std.specs.String.{string_bytes};
 ghost use Rattle.tap_engine.specs.Kinds.{is_finished};
 ghost use Rattle.tap_io.specs.Faults.{HasRisen};
@@ -61,7 +61,7 @@ fn print_run<K: Sink>(
     requires plays { EachStepIsPlayed scenario.now }
     requires played { HasPlayed scenario.now player.old }
     requires begun { player.old.over ≡ None }
-    ensures run { HasRunAs scenario.now result.before player.new.world.log }
+    ensures run { HasRunAs scenario.now result.before player.new.world }
     ensures written { HasWritten (K.state sink.old) (K.state sink.new)
         (text_of_run mode player.new.world.log result.before) result.before result.status }
 {
@@ -84,7 +84,7 @@ fn print_run<K: Sink>(
 fn run_and_print<K: Sink>(alloc: Global, scenario: &Scenario, mode: Mode, sink: &mut K) -> Ended
     requires valid { IsScript scenario.now }
     requires plays { EachStepIsPlayed scenario.now }
-    ensures run { HasRunOf scenario.now result.before (log_of result.world) }
+    ensures run { HasRunOf scenario.now result.before result.world }
     ensures world { LeavesWorld result.before result.world }
     ensures written { HasWritten (K.state sink.old) (K.state sink.new)
         (text_of_run mode (log_of result.world) result.before) result.before result.status }
@@ -111,7 +111,7 @@ fn run_asked<S: Source, K: Sink>(
     sink: &mut K,
 ) -> Ended
     requires joins { AsksWithin asked.now }
-    ensures cause { HasCauseOf asked.now (S.state source.old) (S.state source.new) (log_of result.world) result.before }
+    ensures cause { HasCauseOf asked.now (S.state source.old) (S.state source.new) result.world result.before }
     ensures world { LeavesWorld result.before result.world }
     ensures written { HasWritten (K.state sink.old) (K.state sink.new)
         (text_of_run (mode_of asked.now) (log_of result.world) result.before) result.before result.status }
@@ -130,7 +130,7 @@ fn run_words<S: Source, K: Sink>(
     sink: &mut K,
 ) -> Ended
     ensures cause { HasCause (asked_by (map string_bytes words.now)) (S.state source.old) (S.state source.new)
-        (log_of result.world) result.before }
+        result.world result.before }
     ensures world { LeavesWorld result.before result.world }
     ensures written { HasWritten (K.state sink.old) (K.state sink.new)
         (text_of_run (mode_asked (asked_by (map string_bytes words.now))) (log_of result.world) result.before)
@@ -150,7 +150,7 @@ fn run_words<S: Source, K: Sink>(
 /// The words come first, then the reading, the scenario, and then the run and the writing side by side: the records of a turn are
 /// written once it is over. The fault line is last. The first read that fails ends the reading, and the first write that fails ends
 /// the writing, but not the run: the log and `before` don't depend on the sink. The log is that of the world that is left. If none
-/// is left, it is empty.
+/// is left, it is empty. If `before` is `Done`, the nodes of the world are those of the system that the log has come to.
 ///
 /// Rule: docs/FORMATS.md, "The fault line and the exit status".
 pub fn run<S: Source, K: Sink>(
@@ -159,9 +159,9 @@ pub fn run<S: Source, K: Sink>(
     source: &mut S,
     sink: &mut K,
 ) -> Ended
-    // Why it ends so, and what the log is.
+    // Why it ends so, and what the world is that it leaves.
     ensures cause { HasCause (asked_by (map string_bytes words.now.items)) (S.state source.old) (S.state source.new)
-        (log_of result.world) result.before }
+        result.world result.before }
     // What is written: the text of the log and the fault line, or some first bytes of them.
     ensures written { HasWritten (K.state sink.old) (K.state sink.new)
         (text_of_run (mode_asked (asked_by (map string_bytes words.now.items))) (log_of result.world) result.before)
@@ -171,7 +171,7 @@ pub fn run<S: Source, K: Sink>(
     ensures usage { result.before ≡ Status.Usage → asked_by (map string_bytes words.now.items) ≡ None }
     ensures refused { asked_by (map string_bytes words.now.items) ≡ None → result.before ≢ Status.NoMemory → result.before ≡ Status.Usage }
     ensures done { result.before ≡ Status.Done → IfSome (asked_by (map string_bytes words.now.items))
-        (λ asked. HasRunAll asked (S.state source.old) (S.state source.new) (log_of result.world)) }
+        (λ asked. HasRunAll asked (S.state source.old) (S.state source.new) result.world) }
     ensures finished { (result.before ≡ Status.Done) ↔ IsTrue (is_finished (log_of result.world)) }
     ensures spent { (result.before ≡ Status.Spent) ↔ IsTrue (ends_spent (log_of result.world)) }
     ensures read_fault { result.before ≡ Status.ReadFault → HasRisen (S.state source.old).faults (S.state source.new).faults }
@@ -181,14 +181,19 @@ pub fn run<S: Source, K: Sink>(
     ensures write_fault { result.status ≡ Status.WriteFault → HasRisen (K.state sink.old).faults (K.state sink.new).faults }
     ensures before { result.before ≢ Status.WriteFault }
 
+    // The source isn't touched if the words are refused, or ask for a scenario to be made.
+    ensures source { MatchOption (asked_by (map string_bytes words.now.items)) (S.state source.new ≡ S.state source.old)
+        (λ asked. IsSome asked.make → S.state source.new ≡ S.state source.old) }
+
     // A world is left if a run has ended.
     ensures world { LeavesWorld result.before result.world }
 
     // Its log can be printed in each mode.
     ensures printable { IsPrintableLog (log_of result.world) }
 
-    // The headline: there is no log, or it is that of a run; at each of its moments no table has a hole, each walk finds the one root,
-    // and at rest each node that is present is core.
+    // The headline: there is no log, or it is that of a run; at each of its moments there is a core node, no table has a hole, each walk
+    // finds the one root, and at rest each node that is present is core. Before it says how the run has ended, pointers stand on their paths at
+    // rest, a lookup then made alone is exact, each answer names a server that was published, and casts reach all whom they are for.
     ensures headline { (log_of result.world ≡ []) ⊎ IfSome (asked_by (map string_bytes words.now.items))
         (λ asked. IsLogAsked asked (S.state source.old) (S.state source.new) (log_of result.world)) }
 {

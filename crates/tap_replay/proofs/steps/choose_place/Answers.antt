@@ -14,7 +14,7 @@ returns-then-place-count c =
     let w = c.args.world.now in
     let v = c.mark.new.self in
     let step = Deliver c.args.place in
-    let marked = subst (λ r. AnswersAs (mark_outcome w c.args.index step) w r v) c.in_ok-mark.was c.mark.ensures in
+    let marked = subst (λ r. AnswersAs (mark_outcome w c.args.index step) w r v) c.in_ok-mark.was c.mark.ensures.answers in
     let begun = has_marked w v c.args.index step c.requires.may.runs marked in
     let there : c.args.place < length (outstanding w.log) =
     subst (λ n. c.args.place < n) (c.outstanding-count.ensures ∙ marked_count w v c.args.index step begun) c.if-place-count.true in
@@ -26,7 +26,7 @@ note-requires c =
     let w = c.args.world.now in
     let v = c.mark.new.self in
     let step = Deliver c.args.place in
-    let marked = subst (λ r. AnswersAs (mark_outcome w c.args.index step) w r v) c.in_ok-mark.was c.mark.ensures in
+    let marked = subst (λ r. AnswersAs (mark_outcome w c.args.index step) w r v) c.in_ok-mark.was c.mark.ensures.answers in
     let begun = has_marked w v c.args.index step c.requires.may.runs marked in
     record { step = step; last = begun_last w v c.args.index step begun; may = inr (deliver_refusable c.args.place) }
 
@@ -35,7 +35,7 @@ returns c =
     let w = c.args.world.now in
     let v = c.mark.new.self in
     let step = Deliver c.args.place in
-    let marked = subst (λ r. AnswersAs (mark_outcome w c.args.index step) w r v) c.in_ok-mark.was c.mark.ensures in
+    let marked = subst (λ r. AnswersAs (mark_outcome w c.args.index step) w r v) c.in_ok-mark.was c.mark.ensures.answers in
     let begun = has_marked w v c.args.index step c.requires.may.runs marked in
     let count : c.outstanding-count.result ≡ length (outstanding w.log) =
     c.outstanding-count.ensures ∙ marked_count w v c.args.index step begun in

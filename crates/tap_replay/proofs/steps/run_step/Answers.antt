@@ -1,16 +1,18 @@
-use Rattle.std.proofs.Common.{inl, Err, ap, sym, subst, ◌∙◌}
+use Rattle.std.proofs.Common.{◌≡◌, inl, true, Err, ap, subst, ◌∙◌}
+use Rattle.tap_course.specs.Course.{is_choice}
 use Rattle.tap_engine.specs.Outcome.{AnswersAs, step_outcome}
+use Rattle.tap_replay.specs.Steps.{IsCallOf}
 use Rattle.tap_replay.proofs.Stepping.{begun_last, has_refused, mark_runs, noted_answers, settle_goes}
 use Rattle.tap_replay.proofs.steps.run_step.Goals as goal
 
-pub returns-then-is_choice : goal.returns-then-is_choice
-returns-then-is_choice c =
+pub returns-in_default-call_of : goal.returns-in_default-call_of
+returns-in_default-call_of c =
     let w = c.args.world.now in
     let step = c.args.step.now in
-    let chosen = sym c.is_choice.ensures ∙ c.if-is_choice.true in
+    let chosen : is_choice step ≡ true = subst (IsCallOf step) c.in_default-call_of.is c.call_of.ensures in
     subst (λ o. AnswersAs o w c.mark.result c.mark.new.self)
     (mark_runs w c.requires.may c.args.index step chosen (settle_goes w.log step c.requires.played c.in_default.not-Deliver chosen))
-    c.mark.ensures
+    c.mark.ensures.answers
 
 pub note-requires : goal.note-requires
 note-requires c =

@@ -1,6 +1,6 @@
 use Rattle.std.proofs.Common.{◌∙◌, ap}
 use Rattle.tap_replay.specs.Player.{over_by}
-use Rattle.tap_top.proofs.Turning.{has_ended}
+use Rattle.tap_top.proofs.Turning.{is_left}
 use Rattle.tap_top.proofs.running.play.Goals as goal
 
 pub loop-end-preserved : goal.loop-end-preserved
@@ -12,9 +12,9 @@ loop-end-preserved g c = record {
   reports = λ mode first reports. c.turn_and_put.ensures.reports mode first (c.loop-end.invariant.reports mode first reports);
 }
 
-pub returns-in-Over-clause-ended : goal.returns-in-Over-clause-ended
-returns-in-Over-clause-ended g c =
-    has_ended c.args.scenario.now c.turn_and_put.new.player c.in-Over.end c.turn_and_put.ensures.played
+pub returns-in-Over-clause-left : goal.returns-in-Over-clause-left
+returns-in-Over-clause-left g c =
+    is_left c.args.scenario.now c.turn_and_put.new.player c.in-Over.end c.turn_and_put.ensures.played
     (c.turn_and_put.ensures.over ∙ ap over_by c.in-Over.is)
 
 pub returns-in-Over-clause-reports : goal.returns-in-Over-clause-reports

@@ -1,10 +1,9 @@
-use Rattle.std.proofs.Common.{◌≡◌, [], ◌++◌, ℕ, List, refl, ap, sym, ◌∙◌}
+use Rattle.std.proofs.Common.{◌≡◌, [], refl, sym, ◌∙◌}
 use Rattle.tap_io.specs.BufferedSink.{buffered_state, state_over}
 use Rattle.tap_report.specs.Reporter.{Reports}
 use Rattle.tap_report.proofs.ReportsLemmas.{Reports-finish, Reports-new}
 use Rattle.tap_report.proofs.WritesLemmas.{WritesText-then}
 use Rattle.tap_top.specs.Ending.{text_of_run}
-use Rattle.tap_top.specs.Status.{status_of}
 use Rattle.tap_top.proofs.Causes.{run_as}
 use Rattle.tap_top.proofs.Texts.{HasWritten-from_text}
 use Rattle.tap_top.proofs.Turning.{player_prints}
@@ -20,7 +19,7 @@ put_from-requires-clause-few g c =
 
 pub returns-clause-run : goal.returns-clause-run
 returns-clause-run g c =
-    rw c.of-before.ensures (run_as c.args.scenario.now c.play.result c.play.new.player.world.log c.play.ensures.ended)
+    rw c.of-before.ensures (run_as c.args.scenario.now c.play.result c.play.new.player.world c.play.ensures.left)
 
 pub returns-clause-written : goal.returns-clause-written
 returns-clause-written g c =

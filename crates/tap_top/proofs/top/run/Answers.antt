@@ -3,7 +3,7 @@ use Rattle.std.specs.String.{string_bytes}
 use Rattle.tap_words.specs.Words.{asked_by}
 use Rattle.tap_top.specs.Ending.{HasCause, log_of}
 use Rattle.tap_top.specs.declared.status.Status.{Status}
-use Rattle.tap_top.proofs.Causes.{done_exactly, done_ran, log_asked, log_last, log_prints, spent_exactly}
+use Rattle.tap_top.proofs.Causes.{done_exactly, done_ran, log_asked, log_last, log_prints, source_untouched, spent_exactly}
 use Rattle.tap_top.proofs.top.run.Goals as goal
 
 pub returns-clause-done : goal.returns-clause-done
@@ -11,29 +11,35 @@ returns-clause-done g c = λ is.
     let asked = asked_by (map string_bytes c.args.words.now.items) in
     let old = g.S.Source.state c.args.source.now in
     let new = g.S.Source.state c.run_words.new.source in
-    let log = log_of c.run_words.result.world in
-    let Caused : Status → Type 0 = HasCause asked old new log in
-    done_ran asked old new log (subst Caused is (rw c.as_slice.ensures.value at c.run_words.ensures.cause))
+    let world = c.run_words.result.world in
+    let Caused : Status → Type 0 = HasCause asked old new world in
+    done_ran asked old new world (subst Caused is (rw c.as_slice.ensures.value at c.run_words.ensures.cause))
+
+pub returns-clause-source : goal.returns-clause-source
+returns-clause-source g c =
+    source_untouched (asked_by (map string_bytes c.args.words.now.items)) (g.S.Source.state c.args.source.now)
+    (g.S.Source.state c.run_words.new.source) c.run_words.result.world c.run_words.result.before
+    (rw c.as_slice.ensures.value at c.run_words.ensures.cause)
 
 pub returns-clause-finished : goal.returns-clause-finished
 returns-clause-finished g c =
     done_exactly c.run_words.result.before (log_of c.run_words.result.world)
     (log_last (asked_by (map string_bytes c.as_slice.result.now)) (g.S.Source.state c.args.source.now)
-    (g.S.Source.state c.run_words.new.source) (log_of c.run_words.result.world) c.run_words.result.before c.run_words.ensures.cause)
+    (g.S.Source.state c.run_words.new.source) c.run_words.result.world c.run_words.result.before c.run_words.ensures.cause)
 
 pub returns-clause-spent : goal.returns-clause-spent
 returns-clause-spent g c =
     spent_exactly c.run_words.result.before (log_of c.run_words.result.world)
     (log_last (asked_by (map string_bytes c.as_slice.result.now)) (g.S.Source.state c.args.source.now)
-    (g.S.Source.state c.run_words.new.source) (log_of c.run_words.result.world) c.run_words.result.before c.run_words.ensures.cause)
+    (g.S.Source.state c.run_words.new.source) c.run_words.result.world c.run_words.result.before c.run_words.ensures.cause)
 
 pub returns-clause-printable : goal.returns-clause-printable
 returns-clause-printable g c =
     log_prints (asked_by (map string_bytes c.as_slice.result.now)) (g.S.Source.state c.args.source.now)
-    (g.S.Source.state c.run_words.new.source) (log_of c.run_words.result.world) c.run_words.result.before c.run_words.ensures.cause
+    (g.S.Source.state c.run_words.new.source) c.run_words.result.world c.run_words.result.before c.run_words.ensures.cause
 
 pub returns-clause-headline : goal.returns-clause-headline
 returns-clause-headline g c =
     log_asked (asked_by (map string_bytes c.args.words.now.items)) (g.S.Source.state c.args.source.now)
-    (g.S.Source.state c.run_words.new.source) (log_of c.run_words.result.world) c.run_words.result.before
+    (g.S.Source.state c.run_words.new.source) c.run_words.result.world c.run_words.result.before
     (rw c.as_slice.ensures.value at c.run_words.ensures.cause)

@@ -1,15 +1,12 @@
-use Rattle.std.proofs.Common.{◌≡◌, inl, inr, None, Some, refl, ap, ◌∙◌}
-use Rattle.tap_top.specs.Ending.{HasRunAs, LeavesWorld, log_of}
-use Rattle.tap_top.proofs.Texts.{HasWritten-alone}
 use Rattle.tap_top.proofs.Causes.{leaves_some}
 use Rattle.tap_top.proofs.top.run_and_print.Goals as goal
 
 pub returns-clause-run : goal.returns-clause-run
-returns-clause-run g c = inr (rw c.into_world.ensures c.print_run-printed.ensures.run)
+returns-clause-run g c = rw c.into_world.ensures c.print_run-printed.ensures.run
 
 pub returns-clause-world : goal.returns-clause-world
 returns-clause-world g c =
-    leaves_some c.args.scenario.now c.print_run-printed.result.before c.print_run-printed.new.player.world.log c.into_world.result
+    leaves_some c.args.scenario.now c.print_run-printed.result.before c.print_run-printed.new.player.world c.into_world.result
     c.print_run-printed.ensures.run
 
 pub returns-clause-written : goal.returns-clause-written

@@ -1,5 +1,5 @@
 use Rattle.std.proofs.Common.{◌≡◌, None, Option, Some, ap, map, sym}
-use Rattle.std.specs.Prelude.{Err, Ok, Result, ok_or}
+use Rattle.std.specs.Prelude.{Ok, Result, ok_or}
 use Rattle.std.specs.String.{string_bytes}
 use Rattle.tap_words.specs.Words.{asked_by}
 use Rattle.tap_words.specs.declared.asked.Asked.{Asked}

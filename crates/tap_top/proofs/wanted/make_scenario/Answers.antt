@@ -1,5 +1,4 @@
-use Rattle.std.proofs.Common.{ap, subst, sym}
-use Rattle.std.proofs.lemmas.Result.{IfOk-weaker}
+use Rattle.std.proofs.Common.{subst, sym}
 use Rattle.tap_scenario.specs.Scenario.{EachStepIsPlayed, IsScript}
 use Rattle.tap_make.proofs.Limits.{made_well}
 use Rattle.tap_top.proofs.wanted.make_scenario.Goals as goal

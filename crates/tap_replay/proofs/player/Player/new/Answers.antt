@@ -6,16 +6,16 @@ pub invariant_of-result : goal.invariant_of-result
 invariant_of-result c = record {
   script = c.args.scenario.now;
   run_is = starts_run c.args.scenario.now _ c.in_ok-world.world c.settings.ensures.value c.frames.ensures.value c.members.ensures.value
-      c.in_ok-world.ensures;
+      c.in_ok-world.ensures.begun;
 }
 
 pub returns-clause-played : goal.returns-clause-played
 returns-clause-played c =
     (starts_run c.args.scenario.now _ c.in_ok-world.world c.settings.ensures.value c.frames.ensures.value c.members.ensures.value
-    c.in_ok-world.ensures).goes_on
+    c.in_ok-world.ensures.begun).goes_on
 
 pub returns-clause-may : goal.returns-clause-may
 returns-clause-may c =
     may_turn c.args.scenario.now c.in_ok-world.world.log
     (starts_run c.args.scenario.now _ c.in_ok-world.world c.settings.ensures.value c.frames.ensures.value c.members.ensures.value
-    c.in_ok-world.ensures).goes_on.played
+    c.in_ok-world.ensures.begun).goes_on.played

@@ -1,9 +1,11 @@
-use Rattle.std.proofs.Common.{◌≡◌, ◌<◌, MatchOption, sym, subst}
+use Rattle.std.proofs.Common.{◌≡◌, ◌<◌, MatchOption, Some, sym, subst}
 use Rattle.tap_lawful.specs.Laws.{left_of}
-use Rattle.tap_replay.specs.Player.{GoesOnUnless, HasEnded, MayTurn, PlayerValue, Turns, over_by}
+use Rattle.tap_replay.specs.Player.{GoesOnUnless, IsLeft, MayTurn, PlayerValue, Turns, over_by}
 use Rattle.tap_replay.specs.Run.{GoesOn}
 use Rattle.tap_replay.proofs.Again.{may_turn_again}
-use Rattle.tap_replay.proofs.Alike.{ended_alike, run_alike}
+use Rattle.tap_safe_course.specs.Headline.{HasHeadline}
+use Rattle.tap_replay.proofs.Headline.{run_has_headline}
+use Rattle.tap_replay.proofs.Alike.{left_alike, run_alike}
 use Rattle.tap_replay.proofs.player.Player.turn.Goals as goal
 
 pub returns-in-Some-clause-played : goal.returns-in-Some-clause-played
@@ -13,10 +15,21 @@ returns-in-Some-clause-played c =
     let script = c.self.invariant.script in
     let seen : record { world = run.world; over = c.self.inside.over } ≡ c.args.self.now = c.self.view_is in
     let may = subst (λ (p : PlayerValue). MayTurn s p.world.log) (sym seen) c.requires.script in
-    let ended = subst (λ o. GoesOnUnless o script run) c.in-Some.is c.self.invariant.run_is in
-    subst (λ (p : PlayerValue). MatchOption p.over (GoesOn s p.world) (λ end. HasEnded s end p.world.log)) seen
-    (subst (λ o. MatchOption o (GoesOn s run.world) (λ end. HasEnded s end run.world.log)) (sym c.in-Some.is)
-    (ended_alike script s c.in-Some.end run.world.log ended may))
+    let left = subst (λ o. GoesOnUnless o script run) c.in-Some.is c.self.invariant.run_is in
+    subst (λ (p : PlayerValue). MatchOption p.over (GoesOn s p.world) (λ end. IsLeft s end p.world)) seen
+    (subst (λ o. MatchOption o (GoesOn s run.world) (λ end. IsLeft s end run.world)) (sym c.in-Some.is)
+    (left_alike script s c.in-Some.end run.world left may))
+
+pub returns-in-Some-clause-headline : goal.returns-in-Some-clause-headline
+returns-in-Some-clause-headline c =
+    let s = c.args.scenario.now in
+    let run = c.self.inside.run in
+    let script = c.self.invariant.script in
+    let seen : record { world = run.world; over = c.self.inside.over } ≡ c.args.self.now = c.self.view_is in
+    let may = subst (λ (p : PlayerValue). MayTurn s p.world.log) (sym seen) c.requires.script in
+    let left = subst (λ o. GoesOnUnless o script run) c.in-Some.is c.self.invariant.run_is in
+    subst (λ (p : PlayerValue). HasHeadline s.settings p.world.log) seen
+    (run_has_headline s (Some c.in-Some.end) run c.step_count.ensures.valid (left_alike script s c.in-Some.end run.world left may))
 
 pub turn-turned-requires-clause-run : goal.turn-turned-requires-clause-run
 turn-turned-requires-clause-run c =
@@ -36,6 +49,11 @@ returns-clause-turns c =
     let seen : record { world = run.world; over = c.self.inside.over } ≡ c.args.self.now = c.self.view_is in
     subst (λ (p : PlayerValue). Turns s p given after) seen
     (subst (λ o. Turns s (record { world = run.world; over = o }) given after) (sym c.in_default.is) c.turn-turned.ensures.turns)
+
+pub returns-clause-headline : goal.returns-clause-headline
+returns-clause-headline c =
+    run_has_headline c.args.scenario.now (over_by c.turn-turned.result) c.turn-turned.new.self c.step_count.ensures.valid
+    c.turn-turned.ensures.run
 
 pub returns-clause-less : goal.returns-clause-less
 returns-clause-less c = λ more.

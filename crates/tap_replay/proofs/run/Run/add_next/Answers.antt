@@ -12,4 +12,4 @@ returns-in-Some c =
     let choice = c.requires.run.choice in
     frame_adds c.args.scenario.now c.args.self.now _ c.requires.run c.in-Some.place
     (ap (place_by chosen) (sym c.outstanding.ensures) ∙ sym (c.in-Some.ensures.place chosen choice)) c.deliver.result refl
-    (c.in-Some.ensures.next chosen choice) c.deliver.ensures
+    (c.in-Some.ensures.next chosen choice) c.deliver.ensures.answers

@@ -15,3 +15,25 @@ returns-clause-log c =
     let goes = unless_goes w (adds w (Finished c.args.self.now.begun ∷ [])) c.requires.run.goes_on.unstopped in
     c.finish.ensures.answers.log c.finish.ensures.memory ∙ ap (λ o. o.log) goes
     ∙ ap (λ n. w.log ++ Finished n ∷ []) (c.requires.run.begun ∙ all_begun s w.log c.requires.run.goes_on.played c.requires.none)
+
+pub returns-clause-left : goal.returns-clause-left
+returns-clause-left c =
+    let s = c.args.scenario.now in
+    let w = c.args.self.now.world in
+    let on = c.requires.run.goes_on in
+    let answers = c.finish.ensures.answers in
+    let goes = unless_goes w (adds w (Finished c.args.self.now.begun ∷ [])) on.unstopped in
+    record {
+      ended = (
+        w.log,
+        on.played,
+        record {
+          none = c.requires.none;
+          log_is = answers.log c.finish.ensures.memory ∙ ap (λ o. o.log) goes
+              ∙ ap (λ n. w.log ++ Finished n ∷ []) (c.requires.run.begun ∙ all_begun s w.log on.played c.requires.none);
+        },
+      );
+      beginning = answers.beginning ∙ on.beginning;
+      noted = answers.refused c.finish.ensures.memory ∙ ap (λ o. o.refused) goes ∙ on.noted;
+      stopped = answers.stopped c.finish.ensures.memory ∙ ap (λ o. o.stopped) goes ∙ on.unstopped;
+    }

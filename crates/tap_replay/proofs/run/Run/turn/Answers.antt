@@ -1,9 +1,9 @@
 use Rattle.std.proofs.Common.{◌≡◌, ap, sym, subst, ◌∙◌}
-use Rattle.tap_replay.specs.Player.{HasEnded, TurnsAs, end_of}
+use Rattle.tap_replay.specs.Player.{IsLeft, TurnsAs, end_of}
 use Rattle.tap_replay.specs.Turn.{turn_outcome}
 use Rattle.tap_replay.specs.declared.end.End.TheVariants.{Done}
 use Rattle.tap_replay.specs.declared.end.Turned.TheVariants.{Over}
-use Rattle.tap_replay.proofs.Turning.{added_run, done_ended, done_turns, more_less, more_turns, none_more, stopped_so}
+use Rattle.tap_replay.proofs.Turning.{added_run, done_turns, more_less, more_turns, none_more, stopped_so}
 use Rattle.tap_replay.proofs.run.Run.turn.Goals as goal
 
 pub is_more-requires : goal.is_more-requires
@@ -37,12 +37,8 @@ returns-else-is_more-clause-turns c =
 pub returns-else-is_more-clause-run : goal.returns-else-is_more-clause-run
 returns-else-is_more-clause-run c =
     let s = c.args.scenario.now in
-    let before = c.args.self.now in
-    let after = c.add_next.new.self in
-    let log = c.finish.new.self.world.log in
     let end : c.end_of.result ≡ Done = c.end_of.ensures ∙ ap end_of c.finish.ensures.answer in
-    let none = none_more s before after (sym c.is_more.ensures ∙ c.if-is_more.false) in
-    subst (λ e. HasEnded s e log) (sym end) (done_ended s before after c.in-Ok.ensures none log c.finish.ensures.log)
+    subst (λ e. IsLeft s e c.finish.new.self.world) (sym end) c.finish.ensures.left
 
 pub returns-in-Err-clause-turns : goal.returns-in-Err-clause-turns
 returns-in-Err-clause-turns c =
@@ -57,5 +53,5 @@ returns-in-Err-clause-run c =
     let s = c.args.scenario.now in
     let before = c.args.self.now in
     let after = c.add_next.new.self in
-    subst (λ e. HasEnded s e after.world.log) (sym c.end_of-in-Err.ensures)
-    (stopped_so s before after c.requires.run.goes_on.played c.in-Err.stop c.in-Err.ensures).ended
+    subst (λ e. IsLeft s e after.world) (sym c.end_of-in-Err.ensures)
+    (stopped_so s before after c.requires.run.goes_on.played c.in-Err.stop c.in-Err.ensures).left
