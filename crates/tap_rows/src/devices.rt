@@ -1,7 +1,10 @@
 use crate::outcome::{PRINTED, run_text, run_words, with_line};
+use std::alloc::Global;
 use std::test::Fail;
+use tap_io::{MemorySink, MemorySource};
+use tap_log::Log;
 use tap_scenario::Fault;
-use tap_top::Status;
+use tap_top::{Status, run};
 
 #[test]
 fn each_read_fails_once(rt: HostRuntime) -> Result<(), Fail> {
@@ -62,6 +65,50 @@ fn each_write_fails_once(rt: HostRuntime) -> Result<(), Fail> {
         assert_eq!(rt; outcome.before, Status::Done, "write {call}");
         assert_eq!(rt; outcome.records, 4, "write {call}");
     }
+    Ok(())
+}
+
+// Whether a run into one sink and a run into another leave the same log.
+fn leave_one_log(
+    alloc: Global,
+    text: &mut MemorySource,
+    sink: &mut MemorySink,
+    again: &mut MemorySource,
+    other: &mut MemorySink,
+) -> bool {
+    let words = Vec::new(alloc);
+    let one = run(alloc, &words, text, sink);
+    let two = run(alloc, &words, again, other);
+    match (&one.world, &two.world) {
+        (Some(one), Some(two)) => is_one_log(one.log(), two.log()),
+        _ => false,
+    }
+}
+
+// Whether both logs have the same records.
+fn is_one_log(one: &Log, other: &Log) -> bool {
+    if one.len() != other.len() {
+        return false;
+    }
+    for place in 0..one.len() {
+        if one.at(place) != other.at(place) {
+            return false;
+        }
+    }
+    true
+}
+
+// A sink whose second write fails leaves the log that another one does.
+#[test]
+fn the_log_does_not_depend_on_the_sink(rt: HostRuntime) -> Result<(), Fail> {
+    let alloc = rt.alloc();
+    let line = with_line(alloc, 5, "")?;
+    let mut text = MemorySource::new(alloc, line.as_bytes(), 16, &[]).map_err(|_| "no memory")?;
+    let mut again = MemorySource::new(alloc, line.as_bytes(), 16, &[]).map_err(|_| "no memory")?;
+    let mut sink = MemorySink::new(alloc, 10, 65536, &[]).map_err(|_| "no memory")?;
+    let mut other = MemorySink::new(alloc, 10, 65536, &[2]).map_err(|_| "no memory")?;
+    assert!(rt; leave_one_log(alloc, &mut text, &mut sink, &mut again, &mut other));
+    assert_eq!(rt; other.bytes().len(), 10);
     Ok(())
 }
 

@@ -8,6 +8,10 @@ mod accepted;
 #[cfg(test)]
 mod devices;
 #[cfg(test)]
+mod orders;
+#[cfg(test)]
 mod outcome;
 #[cfg(test)]
 mod refused;
+#[cfg(test)]
+mod worked;
