@@ -1,4 +1,4 @@
-ghost use Rattle.std.specs.Prelude.{◌≡◌, ◌==◌, ◌<◌, if◌then◌else◌, None, Some};
+ghost use Rattle.std.specs.Prelude.{◌≡◌, ◌==◌, ◌<◌, ◌≤◌, insert, vec_len, if◌then◌else◌, None, Some};
 ghost use Rattle.std.specs.Prelude.{[], length, slice_get, IfOk, IfErr, OnOk, OnErr};
 ghost use Rattle.std.specs.Option.{option_map};
 ghost use Rattle.std.specs.Ordering.{is_eq};
@@ -92,7 +92,7 @@ impl<K: Ord + Copy, V: Copy> Registers<K, V> {
                 Ok(true)
             }
             Err(at) => {
-                self.entries.insert(at, entry)?;
+                put_in(&mut self.entries, at, entry)?;
                 Ok(true)
             }
         }
@@ -195,4 +195,17 @@ mod tests {
         assert!(rt; !registers.is_empty());
         Ok(())
     }
+}
+
+// Puts an entry in at a place. Most registers keep one key, so that there is room for no more than the first one at first.
+fn put_in<T: Copy>(entries: &mut Vec<T>, at: usize, entry: T) -> Result<(), NoMemory>
+    requires { at ≤ vec_len entries.old }
+    ensures items { OnOk result (entries.new.items ≡ insert entries.old.items at entry) }
+    ensures same { OnErr result (entries.new.items ≡ entries.old.items) }
+{
+    if entries.is_empty() {
+        entries.reserve_exact(1)?;
+    }
+    entries.insert(at, entry)?;
+    Ok(())
 }

@@ -17,7 +17,7 @@ invariant_of-self-in-Err g c =
     let entries = c.self.inside.entries.items in
     let gap : IsGap cmp entries c.args.key c.in-Err.at = rw c.deref.ensures.value at c.in-Err.ensures.absent in
     let is = applies_new cmp g.met.K.Ord.total entries c.args.key c.args.version c.args.value c.in-Err.at gap in
-    rw (c.in_ok-insert-in-Err.ensures.items, is.after)
+    rw (c.in_ok-put_in-in-Err.ensures.items, is.after)
     (IsAscending-applied cmp g.met.K.Ord.total entries c.args.key c.args.version c.args.value c.self.invariant)
 
 pub returns-then-index-version : goal.returns-then-index-version
@@ -38,11 +38,11 @@ returns-else-index-version g c =
     c.index.ensures c.if-index-version.false in
     rw (← c.self.view_is) (record { answer = is.answer; after = is.after; look_up = is.look_up; same = tt; new_key = tt })
 
-pub returns-in_ok-insert-in-Err : goal.returns-in_ok-insert-in-Err
-returns-in_ok-insert-in-Err g c =
+pub returns-in_ok-put_in-in-Err : goal.returns-in_ok-put_in-in-Err
+returns-in_ok-put_in-in-Err g c =
     let cmp = g.K.Ord.cmp in
     let entries = c.self.inside.entries.items in
     let gap : IsGap cmp entries c.args.key c.in-Err.at = rw c.deref.ensures.value at c.in-Err.ensures.absent in
     let is = applies_new cmp g.met.K.Ord.total entries c.args.key c.args.version c.args.value c.in-Err.at gap in
-    rw (← c.self.view_is, c.in_ok-insert-in-Err.ensures.items)
+    rw (← c.self.view_is, c.in_ok-put_in-in-Err.ensures.items)
     (record { answer = is.answer; after = is.after; look_up = is.look_up; same = tt; new_key = tt })
