@@ -8,9 +8,9 @@ use Rattle.std.proofs.lemmas.Bool.Decides.{eqb_tells}
 use Rattle.std.proofs.lemmas.List.{length-set, get_or_past}
 use Rattle.std.proofs.lemmas.List.Sums.{sum_by-set, sum_by_push}
 use Rattle.tap_outstanding.specs.declared.outstanding.Flight.{Flight}
-use Rattle.tap_outstanding.specs.Levels.{sum_before, level, lists_of, IsTower, HaveRoom}
+use Rattle.tap_outstanding.specs.Levels.{sum_before, lists_of, IsTower, HaveRoom}
 use Rattle.tap_outstanding.specs.Outstanding.{OutstandingValue, frame_with, flights_from}
-use Rattle.tap_outstanding.specs.Kept.{IsKept, AreTakenBefore, IsKeptFrom}
+use Rattle.tap_outstanding.specs.Kept.{IsKept, AreTakenBefore}
 use Rattle.tap_outstanding.proofs.Sums.{sum-cleared, sum-pushed}
 use Rattle.tap_outstanding.proofs.Towers.{marked, mark-within, same-tower}
 use Rattle.tap_outstanding.proofs.Flights.{AreMarks, length-flights, flights-sent, flights-without, remove-past}
@@ -18,98 +18,106 @@ use Rattle.tap_outstanding.proofs.Flights.{AreMarks, length-flights, flights-sen
 abbrev pub value_of : ℕ → List Flight → ℕ → OutstandingValue
 value_of sent frames room = record { sent = sent; frames = frames; room = room }
 
-module _ {A : Type 0} (records : Vec ℕ A) (levels : List (Vec ℕ A)) (count room : ℕ) (kept : IsKept records levels count room) where
+module _ {A : Type 0} (records marks : Vec ℕ A) (sums : List (Vec ℕ A)) (count room : ℕ) (kept : IsKept records marks sums count room) where
   -- as many places of records as marks, and as many frames as are counted
-  pub kept-size : length records.items ≡ length (level levels 0)
+  pub kept-size : length records.items ≡ length marks.items
   kept-size =
       let long = records.ok.0 in
+      let long' = marks.ok.0 in
       let size = kept.size in
-      omega (arith, long, size)
+      omega (arith, long, long', size)
 
-  pub kept-count : count ≡ length (flights_from 0 records.items (level levels 0))
-  kept-count = kept.counted ∙ sym (length-flights 0 records.items (level levels 0) kept-size kept.tower.marks)
+  pub kept-count : count ≡ length (flights_from 0 records.items marks.items)
+  kept-count = kept.counted ∙ sym (length-flights 0 records.items marks.items kept-size kept.tower.ones)
 
   pub kept-few : count ≤ vec_len records
   kept-few =
       let counted = kept.counted in
+      let long = marks.ok.0 in
       let size = kept.size in
-      omega (arith, counted, size, marked levels kept.tower)
+      omega (arith, counted, long, size, marked marks.items sums kept.tower)
 
-  pub kept-sent : (records' : Vec ℕ A) (levels' : List (Vec ℕ A)) → 1 ≤ room → IsTower levels'
-      → level levels' 0 ≡ level levels 0 ++ 1 ∷ [] → ((r : ℕ) → HaveRoom levels (r + 1) → HaveRoom levels' r)
+  pub kept-sent : (records' marks' : Vec ℕ A) (sums' : List (Vec ℕ A)) → 1 ≤ room → IsTower marks'.items sums'
+      → marks'.items ≡ marks.items ++ 1 ∷ [] → ((r : ℕ) → HaveRoom sums (r + 1) → HaveRoom sums' r)
+      → vec_len marks' ≡ vec_len marks + 1 → vec_capacity marks' ≡ vec_capacity marks
       → vec_len records' ≡ vec_len records + 1 → vec_capacity records' ≡ vec_capacity records
-      → IsKept records' levels' (count + 1) (room - 1)
-  kept-sent records' levels' some tower marks rooms len capacity =
+      → IsKept records' marks' sums' (count + 1) (room - 1)
+  kept-sent records' marks' sums' some tower added rooms len_marks capacity_marks len capacity =
       let size = kept.size in
       let counted = kept.counted in
       let spare = kept.spare in
+      let spare_marks = kept.spare_marks in
       let e : room ≡ room - 1 + 1 = omega arith in
-      let more = ap (λ (xs : List ℕ). sum xs) marks in
-      let long = ap (λ (xs : List ℕ). length xs) marks in
+      let more = ap (λ (xs : List ℕ). sum xs) added in
       record {
         tower = tower;
-        size = omega (arith, long, size, len, length-append (level levels 0) (1 ∷ []));
-        counted = omega (arith, more, counted, sum_by_push (λ (x : ℕ). x) (level levels 0) 1);
+        size = omega (arith, size, len, len_marks);
+        counted = omega (arith, more, counted, sum_by_push (λ (x : ℕ). x) marks.items 1);
         spare = omega (arith, len, capacity, spare, some);
-        spares = rooms (room - 1) (subst (λ (r : ℕ). HaveRoom levels r) e kept.spares);
+        spare_marks = omega (arith, len_marks, capacity_marks, spare_marks, some);
+        spares = rooms (room - 1) (subst (λ (r : ℕ). HaveRoom sums r) e kept.spares);
       }
 
-  pub kept-taken : (levels' : List (Vec ℕ A)) (number : ℕ) → get_or (level levels 0) number 0 ≡ 1 → IsTower levels'
-      → level levels' 0 ≡ set (level levels 0) number 0 → ((r : ℕ) → HaveRoom levels r → HaveRoom levels' r)
-      → IsKept records levels' (count - 1) room
-  kept-taken levels' number mark tower marks rooms =
+  pub kept-taken : (marks' : Vec ℕ A) (sums' : List (Vec ℕ A)) (number : ℕ) → get_or marks.items number 0 ≡ 1
+      → IsTower marks'.items sums' → marks'.items ≡ set marks.items number 0 → vec_len marks' ≡ vec_len marks
+      → vec_capacity marks' ≡ vec_capacity marks → ((r : ℕ) → HaveRoom sums r → HaveRoom sums' r)
+      → IsKept records marks' sums' (count - 1) room
+  kept-taken marks' sums' number mark tower lowered len capacity rooms =
       let size = kept.size in
       let counted = kept.counted in
-      let less = ap (λ (xs : List ℕ). sum xs) marks in
-      let within = mark-within (level levels 0) number mark in
-      let long = ap (λ (xs : List ℕ). length xs) marks in
+      let spare_marks = kept.spare_marks in
+      let less = ap (λ (xs : List ℕ). sum xs) lowered in
+      let within = mark-within marks.items number mark in
       record {
         tower = tower;
-        size = omega (arith, long, size, length-set (level levels 0) number 0);
-        counted = omega (arith, less, counted, mark, sum_by-set (λ (x : ℕ). x) (level levels 0) number 0 0 within);
+        size = omega (arith, size, len);
+        counted = omega (arith, less, counted, mark, sum_by-set (λ (x : ℕ). x) marks.items number 0 0 within);
         spare = kept.spare;
+        spare_marks = omega (arith, len, capacity, spare_marks);
         spares = rooms room kept.spares;
       }
 
   -- what stands if room was asked for, and refused in the end
-  pub kept-asked : (records' : Vec ℕ A) (levels' : List (Vec ℕ A)) → vec_len records' ≡ vec_len records
-      → vec_capacity records ≤ vec_capacity records' → lists_of levels' ≡ lists_of levels
-      → ((r : ℕ) → HaveRoom levels r → HaveRoom levels' r) → IsKept records' levels' count room
-  kept-asked records' levels' len capacity same rooms =
-      let first : level levels' 0 ≡ level levels 0 = ap (λ (xs : List (List ℕ)). get_or xs 0 []) same in
+  pub kept-asked : (records' marks' : Vec ℕ A) (sums' : List (Vec ℕ A)) → vec_len records' ≡ vec_len records
+      → vec_capacity records ≤ vec_capacity records' → marks'.items ≡ marks.items → vec_len marks' ≡ vec_len marks
+      → vec_capacity marks ≤ vec_capacity marks' → lists_of sums' ≡ lists_of sums
+      → ((r : ℕ) → HaveRoom sums r → HaveRoom sums' r) → IsKept records' marks' sums' count room
+  kept-asked records' marks' sums' len capacity first len_marks capacity_marks same rooms =
       let size = kept.size in
       let spare = kept.spare in
+      let spare_marks = kept.spare_marks in
       record {
-        tower = same-tower levels levels' same kept.tower;
-        size = omega (arith, ap (λ (xs : List ℕ). length xs) first, size, len);
+        tower = same-tower marks.items marks'.items sums sums' first same kept.tower;
+        size = omega (arith, size, len, len_marks);
         counted = kept.counted ∙ ap (λ (xs : List ℕ). sum xs) (sym first);
         spare = omega (arith, len, capacity, spare);
+        spare_marks = omega (arith, len_marks, capacity_marks, spare_marks);
         spares = rooms room kept.spares;
       }
 
   -- the value after a frame is sent, and after one is taken
-  pub value-sent : (records' : Vec ℕ A) (marks : List ℕ) (place left : ℕ) → records'.items ≡ records.items ++ place ∷ []
-      → vec_len records' ≡ vec_len records + 1 → marks ≡ level levels 0 ++ 1 ∷ []
-      → value_of (vec_len records') (flights_from 0 records'.items marks) left
-      ≡ value_of (vec_len records + 1) (flights_from 0 records.items (level levels 0) ++ frame_with (vec_len records) place ∷ []) left
-  value-sent records' marks place left items len same =
+  pub value-sent : (records' : Vec ℕ A) (marks' : List ℕ) (place left : ℕ) → records'.items ≡ records.items ++ place ∷ []
+      → vec_len records' ≡ vec_len records + 1 → marks' ≡ marks.items ++ 1 ∷ []
+      → value_of (vec_len records') (flights_from 0 records'.items marks') left
+      ≡ value_of (vec_len records + 1) (flights_from 0 records.items marks.items ++ frame_with (vec_len records) place ∷ []) left
+  value-sent records' marks' place left items len same =
       let long = records.ok.0 in
-      let frames : flights_from 0 records'.items marks
-      ≡ flights_from 0 records.items (level levels 0) ++ frame_with (vec_len records) place ∷ [] =
-      ap (λ (xs : List ℕ). flights_from 0 xs marks) items
+      let frames : flights_from 0 records'.items marks'
+      ≡ flights_from 0 records.items marks.items ++ frame_with (vec_len records) place ∷ [] =
+      ap (λ (xs : List ℕ). flights_from 0 xs marks') items
       ∙ ap (λ (ms : List ℕ). flights_from 0 (records.items ++ place ∷ []) ms) same
-      ∙ flights-sent 0 (vec_len records) records.items (level levels 0) place kept-size (omega (arith, long)) in
-      ap (λ (n : ℕ). value_of n (flights_from 0 records'.items marks) left) len
+      ∙ flights-sent 0 (vec_len records) records.items marks.items place kept-size (omega (arith, long)) in
+      ap (λ (n : ℕ). value_of n (flights_from 0 records'.items marks') left) len
       ∙ ap (λ (fs : List Flight). value_of (vec_len records + 1) fs left) frames
 
-  pub value-taken : (marks : List ℕ) (number place : ℕ) → marks ≡ set (level levels 0) number 0
-      → get_or (level levels 0) number 0 ≡ 1 → sum_before (level levels 0) number ≡ place
-      → value_of (vec_len records) (flights_from 0 records.items marks) room
-      ≡ value_of (vec_len records) (remove (flights_from 0 records.items (level levels 0)) place) room
-  value-taken marks number place same mark before =
+  pub value-taken : (marks' : List ℕ) (number place : ℕ) → marks' ≡ set marks.items number 0
+      → get_or marks.items number 0 ≡ 1 → sum_before marks.items number ≡ place
+      → value_of (vec_len records) (flights_from 0 records.items marks') room
+      ≡ value_of (vec_len records) (remove (flights_from 0 records.items marks.items) place) room
+  value-taken marks' number place same mark before =
       ap (λ (ms : List ℕ). value_of (vec_len records) (flights_from 0 records.items ms) room) same
       ∙ ap (λ (fs : List Flight). value_of (vec_len records) fs room)
-      (flights-without number place records.items (level levels 0) kept-size kept.tower.marks mark before)
+      (flights-without number place records.items marks.items kept-size kept.tower.ones mark before)
 
 -- nothing is taken from a place that is past the last one
 pub value-same : (s : OutstandingValue) (place : ℕ) → length s.frames ≤ place → s ≡ record s { frames = remove s.frames place }

@@ -1,5 +1,8 @@
 pub mod Sums
 pub mod Towers
-pub mod Steps
+pub mod Growing
+pub mod Lowering
+pub mod Searching
+pub mod Reserving
 pub mod Flights
 pub mod Kept

@@ -1,9 +1,9 @@
--- Sums of the counts before a place, and what one more or one less makes of them.
-use Rattle.std.proofs.Common.{◌≡◌, ℕ, zero, suc, ◌+◌, ◌-◌, ◌<◌, ◌≤◌, max, List, [], ◌∷◌, ◌++◌, length, take, get_or, set, refl, ap, arith}
+-- Sums of the counts before a place, and what one less, or one more at the end, makes of them.
+use Rattle.std.proofs.Common.{◌≡◌, ℕ, zero, suc, ◌+◌, ◌-◌, ◌<◌, ◌≤◌, List, [], ◌∷◌, ◌++◌, length, take, get_or, set, refl, ap, arith}
 use Rattle.std.specs.List.{sum}
 use Rattle.std.proofs.lemmas.List.{take-append-le}
 use Rattle.std.proofs.lemmas.List.Sums.{sum_by-cons, sum_by-take-le}
-use Rattle.tap_outstanding.specs.Levels.{sum_before, raised}
+use Rattle.tap_outstanding.specs.Levels.{sum_before}
 
 -- 1 if a place stands before another, else 0
 abbrev pub below : ℕ → ℕ → ℕ
@@ -38,34 +38,6 @@ pub sum-all : (xs : List ℕ) (i : ℕ) → length xs ≤ i → sum_before xs i 
 sum-all [] i le = sum-nothing i
 sum-all (x ∷ xs) zero le = absurd (omega arith)
 sum-all (x ∷ xs) (suc i) le = omega (arith, sum-all xs i (omega arith), sum-cons x (take i xs), sum-cons x xs)
-
--- one more at a place, be it the next one
-pub sum-raised : (xs : List ℕ) (at i : ℕ) → at ≤ length xs → sum_before (raised xs at) i ≡ sum_before xs i + below at i
-sum-raised [] zero zero within = refl
-sum-raised [] zero (suc i) within = omega (arith, sum-cons 1 (take i []), sum-nothing i, sum-nothing (suc i))
-sum-raised [] (suc at) i within = absurd (omega arith)
-sum-raised (x ∷ xs) zero zero within = refl
-sum-raised (x ∷ xs) zero (suc i) within = omega (arith, sum-cons (suc x) (take i xs), sum-cons x (take i xs))
-sum-raised (x ∷ xs) (suc at) zero within = refl
-sum-raised (x ∷ xs) (suc at) (suc i) within =
-    omega (arith, sum-raised xs at i (omega arith), sum-cons x (take i (raised xs at)), sum-cons x (take i xs))
-
-pub length-raised : (xs : List ℕ) (at : ℕ) → at ≤ length xs → length (raised xs at) ≡ max (length xs) (at + 1)
-length-raised [] zero within = refl
-length-raised [] (suc at) within = absurd (omega arith)
-length-raised (x ∷ xs) zero within = omega arith
-length-raised (x ∷ xs) (suc at) within = omega (arith, length-raised xs at (omega arith))
-
-pub set-raised : (xs : List ℕ) (at v : ℕ) → at < length xs → v ≡ get_or xs at v → set xs at (v + 1) ≡ raised xs at
-set-raised [] at v within is = absurd (omega arith)
-set-raised (x ∷ xs) zero v within is = let e : v + 1 ≡ suc x = omega arith in ap (λ n. n ∷ xs) e
-set-raised (x ∷ xs) (suc at) v within is = ap (λ rest. x ∷ rest) (set-raised xs at v (omega arith) is)
-
-pub push-raised : (xs : List ℕ) (at : ℕ) → at ≡ length xs → xs ++ 1 ∷ [] ≡ raised xs at
-push-raised [] zero end = refl
-push-raised [] (suc at) end = refl
-push-raised (x ∷ xs) zero end = absurd (omega arith)
-push-raised (x ∷ xs) (suc at) end = ap (λ rest. x ∷ rest) (push-raised xs at (omega arith))
 
 -- one less at a place
 pub sum-lowered : (xs : List ℕ) (at i : ℕ) → at < length xs → 1 ≤ get_or xs at 0

@@ -1,6 +1,6 @@
-ghost use Rattle.std.specs.Prelude.{◌≡◌, ◌==◌, ◌^◌, ℕ, ◌+◌, ◌-◌, ◌<◌, ◌≤◌, ◌∷◌, ◌++◌, []};
+ghost use Rattle.std.specs.Prelude.{◌≡◌, ◌==◌, ◌^◌, ℕ, ◌+◌, ◌-◌, ◌<◌, ◌≤◌, ◌∷◌, ◌++◌, [], All};
 ghost use Rattle.std.specs.Prelude.{length, sum, slice_index, slice_set, OnOk, vec_len, vec_capacity};
-ghost use Rattle.tap_outstanding.specs.Levels.{HaveRoom, IsTower, level, lists_of, raised, sum_before};
+ghost use Rattle.tap_outstanding.specs.Levels.{HaveRoom, IsTower, lists_of, sum_before};
 
 use crate::memory::NoMemory;
 
@@ -15,68 +15,42 @@ struct Spot {
 }
 
 /// The number whose mark has so many marks before it.
-pub(crate) fn find(levels: &[Vec<u32>], place: u32) -> usize
-    requires tower { IsTower levels.now }
-    requires within { place < sum (level levels.now 0) }
-    ensures within { result < length (level levels.now 0) }
-    ensures mark { slice_index (level levels.now 0) result ≡ 1 }
-    ensures place { sum_before (level levels.now 0) result ≡ place }
+pub(crate) fn find(marks: &[u8], sums: &[Vec<u32>], place: u32) -> usize
+    requires tower { IsTower marks.now sums.now }
+    requires within { place < sum marks.now }
+    ensures within { result < length marks.now }
+    ensures mark { slice_index marks.now result ≡ 1 }
+    ensures place { sum_before marks.now result ≡ place }
 {
     let mut spot = Spot { at: 0, left: place };
-    for height in (0..levels.len()).rev() {
-        spot = find_from(&levels[height], FAN * spot.at, spot.left);
+    for height in (0..sums.len()).rev() {
+        spot = pass(&sums[height], FAN * spot.at, spot.left);
     }
-    spot.at
+    find_mark(marks, FAN * spot.at, spot.left)
 }
 
 /// What `find` gives, if no mark stands before a number. The first mark is mostly there.
-pub(crate) fn find_after(levels: &[Vec<u32>], low: usize, place: u32) -> usize
-    requires tower { IsTower levels.now }
-    requires low { sum_before (level levels.now 0) low ≡ 0 }
-    requires within { place < sum (level levels.now 0) }
-    ensures within { result < length (level levels.now 0) }
-    ensures mark { slice_index (level levels.now 0) result ≡ 1 }
-    ensures place { sum_before (level levels.now 0) result ≡ place }
+pub(crate) fn find_after(marks: &[u8], sums: &[Vec<u32>], low: usize, place: u32) -> usize
+    requires tower { IsTower marks.now sums.now }
+    requires low { sum_before marks.now low ≡ 0 }
+    requires within { place < sum marks.now }
+    ensures within { result < length marks.now }
+    ensures mark { slice_index marks.now result ≡ 1 }
+    ensures place { sum_before marks.now result ≡ place }
 {
     if place == 0 {
-        if is_marked(levels, low) {
+        if is_marked(marks, low) {
             return low;
         }
     }
-    find(levels, place)
+    find(marks, sums, place)
 }
 
-/// The first number, from this one on, that has a mark, or how many numbers there are.
-pub(crate) fn next_mark(levels: &[Vec<u32>], number: usize) -> usize
-    requires tower { IsTower levels.now }
-    requires within { number ≤ length (level levels.now 0) }
-    ensures within { result ≤ length (level levels.now 0) }
-    ensures none { sum_before (level levels.now 0) result ≡ sum_before (level levels.now 0) number }
-{
-    next_count(&levels[0], number)
-}
-
-// Steps over counts while they are 0.
-fn next_count(counts: &[u32], from: usize) -> usize
+// Steps over counts while as many are left, up to the end at most.
+fn pass(counts: &[u32], from: usize, mut left: u32) -> Spot
     requires from { from ≤ length counts.now }
-    ensures within { result ≤ length counts.now }
-    ensures none { sum_before counts.now result ≡ sum_before counts.now from }
-{
-    for at in from..counts.len() {
-        if counts[at] != 0 {
-            return at;
-        }
-    }
-    counts.len()
-}
-
-// Steps over counts while as many are left.
-fn find_from(counts: &[u32], from: usize, mut left: u32) -> Spot
-    requires from { from ≤ length counts.now }
-    requires within { sum_before counts.now from + left < sum counts.now }
-    ensures within { result.at < length counts.now }
+    ensures within { result.at ≤ length counts.now }
     ensures sum { sum_before counts.now result.at + result.left ≡ sum_before counts.now from + left }
-    ensures left { result.left < slice_index counts.now result.at }
 {
     for at in from..counts.len() {
         let count = counts[at];
@@ -85,41 +59,83 @@ fn find_from(counts: &[u32], from: usize, mut left: u32) -> Spot
         }
         left -= count;
     }
-    Spot { at: from, left }
+    Spot {
+        at: counts.len(),
+        left,
+    }
+}
+
+// The place of the mark before which so many marks are left to pass.
+fn find_mark(marks: &[u8], from: usize, mut left: u32) -> usize
+    requires marks { All (λ m. m ≤ 1) marks.now }
+    requires from { from ≤ length marks.now }
+    requires within { sum_before marks.now from + left < sum marks.now }
+    ensures within { result < length marks.now }
+    ensures mark { slice_index marks.now result ≡ 1 }
+    ensures place { sum_before marks.now result ≡ sum_before marks.now from + left }
+{
+    for at in from..marks.len() {
+        let mark = marks[at] as u32;
+        if left < mark {
+            return at;
+        }
+        left -= mark;
+    }
+    from
+}
+
+/// The first number, from this one on, that has a mark, or how many numbers there are.
+pub(crate) fn next_mark(marks: &[u8], number: usize) -> usize
+    requires within { number ≤ length marks.now }
+    ensures within { result ≤ length marks.now }
+    ensures none { sum_before marks.now result ≡ sum_before marks.now number }
+{
+    for at in number..marks.len() {
+        if marks[at] != 0 {
+            return at;
+        }
+    }
+    marks.len()
 }
 
 /// Whether a number has a mark.
-pub(crate) fn is_marked(levels: &[Vec<u32>], number: usize) -> bool
-    requires { IsTower levels.now }
-    ensures { result ≡ (slice_index (level levels.now 0) number == 1) }
+pub(crate) fn is_marked(marks: &[u8], number: usize) -> bool
+    ensures { result ≡ (slice_index marks.now number == 1) }
 {
-    is_one(&levels[0], number)
-}
-
-// Whether the count at a place is 1.
-fn is_one(counts: &[u32], at: usize) -> bool
-    ensures { result ≡ (slice_index counts.now at == 1) }
-{
-    if at < counts.len() {
-        counts[at] == 1
+    if number < marks.len() {
+        marks[number] == 1
     } else {
         false
     }
 }
 
 /// How many marks stand before a number.
-pub(crate) fn rank(levels: &[Vec<u32>], number: usize) -> u32
-    requires tower { IsTower levels.now }
-    requires within { number < length (level levels.now 0) }
-    ensures { result ≡ sum_before (level levels.now 0) number }
+pub(crate) fn rank(marks: &[u8], sums: &[Vec<u32>], number: usize) -> u32
+    requires tower { IsTower marks.now sums.now }
+    requires within { number < length marks.now }
+    ensures { result ≡ sum_before marks.now number }
 {
-    let mut at = number;
-    let mut place = 0;
-    for counts in levels {
+    let mut at = number / FAN;
+    let mut place = marks_between(marks, FAN * at, number);
+    for counts in sums {
         place += sum_between(counts, FAN * (at / FAN), at);
         at /= FAN;
     }
     place
+}
+
+// How many marks stand from one number on, before another.
+fn marks_between(marks: &[u8], from: usize, to: usize) -> u32
+    requires order { from ≤ to }
+    requires within { to ≤ length marks.now }
+    requires fits { sum marks.now < 2 ^ 32 }
+    ensures { sum_before marks.now from + result ≡ sum_before marks.now to }
+{
+    let mut total = 0;
+    for at in from..to {
+        total += marks[at] as u32;
+    }
+    total
 }
 
 // The sum of the counts from one place up to another.
@@ -136,49 +152,50 @@ fn sum_between(counts: &[u32], from: usize, to: usize) -> u32
     total
 }
 
-/// Adds the mark of the next number. It takes no memory.
-pub(crate) fn raise(levels: &mut [Vec<u32>], number: usize)
-    requires tower { IsTower levels.old }
-    requires next { number ≡ length (level levels.old 0) }
-    requires few { number < 4000000000 }
-    requires room { HaveRoom levels.old 1 }
-    ensures tower { IsTower levels.new }
-    ensures marks { level levels.new 0 ≡ level levels.old 0 ++ 1 ∷ [] }
-    ensures room { (room : ℕ) → HaveRoom levels.old (room + 1) → HaveRoom levels.new room }
+/// Adds the mark of the next number, and the sums of the sixteens that are now whole. It takes no memory.
+pub(crate) fn raise(marks: &mut Vec<u8>, sums: &mut [Vec<u32>])
+    requires tower { IsTower marks.old.items sums.old }
+    requires few { vec_len marks.old < 4000000000 }
+    requires room { vec_len marks.old < vec_capacity marks.old }
+    requires rooms { HaveRoom sums.old 1 }
+    ensures tower { IsTower marks.new.items sums.new }
+    ensures marks { marks.new.items ≡ marks.old.items ++ 1 ∷ [] }
+    ensures len { vec_len marks.new ≡ vec_len marks.old + 1 }
+    ensures capacity { vec_capacity marks.new ≡ vec_capacity marks.old }
+    ensures rooms { (room : ℕ) → HaveRoom sums.old (room + 1) → HaveRoom sums.new room }
 {
-    let mut at = number;
-    for counts in levels.iter_mut() {
-        add_one(counts, at);
-        at /= FAN;
+    marks.push_reserved(1);
+    let mut end = marks.len();
+    if end % FAN != 0 {
+        return;
     }
-}
-
-// One more at a place, which may be the next one.
-fn add_one(counts: &mut Vec<u32>, at: usize)
-    requires within { at ≤ vec_len counts.old }
-    requires room { vec_len counts.old < vec_capacity counts.old }
-    requires fits { sum counts.old.items < 4000000000 }
-    ensures items { counts.new.items ≡ raised counts.old.items at }
-    ensures len { vec_len counts.new ≤ vec_len counts.old + 1 }
-    ensures capacity { vec_capacity counts.new ≡ vec_capacity counts.old }
-{
-    if at < counts.len() {
-        counts[at] += 1;
-    } else {
-        counts.push_reserved(1);
+    let mut sum = marks_between(marks, end - FAN, end);
+    for counts in sums.iter_mut() {
+        counts.push_reserved(sum);
+        end = counts.len();
+        if end % FAN != 0 {
+            return;
+        }
+        sum = sum_between(counts, end - FAN, end);
     }
 }
 
 /// Takes the mark of a number away.
-pub(crate) fn lower(levels: &mut [Vec<u32>], number: usize)
-    requires tower { IsTower levels.old }
-    requires mark { slice_index (level levels.old 0) number ≡ 1 }
-    ensures tower { IsTower levels.new }
-    ensures marks { level levels.new 0 ≡ slice_set (level levels.old 0) number 0 }
-    ensures room { (room : ℕ) → HaveRoom levels.old room → HaveRoom levels.new room }
+pub(crate) fn lower(marks: &mut Vec<u8>, sums: &mut [Vec<u32>], number: usize)
+    requires tower { IsTower marks.old.items sums.old }
+    requires mark { slice_index marks.old.items number ≡ 1 }
+    ensures tower { IsTower marks.new.items sums.new }
+    ensures marks { marks.new.items ≡ slice_set marks.old.items number 0 }
+    ensures len { vec_len marks.new ≡ vec_len marks.old }
+    ensures capacity { vec_capacity marks.new ≡ vec_capacity marks.old }
+    ensures rooms { (room : ℕ) → HaveRoom sums.old room → HaveRoom sums.new room }
 {
-    let mut at = number;
-    for counts in levels.iter_mut() {
+    marks[number] = 0;
+    let mut at = number / FAN;
+    for counts in sums.iter_mut() {
+        if at >= counts.len() {
+            return;
+        }
         take_one(counts, at);
         at /= FAN;
     }
@@ -195,13 +212,13 @@ fn take_one(counts: &mut Vec<u32>, at: usize)
     counts[at] -= 1;
 }
 
-/// Makes room in each level for the marks of so many more numbers.
-pub(crate) fn reserve(levels: &mut [Vec<u32>], more: usize) -> Result<(), NoMemory>
-    ensures same { lists_of levels.new ≡ lists_of levels.old }
-    ensures ok { OnOk result (HaveRoom levels.new more) }
-    ensures room { (room : ℕ) → HaveRoom levels.old room → HaveRoom levels.new room }
+/// Makes room in each level of sums for those of so many more numbers.
+pub(crate) fn reserve(sums: &mut [Vec<u32>], more: usize) -> Result<(), NoMemory>
+    ensures same { lists_of sums.new ≡ lists_of sums.old }
+    ensures ok { OnOk result (HaveRoom sums.new more) }
+    ensures room { (room : ℕ) → HaveRoom sums.old room → HaveRoom sums.new room }
 {
-    for counts in levels.iter_mut() {
+    for counts in sums.iter_mut() {
         counts.reserve(more)?;
     }
     Ok(())

@@ -30,16 +30,18 @@ pub struct Flight {
 ///
 /// The place of each frame's record is kept by the frame's number. Beside it lie marks, 1 for a frame
 /// that is outstanding and 0 for one that was taken, and above them sums of sixteen, sums of these, and
-/// so on. A call goes through the levels once, and through at most sixteen counts of each. Nothing is
-/// moved, and some 12 bytes are kept for each frame that was sent. Before one number, which only grows, all
-/// frames are known to be taken, so that the oldest one is mostly found at once. Taking it moves that number
-/// on, which over all calls passes each frame once.
+/// so on, each once all sixteen are there. A call goes through the levels once at most, and through at most
+/// sixteen counts of each. Nothing is moved, and some 9 bytes are kept for each frame that was sent. Before
+/// one number, which only grows, all frames are known to be taken, so that the oldest one is mostly found at
+/// once. Taking it moves that number on, which over all calls passes each frame once.
 ///
 /// Rule: docs/FORMATS.md, "Groups and moments".
 #[derive(Drop)]
 pub struct Outstanding {
     records: Vec<usize>,
-    levels: [Vec<u32>; 8],
+    // 1 for a frame that is outstanding, 0 for one that was taken.
+    marks: Vec<u8>,
+    sums: [Vec<u32>; 7],
     count: u32,
     room: usize,
     // No frame before this number is outstanding.
@@ -49,14 +51,13 @@ pub struct Outstanding {
 impl Model for Outstanding {
     ghost use Rattle.std.specs.Prelude.{vec_len};
     ghost use Rattle.tap_outstanding.specs.Kept.{IsKeptFrom};
-    ghost use Rattle.tap_outstanding.specs.Levels.{level};
     ghost use Rattle.tap_outstanding.specs.Outstanding.{OutstandingValue, flights_from};
 
     ghost Value = { OutstandingValue };
 
-    ghost view = { λ o. record { sent = vec_len o.records; frames = flights_from 0 o.records.items (level o.levels 0); room = o.room } };
+    ghost view = { λ o. record { sent = vec_len o.records; frames = flights_from 0 o.records.items o.marks.items; room = o.room } };
 
-    ghost invariant = { λ o. IsKeptFrom o.records o.levels o.count o.room o.low };
+    ghost invariant = { λ o. IsKeptFrom o.records o.marks o.sums o.count o.room o.low };
 }
 
 impl Outstanding {
@@ -66,8 +67,8 @@ impl Outstanding {
     {
         Outstanding {
             records: Vec::new(alloc),
-            levels: [
-                Vec::new(alloc),
+            marks: Vec::new(alloc),
+            sums: [
                 Vec::new(alloc),
                 Vec::new(alloc),
                 Vec::new(alloc),
@@ -116,7 +117,8 @@ impl Outstanding {
         let more = frames as usize;
         if self.room < more {
             self.records.reserve(more)?;
-            levels::reserve(&mut self.levels, more)?;
+            self.marks.reserve(more)?;
+            levels::reserve(&mut self.sums, more)?;
             self.room = more;
         }
         Ok(())
@@ -142,7 +144,7 @@ impl Outstanding {
         ensures after { self.new ≡ sent_with self.old record_place }
     {
         let number = self.records.len();
-        levels::raise(&mut self.levels, number);
+        levels::raise(&mut self.marks, &mut self.sums);
         self.records.push_reserved(record_place);
         self.count += 1;
         self.room -= 1;
@@ -155,7 +157,7 @@ impl Outstanding {
         ensures { result ≡ slice_get self.now.frames place }
     {
         if place < self.count {
-            let number = levels::find_after(&self.levels, self.low, place);
+            let number = levels::find_after(&self.marks, &self.sums, self.low, place);
             Some(Flight {
                 number: number as u32,
                 record_place: self.records[number],
@@ -177,8 +179,8 @@ impl Outstanding {
         ensures { result ≡ place_of_number self.now.frames number }
     {
         let number = number as usize;
-        if levels::is_marked(&self.levels, number) {
-            Some(levels::rank(&self.levels, number))
+        if levels::is_marked(&self.marks, number) {
+            Some(levels::rank(&self.marks, &self.sums, number))
         } else {
             None
         }
@@ -193,9 +195,9 @@ impl Outstanding {
         if place >= self.count {
             return None;
         }
-        let number = levels::find_after(&self.levels, self.low, place);
-        levels::lower(&mut self.levels, number);
-        self.low = levels::next_mark(&self.levels, self.low);
+        let number = levels::find_after(&self.marks, &self.sums, self.low, place);
+        levels::lower(&mut self.marks, &mut self.sums, number);
+        self.low = levels::next_mark(&self.marks, self.low);
         self.count -= 1;
         let record_place = self.records[number];
         Some(Flight {
@@ -211,11 +213,11 @@ impl Outstanding {
         ensures after { self.new ≡ option_map_or (taken_at self.old) (place_of_number self.old.frames number) self.old }
     {
         let number = number as usize;
-        if !levels::is_marked(&self.levels, number) {
+        if !levels::is_marked(&self.marks, number) {
             return false;
         }
-        levels::lower(&mut self.levels, number);
-        self.low = levels::next_mark(&self.levels, self.low);
+        levels::lower(&mut self.marks, &mut self.sums, number);
+        self.low = levels::next_mark(&self.marks, self.low);
         self.count -= 1;
         true
     }

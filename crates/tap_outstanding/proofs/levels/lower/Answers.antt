@@ -1,31 +1,39 @@
-use Rattle.std.proofs.Common.{arith}
-use Rattle.tap_outstanding.proofs.Towers.{one_less, one-more-changed, lowered-tower}
-use Rattle.tap_outstanding.proofs.Steps.{lower-within, lower-some}
+use Rattle.std.proofs.Common.{ℕ, ◌≤◌, List, length, get_or, set, Vec, Global, refl, sym, subst, arith}
+use Rattle.std.proofs.lemmas.List.{set-get_or}
+use Rattle.tap_outstanding.specs.Levels.{HaveRoom, IsTower}
+use Rattle.tap_outstanding.proofs.Lowering.{one-more-lowered, lowered-tower, lower-some, lower-past}
 use Rattle.tap_outstanding.proofs.levels.lower.Goals as goal
 
-pub take_one-requires-clause-within : goal.take_one-requires-clause-within
-take_one-requires-clause-within c =
-    lower-within c.args.levels.now c.requires.tower c.loop-counts.levels c.args.number c.loop-counts.counts-index c.loop-counts.at
-    c.counts-item.result c.loop-counts.invariant (omega arith) c.requires.mark
+pub returns-then-at-len-clause-tower : goal.returns-then-at-len-clause-tower
+returns-then-at-len-clause-tower c =
+    let long = (get_or c.loop-counts.sums c.loop-counts.counts-index c.counts-item.result).ok.0 in
+    let unchanged = set-get_or c.loop-counts.sums c.loop-counts.counts-index c.counts-item.result in
+    let item : length (get_or c.loop-counts.sums c.loop-counts.counts-index c.counts-item.result).items ≤ c.loop-counts.at = omega arith in
+    subst (λ (sums : List (Vec ℕ Global)). IsTower (set c.args.marks.now.items c.args.number 0) sums) (sym unchanged)
+    (lowered-tower c.args.marks.now.items c.args.sums.now c.loop-counts.sums c.args.number c.loop-counts.counts-index c.loop-counts.at
+    c.requires.tower c.requires.mark c.loop-counts.invariant (set c.args.marks.now.items c.args.number 0) refl
+    (λ lt. lower-past c.args.marks.now.items c.args.sums.now c.loop-counts.sums c.args.number c.loop-counts.counts-index c.loop-counts.at
+    c.requires.tower c.loop-counts.invariant c.counts-item.result (omega arith) item))
+
+pub returns-then-at-len-clause-rooms : goal.returns-then-at-len-clause-rooms
+returns-then-at-len-clause-rooms c =
+    let unchanged = set-get_or c.loop-counts.sums c.loop-counts.counts-index c.counts-item.result in
+    λ room have. subst (λ (sums : List (Vec ℕ Global)). HaveRoom sums room) (sym unchanged) (c.loop-counts.invariant.room room have)
 
 pub take_one-requires-clause-some : goal.take_one-requires-clause-some
 take_one-requires-clause-some c =
-    lower-some c.args.levels.now c.requires.tower c.loop-counts.levels c.args.number c.loop-counts.counts-index c.loop-counts.at
-    c.counts-item.result c.loop-counts.invariant (omega arith) c.requires.mark
+    let long = (get_or c.loop-counts.sums c.loop-counts.counts-index c.counts-item.result).ok.0 in
+    lower-some c.args.marks.now.items c.args.sums.now c.loop-counts.sums c.args.number c.loop-counts.counts-index c.loop-counts.at
+    c.requires.tower c.loop-counts.invariant c.counts-item.result (omega arith) c.requires.mark (omega arith)
 
 pub loop-counts-preserved : goal.loop-counts-preserved
 loop-counts-preserved c =
-    one-more-changed one_less 0 c.args.levels.now c.args.number c.loop-counts.levels c.loop-counts.counts-index c.loop-counts.at
-    c.counts-item.result c.take_one.new.counts c.loop-counts.invariant (omega arith) c.take_one.ensures.items
-    (omega (arith, c.take_one.ensures.len)) c.take_one.ensures.capacity
+    one-more-lowered c.args.sums.now c.args.number c.loop-counts.sums c.loop-counts.counts-index c.loop-counts.at c.counts-item.result
+    c.take_one.new.counts c.loop-counts.invariant (omega arith) c.take_one.ensures.items c.take_one.ensures.len c.take_one.ensures.capacity
 
 pub returns-clause-tower : goal.returns-clause-tower
 returns-clause-tower c =
     let height = c.requires.tower.height in
     let size = c.loop-counts.invariant.size in
-    lowered-tower c.args.levels.now c.loop-counts.levels c.args.number c.requires.tower c.requires.mark (omega arith)
-    (λ j lt. c.loop-counts.invariant.done j (omega arith))
-
-pub returns-clause-room : goal.returns-clause-room
-returns-clause-room c =
-    λ room have. c.loop-counts.invariant.room room (λ k d within. let h = have k d within in omega (arith, h))
+    lowered-tower c.args.marks.now.items c.args.sums.now c.loop-counts.sums c.args.number c.loop-counts.counts-index c.loop-counts.at
+    c.requires.tower c.requires.mark c.loop-counts.invariant (set c.args.marks.now.items c.args.number 0) refl (λ lt. absurd (omega arith))

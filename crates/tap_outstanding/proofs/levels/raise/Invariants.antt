@@ -1,6 +1,7 @@
-use Rattle.tap_outstanding.specs.Levels.{raised}
-use Rattle.tap_outstanding.proofs.Towers.{IsChangedUpTo}
+use Rattle.tap_outstanding.specs.Levels.{level}
+use Rattle.tap_outstanding.proofs.Growing.{IsGrownUpTo, IsWhole}
 use Rattle.tap_outstanding.proofs.levels.raise.Given as goal
 
 abbrev pub invariant-loop-counts : goal.invariant-loop-counts
-invariant-loop-counts l = IsChangedUpTo raised 1 l.initial.levels l.levels l.number l.counts-index l.at
+invariant-loop-counts l =
+    IsGrownUpTo l.marks.items l.initial.sums l.sums l.counts-index × IsWhole (level l.marks.items l.sums l.counts-index) l.sum

@@ -6,4 +6,4 @@ pub returns : goal.returns
 returns c =
     rw (← c.self.view_is)
     (ap (λ (n : ℕ). n == 0)
-    (kept-count c.self.inside.records c.self.inside.levels c.self.inside.count c.self.inside.room c.self.invariant.kept))
+    (kept-count c.self.inside.records c.self.inside.marks c.self.inside.sums c.self.inside.count c.self.inside.room c.self.invariant.kept))

@@ -1,0 +1,134 @@
+-- What the loops that search for a mark, and that count those before one, keep.
+use Rattle.std.proofs.Common.{◌≡◌, ℕ, zero, suc, ◌+◌, ◌*◌, ◌/◌, ◌-◌, ◌<◌, ◌≤◌, List, length, get_or, Vec, sym, ap, subst, ◌∙◌, inl, inr, arith}
+use Rattle.std.specs.List.{sum}
+use Rattle.std.proofs.lemmas.Bool.{cases_order}
+use Rattle.std.proofs.lemmas.List.Sums.{sum_by-take-le}
+use Rattle.tap_outstanding.specs.Levels.{sum_before, level, IsTower}
+use Rattle.tap_outstanding.proofs.Sums.{sum-nothing, sum-monotone}
+use Rattle.tap_outstanding.proofs.Towers.{level-of, level-past, level-size, few, top}
+
+-- where a search for a place goes on in level `j`
+pub record IsSpot {A : Type 0} (marks : List ℕ) (sums : List (Vec ℕ A)) (place j at left : ℕ) : Type 0 where
+  pub within : 16 * at ≤ length (level marks sums j)
+  pub reached : sum_before (level marks sums j) (16 * at) + left ≡ place
+
+-- a loop that has counted what stands before a number, but for the counts before `at` of level `m + 1`
+pub record IsRanked {A : Type 0} (marks : List ℕ) (sums : List (Vec ℕ A)) (number m at place : ℕ) : Type 0 where
+  pub counted : sum_before (level marks sums (suc m)) at + place ≡ sum_before marks number
+  pub within : m < 7 → at ≤ length (level marks sums (suc m))
+
+module _ {A : Type 0} (marks : List ℕ) (sums : List (Vec ℕ A)) (tower : IsTower marks sums) where
+  pub spot-within : (place height at left : ℕ) (d : Vec ℕ A) → height ≤ 7 → 0 < height → IsSpot marks sums place height at left
+      → 16 * at ≤ length (get_or sums (height - 1) d).items
+  spot-within place zero at left d le pos spot = absurd (omega arith)
+  spot-within place (suc i) at left d le pos spot =
+      let height = tower.height in
+      let e : suc i - 1 ≡ i = omega arith in
+      subst (λ (k : ℕ). 16 * at ≤ length (get_or sums k d).items) (sym e)
+      (subst (λ (xs : List ℕ). 16 * at ≤ length xs) (level-of marks sums i d (omega arith)) spot.within)
+
+  pub spot-next : (place height at left at' left' : ℕ) (d : Vec ℕ A) → height ≤ 7 → 0 < height → IsSpot marks sums place height at left
+      → at' ≤ length (get_or sums (height - 1) d).items
+      → sum_before (get_or sums (height - 1) d).items at' + left' ≡ sum_before (get_or sums (height - 1) d).items (16 * at) + left
+      → IsSpot marks sums place (height - 1) at' left'
+  spot-next place zero at left at' left' d le pos spot within reached = absurd (omega arith)
+  spot-next place (suc i) at left at' left' d le pos spot within reached =
+      let height = tower.height in
+      let e : suc i - 1 ≡ i = omega arith in
+      let here : (get_or sums (suc i - 1) d).items ≡ level marks sums (suc i) =
+      ap (λ (k : ℕ). (get_or sums k d).items) e ∙ sym (level-of marks sums i d (omega arith)) in
+      let long = ap (λ (xs : List ℕ). length xs) here in
+      let there = ap (λ (xs : List ℕ). sum_before xs at') here in
+      let from = ap (λ (xs : List ℕ). sum_before xs (16 * at)) here in
+      let size = level-size marks sums tower i (omega arith) in
+      let was = spot.reached in
+      let inside : at' ≤ length (level marks sums (suc i)) = omega arith in
+      let down = (tower.summary i (omega arith)).sums at' inside in
+      subst (λ (k : ℕ). IsSpot marks sums place k at' left') (sym e) (record {
+        within = omega arith;
+        reached = omega (arith, reached, there, from, was, down);
+      })
+
+  pub rank-first : (number place : ℕ) → number < length marks → sum_before marks (16 * (number / 16)) + place ≡ sum_before marks number
+      → IsRanked marks sums number 0 (number / 16) place
+  rank-first number place within counted =
+      let size = level-size marks sums tower 0 (omega arith) in
+      let down = (tower.summary 0 (omega arith)).sums (number / 16) (omega arith) in
+      record {
+        counted = omega (arith, counted, down);
+        within = λ lt. omega arith;
+      }
+
+  pub rank-fits : (m : ℕ) (d : Vec ℕ A) → m < 7 → sum (get_or sums m d).items < 4294967296
+  rank-fits m d lt =
+      let height = tower.height in
+      omega (arith, ap (λ (xs : List ℕ). sum xs) (level-of marks sums m d (omega arith)), few marks sums tower (suc m) (omega arith))
+
+  pub rank-add : (number m at place part : ℕ) (d : Vec ℕ A) → m < 7 → IsRanked marks sums number m at place
+      → sum_before (get_or sums m d).items (16 * (at / 16)) + part ≡ sum_before (get_or sums m d).items at → place + part < 4294967296
+  rank-add number m at place part d lt ranked between =
+      let height = tower.height in
+      let counted = ranked.counted in
+      let here = ap (λ (xs : List ℕ). sum_before xs at) (level-of marks sums m d (omega arith)) in
+      let most = sum_by-take-le (λ (x : ℕ). x) marks number in
+      let all = few marks sums tower 0 (omega arith) in
+      omega (arith, between, here, most, all, counted)
+
+  pub rank-within : (number m at place : ℕ) (d : Vec ℕ A) → m < 7 → IsRanked marks sums number m at place
+      → at ≤ length (get_or sums m d).items
+  rank-within number m at place d lt ranked =
+      let height = tower.height in
+      let within = ranked.within lt in
+      subst (λ (xs : List ℕ). at ≤ length xs) (level-of marks sums m d (omega arith)) within
+
+  rank-step : (number m at place part : ℕ) → m < 7 → IsRanked marks sums number m at place
+      → sum_before (level marks sums (suc m)) (16 * (at / 16)) + part ≡ sum_before (level marks sums (suc m)) at
+      → IsRanked marks sums number (suc m) (at / 16) (place + part)
+  rank-step number m at place part lt ranked between =
+      let within = ranked.within lt in
+      let so_far = ranked.counted in
+      elim (cases_order m 6) [
+        | inl is ↦ at_top is within so_far
+        | inr (inl under) ↦
+            let size = level-size marks sums tower (suc m) (omega arith) in
+            record {
+              counted = omega (arith, so_far, between, (tower.summary (suc m) (omega arith)).sums (at / 16) (omega arith));
+              within = λ lt'. omega arith;
+            }
+        | inr (inr over) ↦ absurd (omega arith)
+      ]
+    where
+      at_top : m ≡ 6 → at ≤ length (level marks sums (suc m))
+          → sum_before (level marks sums (suc m)) at + place ≡ sum_before marks number
+          → IsRanked marks sums number (suc m) (at / 16) (place + part)
+      at_top is within so_far =
+          let short : length (level marks sums (suc m)) < 16 =
+          subst (λ (k : ℕ). length (level marks sums (suc k)) < 16) (sym is) (top marks sums tower) in
+          let height = tower.height in
+          let none = level-past marks sums (suc m) (omega arith) in
+          let empty : sum_before (level marks sums (suc (suc m))) (at / 16) ≡ 0 =
+          ap (λ (xs : List ℕ). sum_before xs (at / 16)) none ∙ sum-nothing (at / 16) in
+          let low = sum-monotone (level marks sums (suc m)) (16 * (at / 16)) 0 (omega arith) in
+          record {
+            counted = omega (arith, so_far, between, empty, low);
+            within = λ lt'. absurd (omega arith);
+          }
+
+  pub rank-next : (number m at place part : ℕ) (d : Vec ℕ A) → m < 7 → IsRanked marks sums number m at place
+      → sum_before (get_or sums m d).items (16 * (at / 16)) + part ≡ sum_before (get_or sums m d).items at
+      → IsRanked marks sums number (m + 1) (at / 16) (place + part)
+  rank-next number m at place part d lt ranked between =
+      let height = tower.height in
+      let e : suc m ≡ m + 1 = omega arith in
+      subst (λ (n : ℕ). IsRanked marks sums number n (at / 16) (place + part)) e
+      (rank-step number m at place part lt ranked
+      (subst (λ (xs : List ℕ). sum_before xs (16 * (at / 16)) + part ≡ sum_before xs at) (sym (level-of marks sums m d (omega arith))) between))
+
+  -- how the search ends
+  pub rank-end : (number m at place : ℕ) → m ≡ 7 → IsRanked marks sums number m at place → place ≡ sum_before marks number
+  rank-end number m at place end ranked =
+      let height = tower.height in
+      let none = level-past marks sums m (omega arith) in
+      let empty : sum_before (level marks sums (suc m)) at ≡ 0 = ap (λ (xs : List ℕ). sum_before xs at) none ∙ sum-nothing at in
+      let counted = ranked.counted in
+      omega (arith, empty, counted)
