@@ -10,7 +10,7 @@ mod tests;
 mod word;
 
 pub use list::{List, NoMemory};
-pub use name::{Name, NameFault, read_name, text_of_digit};
+pub use name::{Name, NameFault, USUAL_DIGITS, read_name, text_of_digit};
 pub use settings::Settings;
 pub use slot::{Offered, Slot, next_cyclic, slot_of};
 pub use word::are_word_bytes;

@@ -15,6 +15,11 @@ use std::cmp::Ordering;
 use std::hash::{Hash, Hasher};
 use std::marker::Model;
 
+/// The usual number of digits of a name. Names of so many are compared, read and written by code that knows their length, for speed alone.
+///
+/// Rule: docs/DECISIONS.md, "Frames and watch lists".
+pub const USUAL_DIGITS: usize = 8;
+
 /// A name of a node or an object: up to 40 digits, each below 16.
 ///
 /// Names are ordered digit by digit. Contracts see the list of the digits.
@@ -162,12 +167,15 @@ impl Name {
 
 /// The byte that a digit is printed as: `0` to `9`, then `a` to `f`.
 ///
+/// It is made by numbers alone, without a branch, since many are printed at once.
+///
 /// Rule: docs/PROTOCOL.md, "Names".
+#[inline(always)]
 pub fn text_of_digit(digit: u8) -> u8
     requires { digit < 16 }
     ensures { result ≡ text_of_digit digit }
 {
-    if digit < 10 { b'0' + digit } else { 87 + digit }
+    b'0' + digit + 39 * u8::from(digit > 9)
 }
 
 // The value of a printed digit, and 16 if the byte is none.
@@ -228,6 +236,9 @@ impl PartialEq for Name {
         if mine.len() != theirs.len() {
             return false;
         }
+        if mine.len() == USUAL_DIGITS {
+            return are_same(&mine[..USUAL_DIGITS], &theirs[..USUAL_DIGITS]);
+        }
         for at in 0..mine.len() {
             if mine[at] != theirs[at] {
                 return false;
@@ -235,6 +246,19 @@ impl PartialEq for Name {
         }
         true
     }
+}
+
+// Whether two names of as many digits are one. No digit ends the pass, so that all are compared at once if their number is known.
+#[inline(always)]
+fn are_same(mine: &[u8], theirs: &[u8]) -> bool
+    requires { length mine.now ≡ length theirs.now }
+    ensures { result ≡ pointwise nat_eq mine.now theirs.now }
+{
+    let mut same = true;
+    for at in 0..mine.len() {
+        same = same & (mine[at] == theirs[at]);
+    }
+    same
 }
 
 impl Eq for Name {

@@ -192,6 +192,7 @@ impl Node {
     /// in place of `NotMine`, `Strange` or the step alone, and ends the node. There is room for a step.
     ///
     /// Rule: docs/PROTOCOL.md, "Steps of a node" and "Refused frames".
+    #[inline(always)]
     pub fn take(&mut self, bytes: &[u8]) -> Result<Turn, NodeFault>
         requires room { IsTrue (has_room_left self.old) }
         ensures outcome { AnswersAs (take_outcome self.old bytes.now) self.old result self.new }

@@ -47,7 +47,9 @@ impl State {
         State::Ended(Sessions::new(alloc))
     }
 
-    // Does as the rule of a frame says that isn't strange.
+    // Does as the rule of a frame says that isn't strange. What changes the status is done by calls that aren't inlined, so that
+    // other frames don't clear room for a second state.
+    #[inline(never)]
     pub(crate) fn take(
         &mut self,
         alloc: Global,
@@ -60,20 +62,51 @@ impl State {
         ensures { IfOk result (λ news. FollowsFrom sender.now.settings sender.now.name self.old self.new frame.now.from frame.now.body sent.old sent.new news) }
     {
         match &frame.body {
-            Body::Done => {
-                let state = mem::replace(self, State::ended(alloc));
-                let (next, news) = state.is_done(alloc, sender, sent)?;
-                *self = next;
-                Ok(news)
-            }
-            Body::Left => {
-                let state = mem::replace(self, State::ended(alloc));
-                let (next, news) = state.is_left(sender, sent, frame.from)?;
-                *self = next;
-                Ok(news)
-            }
+            Body::Done => self.takes_done(alloc, sender, sent),
+            Body::Left => self.takes_left(alloc, sender, sent, frame.from),
             _ => self.stays(sender, sent, frame),
         }
+    }
+
+    // Takes a Done.
+    #[inline(never)]
+    fn takes_done(
+        &mut self,
+        alloc: Global,
+        sender: &Sender,
+        sent: &mut FrameList,
+    ) -> Result<News, NoMemory>
+        requires held { IsHeldBy sender.now.settings sender.now.name self.old }
+        requires sound { IsSoundNode (state_held sender.now.settings sender.now.name self.old) }
+        requires room { has_numbers_left (state_held sender.now.settings sender.now.name self.old) ≡ true }
+        ensures { (from : List ℕ) → IfOk result (λ news. FollowsFrom sender.now.settings sender.now.name self.old self.new from bodies.Done
+            sent.old sent.new news) }
+    {
+        let state = mem::replace(self, State::ended(alloc));
+        let (next, news) = state.is_done(alloc, sender, sent)?;
+        *self = next;
+        Ok(news)
+    }
+
+    // Takes a Left.
+    #[inline(never)]
+    fn takes_left(
+        &mut self,
+        alloc: Global,
+        sender: &Sender,
+        sent: &mut FrameList,
+        from: Name,
+    ) -> Result<News, NoMemory>
+        requires held { IsHeldBy sender.now.settings sender.now.name self.old }
+        requires sound { IsSoundNode (state_held sender.now.settings sender.now.name self.old) }
+        requires room { has_numbers_left (state_held sender.now.settings sender.now.name self.old) ≡ true }
+        ensures { IfOk result (λ news. FollowsFrom sender.now.settings sender.now.name self.old self.new from bodies.Left
+            sent.old sent.new news) }
+    {
+        let state = mem::replace(self, State::ended(alloc));
+        let (next, news) = state.is_left(sender, sent, from)?;
+        *self = next;
+        Ok(news)
     }
 
     // Does as the rule of a frame says after which the status is the same.
@@ -324,6 +357,7 @@ fn core_of(alloc: Global, joined: Joined) -> CoreNode
 }
 
 // What a step gives that has these frames and this news; if memory was refused, the node ends.
+#[inline(always)]
 pub(crate) fn turned(
     alloc: Global,
     state: &mut State,
@@ -345,6 +379,7 @@ pub(crate) fn turned(
 }
 
 // A frame at a node that has ceased.
+#[inline(never)]
 fn take_ceased(
     sessions: &mut Sessions,
     sender: &Sender,

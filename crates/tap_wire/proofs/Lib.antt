@@ -12,5 +12,6 @@ pub mod ListBodies
 pub mod Bodies
 pub mod Lengths
 pub mod Openings
+pub mod RightHeads
 pub mod Frames
 pub mod Loops

@@ -93,7 +93,7 @@ both_false : (a b : Bool) → (a ≡ true → b ≡ false) → (a && b) ≡ fals
 both_false true b h = h refl
 both_false false b h = refl
 
-second_false : (a b : Bool) → (a && b) ≡ false → a ≡ true → b ≡ false
+pub second_false : (a b : Bool) → (a && b) ≡ false → a ≡ true → b ≡ false
 second_false true b h e = h
 second_false false b h e = absurd cc
 

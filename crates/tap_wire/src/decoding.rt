@@ -1,4 +1,4 @@
-ghost use Rattle.std.specs.Prelude.{◌≡◌, ◌≢◌, ◌==◌, ◌+◌, ◌*◌, ◌-◌, ◌≤◌, ◌<◌, ◌↔◌, ◌&&◌, not, length, take, drop, slice_index, All, IsTrue, IfOk, OnOk, IfErr, Ok, Err};
+ghost use Rattle.std.specs.Prelude.{◌≡◌, ◌≢◌, ◌==◌, ◌+◌, ◌*◌, ◌-◌, ◌≤◌, ◌<◌, ◌↔◌, ◌&&◌, not, length, take, drop, slice_index, All, IsTrue, IfOk, OnOk, IfErr, IfSome, Ok, Err};
 ghost use Rattle.std.specs.Bool.{OnTrue};
 ghost use Rattle.tap_name.specs.Name.{IsName};
 ghost use Rattle.tap_name.specs.Settings.{AreWithinLimits};
@@ -13,26 +13,26 @@ ghost use Rattle.tap_wire.specs.Names.{sender_in, receiver_in, HeadGives};
 ghost use Rattle.tap_wire.specs.Spelling.{IsFrame, IsTyped, spelling};
 
 use crate::fault::{HeadFault, WireFault};
-use crate::fields::{digits_at, name_of, u16_at};
+use crate::fields::{are_below, bad_digit_unless, digits_at, name_of, u16_at};
 use crate::frame::{Frame, Head};
 use crate::kind::Kind;
-use crate::layout::{MOST_SHORT_DIGITS, body_start, head_len, is_long, version_of};
-use crate::lists::{are_below, bad_digit_unless};
+use crate::layout::{body_start, head_len, is_long, version_of};
 use crate::opening::Opening;
 use crate::reading::body_at;
 use std::alloc::Global;
-use tap_name::{Name, Settings};
+use tap_name::{Name, Settings, USUAL_DIGITS};
 
 // Whether each digit of the two names is below the base.
+#[inline(always)]
 fn are_names(settings: &Settings, bytes: &[u8], start: usize) -> bool
     requires { start + 2 * settings.now.digits ≤ length bytes.now }
     ensures sender { OnTrue result (All (λ d. d < settings.now.base) (take settings.now.digits (drop start bytes.now))) }
     ensures receiver { OnTrue result (All (λ d. d < settings.now.base) (take settings.now.digits (drop (start + settings.now.digits) bytes.now))) }
 {
     let digits = settings.digits() as usize;
-    if digits == MOST_SHORT_DIGITS as usize {
-        // The usual number. Their length is known here, so that all sixteen bytes are compared at once.
-        return are_below(settings.base(), &bytes[start..start + 16]);
+    if digits == USUAL_DIGITS {
+        // If they have as many digits as usual, all are compared at once.
+        return are_below(settings.base(), &bytes[start..start + 2 * USUAL_DIGITS]);
     }
     are_below(settings.base(), &bytes[start..start + 2 * digits])
 }
@@ -107,8 +107,41 @@ fn has_other_count(settings: &Settings, bytes: &[u8]) -> bool
     is_long(settings) && bytes[4] != settings.digits()
 }
 
-// The kind, or the first refusal of a head. The two names are looked at in place, and made by who wants them.
-fn kind_at(settings: &Settings, bytes: &[u8]) -> Result<Kind, HeadFault>
+// The kind, if the head is right and the two names are names.
+#[inline(never)]
+fn right_kind(settings: &Settings, bytes: &[u8]) -> Option<Kind>
+    ensures value { IfSome result (λ kind. HeadGives settings.now bytes.now (Ok kind) (opening_of settings.now bytes.now)) }
+    ensures valid { AreWithinLimits settings.now }
+    ensures long { IfSome result (λ kind. IsTrue (is_length settings.now kind (length bytes.now - body_start settings.now))) }
+    ensures within { IfSome result (λ _. body_start settings.now ≤ length bytes.now) }
+{
+    let head = head_len(settings);
+    if bytes.len() < head {
+        return None;
+    }
+    if bytes[0] != version_of(settings) {
+        return None;
+    }
+    let kind = Kind::of_code(bytes[1])?;
+    let len = u16_at(bytes, 2) as usize;
+    if !kind.has_length(settings, len) {
+        return None;
+    }
+    if has_other_count(settings, bytes) {
+        return None;
+    }
+    if bytes.len() != body_start(settings) + len {
+        return None;
+    }
+    if !are_names(settings, bytes, head) {
+        return None;
+    }
+    Some(kind)
+}
+
+// The kind, or the first refusal of a head: the tests one after the other.
+#[inline(never)]
+fn kind_or_refusal(settings: &Settings, bytes: &[u8]) -> Result<Kind, HeadFault>
     ensures value { HeadGives settings.now bytes.now result (opening_of settings.now bytes.now) }
     ensures valid { AreWithinLimits settings.now }
     ensures long { IfOk result (λ found. IsTrue (is_length settings.now found (length bytes.now - body_start settings.now))) }
@@ -124,6 +157,21 @@ fn kind_at(settings: &Settings, bytes: &[u8]) -> Result<Kind, HeadFault>
     match Kind::of_code(bytes[1]) {
         None => Err(HeadFault::BadKind(bytes[1])),
         Some(kind) => sized(settings, kind, bytes),
+    }
+}
+
+// The kind, or the first refusal of a head, which is looked for if the head isn't right. The two names are looked at in place, and
+// made by who wants them.
+#[inline(always)]
+fn kind_at(settings: &Settings, bytes: &[u8]) -> Result<Kind, HeadFault>
+    ensures value { HeadGives settings.now bytes.now result (opening_of settings.now bytes.now) }
+    ensures valid { AreWithinLimits settings.now }
+    ensures long { IfOk result (λ found. IsTrue (is_length settings.now found (length bytes.now - body_start settings.now))) }
+    ensures within { IfOk result (λ _. body_start settings.now ≤ length bytes.now) }
+{
+    match right_kind(settings, bytes) {
+        Some(kind) => Ok(kind),
+        None => kind_or_refusal(settings, bytes),
     }
 }
 
@@ -147,6 +195,7 @@ fn receiver_in(settings: &Settings, bytes: &[u8]) -> Name
 }
 
 // The kind and the two names, or the first refusal of a head.
+#[inline(always)]
 fn opening_of(settings: &Settings, bytes: &[u8]) -> Result<Opening, HeadFault>
     ensures value { result ≡ opening_of settings.now bytes.now }
     ensures valid { AreWithinLimits settings.now }
@@ -163,6 +212,7 @@ fn opening_of(settings: &Settings, bytes: &[u8]) -> Result<Opening, HeadFault>
 /// which it doesn't read. It takes no memory.
 ///
 /// Rule: docs/FORMATS.md, "Frames".
+#[inline(always)]
 pub fn decode_head(settings: &Settings, bytes: &[u8]) -> Result<Head, HeadFault>
     ensures value { result ≡ head_of settings.now bytes.now }
     // Of bytes that are a frame it is that frame's head.

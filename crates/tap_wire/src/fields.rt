@@ -1,4 +1,5 @@
-ghost use Rattle.std.specs.Prelude.{◌≡◌, ◌+◌, ◌*◌, ◌-◌, ◌/◌, ◌≤◌, ◌<◌, nat_le, length, take, drop, position, slice_index};
+ghost use Rattle.std.specs.Prelude.{◌≡◌, ◌+◌, ◌*◌, ◌-◌, ◌/◌, ◌≤◌, ◌<◌, nat_le, length, take, drop, position, slice_index, All};
+ghost use Rattle.std.specs.Bool.{OnTrue};
 ghost use Rattle.tap_name.specs.Name.{IsName};
 ghost use Rattle.tap_name.specs.declared.slot.Slot.{Slot};
 ghost use Rattle.tap_wire.specs.declared.fault.Broken.{Broken};
@@ -6,7 +7,7 @@ ghost use Rattle.tap_wire.specs.Fields.{number_at, session_at, level_at, flag_at
 
 use crate::fault::Broken;
 use byteorder::{BigEndian, ByteOrder};
-use tap_name::{Name, Settings};
+use tap_name::{Name, Settings, USUAL_DIGITS};
 
 // The number of four bytes from a place on.
 pub(crate) fn u32_at(bytes: &[u8], place: usize) -> u32
@@ -73,15 +74,53 @@ pub(crate) fn digits_at<'a>(settings: &Settings, bytes: &'a [u8], place: usize) 
 }
 
 // The place of the first digit that isn't below the base.
-#[inline(always)]
-pub(crate) fn bad_digit(settings: &Settings, digits: &[u8]) -> Option<usize>
+fn bad_digit(settings: &Settings, digits: &[u8]) -> Option<usize>
     ensures { result ≡ position (λ d. nat_le settings.now.base d) digits.now }
 {
     let base = settings.base();
     digits.iter().position(|digit| *digit >= base)
 }
 
-// The name of digits that are one.
+// Whether all bytes are below a bound. No byte ends the pass, so that many are compared at a time.
+#[inline(always)]
+pub(crate) fn are_below(bound: u8, bytes: &[u8]) -> bool
+    ensures { OnTrue result (All (λ b. b < bound) bytes.now) }
+{
+    let mut greatest = 0;
+    for byte in bytes {
+        greatest = greatest.max(*byte);
+    }
+    greatest < bound
+}
+
+// Whether each digit is below the base. If there are as many as usual, all are compared at once.
+#[inline(always)]
+fn are_digits(settings: &Settings, digits: &[u8]) -> bool
+    ensures { OnTrue result (All (λ d. d < settings.now.base) digits.now) }
+{
+    if digits.len() == USUAL_DIGITS {
+        return are_below(settings.base(), &digits[..USUAL_DIGITS]);
+    }
+    are_below(settings.base(), digits)
+}
+
+// The place of the first digit that isn't below the base, which needs no look if all are known to be.
+#[inline(always)]
+pub(crate) fn bad_digit_unless(
+    are_digits: bool,
+    settings: &Settings,
+    digits: &[u8],
+) -> Option<usize>
+    requires { OnTrue are_digits (All (λ d. d < settings.now.base) digits.now) }
+    ensures { result ≡ position (λ d. nat_le settings.now.base d) digits.now }
+{
+    if are_digits {
+        return None;
+    }
+    bad_digit(settings, digits)
+}
+
+// The name of digits that are one. If there are as many as usual, one move copies them.
 #[inline(always)]
 pub(crate) fn name_of(settings: &Settings, digits: &[u8]) -> Name
     requires { IsName settings.now digits.now }
@@ -90,6 +129,9 @@ pub(crate) fn name_of(settings: &Settings, digits: &[u8]) -> Name
     // Its digits are few enough, and below the base, which is at most 16.
     let base = settings.base();
     prove!(base <= 16);
+    if digits.len() == USUAL_DIGITS {
+        return Name::of(&digits[..USUAL_DIGITS]);
+    }
     Name::of(digits)
 }
 
@@ -99,7 +141,7 @@ pub(crate) fn name_at(settings: &Settings, bytes: &[u8], place: usize) -> Result
     ensures { result ≡ name_at settings.now place bytes.now }
 {
     let digits = digits_at(settings, bytes, place);
-    match bad_digit(settings, digits) {
+    match bad_digit_unless(are_digits(settings, digits), settings, digits) {
         None => Ok(name_of(settings, digits)),
         Some(at) => Err(Broken { at: place + at }),
     }

@@ -119,28 +119,23 @@ impl Kind {
     }
 
     // Whether a body of this kind may have so many bytes.
+    #[inline(always)]
     pub(crate) fn has_length(self, settings: &Settings, len: usize) -> bool
         ensures { result ≡ is_length settings.now self len }
     {
-        let fixed = self.fixed_len(settings);
         let digits = settings.digits() as usize;
         match self {
-            Kind::Tell => is_parts(len, fixed, SLOT_LEN, most_slots(settings)),
-            Kind::Hello => is_parts(len, fixed, link_len(settings), MOST_LINKS),
-            Kind::Answer | Kind::Leave => len == fixed || len == digits + fixed,
-            Kind::Cast => len >= fixed + 1 && len <= fixed + MOST_LETTERS,
-            Kind::Seek
-            | Kind::Heard
-            | Kind::Ack
-            | Kind::Done
-            | Kind::Release
-            | Kind::Link
-            | Kind::Lay
-            | Kind::Find
-            | Kind::Left
-            | Kind::Gone
-            | Kind::Forget
-            | Kind::CastAck => len == fixed,
+            Kind::Seek => len == digits,
+            Kind::Tell => is_parts(len, digits + 8, SLOT_LEN, most_slots(settings)),
+            Kind::Hello => is_parts(len, 5, link_len(settings), MOST_LINKS),
+            Kind::Heard | Kind::Ack | Kind::CastAck => len == 4,
+            Kind::Done | Kind::Release | Kind::Left | Kind::Gone | Kind::Forget => len == 0,
+            Kind::Link => len == 5,
+            Kind::Lay => len == 2 * digits + 6,
+            Kind::Find => len == 2 * digits + 5,
+            Kind::Answer => len == 5 || len == digits + 5,
+            Kind::Leave => len == 1 || len == digits + 1,
+            Kind::Cast => len >= 12 && len <= 11 + MOST_LETTERS,
         }
     }
 }

@@ -1,4 +1,4 @@
-ghost use Rattle.std.specs.Prelude.{◌≡◌, ◌+◌, ◌*◌, ◌-◌, ◌/◌, ◌≤◌, ◌<◌, nat_le, length, take, drop, position, All, None, Ok, Err, IfOk, OnOk, IfErr};
+ghost use Rattle.std.specs.Prelude.{◌≡◌, ◌+◌, ◌*◌, ◌-◌, ◌/◌, ◌≤◌, ◌<◌, length, take, drop, All, None, Ok, Err, IfOk, OnOk, IfErr};
 ghost use Rattle.std.specs.Bool.{OnTrue};
 ghost use Rattle.std.specs.Option.{option_copied};
 ghost use Rattle.std.specs.Ordering.{nat_cmp, is_lt};
@@ -12,7 +12,7 @@ ghost use Rattle.tap_wire.specs.Reading.{BodyFails, BodyGives};
 
 use crate::bytes::Bytes;
 use crate::fault::{BodyFault, Broken};
-use crate::fields::{bad_digit, digits_at, flag_at, name_of};
+use crate::fields::{are_below, bad_digit_unless, digits_at, flag_at, name_of};
 use crate::layout::{SLOT_LEN, link_len};
 use std::alloc::Global;
 use tap_name::{List, Offered, Settings, Slot, are_word_bytes};
@@ -108,34 +108,6 @@ pub(crate) fn watch_at(
         place += SLOT_LEN;
     }
     Ok(Watch::from_vec(slots))
-}
-
-// Whether all bytes are below a bound. No byte ends the pass, so that many are compared at a time.
-#[inline(always)]
-pub(crate) fn are_below(bound: u8, bytes: &[u8]) -> bool
-    ensures { OnTrue result (All (λ b. b < bound) bytes.now) }
-{
-    let mut greatest = 0;
-    for byte in bytes {
-        greatest = greatest.max(*byte);
-    }
-    greatest < bound
-}
-
-// The place of the first digit that isn't below the base, which needs no look if all are known to be.
-#[inline(always)]
-pub(crate) fn bad_digit_unless(
-    are_digits: bool,
-    settings: &Settings,
-    digits: &[u8],
-) -> Option<usize>
-    requires { OnTrue are_digits (All (λ d. d < settings.now.base) digits.now) }
-    ensures { result ≡ position (λ d. nat_le settings.now.base d) digits.now }
-{
-    if are_digits {
-        return None;
-    }
-    bad_digit(settings, digits)
 }
 
 // Whether one name comes before another: by the first digit in which they differ, or else as the shorter one.

@@ -7,7 +7,7 @@ ghost use Rattle.tap_wire.specs.Writing.{HasRoom, Appends};
 
 use crate::frame::Body;
 use byteorder::{BigEndian, ByteOrder};
-use tap_name::{List, Name, Offered, Slot};
+use tap_name::{List, Name, Offered, Slot, USUAL_DIGITS};
 use tap_watch::Watch;
 
 pub(crate) fn put_byte(out: &mut Vec<u8>, byte: u8)
@@ -52,11 +52,17 @@ fn put_flag(out: &mut Vec<u8>, on: bool)
     put_byte(out, if on { 1 } else { 0 });
 }
 
+// A name. If it has as many digits as usual, one move copies them.
+#[inline(always)]
 pub(crate) fn put_name(out: &mut Vec<u8>, name: &Name)
     requires { HasRoom out.old name.now }
     ensures { Appends out.old out.new name.now }
 {
-    put_bytes(out, name.as_slice());
+    let digits = name.as_slice();
+    if digits.len() == USUAL_DIGITS {
+        return put_bytes(out, &digits[..USUAL_DIGITS]);
+    }
+    put_bytes(out, digits);
 }
 
 // A flag, and the name if there is one.

@@ -2,15 +2,15 @@ use Rattle.std.proofs.Common.{arith}
 use Rattle.tap_wire.proofs.Pieces.{below_pair}
 use Rattle.tap_wire.proofs.decoding.are_names.Goals as goal
 
-pub returns-then-digits-clause-sender : goal.returns-then-digits-clause-sender
-returns-then-digits-clause-sender c =
+pub returns-then-digits-eq-USUAL_DIGITS-clause-sender : goal.returns-then-digits-eq-USUAL_DIGITS-clause-sender
+returns-then-digits-eq-USUAL_DIGITS-clause-sender c =
     (below_pair c.are_below.result c.args.settings.now.base c.args.start _ c.args.settings.now.digits c.args.bytes.now
-    (omega (arith, c.if-digits.true, c.digits-digits.ensures.value)) (rw c.base.ensures.value at c.are_below.ensures)).0
+    (omega (arith, c.if-digits-eq-USUAL_DIGITS.true, c.digits-digits.ensures.value)) (rw c.base.ensures.value at c.are_below.ensures)).0
 
-pub returns-then-digits-clause-receiver : goal.returns-then-digits-clause-receiver
-returns-then-digits-clause-receiver c =
+pub returns-then-digits-eq-USUAL_DIGITS-clause-receiver : goal.returns-then-digits-eq-USUAL_DIGITS-clause-receiver
+returns-then-digits-eq-USUAL_DIGITS-clause-receiver c =
     (below_pair c.are_below.result c.args.settings.now.base c.args.start _ c.args.settings.now.digits c.args.bytes.now
-    (omega (arith, c.if-digits.true, c.digits-digits.ensures.value)) (rw c.base.ensures.value at c.are_below.ensures)).1
+    (omega (arith, c.if-digits-eq-USUAL_DIGITS.true, c.digits-digits.ensures.value)) (rw c.base.ensures.value at c.are_below.ensures)).1
 
 pub returns-clause-sender : goal.returns-clause-sender
 returns-clause-sender c =

@@ -5,4 +5,4 @@ use Rattle.tap_wire.proofs.fields.name_at.Goals as goal
 pub name_of-requires : goal.name_of-requires
 name_of-requires c =
     are_name c.args.settings.now c.args.bytes.now c.args.place c.digits_at-digits.result.now c.digits_at-digits.ensures c.requires
-    (sym c.bad_digit.ensures ∙ c.in-None.is)
+    (sym c.bad_digit_unless.ensures ∙ c.in-None.is)

@@ -2,7 +2,7 @@ use Rattle.std.proofs.Common.{◌≤◌, take, get_or, All, nat_lt, arith, refl,
 use Rattle.std.proofs.lemmas.List.{take_all}
 use Rattle.std.proofs.lemmas.List.Elements.{All-more, All-weaker}
 use Rattle.tap_wire.proofs.Pieces.{greater_of, below_greatest}
-use Rattle.tap_wire.proofs.lists.are_below.Goals as goal
+use Rattle.tap_wire.proofs.fields.are_below.Goals as goal
 
 pub loop-byte-preserved : goal.loop-byte-preserved
 loop-byte-preserved c =

@@ -1,6 +1,6 @@
 use Rattle.std.proofs.Common.{sym}
 use Rattle.tap_wire.proofs.Pieces.{none_bad}
-use Rattle.tap_wire.proofs.lists.bad_digit_unless.Goals as goal
+use Rattle.tap_wire.proofs.fields.bad_digit_unless.Goals as goal
 
 pub returns-then-are_digits : goal.returns-then-are_digits
 returns-then-are_digits c =
