@@ -8,3 +8,4 @@ pub mod KeptLevels
 pub mod Telling
 pub mod Offers
 pub mod Regions
+mod Unlinked

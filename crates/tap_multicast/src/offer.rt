@@ -54,6 +54,9 @@ fn push_range(
     ensures { OnOk result (offer.new.items
         ≡ offer.old.items ++ flat_map (offered_in table.now watch.now joiner) (slots_in range)) }
 {
+    if !table.may_have_links_from(range.level as usize) {
+        return Ok(());
+    }
     for digit in range.from..range.to {
         let slot = Slot {
             level: range.level,

@@ -39,6 +39,9 @@ fn push_range(
     ensures { OnOk result (targets.new.items
         ≡ targets.old.items ++ flat_map (told_in table.now cover.now) (slots_in range)) }
 {
+    if !table.may_have_links_from(range.level as usize) {
+        return Ok(());
+    }
     for digit in range.from..range.to {
         let slot = Slot {
             level: range.level,

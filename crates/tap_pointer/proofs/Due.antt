@@ -40,7 +40,7 @@ due_apart on laid wanted hop due same =
     let wrong : None ≡ Some hop = sym (none_due on wanted) ∙ ap (λ l. hop_due on l wanted) (sym same) ∙ due in absurd (cc)
 
 -- to any other pair one is
-same_hop : (a b : Hop) → is_same_hop a b ≡ true → a ≡ b
+pub same_hop : (a b : Hop) → is_same_hop a b ≡ true → a ≡ b
 same_hop a b same =
     let parts = and_parts (is_to a b) (a.level == b.level) same in
     let to : a.to ≡ b.to = name_cmp-equal a.to b.to (sym (texts_ties a.to b.to) ∙ parts.0) in
@@ -66,7 +66,7 @@ module _ (e : Pair × PairState) (wanted : Option Hop) where
   one_due on None is = All-nil DueHere
   one_due on (Some hop) is = All-cons DueHere (record { pair = e.0; hop = hop; on = on }) [] (refl, is) (All-nil DueHere)
 
-  both_due : All DueHere (layings e.0 e.1.laid wanted)
+  pub both_due : All DueHere (layings e.0 e.1.laid wanted)
   both_due =
       All-append DueHere (laying_at e.0 false (told_off e.1.laid wanted)) (laying_at e.0 true (told_on e.1.laid wanted))
       (one_due false (told_off e.1.laid wanted) refl) (one_due true (told_on e.1.laid wanted) refl)
@@ -122,7 +122,7 @@ each_found (e ∷ pairs) sorted =
         (later es above.1 (All-tail (λ x. state_among pairs x.0 ≡ x.1) x es all))
 
 -- what holds of each laying holds of its Lay
-All-lays_numbered : (P : Lay → Type 0) (Q : Laying → Type 0) → ((version : ℕ) (l : Laying) → Q l → P (lay_numbered version l))
+pub All-lays_numbered : (P : Lay → Type 0) (Q : Laying → Type 0) → ((version : ℕ) (l : Laying) → Q l → P (lay_numbered version l))
     → (last : ℕ) (ls : List Laying) → All Q ls → All P (lays_numbered last ls)
 All-lays_numbered P Q from last [] all = All-nil P
 All-lays_numbered P Q from last (l ∷ ls) all =

@@ -190,11 +190,15 @@ module _ (pairs : List (Pair × PairState)) (pair : Pair) (sorted : IsStrictlySo
     pub count_to : (most : ℕ) → most ≡ length new → held_or_laid + (if change.is then 1 else 0) ≤ most + (if change.was then 1 else 0)
     count_to most all = omega (arith, was_one, is_one, counted, count_now, count-most new, all)
 
+    pub count_put : (now : ℕ) → now + (if change.was then 1 else 0) ≡ held_or_laid + (if change.is then 1 else 0)
+        → now ≡ held_or_laid_count new
+    count_put now counted_now = omega (arith, was_one, is_one, counted, count_now, counted_now)
+
     pub put_keeps : (owner : List ℕ) (now : ℕ) → now + (if change.was then 1 else 0) ≡ held_or_laid + (if change.is then 1 else 0)
         → All (IsPairState owner) pairs → IsPairState owner (pair, state) → All (IsPairState owner) new × (now ≡ held_or_laid_count new)
     put_keeps owner now counted_now all known = (
       subst (All (IsPairState owner)) (sym after) (known-put owner pair pairs state all known),
-      omega (arith, was_one, is_one, counted, count_now, counted_now),
+      count_put now counted_now,
     )
 
 -- what laying a known pair did: the change, and the pairs afterwards

@@ -12,7 +12,7 @@ use Rattle.tap_pointer.specs.declared.laying.Laying.{Laying}
 use Rattle.tap_pointer.specs.declared.pair.Pair.{Pair}
 use Rattle.tap_pointer.specs.declared.state.PairState.{PairState}
 use Rattle.tap_pointer.specs.Pointers.{is_held, is_held_or_laid, held_or_laid_count, with_laid}
-use Rattle.tap_pointer.specs.Reconcile.{AreLaidUnlessApart, hop_after, hop_from, is_to, laying_at, layings, layings_to_wanted, lays_numbered, may_be_apart, told_off, told_on, wanted_hop, with_wanted}
+use Rattle.tap_pointer.specs.Reconcile.{hop_from, is_to, laying_at, layings, layings_to_wanted, lays_numbered, told_off, told_on, wanted_hop, with_wanted}
 use Rattle.tap_pointer.proofs.Levels.{no_level}
 
 -- the numbers of more Lays follow those of the first
@@ -101,20 +101,6 @@ module _ (t : TableValue) where
 
   pub stays : (e : Pair × PairState) → e.1.laid ≡ wanted_hop t e → with_wanted t e ≡ e
   stays e laid = ap (λ hop. (e.0, with_laid e.1 hop)) (sym laid)
-
-  -- if each pair that is not laid as wanted may be laid elsewhere, all are laid as wanted afterwards
-  pub hops_after : (level : Option ℕ) (pairs : List (Pair × PairState)) → AreLaidUnlessApart t level pairs
-      → map (λ e. (e.0, with_laid e.1 (hop_after t level e))) pairs ≡ map (with_wanted t) pairs
-  hops_after level [] all = refl
-  hops_after level (e ∷ pairs) all =
-      let here : hop_after t level e ≡ wanted_hop t e =
-      elim (cases_Bool (may_be_apart level e.1)) [
-        | inl may ↦ rw may refl
-        | inr kept ↦ rw kept (All-head (λ e. may_be_apart level e.1 ≡ false → e.1.laid ≡ wanted_hop t e) e pairs all kept)
-      ] in
-      let rest = hops_after level pairs (All-tail (λ e. may_be_apart level e.1 ≡ false → e.1.laid ≡ wanted_hop t e) e pairs all) in
-      ap (λ hop. (e.0, with_laid e.1 hop) ∷ map (λ e. (e.0, with_laid e.1 (hop_after t level e))) pairs) here
-      ∙ ap (λ more. with_wanted t e ∷ more) rest
 
   pub none_if_laid : (pairs : List (Pair × PairState)) → All (λ e. e.1.laid ≡ wanted_hop t e) pairs
       → (layings_to_wanted t pairs ≡ []) × (map (with_wanted t) pairs ≡ pairs)

@@ -9,4 +9,5 @@ pub mod Levels
 pub mod Lookups
 pub mod NamesHeld
 pub mod OnePair
-pub mod Retained
+pub mod Relaying
+pub mod Telling

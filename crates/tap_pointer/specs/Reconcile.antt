@@ -14,8 +14,9 @@ use Rattle.tap_pointer.specs.declared.lay.Lay.{Lay}
 use Rattle.tap_pointer.specs.declared.laying.Laying.{Laying}
 use Rattle.tap_pointer.specs.declared.pair.Pair.{Pair}
 use Rattle.tap_pointer.specs.declared.state.PairState.{PairState}
+use Rattle.tap_pointer.specs.declared.state.Pointer.{Pointer}
 use Rattle.tap_pointer.specs.Pair.{pair_cmp}
-use Rattle.tap_pointer.specs.Pointers.{PointersValue, is_held_or_laid, level_held, with_laid}
+use Rattle.tap_pointer.specs.Pointers.{PointersValue, is_held_or_laid, level_held, pair_of, with_laid, with_lay}
 
 -- the hop of a next hop; the root has none
 abbrev pub hop_of : Next → Option Hop
@@ -86,6 +87,27 @@ layings_to_none pairs = flat_map (λ e. layings e.0 e.1.laid None) pairs
 abbrev pub with_wanted : TableValue → Pair × PairState → Pair × PairState
 with_wanted t e = (e.0, with_laid e.1 (wanted_hop t e))
 
+-- where a Lay tells that its pair is laid: at its receiver, or nowhere
+abbrev pub hop_told : Lay → Option Hop
+hop_told lay = if lay.on then Some (record { to = lay.to; level = lay.level }) else None
+
+-- the pairs once that of a Lay is laid as this tells, if it is among them, and once those of these Lays are, in their order
+abbrev pub laid_by : List (Pair × PairState) → Lay → List (Pair × PairState)
+laid_by [] lay = []
+laid_by (e ∷ pairs) lay =
+    if is_at (pair_cmp (pair_of lay.object lay.server)) e.0
+    then (e.0, with_laid e.1 (hop_told lay)) ∷ pairs
+    else e ∷ laid_by pairs lay
+
+abbrev pub laid_by_all : List (Pair × PairState) → List Lay → List (Pair × PairState)
+laid_by_all pairs [] = pairs
+laid_by_all pairs (lay ∷ lays) = laid_by_all (laid_by pairs lay) lays
+
+-- what is known of a pair once a Lay of it from a sender is taken, and it is then laid as wanted
+abbrev pub relaid : TableValue → Pair → PairState → List ℕ → ℕ → Pointer → PairState
+relaid t pair state from version pointer =
+    let taken = with_lay state from version pointer in with_laid taken (wanted_hop t (pair, taken))
+
 -- Reconciling: the Lays, with the numbers after this one, and the pointers afterwards.
 abbrev pub reconcile_lays : TableValue → ℕ → PointersValue → List Lay
 reconcile_lays t last p = lays_numbered last (layings_to_wanted t p.pairs)
@@ -128,10 +150,6 @@ AreLaidBeside t level p = All (λ e. passes level e.1 ≡ false → e.1.laid ≡
 abbrev pub may_be_apart : Option ℕ → PairState → Bool
 may_be_apart None state = true
 may_be_apart (Some level) state = passes level state
-
--- where a pair is laid on to afterwards if those pairs are laid as wanted
-abbrev pub hop_after : TableValue → Option ℕ → Pair × PairState → Option Hop
-hop_after t level e = if may_be_apart level e.1 then wanted_hop t e else e.1.laid
 
 abbrev pub AreLaidUnlessApart : TableValue → Option ℕ → List (Pair × PairState) → Type 0
 AreLaidUnlessApart t level pairs = All (λ e. may_be_apart level e.1 ≡ false → e.1.laid ≡ wanted_hop t e) pairs

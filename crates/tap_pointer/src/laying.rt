@@ -1,7 +1,7 @@
 ghost use Rattle.std.specs.Prelude.{◌≡◌, ◌+◌, ◌≤◌, true, false, ◌++◌, length, All, Some, OnOk};
 ghost use Rattle.tap_name.specs.Name.{IsName};
 ghost use Rattle.tap_pointer.specs.Pointers.{is_held_or_laid};
-ghost use Rattle.tap_pointer.specs.Reconcile.{hop_after, hop_of, is_same_hop, is_to, laying_at, layings, lays_numbered, may_be_apart, passes, told_off, told_on, turns_off, wanted_hop};
+ghost use Rattle.tap_pointer.specs.Reconcile.{hop_of, is_same_hop, is_to, laying_at, layings, lays_numbered, may_be_apart, passes, told_off, told_on, turns_off, wanted_hop};
 
 use crate::hop::Hop;
 use crate::lay::Lay;
@@ -47,34 +47,6 @@ pub(crate) fn is_laid_so(laid: &Option<Hop>, wanted: &Option<Hop>) -> bool
     laid == wanted
 }
 
-// Whether a pair is laid where it is wanted.
-fn is_laid_as_wanted(table: &Table, pair: &Pair, state: &PairState) -> bool
-    requires name { is_held_or_laid state.now ≡ true → IsName table.now.settings pair.now.object }
-    requires levels { All (λ r. r.value.level ≤ length pair.now.object) state.now.registers }
-    ensures { result ≡ true → state.now.laid ≡ wanted_hop table.now (pair.now, state.now) }
-{
-    let wanted = wanted_hop(table, pair, state);
-    is_laid_so(&state.laid, &wanted)
-}
-
-// Whether a pair is laid where it is wanted, which it is unless it may be laid elsewhere.
-pub(crate) fn is_laid_or_kept(
-    table: &Table,
-    pair: &Pair,
-    state: &PairState,
-    level: Option<u8>,
-) -> bool
-    requires name { is_held_or_laid state.now ≡ true → IsName table.now.settings pair.now.object }
-    requires levels { All (λ r. r.value.level ≤ length pair.now.object) state.now.registers }
-    requires kept { may_be_apart level state.now ≡ false → state.now.laid ≡ wanted_hop table.now (pair.now, state.now) }
-    ensures { result ≡ true → state.now.laid ≡ wanted_hop table.now (pair.now, state.now) }
-{
-    if !may_be_apart(level, state) {
-        return true;
-    }
-    is_laid_as_wanted(table, pair, state)
-}
-
 // Whether a pair may be laid elsewhere than wanted: if a level is given, its way passes this level.
 pub(crate) fn may_be_apart(level: Option<u8>, state: &PairState) -> bool
     ensures { result ≡ may_be_apart level state.now }
@@ -83,23 +55,6 @@ pub(crate) fn may_be_apart(level: Option<u8>, state: &PairState) -> bool
         Some(level) => passes(level, state),
         None => true,
     }
-}
-
-// Where a pair is laid on to afterwards: where it is wanted if it may be laid elsewhere, and else where it is.
-pub(crate) fn hop_after(
-    table: &Table,
-    pair: &Pair,
-    state: &PairState,
-    level: Option<u8>,
-) -> Option<Hop>
-    requires name { is_held_or_laid state.now ≡ true → IsName table.now.settings pair.now.object }
-    requires levels { All (λ r. r.value.level ≤ length pair.now.object) state.now.registers }
-    ensures { result ≡ hop_after table.now level (pair.now, state.now) }
-{
-    if !may_be_apart(level, state) {
-        return state.laid;
-    }
-    wanted_hop(table, pair, state)
 }
 
 // Whether a pair is laid on to a hop that goes on from a level or a lower one.

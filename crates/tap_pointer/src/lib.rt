@@ -12,6 +12,7 @@ mod lay;
 mod laying;
 mod pair;
 mod pointers;
+mod relaid;
 mod state;
 #[cfg(test)]
 mod tests;

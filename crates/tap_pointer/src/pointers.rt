@@ -1,4 +1,5 @@
 ghost use Rattle.std.specs.Prelude.{◌≡◌, ◌+◌, ◌*◌, ◌<◌, ◌≤◌, if◌then◌else◌, not, length, map, slice_get, Some, IfOk, OnOk, OnErr};
+ghost use Rattle.tap_name.specs.Name.{IsName};
 ghost use Rattle.tap_pointer.specs.Pointers.{IsPointers, all_withdrawn, is_news, lay_applied, least_server, no_pointers, own_pair, pair_of, pairs_held, pointer_at, published, owner_publishes, held_or_laid_count, withdrawn};
 ghost use Rattle.tap_pointer.specs.Reconcile.{AreLaid, AreLaidBeside, AreLaidBut, AreLaidUnlessApart, AreNamesHeld, clear_lays, cleared, reconcile_lays, reconciled};
 
@@ -7,10 +8,10 @@ use crate::held::Held;
 use crate::lay::Lay;
 use crate::laying::{is_laid_so, push_layings, wanted_hop};
 use crate::pair::Pair;
+use crate::relaid::take_and_lay;
 use crate::state::{PairState, Pointer};
 use crate::walk::{
-    are_laid, held_at, held_count, lay_all, lays_to_none, lays_to_wanted, least_server,
-    withdraw_all,
+    held_at, held_count, lay_as_told, lays_to_none, lays_to_wanted, least_server, withdraw_all,
 };
 use std::alloc::Global;
 use std::collections::BTreeMap;
@@ -213,12 +214,13 @@ impl Pointers {
         ensures stamped { IfOk result (λ lays. stamp.new ≡ stamp.old + length lays) }
         ensures laid { OnOk result (AreLaid table.now self.new) }
     {
-        if are_laid(&self.pairs, table, level) {
-            return Ok(List::from_vec(Vec::new(self.alloc)));
-        }
+        // The contract of this call says that the pairs ascend.
+        let _ordered = self.pairs.len();
         let lays = lays_to_wanted(self.alloc, &self.pairs, table, stamp, level)?;
-        lay_all(&mut self.pairs, table, level);
-        self.held_or_laid = held_or_laid_count(&self.pairs);
+        if lays.is_empty() {
+            return Ok(List::from_vec(lays));
+        }
+        self.held_or_laid = lay_as_told(&mut self.pairs, &lays, self.held_or_laid);
         Ok(List::from_vec(lays))
     }
 
@@ -260,6 +262,47 @@ impl Pointers {
         push_layings(&mut lays, stamp, &pair, &state.laid, &wanted)?;
         let change = lay(&mut self.pairs, &pair, &wanted).unwrap();
         self.held_or_laid = change.count_after(self.held_or_laid, self.pairs.len());
+        Ok(List::from_vec(lays))
+    }
+
+    /// Does what `apply_lay` and then `reconcile_pair` do: takes a Lay of a pair from a sender, and gives the Lays that it
+    /// takes to have the pair laid as wanted. The pair is looked up once.
+    ///
+    /// Each pair is laid as wanted before. The object is a name of the table's settings, the level is from 1 to the number of
+    /// digits, and the stamp has two numbers left. Once memory was refused, the pointers are used no more.
+    ///
+    /// Rule: docs/PROTOCOL.md, "Lay".
+    pub fn take_lay(
+        &mut self,
+        table: &Table,
+        stamp: &mut Stamp,
+        from: Name,
+        object: Name,
+        server: Name,
+        level: u8,
+        version: u32,
+        on: bool,
+    ) -> Result<List<Lay>, NoMemory>
+        requires laid { AreLaid table.now self.old }
+        requires name { IsName table.now.settings object }
+        requires numbers { stamp.old + 2 ≤ u32.MAX }
+        requires from { 1 ≤ level }
+        requires to { level ≤ length object }
+        ensures answer { IfOk result (λ lays. lays ≡ reconcile_lays table.now stamp.old
+            (lay_applied self.old (pair_of object server) from version (pointer_at level on))) }
+        ensures after { OnOk result (self.new ≡ reconciled table.now
+            (lay_applied self.old (pair_of object server) from version (pointer_at level on))) }
+        ensures stamped { IfOk result (λ lays. stamp.new ≡ stamp.old + length lays) }
+    {
+        let pair = Pair { object, server };
+        let pointer = Pointer { level, on };
+        let alloc = self.alloc;
+        let relaid = take_and_lay(&mut self.pairs, alloc, table, pair, from, version, pointer)?;
+        self.held_or_laid = relaid
+            .change
+            .count_after(self.held_or_laid, self.pairs.len());
+        let mut lays = Vec::new(alloc);
+        push_layings(&mut lays, stamp, &pair, &relaid.from, &relaid.to)?;
         Ok(List::from_vec(lays))
     }
 

@@ -1,12 +1,11 @@
 ghost use Rattle.std.specs.Prelude.{◌≡◌, ◌+◌, ◌*◌, ◌≤◌, true, false, [], length, map, slice_get, All, IfOk};
 ghost use Rattle.tap_name.specs.Name.{IsName};
 ghost use Rattle.tap_pointer.specs.Pointers.{held_among, is_held_or_laid, is_of, pair_of, held_or_laid_count, server_among, with_published};
-ghost use Rattle.tap_pointer.specs.Reconcile.{AreLaidUnlessApart, layings_to_none, layings_to_wanted, lays_numbered, wanted_hop, with_wanted};
+ghost use Rattle.tap_pointer.specs.Reconcile.{AreLaidUnlessApart, hop_told, laid_by, laid_by_all, layings_to_none, layings_to_wanted, lays_numbered, wanted_hop};
 
+use crate::hop::Hop;
 use crate::lay::Lay;
-use crate::laying::{
-    hop_after, is_laid_or_kept, is_laid_so, may_be_apart, push_layings, wanted_hop,
-};
+use crate::laying::{is_laid_so, may_be_apart, push_layings, wanted_hop};
 use crate::pair::Pair;
 use crate::state::PairState;
 use std::alloc::Global;
@@ -15,23 +14,8 @@ use tap_name::Name;
 use tap_register::Stamp;
 use tap_table::{NoMemory, Table};
 
-// Whether all pairs are laid as wanted, of which those that may be laid elsewhere alone are looked up. It takes no memory, and
-// changes of a table mostly leave all pairs so.
-pub(crate) fn are_laid(pairs: &BTreeMap<Pair, PairState>, table: &Table, level: Option<u8>) -> bool
-    requires names { All (λ e. is_held_or_laid e.1 ≡ true → IsName table.now.settings e.0.object) pairs.now.entries }
-    requires levels { All (λ e. All (λ r. r.value.level ≤ length e.0.object) e.1.registers) pairs.now.entries }
-    requires others { AreLaidUnlessApart table.now level pairs.now.entries }
-    ensures { result ≡ true → All (λ e. e.1.laid ≡ wanted_hop table.now e) pairs.now.entries }
-{
-    for (pair, state) in pairs {
-        if !is_laid_or_kept(table, pair, state, level) {
-            return false;
-        }
-    }
-    true
-}
-
-// The Lays that it takes to have all pairs laid as wanted.
+// The Lays that it takes to have all pairs laid as wanted, of which those that may be laid elsewhere alone are looked up. Mostly
+// there are none, and then it takes no memory.
 pub(crate) fn lays_to_wanted(
     alloc: Global,
     pairs: &BTreeMap<Pair, PairState>,
@@ -60,17 +44,51 @@ pub(crate) fn lays_to_wanted(
     Ok(lays)
 }
 
-// Lays all pairs as wanted.
-pub(crate) fn lay_all(pairs: &mut BTreeMap<Pair, PairState>, table: &Table, level: Option<u8>)
-    requires names { All (λ e. is_held_or_laid e.1 ≡ true → IsName table.now.settings e.0.object) pairs.old.entries }
-    requires levels { All (λ e. All (λ r. r.value.level ≤ length e.0.object) e.1.registers) pairs.old.entries }
-    requires others { AreLaidUnlessApart table.now level pairs.old.entries }
-    ensures { pairs.new.entries ≡ map (with_wanted table.now) pairs.old.entries }
+// Lays the pairs of these Lays as these tell, in their order, and gives how many pairs are held or laid then. There were `count`.
+pub(crate) fn lay_as_told(
+    pairs: &mut BTreeMap<Pair, PairState>,
+    lays: &[Lay],
+    count: usize,
+) -> usize
+    requires { count ≡ held_or_laid_count pairs.old.entries }
+    ensures after { pairs.new.entries ≡ laid_by_all pairs.old.entries lays.now }
+    ensures count { result ≡ held_or_laid_count pairs.new.entries }
 {
-    pairs.retain(|pair, state| {
-        state.laid = hop_after(table, pair, state, level);
-        true
-    });
+    let mut count = count;
+    for told in lays {
+        count = lay_by(pairs, told, count);
+    }
+    count
+}
+
+// Lays the pair of a Lay as this tells, if the pair is known, and gives how many pairs are held or laid then.
+fn lay_by(pairs: &mut BTreeMap<Pair, PairState>, told: &Lay, count: usize) -> usize
+    requires { count ≡ held_or_laid_count pairs.old.entries }
+    ensures after { pairs.new.entries ≡ laid_by pairs.old.entries told.now }
+    ensures count { result ≡ held_or_laid_count pairs.new.entries }
+{
+    let pair = Pair {
+        object: told.object,
+        server: told.server,
+    };
+    let Some(state) = pairs.get_mut(&pair) else {
+        return count;
+    };
+    let change = state.set_laid(&hop_told(told));
+    change.count_after(count, pairs.len())
+}
+
+// Where a Lay tells that its pair is laid.
+fn hop_told(told: &Lay) -> Option<Hop>
+    ensures { result ≡ hop_told told.now }
+{
+    if !told.on {
+        return None;
+    }
+    Some(Hop {
+        to: told.to,
+        level: told.level,
+    })
 }
 
 // The Lays that it takes to have all pairs laid nowhere.

@@ -39,7 +39,7 @@ pub fn reconcile(
     ensures sent { OnOk result (sent.new
         ≡ sent.old ++ lay_bytes (sender_of table.now) (reconcile_lays table.now stamp.old pointers.old)) }
 {
-    // It tells what pointers keep.
+    // The contract of this call says that the pointers are in order.
     let _owner = pointers.owner();
     let lays = pointers.reconcile(table, stamp)?;
     Sender::of(table).send_lays(sent, &lays)
@@ -66,7 +66,7 @@ pub fn reconcile_at(
     ensures sent { OnOk result (sent.new
         ≡ sent.old ++ lay_bytes (sender_of table.now) (reconcile_lays table.now stamp.old pointers.old)) }
 {
-    // It tells what pointers keep.
+    // The contract of this call says that the pointers are in order.
     let _owner = pointers.owner();
     let lays = pointers.reconcile_at(table, stamp, level)?;
     Sender::of(table).send_lays(sent, &lays)
@@ -94,7 +94,7 @@ pub fn reconcile_pair(
     ensures sent { OnOk result (sent.new
         ≡ sent.old ++ lay_bytes (sender_of table.now) (reconcile_lays table.now stamp.old pointers.old)) }
 {
-    // It tells what pointers keep.
+    // The contract of this call says that the pointers are in order.
     let _owner = pointers.owner();
     let lays = pointers.reconcile_pair(table, stamp, object, server)?;
     Sender::of(table).send_lays(sent, &lays)
@@ -146,7 +146,11 @@ pub fn take_lay(
     ensures sent { OnOk result (sent.new
         ≡ sent.old ++ lay_bytes (sender_of table.now) (reconcile_lays table.now stamp.old (lay_taken pointers.old lay.now))) }
 {
-    pointers.apply_lay(
+    // The contract of this call says that the pointers are in order.
+    let _owner = pointers.owner();
+    let lays = pointers.take_lay(
+        table,
+        stamp,
         lay.from,
         lay.object,
         lay.server,
@@ -154,7 +158,7 @@ pub fn take_lay(
         lay.version,
         lay.on,
     )?;
-    reconcile_pair(pointers, table, stamp, sent, lay.object, lay.server)
+    Sender::of(table).send_lays(sent, &lays)
 }
 
 /// A Find, as it is taken.

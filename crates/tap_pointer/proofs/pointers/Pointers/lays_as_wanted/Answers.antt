@@ -1,43 +1,63 @@
-use Rattle.std.proofs.Common.{◌≡◌, true, sym, subst, ◌∙◌}
+use Rattle.std.proofs.Common.{◌≡◌, [], map, true, ap, eqb-true, sym, subst, ◌∙◌}
 use Rattle.std.specs.List.{All}
+use Rattle.std.specs.Vec.{vec_len}
+use Rattle.std.proofs.lemmas.List.{nil_from_length}
 use Rattle.tap_pointer.specs.Pointers.{IsPairState, with_laid}
-use Rattle.tap_pointer.specs.Reconcile.{AreLaid, wanted_hop}
+use Rattle.tap_pointer.specs.Reconcile.{AreLaid, laid_by_all, wanted_hop, with_wanted}
 use Rattle.tap_pointer.proofs.Known.{known-laid, known-map}
-use Rattle.tap_pointer.proofs.Laws.{laid_sends_nothing}
 use Rattle.tap_pointer.proofs.Layings.{all_laid}
+use Rattle.tap_pointer.proofs.Telling.{all_laid_as_told}
 use Rattle.tap_pointer.proofs.pointers.Pointers.lays_as_wanted.Goals as goal
-use Rattle.tap_pointer.proofs.pointers.Pointers.lays_as_wanted.Goals.{After-are_laid}
+use Rattle.tap_pointer.proofs.pointers.Pointers.lays_as_wanted.Goals.{After-is_empty, After-lay_as_told-self-inside}
 
--- all pairs are laid as wanted
-laid : (c : After-are_laid) → c.are_laid.result ≡ true → AreLaid c.args.table.now c.args.self.now
-laid c is = subst (AreLaid c.args.table.now) c.self.view_is (c.are_laid.ensures is)
+-- there are no Lays: all pairs are laid as wanted
+same : (c : After-is_empty) → c.is_empty.result ≡ true → map (with_wanted c.args.table.now) c.self.inside.pairs.entries ≡ c.self.inside.pairs.entries
+same c is =
+    let t = c.args.table.now in
+    let pairs = c.self.inside.pairs.entries in
+    let lays = c.in_ok-lays.lays in
+    let len : vec_len lays ≡ 0 = eqb-true (vec_len lays) 0 (sym c.is_empty.ensures ∙ is) in
+    let none : lays.items ≡ [] = nil_from_length lays.items (sym lays.ok.0 ∙ len) in
+    sym (all_laid_as_told t c.args.stamp.now pairs c.len-ordered.ensures.ordered)
+    ∙ ap (laid_by_all pairs) (sym c.in_ok-lays.ensures.value ∙ none)
 
-pub returns-then-are_laid-clause-answer : goal.returns-then-are_laid-clause-answer
-returns-then-are_laid-clause-answer c =
-    let all = laid (goal.at.returns-then-are_laid-clause-answer c).After-are_laid c.if-are_laid.true in
-    c.from_vec.ensures ∙ c.new.ensures.items
-    ∙ sym (laid_sends_nothing c.args.table.now c.args.stamp.now c.args.self.now all).0
+pub returns-then-is_empty-clause-after : goal.returns-then-is_empty-clause-after
+returns-then-is_empty-clause-after c =
+    let all = same (goal.at.returns-then-is_empty-clause-after c).After-is_empty c.if-is_empty.true in
+    rw (← c.self.view_is) (ap (λ pairs. record { owner = c.self.inside.owner; pairs = pairs }) (sym all))
 
-pub returns-then-are_laid-clause-after : goal.returns-then-are_laid-clause-after
-returns-then-are_laid-clause-after c =
-    let all = laid (goal.at.returns-then-are_laid-clause-after c).After-are_laid c.if-are_laid.true in
-    sym (laid_sends_nothing c.args.table.now c.args.stamp.now c.args.self.now all).1
+pub returns-then-is_empty-clause-laid : goal.returns-then-is_empty-clause-laid
+returns-then-is_empty-clause-laid c =
+    let t = c.args.table.now in
+    let all = same (goal.at.returns-then-is_empty-clause-laid c).After-is_empty c.if-is_empty.true in
+    subst (AreLaid t) c.self.view_is
+    (subst (All (λ e. e.1.laid ≡ wanted_hop t e)) all (all_laid t c.self.inside.pairs.entries))
 
-pub returns-then-are_laid-clause-laid : goal.returns-then-are_laid-clause-laid
-returns-then-are_laid-clause-laid c =
-    laid (goal.at.returns-then-are_laid-clause-laid c).After-are_laid c.if-are_laid.true
+-- laid as the Lays tell, the pairs are laid as wanted
+told : (c : After-lay_as_told-self-inside) → c.lay_as_told-self-inside.new.pairs.entries ≡ map (with_wanted c.args.table.now) c.self.inside.pairs.entries
+told c =
+    let pairs = c.self.inside.pairs.entries in
+    c.lay_as_told-self-inside.ensures.after ∙ ap (laid_by_all pairs) (c.deref.ensures.value ∙ c.in_ok-lays.ensures.value)
+    ∙ all_laid_as_told c.args.table.now c.args.stamp.now pairs c.len-ordered.ensures.ordered
 
 pub invariant_of-self : goal.invariant_of-self
 invariant_of-self c =
     let owner = c.self.inside.owner in
-    let t = c.args.table.now in (
-      subst (All (IsPairState owner)) (sym c.lay_all.ensures)
+    let t = c.args.table.now in
+    let all = told (goal.at.invariant_of-self c).After-lay_as_told-self-inside in (
+      subst (All (IsPairState owner)) (sym all)
           (known-map owner (λ e. with_laid e.1 (wanted_hop t e)) (λ e known. known-laid owner e.0 e.1 known (wanted_hop t e))
           c.self.inside.pairs.entries c.self.invariant.0),
-      c.held_or_laid_count-self-inside.ensures,
+      c.lay_as_told-self-inside.ensures.count,
     )
+
+pub returns-clause-after : goal.returns-clause-after
+returns-clause-after c =
+    let all = told (goal.at.returns-clause-after c).After-lay_as_told-self-inside in
+    rw (← c.self.view_is) (ap (λ pairs. record { owner = c.self.inside.owner; pairs = pairs }) all)
 
 pub returns-clause-laid : goal.returns-clause-laid
 returns-clause-laid c =
     let t = c.args.table.now in
-    subst (All (λ e. e.1.laid ≡ wanted_hop t e)) (sym c.lay_all.ensures) (all_laid t c.self.inside.pairs.entries)
+    let all = told (goal.at.returns-clause-laid c).After-lay_as_told-self-inside in
+    subst (All (λ e. e.1.laid ≡ wanted_hop t e)) (sym all) (all_laid t c.self.inside.pairs.entries)

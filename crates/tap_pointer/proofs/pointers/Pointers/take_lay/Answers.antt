@@ -1,0 +1,85 @@
+use Rattle.std.proofs.Common.{◌≡◌, ◌++◌, All, Option, ap, subst, sym, ◌∙◌}
+use Rattle.tap_pointer.specs.declared.hop.Hop.{Hop}
+use Rattle.tap_pointer.specs.Pointers.{IsPairState, PointersValue, held_or_laid_count, pair_of, pointer_at, state_among, with_lay}
+use Rattle.tap_pointer.specs.Reconcile.{AreLaid, layings, lays_numbered, relaid, wanted_hop}
+use Rattle.tap_pointer.proofs.Known.{count_from, count_to, known-among, known-laid, known-with_lay, put_keeps}
+use Rattle.tap_pointer.proofs.Relaying.{relaid-lays, relaid-pairs}
+use Rattle.tap_pointer.proofs.pointers.Pointers.take_lay.Goals as goal
+use Rattle.tap_pointer.proofs.pointers.Pointers.take_lay.Goals.{After-count_after-self-inside}
+
+pub take_and_lay-requires-clause-levels : goal.take_and_lay-requires-clause-levels
+take_and_lay-requires-clause-levels c =
+    let pair = pair_of c.args.object c.args.server in
+    let known = known-among c.self.inside.owner pair c.self.inside.pairs.entries c.self.invariant.0 in
+    known.levels_to
+
+pub count_after-self-inside-requires-clause-from : goal.count_after-self-inside-requires-clause-from
+count_after-self-inside-requires-clause-from c =
+    let pairs = c.self.inside.pairs.entries in
+    let pair = pair_of c.args.object c.args.server in
+    let pointer = pointer_at c.args.level c.args.on in
+    let state = relaid c.args.table.now pair (state_among pairs pair) c.args.from c.args.version pointer in
+    count_from pairs pair c.take_and_lay.ensures.ordered state c.in_ok-relaid.relaid.change c.in_ok-relaid.ensures.change
+    c.take_and_lay.new.pairs.entries c.in_ok-relaid.ensures.after c.self.inside.held_or_laid c.self.invariant.1
+
+pub count_after-self-inside-requires-clause-to : goal.count_after-self-inside-requires-clause-to
+count_after-self-inside-requires-clause-to c =
+    let pairs = c.self.inside.pairs.entries in
+    let pair = pair_of c.args.object c.args.server in
+    let pointer = pointer_at c.args.level c.args.on in
+    let state = relaid c.args.table.now pair (state_among pairs pair) c.args.from c.args.version pointer in
+    count_to pairs pair c.take_and_lay.ensures.ordered state c.in_ok-relaid.relaid.change c.in_ok-relaid.ensures.change
+    c.take_and_lay.new.pairs.entries c.in_ok-relaid.ensures.after c.self.inside.held_or_laid c.self.invariant.1
+    c.len.result c.len.ensures.len
+
+-- what is known of the pairs is as it should be, and counted
+keeps : (c : After-count_after-self-inside) → (All (IsPairState c.self.inside.owner) c.take_and_lay.new.pairs.entries)
+    × (c.count_after-self-inside.result ≡ held_or_laid_count c.take_and_lay.new.pairs.entries)
+keeps c =
+    let pairs = c.self.inside.pairs.entries in
+    let owner = c.self.inside.owner in
+    let pair = pair_of c.args.object c.args.server in
+    let pointer = pointer_at c.args.level c.args.on in
+    let taken = with_lay (state_among pairs pair) c.args.from c.args.version pointer in
+    let state = relaid c.args.table.now pair (state_among pairs pair) c.args.from c.args.version pointer in
+    let known =
+    known-laid owner pair taken
+    (known-with_lay owner pair (state_among pairs pair) (known-among owner pair pairs c.self.invariant.0) c.args.from c.args.version
+    pointer c.requires.from c.requires.to)
+    (wanted_hop c.args.table.now (pair, taken)) in
+    put_keeps pairs pair c.take_and_lay.ensures.ordered state c.in_ok-relaid.relaid.change c.in_ok-relaid.ensures.change
+    c.take_and_lay.new.pairs.entries c.in_ok-relaid.ensures.after c.self.inside.held_or_laid c.self.invariant.1
+    owner c.count_after-self-inside.result c.count_after-self-inside.ensures c.self.invariant.0 known
+
+pub invariant_of-self-in_err-push_layings : goal.invariant_of-self-in_err-push_layings
+invariant_of-self-in_err-push_layings c = keeps (goal.at.invariant_of-self-in_err-push_layings c).After-count_after-self-inside
+
+pub invariant_of-self-2 : goal.invariant_of-self-2
+invariant_of-self-2 c = keeps (goal.at.invariant_of-self-2 c).After-count_after-self-inside
+
+pub returns-clause-answer : goal.returns-clause-answer
+returns-clause-answer c =
+    let t = c.args.table.now in
+    let pair = pair_of c.args.object c.args.server in
+    let pointer = pointer_at c.args.level c.args.on in
+    let stamp = c.args.stamp.now in
+    let before : PointersValue = record { owner = c.self.inside.owner; pairs = c.self.inside.pairs.entries } in
+    let laid = subst (AreLaid t) (sym c.self.view_is) c.requires.laid in
+    let relaid = c.in_ok-relaid.relaid in
+    let lays = λ (from to : Option Hop). lays_numbered stamp (layings pair from to) in
+    rw (← c.self.view_is)
+    (c.from_vec.ensures ∙ c.in_ok-push_layings.ensures.added ∙ ap (λ items. items ++ lays relaid.from relaid.to) c.new-lays.ensures.items
+    ∙ ap (λ from. lays from relaid.to) c.in_ok-relaid.ensures.from
+    ∙ ap (λ to. lays (state_among before.pairs pair).laid to) c.in_ok-relaid.ensures.to
+    ∙ sym (relaid-lays t before pair c.args.from c.args.version pointer c.take_and_lay.ensures.ordered laid stamp))
+
+pub returns-clause-after : goal.returns-clause-after
+returns-clause-after c =
+    let t = c.args.table.now in
+    let pair = pair_of c.args.object c.args.server in
+    let pointer = pointer_at c.args.level c.args.on in
+    let before : PointersValue = record { owner = c.self.inside.owner; pairs = c.self.inside.pairs.entries } in
+    let laid = subst (AreLaid t) (sym c.self.view_is) c.requires.laid in
+    rw (← c.self.view_is)
+    (ap (λ pairs. record { owner = c.self.inside.owner; pairs = pairs })
+    (c.in_ok-relaid.ensures.after ∙ relaid-pairs t before pair c.args.from c.args.version pointer c.take_and_lay.ensures.ordered laid))

@@ -1,0 +1,28 @@
+use Rattle.std.proofs.Common.{◌≡◌, Some, sym, ap, ◌∙◌}
+use Rattle.std.specs.BTreeMap.{is_at}
+use Rattle.std.specs.Map.{lookup, set_value}
+use Rattle.std.proofs.lemmas.Map.Steps.{set_value_same}
+use Rattle.std.proofs.lemmas.Result.{on_err_weaker, on_ok_weaker}
+use Rattle.tap_pointer.specs.Pair.{pair_cmp}
+use Rattle.tap_pointer.specs.Reconcile.{relaid}
+use Rattle.tap_pointer.proofs.Known.{written_state}
+use Rattle.tap_pointer.proofs.relaid.take_and_lay.Goals as goal
+
+pub returns-in-Some-clause-after : goal.returns-in-Some-clause-after
+returns-in-Some-clause-after c =
+    let after = c.take.new.state in
+    on_ok_weaker c.take.result
+    (λ is. written_state c.args.pairs.now.entries c.args.pair c.get_mut.ensures.ordered c.in-Some.state.now after
+    (c.get_mut.follows.lender after).entries (λ s. relaid c.args.table.now c.args.pair s c.args.from c.args.version c.args.pointer)
+    (sym c.in-Some.ensures.value) (c.get_mut.follows.holds after).0 is)
+    c.take.ensures.after
+
+pub returns-in-Some-clause-same : goal.returns-in-Some-clause-same
+returns-in-Some-clause-same c =
+    let pairs = c.args.pairs.now.entries in
+    let test = is_at (pair_cmp c.args.pair) in
+    let state = c.in-Some.state.now in
+    let found : lookup test pairs ≡ Some state = sym c.in-Some.ensures.value in
+    on_err_weaker c.take.result
+    (λ is. (c.get_mut.follows.holds c.take.new.state).0 ∙ ap (set_value test pairs) is ∙ set_value_same test pairs state found)
+    c.take.ensures.same
