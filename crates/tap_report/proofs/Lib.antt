@@ -2,6 +2,7 @@ pub mod WritesLemmas
 pub mod PrintsLemmas
 pub mod DecimalLemmas
 pub mod TextLemmas
+pub mod HeadLemmas
 pub mod DepartedLemmas
 pub mod TallyLemmas
 pub mod ReportsLemmas

@@ -1,58 +1,41 @@
--- A log that is printed piece by piece while it grows: the next record at a place, and what is reported so far.
-use Rattle.std.proofs.Common.{◌≡◌, ◌<◌, ◌≤◌, ℕ, ◌+◌, List, [], ◌∷◌, ◌++◌, length, take, get_or, Option, None, Some, ap, sym, subst, ◌∙◌, arith}
-use Rattle.std.specs.Prelude.{slice_get}
-use Rattle.std.proofs.lemmas.List.{take_all, take-append-le}
-use Rattle.std.proofs.lemmas.Option.{get_or_from_slice_get}
+-- A log that is printed piece by piece while it grows: its records from a place on, and what is reported with them.
+use Rattle.std.proofs.Common.{◌≡◌, ℕ, ◌-◌, List, ◌++◌, length, take, drop, Option, None, refl, sym, subst, ◌∙◌, arith, length-drop, take-append-drop}
+use Rattle.std.specs.Prelude.{fold, slice_range}
+use Rattle.std.proofs.lemmas.List.{take_all}
+use Rattle.std.proofs.lemmas.List.Sums.{fold-append}
 use Rattle.tap_name.specs.Settings.{SettingsValue}
 use Rattle.tap_io.specs.Sink.{SinkState}
 use Rattle.tap_log.specs.declared.record.Record.{Record}
-use Rattle.tap_report.specs.Text.{ArePrintable, IsPrintable, settings_after, settings_so_far}
-use Rattle.tap_report.specs.Reporter.{ReporterValue, Reports, new_reporter}
+use Rattle.tap_report.specs.Text.{ArePrintable, BeginsAfter, BeginsOnce, settings_after, settings_so_far}
+use Rattle.tap_report.specs.Reporter.{PutsAll, ReporterValue, Reports}
 use Rattle.tap_report.specs.declared.mode.Mode.{Mode}
-use Rattle.tap_report.proofs.TextLemmas.{ArePrintable-at, settings_so_far-push, take_next}
-use Rattle.tap_report.proofs.ReportsLemmas.{Reports-new}
+use Rattle.tap_report.specs.declared.written.Written.{Written}
+use Rattle.tap_report.proofs.TextLemmas.{ArePrintable-from}
+use Rattle.tap_report.proofs.ReportsLemmas.{BeginsAfter-from, Reports-put_all}
 
--- the record at a place
-pub item_at : (log : List Record) (place : ℕ) (item : Record) → slice_get log place ≡ Some item → item ≡ get_or log place item
-item_at log place item is = sym (get_or_from_slice_get log place item item is)
+-- the records from a place on
+pub rest_of : (log : List Record) (from : ℕ) → slice_range log from (length log) ≡ drop from log
+rest_of log from = take_all (length log - from) (drop from log) (omega (arith, length-drop from log))
 
--- it can be printed with the settings of those before it
-pub IsPrintable-at : (log : List Record) (place : ℕ) (item : Record) (settings : Option SettingsValue) → place < length log
-    → slice_get log place ≡ Some item → settings ≡ settings_so_far (take place log) → ArePrintable None log → IsPrintable settings item
-IsPrintable-at log place item settings within is so_far all =
-    let P : Option SettingsValue → Type 0 = λ s. IsPrintable s item in
-    subst P (sym so_far) (ArePrintable-at None log place item all within (item_at log place item is))
+-- They can be put after those before them.
+pub BeginsAfter-rest : (log rest : List Record) (from : ℕ) (settings : Option SettingsValue) → rest ≡ drop from log
+    → settings ≡ settings_so_far (take from log) → BeginsOnce log → BeginsAfter settings rest
+BeginsAfter-rest log rest from settings is so_far begins = rw (is, so_far) (BeginsAfter-from log from begins)
 
--- the settings with one record more
-pub settings_so_far-next : (log : List Record) (place : ℕ) (item : Record) (settings : Option SettingsValue) → place < length log
-    → slice_get log place ≡ Some item → settings ≡ settings_so_far (take place log)
-    → settings_after settings item ≡ settings_so_far (take (place + 1) log)
-settings_so_far-next log place item settings within is so_far =
-    ap (λ s. settings_after s item) so_far ∙ sym (settings_so_far-push (take place log) item)
-    ∙ sym (ap settings_so_far (take_next log place item within (item_at log place item is)))
+pub ArePrintable-rest : (log rest : List Record) (from : ℕ) (settings : Option SettingsValue) → rest ≡ drop from log
+    → settings ≡ settings_so_far (take from log) → ArePrintable None log → ArePrintable settings rest
+ArePrintable-rest log rest from settings is so_far each = rw (is, so_far) (ArePrintable-from None log from each)
+
+-- the settings with them
+pub settings_so_far-rest : (log rest : List Record) (from : ℕ) (settings : Option SettingsValue) → rest ≡ drop from log
+    → settings ≡ settings_so_far (take from log) → fold settings_after settings rest ≡ settings_so_far log
+settings_so_far-rest log rest from settings is so_far =
+    rw (is, so_far) (sym (fold-append settings_after None (take from log) (drop from log)) ∙ rw (take-append-drop from log) refl)
 
 -- the reports of all records
-pub Reports-all : (mode : Mode) (log : List Record) (place : ℕ) (old new : SinkState) (reporter : ReporterValue) → length log ≤ place
-    → Reports mode (take place log) old new reporter → Reports mode log old new reporter
-Reports-all mode log place old new reporter past reports =
-    let P : List Record → Type 0 = λ l. Reports mode l old new reporter in subst P (take_all place log past) reports
-
--- those of no record, by a reporter to which nothing was put
-pub Reports-fresh : (state : SinkState) (reporter : ReporterValue) → reporter ≡ new_reporter reporter.mode
-    → Reports reporter.mode [] state state reporter
-Reports-fresh state reporter fresh =
-    let P : ReporterValue → Type 0 = λ r. Reports reporter.mode [] state state r in
-    subst P (sym fresh) (Reports-new reporter.mode state)
-
--- those of the records so far, if more have come after them
-pub Reports-front : (mode : Mode) (log longer : List Record) (from : ℕ) (old new : SinkState) (reporter : ReporterValue)
-    → from ≡ length log → take (length log) longer ≡ log → Reports mode log old new reporter
-    → Reports mode (take from longer) old new reporter
-Reports-front mode log longer from old new reporter is front reports =
-    let P : List Record → Type 0 = λ l. Reports mode l old new reporter in
-    subst P (sym (ap (λ n. take n longer) is ∙ front)) reports
-
--- one record has come after them
-pub front-push : (log longer : List Record) (item : Record) → longer ≡ log ++ item ∷ [] → take (length log) longer ≡ log
-front-push log longer item is =
-    ap (take (length log)) is ∙ take-append-le (length log) log (item ∷ []) (omega arith) ∙ take_all (length log) log (omega arith)
+pub Reports-rest : {mode : Mode} {old mid new : SinkState} {before after : ReporterValue} {written : Written} (log rest : List Record)
+    (from : ℕ) → rest ≡ drop from log → Reports mode (take from log) old mid before → PutsAll before after rest mid new written
+    → Reports mode log old new after
+Reports-rest {mode = mode} {old = old} {new = new} {after = after} log rest from is reports puts =
+    let all : take from log ++ rest ≡ log = rw is (take-append-drop from log) in
+    subst (λ l. Reports mode l old new after) all (Reports-put_all reports puts)

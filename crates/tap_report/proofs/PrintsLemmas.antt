@@ -1,7 +1,7 @@
 -- Texts that are printed one after another.
 use Rattle.std.proofs.Common.{◌≡◌, ℕ, List, [], ◌++◌, append_assoc, append-nil, refl, sym, ap, ◌∙◌, subst}
 use Rattle.tap_io.specs.Sink.{SinkState}
-use Rattle.tap_report.specs.Printer.{PrinterValue, Prints, emptied, with_more}
+use Rattle.tap_report.specs.Printer.{PrinterValue, Prints, Waits, emptied, with_more}
 use Rattle.tap_report.specs.Written.{WritesText}
 use Rattle.tap_report.specs.declared.written.Written.{Written}
 use Rattle.tap_report.proofs.WritesLemmas.{WritesText-none, WritesText-then}
@@ -48,6 +48,24 @@ Prints-empty {state = state} {text = text} {p = p} empty =
 -- a text waits
 pub Prints-more : (state : SinkState) (p : PrinterValue) (text : List ℕ) → Prints state state text p (with_more p text)
 Prints-more state p text = record { done = []; written = WritesText-none state p.so_far; rest = refl }
+
+-- the same, of a printer that was changed so
+pub Prints-waits : {state : SinkState} {text : List ℕ} {before after : PrinterValue} → Waits text before after
+    → Prints state state text before after
+Prints-waits {state = state} {text = text} {before = before} w = rw w.is (Prints-more state before text)
+
+-- two texts wait, one after the other
+pub Waits-then : {text more : List ℕ} {before between after : PrinterValue} → Waits text before between → Waits more between after
+    → Waits (text ++ more) before after
+Waits-then {text = text} {more = more} {before = before} first second = record {
+  is =
+      second.is ∙ ap (λ p. with_more p more) first.is
+      ∙ ap (λ l. record { so_far = before.so_far; waiting = l }) (append_assoc before.waiting text more);
+}
+
+-- no text waits
+pub Waits-none : (p : PrinterValue) → Waits [] p p
+Waits-none p = record { is = ap (λ l. record { so_far = p.so_far; waiting = l }) (sym (append-nil p.waiting)) }
 
 -- what waits is written
 pub Prints-flush : {old new : SinkState} (p : PrinterValue) {written : Written} → WritesText old new p.waiting p.so_far written

@@ -1,21 +1,22 @@
 -- The puts of records, one after another.
-use Rattle.std.proofs.Common.{◌≡◌, ◌<◌, ℕ, zero, suc, ◌+◌, List, [], ◌∷◌, ◌++◌, length, take, get_or, true, Option, None, Some, IsNone, refl, sym, ap, ◌∙◌, subst, arith, append_assoc, append-nil, length-append}
+use Rattle.std.proofs.Common.{◌≡◌, ◌<◌, ℕ, zero, suc, ◌+◌, List, [], ◌∷◌, ◌++◌, length, take, drop, get_or, true, Option, None, Some, IsNone, All, refl, sym, ap, ◌∙◌, subst, arith, append_assoc, append-nil, length-append}
 use Rattle.std.specs.Prelude.{◌↔◌, fold, is_some, IsSome}
-use Rattle.std.proofs.lemmas.List.Elements.{All-get_or, All-push}
+use Rattle.std.proofs.lemmas.List.Elements.{All-drop, All-get_or, All-push}
+use Rattle.std.proofs.lemmas.List.Sums.{fold-append}
 use Rattle.tap_name.specs.Settings.{SettingsValue}
 use Rattle.tap_io.specs.Sink.{SinkState}
 use Rattle.tap_log.specs.declared.record.Record.{Record}
 use Rattle.tap_log.specs.declared.record.Record.TheVariants.{Begin}
 use Rattle.tap_report.specs.Summary.{ending}
 use Rattle.tap_report.specs.Tally.{numbers_in, tally_after}
-use Rattle.tap_report.specs.Text.{IsBegin, IsPrintable, IsPrintableLog, BeginsOnce, text_of_record, text_of_log, settings_after, settings_so_far}
+use Rattle.tap_report.specs.Text.{IsBegin, IsPrintable, IsPrintableLog, BeginsAfter, BeginsOnce, texts_after, text_of_record, text_of_log, settings_after, settings_so_far}
 use Rattle.tap_report.specs.Written.{WritesText}
-use Rattle.tap_report.specs.Reporter.{ReporterValue, Puts, Finishes, PutsEach, PutsWriteTheText, Reports, new_reporter}
+use Rattle.tap_report.specs.Reporter.{ReporterValue, Puts, PutsAll, Finishes, PutsEach, PutsWriteTheText, Reports, new_reporter}
 use Rattle.tap_report.specs.declared.mode.Mode.{Mode}
 use Rattle.tap_report.specs.declared.written.Written.{Written}
 use Rattle.tap_report.specs.declared.written.Written.TheVariants.{All as AllWritten}
-use Rattle.tap_report.proofs.TextLemmas.{texts_after-push, settings_so_far-push, take_next, ArePrintable-push}
-use Rattle.tap_report.proofs.TallyLemmas.{tally_of-push}
+use Rattle.tap_report.proofs.TextLemmas.{texts_after-append, texts_after-push, settings_so_far-push, take_next, ArePrintable-push}
+use Rattle.tap_report.proofs.TallyLemmas.{tally_of-append, tally_of-push}
 use Rattle.tap_report.proofs.WritesLemmas.{WritesText-then, WritesText-none}
 
 -- before the first put
@@ -36,6 +37,22 @@ Reports-put {mode = mode} {records = records} {mid = mid} {new = new} {before = 
       count = ap (λ n. n + 1) r.count ∙ sym (length-append records (item ∷ []));
       tally = ap (λ t. tally_after t item) r.tally ∙ sym (tally_of-push records item);
       text = rw (texts_after-push mode None records item) (WritesText-then r.text text);
+    })
+
+-- the puts of several records
+pub Reports-put_all : {mode : Mode} {records : List Record} {old mid new : SinkState} {before after : ReporterValue} {items : List Record}
+    {written : Written} → Reports mode records old mid before → PutsAll before after items mid new written
+    → Reports mode (records ++ items) old new after
+Reports-put_all {mode = mode} {records = records} {mid = mid} {new = new} {before = before} {items = items} {written = written} r p =
+    let text =
+    subst (λ s. WritesText mid new (texts_after mode s items) before.so_far written) r.settings
+    (subst (λ m. WritesText mid new (texts_after m before.settings items) before.so_far written) r.same_mode p.text) in
+    rw p.reporter (record {
+      same_mode = r.same_mode;
+      settings = ap (λ s. fold settings_after s items) r.settings ∙ sym (fold-append settings_after None records items);
+      count = ap (λ n. n + length items) r.count ∙ sym (length-append records items);
+      tally = ap (λ t. fold tally_after t items) r.tally ∙ sym (tally_of-append records items);
+      text = rw (texts_after-append mode None records items) (WritesText-then r.text text);
     })
 
 -- a finish
@@ -83,6 +100,23 @@ begins_next (first ∷ rest) (suc i) item settings begins inside is so_far =
     let some : is_some settings ≡ true =
     ap is_some (so_far ∙ ap (λ s. fold settings_after s (take i rest)) b.1) ∙ always_begun (take i rest) b.0 in
     (λ h. absurd (other (subst IsBegin is h)), λ h. cc)
+
+begins_after : (items : List Record) (settings : Option SettingsValue) → IsSome settings → All (λ item. ¬ IsBegin item) items
+    → BeginsAfter settings items
+begins_after items None some others = absurd cc
+begins_after items (Some settings) some others = others
+
+-- So do the records of a log from a place on, after those before it.
+pub BeginsAfter-from : (records : List Record) (from : ℕ) → BeginsOnce records
+    → BeginsAfter (fold settings_after None (take from records)) (drop from records)
+BeginsAfter-from records zero begins = begins
+BeginsAfter-from [] (suc from) begins = tt
+BeginsAfter-from (first ∷ rest) (suc from) begins =
+    let b = begun first begins.0 in
+    let some : IsSome (fold settings_after (settings_after None first) (take from rest)) =
+    rw b.1 (always_begun (take from rest) b.0) in
+    begins_after (drop from rest) (fold settings_after (settings_after None first) (take from rest)) some
+    (All-drop (λ item. ¬ IsBegin item) from rest begins.1)
 
 -- ---- the log that grows while it is printed
 

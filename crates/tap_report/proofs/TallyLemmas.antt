@@ -1,6 +1,6 @@
 -- What the summary is made from, with one record more.
-use Rattle.std.proofs.Common.{◌≡◌, ◌≤◌, ℕ, ◌+◌, List, [], ◌∷◌, ◌++◌, length, true, false, Bool, Option, None, Some, refl, ap, sym, ◌∙◌, arith, length-append}
-use Rattle.std.specs.Prelude.{cond, is_some, max}
+use Rattle.std.proofs.Common.{◌≡◌, ◌≤◌, ℕ, ◌+◌, List, [], ◌∷◌, ◌++◌, length, true, false, Bool, Option, None, Some, refl, ap, sym, ◌∙◌, arith, length-append, append_assoc, append-nil, suc}
+use Rattle.std.specs.Prelude.{cond, fold, is_some, max}
 use Rattle.std.specs.List.{filter_map}
 use Rattle.std.proofs.lemmas.List.Sums.{fold-append}
 use Rattle.tap_log.specs.declared.record.Record.{Record}
@@ -57,3 +57,27 @@ CountsWithin-after most t item w =
       frames = omega (arith, w.frames, frames);
       answered = omega (arith, w.answered, answered);
     }
+
+-- a greater number does
+pub CountsWithin-more : (most more : ℕ) (t : Tally) → most ≤ more → CountsWithin most t → CountsWithin more t
+CountsWithin-more most more t greater w = record {
+  core = omega (arith, w.core);
+  gone = omega (arith, w.gone);
+  frames = omega (arith, w.frames);
+  answered = omega (arith, w.answered);
+}
+
+-- several records more count once each at most
+pub CountsWithin-fold : (most : ℕ) (t : Tally) (items : List Record) → CountsWithin most t
+    → CountsWithin (most + length items) (fold tally_after t items)
+CountsWithin-fold most t [] w = CountsWithin-more most (most + 0) t (omega arith) w
+CountsWithin-fold most t (item ∷ items) w =
+    CountsWithin-more (most + 1 + length items) (most + suc (length items)) _ (omega arith)
+    (CountsWithin-fold (most + 1) (tally_after t item) items (CountsWithin-after most t item w))
+
+-- what is kept of some records and then of others is what is kept of both
+pub tally_of-append : (records items : List Record) → tally_of (records ++ items) ≡ fold tally_after (tally_of records) items
+tally_of-append records [] = ap tally_of (append-nil records)
+tally_of-append records (item ∷ items) =
+    ap tally_of (sym (append_assoc records (item ∷ []) items)) ∙ tally_of-append (records ++ item ∷ []) items
+    ∙ ap (λ t. fold tally_after t items) (tally_of-push records item)

@@ -1,5 +1,5 @@
 -- The texts of items and of records with one more, and what each record must meet.
-use Rattle.std.proofs.Common.{◌≡◌, ◌<◌, ◌≤◌, ℕ, zero, suc, ◌+◌, ◌-◌, ◌==◌, ◌&&◌, Bool, inl, inr, List, [], ◌∷◌, ◌++◌, length, take, get_or, Option, None, refl, sym, ap, ◌∙◌, subst, arith, append_assoc, append-nil, take-add}
+use Rattle.std.proofs.Common.{◌≡◌, ◌<◌, ◌≤◌, ℕ, zero, suc, ◌+◌, ◌-◌, ◌==◌, ◌&&◌, Bool, inl, inr, List, [], ◌∷◌, ◌++◌, length, take, drop, get_or, Option, None, refl, sym, ap, ◌∙◌, subst, arith, append_assoc, append-nil, take-add}
 use Rattle.std.specs.Prelude.{fold, true, false, if◌then◌else◌}
 use Rattle.std.specs.Prelude.{◌/◌, ◌%◌, slice_index, slice_range}
 use Rattle.std.specs.List.{flat_map}
@@ -11,10 +11,10 @@ use Rattle.std.proofs.lemmas.List.Sums.{fold-append}
 use Rattle.tap_name.specs.Digits.{text_of_digit}
 use Rattle.tap_name.specs.Settings.{SettingsValue}
 use Rattle.tap_log.specs.declared.record.Record.{Record}
-use Rattle.tap_log.specs.declared.record.Record.TheVariants.{Begin}
+use Rattle.tap_log.specs.declared.record.Record.TheVariants.{Begin, Step, Sent, Taken, Packet, Arrived, Ticked, Lost}
 use Rattle.tap_report.specs.Shapes.{line}
 use Rattle.tap_report.specs.Lookups.{node_at}
-use Rattle.tap_report.specs.Text.{IsBegin, IsPrintable, ArePrintable, further_lines, is_printed, line_of, text_of_record, texts_after, settings_after, settings_so_far}
+use Rattle.tap_report.specs.Text.{IsBegin, IsPrintable, ArePrintable, further_lines, is_in_brief, is_printed, line_of, text_of_record, texts_after, settings_after, settings_so_far}
 use Rattle.tap_report.specs.declared.mode.Mode.{Mode}
 
 -- a record that is printed has its lines
@@ -49,6 +49,27 @@ texts_after-push mode settings (first ∷ rest) item =
     ∙ sym (append_assoc (text_of_record mode settings first) (texts_after mode (settings_after settings first) rest)
     (text_of_record mode (fold settings_after (settings_after settings first) rest) item))
 
+-- the texts of records and of others after them
+pub texts_after-append : (mode : Mode) (settings : Option SettingsValue) (records items : List Record)
+    → texts_after mode settings (records ++ items) ≡ texts_after mode settings records
+    ++ texts_after mode (fold settings_after settings records) items
+texts_after-append mode settings [] items = refl
+texts_after-append mode settings (first ∷ rest) items =
+    ap (λ l. text_of_record mode settings first ++ l) (texts_after-append mode (settings_after settings first) rest items)
+    ∙ sym (append_assoc (text_of_record mode settings first) (texts_after mode (settings_after settings first) rest)
+    (texts_after mode (fold settings_after (settings_after settings first) rest) items))
+
+-- a record that the brief text leaves out has one line alone
+pub no_further_lines : (mode : Mode) (item : Record) → is_in_brief item ≡ false → further_lines mode item ≡ []
+no_further_lines mode (Step index step) detail = refl
+no_further_lines mode (Sent number bytes) detail = refl
+no_further_lines mode (Taken number) detail = refl
+no_further_lines mode (Packet number frame ack) detail = refl
+no_further_lines mode (Arrived packet) detail = refl
+no_further_lines mode Ticked detail = refl
+no_further_lines mode (Lost packet) detail = refl
+no_further_lines mode item detail = absurd cc
+
 -- each record of a log is printable with the settings before it
 pub ArePrintable-at : (settings : Option SettingsValue) (records : List Record) (i : ℕ) (item : Record) → ArePrintable settings records
     → i < length records → item ≡ get_or records i item → IsPrintable (fold settings_after settings (take i records)) item
@@ -56,6 +77,13 @@ ArePrintable-at settings [] i item each inside is = absurd (omega arith)
 ArePrintable-at settings (first ∷ rest) zero item each inside is = subst (IsPrintable settings) (sym is) each.0
 ArePrintable-at settings (first ∷ rest) (suc i) item each inside is =
     ArePrintable-at (settings_after settings first) rest i item each.1 (omega arith) is
+
+-- the records of a log from a place on are printable with the settings before them
+pub ArePrintable-from : (settings : Option SettingsValue) (records : List Record) (from : ℕ) → ArePrintable settings records
+    → ArePrintable (fold settings_after settings (take from records)) (drop from records)
+ArePrintable-from settings records zero each = each
+ArePrintable-from settings [] (suc from) each = each
+ArePrintable-from settings (first ∷ rest) (suc from) each = ArePrintable-from (settings_after settings first) rest from each.1
 
 pub ArePrintable-push : (settings : Option SettingsValue) (records : List Record) (item : Record) → ArePrintable settings records
     → IsPrintable (fold settings_after settings records) item → ArePrintable settings (records ++ item ∷ [])

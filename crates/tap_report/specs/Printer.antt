@@ -23,6 +23,10 @@ new_printer = record { so_far = All; waiting = [] }
 abbrev pub with_more : PrinterValue → List ℕ → PrinterValue
 with_more p text = record { so_far = p.so_far; waiting = p.waiting ++ text }
 
+-- a text more waits
+pub record Waits (text : List ℕ) (before after : PrinterValue) : Type 0 where
+  pub is : after ≡ with_more before text
+
 -- when all that waits was written, or it was tried
 abbrev pub emptied : Written → PrinterValue
 emptied written = record { so_far = written; waiting = [] }

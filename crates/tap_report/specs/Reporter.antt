@@ -1,5 +1,5 @@
 -- What a reporter keeps, and what its calls do to it, which was `before` and is `after`, and to a sink, whose states are `old` and `new`.
-use Rattle.std.specs.Prelude.{◌≡◌, ℕ, ◌+◌, List, [], ◌∷◌, length, Option, None}
+use Rattle.std.specs.Prelude.{◌≡◌, ℕ, ◌+◌, List, [], ◌∷◌, length, fold, Option, None}
 use Rattle.tap_name.specs.Settings.{SettingsValue}
 use Rattle.tap_io.specs.Sink.{SinkState}
 use Rattle.tap_log.specs.declared.record.Record.{Record}
@@ -50,6 +50,21 @@ after_put r item written =
 pub record Puts (before after : ReporterValue) (item : Record) (old new : SinkState) (written : Written) : Type 0 where
   pub text : WritesText old new (text_of_record before.mode before.settings item) before.so_far written
   pub reporter : after ≡ after_put before item written
+
+-- after the puts of several records, which were all written or not
+abbrev pub after_puts : ReporterValue → List Record → Written → ReporterValue
+after_puts r items written =
+    record r {
+      settings = fold settings_after r.settings items;
+      records = r.records + length items;
+      tally = fold tally_after r.tally items;
+      so_far = written;
+    }
+
+-- the puts of several records, whose texts are written together
+pub record PutsAll (before after : ReporterValue) (items : List Record) (old new : SinkState) (written : Written) : Type 0 where
+  pub text : WritesText old new (texts_after before.mode before.settings items) before.so_far written
+  pub reporter : after ≡ after_puts before items written
 
 -- The finish, which writes what follows the last record: the summary, in the mode Summary.
 pub record Finishes (before after : ReporterValue) (old new : SinkState) (written : Written) : Type 0 where

@@ -220,6 +220,11 @@ abbrev pub BeginsOnce : List Record → Type 0
 BeginsOnce [] = Unit {0}
 BeginsOnce (first ∷ rest) = IsBegin first × All (λ item. ¬ IsBegin item) rest
 
+-- of records after others, with which the settings came to be these, only the first one of all is a `Begin`
+abbrev pub BeginsAfter : Option SettingsValue → List Record → Type 0
+BeginsAfter None items = BeginsOnce items
+BeginsAfter (Some p) items = All (λ item. ¬ IsBegin item) items
+
 -- what a log must meet to be printed
 pub record IsPrintableLog (records : List Record) : Type 0 where
   pub begins : BeginsOnce records

@@ -109,7 +109,19 @@ fn put_each<K: Sink>(mode: Mode, log: &Log, sink: &mut K) -> Written
     reporter.finish(sink)
 }
 
-// Prints a log at once and record by record, to sinks whose writes of these numbers fail.
+// Puts the records of a log together.
+fn put_together<K: Sink>(mode: Mode, log: &Log, sink: &mut K) -> Written
+    requires printable { IsPrintableLog log.now.records }
+    requires few { length log.now.records < most_records }
+    ensures { WritesText (K.state sink.old) (K.state sink.new)
+        (text_of_log mode log.now.records) Written.All result }
+{
+    let mut reporter = Reporter::new(mode);
+    let _ = reporter.put_all(log.as_slice(), sink);
+    reporter.finish(sink)
+}
+
+// Prints a log at once, record by record, and all records together, to sinks whose writes of these numbers fail.
 pub(crate) fn check_text(
     rt: &impl Abort,
     alloc: Global,
@@ -128,6 +140,9 @@ pub(crate) fn check_text(
     let mut one_by_one = MemorySink::new(alloc, 10, 2000, fails)?;
     assert_eq!(rt; put_each(mode, log, &mut one_by_one), answer);
     assert_eq!(rt; one_by_one.bytes(), text.as_bytes());
+    let mut together = MemorySink::new(alloc, 10, 2000, fails)?;
+    assert_eq!(rt; put_together(mode, log, &mut together), answer);
+    assert_eq!(rt; together.bytes(), text.as_bytes());
     Ok(())
 }
 

@@ -1,20 +1,26 @@
-ghost use Rattle.std.specs.Prelude.{◌≡◌, ◌≢◌, IsOk, IsSomeAnd};
+ghost use Rattle.std.specs.Prelude.{◌≡◌, ◌≢◌, ◌+◌, ◌≤◌, codes, length, IsOk, IsSomeAnd};
 ghost use Rattle.hex.specs.Hex.{encode_lower};
-ghost use Rattle.tap_report.specs.Printer.{Prints};
+ghost use Rattle.tap_report.specs.Printer.{Prints, Waits, most_waiting};
 ghost use Rattle.tap_report.specs.Frames.{garbled_line, heading, packet_line, packet_word, sent_line, text_of_head, word_of_kind, words_of_fault};
+ghost use Rattle.tap_report.specs.Shapes.{number_after};
 ghost use Rattle.tap_wire.specs.declared.fault.WireFault.TheVariants.{NoMemory};
+ghost use Rattle.tap_wire.specs.Layout.{head_len};
 ghost use Rattle.tap_wire.specs.Reading.{head_of};
 
 use crate::printer::Printer;
 use tap_io::Sink;
 use tap_name::Settings;
-use tap_wire::{WireFault, decode_head};
+use tap_wire::WireFault;
+
+// The most bytes of the line of a frame before its own ones: a word, a number, the word of a kind, two names, and five spaces.
+const MOST_BEFORE_BYTES: usize = 106;
 
 // How many bytes are encoded at once.
 const PIECE: usize = 64;
 
 // The lines of frames and of packets.
 impl Printer {
+    #[inline(never)]
     pub(crate) fn add_sent<K: Sink>(
         &mut self,
         sink: &mut K,
@@ -26,69 +32,88 @@ impl Printer {
         ensures { Prints (K.state sink.old) (K.state sink.new)
             (sent_line settings.now number bytes.now) self.old self.new }
     {
-        self.add_u32_after(sink, b"sent ", number);
-        self.add(sink, b" ");
-        self.add_heading(sink, settings, bytes);
-        self.add(sink, b" ");
+        self.make_room(sink, MOST_BEFORE_BYTES);
+        self.push(b"sent ");
+        self.push_u32(number);
+        self.push(b" ");
+        self.push_heading(settings, bytes);
+        self.push(b" ");
         self.add_hex(sink, bytes);
     }
 
-    // Adds what the head of a frame says, which is read with these settings.
-    fn add_heading<K: Sink>(&mut self, sink: &mut K, settings: &Option<Settings>, bytes: &[u8])
-        requires { IsSomeAnd settings.now (λ p. IsOk (head_of p bytes.now)) }
-        ensures { Prints (K.state sink.old) (K.state sink.new)
-            (heading settings.now bytes.now) self.old self.new }
+    // Adds what the head of a frame says, which is read with these settings, if there is room for the most that it may say.
+    fn push_heading(&mut self, settings: &Option<Settings>, bytes: &[u8])
+        requires read { IsSomeAnd settings.now (λ p. IsOk (head_of p bytes.now)) }
+        requires room { length self.old.waiting + 89 ≤ most_waiting }
+        ensures text { Waits (heading settings.now bytes.now) self.old self.new }
+        ensures len { length self.new.waiting ≤ length self.old.waiting + 89 }
     {
         match settings {
-            Some(settings) => self.add_head(sink, settings, bytes),
+            Some(settings) => self.push_head(settings, bytes),
             None => unreachable!(),
         }
     }
 
-    fn add_head<K: Sink>(&mut self, sink: &mut K, settings: &Settings, bytes: &[u8])
-        requires { IsOk (head_of settings.now bytes.now) }
-        ensures { Prints (K.state sink.old) (K.state sink.new)
-            (text_of_head (head_of settings.now bytes.now)) self.old self.new }
+    // The head is known to be read, so of its bytes only those are looked at that are printed.
+    fn push_head(&mut self, settings: &Settings, bytes: &[u8])
+        requires read { IsOk (head_of settings.now bytes.now) }
+        requires room { length self.old.waiting + 89 ≤ most_waiting }
+        ensures text { Waits (text_of_head (head_of settings.now bytes.now)) self.old self.new }
+        ensures len { length self.new.waiting ≤ length self.old.waiting + 89 }
     {
-        match decode_head(settings, bytes) {
-            Ok(head) => {
-                self.add_kind(sink, head.kind);
-                self.add_name_after(sink, b" ", &head.from);
-                self.add_name_after(sink, b" ", &head.to);
-            }
-            Err(_) => unreachable!(),
-        }
+        let digits = settings.digits() as usize;
+        let from = head_len(settings);
+        let to = from + digits;
+        self.push_kind(bytes[1]);
+        self.push(b" ");
+        self.push_digits(&bytes[from..to]);
+        self.push(b" ");
+        self.push_digits(&bytes[to..to + digits]);
     }
 
     // Adds the word of the kind with this code, if there is one.
-    fn add_kind<K: Sink>(&mut self, sink: &mut K, code: u8)
-        ensures { Prints (K.state sink.old) (K.state sink.new)
-            (word_of_kind code) self.old self.new }
+    fn push_kind(&mut self, code: u8)
+        requires room { length self.old.waiting + 7 ≤ most_waiting }
+        ensures text { Waits (word_of_kind code) self.old self.new }
+        ensures len { length self.new.waiting ≤ length self.old.waiting + 7 }
     {
         match code {
-            1 => self.add(sink, b"seek"),
-            2 => self.add(sink, b"tell"),
-            3 => self.add(sink, b"hello"),
-            4 => self.add(sink, b"heard"),
-            5 => self.add(sink, b"ack"),
-            6 => self.add(sink, b"done"),
-            7 => self.add(sink, b"release"),
-            8 => self.add(sink, b"link"),
-            9 => self.add(sink, b"lay"),
-            10 => self.add(sink, b"find"),
-            11 => self.add(sink, b"answer"),
-            12 => self.add(sink, b"leave"),
-            13 => self.add(sink, b"left"),
-            14 => self.add(sink, b"gone"),
-            15 => self.add(sink, b"forget"),
-            16 => self.add(sink, b"cast"),
-            17 => self.add(sink, b"castack"),
+            1 => self.push(b"seek"),
+            2 => self.push(b"tell"),
+            3 => self.push(b"hello"),
+            4 => self.push(b"heard"),
+            5 => self.push(b"ack"),
+            6 => self.push(b"done"),
+            7 => self.push(b"release"),
+            8 => self.push(b"link"),
+            9 => self.push(b"lay"),
+            10 => self.push(b"find"),
+            11 => self.push(b"answer"),
+            12 => self.push(b"leave"),
+            13 => self.push(b"left"),
+            14 => self.push(b"gone"),
+            15 => self.push(b"forget"),
+            16 => self.push(b"cast"),
+            17 => self.push(b"castack"),
             _ => {}
         }
     }
 
-    // Adds bytes in hexadecimal, a piece at a time.
+    // Adds bytes in hexadecimal, at once if they are few.
     fn add_hex<K: Sink>(&mut self, sink: &mut K, bytes: &[u8])
+        ensures { Prints (K.state sink.old) (K.state sink.new)
+            (encode_lower bytes.now) self.old self.new }
+    {
+        if bytes.len() <= PIECE {
+            self.add_hex_piece(sink, bytes);
+        } else {
+            self.add_long_hex(sink, bytes);
+        }
+    }
+
+    // Adds bytes in hexadecimal, a piece at a time.
+    #[inline(never)]
+    fn add_long_hex<K: Sink>(&mut self, sink: &mut K, bytes: &[u8])
         ensures { Prints (K.state sink.old) (K.state sink.new)
             (encode_lower bytes.now) self.old self.new }
     {
@@ -128,6 +153,7 @@ impl Printer {
         }
     }
 
+    #[inline(never)]
     pub(crate) fn add_packet<K: Sink>(&mut self, sink: &mut K, packet: u32, frame: u32, ack: bool)
         ensures { Prints (K.state sink.old) (K.state sink.new)
             (packet_line packet frame ack) self.old self.new }
@@ -135,6 +161,29 @@ impl Printer {
         self.add_number_after(sink, b"packet ", packet);
         self.add_number_after(sink, packet_word(ack), frame);
     }
+
+    #[inline(never)]
+    pub(crate) fn add_arrived<K: Sink>(&mut self, sink: &mut K, packet: u32)
+        ensures { Prints (K.state sink.old) (K.state sink.new)
+            (number_after (codes "arrived ") packet) self.old self.new }
+    {
+        self.add_number_after(sink, b"arrived ", packet);
+    }
+
+    #[inline(never)]
+    pub(crate) fn add_lost<K: Sink>(&mut self, sink: &mut K, packet: u32)
+        ensures { Prints (K.state sink.old) (K.state sink.new)
+            (number_after (codes "lost ") packet) self.old self.new }
+    {
+        self.add_number_after(sink, b"lost ", packet);
+    }
+}
+
+// How many bytes of a frame stand before its names.
+fn head_len(settings: &Settings) -> usize
+    ensures { result ≡ head_len settings.now }
+{
+    if settings.digits() > 8 { 5 } else { 4 }
 }
 
 // What a packet carries.

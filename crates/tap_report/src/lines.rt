@@ -31,26 +31,34 @@ impl Printer {
             (text_of_record mode settings.now item.now) self.old self.new }
     {
         if is_printed(mode, item) {
-            self.add_line(sink, settings, item);
-            self.end_line(sink);
-            self.add_further_lines(sink, mode, settings, item);
+            self.add_lines(sink, mode, settings, item);
         }
     }
 
-    // Adds the first line of a record.
-    fn add_line<K: Sink>(&mut self, sink: &mut K, settings: &Option<Settings>, item: &Record)
+    // Adds the lines of a record. One that the brief text leaves out has no further lines.
+    fn add_lines<K: Sink>(
+        &mut self,
+        sink: &mut K,
+        mode: Mode,
+        settings: &Option<Settings>,
+        item: &Record,
+    )
         requires { IsPrintable settings.now item.now }
         ensures { Prints (K.state sink.old) (K.state sink.new)
-            (line_of settings.now item.now) self.old self.new }
+            (line (line_of settings.now item.now) ++ further_lines mode item.now) self.old self.new }
     {
         if is_in_brief(item) {
             self.add_brief_line(sink, settings, item);
+            self.end_line(sink);
+            self.add_further_lines(sink, mode, settings, item);
         } else {
             self.add_detail(sink, settings, item);
+            self.end_line(sink);
         }
     }
 
     // Adds the first line of a record that the brief text has too.
+    #[inline(never)]
     fn add_brief_line<K: Sink>(&mut self, sink: &mut K, settings: &Option<Settings>, item: &Record)
         requires printable { IsPrintable settings.now item.now }
         requires brief { is_in_brief item.now ≡ true }
@@ -121,14 +129,15 @@ impl Printer {
             ),
             Record::Taken { number } => self.add_u32_after(sink, b"taken ", *number),
             Record::Packet { number, frame, ack } => self.add_packet(sink, *number, *frame, *ack),
-            Record::Arrived { packet } => self.add_number_after(sink, b"arrived ", *packet),
+            Record::Arrived { packet } => self.add_arrived(sink, *packet),
             Record::Ticked => self.add(sink, b"ticked"),
-            Record::Lost { packet } => self.add_number_after(sink, b"lost ", *packet),
+            Record::Lost { packet } => self.add_lost(sink, *packet),
             _ => unreachable!(),
         }
     }
 
     // Adds the further lines of a beginning, a table and pointers.
+    #[inline(never)]
     fn add_further_lines<K: Sink>(
         &mut self,
         sink: &mut K,

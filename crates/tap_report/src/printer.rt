@@ -1,7 +1,7 @@
 ghost use Rattle.std.specs.Prelude.{◌≡◌, ◌≤◌, ◌<◌, ◌+◌, ◌*◌, ◌↔◌, [], All, IsTrue, decimal, length};
 ghost use Rattle.hex.specs.Hex.{encode_lower};
 ghost use Rattle.tap_name.specs.Name.{text_of_name};
-ghost use Rattle.tap_report.specs.Printer.{Prints, emptied, most_waiting, new_printer, with_more};
+ghost use Rattle.tap_report.specs.Printer.{Prints, Waits, emptied, most_waiting, new_printer};
 
 use crate::written::{Written, write_text};
 use std::marker::Model;
@@ -12,7 +12,7 @@ use tap_name::text_of_digit;
 const ROOM: usize = 512;
 
 // The most digits of a `u32`, in decimal.
-const MOST_DIGITS: usize = 10;
+pub(crate) const MOST_DIGITS: usize = 10;
 
 // Prints a text to a sink, piece by piece. Pieces wait in a room of its own, so that many are written at once.
 #[derive(Debug, Drop)]
@@ -81,15 +81,6 @@ impl Printer {
         self.push_hex(bytes);
     }
 
-    // Adds a number, in decimal.
-    #[inline(always)]
-    pub(crate) fn add_u32<K: Sink>(&mut self, sink: &mut K, number: u32)
-        ensures { Prints (K.state sink.old) (K.state sink.new) (decimal number) self.old self.new }
-    {
-        self.make_room(sink, MOST_DIGITS);
-        self.push_u32(number);
-    }
-
     // Writes what waits, and says whether all was written.
     pub(crate) fn flush<K: Sink>(&mut self, sink: &mut K) -> Written
         ensures prints { Prints (K.state sink.old) (K.state sink.new) [] self.old self.new }
@@ -112,14 +103,24 @@ impl Printer {
 
     // Makes room for so many bytes.
     #[inline(always)]
-    fn make_room<K: Sink>(&mut self, sink: &mut K, count: usize)
+    pub(crate) fn make_room<K: Sink>(&mut self, sink: &mut K, count: usize)
         requires { count ≤ most_waiting }
         ensures prints { Prints (K.state sink.old) (K.state sink.new) [] self.old self.new }
         ensures room { length self.new.waiting + count ≤ most_waiting }
     {
         if !self.has_room(count) {
-            self.flush(sink);
+            self.empty(sink);
         }
+    }
+
+    // Writes what waits, to make room.
+    #[cold]
+    #[inline(never)]
+    fn empty<K: Sink>(&mut self, sink: &mut K)
+        ensures prints { Prints (K.state sink.old) (K.state sink.new) [] self.old self.new }
+        ensures emptied { self.new.waiting ≡ [] }
+    {
+        self.flush(sink);
     }
 
     // Whether there is room for so many bytes.
@@ -132,9 +133,10 @@ impl Printer {
 
     // Adds bytes for which there is room.
     #[inline(always)]
-    fn push(&mut self, bytes: &[u8])
+    pub(crate) fn push(&mut self, bytes: &[u8])
         requires { length self.old.waiting + length bytes.now ≤ most_waiting }
-        ensures { self.new ≡ with_more self.old bytes.now }
+        ensures text { Waits bytes.now self.old self.new }
+        ensures len { length self.new.waiting ≡ length self.old.waiting + length bytes.now }
     {
         let end = self.len + bytes.len();
         self.room[self.len..end].copy_from_slice(bytes);
@@ -143,10 +145,11 @@ impl Printer {
 
     // Adds digits for which there is room, as they are printed.
     #[inline(always)]
-    fn push_digits(&mut self, digits: &[u8])
+    pub(crate) fn push_digits(&mut self, digits: &[u8])
         requires room { length self.old.waiting + length digits.now ≤ most_waiting }
         requires below { All (λ digit. digit < 16) digits.now }
-        ensures { self.new ≡ with_more self.old (text_of_name digits.now) }
+        ensures text { Waits (text_of_name digits.now) self.old self.new }
+        ensures len { length self.new.waiting ≡ length self.old.waiting + length digits.now }
     {
         let end = self.len + digits.len();
         print_digits(digits, &mut self.room[self.len..end]);
@@ -155,9 +158,10 @@ impl Printer {
 
     // Adds a number, in decimal, if there is room for all digits that it may have.
     #[inline(always)]
-    fn push_u32(&mut self, number: u32)
+    pub(crate) fn push_u32(&mut self, number: u32)
         requires { length self.old.waiting + 10 ≤ most_waiting }
-        ensures { self.new ≡ with_more self.old (decimal number) }
+        ensures text { Waits (decimal number) self.old self.new }
+        ensures len { length self.new.waiting ≤ length self.old.waiting + 10 }
     {
         let end = self.len + decimal_len(number);
         itoa::write_digits(number as u64, &mut self.room, end);
@@ -168,7 +172,7 @@ impl Printer {
     #[inline(always)]
     fn push_hex(&mut self, bytes: &[u8])
         requires { length self.old.waiting + 2 * length bytes.now ≤ most_waiting }
-        ensures { self.new ≡ with_more self.old (encode_lower bytes.now) }
+        ensures { Waits (encode_lower bytes.now) self.old self.new }
     {
         let end = self.len + 2 * bytes.len();
         print_hex(bytes, &mut self.room[self.len..end]);
@@ -219,12 +223,17 @@ fn few_digits(number: u32) -> usize
     ensures value { result ≡ length (decimal number) }
     ensures most { result ≤ 5 }
 {
-    match number {
-        0..=9 => 1,
-        10..=99 => 2,
-        100..=999 => 3,
-        1_000..=9_999 => 4,
-        _ => 5,
+    // The numbers of a run are large most of the time, so the greatest come first.
+    if number >= 10_000 {
+        5
+    } else if number >= 1_000 {
+        4
+    } else if number >= 100 {
+        3
+    } else if number >= 10 {
+        2
+    } else {
+        1
     }
 }
 

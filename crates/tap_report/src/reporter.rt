@@ -1,6 +1,8 @@
-ghost use Rattle.std.specs.Prelude.{◌≡◌, ◌<◌, ◌≤◌, ◌↔◌, IsNone, IsTrue};
-ghost use Rattle.tap_report.specs.Reporter.{Finishes, Puts, PutsWriteTheText, most_records, new_reporter, settings_after};
-ghost use Rattle.tap_report.specs.Text.{IsBegin, IsPrintable, IsPrintableLog, text_of_log};
+ghost use Rattle.std.specs.Prelude.{◌≡◌, ◌<◌, ◌≤◌, ◌+◌, ◌-◌, ◌↔◌, IsNone, IsTrue, fold, length};
+ghost use Rattle.tap_report.specs.Printer.{Prints};
+ghost use Rattle.tap_report.specs.Reporter.{Finishes, Puts, PutsAll, PutsWriteTheText, most_records, new_reporter, settings_after};
+ghost use Rattle.tap_report.specs.Tally.{CountsWithin, tally_after};
+ghost use Rattle.tap_report.specs.Text.{ArePrintable, BeginsAfter, IsBegin, IsPrintable, IsPrintableLog, text_of_log, texts_after};
 ghost use Rattle.tap_report.specs.Written.{WritesText};
 
 use crate::mode::Mode;
@@ -85,6 +87,31 @@ impl Reporter {
         written
     }
 
+    /// Writes the texts of several records together, as the puts of them would one after another. The first record of all, and no
+    /// other one, is a `Begin`; each record is as [`Reporter::put`] wants it; and no more than [`MOST_RECORDS`] are put in all.
+    ///
+    /// The first `Failed` comes only if the sink counted a fault in this call, and some first bytes of the texts are then
+    /// written. A record that isn't written counts as put.
+    ///
+    /// Rule: docs/FORMATS.md, "The printed text".
+    pub fn put_all<K: Sink>(&mut self, items: &[Record], sink: &mut K) -> Written
+        requires begins { BeginsAfter self.old.settings items.now }
+        requires printable { ArePrintable self.old.settings items.now }
+        requires few { self.old.records + length items.now ≤ most_records }
+        ensures { PutsAll self.old self.new items.now (K.state sink.old) (K.state sink.new) result }
+    {
+        print_each(
+            &mut self.printer,
+            &mut self.settings,
+            &mut self.tally,
+            self.mode,
+            items,
+            sink,
+        );
+        self.records += items.len() as u32;
+        self.printer.flush(sink)
+    }
+
     /// Ends the text. In the mode Summary the summary follows the last record, if a `Begin` was put, and in the
     /// other modes nothing does. The answer says whether all was written.
     pub fn finish<K: Sink>(&mut self, sink: &mut K) -> Written
@@ -106,6 +133,28 @@ fn keep_settings(kept: &mut Option<Settings>, item: &Record)
     }
 }
 
+// Prints records, one after another, and keeps what is kept of them.
+fn print_each<K: Sink>(
+    printer: &mut Printer,
+    settings: &mut Option<Settings>,
+    tally: &mut Tally,
+    mode: Mode,
+    items: &[Record],
+    sink: &mut K,
+)
+    requires printable { ArePrintable settings.old items.now }
+    requires counts { CountsWithin (u64.MAX - length items.now) tally.old }
+    ensures text { Prints (K.state sink.old) (K.state sink.new) (texts_after mode settings.old items.now) printer.old printer.new }
+    ensures settings { settings.new ≡ fold settings_after settings.old items.now }
+    ensures tally { tally.new ≡ fold tally_after tally.old items.now }
+{
+    for item in items {
+        printer.add_record(sink, mode, settings, item);
+        keep_settings(settings, item);
+        tally.add(item);
+    }
+}
+
 /// Writes the text of a log, as the puts of its records and a finish do. Takes no memory.
 ///
 /// The log is empty, or its first record is its only `Begin`. Each record is as [`Reporter::put`] wants it. `Failed`
@@ -118,14 +167,16 @@ pub fn write_log<K: Sink>(mode: Mode, log: &Log, sink: &mut K) -> Written
         (text_of_log mode log.now.records) Written.All result }
 {
     let mut printer = Printer::new();
-    let records = log.as_slice();
     let mut settings = None;
     let mut tally = Tally::new();
-    for item in records {
-        printer.add_record(sink, mode, &settings, item);
-        keep_settings(&mut settings, item);
-        tally.add(item);
-    }
+    print_each(
+        &mut printer,
+        &mut settings,
+        &mut tally,
+        mode,
+        log.as_slice(),
+        sink,
+    );
     printer.add_ending(sink, mode, &settings, &tally);
     printer.flush(sink)
 }

@@ -1,10 +1,10 @@
-ghost use Rattle.std.specs.Prelude.{◌<◌, ◌∷◌, [], ◌++◌, codes};
+ghost use Rattle.std.specs.Prelude.{◌<◌, ◌≤◌, ◌∷◌, [], ◌++◌, codes, length};
 ghost use Rattle.tap_name.specs.Digits.{text_of_digit};
 ghost use Rattle.tap_name.specs.Name.{text_of_name};
 ghost use Rattle.tap_report.specs.Printer.{Prints};
 ghost use Rattle.tap_report.specs.Shapes.{name_after, number_after, object_at, object_from, spaced_names, two_names_after, two_numbers_after};
 
-use crate::printer::Printer;
+use crate::printer::{MOST_DIGITS, Printer};
 use itoa::{Buffer, Integer};
 use tap_io::Sink;
 use tap_name::{Name, text_of_digit};
@@ -74,11 +74,13 @@ impl Printer {
     // Adds a word and a number of at most ten digits.
     #[inline(always)]
     pub(crate) fn add_u32_after<K: Sink>(&mut self, sink: &mut K, word: &[u8], number: u32)
+        requires { length word.now ≤ 20 }
         ensures { Prints (K.state sink.old) (K.state sink.new)
             (number_after word.now number) self.old self.new }
     {
-        self.add(sink, word);
-        self.add_u32(sink, number);
+        self.make_room(sink, word.len() + MOST_DIGITS);
+        self.push(word);
+        self.push_u32(number);
     }
 
     // Adds a word and a name, and then another word and name.

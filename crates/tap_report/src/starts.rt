@@ -48,6 +48,7 @@ impl Printer {
         }
     }
 
+    #[inline(never)]
     pub(crate) fn add_step<K: Sink>(&mut self, sink: &mut K, index: u32, step: &Step)
         ensures { Prints (K.state sink.old) (K.state sink.new)
             (step_line index step.now) self.old self.new }

@@ -26,9 +26,7 @@ pub(crate) fn put_from<K: Sink>(log: &Log, from: usize, reporter: &mut Reporter,
         → Reports mode (take from log.now.records) first (K.state sink.old) reporter.old
         → Reports mode log.now.records first (K.state sink.new) reporter.new }
 {
-    for place in from..log.len() {
-        reporter.put(log.at(place), sink);
-    }
+    reporter.put_all(&log.as_slice()[from..], sink);
 }
 
 // Plays a scenario to its end, and puts the records of each turn once it is over.

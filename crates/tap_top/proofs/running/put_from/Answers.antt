@@ -1,46 +1,42 @@
-use Rattle.std.proofs.Common.{◌≡◌, arith, ap, ◌∙◌, ◌+◌, ℕ, None, Option, take}
-use Rattle.std.specs.Prelude.{fold}
-use Rattle.std.proofs.lemmas.List.{take_all}
+use Rattle.std.proofs.Common.{◌≡◌, ◌∙◌, ℕ, Option, ap, arith, drop, length, length-drop, slice_range}
 use Rattle.tap_name.specs.Settings.{SettingsValue}
-use Rattle.tap_report.specs.Reporter.{ReporterValue, settings_after}
-use Rattle.tap_report.proofs.ReportsLemmas.{Reports-next, begins_next}
-use Rattle.tap_report.proofs.PiecewiseLemmas.{IsPrintable-at, Reports-all, item_at, settings_so_far-next}
+use Rattle.tap_report.specs.Reporter.{ReporterValue}
+use Rattle.tap_report.proofs.PiecewiseLemmas.{ArePrintable-rest, BeginsAfter-rest, Reports-rest, rest_of, settings_so_far-rest}
 use Rattle.tap_top.proofs.running.put_from.Goals as goal
 
-pub put-requires-clause-begins : goal.put-requires-clause-begins
-put-requires-clause-begins g c =
-    begins_next c.args.log.now.records c.loop-place.place c.at.result.now c.loop-place.reporter.settings c.requires.printable.begins
-    (omega arith)
-    (item_at c.args.log.now.records c.loop-place.place c.at.result.now c.at.ensures) c.loop-place.invariant.settings
+pub put_all-requires-clause-begins : goal.put_all-requires-clause-begins
+put_all-requires-clause-begins g c =
+    let log = c.args.log.now.records in
+    BeginsAfter-rest log _ c.args.from c.args.reporter.now.settings (rw c.as_slice.ensures (rest_of log c.args.from)) c.requires.settings
+    c.requires.printable.begins
 
-pub put-requires-clause-printable : goal.put-requires-clause-printable
-put-requires-clause-printable g c =
-    IsPrintable-at c.args.log.now.records c.loop-place.place c.at.result.now c.loop-place.reporter.settings
-    (omega arith) c.at.ensures c.loop-place.invariant.settings
+pub put_all-requires-clause-printable : goal.put_all-requires-clause-printable
+put_all-requires-clause-printable g c =
+    let log = c.args.log.now.records in
+    ArePrintable-rest log _ c.args.from c.args.reporter.now.settings (rw c.as_slice.ensures (rest_of log c.args.from)) c.requires.settings
     c.requires.printable.each
 
-pub loop-place-preserved : goal.loop-place-preserved
-loop-place-preserved g c =
+pub returns-clause-put : goal.returns-clause-put
+returns-clause-put g c =
+    let log = c.args.log.now.records in
     let records_of : ReporterValue → ℕ = λ kept. kept.records in
-    let kept_settings : ReporterValue → Option SettingsValue = λ kept. kept.settings in
-    record {
-      put = ap records_of c.put.ensures.reporter ∙ ap (λ n. n + 1) c.loop-place.invariant.put;
-      settings = ap kept_settings c.put.ensures.reporter
-          ∙ settings_so_far-next c.args.log.now.records c.loop-place.place c.at.result.now c.loop-place.reporter.settings
-          (omega arith) c.at.ensures c.loop-place.invariant.settings;
-      reports = λ mode first reports.
-          Reports-next c.args.log.now.records c.loop-place.place c.at.result.now (omega arith)
-          (item_at c.args.log.now.records c.loop-place.place c.at.result.now c.at.ensures)
-          (c.loop-place.invariant.reports mode first reports) c.put.ensures;
-    }
+    let all = rw (c.as_slice.ensures, rest_of log c.args.from) at c.put_all.ensures.reporter in
+    ap records_of all ∙ omega (arith, c.requires.put, c.requires.from, length-drop c.args.from log)
 
 pub returns-clause-settings : goal.returns-clause-settings
 returns-clause-settings g c =
-    let all : take c.loop-place.place c.args.log.now.records ≡ c.args.log.now.records =
-    take_all c.loop-place.place c.args.log.now.records (omega arith) in
-    c.loop-place.invariant.settings ∙ ap (fold settings_after None) all
+    let log = c.args.log.now.records in
+    let items = c.as_slice.result.now in
+    let rest = slice_range items c.args.from (length items) in
+    let is : rest ≡ drop c.args.from log = rw c.as_slice.ensures (rest_of log c.args.from) in
+    let kept_settings : ReporterValue → Option SettingsValue = λ kept. kept.settings in
+    ap kept_settings c.put_all.ensures.reporter
+    ∙ settings_so_far-rest log rest c.args.from c.args.reporter.now.settings is c.requires.settings
 
 pub returns-clause-reports : goal.returns-clause-reports
 returns-clause-reports g c = λ mode first reports.
-    Reports-all mode c.args.log.now.records c.loop-place.place first (g.K.Sink.state c.loop-place.sink) c.loop-place.reporter
-    (omega arith) (c.loop-place.invariant.reports mode first reports)
+    let log = c.args.log.now.records in
+    let items = c.as_slice.result.now in
+    let rest = slice_range items c.args.from (length items) in
+    let is : rest ≡ drop c.args.from log = rw c.as_slice.ensures (rest_of log c.args.from) in
+    Reports-rest log rest c.args.from is reports c.put_all.ensures

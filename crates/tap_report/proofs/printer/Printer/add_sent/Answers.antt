@@ -1,6 +1,8 @@
-use Rattle.tap_report.proofs.PrintsLemmas.{◌⨾◌}
+use Rattle.tap_report.proofs.PrintsLemmas.{◌⨾◌, Prints-waits, Waits-then}
 use Rattle.tap_report.proofs.printer.Printer.add_sent.Goals as goal
 
 pub returns : goal.returns
 returns g c =
-    c.add_u32_after.ensures ⨾ c.add.ensures ⨾ c.add_heading.ensures ⨾ c.add-2.ensures ⨾ c.add_hex.ensures
+    let number = Waits-then c.push.ensures.text c.push_u32.ensures.text in
+    let head = Waits-then (Waits-then number c.push-2.ensures.text) c.push_heading.ensures.text in
+    c.make_room.ensures.prints ⨾ Prints-waits (Waits-then head c.push-3.ensures.text) ⨾ c.add_hex.ensures

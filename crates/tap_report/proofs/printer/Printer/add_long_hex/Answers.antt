@@ -2,7 +2,7 @@ use Rattle.std.proofs.Common.{arith}
 use Rattle.hex.specs.Hex.{encode_with}
 use Rattle.tap_report.proofs.TextLemmas.{encode_lower-piece}
 use Rattle.tap_report.proofs.PrintsLemmas.{◌⨾◌, Prints-none}
-use Rattle.tap_report.proofs.printer.Printer.add_hex.Goals as goal
+use Rattle.tap_report.proofs.printer.Printer.add_long_hex.Goals as goal
 
 pub loop-done-init : goal.loop-done-init
 unfolding encode_with

@@ -1,7 +1,7 @@
 use Rattle.std.proofs.Common.{◌≤◌, ◌-◌, length, take}
 use Rattle.hex.specs.Hex.{encode_lower}
 use Rattle.tap_report.specs.Printer.{Prints}
-use Rattle.tap_report.proofs.printer.Printer.add_hex.Given as goal
+use Rattle.tap_report.proofs.printer.Printer.add_long_hex.Given as goal
 
 abbrev pub invariant-loop-done : goal.invariant-loop-done
 invariant-loop-done g l = record {

@@ -1,0 +1,5 @@
+use Rattle.tap_report.proofs.PrintsLemmas.{◌⨾◌, Prints-waits}
+use Rattle.tap_report.proofs.printer.Printer.add_hex_piece.Goals as goal
+
+pub returns : goal.returns
+returns g c = c.make_room.ensures.prints ⨾ Prints-waits c.push_hex.ensures
