@@ -43,13 +43,13 @@ use Rattle.tap_moves.proofs.InvariantMoves.{due}
 use Rattle.tap_moves.proofs.MovesMade.{by_rule, is_found}
 use Rattle.tap_invariant.specs.Moves.{after_moves, may_run}
 use Rattle.tap_invariant.specs.Sound.{Sound}
-use Rattle.tap_invariant.proofs.Consequences.{none_is_strange}
 use Rattle.tap_invariant.proofs.Members.{sound_at_rest}
 use Rattle.tap_invariant.proofs.Moves.{move_keeps}
 use Rattle.tap_bounds.specs.Hellos.{FewAreOnce, HellosAreFew, HellosAtRest, MoveKeepsHellos, RunHellosFew, if_covered, is_core_hello, is_joining_hello, most_as_core, most_as_joining}
 use Rattle.tap_bounds.specs.Moves.{traffic_of}
 use Rattle.tap_bounds.specs.Traffic.{Traffic, no_traffic, sent_by, traffic_after}
 use Rattle.tap_bounds.proofs.Counting.{count-append, count-map_none, counted}
+use Rattle.tap_bounds.proofs.Delivered.{is_delivery}
 use Rattle.tap_bounds.proofs.HelloRules.{IsUngreeting, Ungreeting, keeps, rule_ungreeting, start_ungreeting}
 use Rattle.tap_bounds.proofs.HelloSteps.{Greets, core_from, core_most, core_tests, joining_from, joining_most, joining_tests, meets_greet, pins_greet, ungreeting_greets}
 
@@ -279,16 +279,7 @@ frame_keeps : (p : SettingsValue) (s : System) (r : Traffic) (number : ℕ) (fra
     → HellosAreFew s r → AmongFrames number frame s.frames → s.node frame.to ≡ Some node
     → HellosAreFew (after_delivery p s number) (traffic_after p s r (Delivers number))
 frame_keeps p s r number frame node sound few among at =
-    let name : name_of node ≡ frame.to = (sound.nodes.nodes frame.to node at).name in
-    let same : frame ≡ frame_to node frame.from frame.body =
-    ap (λ to. record { from = frame.from; to = to; body = frame.body }) (sym name) in
-    delivery_keeps p s r number node frame.from frame.body (record {
-      invariant = sound.invariant.basis;
-      nodes = sound.nodes;
-      among = subst (λ f. AmongFrames number f s.frames) same among;
-      at = ap s.node name ∙ at;
-      known = subst (λ f. is_strange node f ≡ false) same (none_is_strange p s number frame node sound among at);
-    }) few
+    delivery_keeps p s r number node frame.from frame.body (is_delivery p s number frame node sound among at) few
 
 -- ---- starts
 

@@ -6,10 +6,9 @@ use Rattle.std.proofs.lemmas.Bool.{cases_Bool, true≢false}
 use Rattle.std.proofs.lemmas.List.{map-append}
 use Rattle.std.proofs.lemmas.List.Elements.{All-cons, All-head, All-map, All-nil, All-tail}
 use Rattle.std.proofs.lemmas.Slice.Eq.{bytes_eq-Decides}
-use Rattle.tap_name.specs.Names.{Among, has_name}
+use Rattle.tap_name.specs.Names.{has_name}
 use Rattle.tap_name.specs.declared.slot.Offered.{Offered}
 use Rattle.tap_name.specs.declared.slot.Slot.{Slot}
-use Rattle.tap_name.proofs.Membership.{has_name-Decides}
 use Rattle.tap_table.specs.Levels.{is_kept}
 use Rattle.tap_table.specs.Table.{TableValue, pinned as table_pinned}
 use Rattle.tap_table.specs.declared.tie.Tie.{Tie}
@@ -33,6 +32,7 @@ use Rattle.tap_rule.specs.Reaction.{Message, Reaction, message, pin_word, sends,
 use Rattle.tap_rule.specs.Sending.{message_frame}
 use Rattle.tap_bounds.specs.Hellos.{if_covered, is_core_hello, is_joining_hello, most_as_core, most_as_joining, says_core, says_joining}
 use Rattle.tap_bounds.proofs.Counting.{CountsMessages, count-append, count-cons}
+use Rattle.tap_bounds.proofs.Greeted.{greeted_more}
 use Rattle.tap_bounds.proofs.HelloRules.{AreUngreeting, IsUngreeting, Ungreeting, answer_plain, keeps}
 
 -- ---- tests
@@ -383,15 +383,6 @@ module _ (node : NodeState) (request : Request) (at : node.status ≡ Core) wher
 
 -- ---- the rule of a Tell at a joining node
 
-among_more : (x : List ℕ) (xs ys : List (List ℕ)) → Among x xs → Among x (xs ++ ys)
-among_more x [] ys among = absurd among
-among_more x (z ∷ zs) ys (inl is) = inl is
-among_more x (z ∷ zs) ys (inr later) = inr (among_more x zs ys later)
-
-among_last : (x : List ℕ) (xs : List (List ℕ)) → Among x (xs ++ x ∷ [])
-among_last x [] = inl refl
-among_last x (z ∷ zs) = inr (among_last x zs)
-
 module _ (node : NodeState) (from : List ℕ) (tell : TellFields) (at : node.status ≡ Joining) where
   abbrev met : Reaction
   met = with_words (words_of (pin_word node tell.joiner)) (welcomes (with_pin node tell.joiner) from tell)
@@ -408,33 +399,12 @@ module _ (node : NodeState) (from : List ℕ) (tell : TellFields) (at : node.sta
     joining = λ b.
         let one = count-cons (is_joining_hello (name_of node) b) welcome [] in
         let less = both_and (pointwise nat_eq (name_of node) (name_of node)) (pointwise nat_eq tell.joiner b) in
-        let more = greeted_more b in
+        let more = greeted_more node.greeted tell.joiner new b in
         let was : most_as_joining node.status node b ≡ cond {A = ℕ} (has_name node.greeted b) 1 0 = rw at refl in
         let now : most_as_joining met.state.status met.state b ≡ cond {A = ℕ} (has_name (node.greeted ++ tell.joiner ∷ []) b) 1 0 =
         rw at refl in
         omega (arith, one, less, more, was, now);
   }
-    where
-      greeted_more : (b : List ℕ) → cond {A = ℕ} (pointwise nat_eq tell.joiner b) 1 0 + cond {A = ℕ} (has_name node.greeted b) 1 0
-          ≤ cond {A = ℕ} (has_name (node.greeted ++ tell.joiner ∷ []) b) 1 0
-      greeted_more b =
-          elim (cases_Bool (pointwise nat_eq tell.joiner b)) [
-            | inl same ↦
-                let is = (bytes_eq-Decides tell.joiner b).0 same in
-                let before : has_name node.greeted b ≡ false = ap (has_name node.greeted) (sym is) ∙ new in
-                let after : has_name (node.greeted ++ tell.joiner ∷ []) b ≡ true =
-                (has_name-Decides (node.greeted ++ tell.joiner ∷ []) b).1
-                (subst (λ c. Among c (node.greeted ++ tell.joiner ∷ [])) is (among_last tell.joiner node.greeted)) in
-                rw (same, before, after) (omega arith)
-            | inr differs ↦ elim (cases_Bool (has_name node.greeted b)) [
-              | inl has ↦
-                  let after : has_name (node.greeted ++ tell.joiner ∷ []) b ≡ true =
-                  (has_name-Decides (node.greeted ++ tell.joiner ∷ []) b).1
-                  (among_more b node.greeted (tell.joiner ∷ []) ((has_name-Decides node.greeted b).0 has)) in
-                  rw (differs, has, after) (omega arith)
-              | inr none ↦ rw (differs, none) (omega arith)
-            ]
-          ]
 
   by_before : (before : Bool) → has_name node.greeted tell.joiner ≡ before
       → Greets node (with_words (words_of (pin_word node tell.joiner)) (if before

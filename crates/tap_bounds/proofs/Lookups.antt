@@ -1,6 +1,5 @@
 -- A lookup that starts at rest has one frame under way at most: a Find that goes up from level to level, and then its Answer.
-use Rattle.std.proofs.Common.{◌≡◌, ◌⊎◌, ℕ, ◌+◌, ◌-◌, ◌≤◌, ◌<◌, false, List, [], ◌∷◌, ◌++◌, drop, length, map, Option, None, Some, arith, ap, refl, sym, subst, ◌∙◌, inl, inr}
-use Rattle.std.proofs.lemmas.List.{length-append}
+use Rattle.std.proofs.Common.{◌≡◌, ◌⊎◌, ℕ, ◌+◌, ◌-◌, ◌≤◌, ◌<◌, List, [], ◌++◌, drop, map, Option, None, Some, arith, ap, refl, sym, subst, ◌∙◌, inl, inr}
 use Rattle.tap_name.specs.Name.{IsName}
 use Rattle.tap_name.specs.Settings.{SettingsValue}
 use Rattle.tap_table.specs.Next.{next_from}
@@ -27,28 +26,23 @@ use Rattle.tap_rule.specs.Node.Status.{Ceased, Core, Gone, Joining, Leaving}
 use Rattle.tap_rule.specs.PointerSteps.{FindStep, LookupStep}
 use Rattle.tap_rule.specs.Reaction.{message}
 use Rattle.tap_rule.specs.Sending.{by_receiver, lay_frame, message_frame}
-use Rattle.tap_rule.specs.Strange.{is_strange}
 use Rattle.tap_rule.proofs.CarriedOut.{unruled_law}
 use Rattle.tap_rule.proofs.PointerSteps.{find_law, found_law, lookup_law}
-use Rattle.tap_safety.specs.Move.{MayActOn, Move}
-use Rattle.tap_safety.specs.Move.Move.{Begins, Delivers}
+use Rattle.tap_safety.specs.Move.{MayActOn}
+use Rattle.tap_safety.specs.Move.Move.{Begins}
 use Rattle.tap_safety.specs.Moved.{moved}
-use Rattle.tap_safety.specs.Step.{IsTaken, numbered_from}
-use Rattle.tap_safety.specs.System.{System, AmongFrames}
+use Rattle.tap_safety.specs.Step.{numbered_from}
+use Rattle.tap_safety.specs.System.{System}
 use Rattle.tap_safety.proofs.Moves.{starts}
 use Rattle.tap_moves.specs.ByRule.{taken_at}
-use Rattle.tap_moves.specs.Delivered.{after_delivery, after_start}
+use Rattle.tap_moves.specs.Delivered.{after_start}
 use Rattle.tap_moves.specs.InvariantLaws.{IsDelivery}
-use Rattle.tap_moves.proofs.InvariantMoves.{due}
-use Rattle.tap_moves.proofs.MovesMade.{by_rule, is_found}
 use Rattle.tap_moves.proofs.SeekGoesOn.{one_sent}
-use Rattle.tap_invariant.specs.Moves.{may_run}
 use Rattle.tap_invariant.specs.Sound.{Sound}
-use Rattle.tap_invariant.proofs.Consequences.{none_is_strange}
 use Rattle.tap_invariant.proofs.Moves.{move_keeps}
-use Rattle.tap_bounds.specs.Lookups.{AreDeliveries, LookupSendsFew}
-use Rattle.tap_bounds.specs.Moves.{traffic_of}
-use Rattle.tap_bounds.specs.Traffic.{Traffic, no_traffic, sent_by, traffic_after}
+use Rattle.tap_bounds.specs.Lookups.{LookupSendsFew}
+use Rattle.tap_bounds.specs.Traffic.{no_traffic, sent_by, traffic_after}
+use Rattle.tap_bounds.proofs.OneWay.{MoveLeft, SendsLeft, deliveries_left, move_left, sends_none, sends_one}
 
 -- ---- how many frames may follow
 
@@ -58,17 +52,8 @@ Leaves digits most (Find ticket object asker level) = digits + 1 ≤ level + mos
 Leaves digits most (Answer ticket server) = Unit {0}
 Leaves digits most other = ⊥
 
--- none is under way, or one after which so many are sent
-abbrev pub HasLeft : ℕ → ℕ → List Frame → Type 0
-HasLeft digits most [] = Unit {0}
-HasLeft digits most (f ∷ []) = Leaves digits most f.body
-HasLeft digits most (f ∷ g ∷ fs) = ⊥
-
--- what a step sends, with what may follow
-pub record SendsLeft (digits most : ℕ) (sent : List Frame) : Type 0 where
-  pub after : ℕ
-  pub few : length sent + after ≤ most
-  pub left : HasLeft digits after sent
+abbrev FrameLeaves : ℕ → ℕ → Frame → Type 0
+FrameLeaves digits most f = Leaves digits most f.body
 
 -- a step without words and messages, whose pointers are laid as wanted, sends nothing
 none_sent : (node : NodeState) (news : News) (acted : Acted) → IsCompleted node node.pointers [] [] news acted
@@ -78,15 +63,6 @@ none_sent node news acted completed laid =
     let none : lays_after node node.pointers [] acted ≡ [] =
     (laid_sends_nothing acted.state.ties.table (node.stamp + 0) node.pointers laid).0 in
     completed.sent.all ∙ ap (λ (lays : List Lay). map (lay_frame (name_of node)) lays) none
-
-sends_none : (digits most : ℕ) (sent : List Frame) → sent ≡ [] → SendsLeft digits most sent
-sends_none digits most sent none =
-    subst (SendsLeft digits most) (sym none) (record { after = 0; few = omega arith; left = tt })
-
-sends_one : (digits most after : ℕ) (f : Frame) (sent : List Frame) → sent ≡ f ∷ [] → after + 1 ≤ most → Leaves digits after f.body
-    → SendsLeft digits most sent
-sends_one digits most after f sent one few leaves =
-    subst (SendsLeft digits most) (sym one) (record { after = after; few = omega (arith, few); left = leaves })
 
 -- ---- a hop goes up
 
@@ -103,16 +79,16 @@ module _ (p : SettingsValue) (node : NodeState) (object to : List ℕ) (level ne
 
 module _ (p : SettingsValue) (s : System) (number most : ℕ) (node : NodeState) (from : List ℕ) where
   -- a rule that isn't there
-  unruled : (body : Body) → rule_of_frame node.status node from body ≡ None → SendsLeft p.digits most (taken_at node from body).sent
+  unruled : (body : Body) → rule_of_frame node.status node from body ≡ None → SendsLeft (FrameLeaves p.digits) most (taken_at node from body).sent
   unruled body none =
-      sends_none p.digits most (taken_at node from body).sent (unruled_law node (frame_to node from body) none).sent
+      sends_none (FrameLeaves p.digits) most (taken_at node from body).sent (unruled_law node (frame_to node from body) none).sent
 
   module _ (ticket : ℕ) (object asker : List ℕ) (level : ℕ)
       (is : IsDelivery p s number node from (Find ticket object asker level)) (room : p.digits + 1 ≤ level + most) where
     abbrev acted : Acted
     acted = taken_at node from (Find ticket object asker level)
 
-    find_late : (node.status ≡ Core) ⊎ (node.status ≡ Leaving) → IsRunning node.status → SendsLeft p.digits most acted.sent
+    find_late : (node.status ≡ Core) ⊎ (node.status ≡ Leaving) → IsRunning node.status → SendsLeft (FrameLeaves p.digits) most acted.sent
     find_late at runs =
         let step = find_law node from ticket object asker level at is.known in
         let of = is.nodes.nodes (name_of node) node is.at in
@@ -122,28 +98,28 @@ module _ (p : SettingsValue) (s : System) (number most : ℕ) (node : NodeState)
       where
         by_next : FindStep node ticket object asker level acted → AreLaid acted.state.ties.table node.pointers → IsName p object
             → level ≤ p.digits → least_server node.pointers object ≡ None → (next : Next)
-            → next_from node.ties.table level (drop level object) ≡ next → SendsLeft p.digits most acted.sent
+            → next_from node.ties.table level (drop level object) ≡ next → SendsLeft (FrameLeaves p.digits) most acted.sent
         by_next step laid named inside none Root found =
-            sends_one p.digits most 0 (message_frame (name_of node) (message asker (Answer ticket None))) acted.sent
+            sends_one (FrameLeaves p.digits) most 0 (message_frame (name_of node) (message asker (Answer ticket None))) acted.sent
             (one_sent node (message asker (Answer ticket None)) acted (step.at_root none found) laid) (omega (arith, room, inside)) tt
         by_next step laid named inside none (Hop to next) found =
             let of = is.nodes.nodes (name_of node) node is.at in
             let above = hop_above p node object to level next named inside of.settings of.is_node.ties.table found in
-            sends_one p.digits most (most - 1) (message_frame (name_of node) (message to (Find ticket object asker next))) acted.sent
+            sends_one (FrameLeaves p.digits) most (most - 1) (message_frame (name_of node) (message to (Find ticket object asker next))) acted.sent
             (one_sent node (message to (Find ticket object asker next)) acted (step.goes_on to next none found) laid)
             (omega (arith, room, inside)) (omega (arith, room, inside, above))
 
         by_server : FindStep node ticket object asker level acted → AreLaid acted.state.ties.table node.pointers → IsName p object
             → level ≤ p.digits → (server : Option (List ℕ)) → least_server node.pointers object ≡ server
-            → SendsLeft p.digits most acted.sent
+            → SendsLeft (FrameLeaves p.digits) most acted.sent
         by_server step laid named inside (Some server) held =
-            sends_one p.digits most 0 (message_frame (name_of node) (message asker (Answer ticket (Some server)))) acted.sent
+            sends_one (FrameLeaves p.digits) most 0 (message_frame (name_of node) (message asker (Answer ticket (Some server)))) acted.sent
             (one_sent node (message asker (Answer ticket (Some server))) acted (step.served server held) laid)
             (omega (arith, room, inside)) tt
         by_server step laid named inside None none =
             by_next step laid named inside none (next_from node.ties.table level (drop level object)) refl
 
-    find_sends : (status : Status) → node.status ≡ status → SendsLeft p.digits most acted.sent
+    find_sends : (status : Status) → node.status ≡ status → SendsLeft (FrameLeaves p.digits) most acted.sent
     unfolding frame_at_joining frame_at_ceased
     find_sends Core at = find_late (inl at) (rw at tt)
     find_sends Leaving at = find_late (inr at) (rw at tt)
@@ -153,15 +129,15 @@ module _ (p : SettingsValue) (s : System) (number most : ℕ) (node : NodeState)
 
   module _ (ticket : ℕ) (server : Option (List ℕ)) (is : IsDelivery p s number node from (Answer ticket server)) where
     answer_late : (node.status ≡ Core) ⊎ (node.status ≡ Leaving) → IsRunning node.status
-        → SendsLeft p.digits most (taken_at node from (Answer ticket server)).sent
+        → SendsLeft (FrameLeaves p.digits) most (taken_at node from (Answer ticket server)).sent
     answer_late at runs =
         let step = found_law node from ticket server at is.known in
         let of = is.nodes.nodes (name_of node) node is.at in
-        sends_none p.digits most (taken_at node from (Answer ticket server)).sent
+        sends_none (FrameLeaves p.digits) most (taken_at node from (Answer ticket server)).sent
         (none_sent node _ (taken_at node from (Answer ticket server)) step.completed
         (subst (λ (ties : TiesValue). AreLaid ties.table node.pointers) (sym step.alike.ties) (of.laid runs)))
 
-    answer_sends : (status : Status) → node.status ≡ status → SendsLeft p.digits most (taken_at node from (Answer ticket server)).sent
+    answer_sends : (status : Status) → node.status ≡ status → SendsLeft (FrameLeaves p.digits) most (taken_at node from (Answer ticket server)).sent
     unfolding frame_at_joining frame_at_ceased
     answer_sends Core at = answer_late (inl at) (rw at tt)
     answer_sends Leaving at = answer_late (inr at) (rw at tt)
@@ -170,101 +146,10 @@ module _ (p : SettingsValue) (s : System) (number most : ℕ) (node : NodeState)
     answer_sends Ceased at = unruled (Answer ticket server) (rw at refl)
 
   pub frame_sends : (body : Body) → Leaves p.digits most body → IsDelivery p s number node from body
-      → SendsLeft p.digits most (taken_at node from body).sent
+      → SendsLeft (FrameLeaves p.digits) most (taken_at node from body).sent
   frame_sends (Find ticket object asker level) room is = find_sends ticket object asker level is room node.status refl
   frame_sends (Answer ticket server) room is = answer_sends ticket server is node.status refl
   frame_sends other room is = absurd room
-
--- ---- the frame that is under way
-
-abbrev pub WayLeft : ℕ → ℕ → List (ℕ × Frame) → Type 0
-WayLeft digits most [] = Unit {0}
-WayLeft digits most (f ∷ []) = Leaves digits most f.1.body
-WayLeft digits most (f ∷ g ∷ fs) = ⊥
-
-numbered_left : (digits most n : ℕ) (sent : List Frame) → HasLeft digits most sent → WayLeft digits most (numbered_from n sent)
-numbered_left digits most n [] left = tt
-numbered_left digits most n (f ∷ []) left = left
-numbered_left digits most n (f ∷ g ∷ fs) left = absurd left
-
--- a move sends some, with what may follow
-pub record MoveLeft (digits most : ℕ) (s' : System) (sent : List Frame) : Type 0 where
-  pub after : ℕ
-  pub few : length sent + after ≤ most
-  pub left : WayLeft digits after s'.frames
-
-move_left : (digits most n : ℕ) (s' : System) (sent : List Frame) → s'.frames ≡ numbered_from n sent → SendsLeft digits most sent
-    → MoveLeft digits most s' sent
-move_left digits most n s' sent are left = record {
-  after = left.after;
-  few = left.few;
-  left = subst (WayLeft digits left.after) (sym are) (numbered_left digits left.after n sent left.left);
-}
-
--- one frame, split: nothing stands before or after it
-alone_in : (front : List (ℕ × Frame)) (x y : ℕ × Frame) (back : List (ℕ × Frame)) → front ++ x ∷ back ≡ y ∷ []
-    → (front ≡ []) × (back ≡ [])
-alone_in [] x y back is = (refl, cc)
-alone_in (a ∷ []) x y back is = absurd (cc)
-alone_in (a ∷ b ∷ front) x y back is = absurd (cc)
-
-module _ (p : SettingsValue) (s : System) (number most : ℕ) (frame : Frame) (node : NodeState) (sound : Sound p s)
-    (among : AmongFrames number frame s.frames) (at : s.node frame.to ≡ Some node) where
-  abbrev from : List ℕ
-  from = frame.from
-
-  abbrev body : Body
-  body = frame.body
-
-  abbrev s' : System
-  s' = after_delivery p s number
-
-  name : name_of node ≡ frame.to
-  name = (sound.nodes.nodes frame.to node at).name
-
-  same : frame ≡ frame_to node from body
-  same = ap (λ to. record { from = from; to = to; body = body }) (sym name)
-
-  is : IsDelivery p s number node from body
-  is = record {
-    invariant = sound.invariant.basis;
-    nodes = sound.nodes;
-    among = subst (λ f. AmongFrames number f s.frames) same among;
-    at = ap s.node name ∙ at;
-    known = subst (λ f. is_strange node f ≡ false) same (none_is_strange p s number frame node sound among at);
-  }
-
-  taken : IsTaken s s' number (frame_to node from body) (taken_at node from body).sent
-  taken = (by_rule p s number node from body (due p s number node from body is)).taken
-
-  sent_is : sent_by p s (Delivers number) ≡ (taken_at node from body).sent
-  unfolding sent_by
-  sent_is = let here = is.at in rw (is_found p s number node from body (due p s number node from body is), here) refl
-
-  by_frames : (frames : List (ℕ × Frame)) → s.frames ≡ frames → WayLeft p.digits most frames
-      → MoveLeft p.digits most s' (sent_by p s (Delivers number))
-  by_frames [] are left = absurd (subst (λ fs. AmongFrames number frame fs) are among)
-  by_frames (f ∷ []) are left =
-      subst (MoveLeft p.digits most s') (sym sent_is)
-      (move_left p.digits most s.next s' (taken_at node from body).sent all (frame_sends p s number most node from body leaves is))
-    where
-      all : s'.frames ≡ numbered_from s.next (taken_at node from body).sent
-      all =
-          let parts = alone_in taken.front (number, frame_to node from body) f taken.back (sym taken.before ∙ are) in
-          taken.after
-          ∙ ap (λ (front : List (ℕ × Frame)). front ++ (taken.back ++ numbered_from s.next (taken_at node from body).sent)) parts.0
-          ∙ ap (λ (back : List (ℕ × Frame)). back ++ numbered_from s.next (taken_at node from body).sent) parts.1
-
-      leaves : Leaves p.digits most body
-      leaves =
-          elim (subst (λ fs. AmongFrames number frame fs) are among) [
-            | inl here ↦ subst (λ (g : Frame). Leaves p.digits most g.body) (sym here.1) left
-            | inr none ↦ absurd none
-          ]
-  by_frames (f ∷ g ∷ fs) are left = absurd left
-
-  pub delivery_left : WayLeft p.digits most s.frames → MoveLeft p.digits most s' (sent_by p s (Delivers number))
-  delivery_left left = by_frames s.frames refl left
 
 -- ---- the start
 
@@ -275,23 +160,23 @@ module _ (p : SettingsValue) (s : System) (x object : List ℕ) (ticket : ℕ) (
   abbrev asks : Acted
   asks = act asker (Starts (StartFind ticket object))
 
-  asked : LookupStep asker ticket object asks → AreLaid asks.state.ties.table asker.pointers → SendsLeft p.digits (p.digits + 1) asks.sent
+  asked : LookupStep asker ticket object asks → AreLaid asks.state.ties.table asker.pointers → SendsLeft (FrameLeaves p.digits) (p.digits + 1) asks.sent
   asked step laid = by_server (least_server asker.pointers object) refl
     where
       by_next : least_server asker.pointers object ≡ None → (next : Next) → next_from asker.ties.table 0 object ≡ next
-          → SendsLeft p.digits (p.digits + 1) asks.sent
+          → SendsLeft (FrameLeaves p.digits) (p.digits + 1) asks.sent
       by_next none Root found =
-          sends_none p.digits (p.digits + 1) asks.sent (none_sent asker _ asks (step.at_root none found) laid)
+          sends_none (FrameLeaves p.digits) (p.digits + 1) asks.sent (none_sent asker _ asks (step.at_root none found) laid)
       by_next none (Hop to next) found =
           let of = sound.nodes.nodes x asker may.acts.is in
           let above = hop_above p asker object to 0 next may.name (omega arith) of.settings of.is_node.ties.table found in
-          sends_one p.digits (p.digits + 1) p.digits (message_frame (name_of asker) (message to (Find ticket object (name_of asker) next)))
+          sends_one (FrameLeaves p.digits) (p.digits + 1) p.digits (message_frame (name_of asker) (message to (Find ticket object (name_of asker) next)))
           asks.sent (one_sent asker (message to (Find ticket object (name_of asker) next)) asks (step.goes_on to next none found) laid)
           (omega arith) (omega (arith, above))
 
-      by_server : (server : Option (List ℕ)) → least_server asker.pointers object ≡ server → SendsLeft p.digits (p.digits + 1) asks.sent
+      by_server : (server : Option (List ℕ)) → least_server asker.pointers object ≡ server → SendsLeft (FrameLeaves p.digits) (p.digits + 1) asks.sent
       by_server (Some server) held =
-          sends_none p.digits (p.digits + 1) asks.sent (none_sent asker _ asks (step.served server held) laid)
+          sends_none (FrameLeaves p.digits) (p.digits + 1) asks.sent (none_sent asker _ asks (step.served server held) laid)
       by_server None none = by_next none (next_from asker.ties.table 0 object) refl
 
   start_sent : sent_by p s (Begins x (StartFind ticket object)) ≡ asks.sent
@@ -299,37 +184,25 @@ module _ (p : SettingsValue) (s : System) (x object : List ℕ) (ticket : ℕ) (
   start_sent = let here = may.acts.is in rw here refl
 
   pub start_left : s.frames ≡ []
-      → MoveLeft p.digits (p.digits + 1) (after_start p s x (StartFind ticket object)) (sent_by p s (Begins x (StartFind ticket object)))
+      → MoveLeft (FrameLeaves p.digits) (p.digits + 1) (after_start p s x (StartFind ticket object)) (sent_by p s (Begins x (StartFind ticket object)))
   start_left rest =
       let step = lookup_law asker ticket object may.acts.core in
       let of = sound.nodes.nodes x asker may.acts.is in
       let laid = subst (λ (ties : TiesValue). AreLaid ties.table asker.pointers) (sym step.alike.ties)
       (of.laid (subst IsRunning (sym may.acts.core) tt)) in
       let after = (starts p s x (StartFind ticket object) asker may.acts.is).sent.after in
-      subst (MoveLeft p.digits (p.digits + 1) (after_start p s x (StartFind ticket object))) (sym start_sent)
-      (move_left p.digits (p.digits + 1) s.next (after_start p s x (StartFind ticket object)) asks.sent
+      subst (MoveLeft (FrameLeaves p.digits) (p.digits + 1) (after_start p s x (StartFind ticket object))) (sym start_sent)
+      (move_left (FrameLeaves p.digits) (p.digits + 1) s.next (after_start p s x (StartFind ticket object)) asks.sent
       (after ∙ ap (λ (fs : List (ℕ × Frame)). fs ++ numbered_from s.next asks.sent) rest) (asked step laid))
 
 -- ---- all that follows
 
-deliveries_left : (p : SettingsValue) (s : System) (r : Traffic) (most : ℕ) (moves : List Move) → Sound p s
-    → WayLeft p.digits most s.frames → may_run p s moves → AreDeliveries moves
-    → length (traffic_of p s r moves).sent ≤ length r.sent + most
-deliveries_left p s r most [] sound left may are = omega arith
-deliveries_left p s r most (Begins x start ∷ moves) sound left may are = absurd are
-deliveries_left p s r most (Delivers number ∷ moves) sound left may are =
-    let step = delivery_left p s number most may.0.frame may.0.receiver.state sound may.0.among may.0.receiver.is left in
-    let later = deliveries_left p (moved p s (Delivers number)) (traffic_after p s r (Delivers number)) step.after moves
-    (move_keeps p s (Delivers number) may.0 sound) step.left may.1 are in
-    let now = step.few in
-    let both = length-append r.sent (sent_by p s (Delivers number)) in
-    omega (arith, later, now, both)
-
 pub lookup_sends_few : LookupSendsFew
 lookup_sends_few p s x object ticket moves sound rest may are =
-    let step = start_left p s x object ticket may.0 sound rest in
-    let later = deliveries_left p (moved p s (Begins x (StartFind ticket object)))
-    (traffic_after p s no_traffic (Begins x (StartFind ticket object))) step.after moves
-    (move_keeps p s (Begins x (StartFind ticket object)) may.0 sound) step.left may.1 are in
-    let now = step.few in
-    omega (arith, later, now)
+    let now = start_left p s x object ticket may.0 sound rest in
+    let later = deliveries_left p (λ other. Unit {0}) (λ other. FrameLeaves p.digits) (λ s number may sound holds. tt)
+    (λ s number most node from body sound holds is leaves. frame_sends p s number most node from body leaves is)
+    (moved p s (Begins x (StartFind ticket object))) (traffic_after p s no_traffic (Begins x (StartFind ticket object))) now.after moves
+    (move_keeps p s (Begins x (StartFind ticket object)) may.0 sound) tt now.left may.1 are in
+    let few = now.few in
+    omega (arith, later, few)

@@ -1,5 +1,5 @@
 -- Each possible move keeps what is said of the frames of joins; so it holds at each moment of a run.
-use Rattle.std.proofs.Common.{◌≡◌, ◌⊎◌, ℕ, nat_eq, ◌≤◌, true, false, cond, List, [], ◌∷◌, ◌++◌, Option, None, Some, arith, ap, refl, sym, subst, ◌∙◌, inl, inr}
+use Rattle.std.proofs.Common.{◌≡◌, ◌⊎◌, ℕ, nat_eq, ◌≤◌, true, cond, List, [], ◌∷◌, ◌++◌, Option, None, Some, arith, ap, refl, sym, subst, ◌∙◌, inl, inr}
 use Rattle.std.specs.Prelude.{count_by}
 use Rattle.std.specs.Cmp.Lexicographic.{pointwise}
 use Rattle.std.proofs.lemmas.Bool.{cases_Bool}
@@ -16,10 +16,9 @@ use Rattle.tap_rule.specs.Event.{Start}
 use Rattle.tap_rule.specs.Event.Event.{Starts}
 use Rattle.tap_rule.specs.Event.Start.{Join, Abandon, Publish, Withdraw, Find, Leave, Cast}
 use Rattle.tap_rule.specs.Laws.{frame_to}
-use Rattle.tap_rule.specs.Node.{NodeState, Status, joiner, name_of}
+use Rattle.tap_rule.specs.Node.{NodeState, Status, joiner}
 use Rattle.tap_rule.specs.Node.Status.{Ceased, Core, Gone, Joining, Leaving}
 use Rattle.tap_rule.specs.Sent.{IsAmong}
-use Rattle.tap_rule.specs.Strange.{is_strange}
 use Rattle.tap_safety.specs.AtRest.{system_at_rest}
 use Rattle.tap_safety.specs.Move.{MayJoin, Move, may_start}
 use Rattle.tap_safety.specs.Move.Move.{Begins, Delivers}
@@ -36,13 +35,13 @@ use Rattle.tap_moves.proofs.InvariantMoves.{due}
 use Rattle.tap_moves.proofs.MovesMade.{by_rule, is_found}
 use Rattle.tap_invariant.specs.Moves.{after_moves, may_run}
 use Rattle.tap_invariant.specs.Sound.{Sound}
-use Rattle.tap_invariant.proofs.Consequences.{none_is_strange}
 use Rattle.tap_invariant.proofs.Members.{sound_at_rest}
 use Rattle.tap_invariant.proofs.Moves.{move_keeps}
 use Rattle.tap_bounds.specs.Few.{FewAreSent, HeardsAreFew, is_heard_from, is_hello_to}
 use Rattle.tap_bounds.specs.Moves.{FewAtRest, MoveKeepsFew, RunSendsFew, traffic_of}
 use Rattle.tap_bounds.specs.Traffic.{Traffic, no_traffic, sent_by, taken_by, traffic_after}
 use Rattle.tap_bounds.proofs.Counting.{count-append}
+use Rattle.tap_bounds.proofs.Delivered.{is_delivery}
 use Rattle.tap_bounds.proofs.Rules.{IsNoJoin}
 use Rattle.tap_bounds.proofs.SeekMoves.{SendsFew, SendsOn, SendsOne, forward_few, seeks_kept}
 use Rattle.tap_bounds.proofs.Sent.{IsNoSeek, elsewhere_brings, heards_at_frame, heards_at_start, join_brings, no_join_seeks, no_seek_brings, surrogate_brings}
@@ -150,16 +149,7 @@ delivery_keeps : (p : SettingsValue) (s : System) (r : Traffic) (number : ℕ) (
     → FewAreSent p s r → AmongFrames number frame s.frames → s.node frame.to ≡ Some node
     → FewAreSent p (after_delivery p s number) (traffic_after p s r (Delivers number))
 delivery_keeps p s r number frame node sound few among at =
-    let name : name_of node ≡ frame.to = (sound.nodes.nodes frame.to node at).name in
-    let same : frame ≡ frame_to node frame.from frame.body =
-    ap (λ to. record { from = frame.from; to = to; body = frame.body }) (sym name) in
-    by_body p s r number node frame.from few frame.body (record {
-      invariant = sound.invariant.basis;
-      nodes = sound.nodes;
-      among = subst (λ f. AmongFrames number f s.frames) same among;
-      at = ap s.node name ∙ at;
-      known = subst (λ f. is_strange node f ≡ false) same (none_is_strange p s number frame node sound among at);
-    })
+    by_body p s r number node frame.from few frame.body (is_delivery p s number frame node sound among at)
 
 -- ---- starts
 

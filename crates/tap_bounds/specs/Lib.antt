@@ -6,3 +6,7 @@ pub mod Tells
 pub mod Hellos
 pub mod Taken
 pub mod Acks
+pub mod Dones
+pub mod Publications
+pub mod Depths
+pub mod Openings

@@ -1,7 +1,11 @@
 ghost use Rattle.tap_bounds.specs.Acks.{AcksAtRest, MoveKeepsAcks, RunAcksFew};
+ghost use Rattle.tap_bounds.specs.Depths.{RunIsNotDeep, SoundIsNotDeep};
+ghost use Rattle.tap_bounds.specs.Dones.{DonesAtRest, MoveKeepsDones, RunDonesFew};
 ghost use Rattle.tap_bounds.specs.Hellos.{FewAreOnce, HellosAtRest, MoveKeepsHellos, RunHellosFew};
 ghost use Rattle.tap_bounds.specs.Lookups.{LookupSendsFew};
 ghost use Rattle.tap_bounds.specs.Moves.{FewAtRest, MoveKeepsFew, RunSendsFew};
+ghost use Rattle.tap_bounds.specs.Openings.{FewAreOpened, MoveKeepsOpened, OpenedAtRest, RunOpensFew};
+ghost use Rattle.tap_bounds.specs.Publications.{PublicationSendsFew};
 ghost use Rattle.tap_bounds.specs.Taken.{HeardsByHellos, KnownAtRest, MoveKeepsKnown, RunKnowsAll};
 ghost use Rattle.tap_bounds.specs.Tells.{MoveKeepsTells, RunTellsFew, TellsAtRest};
 
@@ -44,6 +48,16 @@ pub fn few_runs_law()
 /// Rule: docs/PROTOCOL.md, "Find" and "Answer".
 pub fn lookup_frames_law()
     ensures { LookupSendsFew }
+{}
+
+/// If the whole invariant of joins holds, pointers stand, and no frame is under way, a publication that starts sends at most as many frames
+/// as names have digits, however many frames are delivered after it, if nothing else starts.
+///
+/// It does nothing: its contract is the law.
+///
+/// Rule: docs/PROTOCOL.md, "Publication and withdrawal" and "Lay".
+pub fn publication_frames_law()
+    ensures { PublicationSendsFew }
 {}
 
 /// If the whole invariant of joins holds, each possible move keeps how few Tells a node sends another of one joiner: a running node none
@@ -97,4 +111,43 @@ pub fn acks_law()
     ensures members { AcksAtRest }
     ensures moves { MoveKeepsAcks }
     ensures runs { RunAcksFew }
+{}
+
+/// If the whole invariant of joins holds, and each frame that was sent was taken or is under way, each possible move keeps how few Dones
+/// each name was sent: one at most; and it took one at most, and none while it joins. So it is for the members with which an overlay
+/// begins, and at each moment of each run from them.
+///
+/// It does nothing: its contract is the law.
+///
+/// Rule: docs/PROTOCOL.md, "Heard and Ack" and "Done".
+pub fn dones_law()
+    ensures members { DonesAtRest }
+    ensures moves { MoveKeepsDones }
+    ensures runs { RunDonesFew }
+{}
+
+/// If the whole invariant of joins holds, each open session of a join is less deep than 10,752, and no Tell under way is deeper than that.
+/// So it is at each moment of each run from the members with which an overlay begins.
+///
+/// It does nothing: its contract is the law.
+///
+/// Rule: docs/PROTOCOL.md, "Tell" and "Strange frames".
+pub fn depths_law()
+    ensures sound { SoundIsNotDeep }
+    ensures runs { RunIsNotDeep }
+{}
+
+/// If the whole invariant of joins holds, each possible move keeps how few sessions of one joiner a node opens: while it joins one if it
+/// has greeted the joiner, and else none; as a core node one without a cover of the joiner, and with one another for each level from that
+/// of the cover to the number of digits. So it is for the members with which an overlay begins, and at each moment of each run from them;
+/// and so a name opens at most two more of one joiner than names have digits.
+///
+/// It does nothing: its contract is the law.
+///
+/// Rule: docs/PROTOCOL.md, "Seek" and "Tell" and "Covers of a node".
+pub fn openings_law()
+    ensures members { OpenedAtRest }
+    ensures moves { MoveKeepsOpened }
+    ensures runs { RunOpensFew }
+    ensures most { FewAreOpened }
 {}

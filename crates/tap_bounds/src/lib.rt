@@ -6,6 +6,6 @@
 mod law;
 
 pub use law::{
-    acks_law, few_at_rest_law, few_moves_law, few_runs_law, hellos_law, lookup_frames_law,
-    taken_law, tells_law,
+    acks_law, depths_law, dones_law, few_at_rest_law, few_moves_law, few_runs_law, hellos_law,
+    lookup_frames_law, openings_law, publication_frames_law, taken_law, tells_law,
 };
