@@ -1,0 +1,12 @@
+pub mod Alone
+pub mod Made
+pub mod Kept
+pub mod OfJoins
+pub mod Words
+pub mod Links
+pub mod LinkSteps
+pub mod LinkMoves
+pub mod Releases
+pub mod ReleaseMoves
+pub mod Named
+pub mod LinkRuns

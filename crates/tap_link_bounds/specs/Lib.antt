@@ -1,0 +1,2 @@
+pub mod OfJoins
+pub mod LinkBounds
