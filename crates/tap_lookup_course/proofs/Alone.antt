@@ -1,42 +1,32 @@
 -- A lookup that is made alone from a rest of a run is answered exactly.
 use Rattle.std.proofs.Common.{◌≡◌, inl, inr, ℕ, true, false, List, [], ◌∷◌, ◌++◌, All, Option, None, Some, append-nil, refl, ap, sym, subst, ◌∙◌}
-use Rattle.std.specs.Prelude.{◌&&◌, ◌||◌, not}
-use Rattle.std.specs.Option.{option_map}
-use Rattle.std.proofs.lemmas.Bool.{and_parts}
-use Rattle.std.proofs.lemmas.List.Elements.{All-cons, All-head, All-nil, All-weaker}
+use Rattle.std.proofs.lemmas.List.Elements.{All-cons, All-head, All-weaker}
 use Rattle.tap_name.specs.Settings.{SettingsValue}
 use Rattle.tap_pointer.specs.declared.pair.Pair.{Pair}
 use Rattle.tap_pointer.specs.Pointers.{pair_of}
 use Rattle.tap_scenario.specs.declared.step.Step.{Step}
 use Rattle.tap_scenario.specs.declared.step.Step.TheVariants.{Find}
-use Rattle.tap_wire.specs.declared.frame.Frame.{Frame}
-use Rattle.tap_log.specs.Counts.{sent_count}
-use Rattle.tap_log.specs.Kinds.{asked_ticket, is_carried}
+use Rattle.tap_log.specs.Kinds.{asked_ticket}
 use Rattle.tap_log.specs.declared.record.Record.{Record}
 use Rattle.tap_log.specs.declared.record.Record.TheVariants.{Answered, Asked, Step as StepRecord, Taken}
 use Rattle.tap_history.specs.Groups.{is_ended}
-use Rattle.tap_history.specs.Moments.{awaiting, is_none, is_rest, is_still, under_way}
+use Rattle.tap_history.specs.Moments.{is_rest}
 use Rattle.tap_history.specs.Published.{has_pair, published_of}
 use Rattle.tap_history.specs.Steps.{actor_of, is_start}
-use Rattle.tap_rule.specs.Act.{act}
-use Rattle.tap_rule.specs.Event.{Event, Start}
-use Rattle.tap_rule.specs.Event.Event.{Starts, Takes}
-use Rattle.tap_rule.specs.Event.News.{Answered as IsAnswered}
+use Rattle.tap_rule.specs.Event.{Start}
+use Rattle.tap_rule.specs.Event.Event.{Starts}
 use Rattle.tap_rule.specs.Event.Start.{Find as Finds}
-use Rattle.tap_rule.specs.Node.{NodeState}
-use Rattle.tap_safety.specs.Move.{Move, may_move, may_start}
+use Rattle.tap_safety.specs.Move.{Move, may_start}
 use Rattle.tap_safety.specs.Move.Move.{Begins, Delivers}
 use Rattle.tap_safety.specs.Moved.{numbered_frame, starter}
 use Rattle.tap_safety.specs.System.{System}
 use Rattle.tap_course.specs.Beginning.{Beginning, begin_record}
 use Rattle.tap_course.specs.Course.{Follows, IsCourse, move_of_group, moved_by, system_of}
-use Rattle.tap_course.specs.Group.{received_records, records_of_act, start_at}
-use Rattle.tap_course.specs.Laws.{frame_numbers}
+use Rattle.tap_course.specs.Group.{records_of_act, start_at}
 use Rattle.tap_course.specs.Named.{HaveNames}
 use Rattle.tap_course.specs.Observed.{pair_line}
 use Rattle.tap_course.specs.Starts.{announced, next_ticket, start_of_step}
-use Rattle.tap_course.proofs.Frames.{course_frames_holds}
-use Rattle.tap_course.proofs.Growing.{by_groups, grown_system}
+use Rattle.tap_course.proofs.Growing.{by_groups}
 use Rattle.tap_course.proofs.Nodes.{name_at, start_in}
 use Rattle.tap_course.proofs.Within.{is_accepted}
 use Rattle.tap_invariant.specs.Sound.{Sound}
@@ -44,43 +34,20 @@ use Rattle.tap_lawful.specs.Next.{beginning_in}
 use Rattle.tap_safe_course.specs.Moments.{AtEachMoment}
 use Rattle.tap_safe_course.specs.Safe.{IsRun}
 use Rattle.tap_safe_course.proofs.Lawful.{lawful_logs_are_safe}
-use Rattle.tap_safe_course.proofs.Possible.{group_may_move}
 use Rattle.tap_safe_course.proofs.Safe.{run_at_moment, runs_are_sound, steps_after, steps_before}
-use Rattle.tap_pointer_moves.specs.Paths.{IsPublished}
 use Rattle.tap_pointer_moves.specs.Publications.{is_served, publishes_in}
 use Rattle.tap_pointer_moves.specs.Told.{PointersStand}
 use Rattle.tap_pointer_course.specs.Paths.{OfLawfulLogs}
-use Rattle.tap_pointer_course.proofs.Runs.{run_grown}
+use Rattle.tap_pointer_course.proofs.Runs.{run_grown, run_rests, served_is}
 use Rattle.tap_lookup_moves.specs.Alone.{GoesAlone, IsExact}
-use Rattle.tap_lookup_moves.specs.Answers.{news_of_frame}
 use Rattle.tap_lookup_moves.proofs.Alone.{lookup_begins_alone, lookup_goes_on_alone}
 use Rattle.tap_lookup_course.specs.Alone.{AcceptNoStart, IsAskedAtRest, IsExactIn, LookupsAloneAreExact}
-use Rattle.tap_lookup_course.proofs.Growing.{acted_all}
-use Rattle.tap_lookup_course.proofs.GroupKinds.{IsIdleGroup, IsKnownGroup, IsStartGroup, IsTakenGroup, group_kind}
+use Rattle.tap_lookup_course.proofs.Growing.{act_all, receive_all}
+use Rattle.tap_lookup_course.proofs.GroupKinds.{IsIdleGroup, IsKnownGroup, IsStartGroup, IsTakenGroup, run_kind, run_moves}
 use Rattle.tap_lookup_course.proofs.Runs.{run_looked}
 use Rattle.tap_lookup_course.proofs.Splits.{all_at, no_step_among, none_in_first, none_in_second, parted_where, start_accepted}
 use Rattle.tap_lookup_course.proofs.Starting.{starting_begins, starts_is_start}
 use Rattle.tap_lookup_course.proofs.Unanswered.{IsUnanswered}
-
--- ---- a rest
-
-no_frames : (frames : List (ℕ × Frame)) → is_none (frame_numbers frames) ≡ true → frames ≡ []
-no_frames [] none = refl
-no_frames (f ∷ frames) none = let wrong : false ≡ true = none in absurd (cc)
-
-run_rests : (b : Beginning) (log : List Record) → IsRun b log → is_rest log ≡ true → (system_of log).frames ≡ []
-run_rests b log run rest =
-    let still = (and_parts (is_still log) (not (is_carried log) || (is_none (under_way log) && is_none (awaiting log))) rest).0 in
-    let frames = course_frames_holds b log run.course run.going in
-    no_frames (system_of log).frames (ap is_none frames.numbers ∙ still)
-
--- a pair is served exactly if its server publishes its object
-served_is : (s : System) (pair : Pair) → is_served s pair ≡ true → IsPublished s pair
-served_is s pair served = by_node (s.node pair.server) refl
-  where
-    by_node : (node : Option NodeState) → s.node pair.server ≡ node → IsPublished s pair
-    by_node None is = let wrong : false ≡ true = sym (ap (λ n. publishes_in n pair) is) ∙ served in absurd (cc)
-    by_node (Some node) is = record { state = node; is = is; published = sym (ap (λ n. publishes_in n pair) is) ∙ served }
 
 -- ---- what is so since a lookup was asked for at rest
 
@@ -112,23 +79,6 @@ free_exact : (rest : System) (ticket : ℕ) (object : List ℕ) (item : Record) 
 free_exact rest ticket object (Answered answered server) none = absurd none
 free_exact rest ticket object _ none = tt
 
-module _ (p : SettingsValue) (log : List Record) (rest : System) (ticket : ℕ) (object : List ℕ) where
-  act_exact : (name : List ℕ) (node : Option NodeState) (event : Event)
-      → ((answered : ℕ) (server : Option (List ℕ)) → option_map (λ one. (act one event).news) node ≡ Some (IsAnswered answered server)
-      → (answered ≡ ticket) × IsExact rest object server)
-      → All (AnswerExact rest ticket object) (records_of_act p log name node event)
-  act_exact name None event known = All-nil (AnswerExact rest ticket object)
-  act_exact name (Some node) event known =
-      acted_all (AnswerExact rest ticket object) (free_exact rest ticket object) p (sent_count log) name (act node event)
-      (λ answered server is. known answered server (ap Some is))
-
-  receive_exact : (s : System) (frame : Option Frame)
-      → ((answered : ℕ) (server : Option (List ℕ)) → news_of_frame s frame ≡ Some (IsAnswered answered server)
-      → (answered ≡ ticket) × IsExact rest object server)
-      → All (AnswerExact rest ticket object) (received_records p log s frame)
-  receive_exact s None known = All-nil (AnswerExact rest ticket object)
-  receive_exact s (Some frame) known = act_exact frame.to (s.node frame.to) (Takes frame) known
-
 -- ---- one more group
 
 module _ (b : Beginning) (log group : List Record) (run : IsRun b log) (follows : Follows b log group)
@@ -145,15 +95,12 @@ module _ (b : Beginning) (log group : List Record) (run : IsRun b log) (follows 
   sound : Sound b.settings (system_of log)
   sound = runs_are_sound b log run
 
-  possible : (move : Move) → move_of_group log group ≡ Some move → may_move b.settings (system_of log) move
-  possible move is = group_may_move b log group move run.course run.going sound.invariant.basis follows names is
-
   kind : IsKnownGroup b.settings log (system_of log) group
-  kind = group_kind b.settings log (system_of log) group follows.may possible
+  kind = run_kind b log group run follows names
 
   moves_to : (move : Option Move) → move_of_group log group ≡ move
       → system_of (log ++ group) ≡ moved_by b.settings (system_of log) move
-  moves_to move is = grown_system b log group run.course run.going follows ∙ ap (moved_by b.settings (system_of log)) is
+  moves_to = run_moves b log group run follows
 
   -- ---- a lookup that was asked for before
 
@@ -200,7 +147,8 @@ module _ (b : Beginning) (log group : List Record) (run : IsRun b log) (follows 
         was.was.quiet was.was.asks sound (run_looked b log run).core goes taken.may in
         let items : All Holds taken.items =
         subst (All Holds) (sym taken.are)
-        (receive_exact b.settings log (system_of before) ticket object (system_of log) (numbered_frame taken.number (system_of log).frames) step.1) in
+        (receive_all Holds (free_exact (system_of before) ticket object) b.settings log (system_of log)
+        (numbered_frame taken.number (system_of log).frames) step.1) in
         subst (All Holds) (sym taken.is) (All-cons Holds (Taken taken.number) taken.items tt items)
 
     idle_exact : (idle : IsIdleGroup b.settings log (system_of log) group) → All (AnswerExact (system_of before) ticket object) group
@@ -330,7 +278,8 @@ module _ (b : Beginning) (log group : List Record) (run : IsRun b log) (follows 
         let Holds = AnswerExact (system_of log) ticket object in
         let each : All Holds after =
         subst (All Holds) (sym start.are)
-        (act_exact b.settings log (system_of log) ticket object asker ((system_of log).node asker) (Starts (Finds ticket object)) begins.1) in
+        (act_all Holds (free_exact (system_of log) ticket object) b.settings log asker ((system_of log).node asker)
+        (Starts (Finds ticket object)) begins.1) in
         record {
           was = record { sound = sound; stand = grown.stand; quiet = quiet; asks = start.may; agree = grown.agree };
           alone = λ none.

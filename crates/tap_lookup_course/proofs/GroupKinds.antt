@@ -1,5 +1,5 @@
 -- The groups that may follow a log: of a step that moves nothing, of a start, and of a frame that is taken.
-use Rattle.std.proofs.Common.{◌≡◌, ◌⊎◌, inl, inr, ℕ, List, ◌∷◌, All, None, Some, refl, ◌∙◌}
+use Rattle.std.proofs.Common.{◌≡◌, ◌⊎◌, inl, inr, ℕ, List, ◌∷◌, ◌++◌, All, Option, None, Some, refl, ap, ◌∙◌}
 use Rattle.tap_name.specs.Settings.{SettingsValue}
 use Rattle.tap_scenario.specs.declared.step.Step.{Step}
 use Rattle.tap_log.specs.Kinds.{asked_ticket}
@@ -9,12 +9,18 @@ use Rattle.tap_safety.specs.Move.{MayArrive, Move, may_move, may_start}
 use Rattle.tap_safety.specs.Move.Move.{Begins, Delivers}
 use Rattle.tap_safety.specs.Moved.{numbered_frame}
 use Rattle.tap_safety.specs.System.{System}
-use Rattle.tap_course.specs.Course.{MayFollow, is_choice, move_of_group}
+use Rattle.tap_course.specs.Beginning.{Beginning}
+use Rattle.tap_course.specs.Course.{Follows, MayFollow, is_choice, move_of_group, moved_by, system_of}
 use Rattle.tap_course.specs.Group.{received_records}
+use Rattle.tap_course.specs.Named.{HaveNames}
 use Rattle.tap_course.proofs.Frames.{starting_moves, step_moves, taken_moves}
+use Rattle.tap_course.proofs.Growing.{grown_system}
 use Rattle.tap_course.proofs.Nodes.{HasNoStep, no_steps}
 use Rattle.tap_course.proofs.Within.{IsStarting, step_kind, step_within, taken_within}
-use Rattle.tap_lookup_course.proofs.Runs.{idle_starts_none}
+use Rattle.tap_safe_course.specs.Safe.{IsRun}
+use Rattle.tap_safe_course.proofs.Possible.{group_may_move}
+use Rattle.tap_safe_course.proofs.Safe.{runs_are_sound}
+use Rattle.tap_pointer_course.proofs.Runs.{idle_starts_none}
 use Rattle.tap_lookup_course.proofs.Unanswered.{IsUnanswered, follow_unanswered}
 
 module _ (p : SettingsValue) (log : List Record) (s : System) (group : List Record) where
@@ -98,3 +104,15 @@ group_kind p log s (Taken number ∷ items) may possible =
       moves = moves;
     }))
 group_kind p log s group may possible = absurd may
+
+-- ---- one more group of a run
+
+-- of which kind it is, and what it makes of the system
+module _ (b : Beginning) (log group : List Record) (run : IsRun b log) (follows : Follows b log group) where
+  pub run_kind : HaveNames b.settings group → IsKnownGroup b.settings log (system_of log) group
+  run_kind names =
+      group_kind b.settings log (system_of log) group follows.may (λ move is.
+      group_may_move b log group move run.course run.going (runs_are_sound b log run).invariant.basis follows names is)
+
+  pub run_moves : (move : Option Move) → move_of_group log group ≡ move → system_of (log ++ group) ≡ moved_by b.settings (system_of log) move
+  run_moves move is = grown_system b log group run.course run.going follows ∙ ap (moved_by b.settings (system_of log)) is

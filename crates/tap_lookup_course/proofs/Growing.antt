@@ -1,50 +1,34 @@
 -- What the records of one more group answer.
-use Rattle.std.proofs.Common.{◌≡◌, ℕ, ◌+◌, Bool, true, false, List, [], ◌∷◌, ◌++◌, All, Option, refl, ap, sym, subst, ◌∙◌, append-nil, append_assoc}
+use Rattle.std.proofs.Common.{◌≡◌, ℕ, ◌+◌, Bool, true, false, List, [], ◌∷◌, ◌++◌, All, Option, None, Some, refl, ap, sym, subst, ◌∙◌, append-nil, append_assoc}
 use Rattle.std.specs.Prelude.{◌||◌}
-use Rattle.std.specs.List.{filter_map}
-use Rattle.std.proofs.lemmas.List.Elements.{All-append, All-cons, All-head, All-nil, All-tail, All-weaker, filter_map-append}
+use Rattle.std.specs.Option.{option_map}
+use Rattle.std.proofs.lemmas.List.Elements.{All-append, All-cons, All-head, All-nil, All-tail, All-weaker}
 use Rattle.std.proofs.lemmas.List.Folds.{list_any-append}
 use Rattle.tap_name.specs.Settings.{SettingsValue}
-use Rattle.tap_pointer.specs.declared.pair.Pair.{Pair}
 use Rattle.tap_wire.specs.declared.frame.Frame.{Frame}
-use Rattle.tap_log.specs.Kinds.{published_pair}
+use Rattle.tap_log.specs.Counts.{sent_count}
 use Rattle.tap_log.specs.declared.record.Record.{Record}
 use Rattle.tap_log.specs.declared.record.Record.TheVariants.{Answered}
-use Rattle.tap_history.specs.Published.{has_pair, same_pair}
-use Rattle.tap_rule.specs.Event.{Acted, News}
+use Rattle.tap_rule.specs.Act.{act}
+use Rattle.tap_rule.specs.Event.{Acted, Event, News}
+use Rattle.tap_rule.specs.Event.Event.{Takes}
 use Rattle.tap_rule.specs.Event.News.{Answered as IsAnswered, Cast as IsCast, Core as IsCore, Gone as IsGone, Nothing}
+use Rattle.tap_rule.specs.Node.{NodeState}
 use Rattle.tap_safety.specs.System.{System}
 use Rattle.tap_course.specs.Acts.{acted_records, if_so, news_after, news_before, sent_records}
-use Rattle.tap_course.specs.Observed.{pair_line}
-use Rattle.tap_pointer_moves.specs.Ever.{AreOfPublished}
+use Rattle.tap_course.specs.Group.{received_records, records_of_act}
 use Rattle.tap_pointer_course.specs.Paths.{was_published}
-use Rattle.tap_lookup_moves.specs.Answers.{IsAnswerOf, LookupsAreOf}
+use Rattle.tap_pointer_course.proofs.Growing.{was_grows}
+use Rattle.tap_lookup_moves.specs.Answers.{IsAnswerOf, LookupsAreOf, news_of_frame}
 use Rattle.tap_lookup_course.specs.Answers.{asks_for, was_asked}
-use Rattle.tap_lookup_course.proofs.Unanswered.{IsUnanswered}
+use Rattle.tap_lookup_course.proofs.Unanswered.{IsUnanswered, one_unanswered}
 
 -- ---- a log that grows
-
-or_left : (a b : Bool) → a ≡ true → (a || b) ≡ true
-or_left true b is = refl
-or_left false b is = absurd (cc)
 
 pub asked_grows : (log more : List Record) (ticket : ℕ) (object : List ℕ) → was_asked log ticket object ≡ true
     → was_asked (log ++ more) ticket object ≡ true
 asked_grows log more ticket object is =
-    list_any-append (λ item. asks_for item ticket object) log more ∙ or_left _ _ is
-
-pub published_grows : (log more : List Record) (pair : Pair) → was_published log pair ≡ true → was_published (log ++ more) pair ≡ true
-published_grows log more pair is =
-    ap (λ l. has_pair l (pair_line pair)) (filter_map-append published_pair log more)
-    ∙ list_any-append (λ other. same_pair other (pair_line pair)) (filter_map published_pair log) (filter_map published_pair more)
-    ∙ or_left _ _ is
-
-pub ever_grows : (log more : List Record) (s : System) → AreOfPublished (was_published log) s → AreOfPublished (was_published (log ++ more)) s
-ever_grows log more s ever = record {
-  published = λ x node pair is published. published_grows log more pair (ever.published x node pair is published);
-  kept = λ t x pair word kept. published_grows log more pair (ever.kept t x pair word kept);
-  ways = λ x t pair word way. published_grows log more pair (ever.ways x t pair word way);
-}
+    list_any-append (λ item. asks_for item ticket object) log more ∙ ap (λ b. b || was_asked more ticket object) is
 
 answer_grows : (log more : List Record) (ticket : ℕ) (server : Option (List ℕ))
     → IsAnswerOf (was_asked log) (was_published log) ticket server
@@ -52,7 +36,7 @@ answer_grows : (log more : List Record) (ticket : ℕ) (server : Option (List �
 answer_grows log more ticket server of = record {
   object = of.object;
   asks = asked_grows log more ticket of.object of.asks;
-  served = λ name is. published_grows log more _ (of.served name is);
+  served = λ name is. was_grows log more _ (of.served name is);
 }
 
 pub lookups_grow : (log more : List Record) (s : System) → LookupsAreOf (was_asked log) (was_published log) s
@@ -78,7 +62,7 @@ holds_grows : (log more : List Record) (item : Record) → AnswerHolds log item 
 holds_grows log more (Answered ticket server) holds = answer_grows log more ticket server holds
 holds_grows log more _ holds = tt
 
-unanswered_holds : (log : List Record) (item : Record) → IsUnanswered item → AnswerHolds log item
+pub unanswered_holds : (log : List Record) (item : Record) → IsUnanswered item → AnswerHolds log item
 unanswered_holds log (Answered ticket server) none = absurd none
 unanswered_holds log _ none = tt
 
@@ -122,9 +106,6 @@ so_unanswered : (there : Bool) (item : Record) → IsUnanswered item → All IsU
 so_unanswered true item is = All-cons IsUnanswered item [] is (All-nil IsUnanswered)
 so_unanswered false item is = All-nil IsUnanswered
 
-one_unanswered : (item : Record) → IsUnanswered item → All IsUnanswered (item ∷ [])
-one_unanswered item is = All-cons IsUnanswered item [] is (All-nil IsUnanswered)
-
 module _ (Holds : Record → Type 0) (free : (item : Record) → IsUnanswered item → Holds item) where
   free_all : (items : List Record) → All IsUnanswered items → All Holds items
   free_all items none = All-weaker IsUnanswered Holds (λ item is. free item is) items none
@@ -165,8 +146,18 @@ pub acted_unanswered : (p : SettingsValue) (number : ℕ) (name : List ℕ) (act
     → All IsUnanswered (acted_records p number name acted)
 acted_unanswered p number name acted never = acted_all IsUnanswered (λ item is. is) p number name acted never
 
-pub acted_hold : (log : List Record) (p : SettingsValue) (number : ℕ) (name : List ℕ) (acted : Acted)
-    → ((ticket : ℕ) (server : Option (List ℕ)) → acted.news ≡ IsAnswered ticket server
-    → IsAnswerOf (was_asked log) (was_published log) ticket server)
-    → All (AnswerHolds log) (acted_records p number name acted)
-acted_hold log p number name acted known = acted_all (AnswerHolds log) (unanswered_holds log) p number name acted known
+-- so it is of each record of what a node does at an event, and as it takes a frame
+module _ (Holds : Record → Type 0) (free : (item : Record) → IsUnanswered item → Holds item) (p : SettingsValue) (log : List Record) where
+  pub act_all : (name : List ℕ) (node : Option NodeState) (event : Event)
+      → ((ticket : ℕ) (server : Option (List ℕ)) → option_map (λ one. (act one event).news) node ≡ Some (IsAnswered ticket server)
+      → Holds (Answered ticket server))
+      → All Holds (records_of_act p log name node event)
+  act_all name None event known = All-nil Holds
+  act_all name (Some node) event known =
+      acted_all Holds free p (sent_count log) name (act node event) (λ ticket server is. known ticket server (ap Some is))
+
+  pub receive_all : (s : System) (frame : Option Frame)
+      → ((ticket : ℕ) (server : Option (List ℕ)) → news_of_frame s frame ≡ Some (IsAnswered ticket server) → Holds (Answered ticket server))
+      → All Holds (received_records p log s frame)
+  receive_all s None known = All-nil Holds
+  receive_all s (Some frame) known = act_all frame.to (s.node frame.to) (Takes frame) known

@@ -5,3 +5,9 @@ pub mod Splits
 pub mod Starting
 pub mod GroupKinds
 pub mod Alone
+pub mod Moments
+pub mod Tickets
+pub mod Failing
+pub mod AtOnce
+pub mod NoServer
+pub mod Endings

@@ -1,42 +1,35 @@
 -- The answers of a run, and the lookups that are under way in it.
-use Rattle.std.proofs.Common.{◌≡◌, inl, inr, ℕ, Bool, false, true, List, [], ◌∷◌, ◌++◌, length, All, Option, None, Some, append_assoc, refl, ap, sym, subst, ◌∙◌}
+use Rattle.std.proofs.Common.{◌≡◌, inl, inr, ℕ, false, true, List, [], ◌∷◌, ◌++◌, length, All, Option, Some, append_assoc, refl, ap, sym, subst, ◌∙◌}
 use Rattle.std.specs.Prelude.{◌&&◌, ◌||◌, nat_eq}
 use Rattle.std.specs.Cmp.Lexicographic.{pointwise}
+use Rattle.std.proofs.Math.Bool.{or-true}
 use Rattle.std.proofs.lemmas.Bool.{eq-eqb}
-use Rattle.std.specs.Option.{option_map}
-use Rattle.std.proofs.lemmas.List.Elements.{All-nil}
 use Rattle.std.proofs.lemmas.List.Folds.{list_any-append}
 use Rattle.std.proofs.lemmas.Slice.Eq.{bytes_eq-Decides}
 use Rattle.tap_name.specs.Settings.{SettingsValue}
 use Rattle.tap_scenario.specs.declared.step.Step.{Step}
 use Rattle.tap_scenario.specs.declared.step.Step.TheVariants.{Abandon, Cast, Depart, Find, Join, Publish, Withdraw}
-use Rattle.tap_wire.specs.declared.frame.Frame.{Frame}
-use Rattle.tap_log.specs.Counts.{sent_count}
 use Rattle.tap_log.specs.declared.record.Record.{Record}
 use Rattle.tap_log.specs.declared.record.Record.TheVariants.{Asked, Step as StepRecord, Taken}
 use Rattle.tap_history.specs.Groups.{is_ended}
-use Rattle.tap_history.specs.Refusals.{first_refusal}
 use Rattle.tap_history.specs.Steps.{actor_of}
-use Rattle.tap_rule.specs.Act.{act}
-use Rattle.tap_rule.specs.Event.{Event, Start}
-use Rattle.tap_rule.specs.Event.Event.{Starts, Takes}
-use Rattle.tap_rule.specs.Event.News.{Answered as IsAnswered}
+use Rattle.tap_rule.specs.Event.{Start}
+use Rattle.tap_rule.specs.Event.Event.{Starts}
 use Rattle.tap_rule.specs.Event.Start.{Abandon as GivesUp, Cast as Casts, Find as Finds, Join as Joins, Leave as Leaves, Publish as Publishes, Withdraw as Withdraws}
-use Rattle.tap_rule.specs.Node.{NodeState}
 use Rattle.tap_safety.specs.AtRest.{system_at_rest}
 use Rattle.tap_safety.specs.Move.{Move, may_move}
 use Rattle.tap_safety.specs.Move.Move.{Begins, Delivers}
 use Rattle.tap_safety.specs.Moved.{moved, numbered_frame, starter}
 use Rattle.tap_safety.specs.System.{System}
 use Rattle.tap_course.specs.Beginning.{Beginning, IsWithinLimits, begin_record}
-use Rattle.tap_course.specs.Course.{Follows, IsCourse, MayFollow, is_choice, move_of_group, move_of_start, moved_by, system_of}
+use Rattle.tap_course.specs.Course.{Follows, IsCourse, MayFollow, is_choice, move_of_group, moved_by, system_of}
 use Rattle.tap_course.specs.Group.{received_records, records_of_act, start_at}
 use Rattle.tap_course.specs.Named.{HaveNames}
 use Rattle.tap_course.specs.Starts.{announced, next_cast, next_ticket, start_of_step}
 use Rattle.tap_course.proofs.Frames.{starting_moves, step_moves, taken_moves}
 use Rattle.tap_course.proofs.Growing.{by_groups, course_grows_holds, grown_system, start_system}
-use Rattle.tap_course.proofs.Nodes.{start_in}
-use Rattle.tap_course.proofs.Within.{IsIdle, IsStarting, step_kind}
+use Rattle.tap_course.proofs.Nodes.{name_at, start_in}
+use Rattle.tap_course.proofs.Within.{IsStarting, step_kind}
 use Rattle.tap_invariant.specs.Sound.{Sound}
 use Rattle.tap_lawful.specs.Next.{beginning_in}
 use Rattle.tap_safe_course.specs.Moments.{AtEachMoment}
@@ -47,14 +40,15 @@ use Rattle.tap_safe_course.proofs.Safe.{run_at_moment, runs_are_sound, steps_aft
 use Rattle.tap_pointer_moves.specs.Ever.{AreOfPublished}
 use Rattle.tap_pointer_moves.specs.Told.{PointersStand}
 use Rattle.tap_pointer_course.specs.Paths.{OfLawfulLogs, was_published}
-use Rattle.tap_pointer_course.proofs.Runs.{run_grown}
-use Rattle.tap_lookup_moves.specs.Answers.{IsAnswerOf, IsAskedFor, LookupsAreOf, news_of_frame}
+use Rattle.tap_pointer_course.proofs.Growing.{ever_grows}
+use Rattle.tap_pointer_course.proofs.Runs.{idle_starts_none, run_grown}
+use Rattle.tap_lookup_moves.specs.Answers.{IsAskedFor, LookupsAreOf}
 use Rattle.tap_lookup_moves.specs.Lookups.{LookupsGoToCore}
 use Rattle.tap_lookup_moves.proofs.Answers.{lookups_stay_of, no_lookups_at_rest, noted_answers_are_of}
 use Rattle.tap_lookup_moves.proofs.Moves.{lookups_at_rest, lookups_kept}
 use Rattle.tap_lookup_course.specs.Answers.{AnswersWerePublished, LookupsGoToCoreIn, asks_for, was_asked}
-use Rattle.tap_lookup_course.proofs.Growing.{AnswerHolds, EachHolds, acted_hold, all_unanswered, each_all, each_append, each_split, ever_grows, lookups_grow}
-use Rattle.tap_lookup_course.proofs.Unanswered.{IsUnanswered, StartsSome, announced_unanswered, follow_unanswered}
+use Rattle.tap_lookup_course.proofs.Growing.{AnswerHolds, EachHolds, act_all, all_unanswered, each_all, each_append, each_split, lookups_grow, receive_all, unanswered_holds}
+use Rattle.tap_lookup_course.proofs.Unanswered.{IsUnanswered, announced_unanswered, follow_unanswered}
 
 -- what is so of lookups after a log: where they go, what they say, and what the log has answered
 pub record Looked (log : List Record) (s : System) : Type 0 where
@@ -64,69 +58,58 @@ pub record Looked (log : List Record) (s : System) : Type 0 where
 
 -- ---- one more group
 
--- an idle step starts nothing
-pub idle_starts_none : (log : List Record) (step : Step) (items : List Record) → IsIdle log step items → StartsSome log step → ⊥
-idle_starts_none log step items idle starts =
-    let what = starts.1.0 in
-    let moves : move_of_start (first_refusal log step) (start_at log step) ≡ Some (Begins what.0 what.1) =
-    ap (λ r. move_of_start r (start_at log step)) starts.0 ∙ ap (move_of_start None) starts.1.1 in
-    let wrong : ◌≡◌ {A = Option Move} None (Some (Begins what.0 what.1)) = sym idle.still ∙ moves in
-    cc
-
-or_true : (b : Bool) → (b || true) ≡ true
-or_true true = refl
-or_true false = refl
-
 no_lookup : {A : Type 0} (kind start : Start) (ticket : ℕ) (object : List ℕ) → kind ≡ start → start ≡ Finds ticket object
     → (kind ≡ Finds ticket object → ⊥) → A
 no_lookup kind start ticket object at is never = absurd (never (at ∙ is))
 
+-- the step that starts a lookup, and the number of its ticket
+pub record IsFindStep (log : List Record) (step : Step) (name : List ℕ) (ticket : ℕ) (object : List ℕ) : Type 0 where
+  pub is : step ≡ Find object name
+  pub next : next_ticket log ≡ ticket
+
+pub find_step : (log : List Record) (step : Step) (name : List ℕ) (start : Start) → start_at log step ≡ Some (name, start) → (ticket : ℕ)
+    (object : List ℕ) → start ≡ Finds ticket object → IsFindStep log step name ticket object
+unfolding actor_of start_of_step
+find_step log (Find sought asker) name start at ticket object is =
+    let both : Finds (next_ticket log) sought ≡ Finds ticket object = ap (start_in (Finds (next_ticket log) sought)) at ∙ is in
+    let objects : sought ≡ object = cc in
+    let names : asker ≡ name = ap name_at at in
+    record { is = ap (λ o. Find o asker) objects ∙ ap (Find object) names; next = cc }
+find_step log (Join newcomer via) name start at ticket object is =
+    no_lookup (Joins via) start ticket object (ap (start_in (Joins via)) at) is (λ same. cc)
+find_step log (Depart node) name start at ticket object is =
+    no_lookup (Leaves) start ticket object (ap (start_in (Leaves)) at) is (λ same. cc)
+find_step log (Publish sought server) name start at ticket object is =
+    no_lookup (Publishes sought) start ticket object (ap (start_in (Publishes sought)) at) is (λ same. cc)
+find_step log (Withdraw sought server) name start at ticket object is =
+    no_lookup (Withdraws sought) start ticket object (ap (start_in (Withdraws sought)) at) is (λ same. cc)
+find_step log (Abandon node) name start at ticket object is =
+    no_lookup (GivesUp) start ticket object (ap (start_in (GivesUp)) at) is (λ same. cc)
+find_step log (Cast word prefix asker) name start at ticket object is =
+    no_lookup (Casts (next_cast log) (length prefix) word) start ticket object (ap (start_in (Casts (next_cast log) (length prefix) word)) at) is (λ same. cc)
+find_step log step name start at ticket object is = absurd (cc)
+
+-- what is said of it first
+pub finds_asked : (log : List Record) (step : Step) (name : List ℕ) (ticket : ℕ) (object : List ℕ) → IsFindStep log step name ticket object
+    → announced log step ≡ Asked ticket object name ∷ []
+unfolding announced
+finds_asked log step name ticket object finds =
+    ap (announced log) finds.is ∙ ap (λ n. Asked n object name ∷ []) finds.next
+
 -- a lookup that is started is asked for first
-asked_first : (log : List Record) (index : ℕ) (step : Step) (name : List ℕ) (start : Start) → start_at log step ≡ Some (name, start)
+pub asked_first : (log : List Record) (index : ℕ) (step : Step) (name : List ℕ) (start : Start) → start_at log step ≡ Some (name, start)
     → (ticket : ℕ) (object : List ℕ) → start ≡ Finds ticket object
     → was_asked (log ++ StepRecord index step ∷ announced log step) ticket object ≡ true
-unfolding actor_of start_of_step announced
-asked_first log index (Find sought asker) name start at ticket object is =
-    let both : Finds (next_ticket log) sought ≡ Finds ticket object = ap (start_in (Finds (next_ticket log) sought)) at ∙ is in
-    let tickets : next_ticket log ≡ ticket = cc in
-    let objects : sought ≡ object = cc in
-    let asks : asks_for (Asked (next_ticket log) sought asker) ticket object ≡ true =
-    ap (λ b. b && pointwise nat_eq sought object) (eq-eqb (next_ticket log) ticket tickets) ∙ (bytes_eq-Decides sought object).1 objects in
-    list_any-append (λ item. asks_for item ticket object) log
-    (StepRecord index (Find sought asker) ∷ Asked (next_ticket log) sought asker ∷ [])
-    ∙ ap (λ b. was_asked log ticket object || (b || false)) asks ∙ or_true (was_asked log ticket object)
-asked_first log index (Join newcomer via) name start at ticket object is =
-    no_lookup (Joins via) start ticket object (ap (start_in (Joins via)) at) is (λ same. cc)
-asked_first log index (Depart node) name start at ticket object is =
-    no_lookup (Leaves) start ticket object (ap (start_in (Leaves)) at) is (λ same. cc)
-asked_first log index (Publish sought server) name start at ticket object is =
-    no_lookup (Publishes sought) start ticket object (ap (start_in (Publishes sought)) at) is (λ same. cc)
-asked_first log index (Withdraw sought server) name start at ticket object is =
-    no_lookup (Withdraws sought) start ticket object (ap (start_in (Withdraws sought)) at) is (λ same. cc)
-asked_first log index (Abandon node) name start at ticket object is =
-    no_lookup (GivesUp) start ticket object (ap (start_in (GivesUp)) at) is (λ same. cc)
-asked_first log index (Cast word prefix asker) name start at ticket object is =
-    no_lookup (Casts (next_cast log) (length prefix) word) start ticket object (ap (start_in (Casts (next_cast log) (length prefix) word)) at) is (λ same. cc)
-asked_first log index step name start at ticket object is = absurd (cc)
+asked_first log index step name start at ticket object is =
+    let finds = find_step log step name start at ticket object is in
+    let asks : asks_for (Asked ticket object name) ticket object ≡ true =
+    ap (λ b. b && pointwise nat_eq object object) (eq-eqb ticket ticket refl) ∙ (bytes_eq-Decides object object).1 refl in
+    ap (λ l. was_asked (log ++ StepRecord index step ∷ l) ticket object) (finds_asked log step name ticket object finds)
+    ∙ list_any-append (λ item. asks_for item ticket object) log (StepRecord index step ∷ Asked ticket object name ∷ [])
+    ∙ ap (λ b. was_asked log ticket object || (b || false)) asks ∙ or-true (was_asked log ticket object)
 
 module _ (p : SettingsValue) (log : List Record) (s : System) (looked : Looked log s) (sound : Sound p s) (stand : PointersStand s)
     (ever : AreOfPublished (was_published log) s) where
-  -- the records of what a node does, if the answer that it notes is borne out
-  act_holds : (told : List Record) (name : List ℕ) (node : Option NodeState) (event : Event)
-      → ((ticket : ℕ) (server : Option (List ℕ)) → option_map (λ one. (act one event).news) node ≡ Some (IsAnswered ticket server)
-      → IsAnswerOf (was_asked told) (was_published told) ticket server)
-      → All (AnswerHolds told) (records_of_act p log name node event)
-  act_holds told name None event known = All-nil (AnswerHolds told)
-  act_holds told name (Some node) event known =
-      acted_hold told p (sent_count log) name (act node event) (λ ticket server is. known ticket server (ap Some is))
-
-  receive_holds : (told : List Record) (frame : Option Frame)
-      → ((ticket : ℕ) (server : Option (List ℕ)) → news_of_frame s frame ≡ Some (IsAnswered ticket server)
-      → IsAnswerOf (was_asked told) (was_published told) ticket server)
-      → All (AnswerHolds told) (received_records p log s frame)
-  receive_holds told None known = All-nil (AnswerHolds told)
-  receive_holds told (Some frame) known = act_holds told frame.to (s.node frame.to) (Takes frame) known
-
   taken_looked : (number : ℕ) (items : List Record) → items ≡ received_records p log s (numbered_frame number s.frames)
       → may_move p s (Delivers number) → Looked (log ++ Taken number ∷ items) (moved p s (Delivers number))
   taken_looked number items are may =
@@ -137,7 +120,7 @@ module _ (p : SettingsValue) (log : List Record) (s : System) (looked : Looked l
       λ x ticket object is. let wrong : Delivers number ≡ Begins x (Finds ticket object) = is in absurd (cc) in
       let holds : All (AnswerHolds told) items =
       subst (All (AnswerHolds told)) (sym are)
-      (receive_holds told (numbered_frame number s.frames) (λ ticket server noted.
+      (receive_all (AnswerHolds told) (unanswered_holds told) p log s (numbered_frame number s.frames) (λ ticket server noted.
       noted_answers_are_of p s (Delivers number) (was_asked told) (was_published told) may sound stand known asks now ticket server
       noted)) in
       let later = lookups_stay_of p s (Delivers number) (was_asked told) (was_published told) may sound stand known asks now in
@@ -177,7 +160,7 @@ module _ (p : SettingsValue) (log : List Record) (s : System) (looked : Looked l
       let start_is : starting.start ≡ Finds ticket object = cc in
       asked_first log index step starting.name starting.start starting.at ticket object start_is in
       let holds : All (AnswerHolds told) done =
-      act_holds told starting.name node (Starts starting.start) (λ ticket server noted.
+      act_all (AnswerHolds told) (unanswered_holds told) p log starting.name node (Starts starting.start) (λ ticket server noted.
       noted_answers_are_of p s move (was_asked told) (was_published told) may sound stand known asks now ticket server noted) in
       let later = lookups_stay_of p s move (was_asked told) (was_published told) may sound stand known asks now in
       let together : told ++ done ≡ log ++ StepRecord index step ∷ items =

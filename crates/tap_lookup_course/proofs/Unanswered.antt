@@ -27,6 +27,7 @@ use Rattle.tap_course.specs.Course.{FollowStep, IsRefused, is_choice}
 use Rattle.tap_course.specs.Damage.{copied_number, fault_of_copy, garbled}
 use Rattle.tap_course.specs.Group.{accepted_records, records_unless, start_at, started_records}
 use Rattle.tap_course.specs.Observed.{link_line, nodes_of, observed, pointers_record, table_record, word_of_status}
+use Rattle.tap_pointer_course.proofs.Unpaired.{StartsSome}
 
 -- a record answers no lookup
 abbrev pub IsUnanswered : Record → Type 0
@@ -36,7 +37,7 @@ IsUnanswered other = Unit {0}
 none_unanswered : All IsUnanswered []
 none_unanswered = All-nil IsUnanswered
 
-one_unanswered : (item : Record) → IsUnanswered item → All IsUnanswered (item ∷ [])
+pub one_unanswered : (item : Record) → IsUnanswered item → All IsUnanswered (item ∷ [])
 one_unanswered item is = All-cons IsUnanswered item [] is none_unanswered
 
 -- what is said of a start first answers none
@@ -96,10 +97,6 @@ accepted_unanswered p log s (Garble place at byte) =
 accepted_unanswered p log s (Cut place bytes) =
     inl (damage_unanswered (copied_number log (Cut place bytes)) (fault_of_copy p log (Cut place bytes)))
 accepted_unanswered p log s step = inr refl
-
--- the step is accepted, and starts something
-abbrev pub StartsSome : List Record → Step → Type 0
-StartsSome log step = (first_refusal log step ≡ None) × ((what : List ℕ × Start) × (start_at log step ≡ Some what))
 
 module _ (p : SettingsValue) (log : List Record) (s : System) (index : ℕ) (step : Step) (items : List Record) where
   started_unanswered : (start : Option (List ℕ × Start)) → first_refusal log step ≡ None → start_at log step ≡ start

@@ -2,6 +2,7 @@ ghost use Rattle.tap_pointer_course.specs.Paths.{OfLawfulLogs};
 ghost use Rattle.tap_safe_course.specs.Moments.{AtEachMoment};
 ghost use Rattle.tap_lookup_course.specs.Alone.{LookupsAloneAreExact};
 ghost use Rattle.tap_lookup_course.specs.Answers.{AnswersWerePublished, LookupsGoToCoreIn};
+ghost use Rattle.tap_lookup_course.specs.NoServer.{AnsweredNoneWereDisturbed, LookupsEndWithoutServer};
 
 /// At each moment of a run the lookups that are under way in its system go to core nodes.
 ///
@@ -34,4 +35,19 @@ pub fn answers_law()
 pub fn alone_law()
     ensures runs { AtEachMoment LookupsAloneAreExact }
     ensures lawful { OfLawfulLogs LookupsAloneAreExact }
+{}
+
+/// However lookups overlap, one is answered without a server only if the last node that it reached held no pair of its object then, and had no
+/// next hop for it. And then at some moment, from the end of the group that asked for it to the end of the group that answered it, no pair of
+/// its object was published, or a frame was outstanding that is of no lookup. So it is in the log of each run of a scenario that isn't over, up
+/// to each of its moments.
+///
+/// It does nothing: its contract is the law.
+///
+/// Rule: docs/FORMATS.md, "What comes next" and "The course of a run", and docs/PROTOCOL.md, "Find", "Answer" and "Walks".
+pub fn no_server_law()
+    ensures ends { AtEachMoment LookupsEndWithoutServer }
+    ensures disturbed { AtEachMoment AnsweredNoneWereDisturbed }
+    ensures lawful_ends { OfLawfulLogs LookupsEndWithoutServer }
+    ensures lawful_disturbed { OfLawfulLogs AnsweredNoneWereDisturbed }
 {}

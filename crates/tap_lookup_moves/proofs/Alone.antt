@@ -45,7 +45,7 @@ use Rattle.tap_lookup_moves.specs.Lookups.{LookupsGoToCore}
 use Rattle.tap_lookup_moves.proofs.Acts.{frame_acts, only_core, start_acts}
 use Rattle.tap_lookup_moves.proofs.Moves.{none_departs}
 use Rattle.tap_lookup_moves.proofs.Answers.{some_news}
-use Rattle.tap_lookup_moves.proofs.Rest.{answers_exactly, walk_first, walk_on}
+use Rattle.tap_lookup_moves.proofs.Rest.{answers_exactly, walk_begins, walk_on}
 use Rattle.tap_lookup_moves.proofs.Rules.{AnsweredAtOnce, AskNotes, AskSays, FoundNotes, FoundSays}
 
 -- ---- a step that is about lookups alone
@@ -183,7 +183,7 @@ module _ (p : SettingsValue) (rest : System) (asker : List ℕ) (ticket : ℕ) (
       let laid = of.laid (late_runs node.status (inl core)) in
       let stays = lookup_stays node ticket object acted laid (lookup_law node ticket object core) in
       let step = starts p rest asker start node at in
-      let first = walk_first p rest sound_rest stand quiet object asks.name asker in
+      let first = walk_begins p rest object asker in
       let alike : WasAlike rest asker node = record { before = node; was = at; alike = record { status = refl; ties = refl; pointers = refl } } in
       let exactly = λ (level : ℕ) (server : Option (List ℕ)).
       answers_exactly p rest sound_rest stand quiet object asks.name asker asker_core asker node level server alike core

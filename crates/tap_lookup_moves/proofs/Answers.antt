@@ -12,9 +12,10 @@ use Rattle.tap_rule.specs.Event.Event.{Starts, Takes}
 use Rattle.tap_rule.specs.Event.News.{Answered}
 use Rattle.tap_rule.specs.Event.Start.{Find as StartFind, Join}
 use Rattle.tap_rule.specs.Node.{NodeState, joiner}
+use Rattle.tap_safety.specs.Move.{MayArrive, may_start}
 use Rattle.tap_safety.specs.Move.Move.{Begins, Delivers}
 use Rattle.tap_safety.specs.Moved.{starter}
-use Rattle.tap_safety.specs.System.{System, AmongFrames}
+use Rattle.tap_safety.specs.System.{System, AmongFrames, IsUnderWay}
 use Rattle.tap_safety.proofs.Moves.{found}
 use Rattle.tap_moves.specs.Delivered.{after_delivery, after_start}
 use Rattle.tap_invariant.specs.Sound.{Sound}
@@ -22,10 +23,68 @@ use Rattle.tap_pointer_moves.specs.Ever.{AreOfPublished}
 use Rattle.tap_pointer_moves.specs.Told.{PointersStand}
 use Rattle.tap_pointer_moves.proofs.Ever.{held_was_published}
 use Rattle.tap_pointer_moves.proofs.Publications.{starter_of}
-use Rattle.tap_lookup_moves.specs.Answers.{IsAnswerOf, IsAskedFor, LookupsAreOf, LookupsStayOf, NoLookupsAtRest, NotedAnswersAreOf, news_of_frame}
+use Rattle.tap_lookup_moves.specs.Answers.{IsAnswerOf, IsAskedFor, LookupsAreOf, LookupsStayOf, NoLookupsAtRest, NotedAnswersAreOf, news_of, news_of_frame}
 use Rattle.tap_lookup_moves.proofs.Acts.{frame_acts, frame_step, start_acts, start_came}
 use Rattle.tap_lookup_moves.proofs.Held.{server_held}
 use Rattle.tap_lookup_moves.proofs.Rules.{AnsweredAtOnce, AskNotes, FoundNotes}
+
+-- ---- what a move notes
+
+pub some_news : (there : Option NodeState) (one : NodeState) (of : NodeState → News) (news : News) → there ≡ Some one
+    → option_map of there ≡ Some news → of one ≡ news
+some_news there one of news is noted =
+    let found : Some (of one) ≡ Some news = ap (option_map of) (sym is) ∙ noted in
+    cc
+
+-- a lookup that is answered as something starts is the one that starts
+pub noted_start : (p : SettingsValue) (s : System) (x : List ℕ) (start : Start) (ticket : ℕ) (server : Option (List ℕ)) → may_start p s x start
+    → news_of p s (Begins x start) ≡ Some (Answered ticket server) → (object : List ℕ) × (start ≡ StartFind ticket object)
+noted_start p s x start ticket server may noted =
+    elim (starter_of p s x start may) [
+      | inl joins ↦ by_node (joiner p x) (ap (starter p s x) joins.1)
+      | inr st ↦ by_node st.node st.is
+    ]
+  where
+    by_node : (node : NodeState) → starter p s x start ≡ Some node → (object : List ℕ) × (start ≡ StartFind ticket object)
+    by_node node is =
+        let news = some_news (starter p s x start) node (λ n. (act n (Starts start)).news) (Answered ticket server) is noted in
+        let once : AnsweredAtOnce node start ticket server = subst (AskNotes node start) news (start_acts node start).news in
+        (once.object, once.is)
+
+-- and one that is answered as a frame is taken has its Answer under way
+pub noted_delivery : (p : SettingsValue) (s : System) (number ticket : ℕ) (server : Option (List ℕ)) → MayArrive s number → Sound p s
+    → news_of p s (Delivers number) ≡ Some (Answered ticket server)
+    → (from : List ℕ) × (to : List ℕ) × IsUnderWay s from to (Answer ticket server)
+noted_delivery p s number ticket server may sound noted =
+    let frame = may.frame in
+    let node = may.receiver.state in
+    let is = found number frame 0 s.frames s.next sound.invariant.basis.numbered.numbers may.among in
+    let there : news_of_frame s (Some frame) ≡ Some (Answered ticket server) = ap (news_of_frame s) (sym is) ∙ noted in
+    let news = some_news (s.node frame.to) node (λ n. (act n (Takes frame)).news) (Answered ticket server) may.receiver.is there in
+    let body : frame.body ≡ Answer ticket server = subst (FoundNotes frame.body) news (frame_acts node frame).news in (
+      frame.from,
+      frame.to,
+      record {
+        number = number;
+        among = subst (λ b. AmongFrames number (record { from = frame.from; to = frame.to; body = b }) s.frames) body may.among;
+      },
+    )
+
+-- no start sends an Answer
+pub started_answer : (p : SettingsValue) (s : System) (x : List ℕ) (start : Start) (from to : List ℕ) (ticket : ℕ) (server : Option (List ℕ))
+    → may_start p s x start → Sound p s → IsUnderWay (after_start p s x start) from to (Answer ticket server)
+    → IsUnderWay s from to (Answer ticket server)
+started_answer p s x start from to ticket server may sound way =
+    elim (starter_of p s x start may) [
+      | inl joins ↦ by_node (joiner p x) (ap (starter p s x) joins.1)
+      | inr st ↦ by_node st.node st.is
+    ]
+  where
+    by_node : (node : NodeState) → starter p s x start ≡ Some node → IsUnderWay s from to (Answer ticket server)
+    by_node node is =
+        elim (start_came p s sound x start node is from to (Answer ticket server) way) [ inl old ↦ old | inr new ↦ absurd new ]
+
+-- ---- after a frame, and after a start
 
 module _ (asked : ℕ → List ℕ → Bool) (was : Pair → Bool) (p : SettingsValue) (s : System) (sound : Sound p s) (stand : PointersStand s)
     (ever : AreOfPublished was s) (before : LookupsAreOf asked was s) where
@@ -67,15 +126,6 @@ module _ (asked : ℕ → List ℕ → Bool) (was : Pair → Bool) (p : Settings
             ];
           }
 
-      delivered_noted : (ticket : ℕ) (server : Option (List ℕ)) → (act node (Takes frame)).news ≡ Answered ticket server
-          → IsAnswerOf asked was ticket server
-      delivered_noted ticket server is =
-          let body : frame.body ≡ Answer ticket server = subst (FoundNotes frame.body) is (frame_acts node frame).news in
-          before.answers frame.from frame.to ticket server (record {
-            number = number;
-            among = subst (λ b. AmongFrames number (record { from = frame.from; to = frame.to; body = b }) s.frames) body among;
-          })
-
   module _ (x : List ℕ) (start : Start) (asks : (ticket : ℕ) (object : List ℕ) → start ≡ StartFind ticket object → asked ticket object ≡ true)
       (node : NodeState) (is : starter p s x start ≡ Some node) where
     started_of : LookupsAreOf asked was (after_start p s x start)
@@ -114,12 +164,6 @@ asks_of : (asked : ℕ → List ℕ → Bool) (x : List ℕ) (start : Start) →
     → start ≡ StartFind ticket object → asked ticket object ≡ true
 asks_of asked x start for ticket object is = for x ticket object (ap (Begins x) is)
 
-pub some_news : (there : Option NodeState) (one : NodeState) (of : NodeState → News) (news : News) → there ≡ Some one
-    → option_map of there ≡ Some news → of one ≡ news
-some_news there one of news is noted =
-    let found : Some (of one) ≡ Some news = ap (option_map of) (sym is) ∙ noted in
-    cc
-
 pub lookups_stay_of : LookupsStayOf
 lookups_stay_of p s (Begins x start) asked was may sound stand ever for before =
     elim (starter_of p s x start may) [
@@ -143,11 +187,8 @@ noted_answers_are_of p s (Begins x start) asked was may sound stand ever for bef
           (some_news (starter p s x start) st.node (λ node. (act node (Starts start)).news) (Answered ticket server) st.is noted)
     ]
 noted_answers_are_of p s (Delivers number) asked was may sound stand ever for before ticket server noted =
-    let is = found number may.frame 0 s.frames s.next sound.invariant.basis.numbered.numbers may.among in
-    let there : news_of_frame s (Some may.frame) ≡ Some (Answered ticket server) = ap (news_of_frame s) (sym is) ∙ noted in
-    delivered_noted asked was p s sound stand ever before number may.frame may.receiver.state may.among may.receiver.is ticket server
-    (some_news (s.node may.frame.to) may.receiver.state (λ node. (act node (Takes may.frame)).news) (Answered ticket server)
-    may.receiver.is there)
+    let came = noted_delivery p s number ticket server may sound noted in
+    before.answers came.0 came.1 ticket server came.2
 
 pub no_lookups_at_rest : NoLookupsAtRest
 no_lookups_at_rest p members asked was are = record {

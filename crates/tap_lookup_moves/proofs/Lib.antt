@@ -5,3 +5,7 @@ pub mod Held
 pub mod Answers
 pub mod Rest
 pub mod Alone
+pub mod Emptied
+pub mod AsAtRest
+pub mod Walks
+pub mod NoServer

@@ -1,43 +1,34 @@
 -- What lookups find at rest: along a walk the servers that publish the object, and at its end each of them.
-use Rattle.std.proofs.Common.{◌≡◌, ◌⊎◌, ℕ, ◌<◌, true, false, List, [], ◌∷◌, drop, length, map, slice_index_or, IsSomeAnd, Option, None, Some, refl, ap, sym, subst, ◌∙◌, inl, inr}
+use Rattle.std.proofs.Common.{◌≡◌, ◌⊎◌, ℕ, true, false, List, [], ◌∷◌, drop, map, Option, None, Some, refl, ap, sym, subst, ◌∙◌, inl, inr}
 use Rattle.std.specs.List.{last_or}
 use Rattle.std.specs.List.Sorted.{IsStrictlySortedBy}
 use Rattle.std.specs.Map.{keys_of}
-use Rattle.std.proofs.lemmas.Option.{slice_get-get_or}
 use Rattle.tap_name.specs.Name.{IsName}
 use Rattle.tap_name.specs.Names.{Among}
 use Rattle.tap_name.specs.Settings.{SettingsValue}
-use Rattle.tap_link.specs.Entry as links
-use Rattle.tap_link.specs.declared.kind.Kind.{Kind}
-use Rattle.tap_link.specs.declared.kind.Kind.TheVariants.{Leaving as Marked, Pin, Settled}
-use Rattle.tap_table.specs.Table.{kind_in}
 use Rattle.tap_table.specs.declared.next.Next.{Next}
 use Rattle.tap_table.specs.declared.next.Next.TheVariants.{Hop as HopTo, Root}
-use Rattle.tap_table.proofs.Found.{kind_of_target}
 use Rattle.tap_pointer.specs.declared.pair.Pair.{Pair}
 use Rattle.tap_pointer.specs.Pair.{pair_cmp}
 use Rattle.tap_pointer.specs.Pointers.{is_held, least_server, pair_of, state_of}
 use Rattle.tap_surrogate.specs.Entered.{AreEntered, Entered, IsChain, next_of, walk_entered}
 use Rattle.tap_surrogate.specs.Laws.{LeadsToRoot}
-use Rattle.tap_surrogate.specs.Nodes.{HasSettledCoreLinks, IsSettledTable, core_links}
+use Rattle.tap_surrogate.specs.Nodes.{core_links}
 use Rattle.tap_surrogate.specs.Walk.{walk, walk_end}
 use Rattle.tap_surrogate.proofs.Chains.{chain_law_holds}
 use Rattle.tap_surrogate.proofs.Entering.{entered_begins, entered_law_holds}
 use Rattle.tap_course.specs.Observed.{nodes_of}
-use Rattle.tap_rule.specs.Node.{NodeState, Status}
-use Rattle.tap_rule.specs.Node.Status.{Ceased, Core, Gone, Joining, Leaving}
+use Rattle.tap_rule.specs.Node.{NodeState}
+use Rattle.tap_rule.specs.Node.Status.{Core}
 use Rattle.tap_rule.specs.Pointers.{next_hop}
 use Rattle.tap_rule.specs.Sent.{IsAmong}
-use Rattle.tap_safety.specs.Rest as resting
 use Rattle.tap_safety.specs.System.{System, IsCoreNode}
-use Rattle.tap_safety.proofs.LinkKeeps.{status_seen}
 use Rattle.tap_invariant.specs.Sound.{Sound}
-use Rattle.tap_invariant.proofs.Consequences.{nothing_is_left}
-use Rattle.tap_invariant.proofs.Walks.{core_listed, core_read, read_core, tables_hole_free, walks_lead}
+use Rattle.tap_invariant.proofs.Walks.{core_listed, read_core, tables_hole_free, walks_lead}
 use Rattle.tap_pointer_moves.specs.Paths.{HoldsPair, IsPublished, path_of}
-use Rattle.tap_pointer_moves.specs.Told.{HasNoPointers, PointersStand}
+use Rattle.tap_pointer_moves.specs.Told.{PointersStand}
 use Rattle.tap_pointer_moves.proofs.Chains.{chain_next, entry_at}
-use Rattle.tap_pointer_moves.proofs.Paths.{pointers_on_paths}
+use Rattle.tap_pointer_moves.proofs.Paths.{held_status, pointers_on_paths, table_at, tables_settled}
 use Rattle.tap_pointer_moves.proofs.Rules.{nothing_published}
 use Rattle.tap_lookup_moves.specs.Alone.{IsExact, IsOnWalk, WasAlike}
 use Rattle.tap_lookup_moves.proofs.Held.{none_held, server_held}
@@ -62,70 +53,22 @@ last_among x before (y ∷ path) is =
       | inr later ↦ inr (inr later)
     ]
 
+-- ---- the beginning of a walk
+
+-- a walk enters its first node at level 0
+pub walk_begins : (p : SettingsValue) (s : System) (object asker : List ℕ) → IsOnWalk p s object asker asker 0
+walk_begins p s object asker =
+    let begins = entered_begins p.base (core_links (nodes_of s)) (entry_at asker 0) 0 (drop 0 object) in
+    subst (IsAmong (entry_at asker 0)) (sym begins.1) (inl refl)
+
 -- ---- a system at rest
 
--- a node that publishes something isn't one that knows nothing
-late : (status : Status) → (HasNoPointers status → ⊥) → (status ≡ Core) ⊎ (status ≡ Leaving)
-late Joining some = absurd (some tt)
-late Core some = inl refl
-late Leaving some = inr refl
-late Gone some = absurd (some tt)
-late Ceased some = absurd (some tt)
-
 module _ (p : SettingsValue) (s : System) (sound : Sound p s) (stand : PointersStand s) (rest : s.frames ≡ []) where
-  left : resting.Rest s
-  left = nothing_is_left p s sound rest
-
-  core_at_rest : (x : List ℕ) → (core : IsCoreNode s x) → core.state.status ≡ Core
-  core_at_rest x core =
-      elim core.core [
-        | inl is ↦ is
-        | inr leaving ↦ absurd (left.leaving x (status_seen s x core.state Leaving core.is leaving))
-      ]
-
-  table_at : (x : List ℕ) (node : NodeState) → s.node x ≡ Some node → node.status ≡ Core → (nodes_of s).table_of x ≡ Some node.ties.table
-  table_at x node at core = rw (at, core) refl
-
-  settled : (x : List ℕ) (node : NodeState) → s.node x ≡ Some node → (to : List ℕ) (kind : Kind) → kind_in node.ties.table to ≡ Some kind
-      → kind ≡ Settled
-  settled x node at to Pin is = absurd (left.pins x to (record { state = node; is = at; link = is }))
-  settled x node at to Settled is = refl
-  settled x node at to Marked is = absurd (left.marked x to (record { state = node; is = at; link = is }))
-
-  links_settled : (x : List ℕ) (node : NodeState) → s.node x ≡ Some node → HasSettledCoreLinks (nodes_of s) node.ties.table
-  links_settled x node at =
-      let of = sound.nodes.nodes x node at in
-      let t = node.ties.table in
-      let kind_is = λ (number k : ℕ) (d : links.Entry (List ℕ)) (inside : k < length (slice_index_or t.slots number [])).
-      kind_of_target t of.is_node.ties.table number (slice_index_or (slice_index_or t.slots number []) k d) k
-      (slice_get-get_or (slice_index_or t.slots number []) k d inside) in
-      record {
-        settled = λ number k d inside. settled x node at _ _ (kind_is number k d inside);
-        core = λ number k d inside.
-            let e : links.Entry (List ℕ) = slice_index_or (slice_index_or t.slots number []) k d in
-            let same = settled x node at e.target e.kind (kind_is number k d inside) in
-            let link : kind_in t e.target ≡ Some Settled = kind_is number k d inside ∙ ap Some same in
-            read_core s e.target (sound.invariant.basis.soft.settled x e.target (record { state = node; is = at; link = link }));
-      }
-
-  tables_settled : (x : List ℕ) → (nodes_of s).core x ≡ true
-      → IsSomeAnd ((nodes_of s).table_of x) (IsSettledTable p (nodes_of s) x)
-  tables_settled x is =
-      let core = core_read s x is in
-      let at = core.is in
-      let of = sound.nodes.nodes x core.state at in
-      let table = table_at x core.state at (core_at_rest x core) in
-      subst (λ found. IsSomeAnd found (IsSettledTable p (nodes_of s) x)) (sym table) (record {
-        of_owner = record { owner_is = of.name; settings_are = of.settings };
-        valid = of.is_node.ties.table;
-        links = links_settled x core.state at;
-      })
-
   -- who serves a pair is core
   server_core : (pair : Pair) → IsPublished s pair → IsCoreNode s pair.server
   server_core pair published =
       let node = published.state in
-      let status = late node.status (λ none.
+      let status = held_status node.status (λ none.
       let pairs = stand.nothing.nothing pair.server node published.is none in
       let wrong : false ≡ true = sym (nothing_published node.pointers pairs pair) ∙ published.published in
       cc) in
@@ -145,7 +88,7 @@ module _ (p : SettingsValue) (s : System) (sound : Sound p s) (stand : PointersS
         let free = tables_hole_free p s names.0 sound names.1 in
         let among = (names.1 from).1 is_core in
         record {
-          chain = chain_law_holds p (nodes_of s) tables_settled from object (read_core s from is_core) name;
+          chain = chain_law_holds p (nodes_of s) (tables_settled p s sound stand rest) from object (read_core s from is_core) name;
           turn = entered_law_holds p names.0 (core_links (nodes_of s)) free from object among name;
           core = names.0;
           leads = walks_lead p s names.0 from object sound names.1 among name;
@@ -159,16 +102,10 @@ module _ (p : SettingsValue) (s : System) (sound : Sound p s) (stand : PointersS
         (walks_lead p s names.0 a object sound names.1 ((names.1 a).1 one) name).ends
         ∙ sym (walks_lead p s names.0 b object sound names.1 ((names.1 b).1 other) name).ends
 
-    -- a walk enters its first node at level 0
-    pub walk_first : (asker : List ℕ) → IsOnWalk p s object asker asker 0
-    walk_first asker =
-        let begins = entered_begins p.base (core_links (nodes_of s)) (entry_at asker 0) 0 (drop 0 object) in
-        subst (IsAmong (entry_at asker 0)) (sym begins.1) (inl refl)
-
     module _ (asker : List ℕ) (asker_core : IsCoreNode s asker) where
       next_is : (x : List ℕ) (node : NodeState) (level : ℕ) → s.node x ≡ Some node → node.status ≡ Core
           → next_of (nodes_of s) object (entry_at x level) ≡ next_hop node object level
-      next_is x node level at core = rw (table_at x node at core) refl
+      next_is x node level at core = rw (table_at p s sound stand rest x node at core) refl
 
       -- a next hop leads along the walk
       pub walk_on : (x : List ℕ) (node : NodeState) (level : ℕ) (to : List ℕ) (next : ℕ) → s.node x ≡ Some node → node.status ≡ Core
@@ -178,7 +115,7 @@ module _ (p : SettingsValue) (s : System) (sound : Sound p s) (stand : PointersS
           (walks asker asker_core).chain on (next_is x node level at core ∙ hop)
 
       -- where there is no next hop each pair of the object is held that is published
-      ends_at : (x : List ℕ) (node : NodeState) (level : ℕ) → s.node x ≡ Some node → node.status ≡ Core
+      pub ends_at : (x : List ℕ) (node : NodeState) (level : ℕ) → s.node x ≡ Some node → node.status ≡ Core
           → IsOnWalk p s object asker x level → next_hop node object level ≡ Root → (server : List ℕ)
           → IsPublished s (pair_of object server) → HoldsPair s x (pair_of object server)
       ends_at x node level at core on root server published =

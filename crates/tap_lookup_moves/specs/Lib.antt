@@ -1,3 +1,4 @@
 pub mod Lookups
 pub mod Answers
 pub mod Alone
+pub mod NoServer

@@ -1,6 +1,13 @@
 ghost use Rattle.tap_lookup_moves.specs.Alone.{LookupBeginsAlone, LookupGoesOnAlone};
 ghost use Rattle.tap_lookup_moves.specs.Answers.{LookupsStayOf, NoLookupsAtRest, NotedAnswersAreOf};
 ghost use Rattle.tap_lookup_moves.specs.Lookups.{LookupsAtRest, LookupsKept, NeverComesBack};
+ghost use Rattle.tap_lookup_moves.specs.NoServer.{
+  EndsOfWalksAreExact,
+  FindsStayOnWalks,
+  NoneComesFromEnds,
+  NoneIsNotedAtEnds,
+  PointersOnPathsBeside,
+};
 
 /// A lookup that is under way goes to a core node, whatever happens, if the whole invariant of joins holds: each Find goes to a core node that
 /// shares fewer digits with its asker than the level to which it has come, its asker is core, and each Answer goes to a core node. So it is
@@ -38,4 +45,28 @@ pub fn answers_law()
 pub fn alone_law()
     ensures starts { LookupBeginsAlone }
     ensures frames { LookupGoesOnAlone }
+{}
+
+/// While lookups alone are under way, pointers stand exactly on their paths, as at rest. So where a lookup ends that has gone along the walk of
+/// its object, nobody publishes the object; and Finds stay on their walks after each possible move, as long as nothing else is under way before
+/// or after it.
+///
+/// It does nothing: its contract is the law.
+///
+/// Rule: docs/PROTOCOL.md, "Find", "Answer" and "Walks".
+pub fn beside_law()
+    ensures paths { PointersOnPathsBeside }
+    ensures ends { EndsOfWalksAreExact }
+    ensures walks { FindsStayOnWalks }
+{}
+
+/// A lookup is answered without a server only by a node that holds no pair of the object, and has no next hop for it: by one that takes the
+/// lookup's Find, or by the asker as the lookup starts.
+///
+/// It does nothing: its contract is the law.
+///
+/// Rule: docs/PROTOCOL.md, "Find" and "Answer".
+pub fn no_server_law()
+    ensures frames { NoneComesFromEnds }
+    ensures starts { NoneIsNotedAtEnds }
 {}

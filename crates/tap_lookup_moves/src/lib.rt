@@ -5,4 +5,4 @@
 
 mod law;
 
-pub use law::{alone_law, answers_law, lookups_law};
+pub use law::{alone_law, answers_law, beside_law, lookups_law, no_server_law};

@@ -105,13 +105,13 @@ pub record Grown (log : List Record) (s : System) : Type 0 where
   pub ever : AreOfPublished (was_published log) s
 
 -- what was published stays so as the log grows
-was_grows : (log group : List Record) (pair : Pair) → was_published log pair ≡ true → was_published (log ++ group) pair ≡ true
+pub was_grows : (log group : List Record) (pair : Pair) → was_published log pair ≡ true → was_published (log ++ group) pair ≡ true
 was_grows log group pair was =
     ap (λ l. has_pair l (pair_line pair)) (filter_map-append published_pair log group)
     ∙ list_any-append (λ other. same_pair other (pair_line pair)) (filter_map published_pair log) (filter_map published_pair group)
     ∙ ap (λ b. b || has_pair (filter_map published_pair group) (pair_line pair)) was
 
-ever_grows : (log group : List Record) (s : System) → AreOfPublished (was_published log) s
+pub ever_grows : (log group : List Record) (s : System) → AreOfPublished (was_published log) s
     → AreOfPublished (was_published (log ++ group)) s
 ever_grows log group s ever = record {
   published = λ x node pair is published. was_grows log group pair (ever.published x node pair is published);
@@ -297,7 +297,7 @@ unfolding news_before accepts begins_group
 gone_accepted p number name acted gone =
     ap (λ news. is_accepted (news_before name news ++ (sent_records p number acted.sent ++ news_after news))) gone
 
-leave_accepted : (p : SettingsValue) (number : ℕ) (name : List ℕ) (node : NodeState) → node.status ≡ Core
+pub leave_accepted : (p : SettingsValue) (number : ℕ) (name : List ℕ) (node : NodeState) → node.status ≡ Core
     → is_accepted (acted_records p number name (act node (Starts Leaves))) ≡ true
 leave_accepted p number name node core = by_holders (holders_on node.ties) refl
   where

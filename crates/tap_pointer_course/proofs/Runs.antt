@@ -52,7 +52,7 @@ use Rattle.tap_pointer_course.proofs.Unpaired.{IsUnpaired, StartsSome, act_unpai
 -- ---- one more group
 
 -- an idle step starts nothing
-idle_starts_none : (log : List Record) (step : Step) (items : List Record) → IsIdle log step items → StartsSome log step → ⊥
+pub idle_starts_none : (log : List Record) (step : Step) (items : List Record) → IsIdle log step items → StartsSome log step → ⊥
 idle_starts_none log step items idle starts =
     let what = starts.1.0 in
     let moves : move_of_start (first_refusal log step) (start_at log step) ≡ Some (Begins what.0 what.1) =
@@ -148,7 +148,7 @@ no_frames [] none = refl
 no_frames (f ∷ frames) none = let wrong : false ≡ true = none in absurd (cc)
 
 -- a pair is served exactly if its server publishes its object
-served_is : (s : System) (pair : Pair) → is_served s pair ≡ true → IsPublished s pair
+pub served_is : (s : System) (pair : Pair) → is_served s pair ≡ true → IsPublished s pair
 served_is s pair served = by_node (s.node pair.server) refl
   where
     by_node : (node : Option NodeState) → s.node pair.server ≡ node → IsPublished s pair
@@ -159,7 +159,7 @@ is_served_if : (s : System) (pair : Pair) → IsPublished s pair → is_served s
 is_served_if s pair published = ap (λ n. publishes_in n pair) published.is ∙ published.published
 
 module _ (b : Beginning) (log : List Record) (run : IsRun b log) where
-  run_rests : is_rest log ≡ true → (system_of log).frames ≡ []
+  pub run_rests : is_rest log ≡ true → (system_of log).frames ≡ []
   run_rests rest =
       let still = (and_parts (is_still log) (not (is_carried log) || (is_none (under_way log) && is_none (awaiting log))) rest).0 in
       let frames = course_frames_holds b log run.course run.going in

@@ -74,7 +74,7 @@ laid_there (Some hop) t =
     ]
 
 -- a node of which something is held isn't one that knows nothing
-held_status : (status : Status) → (HasNoPointers status → ⊥) → (status ≡ Core) ⊎ (status ≡ Leaving)
+pub held_status : (status : Status) → (HasNoPointers status → ⊥) → (status ≡ Core) ⊎ (status ≡ Leaving)
 held_status Joining some = absurd (some tt)
 held_status Core some = inl refl
 held_status Leaving some = inr refl
@@ -110,14 +110,14 @@ module _ (p : SettingsValue) (s : System) (sound : Sound p s) (stand : PointersS
   core_hears x node at core =
       subst hears_words (sym (status_at x node at)) (runs_hears node.status (core_runs node core))
 
-  core_at_rest : (x : List ℕ) → (core : IsCoreNode s x) → core.state.status ≡ Core
+  pub core_at_rest : (x : List ℕ) → (core : IsCoreNode s x) → core.state.status ≡ Core
   core_at_rest x core =
       elim core.core [
         | inl is ↦ is
         | inr leaving ↦ absurd (left.leaving x (status_at x core.state core.is ∙ ap Some leaving))
       ]
 
-  table_at : (x : List ℕ) (node : NodeState) → s.node x ≡ Some node → node.status ≡ Core → (nodes_of s).table_of x ≡ Some node.ties.table
+  pub table_at : (x : List ℕ) (node : NodeState) → s.node x ≡ Some node → node.status ≡ Core → (nodes_of s).table_of x ≡ Some node.ties.table
   table_at x node at core = rw (at, core) refl
 
   -- ---- tables at rest
@@ -144,7 +144,7 @@ module _ (p : SettingsValue) (s : System) (sound : Sound p s) (stand : PointersS
             read_core s e.target (sound.invariant.basis.soft.settled x e.target (record { state = node; is = at; link = link }));
       }
 
-  tables_settled : (x : List ℕ) → (nodes_of s).core x ≡ true
+  pub tables_settled : (x : List ℕ) → (nodes_of s).core x ≡ true
       → IsSomeAnd ((nodes_of s).table_of x) (IsSettledTable p (nodes_of s) x)
   tables_settled x is =
       let core = core_read s x is in
