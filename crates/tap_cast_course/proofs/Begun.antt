@@ -13,7 +13,6 @@ use Rattle.tap_log.specs.declared.record.Record.{Record}
 use Rattle.tap_log.specs.declared.record.Record.TheVariants.{Abandoned, Asked, CastFrom, Closed, Published, Reached, Step as StepRecord, Taken, Withdrawn}
 use Rattle.tap_log.specs.Counts.{sent_count}
 use Rattle.tap_log.specs.Kinds.{begun_cast}
-use Rattle.tap_history.specs.Groups.{EachGroupFrom, groups_of, records_of}
 use Rattle.tap_history.specs.Steps.{actor_of}
 use Rattle.tap_rule.specs.Act.{act}
 use Rattle.tap_rule.specs.Event.{Event, News, Start}
@@ -31,7 +30,7 @@ use Rattle.tap_safety.specs.Moved.{numbered_frame, starter}
 use Rattle.tap_safety.specs.System.{System}
 use Rattle.tap_moves.proofs.Got.{among_all}
 use Rattle.tap_course.specs.Acts.{if_so, news_after, news_before, sent_records}
-use Rattle.tap_course.specs.Beginning.{Beginning, begin_record}
+use Rattle.tap_course.specs.Beginning.{Beginning}
 use Rattle.tap_course.specs.Course.{Follows, MayFollow, move_of_group, system_of}
 use Rattle.tap_course.specs.Group.{received_records, records_of_act, start_at}
 use Rattle.tap_course.specs.Named.{HaveNames}
@@ -39,17 +38,17 @@ use Rattle.tap_course.specs.Observed.{is_core_node}
 use Rattle.tap_course.specs.Starts.{announced, next_cast, next_ticket, start_of_step}
 use Rattle.tap_course.proofs.Departing.{course_nodes_holds}
 use Rattle.tap_course.proofs.Frames.{starting_moves}
-use Rattle.tap_course.proofs.Growing.{log_is}
 use Rattle.tap_course.proofs.Within.{IsQuiet, IsStarting, step_kind}
 use Rattle.tap_safe_course.specs.Safe.{IsRun}
 use Rattle.tap_safe_course.proofs.Possible.{group_may_move}
-use Rattle.tap_safe_course.proofs.Safe.{run_begins, run_more, runs_are_sound, steps_after, steps_before}
+use Rattle.tap_safe_course.proofs.Safe.{runs_are_sound}
 use Rattle.tap_cast_moves.specs.Moves.{IsNewCast}
 use Rattle.tap_cast_moves.specs.Recalled.{is_core, recalled, recalled_delivery, recalled_frame, recalled_start, run_begun, run_marked, runs_begun, runs_noted}
 use Rattle.tap_cast_moves.specs.Remembered.{CastMemory, CastRun}
 use Rattle.tap_cast_course.specs.Begun.{BeginsRight, CastsStayBegun, GroupsBeginRight, StaysBegun}
 use Rattle.tap_cast_course.specs.Casts.{casts_of, recalled_by}
 use Rattle.tap_cast_course.proofs.Casts.{fresh, grown_casts, runs_keep}
+use Rattle.tap_cast_course.proofs.Each.{each_of_run}
 
 -- ---- a cast stays as it was begun
 
@@ -304,7 +303,7 @@ unfolding recalled
 recalled_at p s r caster c level text node at = rw at refl
 
 module _ (b : Beginning) (log group : List Record) (run : IsRun b log) (steps : HaveNames b.settings group) (follows : Follows b log group) where
-  begins_right : BeginsRight log group
+  pub begins_right : BeginsRight log group
   begins_right c level word caster among =
       let p = b.settings in
       let s = system_of log in
@@ -325,23 +324,5 @@ module _ (b : Beginning) (log group : List Record) (run : IsRun b log) (steps : 
             ∙ ap (λ is. is && nat_le level (lcp caster name)) (core_same (s.node name) ∙ sym (nodes.core name));
       }
 
-module _ (b : Beginning) where
-  each_begins : (before : List Record) (groups : List (List Record)) → IsRun b before → HaveNames b.settings (records_of groups)
-      → EachGroupFrom (Follows b) before groups → EachGroupFrom BeginsRight before groups
-  each_begins before [] going steps each = tt
-  each_begins before (group ∷ groups) going steps each =
-      let first = steps_before b.settings group (records_of groups) steps in
-      let later = steps_after b.settings group (records_of groups) steps in (
-        begins_right b before group going first each.0,
-        each_begins (before ++ group) groups (run_more b before group going each.0 first) later each.1,
-      )
-
 pub groups_begin_right : GroupsBeginRight
-groups_begin_right b log going =
-    let groups = groups_of log in
-    let start = begin_record b ∷ [] in
-    let all : HaveNames b.settings (start ++ records_of groups) =
-    subst (HaveNames b.settings) (sym (log_is b log going.course going.going)) going.steps in
-    subst (λ l. EachGroupFrom BeginsRight l groups) (sym going.course.begins)
-    (each_begins b start groups (run_begins b going.course.limits) (steps_after b.settings start (records_of groups) all)
-    (subst (λ l. EachGroupFrom (Follows b) l groups) going.course.begins going.course.each))
+groups_begin_right b log = each_of_run b log BeginsRight (λ before group stands. begins_right b before group stands.run stands.steps stands.follows)

@@ -10,7 +10,7 @@ use Rattle.tap_name.specs.Settings.{SettingsValue}
 use Rattle.tap_scenario.specs.declared.step.Step.{Step}
 use Rattle.tap_scenario.specs.declared.step.Step.TheVariants.{Abandon, Cast, Depart, Find, Join, Publish, Withdraw}
 use Rattle.tap_log.specs.declared.record.Record.{Record}
-use Rattle.tap_log.specs.declared.record.Record.TheVariants.{Step as StepRecord, Taken}
+use Rattle.tap_log.specs.declared.record.Record.TheVariants.{CastFrom, Step as StepRecord, Taken}
 use Rattle.tap_log.specs.Counts.{cast_count}
 use Rattle.tap_log.specs.Kinds.{begun_cast, is_carried}
 use Rattle.tap_history.proofs.Ends.{log_in_groups_holds}
@@ -21,6 +21,8 @@ use Rattle.tap_rule.specs.Event.{News, Start}
 use Rattle.tap_rule.specs.Event.News.{Cast as CastNews}
 use Rattle.tap_rule.specs.Event.Start.{Abandon as StartAbandon, Cast as StartCast, Find as StartFind, Join as StartJoin, Leave as StartLeave, Publish as StartPublish, Withdraw as StartWithdraw}
 use Rattle.tap_rule.specs.Node.{NodeState}
+use Rattle.tap_rule.specs.Sent.{IsAmong}
+use Rattle.tap_rule.proofs.Among.{among-first}
 use Rattle.tap_safety.specs.AtRest.{system_at_rest}
 use Rattle.tap_safety.specs.Move.{Move}
 use Rattle.tap_safety.specs.Move.Move.{Begins, Delivers}
@@ -112,7 +114,7 @@ noted_some runs x News.Gone d now is = (now, is)
 noted_some runs x (News.Answered ticket server) d now is = (now, is)
 
 -- the cast that a start begins, if it begins one
-abbrev IsCastOf : Start → ℕ → Type 0
+abbrev pub IsCastOf : Start → ℕ → Type 0
 IsCastOf (StartCast cast level word) d = d ≡ cast
 IsCastOf other d = ⊥
 
@@ -130,7 +132,7 @@ begun_some s r x (StartWithdraw object) d now is = inl (now, is)
 begun_some s r x (StartFind ticket object) d now is = inl (now, is)
 begun_some s r x StartLeave d now is = inl (now, is)
 
-abbrev IsCastOfMove : Move → ℕ → Type 0
+abbrev pub IsCastOfMove : Move → ℕ → Type 0
 IsCastOfMove (Begins x start) d = IsCastOf start d
 IsCastOfMove (Delivers number) d = ⊥
 
@@ -150,7 +152,7 @@ delivery_some : (s : System) (r : CastMemory) (number : ℕ) (frame : Option Fra
 delivery_some s r number None d now is = (now, is)
 delivery_some s r number (Some frame) d now is = frame_some s r number frame (s.node frame.to) d now is
 
-recalled_some : (p : SettingsValue) (s : System) (r : CastMemory) (move : Move) (d : ℕ) (now : CastRun)
+pub recalled_some : (p : SettingsValue) (s : System) (r : CastMemory) (move : Move) (d : ℕ) (now : CastRun)
     → (recalled p s r move).cast d ≡ Some now → ((run : CastRun) × (r.cast d ≡ Some run)) ⊎ IsCastOfMove move d
 unfolding recalled
 recalled_some p s r (Begins x start) d now is = start_some s r x start (starter p s x start) d now is
@@ -165,14 +167,29 @@ counts_on log group =
 not_cast : (one start : Start) (d : ℕ) → Some one ≡ Some start → (IsCastOf one d → ⊥) → IsCastOf start d → ⊥
 not_cast one start d is never of = let same : one ≡ start = cc in never (subst (λ s. IsCastOf s d) (sym same) of)
 
+-- the records say that a cast of this number begins
+pub record IsAnnounced (items : List Record) (cast : ℕ) : Type 0 where
+  pub level : ℕ
+  pub word : List ℕ
+  pub caster : List ℕ
+  pub there : IsAmong (CastFrom cast word level caster) items
+
 -- a start of a cast is numbered next, and the log says that it begins
 cast_next : (log : List Record) (step : Step) (start : Start) (d : ℕ) → start_of_step log step ≡ Some start → IsCastOf start d
-    → (d ≡ next_cast log) × ((rest : List Record) → 1 ≤ cast_count (announced log step ++ rest))
+    → (d ≡ next_cast log) × ((rest : List Record) → 1 ≤ cast_count (announced log step ++ rest)) × IsAnnounced (announced log step) d
 unfolding start_of_step announced begun_cast
 cast_next log (Cast word prefix asker) start d is of =
     let same : StartCast (next_cast log) (length prefix) word ≡ start = cc in
-    let there : IsCastOf (StartCast (next_cast log) (length prefix) word) d = subst (λ s. IsCastOf s d) (sym same) of in
-    (there, λ rest. one_more (filter_map begun_cast rest))
+    let there : IsCastOf (StartCast (next_cast log) (length prefix) word) d = subst (λ s. IsCastOf s d) (sym same) of in (
+      there,
+      λ rest. one_more (filter_map begun_cast rest),
+      record {
+        level = length prefix;
+        word = word;
+        caster = asker;
+        there = inl (ap (λ c. CastFrom c word (length prefix) asker) there);
+      },
+    )
   where
     one_more : (casts : List ℕ) → 1 ≤ length (next_cast log ∷ casts)
     one_more casts = omega arith
@@ -200,8 +217,8 @@ unfolding begun_cast
 step_counts index step items = refl
 
 -- a group that begins a cast numbers it next, and says so
-group_casts : (p : SettingsValue) (log group : List Record) (s : System) (move : Move) (d : ℕ) → MayFollow p log s group
-    → move_of_group log group ≡ Some move → IsCastOfMove move d → (d ≡ next_cast log) × (1 ≤ cast_count group)
+pub group_casts : (p : SettingsValue) (log group : List Record) (s : System) (move : Move) (d : ℕ) → MayFollow p log s group
+    → move_of_group log group ≡ Some move → IsCastOfMove move d → (d ≡ next_cast log) × (1 ≤ cast_count group) × IsAnnounced group d
 unfolding MayFollow
 group_casts p log (StepRecord index step ∷ items) s move d may is of =
     elim (step_kind p log s index step items may) [
@@ -217,6 +234,14 @@ group_casts p log (StepRecord index step ∷ items) s move d may is of =
           let next = cast_next log step starting.start d begins mine in (
             next.0,
             subst (λ n. 1 ≤ n) (sym (step_counts index step items ∙ ap cast_count starting.are)) (next.1 _),
+            record {
+              level = next.2.level;
+              word = next.2.word;
+              caster = next.2.caster;
+              there =
+                  inr (subst (IsAmong (CastFrom d next.2.word next.2.level next.2.caster)) (sym starting.are)
+                  (among-first (CastFrom d next.2.word next.2.level next.2.caster) (announced log step) _ next.2.there));
+            },
           )
     ]
 group_casts p log (Taken number ∷ items) s move d may is of =

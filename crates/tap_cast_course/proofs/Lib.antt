@@ -1,5 +1,9 @@
 pub mod Casts
 pub mod Plain
 pub mod Told
+pub mod Each
 pub mod Once
 pub mod Begun
+pub mod Said
+pub mod ReachAll
+pub mod Sessions

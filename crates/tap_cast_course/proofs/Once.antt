@@ -12,7 +12,7 @@ use Rattle.tap_safe_course.proofs.Moments.{core_names}
 use Rattle.tap_name.specs.Settings.{SettingsValue}
 use Rattle.tap_wire.specs.declared.frame.Frame.{Frame}
 use Rattle.tap_log.specs.declared.record.Record.{Record}
-use Rattle.tap_history.specs.Groups.{EachGroupFrom, groups_of, is_ended, records_of}
+use Rattle.tap_history.specs.Groups.{is_ended}
 use Rattle.tap_rule.specs.Act.{act}
 use Rattle.tap_rule.specs.Event.{News, Start}
 use Rattle.tap_rule.specs.Event.Event.{Starts, Takes}
@@ -25,10 +25,10 @@ use Rattle.tap_safety.specs.System.{System, IsCoreNode}
 use Rattle.tap_course.specs.Beginning.{Beginning, IsWithinLimits, begin_record}
 use Rattle.tap_course.specs.Course.{Follows, IsCourse, move_of_group, system_of}
 use Rattle.tap_course.specs.Named.{HaveNames}
-use Rattle.tap_course.proofs.Growing.{by_groups, log_is}
+use Rattle.tap_course.proofs.Growing.{by_groups}
 use Rattle.tap_safe_course.specs.Safe.{IsRun}
 use Rattle.tap_safe_course.proofs.Possible.{group_may_move}
-use Rattle.tap_safe_course.proofs.Safe.{run_begins, run_more, runs_are_sound, steps_after, steps_before}
+use Rattle.tap_safe_course.proofs.Safe.{runs_are_sound, steps_after, steps_before}
 use Rattle.tap_cast_moves.specs.Moves.{IsNewCast}
 use Rattle.tap_cast_moves.specs.News.{news_of, news_of_frame}
 use Rattle.tap_cast_moves.specs.Recalled.{recalled, recalled_delivery, recalled_frame, recalled_start, runs_begun, runs_noted}
@@ -37,6 +37,7 @@ use Rattle.tap_cast_moves.proofs.Moves.{news_are_true}
 use Rattle.tap_cast_course.specs.Casts.{casts_of, recalled_by}
 use Rattle.tap_cast_course.specs.Told.{ClosedHasReachedAll, GroupsReachRight, IsReachedRight, IsToldOnce, ReachesRight, ReachesAtMostOnce, RestSaysClosed, RunIsToldOnce, is_closed, is_reached, says_closed, says_reached}
 use Rattle.tap_cast_course.proofs.Casts.{IsKept, fresh, grown_casts, rest_no_casts, runs_keep, start_casts}
+use Rattle.tap_cast_course.proofs.Each.{each_of_run}
 use Rattle.tap_cast_course.proofs.Plain.{closed_on, closes_by, group_tells, news_by, reached_on, reaches, reaches_by}
 use Rattle.tap_cast_course.proofs.Told.{closed_grows, one_if, reached_grows}
 
@@ -297,29 +298,11 @@ module _ (b : Beginning) (log group : List Record) (run : IsRun b log) (steps : 
         begins = subst (λ z. right.now.level ≤ lcp right.now.caster z) (sym parts.2) (right.begins refl);
       }
 
-  right_group : ReachesRight log group
+  pub right_group : ReachesRight log group
   right_group c x says =
       let tells = group_tells b.settings log (system_of log) group follows.may in
       let news = news_by b.settings (system_of log) (move_of_group log group) in
       reached_right (move_of_group log group) refl news refl c x (is_so (reaches_by c x news) (sym (tells.reached c x) ∙ says))
 
-module _ (b : Beginning) where
-  each_right : (before : List Record) (groups : List (List Record)) → IsRun b before → HaveNames b.settings (records_of groups)
-      → EachGroupFrom (Follows b) before groups → EachGroupFrom ReachesRight before groups
-  each_right before [] going steps each = tt
-  each_right before (group ∷ groups) going steps each =
-      let first = steps_before b.settings group (records_of groups) steps in
-      let later = steps_after b.settings group (records_of groups) steps in (
-        right_group b before group going first each.0,
-        each_right (before ++ group) groups (run_more b before group going each.0 first) later each.1,
-      )
-
 pub groups_reach_right : GroupsReachRight
-groups_reach_right b log going =
-    let groups = groups_of log in
-    let start = begin_record b ∷ [] in
-    let all : HaveNames b.settings (start ++ records_of groups) =
-    subst (HaveNames b.settings) (sym (log_is b log going.course going.going)) going.steps in
-    subst (λ l. EachGroupFrom ReachesRight l groups) (sym going.course.begins)
-    (each_right b start groups (run_begins b going.course.limits) (steps_after b.settings start (records_of groups) all)
-    (subst (λ l. EachGroupFrom (Follows b) l groups) going.course.begins going.course.each))
+groups_reach_right b log = each_of_run b log ReachesRight (λ before group stands. right_group b before group stands.run stands.steps stands.follows)

@@ -16,11 +16,11 @@ use Rattle.tap_safe_course.specs.Safe.{IsRun}
 use Rattle.tap_cast_moves.specs.Remembered.{CastRun}
 use Rattle.tap_cast_course.specs.Casts.{casts_of}
 
--- The cast is remembered with this caster and prefix. Its audience are the names that are core at the moment before the group, and begin
--- with the prefix.
-pub record IsBegunRight (before group : List Record) (cast level : ℕ) (caster : List ℕ) : Type 0 where
+-- Once the log has come so far, the cast is remembered with this caster and prefix. Its audience are the names that were core at the moment
+-- before it began, and begin with the prefix.
+pub record IsBegunRight (before log : List Record) (cast level : ℕ) (caster : List ℕ) : Type 0 where
   pub run : CastRun
-  pub started : (casts_of (before ++ group)).cast cast ≡ Some run
+  pub started : (casts_of log).cast cast ≡ Some run
   pub caster_is : run.caster ≡ caster
   pub level_is : run.level ≡ level
   pub audience : (name : List ℕ) → run.audience name ≡ (has_name (core_of before) name && nat_le level (lcp caster name))
@@ -28,7 +28,7 @@ pub record IsBegunRight (before group : List Record) (cast level : ℕ) (caster 
 -- so it is of each cast that the group says to begin
 abbrev pub BeginsRight : List Record → List Record → Type 0
 BeginsRight before group = (cast level : ℕ) (word caster : List ℕ) → IsAmong (CastFrom cast word level caster) group
-    → IsBegunRight before group cast level caster
+    → IsBegunRight before (before ++ group) cast level caster
 
 abbrev pub GroupsBeginRight : Type 0
 GroupsBeginRight = (b : Beginning) (log : List Record) → IsRun b log → EachGroup BeginsRight log

@@ -1,3 +1,5 @@
 pub mod Casts
 pub mod Told
 pub mod Begun
+pub mod ReachAll
+pub mod Sessions

@@ -1,5 +1,9 @@
+ghost use Rattle.tap_pointer_course.specs.Paths.{OfLawfulLogs};
+ghost use Rattle.tap_safe_course.specs.Moments.{AtEachMoment};
 ghost use Rattle.tap_cast_course.specs.Begun.{CastsStayBegun, GroupsBeginRight};
 ghost use Rattle.tap_cast_course.specs.Casts.{RestHasNoCasts, RunCastsAreKept, RunCastsAreNumbered, RunCastsAreQuiet};
+ghost use Rattle.tap_cast_course.specs.ReachAll.{CastsReachAll};
+ghost use Rattle.tap_cast_course.specs.Sessions.{AnswersAreAwaited, RestHasNoCastSessions};
 ghost use Rattle.tap_cast_course.specs.Told.{ClosedHasReachedAll, GroupsReachRight, ReachesAtMostOnce, RestSaysClosed, RunIsToldOnce};
 
 /// In each run, whatever its steps are and in whichever order frames are taken, what is said of casts holds of the system that its log has
@@ -48,4 +52,31 @@ pub fn told_casts_law()
 pub fn begun_casts_law()
     ensures begins { GroupsBeginRight }
     ensures stays { CastsStayBegun }
+{}
+
+/// At each moment of a run its casts reach all whom they are for: a name is reached at most once by a cast, is core then, and begins with the
+/// prefix with which the log has said that the cast begins. Once a cast is closed, it has reached its whole audience: the names that were core
+/// as it began, and begin with its prefix. At rest each cast is closed. So it is in the log of each run of a scenario that isn't over, up to
+/// each of its moments.
+///
+/// It does nothing: its contract is the law.
+///
+/// Rule: docs/FORMATS.md, "What comes next" and "The course of a run", and docs/PROTOCOL.md, "Casts".
+pub fn reach_all_law()
+    ensures runs { AtEachMoment CastsReachAll }
+    ensures lawful { OfLawfulLogs CastsReachAll }
+{}
+
+/// At each moment of a run each Heard and each Ack that is outstanding names an open session of a join at its receiver, and each CastAck an
+/// open session of casts: no answer comes for a session that isn't open. At each rest no session of casts is open at any node. So it is in
+/// the log of each run of a scenario that isn't over, up to each of its moments.
+///
+/// It does nothing: its contract is the law.
+///
+/// Rule: docs/FORMATS.md, "What comes next" and "The course of a run", and docs/PROTOCOL.md, "Sessions" and "CastAck".
+pub fn open_sessions_law()
+    ensures awaited { AtEachMoment AnswersAreAwaited }
+    ensures rest { AtEachMoment RestHasNoCastSessions }
+    ensures lawful_awaited { OfLawfulLogs AnswersAreAwaited }
+    ensures lawful_rest { OfLawfulLogs RestHasNoCastSessions }
 {}

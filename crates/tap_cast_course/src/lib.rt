@@ -5,4 +5,7 @@
 
 mod law;
 
-pub use law::{begun_casts_law, run_casts_law, run_rest_casts_law, told_casts_law};
+pub use law::{
+    begun_casts_law, open_sessions_law, reach_all_law, run_casts_law, run_rest_casts_law,
+    told_casts_law,
+};

@@ -16,7 +16,7 @@ use Rattle.tap_safety.specs.SessionSteps.{LeavesSessions}
 use Rattle.tap_safety.specs.System.{System, AmongFrames, IsCoreNode}
 use Rattle.tap_cast_moves.specs.Audience.{CastAudience, CastsAreSound}
 use Rattle.tap_cast_moves.specs.Cover.{CastCover}
-use Rattle.tap_cast_moves.specs.Kept.{CastsKept, HasBeenCore}
+use Rattle.tap_cast_moves.specs.Kept.{CastsKept, JoinsNoMore}
 use Rattle.tap_cast_moves.specs.Recalled.{is_core_status}
 use Rattle.tap_cast_moves.specs.Remembered.{CastMemory, CastRun}
 use Rattle.tap_cast_moves.specs.Seen.{cast_name, seen, seen_frame, seen_node, seen_session}
@@ -360,16 +360,16 @@ module _ (p : SettingsValue) (s s' : System) (r r' : CastMemory) (step : AsideSt
       ]
 
   -- whom a cast has reached was not joining
-  been_core : (x : List ℕ) → HasBeenCore s x → HasBeenCore s' x
-  been_core x been = let past = step.on x been.state been.is in
-      record { state = past.after; is = past.is; joined = λ joins. by_past past joins past.past }
+  joins_no_more : (x : List ℕ) → JoinsNoMore s x → JoinsNoMore s' x
+  joins_no_more x been = let past = step.on x been.state been.is in
+      record { state = past.after; is = past.is; over = λ joins. by_past past joins past.past }
     where
       by_past : (past : GoesPast s' r x been.state) → past.after.status ≡ Joining → IsPast r been.state past.after → ⊥
       by_past past joins (inl goes) = elim goes.goes [
-        | inl same ↦ been.joined (sym same ∙ joins)
-        | inr joined ↦ been.joined joined.0
+        | inl same ↦ been.over (sym same ∙ joins)
+        | inr joined ↦ been.over joined.0
       ]
-      by_past past joins (inr (inl up)) = been.joined up.joins
+      by_past past joins (inr (inl up)) = been.over up.joins
       by_past past joins (inr (inr leaves)) = elim leaves.0.leaves.leaves [
         | inl on ↦ let wrong : Leaving ≡ Joining = sym on.1 ∙ joins in cc
         | inr none ↦ let wrong : Gone ≡ Joining = sym none.1 ∙ joins in cc
@@ -396,7 +396,7 @@ module _ (p : SettingsValue) (s s' : System) (r r' : CastMemory) (step : AsideSt
           | inl was ↦ sound.kept.reached x so.before cast run so.was was old reached (sym (level_same so.before state cast so.keeps) ∙ none)
           | inr joins ↦
               let been = sound.kept.names x cast run old reached in
-              been.joined (ap (λ (n : NodeState). n.status) (one_state s x been.state so.before been.is so.was) ∙ joins)
+              been.over (ap (λ (n : NodeState). n.status) (one_state s x been.state so.before been.is so.was) ∙ joins)
         ];
     caster = λ state cast run started is core.
         let so = core_so run.caster state is core in
@@ -405,10 +405,10 @@ module _ (p : SettingsValue) (s s' : System) (r r' : CastMemory) (step : AsideSt
           | inl was ↦ level_same so.before state cast so.keeps ∙ sound.kept.caster so.before cast run old so.was was
           | inr joins ↦
               let been = sound.kept.names run.caster cast run old (sound.kept.itself cast run old) in
-              absurd (been.joined (ap (λ (n : NodeState). n.status) (one_state s run.caster been.state so.before been.is so.was) ∙ joins))
+              absurd (been.over (ap (λ (n : NodeState). n.status) (one_state s run.caster been.state so.before been.is so.was) ∙ joins))
         ];
     itself = λ cast run started. sound.kept.itself cast run (run_was cast run started);
-    names = λ x cast run started reached. been_core x (sound.kept.names x cast run (run_was cast run started) reached);
+    names = λ x cast run started reached. joins_no_more x (sound.kept.names x cast run (run_was cast run started) reached);
   }
 
   -- ---- whom it will reach

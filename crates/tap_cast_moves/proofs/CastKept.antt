@@ -17,7 +17,7 @@ use Rattle.tap_safety.proofs.Chains.{no_session}
 use Rattle.tap_moves.proofs.Got.{same_name}
 use Rattle.tap_cast_moves.specs.Audience.{CastsAreSound, IsAudience}
 use Rattle.tap_cast_moves.specs.Cover.{CastCover, IsCastClaim, IsCastDue, IsCastServed}
-use Rattle.tap_cast_moves.specs.Kept.{CastsKept, HasBeenCore, IsKeptCast}
+use Rattle.tap_cast_moves.specs.Kept.{CastsKept, JoinsNoMore, IsKeptCast}
 use Rattle.tap_cast_moves.specs.News.{IsTrueNews, NewsAreTrue}
 use Rattle.tap_cast_moves.specs.Recalled.{audience_of, is_core, is_core_status}
 use Rattle.tap_cast_moves.specs.Remembered.{CastMemory, CastRun}
@@ -177,16 +177,16 @@ module _ (p : SettingsValue) (s s' : System) (r r' : CastMemory) (x : List ℕ) 
   own_core : is_core_status before.status ≡ true → IsCoreNode s x
   own_core core = core_node s x before move.at.was core
 
-  been_on : (y : List ℕ) → HasBeenCore s y → HasBeenCore s' y
+  been_on : (y : List ℕ) → JoinsNoMore s y → JoinsNoMore s' y
   been_on y been =
       let then = later y been.state been.is in
-      record { state = then.now; is = then.is; joined = λ joins. been.joined (sym then.status ∙ joins) }
+      record { state = then.now; is = then.is; over = λ joins. been.over (sym then.status ∙ joins) }
 
-  core_been : is_core_status before.status ≡ true → HasBeenCore s' x
+  core_been : is_core_status before.status ≡ true → JoinsNoMore s' x
   core_been core = been_on x (record {
     state = before;
     is = move.at.was;
-    joined = λ joins. let wrong : is_core_status Joining ≡ true = subst (λ t. is_core_status t ≡ true) joins core in cc;
+    over = λ joins. let wrong : is_core_status Joining ≡ true = subst (λ t. is_core_status t ≡ true) joins core in cc;
   })
 
   -- nobody kept a cast that starts
@@ -316,14 +316,14 @@ module _ (p : SettingsValue) (s s' : System) (r r' : CastMemory) (x : List ℕ) 
             ∙ ap Some (move.caster_now anew_here.2 run (ap r'.cast (sym anew_here.1) ∙ started) anew_here.0)
       ]
 
-  names_so : (y : List ℕ) (d : ℕ) (run : CastRun) → r'.cast d ≡ Some run → run.reached y ≡ true → HasBeenCore s' y
+  names_so : (y : List ℕ) (d : ℕ) (run : CastRun) → r'.cast d ≡ Some run → run.reached y ≡ true → JoinsNoMore s' y
   names_so y d run started reached =
       elim (move.was d run started) [
         | inl become ↦ elim (become.becomes.reached_was y reached) [
           | inl old ↦ been_on y (sound.kept.names y d become.run become.was old)
-          | inr new ↦ subst (HasBeenCore s') (sym new.2) (core_been (move.core (inl new.0)))
+          | inr new ↦ subst (JoinsNoMore s') (sym new.2) (core_been (move.core (inl new.0)))
         ]
-        | inr begun ↦ subst (HasBeenCore s') (sym (begun.0.reached y reached)) (core_been (move.core (inr begun.1)))
+        | inr begun ↦ subst (JoinsNoMore s') (sym (begun.0.reached y reached)) (core_been (move.core (inr begun.1)))
       ]
 
   itself_so : (d : ℕ) (run : CastRun) → r'.cast d ≡ Some run → run.reached run.caster ≡ true

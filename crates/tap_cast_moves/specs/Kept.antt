@@ -19,14 +19,14 @@ pub record IsKeptCast (p : SettingsValue) (r : CastMemory) (x : List ℕ) (cast 
   pub within : level ≤ p.digits
   pub begins : run.level ≤ lcp run.caster x
 
--- what has reached a name has reached its node once that was core
-pub record HasBeenCore (s : System) (x : List ℕ) : Type 0 where
+-- there is a node of this name, and it isn't joining
+pub record JoinsNoMore (s : System) (x : List ℕ) : Type 0 where
   pub state : NodeState
   pub is : s.node x ≡ Some state
-  pub joined : state.status ≡ Joining → ⊥
+  pub over : state.status ≡ Joining → ⊥
 
 -- Kept: a core node keeps a cast exactly if the cast has reached it, and so; its caster keeps it at the prefix's length; no other node keeps
--- any; and a cast reaches its caster, and core nodes alone.
+-- any; and a cast reaches its caster, and no node that joins.
 pub record CastsKept (p : SettingsValue) (s : System) (r : CastMemory) : Type 0 where
   pub kept : (x : List ℕ) (state : NodeState) (cast level : ℕ) → s.node x ≡ Some state → level_of_cast state.casts cast ≡ Some level
       → IsKeptCast p r x cast level
@@ -37,4 +37,4 @@ pub record CastsKept (p : SettingsValue) (s : System) (r : CastMemory) : Type 0 
   pub caster : (state : NodeState) (cast : ℕ) (run : CastRun) → r.cast cast ≡ Some run → s.node run.caster ≡ Some state
       → is_core_status state.status ≡ true → level_of_cast state.casts cast ≡ Some run.level
   pub itself : (cast : ℕ) (run : CastRun) → r.cast cast ≡ Some run → run.reached run.caster ≡ true
-  pub names : (x : List ℕ) (cast : ℕ) (run : CastRun) → r.cast cast ≡ Some run → run.reached x ≡ true → HasBeenCore s x
+  pub names : (x : List ℕ) (cast : ℕ) (run : CastRun) → r.cast cast ≡ Some run → run.reached x ≡ true → JoinsNoMore s x

@@ -1,4 +1,4 @@
--- A node that isn't asked to cover a joiner tells nobody of one, and its covers stay, or are gone with it.
+-- A node that isn't asked to cover a joiner tells nobody of one and opens no root session, and its covers stay, or are gone.
 use Rattle.std.proofs.Common.{◌≡◌, ◌⊎◌, ◌==◌, ℕ, Bool, true, false, List, [], ◌∷◌, map, length, All, Option, None, Some, ap, refl, sym, subst, ◌∙◌, inl, inr}
 use Rattle.std.specs.Prelude.{IfSome, if◌then◌else◌}
 use Rattle.std.proofs.lemmas.List.Elements.{All-cons, All-map, All-nil}
@@ -7,7 +7,8 @@ use Rattle.tap_session.specs.declared.parent.Parent.{Parent}
 use Rattle.tap_session.specs.declared.parent.Parent.TheVariants.{Node, Root}
 use Rattle.tap_session.specs.declared.sessions.Answered.{Answered}
 use Rattle.tap_session.specs.declared.sessions.Answered.TheVariants.{Open, Closed, Unknown}
-use Rattle.tap_session.specs.Sessions.{answer_to}
+use Rattle.tap_session.specs.Session.{SessionsValue}
+use Rattle.tap_session.specs.Sessions.{answer_to, opened_with}
 use Rattle.tap_table.specs.Ties.{holders_on}
 use Rattle.tap_join.specs.declared.sought.Sought.{Sought}
 use Rattle.tap_join.specs.declared.sought.Sought.TheVariants.{Forward, Surrogate}
@@ -60,15 +61,29 @@ TellNobody messages = All (λ m. IsNoTell m.body) messages
 abbrev pub LeavesCovers : NodeState → NodeState → Type 0
 LeavesCovers before after = (after.covers ≡ before.covers) ⊎ (after.covers ≡ [])
 
--- a rule that does so
+-- it opens a session that answers another node's
+pub record OpensBelow (before after : NodeState) : Type 0 where
+  pub name : List ℕ
+  pub session : ℕ
+  pub depth : ℕ
+  pub waiting : ℕ
+  pub sessions : after.sessions ≡ opened_with before.sessions (Node name session) depth waiting
+
+-- if it opens a session, it is such a one
+abbrev pub OpensNoRoot : NodeState → NodeState → Type 0
+OpensNoRoot before after = (after.sessions.opened ≡ before.sessions.opened) ⊎ OpensBelow before after
+
+-- a rule that does so, and opens no root session
 record IsAside (node : NodeState) (r : Reaction) : Type 0 where
   messages : TellNobody r.messages
   covers : LeavesCovers node r.state
+  opened : OpensNoRoot node r.state
 
 -- what is done
 pub record ActsAside (node : NodeState) (acted : Acted) : Type 0 where
   pub no_tell : SendsNoTell acted.sent
   pub covers : LeavesCovers node acted.state
+  pub opened : OpensNoRoot node acted.state
 
 -- ---- messages
 
@@ -96,11 +111,13 @@ if_sent false to body is = no_message
 
 -- ---- rules
 
-keeps : (node : NodeState) (r : Reaction) → r.state.covers ≡ node.covers → TellNobody r.messages → IsAside node r
-keeps node r covers messages = record { messages = messages; covers = inl covers }
+keeps : (node : NodeState) (r : Reaction) → r.state.covers ≡ node.covers → OpensNoRoot node r.state
+    → TellNobody r.messages → IsAside node r
+keeps node r covers opened messages = record { messages = messages; covers = inl covers; opened = opened }
 
-ends_so : (node : NodeState) (r : Reaction) → r.state.covers ≡ [] → TellNobody r.messages → IsAside node r
-ends_so node r covers messages = record { messages = messages; covers = inr covers }
+ends_so : (node : NodeState) (r : Reaction) → r.state.covers ≡ [] → OpensNoRoot node r.state
+    → TellNobody r.messages → IsAside node r
+ends_so node r covers opened messages = record { messages = messages; covers = inr covers; opened = opened }
 
 module _ (node : NodeState) where
   -- a Tell that a joining node takes: it has greeted the joiner before, or does now
@@ -108,24 +125,28 @@ module _ (node : NodeState) where
       (with_words (words_of (pin_word node tell.joiner)) (if before
       then sends (with_pin node tell.joiner) (message from (Ack tell.session) ∷ [])
       else welcomes (with_pin node tell.joiner) from tell))
-  meeting from tell true = keeps node _ refl (one_message _ _ tt)
-  meeting from tell false = keeps node _ refl (one_message _ _ tt)
+  meeting from tell true = keeps node _ refl (inl refl) (one_message _ _ tt)
+  meeting from tell false =
+      keeps node _ refl
+      (inr (record { name = from; session = tell.session; depth = tell.depth; waiting = 1; sessions = refl }))
+      (one_message _ _ tt)
 
   -- a Done that it takes: its join was given up, or not
   done : (given_up : Bool) → IsAside node (if given_up then ceases node else becomes_core node)
-  done true = ends_so node _ refl (to_each_aside Forget (holders_on node.ties) tt)
-  done false = keeps node _ refl (to_each_aside Release (holders_on node.ties) tt)
+  done true = ends_so node _ refl (inl refl) (to_each_aside Forget (holders_on node.ties) tt)
+  done false = keeps node _ refl (inl refl) (to_each_aside Release (holders_on node.ties) tt)
 
   -- a Seek that goes on
   seeking : (joiner : List ℕ) (found : Sought) → asked_by_seek node joiner found ≡ None → IsAside node (seeks_as node joiner found)
-  seeking joiner (Forward next) none = keeps node _ refl (one_message _ _ tt)
+  seeking joiner (Forward next) none = keeps node _ refl (inl refl) (one_message _ _ tt)
   seeking joiner (Surrogate prefix) none = absurd (cc)
 
   -- a node that leaves finishes, or sends these
-  finishing : (before : NodeState) (messages : List Message) (last : Bool) → before.covers ≡ node.covers → TellNobody messages
+  finishing : (before : NodeState) (messages : List Message) (last : Bool) → before.covers ≡ node.covers
+      → before.sessions ≡ node.sessions → TellNobody messages
       → IsAside node (if last then finishes before else sends before messages)
-  finishing before messages true same aside = ends_so node _ refl (to_each_aside Gone (holders_on before.ties) tt)
-  finishing before messages false same aside = keeps node _ same aside
+  finishing before messages true same opened aside = ends_so node _ refl (inl (ap (λ (all : SessionsValue). all.opened) opened)) (to_each_aside Gone (holders_on before.ties) tt)
+  finishing before messages false same opened aside = keeps node _ same (inl (ap (λ (all : SessionsValue). all.opened) opened)) aside
 
   -- ---- by the kind of a frame
 
@@ -139,13 +160,13 @@ module _ (node : NodeState) where
     joining_aside (Tell joiner prefix level session depth watch) loud =
         meeting from (record { joiner = joiner; prefix = prefix; level = level; session = session; depth = depth })
         (has_name node.greeted joiner)
-    joining_aside (Hello session core links) loud = keeps node _ refl (one_message _ _ tt)
-    joining_aside (Heard session) loud = keeps node _ refl (answering session)
-    joining_aside (Ack session) loud = keeps node _ refl (answering session)
+    joining_aside (Hello session core links) loud = keeps node _ refl (inl refl) (one_message _ _ tt)
+    joining_aside (Heard session) loud = keeps node _ refl (inl refl) (answering session)
+    joining_aside (Ack session) loud = keeps node _ refl (inl refl) (answering session)
     joining_aside Done loud = done node.abandoned
-    joining_aside Release loud = keeps node _ refl no_message
-    joining_aside (Link version on) loud = keeps node _ refl no_message
-    joining_aside Forget loud = keeps node _ refl no_message
+    joining_aside Release loud = keeps node _ refl (inl refl) no_message
+    joining_aside (Link version on) loud = keeps node _ refl (inl refl) no_message
+    joining_aside Forget loud = keeps node _ refl (inl refl) no_message
     joining_aside (Cast cast level session depth word) loud = absurd (loud tt)
     joining_aside _ loud = tt
 
@@ -154,17 +175,17 @@ module _ (node : NodeState) where
     unfolding frame_at_core
     core_aside (Seek joiner) loud none = seeking joiner (sought node.ties.table joiner) none
     core_aside (Tell joiner prefix level session depth watch) loud none = absurd (cc)
-    core_aside (Heard session) loud none = keeps node _ refl (answering session)
-    core_aside (Ack session) loud none = keeps node _ refl (answering session)
-    core_aside Release loud none = keeps node _ refl no_message
+    core_aside (Heard session) loud none = keeps node _ refl (inl refl) (answering session)
+    core_aside (Ack session) loud none = keeps node _ refl (inl refl) (answering session)
+    core_aside Release loud none = keeps node _ refl (inl refl) no_message
     core_aside (Link version on) loud none =
-        keeps node _ refl (if_sent (is_new_link node from version on) from Release tt)
+        keeps node _ refl (inl refl) (if_sent (is_new_link node from version on) from Release tt)
     core_aside (Lay object server level version on) loud none = absurd (loud tt)
     core_aside (Find ticket object asker level) loud none = absurd (loud tt)
     core_aside (Answer ticket server) loud none = absurd (loud tt)
-    core_aside (Leave replacement) loud none = keeps node _ refl (one_message _ _ tt)
-    core_aside Gone loud none = keeps node _ refl no_message
-    core_aside Forget loud none = keeps node _ refl no_message
+    core_aside (Leave replacement) loud none = keeps node _ refl (inl refl) (one_message _ _ tt)
+    core_aside Gone loud none = keeps node _ refl (inl refl) no_message
+    core_aside Forget loud none = keeps node _ refl (inl refl) no_message
     core_aside (Cast cast level session depth word) loud none = absurd (loud tt)
     core_aside (CastAck session) loud none = absurd (loud tt)
     core_aside _ loud none = tt
@@ -172,20 +193,20 @@ module _ (node : NodeState) where
     leaving_aside : (body : Body) → (IsQuiet body → ⊥) → IfSome (frame_at_leaving node from body) (IsAside node)
     unfolding frame_at_leaving
     leaving_aside (Link version on) loud =
-        keeps node _ refl (if_sent (is_new_link node from version on) from Release tt)
+        keeps node _ refl (inl refl) (if_sent (is_new_link node from version on) from Release tt)
     leaving_aside (Lay object server level version on) loud = absurd (loud tt)
     leaving_aside (Find ticket object asker level) loud = absurd (loud tt)
     leaving_aside (Answer ticket server) loud = absurd (loud tt)
     leaving_aside Left loud =
-        finishing (record node { awaited = names_but node.awaited from }) [] (length (names_but node.awaited from) == 0) refl no_message
+        finishing (record node { awaited = names_but node.awaited from }) [] (length (names_but node.awaited from) == 0) refl refl no_message
     leaving_aside _ loud = tt
 
     ceased_aside : (body : Body) → (IsQuiet body → ⊥) → IfSome (frame_at_ceased node from body) (IsAside node)
     unfolding frame_at_ceased
-    ceased_aside (Tell joiner prefix level session depth watch) loud = keeps node _ refl (one_message _ _ tt)
-    ceased_aside (Heard session) loud = keeps node _ refl (answering session)
-    ceased_aside (Ack session) loud = keeps node _ refl (answering session)
-    ceased_aside (Link version on) loud = keeps node _ refl (if_sent on from Forget tt)
+    ceased_aside (Tell joiner prefix level session depth watch) loud = keeps node _ refl (inl refl) (one_message _ _ tt)
+    ceased_aside (Heard session) loud = keeps node _ refl (inl refl) (answering session)
+    ceased_aside (Ack session) loud = keeps node _ refl (inl refl) (answering session)
+    ceased_aside (Link version on) loud = keeps node _ refl (inl refl) (if_sent on from Forget tt)
     ceased_aside (Cast cast level session depth word) loud = absurd (loud tt)
     ceased_aside _ loud = tt
 
@@ -214,6 +235,16 @@ carried_aside : (node : NodeState) (r : Reaction) (acted : Acted) → IsCarriedO
 carried_aside node r acted carried aside = record {
   no_tell = aside_sent (name_of node) r acted.sent carried.sent aside.messages;
   covers = elim aside.covers [ inl same ↦ inl (carried.covers ∙ same) | inr none ↦ inr (carried.covers ∙ none) ];
+  opened = elim aside.opened [
+    | inl same ↦ inl (ap (λ (all : SessionsValue). all.opened) carried.sessions ∙ same)
+    | inr below ↦ inr (record {
+      name = below.name;
+      session = below.session;
+      depth = below.depth;
+      waiting = below.waiting;
+      sessions = carried.sessions ∙ below.sessions;
+    })
+  ];
 }
 
 -- a node that nothing happens to
@@ -223,6 +254,7 @@ unruled node acted state sent = record {
       let none : IsSent [] from to (tell_body fields watch) = subst (λ frames. IsSent frames from to (tell_body fields watch)) sent among in
       none;
   covers = inl (ap (λ (n : NodeState). n.covers) state);
+  opened = inl (ap (λ (n : NodeState). n.sessions.opened) state);
 }
 
 -- frames and starts of pointers and casts
@@ -256,7 +288,11 @@ frame_aside node from body known none =
     elim (quiet_or_not body) [
       | inl quiet ↦
           let step = quiet_law node (frame_to node from body) quiet in
-          record { no_tell = quiet_no_tell (taken_at node from body).sent step.sent; covers = inl step.covers }
+          record {
+            no_tell = quiet_no_tell (taken_at node from body).sent step.sent;
+            covers = inl step.covers;
+            opened = inl (ap (λ (all : SessionsValue). all.opened) step.sessions);
+          }
       | inr loud ↦ loud_aside node from body known loud none
     ]
 
@@ -264,15 +300,15 @@ frame_aside node from body known none =
 
 start_rule : (node : NodeState) (status : Status) (start : Start) → (IsQuietStart start → ⊥)
     → IfSome (rule_of_start status node start) (IsAside node)
-start_rule node Joining (Join via) loud = keeps node _ refl (one_message _ _ tt)
-start_rule node Joining Abandon loud = keeps node _ refl no_message
+start_rule node Joining (Join via) loud = keeps node _ refl (inl refl) (one_message _ _ tt)
+start_rule node Joining Abandon loud = keeps node _ refl (inl refl) no_message
 start_rule node Joining _ loud = tt
 start_rule node Core (Publish object) loud = absurd (loud tt)
 start_rule node Core (Withdraw object) loud = absurd (loud tt)
 start_rule node Core (StartFind ticket object) loud = absurd (loud tt)
 start_rule node Core StartLeave loud =
     finishing node (with_departure node) (map leave_for (started_leaving node.ties).notices)
-    (length (started_leaving node.ties).awaited == 0) refl
+    (length (started_leaving node.ties).awaited == 0) refl refl
     (All-map (λ m. IsNoTell m.body) leave_for (started_leaving node.ties).notices (λ k d within. tt))
 start_rule node Core (StartCast cast level word) loud = absurd (loud tt)
 start_rule node Core _ loud = tt
@@ -302,6 +338,10 @@ start_aside node start =
     elim (quiet_start_or_not start) [
       | inl quiet ↦
           let step = quiet_start_law node start quiet in
-          record { no_tell = quiet_no_tell (act node (Starts start)).sent step.sent; covers = inl step.covers }
+          record {
+            no_tell = quiet_no_tell (act node (Starts start)).sent step.sent;
+            covers = inl step.covers;
+            opened = inl (ap (λ (all : SessionsValue). all.opened) step.sessions);
+          }
       | inr loud ↦ loud_start node start loud
     ]

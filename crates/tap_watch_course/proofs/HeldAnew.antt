@@ -70,7 +70,7 @@ use Rattle.tap_watch_course.specs.Recalled.{asked, asked_at_core, asked_by_seek,
 use Rattle.tap_watch_course.proofs.HeldMoves.{delivery_step, join_held, start_step}
 use Rattle.tap_watch_course.proofs.HeldSteps.{IsHeldStep, answers_kept, still_core, still_known}
 use Rattle.tap_watch_course.proofs.Full.{full_stays}
-use Rattle.tap_watch_course.proofs.Moves.{core_only, delivery_recalls, frame_due}
+use Rattle.tap_watch_course.proofs.Asks.{core_only, delivery_recalls, frame_due}
 use Rattle.tap_watch_course.proofs.Spread.{given, own_or_primary}
 
 core_was : (s : System) (x : List ℕ) → IsCoreNode s x → WasCore s x

@@ -14,15 +14,18 @@ use Rattle.tap_course.specs.Course.{Follows, IsCourse, move_of_group, moved_by, 
 use Rattle.tap_course.specs.Named.{HaveNames}
 use Rattle.tap_course.proofs.Growing.{by_groups, course_grows_holds, grown, grown_groups, grown_system, log_is, start_system}
 use Rattle.tap_invariant.specs.Sound.{Sound}
+use Rattle.tap_safe_course.specs.Moments.{AtEachMoment}
 use Rattle.tap_safe_course.specs.Safe.{IsRun}
 use Rattle.tap_safe_course.proofs.Possible.{group_may_move}
 use Rattle.tap_safe_course.proofs.Safe.{run_at_moment, runs_are_sound, steps_after, steps_before}
 use Rattle.tap_safe_course.proofs.Lawful.{lawful_logs_are_safe}
 use Rattle.tap_lawful.specs.Next.{beginning_in}
 use Rattle.tap_watch_course.specs.Answers.{WatchMemory, none_answered}
+use Rattle.tap_watch_course.specs.Chains.{ChainsLead}
 use Rattle.tap_watch_course.specs.Had.{AnswersAreHeld}
 use Rattle.tap_watch_course.specs.Watched.{IsAnswered, WatchesAreSound}
-use Rattle.tap_watch_course.specs.Runs.{LawfulWatchesHold, RunAnswersAreKept, RunCoreHasAnswers, RunCoversAreAnswered, RunWatchesAreKept, recalled_by, watches_after, watches_from, watches_of}
+use Rattle.tap_watch_course.specs.Runs.{LawfulWatchesHold, RunAnswersAreKept, RunChainsAreKept, RunCoreHasAnswers, RunCoversAreAnswered, RunWatchesAreKept, WatchesHoldIn, recalled_by, watches_after, watches_from, watches_of}
+use Rattle.tap_watch_course.proofs.Chains.{move_keeps_chains, no_chains}
 use Rattle.tap_watch_course.proofs.HeldAnew.{answers_at_rest, core_has, move_keeps_answers}
 use Rattle.tap_watch_course.proofs.Moves.{move_keeps_watches, watches_at_rest}
 
@@ -52,7 +55,7 @@ system_from-begin : (b : Beginning) (groups : List (List Record))
 unfolding system_from
 system_from-begin b groups = refl
 
-grown_watches : (b : Beginning) (log group : List Record) → IsCourse b log → is_ended log ≡ false → Follows b log group
+pub grown_watches : (b : Beginning) (log group : List Record) → IsCourse b log → is_ended log ≡ false → Follows b log group
     → watches_of (log ++ group) ≡ recalled_by (system_of log) (watches_of log) (move_of_group log group)
 grown_watches b log group course going follows =
     let p = b.settings in
@@ -71,13 +74,13 @@ grown_watches b log group course going follows =
 
 -- ---- it is kept
 
--- what is said of watch lists, and of answers
-abbrev AreBoth : SettingsValue → System → WatchMemory → Type 0
-AreBoth p s r = WatchesAreSound p s r × AnswersAreHeld p s r
+-- what is said of watch lists, of answers and of chains
+abbrev AreAll : SettingsValue → System → WatchMemory → Type 0
+AreAll p s r = WatchesAreSound p s r × AnswersAreHeld p s r × ChainsLead s r
 
 module _ (b : Beginning) where
   abbrev IsKept : List Record → Type 0
-  IsKept log = AreBoth b.settings (system_of log) (watches_of log)
+  IsKept log = AreAll b.settings (system_of log) (watches_of log)
 
   -- if the log's steps have names of the settings
   abbrev IsKeptIf : List Record → Type 0
@@ -89,31 +92,35 @@ module _ (b : Beginning) where
     sound = runs_are_sound b log (record { course = course; going = going; steps = before })
 
     moved_watches : (move : Option Move) → move_of_group log group ≡ move
-        → AreBoth b.settings (moved_by b.settings (system_of log) move) (recalled_by (system_of log) (watches_of log) move)
+        → AreAll b.settings (moved_by b.settings (system_of log) move) (recalled_by (system_of log) (watches_of log) move)
     moved_watches None is = kept
     moved_watches (Some move) is =
         let may = group_may_move b log group move course going sound.invariant.basis follows steps is in (
           move_keeps_watches b.settings (system_of log) (watches_of log) move may sound kept.0,
           move_keeps_answers b.settings (system_of log) (watches_of log) move may sound kept.1,
+          move_keeps_chains b.settings (system_of log) (watches_of log) move may sound kept.2,
         )
 
     kept_grows : IsKept (log ++ group)
     kept_grows =
-        subst (λ t. AreBoth b.settings t (watches_of (log ++ group))) (sym (grown_system b log group course going follows))
-        (subst (AreBoth b.settings (moved_by b.settings (system_of log) (move_of_group log group)))
+        subst (λ t. AreAll b.settings t (watches_of (log ++ group))) (sym (grown_system b log group course going follows))
+        (subst (AreAll b.settings (moved_by b.settings (system_of log) (move_of_group log group)))
         (sym (grown_watches b log group course going follows)) (moved_watches (move_of_group log group) refl))
 
-  start_watches : IsWithinLimits b → watches_of (begin_record b ∷ []) ≡ none_answered
+  pub start_watches : IsWithinLimits b → watches_of (begin_record b ∷ []) ≡ none_answered
   start_watches limits =
       ap (λ l. watches_from l (groups_of (begin_record b ∷ []))) (course_grows_holds.starts b limits).begins
       ∙ ap (watches_from (begin_record b ∷ [])) (log_in_groups_holds.none b.settings b.frames b.members) ∙ watches_from-begin b []
 
   start_kept : IsWithinLimits b → IsKept (begin_record b ∷ [])
   start_kept limits =
-      subst (λ t. AreBoth b.settings t (watches_of (begin_record b ∷ []))) (sym (start_system b))
-      (subst (AreBoth b.settings (system_at_rest b.settings b.members)) (sym (start_watches limits))
-      (let members = course_grows_holds.members b limits in
-      (watches_at_rest b.settings b.members members, answers_at_rest b.settings b.members members)))
+      subst (λ t. AreAll b.settings t (watches_of (begin_record b ∷ []))) (sym (start_system b))
+      (subst (AreAll b.settings (system_at_rest b.settings b.members)) (sym (start_watches limits))
+      (let members = course_grows_holds.members b limits in (
+        watches_at_rest b.settings b.members members,
+        answers_at_rest b.settings b.members members,
+        no_chains (system_at_rest b.settings b.members) refl,
+      )))
 
   keeps : (log group : List Record) → IsCourse b log → is_ended log ≡ false → Follows b log group → IsKeptIf log → IsKeptIf (log ++ group)
   keeps log group course going follows kept steps =
@@ -142,15 +149,24 @@ run_covers_answered b log x joiner level run covers =
 pub run_answers_kept : RunAnswersAreKept
 run_answers_kept b log run = (runs_keep b log run).1
 
+pub run_chains_kept : RunChainsAreKept
+run_chains_kept b log run = (runs_keep b log run).2
+
 pub run_core_has : RunCoreHasAnswers
 run_core_has b log number from node run among at goes_on answer there mine =
     core_has b.settings (system_of log) (watches_of log) number from node (runs_are_sound b log run) (run_answers_kept b log run) among at
     goes_on answer there mine
 
--- ---- lawful logs
+-- ---- each moment
+
+pub watches_hold_at : AtEachMoment WatchesHoldIn
+watches_hold_at b log m going is =
+    let run = run_at_moment b log m going is in
+    record {
+      watches = run_watches_kept b (take m log) run;
+      answers = run_answers_kept b (take m log) run;
+      chains = run_chains_kept b (take m log) run;
+    }
 
 pub lawful_watches : LawfulWatchesHold
-lawful_watches s log valid played m is =
-    let b = beginning_in s in
-    let run = run_at_moment b log m (lawful_logs_are_safe.runs s log valid played) is in
-    record { watches = run_watches_kept b (take m log) run; answers = run_answers_kept b (take m log) run }
+lawful_watches s log valid played m = watches_hold_at (beginning_in s) log m (lawful_logs_are_safe.runs s log valid played)

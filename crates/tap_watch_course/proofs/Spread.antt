@@ -36,7 +36,7 @@ use Rattle.tap_rule.proofs.Among.{among-either, among-map_from}
 use Rattle.tap_safety.specs.Frames.{tell_body}
 use Rattle.tap_safety.specs.Step.{IsSent}
 use Rattle.tap_moves.proofs.InSession.{only_one}
-use Rattle.tap_watch_course.specs.Answers.{Answer, answer_as, answer_with, answers_for}
+use Rattle.tap_watch_course.specs.Answers.{Answer, answer_as, answer_of, answer_with, answers_for}
 use Rattle.tap_watch_course.specs.Recalled.{table_for}
 
 -- ---- which Tells are sent
@@ -171,10 +171,6 @@ covers_tell node request acted carried from to fields watch among =
 
 -- ---- answers
 
--- the answer that a node gives to a slot
-abbrev pub answer_of : List ℕ → List ℕ → Slot → List ℕ → Answer
-answer_of joiner answerer slot named = record { joiner = joiner; slot = slot; answerer = answerer; named = named }
-
 pub among_left : {A : Type 0} (x : A) (xs ys : List A) → IsAmong x xs → IsAmong x (xs ++ ys)
 among_left x [] ys among = absurd among
 among_left x (y ∷ xs) ys (inl is) = inl is
@@ -204,15 +200,15 @@ module _ (t : TableValue) (joiner : List ℕ) where
 
   -- and so each such slot of a watch has its answer
   pub answered_among : (watch : List Slot) (slot : Slot) (named : List ℕ) → Contains watch slot → answer_with t joiner slot ≡ Some named
-      → IsAmong (answer_of joiner t.owner slot named) (answers_for t joiner watch)
+      → IsAmong (answer_of t joiner slot named) (answers_for t joiner watch)
   unfolding answers_for
   answered_among [] slot named (k, within, is) with_name = absurd (omega arith)
   answered_among (first ∷ rest) slot named (zero, within, is) with_name =
       let there : answer_with t joiner first ≡ Some named = ap (answer_with t joiner) is ∙ with_name in
-      among_left (answer_of joiner t.owner slot named) (answer_as joiner t.owner first (answer_with t joiner first)) (answers_for t joiner rest)
-      (rw there (inl (ap (λ s. answer_of joiner t.owner s named) (sym is))))
+      among_left (answer_of t joiner slot named) (answer_as t joiner first (answer_with t joiner first)) (answers_for t joiner rest)
+      (rw there (inl (ap (λ s. answer_of t joiner s named) (sym is))))
   answered_among (first ∷ rest) slot named (suc k, within, is) with_name =
-      among_right (answer_of joiner t.owner slot named) (answer_as joiner t.owner first (answer_with t joiner first))
+      among_right (answer_of t joiner slot named) (answer_as t joiner first (answer_with t joiner first))
       (answers_for t joiner rest) (answered_among rest slot named (k, omega arith, is) with_name)
 
 -- a slot of the watch stays in it, or the cover is the first, and answers it
@@ -249,10 +245,10 @@ pub record IsGiven (t : TableValue) (joiner : List ℕ) (watch : List Slot) (ans
   pub there : Contains watch slot
   pub named : List ℕ
   pub with_name : answer_with t joiner slot ≡ Some named
-  pub is : answer ≡ answer_of joiner t.owner slot named
+  pub is : answer ≡ answer_of t joiner slot named
 
 given_first : (t : TableValue) (joiner : List ℕ) (watch : List Slot) (first : Slot) (answer : Answer) (found : Option (List ℕ))
-    → answer_with t joiner first ≡ found → IsAmong answer (answer_as joiner t.owner first found)
+    → answer_with t joiner first ≡ found → IsAmong answer (answer_as t joiner first found)
     → IsGiven t joiner (first ∷ watch) answer
 given_first t joiner watch first answer None is among = absurd among
 given_first t joiner watch first answer (Some named) is (inl same) =
@@ -264,7 +260,7 @@ pub given : (t : TableValue) (joiner : List ℕ) (watch : List Slot) (answer : A
 unfolding answers_for
 given t joiner [] answer among = absurd among
 given t joiner (first ∷ watch) answer among =
-    elim (among-either answer (answer_as joiner t.owner first (answer_with t joiner first)) (answers_for t joiner watch) among) [
+    elim (among-either answer (answer_as t joiner first (answer_with t joiner first)) (answers_for t joiner watch) among) [
       | inl here ↦ given_first t joiner watch first answer (answer_with t joiner first) refl here
       | inr later ↦
           let rest = given t joiner watch answer later in

@@ -23,6 +23,7 @@ use Rattle.tap_lawful.specs.Lawful.{IsPlayed}
 use Rattle.tap_safe_course.specs.Headline.{AtMomentsOf}
 use Rattle.tap_safe_course.specs.Safe.{IsRun}
 use Rattle.tap_watch_course.specs.Answers.{Answer, WatchMemory, had_primary, none_answered}
+use Rattle.tap_watch_course.specs.Chains.{ChainsLead}
 use Rattle.tap_watch_course.specs.Had.{AnswersAreHeld, IsHad}
 use Rattle.tap_watch_course.specs.Recalled.{recalled}
 use Rattle.tap_watch_course.specs.Watched.{CoveredFirst, IsAnswered, WatchesAreSound}
@@ -67,6 +68,10 @@ RunCoversAreAnswered = (b : Beginning) (log : List Record) (x joiner : List ℕ)
 abbrev pub RunAnswersAreKept : Type 0
 RunAnswersAreKept = (b : Beginning) (log : List Record) → IsRun b log → AnswersAreHeld b.settings (system_of log) (watches_of log)
 
+-- What is said of chains holds of each run.
+abbrev pub RunChainsAreKept : Type 0
+RunChainsAreKept = (b : Beginning) (log : List Record) → IsRun b log → ChainsLead (system_of log) (watches_of log)
+
 -- When a joiner takes its Done, and becomes core, it has a link to each name with which a slot was answered for it, or its slot is full.
 abbrev pub RunCoreHasAnswers : Type 0
 RunCoreHasAnswers = (b : Beginning) (log : List Record) (number : ℕ) (from : List ℕ) (node : NodeState) → IsRun b log
@@ -74,10 +79,12 @@ RunCoreHasAnswers = (b : Beginning) (log : List Record) (number : ℕ) (from : L
     → node.abandoned ≡ false → (answer : Answer) → IsAmong answer (watches_of log).answers → answer.joiner ≡ name_of node
     → IsHad b.settings (name_of node) (taken_at node from Done).state answer.named
 
--- all this holds of the log of each run of a scenario that isn't over, up to each of its moments
+-- all that is said of watch lists, answers and chains
 pub record WatchesHoldIn (p : SettingsValue) (log : List Record) : Type 0 where
   pub watches : WatchesAreSound p (system_of log) (watches_of log)
   pub answers : AnswersAreHeld p (system_of log) (watches_of log)
+  pub chains : ChainsLead (system_of log) (watches_of log)
 
+-- so it is of the log of each run of a scenario that isn't over, up to each of its moments
 abbrev pub LawfulWatchesHold : Type 0
 LawfulWatchesHold = (s : ScenarioValue) (log : List Record) → IsScript s → IsPlayed s log → AtMomentsOf log (WatchesHoldIn s.settings)

@@ -13,16 +13,17 @@ use Rattle.tap_safety.specs.Moved.{moved}
 use Rattle.tap_safety.specs.System.{Covers, System, IsUnderWay}
 use Rattle.tap_invariant.specs.Moves.{after_moves, may_run}
 use Rattle.tap_invariant.specs.Sound.{Sound}
-use Rattle.tap_watch_course.specs.Answers.{Answer, FirstCover, WatchMemory, had_primary, none_answered}
+use Rattle.tap_watch_course.specs.Answers.{Answer, FirstCover, IsOwnOrPrimary, WatchMemory, had_primary, none_answered}
 use Rattle.tap_watch_course.specs.Recalled.{recalled}
 
--- this slot of the joiner was answered by one of these nodes
+-- this slot of the joiner was answered by one of these nodes, by itself or by its primary
 pub record IsAnswered (r : WatchMemory) (joiner : List ℕ) (slot : Slot) (chain : List (List ℕ)) : Type 0 where
   pub answer : Answer
   pub among : IsAmong answer r.answers
   pub joiner_is : answer.joiner ≡ joiner
   pub slot_is : answer.slot ≡ slot
   pub by : IsAmong answer.answerer chain
+  pub own_or_primary : IsOwnOrPrimary answer
 
 -- x covered b a first time
 pub record CoveredFirst (r : WatchMemory) (x b : List ℕ) : Type 0 where

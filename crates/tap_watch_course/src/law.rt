@@ -1,5 +1,8 @@
+ghost use Rattle.tap_safe_course.specs.Moments.{AtEachMoment};
+ghost use Rattle.tap_watch_course.specs.Chains.{MoveKeepsChains};
+ghost use Rattle.tap_watch_course.specs.Clause.{LawfulWatchClauseHolds, WatchClauseHolds};
 ghost use Rattle.tap_watch_course.specs.Had.{AnswersAtRest, CoreHasAnswers, MoveKeepsAnswers, RunAnswersAreHeld};
-ghost use Rattle.tap_watch_course.specs.Runs.{LawfulWatchesHold, RunAnswersAreKept, RunCoreHasAnswers, RunCoversAreAnswered, RunWatchesAreKept};
+ghost use Rattle.tap_watch_course.specs.Runs.{LawfulWatchesHold, RunAnswersAreKept, RunChainsAreKept, RunCoreHasAnswers, RunCoversAreAnswered, RunWatchesAreKept, WatchesHoldIn};
 ghost use Rattle.tap_watch_course.specs.Watched.{MoveKeepsWatches, RunWatchesAreSound, WatchesAtRest};
 
 /// Members at rest answered nothing and cover nobody: what is said of watch lists is so of them.
@@ -22,6 +25,16 @@ pub fn answers_at_rest_law()
 /// Rule: docs/PROTOCOL.md, "Watch lists" and "Covers".
 pub fn answers_moves_law()
     ensures { MoveKeepsWatches }
+{}
+
+/// If the whole invariant of joins holds, and the chain of Tells to the sender of each Tell under way and to each first cover leads to that node
+/// from the joiner's surrogate, then so it is after each possible move.
+///
+/// It does nothing: its contract is the law.
+///
+/// Rule: docs/PROTOCOL.md, "Covers", "Seek" and "Tell".
+pub fn chains_moves_law()
+    ensures { MoveKeepsChains }
 {}
 
 /// So it is at each moment of each run from members at rest, whatever its moves are and in whichever order frames are delivered.
@@ -64,10 +77,11 @@ pub fn run_held_law()
     ensures core { CoreHasAnswers }
 {}
 
-/// In each run, whatever its steps are and in whichever order frames are taken, what is said of watch lists and of answers holds of the system
-/// that its log has come to. Whoever covers a joiner covered it a first time, and each slot of the joiner's full watch list in which it had a
-/// primary then was answered: by itself, or by another node on the chain of Tells that led to that cover from the joiner's surrogate. When the
-/// joiner becomes core it has a link to each name with which a slot was answered for it, or as many settled links as the width in that slot.
+/// In each run, whatever its steps are and in whichever order frames are taken, what is said of watch lists, of answers and of chains holds of
+/// the system that its log has come to, at each moment. Whoever covers a joiner covered it a first time, and each slot of the joiner's full
+/// watch list in which it had a primary then was answered: by itself, or by another node on the chain of Tells that led to that cover from the
+/// joiner's surrogate. When the joiner becomes core it has a link to each name with which a slot was answered for it, or as many settled links
+/// as the width in that slot.
 ///
 /// It does nothing: its contract is the law.
 ///
@@ -76,6 +90,8 @@ pub fn run_watches_law()
     ensures kept { RunWatchesAreKept }
     ensures answered { RunCoversAreAnswered }
     ensures held { RunAnswersAreKept }
+    ensures led { RunChainsAreKept }
+    ensures moments { AtEachMoment WatchesHoldIn }
     ensures core { RunCoreHasAnswers }
 {}
 
@@ -86,4 +102,18 @@ pub fn run_watches_law()
 /// Rule: docs/FORMATS.md, "What comes next" and "The course of a run".
 pub fn lawful_watches_law()
     ensures { LawfulWatchesHold }
+{}
+
+/// The watch clause holds of each run, at each of its moments. Whoever covers a joiner covered it a first time. A chain of Tells led to that cover
+/// from the joiner's surrogate, and the log has each of them as sent. Each slot of the joiner's full watch list in which the node had a primary
+/// then was answered by a node on the chain, be it this one, the surrogate or one between: by itself, or by its primary in that slot. After the
+/// group with which a joiner becomes core it has, in each slot that was answered for it, a link to the name with which it was answered, or as many
+/// settled links as the width. So it is in the log of each run of a scenario that isn't over, up to each of its moments.
+///
+/// It does nothing: its contract is the law.
+///
+/// Rule: docs/FORMATS.md, "What comes next" and "The course of a run", and docs/PROTOCOL.md, "Watch lists", "Covers" and "Done".
+pub fn watch_clause_law()
+    ensures runs { AtEachMoment WatchClauseHolds }
+    ensures lawful { LawfulWatchClauseHolds }
 {}

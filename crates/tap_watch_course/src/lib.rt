@@ -6,6 +6,6 @@
 mod law;
 
 pub use law::{
-    answers_at_rest_law, answers_moves_law, held_at_rest_law, held_moves_law, lawful_watches_law,
-    run_answers_law, run_held_law, run_watches_law,
+    answers_at_rest_law, answers_moves_law, chains_moves_law, held_at_rest_law, held_moves_law,
+    lawful_watches_law, run_answers_law, run_held_law, run_watches_law, watch_clause_law,
 };
