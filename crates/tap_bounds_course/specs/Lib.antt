@@ -1,0 +1,5 @@
+pub mod Traffic
+pub mod Few
+pub mod Joins
+pub mod Enough
+pub mod AtRest
