@@ -1,13 +1,15 @@
 -- The headline of the log of a world, by that of the run which it is up to its last moment.
-use Rattle.std.proofs.Common.{Bool, List, length, Option, sym, subst}
+use Rattle.std.proofs.Common.{Bool, List, [], ◌∷◌, length, Option, sym, subst}
 use Rattle.tap_log.specs.declared.record.Record.{Record}
+use Rattle.tap_log.specs.declared.record.Record.TheVariants.{Finished, Spent, Step as StepRecord}
 use Rattle.tap_log.specs.declared.record.Refusal.{Refusal}
 use Rattle.tap_log.specs.Log.{begun_steps}
 use Rattle.tap_course.specs.Named.{HaveNames}
-use Rattle.tap_safe_course.specs.Headline.{HasHeadline}
 use Rattle.tap_safe_course.specs.Safe.{IsRun}
-use Rattle.tap_safe_course.proofs.Headline.{ended_logs_have_headline}
 use Rattle.tap_safe_course.proofs.Safe.{steps_before}
+use Rattle.tap_whole_course.specs.Headline.{HasHeadline}
+use Rattle.tap_whole_course.proofs.Ended.{may_cut, may_finish, may_refuse, may_spend}
+use Rattle.tap_whole_course.proofs.Headline.{ended_logs_have_headline}
 use Rattle.tap_engine.specs.Holders.{HoldersAreExactAtRest}
 use Rattle.tap_engine.specs.Kept.{AreKept, world_value}
 use Rattle.tap_engine.specs.World.{WorldValue}
@@ -28,19 +30,25 @@ module _ (w : WorldValue) (is : IsWorldLog w) (named : HaveNames w.beginning.set
   pub headline_of_world : HasHeadline w.beginning.settings w.log
   headline_of_world =
       let b = w.beginning in
+      let course = is.course in
       let law = ended_logs_have_headline in
       let of : List Record → Type 0 = HasHeadline b.settings in
-      by_ending b is.course w.log (of w.log)
-      (λ same. subst of (sym same) (law.going b is.course run))
-      (λ end. subst of (sym end) (law.finished b is.course (length (begun_steps is.course)) run))
-      (λ refusal pending. subst of (sym pending.log_is) (law.refused b is.course pending.index pending.step refusal run pending.refused))
-      (λ taken. subst of (sym taken.log_is) (law.spent b is.course b.frames run))
-      (λ started. subst of (sym started.log_is) (law.cut b is.course started.index started.step b.frames run))
+      let steps = length (begun_steps course) in
+      by_ending b course w.log (of w.log)
+      (λ same. subst of (sym same) (law.going b course run))
+      (λ end. subst of (sym end) (law.ended b course (Finished steps ∷ []) run (may_finish course steps)))
+      (λ refusal pending. subst of (sym pending.log_is)
+      (law.ended b course (StepRecord pending.index pending.step ∷ []) run
+      (may_refuse course pending.index pending.step refusal pending.refused)))
+      (λ taken. subst of (sym taken.log_is) (law.ended b course (Spent b.frames ∷ []) run (may_spend course b.frames)))
+      (λ started. subst of (sym started.log_is)
+      (law.ended b course (StepRecord started.index started.step ∷ Spent b.frames ∷ []) run
+      (may_cut course started.index started.step b.frames)))
       w.stopped w.refused is.gone_to
 
 -- at rest it says who holds a link
 pub exact_holders : (w : WorldValue) → HasHeadline w.beginning.settings w.log → HoldersAreExactAtRest w.log
-exact_holders w headline = λ m moment rest holder target core_holder core. (headline.rest m moment rest).left.holders holder target core
+exact_holders w headline = λ m moment rest holder target core_holder core. (headline.safe.rest m moment rest).left.holders holder target core
 
 -- so the log of an engine has it
 pub kept_headline : (engine : Engine) (refused : Option Refusal) (stopped : Bool) → AreKept engine refused stopped

@@ -16,10 +16,11 @@ use Rattle.tap_course.specs.Groups.{step_group, taken_group}
 use Rattle.tap_lawful.specs.Lawful.{IsFinished, IsPlayed, IsSpent, step_alone}
 use Rattle.tap_lawful.proofs.Coming.{coming}
 use Rattle.tap_lawful.proofs.Steps.{played_steps}
-use Rattle.tap_safe_course.specs.Headline.{HasHeadline}
 use Rattle.tap_safe_course.specs.Safe.{IsRun}
-use Rattle.tap_safe_course.proofs.Headline.{ended_logs_have_headline}
 use Rattle.tap_safe_course.proofs.Lawful.{lawful_logs_are_safe}
+use Rattle.tap_whole_course.specs.Headline.{HasHeadline}
+use Rattle.tap_whole_course.proofs.Ended.{may_cut, may_finish, may_spend}
+use Rattle.tap_whole_course.proofs.Headline.{ended_logs_have_headline}
 use Rattle.tap_headline.specs.Headline.{FollowsScript, LogsFollowScripts, LogsHaveHeadline}
 
 -- ---- a run that isn't over
@@ -114,11 +115,12 @@ spent_has s played log run over =
     elim (coming s played over.group over.next) [
       | inl takes ↦
           subst Ends (sym (taken_alone s played takes.number) ∙ ap step_alone takes.is)
-          (ended_logs_have_headline.spent (beginning_in s) played s.frames run)
+          (ended_logs_have_headline.ended (beginning_in s) played (Spent s.frames ∷ []) run (may_spend played s.frames))
       | inr begins ↦
           let index = begun_count played + 1 in
           subst Ends (sym (begun_alone s played index begins.step) ∙ ap step_alone begins.is)
-          (ended_logs_have_headline.cut (beginning_in s) played index begins.step s.frames run)
+          (ended_logs_have_headline.ended (beginning_in s) played (StepRecord index begins.step ∷ Spent s.frames ∷ []) run
+          (may_cut played index begins.step s.frames))
     ]
     )
 
@@ -126,11 +128,12 @@ pub logs_have_headline : LogsHaveHeadline
 logs_have_headline s log valid of =
     let run = lawful_logs_are_safe.runs s of.played valid of.is_played in
     elim of.ending [
-      | inl same ↦ subst (HasHeadline s.settings) (sym same) (lawful_logs_are_safe.headline s of.played valid of.is_played)
+      | inl same ↦ subst (HasHeadline s.settings) (sym same) (ended_logs_have_headline.going (beginning_in s) of.played run)
       | inr over ↦ elim over [
         | inl finished ↦
             subst (HasHeadline s.settings) (sym finished.log_is)
-            (ended_logs_have_headline.finished (beginning_in s) of.played (length s.steps) run)
+            (ended_logs_have_headline.ended (beginning_in s) of.played (Finished (length s.steps) ∷ []) run
+            (may_finish of.played (length s.steps)))
         | inr spent ↦ spent_has s of.played log run spent
       ]
     ]

@@ -8,7 +8,7 @@ use Rattle.tap_log.specs.Log.{begun_steps}
 use Rattle.tap_course.specs.Beginning.{begin_record}
 use Rattle.tap_lawful.specs.Next.{beginning_in, begun_count}
 use Rattle.tap_lawful.specs.Lawful.{IsLogOf}
-use Rattle.tap_safe_course.specs.Headline.{HasHeadline}
+use Rattle.tap_whole_course.specs.Headline.{HasHeadline}
 
 -- each log of a run has the headline: that of one which isn't over, or which ended early for want of memory, and that of one which is over
 abbrev pub LogsHaveHeadline : Type 0

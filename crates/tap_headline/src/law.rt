@@ -2,9 +2,8 @@ ghost use Rattle.tap_headline.specs.Endings.{LogsEndSo};
 ghost use Rattle.tap_headline.specs.Headline.{LogsFollowScripts, LogsHaveHeadline};
 ghost use Rattle.tap_headline.specs.Printable.{LogsCanBePrinted};
 
-/// The log of a run begins as its scenario does, and its steps are the scenario's first ones. At each of its moments,
-/// also once it says how the run has ended, there is a core node, no core node's table has a hole that another core node could fill, each
-/// walk from a core node leads to the one root of its object, and at rest each node that is present is core.
+/// The log of a run begins as its scenario does, and its steps are the scenario's first ones. It has the headline, at each of its moments,
+/// also once it says how the run has ended: of nodes and tables, pointers, lookups, casts, sessions, watch lists and the frames of joins.
 ///
 /// It does nothing: its contract is the law.
 ///

@@ -2,7 +2,7 @@
 use Rattle.std.proofs.Common.{inl, refl, Option, None, Some}
 use Rattle.tap_scenario.specs.Scenario.{IsScript, ScenarioValue}
 use Rattle.tap_lawful.specs.Lawful.{IsLogOf}
-use Rattle.tap_safe_course.specs.Headline.{HasHeadline}
+use Rattle.tap_whole_course.specs.Headline.{HasHeadline}
 use Rattle.tap_headline.proofs.Headline.{logs_have_headline}
 use Rattle.tap_replay.specs.Player.{GoesOnUnless}
 use Rattle.tap_replay.specs.declared.end.End.{End}

@@ -2,7 +2,7 @@ ghost use Rattle.std.specs.Prelude.{◌≡◌, ◌<◌, IfOk};
 ghost use Rattle.tap_lawful.specs.Laws.{left_of};
 ghost use Rattle.tap_lawful.specs.Next.{beginning_in};
 ghost use Rattle.tap_replay.specs.Player.{HasPlayed, MayTurn, Turns, over_by};
-ghost use Rattle.tap_safe_course.specs.Headline.{HasHeadline};
+ghost use Rattle.tap_whole_course.specs.Headline.{HasHeadline};
 ghost use Rattle.tap_scenario.specs.Scenario.{EachStepIsPlayed};
 
 use crate::choice::Choice;
@@ -81,7 +81,7 @@ impl Player {
         ensures may { MayTurn scenario.now self.new.world.log }
 
         // At each moment of the log there is a core node, no table has a hole, each walk leads to the one root, and at rest each node that
-        // is present is core.
+        // is present is core; and what is said of pointers, lookups, casts, sessions, watch lists and the frames of joins holds.
         ensures headline { HasHeadline scenario.now.settings self.new.world.log }
 
         // So a caller that takes one turn after the other comes to an end.

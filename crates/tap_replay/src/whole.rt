@@ -1,5 +1,5 @@
 ghost use Rattle.std.specs.Prelude.{IfSome};
-ghost use Rattle.tap_safe_course.specs.Headline.{HasHeadline};
+ghost use Rattle.tap_whole_course.specs.Headline.{HasHeadline};
 ghost use Rattle.tap_scenario.specs.Scenario.{EachStepIsPlayed};
 ghost use Rattle.tap_replay.specs.Whole.{IsReplay};
 

@@ -114,7 +114,7 @@ cut_says log index step limit =
     (says_again log begun (begun ++ Spent limit ∷ []) (step_says log index step) (spent_says begun limit))
 
 -- who starts nothing doesn't join
-starts_no_join : (step : Step) → is_start step ≡ false → join_name step ≡ None
+pub starts_no_join : (step : Step) → is_start step ≡ false → join_name step ≡ None
 unfolding actor_of join_name
 starts_no_join (Join name via) none = absurd (cc)
 starts_no_join step none = refl
@@ -135,14 +135,19 @@ finished_says log steps alone =
 
 -- ---- the system
 
--- with the same groups after the same beginning the system is the same
+-- the beginning is the same
+pub same_beginning : (log ending : List Record) → 1 ≤ length log → is_carried log ≡ false → is_carried (log ++ ending) ≡ false
+    → beginning_of (log ++ ending) ≡ beginning_of log
+same_beginning log ending begun uncarried still =
+    ap (λ c. take (if c then 2 else 1) (log ++ ending)) still ∙ take-append-le 1 log ending begun
+    ∙ sym (ap (λ c. take (if c then 2 else 1) log) uncarried)
+
+-- with the same groups after it the system is the same
 same_groups : (log ending : List Record) → 1 ≤ length log → is_carried log ≡ false → is_carried (log ++ ending) ≡ false
     → groups_of (log ++ ending) ≡ groups_of log → system_of (log ++ ending) ≡ system_of log
 same_groups log ending begun uncarried still groups =
-    let begins : beginning_of (log ++ ending) ≡ beginning_of log =
-    ap (λ c. take (if c then 2 else 1) (log ++ ending)) still ∙ take-append-le 1 log ending begun
-    ∙ sym (ap (λ c. take (if c then 2 else 1) log) uncarried) in
-    ap (λ l. system_from l (groups_of (log ++ ending))) begins ∙ ap (system_from (beginning_of log)) groups
+    ap (λ l. system_from l (groups_of (log ++ ending))) (same_beginning log ending begun uncarried still)
+    ∙ ap (system_from (beginning_of log)) groups
 
 finished_ends : (steps : ℕ) → is_ending false (Finished steps ∷ []) ≡ true
 unfolding ends_log
@@ -208,20 +213,28 @@ module _ (log : List Record) (is_open : IsOpen log) where
   lengthened_of ending is =
       ap (λ c. is_lengthened c (last_of (drop (if c then 2 else 1) log)) ending) is_open.uncarried ∙ is
 
-  pub finished_system : (steps : ℕ) → system_of (log ++ Finished steps ∷ []) ≡ system_of log
-  finished_system steps =
+  pub finished_groups : (steps : ℕ) → groups_of (log ++ Finished steps ∷ []) ≡ groups_of log
+  finished_groups steps =
       let ending = Finished steps ∷ [] in
-      same_groups log ending is_open.begun is_open.uncarried (finished_is_carried log steps ∙ is_open.uncarried)
       (groups_of-ended log (Finished steps) [] is_open.begun is_open.going (endings_of ending (finished_ends steps))
       (lengthened_of ending (finished_alone steps (last_of (drop 1 log))))).0
 
-  pub spent_system : (limit : ℕ) → HasNoStartLast log → system_of (log ++ Spent limit ∷ []) ≡ system_of log
-  spent_system limit alone =
+  pub finished_system : (steps : ℕ) → system_of (log ++ Finished steps ∷ []) ≡ system_of log
+  finished_system steps =
+      same_groups log (Finished steps ∷ []) is_open.begun is_open.uncarried (finished_is_carried log steps ∙ is_open.uncarried)
+      (finished_groups steps)
+
+  pub spent_groups : (limit : ℕ) → HasNoStartLast log → groups_of (log ++ Spent limit ∷ []) ≡ groups_of log
+  spent_groups limit alone =
       let ending = Spent limit ∷ [] in
-      same_groups log ending is_open.begun is_open.uncarried (spent_is_carried log limit ∙ is_open.uncarried)
       (groups_of-ended log (Spent limit) [] is_open.begun is_open.going (endings_of ending (spent_ends limit))
       (lengthened_of ending (spent_alone limit (last_of (drop 1 log))
       (λ index step is. alone index step (last_after_first log (StepRecord index step) is))))).0
+
+  pub spent_system : (limit : ℕ) → HasNoStartLast log → system_of (log ++ Spent limit ∷ []) ≡ system_of log
+  spent_system limit alone =
+      same_groups log (Spent limit ∷ []) is_open.begun is_open.uncarried (spent_is_carried log limit ∙ is_open.uncarried)
+      (spent_groups limit alone)
 
   pub cut_carried : (index : ℕ) (step : Step) (limit : ℕ) → is_carried (log ++ StepRecord index step ∷ Spent limit ∷ []) ≡ false
   cut_carried index step limit =
@@ -229,14 +242,19 @@ module _ (log : List Record) (is_open : IsOpen log) where
       ∙ spent_is_carried (log ++ StepRecord index step ∷ []) limit ∙ step_is_carried log index step ∙ is_open.uncarried
 
   -- of a start what is spent cuts the group short, and there is no more of it
-  pub start_system : (index : ℕ) (step : Step) (limit : ℕ) → is_start step ≡ true
-      → system_of (log ++ StepRecord index step ∷ Spent limit ∷ []) ≡ system_of log
-  start_system index step limit starts =
+  pub start_groups : (index : ℕ) (step : Step) (limit : ℕ) → is_start step ≡ true
+      → groups_of (log ++ StepRecord index step ∷ Spent limit ∷ []) ≡ groups_of log
+  start_groups index step limit starts =
       let ending = StepRecord index step ∷ Spent limit ∷ [] in
-      same_groups log ending is_open.begun is_open.uncarried (cut_carried index step limit)
       (groups_of-ended log (StepRecord index step) (Spent limit ∷ []) is_open.begun is_open.going
       (endings_of ending (cut_ends index step limit starts))
       (lengthened_of ending (cut_alone index step limit (last_of (drop 1 log))))).0
+
+  pub start_system : (index : ℕ) (step : Step) (limit : ℕ) → is_start step ≡ true
+      → system_of (log ++ StepRecord index step ∷ Spent limit ∷ []) ≡ system_of log
+  start_system index step limit starts =
+      same_groups log (StepRecord index step ∷ Spent limit ∷ []) is_open.begun is_open.uncarried (cut_carried index step limit)
+      (start_groups index step limit starts)
 
   pub step_group_is : (index : ℕ) (step : Step) → IsGroup log (StepRecord index step) []
   unfolding begins_group
@@ -246,6 +264,12 @@ module _ (log : List Record) (is_open : IsOpen log) where
   step_goes_on : (index : ℕ) (step : Step) → is_ended (StepRecord index step ∷ []) ≡ false
   unfolding ends_log
   step_goes_on index step = refl
+
+  -- a step alone is one more group
+  pub step_groups : (index : ℕ) (step : Step)
+      → groups_of (log ++ StepRecord index step ∷ []) ≡ groups_of log ++ (StepRecord index step ∷ []) ∷ []
+  step_groups index step =
+      groups_of-group log (StepRecord index step) [] (step_group_is index step) is_open.going (step_goes_on index step)
 
   pub open_after_step : (index : ℕ) (step : Step) → IsOpen (log ++ StepRecord index step ∷ [])
   open_after_step index step = record {
@@ -275,8 +299,8 @@ from_begin : (b : Beginning) (groups : List (List Record))
 unfolding system_from
 from_begin b groups = refl
 
--- it is no start, or is refused
-nothing_moves : (log : List Record) (step : Step) → is_start step ≡ false → move_of_start (first_refusal log step) (start_at log step) ≡ None
+-- a step that is no start moves nothing
+pub nothing_moves : (log : List Record) (step : Step) → is_start step ≡ false → move_of_start (first_refusal log step) (start_at log step) ≡ None
 nothing_moves log step starts = by_refusal (first_refusal log step) (actor_of step) (start_of_step log step) starts
   where
     by_refusal : (refusal : Option Refusal) (actor : Option (List ℕ)) (start : Option Start) → is_some actor ≡ false
@@ -284,6 +308,13 @@ nothing_moves log step starts = by_refusal (first_refusal log step) (actor_of st
     by_refusal (Some refusal) actor start none = refl
     by_refusal None None start none = refl
     by_refusal None (Some name) start none = absurd (cc)
+
+-- nor does a start stand last after it
+pub no_start_after : (log : List Record) (index : ℕ) (step : Step) → is_start step ≡ false
+    → HasNoStartLast (log ++ StepRecord index step ∷ [])
+no_start_after log index step none other next at =
+    let both : Some (StepRecord index step) ≡ Some (StepRecord other next) = sym (last_of-push log (StepRecord index step)) ∙ at in
+    let same : step ≡ next = cc in sym (ap is_start same) ∙ none
 
 module _ (b : Beginning) (log : List Record) (run : IsRun b log) where
   pub run_is_open : IsOpen log
@@ -306,7 +337,7 @@ module _ (b : Beginning) (log : List Record) (run : IsRun b log) where
       let first = StepRecord index step in
       let group = step_group_is log run_is_open index step in
       ap (λ l. system_from l (groups_of (log ++ first ∷ []))) (beginning_of-group log first [] group ∙ run.course.begins)
-      ∙ ap (system_from start) (groups_of-group log first [] group run.going (step_goes_on log run_is_open index step))
+      ∙ ap (system_from start) (step_groups log run_is_open index step)
       ∙ from_begin b (groups_of log ++ (first ∷ []) ∷ [])
       ∙ after_push p start rest (groups_of log) (first ∷ [])
       ∙ ap (λ l. moved_by p (system_after p start rest (groups_of log)) (move_of_group l (first ∷ []))) (log_is b log run.course run.going)
@@ -326,9 +357,6 @@ module _ (b : Beginning) (log : List Record) (run : IsRun b log) where
       by_start true is = start_system log run_is_open index step limit is
       by_start false is =
           let begun = log ++ StepRecord index step ∷ [] in
-          let alone : HasNoStartLast begun = λ other next at.
-          (let both : Some (StepRecord index step) ≡ Some (StepRecord other next) = sym (last_of-push log (StepRecord index step)) ∙ at in
-          let same : step ≡ next = cc in sym (ap is_start same) ∙ is) in
           ap system_of (sym (append_assoc log (StepRecord index step ∷ []) (Spent limit ∷ [])))
-          ∙ spent_system begun (open_after_step log run_is_open index step) limit alone
+          ∙ spent_system begun (open_after_step log run_is_open index step) limit (no_start_after log index step is)
           ∙ step_system index step (nothing_moves log step is)

@@ -1,4 +1,4 @@
--- Each log of a run has the headline, and so it has once how the run has ended stands after it, or a step that is refused.
+-- Each log of a run is safe throughout, and so it is once how the run has ended stands after it, or a step that is refused.
 use Rattle.std.proofs.Common.{◌≡◌, inl, inr, ℕ, zero, suc, ◌+◌, ◌<◌, ◌≤◌, Bool, true, false, not, List, [], ◌∷◌, ◌++◌, length, take, All, None, Some, refl, ap, sym, subst, ◌∙◌, arith, length-append}
 use Rattle.std.specs.Prelude.{◌&&◌, ◌||◌, drop, nat_eq, nat_le, slice_get, unwrap_or, filter}
 use Rattle.std.specs.List.{last_or, list_any, range_with_len}
@@ -31,15 +31,15 @@ use Rattle.tap_safety.specs.System.{System}
 use Rattle.tap_course.specs.Beginning.{Beginning}
 use Rattle.tap_course.specs.Course.{system_of}
 use Rattle.tap_course.specs.Observed.{nodes_of}
-use Rattle.tap_safe_course.specs.Headline.{AtMomentsOf, EndedLogsHaveHeadline, HasHeadline}
+use Rattle.tap_safe_course.specs.Headline.{AtMomentsOf, EndedLogsAreSafe, IsSafeThroughout}
 use Rattle.tap_safe_course.specs.Moments.{HasCoreNodes, HasNoHole, RestIsAllCore, WalksEndAtRoots, tables_of}
 use Rattle.tap_safe_course.specs.Safe.{IsRun}
 use Rattle.tap_safe_course.proofs.Alone.{no_start_last}
 use Rattle.tap_safe_course.proofs.Ended.{IsOpen, SaysTheSame, cut_carried, cut_says, cut_system, finished_is_carried, finished_says, finished_system, refused_system, run_is_open, spent_is_carried, spent_says, spent_system, step_is_carried, step_says}
 use Rattle.tap_safe_course.proofs.Moments.{all_core_at, core_nodes_at, no_hole, no_hole_at, rest_is_all_core, some_core, walks_end, walks_end_at}
 
-pub run_has_headline : (b : Beginning) (log : List Record) → IsRun b log → HasHeadline b.settings log
-run_has_headline b log run = record {
+pub run_is_safe : (b : Beginning) (log : List Record) → IsRun b log → IsSafeThroughout b.settings log
+run_is_safe b log run = record {
   core = λ m is. core_nodes_at b log m run is;
   hole_free = λ m is. no_hole_at b log m run is;
   walks = λ m is. walks_end_at b log m run is;
@@ -108,7 +108,7 @@ module _ (log ending : List Record) (uncarried : is_carried log ≡ false) (stil
 
   -- so what holds at its moments, and of the whole, holds at each moment
   module _ (last : (m : ℕ) → length log < m → is_moment longer m ≡ true → m ≡ length longer) where
-    at_moments : (Holds : List Record → Type 0) → AtMomentsOf log Holds → (is_moment longer (length longer) ≡ true → Holds longer)
+    pub at_moments : (Holds : List Record → Type 0) → AtMomentsOf log Holds → (is_moment longer (length longer) ≡ true → Holds longer)
         → AtMomentsOf longer Holds
     at_moments Holds before whole m is = elim (cases_lt (length log) m) [
       | inl past ↦
@@ -167,10 +167,10 @@ module _ (b : Beginning) (log : List Record) (run : IsRun b log) where
   with_ending : (ending : List Record) → is_carried (log ++ ending) ≡ false → SaysTheSame log (log ++ ending)
       → system_of (log ++ ending) ≡ system_of log
       → ((m : ℕ) → length log < m → is_moment (log ++ ending) m ≡ true → m ≡ length (log ++ ending))
-      → HasHeadline b.settings (log ++ ending)
+      → IsSafeThroughout b.settings (log ++ ending)
   with_ending ending still says system last =
       let p = b.settings in
-      let has = run_has_headline b log run in
+      let has = run_is_safe b log run in
       let longer = log ++ ending in
       let size = length-append log ending in
       let from = is_open.begun in
@@ -186,7 +186,7 @@ module _ (b : Beginning) (log : List Record) (run : IsRun b log) where
       }
 
   -- one record after the log is its end
-  one_more : (item : Record) (m : ℕ) → length log < m → is_moment (log ++ item ∷ []) m ≡ true → m ≡ length (log ++ item ∷ [])
+  pub one_more : (item : Record) (m : ℕ) → length log < m → is_moment (log ++ item ∷ []) m ≡ true → m ≡ length (log ++ item ∷ [])
   one_more item m past is =
       let size = length-append log (item ∷ []) in
       let within = moment-within (log ++ item ∷ []) m is in
@@ -201,7 +201,7 @@ module _ (b : Beginning) (log : List Record) (run : IsRun b log) where
   step_begins_one index step = refl
 
   -- no moment is between a step and that the run is spent
-  cut_last : (index : ℕ) (step : Step) (limit : ℕ) (m : ℕ) → length log < m
+  pub cut_last : (index : ℕ) (step : Step) (limit : ℕ) (m : ℕ) → length log < m
       → is_moment (log ++ StepRecord index step ∷ Spent limit ∷ []) m ≡ true → m ≡ length (log ++ StepRecord index step ∷ Spent limit ∷ [])
   cut_last index step limit m past is = elim (cases_lt m (length longer)) [
     | inl before ↦
@@ -218,32 +218,32 @@ module _ (b : Beginning) (log : List Record) (run : IsRun b log) where
       group : IsGroup log (StepRecord index step) (Spent limit ∷ [])
       group = record { begun = is_open.begun; begins = step_begins_one index step; alone = spent_begins_none limit }
 
-  pub finished_headline : (steps : ℕ) → HasHeadline b.settings (log ++ Finished steps ∷ [])
-  finished_headline steps =
+  pub finished_safe : (steps : ℕ) → IsSafeThroughout b.settings (log ++ Finished steps ∷ [])
+  finished_safe steps =
       with_ending (Finished steps ∷ []) (finished_is_carried log steps ∙ is_open.uncarried)
       (finished_says log steps (no_start_last b log run)) (finished_system log is_open steps) (one_more (Finished steps))
 
-  pub spent_headline : (limit : ℕ) → HasHeadline b.settings (log ++ Spent limit ∷ [])
-  spent_headline limit =
+  pub spent_safe : (limit : ℕ) → IsSafeThroughout b.settings (log ++ Spent limit ∷ [])
+  spent_safe limit =
       with_ending (Spent limit ∷ []) (spent_is_carried log limit ∙ is_open.uncarried)
       (spent_says log limit) (spent_system log is_open limit (no_start_last b log run)) (one_more (Spent limit))
 
-  pub cut_headline : (index : ℕ) (step : Step) (limit : ℕ) → HasHeadline b.settings (log ++ StepRecord index step ∷ Spent limit ∷ [])
-  cut_headline index step limit =
+  pub cut_safe : (index : ℕ) (step : Step) (limit : ℕ) → IsSafeThroughout b.settings (log ++ StepRecord index step ∷ Spent limit ∷ [])
+  cut_safe index step limit =
       with_ending (StepRecord index step ∷ Spent limit ∷ []) (cut_carried log is_open index step limit)
       (cut_says log index step limit) (cut_system b log run index step limit) (cut_last index step limit)
 
-  pub refused_headline : (index : ℕ) (step : Step) (refusal : Refusal) → first_refusal log step ≡ Some refusal
-      → HasHeadline b.settings (log ++ StepRecord index step ∷ [])
-  refused_headline index step refusal is =
+  pub refused_safe : (index : ℕ) (step : Step) (refusal : Refusal) → first_refusal log step ≡ Some refusal
+      → IsSafeThroughout b.settings (log ++ StepRecord index step ∷ [])
+  refused_safe index step refusal is =
       with_ending (StepRecord index step ∷ []) (step_is_carried log index step ∙ is_open.uncarried)
       (step_says log index step) (refused_system b log run index step refusal is) (one_more (StepRecord index step))
 
-pub ended_logs_have_headline : EndedLogsHaveHeadline
-ended_logs_have_headline = record {
-  going = run_has_headline;
-  finished = λ b log steps run. finished_headline b log run steps;
-  spent = λ b log limit run. spent_headline b log run limit;
-  cut = λ b log index step limit run. cut_headline b log run index step limit;
-  refused = λ b log index step refusal run is. refused_headline b log run index step refusal is;
+pub ended_logs_are_safe : EndedLogsAreSafe
+ended_logs_are_safe = record {
+  going = run_is_safe;
+  finished = λ b log steps run. finished_safe b log run steps;
+  spent = λ b log limit run. spent_safe b log run limit;
+  cut = λ b log index step limit run. cut_safe b log run index step limit;
+  refused = λ b log index step refusal run is. refused_safe b log run index step refusal is;
 }

@@ -1,4 +1,4 @@
--- The log of a run of a scenario is a run, as its steps are the scenario's; so it has the headline.
+-- The log of a run of a scenario is a run, as its steps are the scenario's; so it is safe throughout.
 use Rattle.std.proofs.Common.{List, All, get_or, sym, subst}
 use Rattle.std.proofs.lemmas.List.Elements.{All-take}
 use Rattle.tap_scenario.specs.Scenario.{IsScript, ScenarioValue}
@@ -11,7 +11,7 @@ use Rattle.tap_lawful.proofs.Played.{played_course}
 use Rattle.tap_lawful.proofs.Steps.{played_steps}
 use Rattle.tap_safe_course.specs.Safe.{IsRun}
 use Rattle.tap_safe_course.specs.Lawful.{LawfulLogsAreSafe}
-use Rattle.tap_safe_course.proofs.Headline.{run_has_headline}
+use Rattle.tap_safe_course.proofs.Headline.{run_is_safe}
 
 -- its steps are the scenario's first ones, whose names are names of the settings
 played_run : (s : ScenarioValue) (log : List Record) → IsScript s → IsPlayed s log → IsRun (beginning_in s) log
@@ -26,5 +26,5 @@ played_run s log valid played = record {
 pub lawful_logs_are_safe : LawfulLogsAreSafe
 lawful_logs_are_safe = record {
   runs = played_run;
-  headline = λ s log valid played. run_has_headline (beginning_in s) log (played_run s log valid played);
+  safe = λ s log valid played. run_is_safe (beginning_in s) log (played_run s log valid played);
 }

@@ -1,4 +1,4 @@
--- The headline, which holds of each log of a run, however far the run has come and however it has ended.
+-- What holds of nodes and tables throughout each log of a run, however far the run has come and however it has ended.
 --
 -- Rule: docs/FORMATS.md, "The course of a run" and "The ways a run ends".
 use Rattle.std.specs.Prelude.{◌≡◌, ℕ, true, List, [], ◌∷◌, ◌++◌, take, Some}
@@ -17,21 +17,21 @@ use Rattle.tap_safe_course.specs.Safe.{IsRun}
 abbrev pub AtMomentsOf : List Record → (List Record → Type 0) → Type 0
 AtMomentsOf log Holds = (m : ℕ) → is_moment log m ≡ true → Holds (take m log)
 
--- The headline: at each moment there is a core node, no core node's table has a hole that another core node could fill, each walk from a
--- core node leads to the one root of its object, and at rest each node that is present is core.
-pub record HasHeadline (p : SettingsValue) (log : List Record) : Type 0 where
+-- At each moment there is a core node, no core node's table has a hole that another core node could fill, each walk from a core node leads to
+-- the one root of its object, and at rest each node that is present is core.
+pub record IsSafeThroughout (p : SettingsValue) (log : List Record) : Type 0 where
   pub core : AtMomentsOf log (HasCoreNodes p)
   pub hole_free : AtMomentsOf log (HasNoHole p)
   pub walks : AtMomentsOf log (WalksEndAtRoots p)
   pub rest : AtMomentsOf log (RestIsAllCore p)
 
--- The log of a run has it, and it has it still if how the run has ended stands after it: how many steps were run; or how many frames may be
--- sent, alone or after the step that would send more. So it has after a step that is refused, before its refusal stands there.
-pub record EndedLogsHaveHeadline : Type 0 where
-  pub going : (b : Beginning) (log : List Record) → IsRun b log → HasHeadline b.settings log
-  pub finished : (b : Beginning) (log : List Record) (steps : ℕ) → IsRun b log → HasHeadline b.settings (log ++ Finished steps ∷ [])
-  pub spent : (b : Beginning) (log : List Record) (limit : ℕ) → IsRun b log → HasHeadline b.settings (log ++ Spent limit ∷ [])
+-- So it is of the log of a run, and so it is still if how the run has ended stands after it: how many steps were run; or how many frames may be
+-- sent, alone or after the step that would send more. So it is after a step that is refused, before its refusal stands there.
+pub record EndedLogsAreSafe : Type 0 where
+  pub going : (b : Beginning) (log : List Record) → IsRun b log → IsSafeThroughout b.settings log
+  pub finished : (b : Beginning) (log : List Record) (steps : ℕ) → IsRun b log → IsSafeThroughout b.settings (log ++ Finished steps ∷ [])
+  pub spent : (b : Beginning) (log : List Record) (limit : ℕ) → IsRun b log → IsSafeThroughout b.settings (log ++ Spent limit ∷ [])
   pub cut : (b : Beginning) (log : List Record) (index : ℕ) (step : Step) (limit : ℕ) → IsRun b log
-      → HasHeadline b.settings (log ++ StepRecord index step ∷ Spent limit ∷ [])
+      → IsSafeThroughout b.settings (log ++ StepRecord index step ∷ Spent limit ∷ [])
   pub refused : (b : Beginning) (log : List Record) (index : ℕ) (step : Step) (refusal : Refusal) → IsRun b log
-      → first_refusal log step ≡ Some refusal → HasHeadline b.settings (log ++ StepRecord index step ∷ [])
+      → first_refusal log step ≡ Some refusal → IsSafeThroughout b.settings (log ++ StepRecord index step ∷ [])

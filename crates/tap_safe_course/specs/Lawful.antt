@@ -7,9 +7,9 @@ use Rattle.tap_log.specs.declared.record.Record.{Record}
 use Rattle.tap_lawful.specs.Next.{beginning_in}
 use Rattle.tap_lawful.specs.Lawful.{IsPlayed}
 use Rattle.tap_safe_course.specs.Safe.{IsRun}
-use Rattle.tap_safe_course.specs.Headline.{HasHeadline}
+use Rattle.tap_safe_course.specs.Headline.{IsSafeThroughout}
 
--- The log of a run of a scenario, however far it has come, is a run: the scenario's names are names of its settings. So it has the headline.
+-- The log of a run of a scenario, however far it has come, is a run: the scenario's names are names of its settings. So it is safe throughout.
 pub record LawfulLogsAreSafe : Type 0 where
   pub runs : (s : ScenarioValue) (log : List Record) → IsScript s → IsPlayed s log → IsRun (beginning_in s) log
-  pub headline : (s : ScenarioValue) (log : List Record) → IsScript s → IsPlayed s log → HasHeadline s.settings log
+  pub safe : (s : ScenarioValue) (log : List Record) → IsScript s → IsPlayed s log → IsSafeThroughout s.settings log

@@ -1,5 +1,5 @@
 ghost use Rattle.tap_safe_course.specs.Each.{GroupsAreRight};
-ghost use Rattle.tap_safe_course.specs.Headline.{EndedLogsHaveHeadline};
+ghost use Rattle.tap_safe_course.specs.Headline.{EndedLogsAreSafe};
 ghost use Rattle.tap_safe_course.specs.Lawful.{LawfulLogsAreSafe};
 ghost use Rattle.tap_safe_course.specs.Moments.{AtEachMoment, HasCoreNodes, HasNoHole, RestIsAllCore, WalksEndAtRoots};
 ghost use Rattle.tap_safe_course.specs.Moves.{GroupMayMove};
@@ -105,7 +105,7 @@ pub fn each_group_law()
     ensures { GroupsAreRight }
 {}
 
-/// The log of a run of a scenario, however far it has come, is a run. So it has the headline.
+/// The log of a run of a scenario, however far it has come, is a run. So it is safe throughout.
 ///
 /// It does nothing: its contract is the law.
 ///
@@ -114,13 +114,13 @@ pub fn lawful_logs_law()
     ensures { LawfulLogsAreSafe }
 {}
 
-/// At each of its moments the log of a run has the headline: there is a core node, no core node's table has a hole that another core node
-/// could fill, each walk from a core node leads to the one root of its object, and at rest each node that is present is core. So it is too
-/// once how the run has ended stands after it, or a step that is refused and whose refusal doesn't stand there yet: this changes no node.
+/// At each of its moments the log of a run is safe: there is a core node, no core node's table has a hole that another core node could
+/// fill, each walk from a core node leads to the one root of its object, and at rest each node that is present is core. So it is too once how
+/// the run has ended stands after it, or a step that is refused and whose refusal doesn't stand there yet: this changes no node.
 ///
 /// It does nothing: its contract is the law.
 ///
 /// Rule: docs/FORMATS.md, "The course of a run" and "The ways a run ends".
 pub fn ended_logs_law()
-    ensures { EndedLogsHaveHeadline }
+    ensures { EndedLogsAreSafe }
 {}

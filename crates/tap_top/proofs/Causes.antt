@@ -24,16 +24,13 @@ use Rattle.tap_words.specs.declared.asked.Asked.{Asked}
 use Rattle.tap_top.specs.declared.status.Status.{Status}
 use Rattle.tap_top.specs.declared.status.Status.TheVariants.{Done, Usage, TooLong, NotScenario, ReadFault, WriteFault, Spent, NoMemory}
 use Rattle.tap_top.specs.Ending.{HasCause, HasCauseOf, HasRun, HasRunAs, HasRunOf, LeavesWorld, log_of}
-use Rattle.tap_top.specs.Headline.{HasRunAll, IsLogAsked, ends_spent}
+use Rattle.tap_top.specs.Headline.{HasRunAll, HasRunShort, IsLogAsked, ends_spent}
+use Rattle.tap_bounds_course.proofs.Enough.{never_spent}
 use Rattle.tap_top.specs.Reading.{HasReadFault, HasReadScript, HasReadTooMany}
 use Rattle.tap_top.specs.Status.{status_of}
 use Rattle.tap_top.specs.Wanted.{IsNotHad, IsUnread, IsWanted}
 use Rattle.tap_replay.proofs.Running.{unfinished}
 use Rattle.tap_replay.proofs.Lawfulness.{ended_log}
-use Rattle.tap_pointer_course.proofs.Runs.{lawful_on_paths}
-use Rattle.tap_lookup_course.proofs.Alone.{lawful_alone}
-use Rattle.tap_lookup_course.proofs.Runs.{lawful_answers}
-use Rattle.tap_top.proofs.Casts.{lawful_casts}
 
 -- ---- causes
 
@@ -133,6 +130,23 @@ module _ (asked : Asked) (old new : SourceState) where
         }
   ]
 
+  short_run : (world : Option WorldValue) → HasCauseOf asked old new world Spent → HasRunShort asked old new world
+  short_run world cause = elim (ran_or_unread world Spent cause (λ is. cc)) [
+    | inl never ↦ absurd never
+    | inr ran ↦
+        let run = ran.run in
+        let ended = run.ended.ended in
+        record {
+          script = run.script;
+          valid = run.valid;
+          wanted = run.wanted;
+          left = ran.left;
+          world_is = ran.is;
+          run = run.ended;
+          short = λ alone enough. never_spent run.script ended.0 ran.left.log run.valid alone enough ended.1 ended.2;
+        }
+  ]
+
 module _ (asked : Option Asked) (old new : SourceState) (world : Option WorldValue) where
   pub usage_refused : HasCause asked old new world Usage → asked ≡ None
   usage_refused cause = by_words asked refl cause
@@ -153,6 +167,11 @@ pub done_ran : (asked : Option Asked) (old new : SourceState) (world : Option Wo
     → IfSome asked (λ a. HasRunAll a old new world)
 done_ran None old new world cause = absurd (refused_so Done cause.2 (λ is. cc) (λ is. cc))
 done_ran (Some asked) old new world cause = all_run asked old new world cause
+
+pub spent_ran : (asked : Option Asked) (old new : SourceState) (world : Option WorldValue) → HasCause asked old new world Spent
+    → IfSome asked (λ a. HasRunShort a old new world)
+spent_ran None old new world cause = absurd (refused_so Spent cause.2 (λ is. cc) (λ is. cc))
+spent_ran (Some asked) old new world cause = short_run asked old new world cause
 
 pub read_failed : (asked : Option Asked) (old new : SourceState) (world : Option WorldValue) → HasCause asked old new world ReadFault
     → HasRisen old.faults new.faults
@@ -239,10 +258,6 @@ run_asked asked old new log run = record {
   run = run.run;
   follows = logs_follow_scripts run.script log run.run;
   headline = logs_have_headline run.script log run.valid run.run;
-  pointers = lawful_on_paths run.script run.run.played run.valid run.run.is_played;
-  lookups = lawful_alone run.script run.run.played run.valid run.run.is_played;
-  answers = lawful_answers run.script run.run.played run.valid run.run.is_played;
-  casts = lawful_casts run.script run.run.played run.valid run.run.is_played;
 }
 
 -- the headline

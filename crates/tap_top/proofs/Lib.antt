@@ -1,5 +1,4 @@
 pub mod Flushing
 pub mod Texts
 pub mod Turning
-pub mod Casts
 pub mod Causes

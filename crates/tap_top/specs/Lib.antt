@@ -4,5 +4,4 @@ pub mod FaultLine
 pub mod Reading
 pub mod Wanted
 pub mod Ending
-pub mod Casts
 pub mod Headline

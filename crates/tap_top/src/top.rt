@@ -8,7 +8,7 @@ ghost use Rattle.tap_report.specs.declared.mode.Mode.{Mode as ReportMode};
 ghost use Rattle.tap_scenario.specs.Scenario.{EachStepIsPlayed, IsScript};
 ghost use Rattle.tap_top.specs.Ending.{HasCause, HasCauseOf, HasRunAs, HasRunOf, HasWritten, LeavesWorld, log_of, mode_asked, text_of_run};
 ghost use Rattle.tap_top.specs.FaultLine.{fault_line};
-ghost use Rattle.tap_top.specs.Headline.{HasRunAll, IsLogAsked, ends_spent};
+ghost use Rattle.tap_top.specs.Headline.{HasRunAll, HasRunShort, IsLogAsked, ends_spent};
 ghost use Rattle.tap_top.specs.Reading.{HasReadFault, HasReadTooMany};
 ghost use Rattle.tap_top.specs.Wanted.{AsksWithin, mode_of};
 ghost use Rattle.tap_words.specs.Words.{asked_by};
@@ -150,7 +150,9 @@ fn run_words<S: Source, K: Sink>(
 /// The words come first, then the reading, the scenario, and then the run and the writing side by side: the records of a turn are
 /// written once it is over. The fault line is last. The first read that fails ends the reading, and the first write that fails ends
 /// the writing, but not the run: the log and `before` don't depend on the sink. The log is that of the world that is left. If none
-/// is left, it is empty. If `before` is `Done`, the nodes of the world are those of the system that the log has come to.
+/// is left, it is empty. If `before` is `Done`, the nodes of the world are those of the system that the log has come to. If nothing
+/// is started but J joins, with N members and names that join, each of n digits, `before` is `Spent` only if the scenario's limit of
+/// frames is below J · (16 · (N + 1)² + n + 2).
 ///
 /// Rule: docs/FORMATS.md, "The fault line and the exit status".
 pub fn run<S: Source, K: Sink>(
@@ -172,6 +174,8 @@ pub fn run<S: Source, K: Sink>(
     ensures refused { asked_by (map string_bytes words.now.items) ≡ None → result.before ≢ Status.NoMemory → result.before ≡ Status.Usage }
     ensures done { result.before ≡ Status.Done → IfSome (asked_by (map string_bytes words.now.items))
         (λ asked. HasRunAll asked (S.state source.old) (S.state source.new) result.world) }
+    ensures short { result.before ≡ Status.Spent → IfSome (asked_by (map string_bytes words.now.items))
+        (λ asked. HasRunShort asked (S.state source.old) (S.state source.new) result.world) }
     ensures finished { (result.before ≡ Status.Done) ↔ IsTrue (is_finished (log_of result.world)) }
     ensures spent { (result.before ≡ Status.Spent) ↔ IsTrue (ends_spent (log_of result.world)) }
     ensures read_fault { result.before ≡ Status.ReadFault → HasRisen (S.state source.old).faults (S.state source.new).faults }
@@ -191,9 +195,9 @@ pub fn run<S: Source, K: Sink>(
     // Its log can be printed in each mode.
     ensures printable { IsPrintableLog (log_of result.world) }
 
-    // The headline: there is no log, or it is that of a run; at each of its moments there is a core node, no table has a hole, each walk
-    // finds the one root, and at rest each node that is present is core. Before it says how the run has ended, pointers stand on their paths at
-    // rest, a lookup then made alone is exact, each answer names a server that was published, and casts reach all whom they are for.
+    // The headline: there is no log, or it is that of a run. At each of its moments, however the run has ended, there is a core node, no table
+    // has a hole, each walk finds the one root, and at rest each node that is present is core and pointers stand on their paths; a lookup made
+    // alone from a rest is exact, and what is said of other lookups, of casts, sessions, watch lists and the frames of joins holds.
     ensures headline { (log_of result.world ≡ []) ⊎ IfSome (asked_by (map string_bytes words.now.items))
         (λ asked. IsLogAsked asked (S.state source.old) (S.state source.new) (log_of result.world)) }
 {

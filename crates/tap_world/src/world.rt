@@ -11,7 +11,7 @@ ghost use Rattle.tap_node.specs.Node.{has_room_left};
 ghost use Rattle.tap_course.specs.Course.{is_choice, system_of};
 ghost use Rattle.tap_ranges.specs.Range.{IsInRange};
 ghost use Rattle.tap_overlay.specs.Overlay.{IsNodeOf};
-ghost use Rattle.tap_safe_course.specs.Headline.{HasHeadline};
+ghost use Rattle.tap_whole_course.specs.Headline.{HasHeadline};
 ghost use Rattle.tap_engine.specs.Holders.{HoldersAreExactAtRest};
 ghost use Rattle.tap_engine.specs.Kinds.{damages, most_index, observes};
 ghost use Rattle.tap_engine.specs.Outcome.{refusal_in, stops};

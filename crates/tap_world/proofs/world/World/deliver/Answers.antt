@@ -3,7 +3,7 @@ use Rattle.tap_history.specs.Moments.{outstanding}
 use Rattle.tap_overlay.specs.Overlay.{OverlayValue}
 use Rattle.tap_engine.specs.World.{WorldValue}
 use Rattle.tap_world.proofs.Worlds.{deliver_answers, deliver_keeps, takes_unended}
-use Rattle.tap_safe_course.specs.Headline.{HasHeadline}
+use Rattle.tap_whole_course.specs.Headline.{HasHeadline}
 use Rattle.tap_engine.specs.Holders.{HoldersAreExactAtRest}
 use Rattle.tap_engine.specs.Outcome.{stops}
 use Rattle.tap_engine.proofs.HeadlineOfWorld.{kept_headline, kept_holders}

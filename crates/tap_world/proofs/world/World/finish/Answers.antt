@@ -6,7 +6,7 @@ use Rattle.tap_engine.proofs.Addable.{finished_fits}
 use Rattle.tap_engine.proofs.Counting.{few_sent_most, room_left}
 use Rattle.tap_world.proofs.Marks.{finished_kept}
 use Rattle.tap_world.proofs.Worlds.{kept_of, ready_of}
-use Rattle.tap_safe_course.specs.Headline.{HasHeadline}
+use Rattle.tap_whole_course.specs.Headline.{HasHeadline}
 use Rattle.tap_engine.proofs.HeadlineOfWorld.{kept_headline}
 use Rattle.tap_world.proofs.world.World.finish.Goals as goal
 

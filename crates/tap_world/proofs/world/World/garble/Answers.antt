@@ -4,7 +4,7 @@ use Rattle.tap_overlay.specs.Overlay.{OverlayValue}
 use Rattle.tap_engine.specs.World.{WorldValue}
 use Rattle.tap_engine.specs.declared.engine.Engine.{Engine}
 use Rattle.tap_world.proofs.Worlds.{ready_of, step_answers, step_keeps, step_unended, unspent}
-use Rattle.tap_safe_course.specs.Headline.{HasHeadline}
+use Rattle.tap_whole_course.specs.Headline.{HasHeadline}
 use Rattle.tap_engine.specs.Outcome.{refusal_in, stops}
 use Rattle.tap_engine.proofs.HeadlineOfWorld.{kept_headline}
 use Rattle.tap_world.proofs.world.World.garble.Goals as goal

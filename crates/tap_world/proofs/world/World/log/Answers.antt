@@ -1,6 +1,6 @@
 use Rattle.std.proofs.Common.{subst, ◌+◌, ◌≤◌}
 use Rattle.tap_log.specs.Counts.{ticket_count}
-use Rattle.tap_safe_course.specs.Headline.{HasHeadline}
+use Rattle.tap_whole_course.specs.Headline.{HasHeadline}
 use Rattle.tap_engine.specs.Kept.{world_value}
 use Rattle.tap_engine.specs.Kinds.{most_index}
 use Rattle.tap_engine.specs.World.{WorldValue}

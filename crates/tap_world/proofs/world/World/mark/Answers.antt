@@ -7,7 +7,7 @@ use Rattle.tap_engine.proofs.Counting.{few_sent_most}
 use Rattle.tap_engine.proofs.Keeping.{all_still, kept_short}
 use Rattle.tap_world.proofs.Marks.{marked_kept}
 use Rattle.tap_world.proofs.Worlds.{kept_of, next_of, ready_of}
-use Rattle.tap_safe_course.specs.Headline.{HasHeadline}
+use Rattle.tap_whole_course.specs.Headline.{HasHeadline}
 use Rattle.tap_engine.proofs.HeadlineOfWorld.{kept_headline}
 use Rattle.tap_world.proofs.world.World.mark.Goals as goal
 

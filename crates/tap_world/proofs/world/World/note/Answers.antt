@@ -3,7 +3,7 @@ use Rattle.tap_engine.specs.Kept.{AreKept, world_value}
 use Rattle.tap_engine.specs.Outcome.{MayNote}
 use Rattle.tap_engine.specs.declared.engine.Engine.{Engine}
 use Rattle.tap_world.proofs.Marks.{note_fits, note_room, noted_kept}
-use Rattle.tap_safe_course.specs.Headline.{HasHeadline}
+use Rattle.tap_whole_course.specs.Headline.{HasHeadline}
 use Rattle.tap_engine.specs.World.{WorldValue}
 use Rattle.tap_engine.proofs.HeadlineOfWorld.{kept_headline}
 use Rattle.tap_world.proofs.world.World.note.Goals as goal

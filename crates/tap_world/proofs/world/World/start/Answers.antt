@@ -3,7 +3,7 @@ use Rattle.tap_history.specs.Refusals.{first_refusal}
 use Rattle.tap_overlay.specs.Overlay.{OverlayValue}
 use Rattle.tap_engine.specs.World.{WorldValue}
 use Rattle.tap_world.proofs.Worlds.{step_answers, step_keeps, step_unended}
-use Rattle.tap_safe_course.specs.Headline.{HasHeadline}
+use Rattle.tap_whole_course.specs.Headline.{HasHeadline}
 use Rattle.tap_engine.specs.Outcome.{refusal_in, stops}
 use Rattle.tap_engine.proofs.HeadlineOfWorld.{kept_headline}
 use Rattle.tap_world.proofs.world.World.start.Goals as goal
