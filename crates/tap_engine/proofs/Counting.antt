@@ -1,12 +1,12 @@
 -- How many frames the records of a turn send, and that they may be added.
-use Rattle.std.proofs.Common.{◌≡◌, ℕ, ◌+◌, ◌-◌, ◌≤◌, nat_lt, Bool, true, false, not, Result, Ok, Err, List, [], ◌∷◌, ◌++◌, length, Option, None, Some, refl, ap, sym, subst, ◌∙◌, arith}
+use Rattle.std.proofs.Common.{◌≡◌, ℕ, ◌+◌, ◌-◌, ◌≤◌, nat_lt, Bool, true, false, not, Result, Ok, Err, List, [], ◌∷◌, ◌++◌, length, Option, None, Some, refl, ap, sym, subst, ◌∙◌, arith, append_assoc, append-nil}
 use Rattle.std.specs.List.{cons_option}
 use Rattle.std.specs.Prelude.{if◌then◌else◌}
 use Rattle.std.proofs.lemmas.Bool.{le-leb, lt-leb, ltb-false, ltb-true}
 use Rattle.tap_scenario.specs.declared.step.Step.{Step}
 use Rattle.tap_scenario.specs.declared.step.Step.TheVariants.{Publish, Withdraw, Find, Abandon, Cast}
 use Rattle.tap_log.specs.declared.record.Record.{Record}
-use Rattle.tap_log.specs.declared.record.Record.TheVariants.{Closed, Reached, Spent, Step as StepRecord, Taken}
+use Rattle.tap_log.specs.declared.record.Record.TheVariants.{Closed, Reached, Sent, Spent, Step as StepRecord, Taken}
 use Rattle.tap_log.specs.Counts.{sent_count}
 use Rattle.tap_log.specs.Kinds.{sent_number}
 use Rattle.tap_log.proofs.Growing.{sent_count-append}
@@ -17,6 +17,7 @@ use Rattle.tap_course.specs.Acts.{if_so, news_after, news_before}
 use Rattle.tap_course.specs.Course.{MayFollow, system_of}
 use Rattle.tap_course.specs.Starts.{announced}
 use Rattle.tap_ledger.specs.Added.{CanAdd, most_frames}
+use Rattle.tap_ledger.proofs.Adding.{can_rest}
 use Rattle.tap_log.specs.Log.{last_of}
 use Rattle.tap_engine.specs.Kept.{AreReady, room_kept, room_of_record}
 use Rattle.tap_engine.specs.Outcome.{adds, adds_within, is_within, spends}
@@ -58,6 +59,26 @@ bytes_sent : (number : ℕ) (frames : List (List ℕ)) → sent_count (bytes_rec
 unfolding sent_number
 bytes_sent number [] = refl
 bytes_sent number (bytes ∷ frames) = let rest = bytes_sent (number + 1) frames in omega (arith, rest)
+
+-- one more frame
+pub sent_on : (log : List Record) (number : ℕ) (bytes : List ℕ) → sent_count (log ++ Sent number bytes ∷ []) ≡ sent_count log + 1
+unfolding sent_number
+sent_on log number bytes = sent_count-append log (Sent number bytes ∷ [])
+
+-- the news before the frames of a turn send none
+pub sent_as_before : (log : List Record) (name : List ℕ) (news : News) → sent_count (log ++ seen_before name news) ≡ sent_count log
+sent_as_before log name news =
+    let all = sent_count-append log (seen_before name news) in
+    let none = before_sent name news in
+    omega (arith, all, none)
+
+-- of a turn without news there are the frames alone
+pub frames_alone : (number : ℕ) (name : List ℕ) (turn : Turn) → turn.news ≡ seen_news.Nothing
+    → turn_records number name turn ≡ bytes_records number turn.sent
+unfolding news_before news_after
+frames_alone number name turn nothing =
+    ap (λ news. seen_before name news ++ (bytes_records number turn.sent ++ seen_after news)) nothing
+    ∙ append-nil (bytes_records number turn.sent)
 
 turn_sent : (number : ℕ) (name : List ℕ) (turn : Turn) → sent_count (turn_records number name turn) ≡ length turn.sent
 turn_sent number name turn =
@@ -126,6 +147,44 @@ can_add_turn m n first acted ready settings frames log none may =
       counts = counts_turn first (sent_count n.ledger.records) acted.name acted.turn none;
       few = let fits = few_frames m ready in omega (arith, frames, fits);
     }
+
+-- the whole group may be added, unless too many frames would then have been sent
+pub group_may_be_added : (m : Engine) (first : List Record) (acted : Acted) → CanAddTurn m first acted
+    → sent_count m.ledger.records ≤ m.frames → nat_lt (m.frames - sent_count m.ledger.records) (length acted.turn.sent) ≡ false
+    → CanAdd m.ledger.records (first ++ turn_records (sent_count m.ledger.records) acted.name acted.turn)
+group_may_be_added m first acted can few under =
+    let less = ltb-false (m.frames - sent_count m.ledger.records) (length acted.turn.sent) under in
+    can.group (omega (arith, few, less))
+
+-- what stands before the records of a turn sends no frame
+pub sent_before_turn : (m : Engine) (first : List Record) (acted : Acted) → CanAddTurn m first acted
+    → sent_count (m.ledger.records ++ first) ≡ sent_count m.ledger.records
+sent_before_turn m first acted can =
+    let turn = turn_records (sent_count m.ledger.records) acted.name acted.turn in
+    let all = sent_count-append first turn in
+    let of_turn = turn_sent (sent_count m.ledger.records) acted.name acted.turn in
+    let counts = can.counts in
+    let both = sent_count-append m.ledger.records first in
+    omega (arith, all, of_turn, counts, both)
+
+-- after what stands before them, the records of the turn may be added
+pub turn_may_be_added : (m : Engine) (first : List Record) (acted : Acted) → CanAddTurn m first acted
+    → sent_count m.ledger.records ≤ m.frames → nat_lt (m.frames - sent_count m.ledger.records) (length acted.turn.sent) ≡ false
+    → CanAdd (m.ledger.records ++ first) (turn_records (sent_count (m.ledger.records ++ first)) acted.name acted.turn)
+turn_may_be_added m first acted can few under =
+    let log = m.ledger.records in
+    subst (λ n. CanAdd (log ++ first) (turn_records n acted.name acted.turn)) (sym (sent_before_turn m first acted can))
+    (can_rest log first (turn_records (sent_count log) acted.name acted.turn) (group_may_be_added m first acted can few under))
+
+-- and then the log has the whole group
+pub turn_added : (m : Engine) (first : List Record) (acted : Acted) → CanAddTurn m first acted → (with_first after : List Record)
+    → with_first ≡ m.ledger.records ++ first → after ≡ with_first ++ turn_records (sent_count with_first) acted.name acted.turn
+    → after ≡ m.ledger.records ++ (first ++ turn_records (sent_count m.ledger.records) acted.name acted.turn)
+turn_added m first acted can with_first after begun turned =
+    let log = m.ledger.records in
+    turned ∙ ap (λ l. l ++ turn_records (sent_count l) acted.name acted.turn) begun
+    ∙ ap (λ n. (log ++ first) ++ turn_records n acted.name acted.turn) (sent_before_turn m first acted can)
+    ∙ append_assoc log first (turn_records (sent_count log) acted.name acted.turn)
 
 -- ---- what is then logged
 

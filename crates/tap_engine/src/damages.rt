@@ -5,13 +5,13 @@ ghost use Rattle.tap_course.specs.Damage.{damage_record, fault_in, garbled};
 ghost use Rattle.tap_engine.specs.Kinds.{damages};
 ghost use Rattle.tap_engine.specs.Working.{CopiesAt};
 
-use crate::engine::{Engine, group_of};
+use crate::engine::Engine;
 use crate::stop::{NoMemory, Stop};
 use tap_log::Record;
 use tap_name::Name;
 use tap_node::NodeFault;
 use tap_overlay::OverlayFault;
-use tap_records::{Damage, add_some, damaged};
+use tap_records::{Damage, damaged};
 use tap_scenario::Step;
 use tap_wire::{WireFault, decode, decode_head};
 
@@ -41,9 +41,8 @@ impl Engine {
             self.add_step(index, step);
             return Err(Stop::Refused(refusal));
         }
-        let mut group = group_of(self.alloc, index, step)?;
-        add_some(&mut group, self.garbled(step)?)?;
-        self.add_group(group)?;
+        let item = self.garbled(step)?;
+        self.add_step_with(index, step, item)?;
         Ok(())
     }
 

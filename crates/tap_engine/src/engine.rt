@@ -1,8 +1,10 @@
 ghost use Rattle.std.specs.Prelude.{◌≡◌, ◌≤◌, ◌+◌, ◌-◌, ◌⊎◌, nat_lt, [], ◌∷◌, ◌++◌, length, IfOk, IsOk, OnOk, OnErr, Err};
 ghost use Rattle.tap_log.specs.Counts.{sent_count};
+ghost use Rattle.tap_log.specs.Laws.{at_most_one};
 ghost use Rattle.tap_history.specs.Refusals.{first_refusal};
 ghost use Rattle.tap_engine.specs.Working.{IsActed};
 
+use crate::pushes::push_some;
 use crate::stop::{NoMemory, Stop};
 use std::alloc::Global;
 use tap_ledger::Ledger;
@@ -11,6 +13,9 @@ use tap_name::{Name, Settings};
 use tap_node::{NodeFault, Turn};
 use tap_overlay::{Overlay, OverlayFault};
 use tap_scenario::Step;
+
+// The room for a step and one record after it, with room for a refusal and the last record after these.
+const ROOM_FOR_STEP: usize = 4;
 
 /// What a world works on. Between its calls the nodes are those that the log has come to; in the midst of one they are ahead of it.
 ///
@@ -125,15 +130,23 @@ impl Engine {
         Err(Stop::Spent)
     }
 
-    // Adds a whole group, and keeps room for a refusal and the last record. A refused call changes nothing.
-    pub(crate) fn add_group(&mut self, group: Vec<Record>) -> Result<(), NoMemory>
-        requires { CanAdd self.old.ledger.records group.items }
-        ensures ok { OnOk result (self.new.ledger.records ≡ self.old.ledger.records ++ group.items) }
+    // Adds a step, with the record that follows it if one does, and keeps room for a refusal and the last record. A refused call changes
+    // nothing.
+    pub(crate) fn add_step_with(
+        &mut self,
+        index: u32,
+        step: &Step,
+        item: Option<Record>,
+    ) -> Result<(), NoMemory>
+        requires { CanAdd self.old.ledger.records (Record.Step index step.now ∷ at_most_one item) }
+        ensures ok { OnOk result (self.new.ledger.records ≡ self.old.ledger.records ++ Record.Step index step.now ∷ at_most_one item) }
         ensures room { OnOk result (2 ≤ self.new.ledger.spare) }
         ensures same { self.new ≡ record self.old { ledger = self.new.ledger } }
         ensures err { OnErr result (self.new ≡ self.old) }
     {
-        self.ledger.add_group(group, 2)?;
+        self.ledger.reserve(ROOM_FOR_STEP)?;
+        self.add_step(index, step);
+        push_some(&mut self.ledger, item);
         Ok(())
     }
 }
@@ -147,13 +160,4 @@ pub(crate) fn acted_by(name: Name, answer: Result<Turn, OverlayFault>) -> Result
         Ok(turn) => Ok(Acted { name, turn }),
         Err(_) => Err(NoMemory),
     }
-}
-
-// The group of a step, with the step alone.
-pub(crate) fn group_of(alloc: Global, index: u32, step: &Step) -> Result<Vec<Record>, NoMemory>
-    ensures { IfOk result (λ group. group.items ≡ Record.Step index step.now ∷ []) }
-{
-    let mut group = Vec::new(alloc);
-    group.push(Record::Step { index, step: *step })?;
-    Ok(group)
 }

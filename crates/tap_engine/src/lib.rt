@@ -8,6 +8,7 @@ mod damages;
 mod engine;
 mod law;
 mod observes;
+mod pushes;
 mod starts;
 mod stop;
 mod takes;

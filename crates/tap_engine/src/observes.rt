@@ -10,11 +10,11 @@ ghost use Rattle.tap_course.specs.Course.{system_of};
 ghost use Rattle.tap_course.specs.Observed.{observed};
 ghost use Rattle.tap_engine.specs.Kinds.{observes};
 
-use crate::engine::{Engine, group_of};
+use crate::engine::Engine;
 use crate::stop::{NoMemory, Stop};
 use tap_log::Record;
 use tap_name::{List, Name};
-use tap_records::{add_some, pointers_record, table_record};
+use tap_records::{pointers_record, table_record};
 use tap_scenario::Step;
 use tap_surrogate::{root_of, walk_path};
 
@@ -45,9 +45,8 @@ impl Engine {
             self.add_step(index, step);
             return Err(Stop::Refused(refusal));
         }
-        let mut group = group_of(self.alloc, index, step)?;
-        add_some(&mut group, self.observed(step)?)?;
-        self.add_group(group)?;
+        let item = self.observed(step)?;
+        self.add_step_with(index, step, item)?;
         Ok(())
     }
 

@@ -13,16 +13,20 @@ ghost use Rattle.tap_course.specs.Group.{start_at};
 ghost use Rattle.tap_records.specs.Seen.{turn_records};
 ghost use Rattle.tap_engine.specs.Working.{CanBegin, HasBegunOf, IsNamed, nothing_by, suits};
 
-use crate::engine::{Acted, Engine, acted_by, group_of};
+use crate::engine::{Acted, Engine, acted_by};
+use crate::pushes::{push_some, push_turn};
 use crate::stop::{NoMemory, Stop};
 use tap_log::Record;
 use tap_name::Name;
 use tap_node::{News, NodeStatus, Turn};
 use tap_overlay::Start;
-use tap_records::{add_some, add_turn};
 use tap_scenario::{Prefix, Step, Word};
 use tap_turn::FrameList;
 use tap_wire::Bytes;
+
+// The room for a group beside that for its frames, with room for a refusal and the last record after it: the record of the step, one of what
+// it announces, and one of news before and one after the frames.
+const ROOM_BESIDE_FRAMES: usize = 6;
 
 // The starts.
 impl Engine {
@@ -54,36 +58,37 @@ impl Engine {
             self.add_step(index, step);
             return Err(Stop::Refused(refusal));
         }
-        let mut group = group_of(self.alloc, index, step)?;
-        add_some(&mut group, self.announced(step)?)?;
+        let item = self.announced(step)?;
         let acted = self.begin(step)?;
-        self.add_started(index, step, group, acted)
+        self.add_started(index, step, item, acted)
     }
 
-    // Adds the group of an accepted start, of which this is what stands before the records of its node.
+    // Adds the group of an accepted start: the step, what it announces if it does, and the records of its node.
     fn add_started(
         &mut self,
         index: u32,
         step: &Step,
-        group: Vec<Record>,
+        item: Option<Record>,
         acted: Acted,
     ) -> Result<(), Stop>
         requires room { 3 ≤ self.old.ledger.spare }
         requires sent { sent_count self.old.ledger.records ≤ self.old.frames }
         requires step { CanAdd self.old.ledger.records (Record.Step index step.now ∷ []) }
         requires spent { CanAdd (self.old.ledger.records ++ Record.Step index step.now ∷ []) (Record.Spent self.old.frames ∷ []) }
-        requires can_add { CanAddTurn self.old group.items acted }
+        requires can_add { CanAddTurn self.old (Record.Step index step.now ∷ at_most_one item) acted }
         ensures { let w = world_value self.old None false in
-            let all = group.items ++ turn_records (sent_count self.old.ledger.records) acted.name acted.turn in
+            let all = (Record.Step index step.now ∷ at_most_one item) ++ turn_records (sent_count self.old.ledger.records) acted.name acted.turn in
             LogsAs (adds_within w (Record.Step index step.now ∷ []) all) self.old result self.new }
     {
         if self.is_too_many(&acted.turn) {
             self.add_step(index, step);
             return self.spend();
         }
-        let mut group = group;
-        add_turn(&mut group, self.ledger.sent(), acted.name, acted.turn)?;
-        self.add_group(group)?;
+        let Acted { name, turn } = acted;
+        self.ledger.reserve(turn.sent.len() + ROOM_BESIDE_FRAMES)?;
+        self.add_step(index, step);
+        push_some(&mut self.ledger, item);
+        push_turn(&mut self.ledger, &name, turn);
         Ok(())
     }
 

@@ -1,20 +1,25 @@
-ghost use Rattle.std.specs.Prelude.{◌≡◌, ◌<◌, ◌≤◌, ◌∷◌, [], false, length, slice_get, None, IfOk};
+ghost use Rattle.std.specs.Prelude.{◌<◌, ◌≤◌, ◌∷◌, [], false, slice_get, None};
 ghost use Rattle.tap_log.specs.Counts.{sent_count};
 ghost use Rattle.tap_history.specs.Moments.{outstanding};
 ghost use Rattle.tap_records.specs.Seen.{turn_records};
 
-use crate::engine::{Acted, Engine, acted_by};
-use crate::stop::{NoMemory, Stop};
-use std::alloc::Global;
+use crate::engine::Engine;
+use crate::pushes::push_turn;
+use crate::stop::Stop;
 use tap_log::{Record, Refusal};
-use tap_records::add_turn;
+use tap_name::Name;
+use tap_node::Turn;
 use tap_wire::decode_head;
+
+// The room for a group beside that for its frames, with room for a refusal and the last record after it: the record of the frame that is
+// taken, and one of news before and one after the frames.
+const ROOM_BESIDE_FRAMES: usize = 5;
 
 // The frames that are taken.
 impl Engine {
     ghost use Rattle.tap_engine.specs.Kept.{AreReady, LeadsTo, world_value};
     ghost use Rattle.tap_engine.specs.Outcome.{adds_within, takes_number};
-    ghost use Rattle.tap_engine.specs.Working.{CanAddTurn, HasTakenAt, LogsAs, StillHas};
+    ghost use Rattle.tap_engine.specs.Working.{CanAddTurn, LogsAs};
 
     /// The outstanding frame at a place, from 0, in the order in which they were sent, is taken by its receiver: its group is added.
     ///
@@ -31,55 +36,35 @@ impl Engine {
         ensures { LeadsTo (takes_number (world_value self.old None false) (slice_get (outstanding self.old.ledger.records) place))
             self.old result self.new }
     {
-        let Some(number) = self.ledger.number_at(place) else {
+        let Some(flight) = self.ledger.flight_at(place) else {
             return Err(Stop::Refused(Refusal::NoSuchFlight(self.ledger.outstanding())));
         };
-        let acted = self.take(place)?;
-        self.add_taken(number, acted)
-    }
-
-    // The frame at a place is taken by its receiver: that is there, the frame is read and isn't strange to it, and there is room for a
-    // step, so want of memory is the one refusal.
-    fn take(&mut self, place: u32) -> Result<Acted, NoMemory>
-        requires ready { AreReady self.old }
-        requires there { place < length (outstanding self.old.ledger.records) }
-        ensures taken { IfOk result (HasTakenAt self.old self.new place) }
-        ensures same { self.new ≡ record self.old { overlay = self.new.overlay } }
-        ensures still { StillHas self.old.overlay self.new.overlay }
-    {
-        let Some(bytes) = self.ledger.bytes_at(place) else {
+        let number = flight.number;
+        let Ok(head) = decode_head(&self.settings, flight.bytes) else {
             unreachable!()
         };
-        let Ok(head) = decode_head(&self.settings, bytes) else {
-            unreachable!()
-        };
-        acted_by(head.to, self.overlay.take(&head.to, bytes))
+        match self.overlay.take(&head.to, flight.bytes) {
+            Ok(turn) => self.add_taken(number, &head.to, turn),
+            Err(_) => Err(Stop::NoMemory),
+        }
     }
 
     // Adds the group of a frame that its receiver has taken.
-    fn add_taken(&mut self, number: u32, acted: Acted) -> Result<(), Stop>
+    #[inline(never)]
+    fn add_taken(&mut self, number: u32, name: &Name, turn: Turn) -> Result<(), Stop>
         requires room { 1 ≤ self.old.ledger.spare }
         requires sent { sent_count self.old.ledger.records ≤ self.old.frames }
-        requires can_add { CanAddTurn self.old (Record.Taken number ∷ []) acted }
+        requires can_add { CanAddTurn self.old (Record.Taken number ∷ []) (record { name = name.now; turn = turn }) }
         ensures { let w = world_value self.old None false in
-            let group = Record.Taken number ∷ turn_records (sent_count self.old.ledger.records) acted.name acted.turn in
+            let group = Record.Taken number ∷ turn_records (sent_count self.old.ledger.records) name.now turn in
             LogsAs (adds_within w [] group) self.old result self.new }
     {
-        if self.is_too_many(&acted.turn) {
+        if self.is_too_many(&turn) {
             return self.spend();
         }
-        let mut group = taken_alone(self.alloc, number)?;
-        add_turn(&mut group, self.ledger.sent(), acted.name, acted.turn)?;
-        self.add_group(group)?;
+        self.ledger.reserve(turn.sent.len() + ROOM_BESIDE_FRAMES)?;
+        self.ledger.push_reserved(Record::Taken { number });
+        push_turn(&mut self.ledger, name, turn);
         Ok(())
     }
-}
-
-// The group of a frame that is taken, with its first record alone.
-fn taken_alone(alloc: Global, number: u32) -> Result<Vec<Record>, NoMemory>
-    ensures { IfOk result (λ group. group.items ≡ Record.Taken number ∷ []) }
-{
-    let mut group = Vec::new(alloc);
-    group.push(Record::Taken { number })?;
-    Ok(group)
 }

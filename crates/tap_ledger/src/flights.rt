@@ -21,6 +21,7 @@ pub struct OutstandingFrame<'a> {
 }
 
 // Sends the frame that one more record sends, and takes the one that it takes. The record is to stand at this place.
+#[inline(always)]
 #[tactic(auto, unfolding(crate::specs::Flights::followed, tap_log::specs::Kinds::sent_number))]
 pub(crate) fn follow(frames: &mut Outstanding, item: &Record, record_place: usize)
     requires few { frames.old.sent + length (at_most_one (sent_number item.now)) ≤ most_sent }

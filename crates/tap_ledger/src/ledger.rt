@@ -109,6 +109,7 @@ impl Ledger {
     /// Makes room for so many more records, of any kind, so that adding them takes no memory. A refused call changes nothing.
     ///
     /// Rule: docs/DECISIONS.md, "The logs of a run".
+    #[inline]
     pub fn reserve(&mut self, more: usize) -> Result<(), NoMemory>
         ensures records { self.new.records ≡ self.old.records }
         ensures ok { OnOk result (self.new.spare ≡ max self.old.spare more) }
@@ -131,6 +132,7 @@ impl Ledger {
     /// Adds a record for which there is room. It takes no memory.
     ///
     /// Rule: docs/DECISIONS.md, "The logs of a run".
+    #[inline(always)]
     pub fn push_reserved(&mut self, item: Record)
         requires room { 1 ≤ self.old.spare }
         requires can_add { CanAdd self.old.records (item ∷ []) }
@@ -145,6 +147,7 @@ impl Ledger {
     }
 
     // Whether the record is quiet after the last one.
+    #[inline(always)]
     fn is_quiet(&self, item: &Record) -> bool
         ensures { result ≡ is_quiet (last_of self.now.records) item.now }
     {
@@ -158,6 +161,7 @@ impl Ledger {
     }
 
     // Adds a record that is quiet after the last one.
+    #[inline(always)]
     fn push_quiet(&mut self, item: Record)
         requires room { 1 ≤ self.old.spare }
         requires can_add { CanAdd self.old.records (item ∷ []) }
@@ -192,35 +196,6 @@ impl Ledger {
         self.log.push_reserved(item);
         self.room -= 1;
         self.made -= 1;
-    }
-
-    /// Adds a group of records, and leaves room for so many more. A refused call changes nothing.
-    ///
-    /// Rule: docs/DECISIONS.md, "The logs of a run".
-    pub fn add_group(&mut self, group: Vec<Record>, room: usize) -> Result<(), NoMemory>
-        requires { CanAdd self.old.records group.items }
-        ensures records { OnOk result (self.new.records ≡ self.old.records ++ group.items) }
-        ensures spare { OnOk result (room ≤ self.new.spare) }
-        ensures err { OnErr result (self.new ≡ self.old) }
-    {
-        let Some(all) = group.len().checked_add(room) else {
-            return Err(NoMemory);
-        };
-        self.reserve(all)?;
-        self.push_all(group);
-        Ok(())
-    }
-
-    // Adds these records, for which there is room.
-    fn push_all(&mut self, group: Vec<Record>)
-        requires room { length group.items ≤ self.old.spare }
-        requires can_add { CanAdd self.old.records group.items }
-        ensures records { self.new.records ≡ self.old.records ++ group.items }
-        ensures spare { self.new.spare + length group.items ≡ self.old.spare }
-    {
-        for item in group {
-            self.push_reserved(item);
-        }
     }
 
     // The step of the last record, if this next one accepts it.
@@ -360,6 +335,7 @@ impl Ledger {
     /// How many frames were sent, which is the number of the next one.
     ///
     /// Rule: docs/FORMATS.md, "Groups and moments".
+    #[inline(always)]
     pub fn sent(&self) -> u32
         ensures { result ≡ sent_count self.now.records }
     {

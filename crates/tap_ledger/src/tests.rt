@@ -94,19 +94,6 @@ fn add(rt: &impl Abort, ledger: &mut Ledger, item: Record) -> Result<(), Fail> {
     Ok(())
 }
 
-// Adds a record, which may be added, as a group, and leaves room for two more.
-fn add_alone(
-    alloc: Global,
-    rt: &impl Abort,
-    ledger: &mut Ledger,
-    item: Record,
-) -> Result<(), Fail> {
-    assert!(rt; can_add(ledger, &item));
-    let mut group = Vec::new(alloc);
-    group.push(item)?;
-    Ok(ledger.add_group(group, 2)?)
-}
-
 // Adds the record of a step.
 fn add_step(rt: &impl Abort, ledger: &mut Ledger, text: &str) -> Result<(), Fail> {
     let step = step_of(&ledger.settings(), text)?;
@@ -206,12 +193,12 @@ fn a_joined_node_is_core_and_a_leaver_departs(rt: HostRuntime) -> Result<(), Fai
     join_and_leave(rt.alloc(), &rt, &mut ledger)
 }
 
-// A pair is published, in a group of its own.
-fn publish(alloc: Global, rt: &impl Abort, ledger: &mut Ledger) -> Result<(), Fail> {
+// A pair is published.
+fn publish(rt: &impl Abort, ledger: &mut Ledger) -> Result<(), Fail> {
     let object = name_of(&ledger.settings(), "11")?;
     let server = name_of(&ledger.settings(), "01")?;
     add_step(rt, ledger, "publish 11 at 01")?;
-    add_alone(alloc, rt, ledger, Record::Published { object, server })?;
+    add(rt, ledger, Record::Published { object, server })?;
     assert!(rt; ledger.is_published(&Pair { object, server }));
     assert_eq!(rt; ledger.log().len(), 3);
     assert_eq!(rt; ledger.tickets(), 0);
@@ -220,7 +207,7 @@ fn publish(alloc: Global, rt: &impl Abort, ledger: &mut Ledger) -> Result<(), Fa
 }
 
 #[test]
-fn a_published_pair_and_its_group_are_kept(rt: HostRuntime) -> Result<(), Fail> {
+fn a_published_pair_is_kept(rt: HostRuntime) -> Result<(), Fail> {
     let mut ledger = begun(rt.alloc())?;
-    publish(rt.alloc(), &rt, &mut ledger)
+    publish(&rt, &mut ledger)
 }

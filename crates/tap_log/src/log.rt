@@ -127,12 +127,13 @@ impl Log {
     /// Adds a record for which there is room. It takes no memory.
     ///
     /// Rule: docs/DECISIONS.md, "The logs of a run".
+    #[inline(always)]
     pub fn push_reserved(&mut self, item: Record)
         requires { 1 ≤ self.old.spare }
         ensures records { self.new.records ≡ self.old.records ++ item ∷ [] }
         ensures spare { self.new.spare + 1 ≡ self.old.spare }
     {
         self.spare -= 1;
-        self.items.push(item).unwrap();
+        self.items.push_reserved(item);
     }
 }

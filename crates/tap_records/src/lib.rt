@@ -14,4 +14,4 @@ pub use damage::{Damage, damaged};
 pub use law::turn_law;
 pub use observed::{pointers_record, table_record};
 pub use tap_log::NoMemory;
-pub use turns::{add_some, add_turn};
+pub use turns::{record_after, record_before};

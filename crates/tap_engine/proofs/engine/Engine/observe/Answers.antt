@@ -1,4 +1,4 @@
-use Rattle.std.proofs.Common.{◌≡◌, inl, false, None, [], ◌∷◌, ◌++◌, ap, sym, subst, ◌∙◌, arith}
+use Rattle.std.proofs.Common.{refl, ◌≡◌, inl, false, None, [], ◌∷◌, ◌++◌, ap, sym, subst, ◌∙◌, arith}
 use Rattle.std.proofs.lemmas.Result.{err_from_is_err_and}
 use Rattle.tap_scenario.specs.Step.{IsStep}
 use Rattle.tap_log.specs.declared.record.Record.TheVariants.{Step as StepRecord}
@@ -32,13 +32,6 @@ returns-in-Some-clause-leads c =
     (sym c.in_ok-refusal.ensures.refusal ∙ c.in-Some.is)
     (c.add_step.ensures.log ∙ ap (λ l. l ++ StepRecord c.args.index c.args.step.now ∷ []) c.refusal_of.ensures.log)
 
-pub returns-in_err-group-clause-leads : goal.returns-in_err-group-clause-leads
-returns-in_err-group-clause-leads c =
-    let made = err_from_is_err_and c.from_residual-in_err-group.result c.from_residual-in_err-group.ensures.1 in
-    rw (made.1, made.2)
-    (short_leads c.args.self.now c.requires.ready c.args.index c.args.step.now c.refusal_of.new.self c.refusal_of.ensures.same
-    c.refusal_of.ensures.log)
-
 pub observed-requires-clause-ready : goal.observed-requires-clause-ready
 observed-requires-clause-ready c =
     reserved_ready c.args.self.now c.refusal_of.new.self c.requires.ready c.refusal_of.ensures.same c.refusal_of.ensures.log
@@ -52,52 +45,45 @@ pub observed-requires-clause-names : goal.observed-requires-clause-names
 observed-requires-clause-names c =
     subst (λ p. IsStep p false c.args.step.now) (sym (ap (λ (q : Engine). q.settings) c.refusal_of.ensures.same)) c.requires.names
 
-pub returns-in_err-observed-clause-leads : goal.returns-in_err-observed-clause-leads
-returns-in_err-observed-clause-leads c =
-    let made = err_from_is_err_and c.from_residual-in_err-observed.result c.from_residual-in_err-observed.ensures.1 in
+pub returns-in_err-item-clause-leads : goal.returns-in_err-item-clause-leads
+returns-in_err-item-clause-leads c =
+    let made = err_from_is_err_and c.from_residual-in_err-item.result c.from_residual-in_err-item.ensures.1 in
     rw (made.1, made.2)
     (short_leads c.args.self.now c.requires.ready c.args.index c.args.step.now c.refusal_of.new.self c.refusal_of.ensures.same
     c.refusal_of.ensures.log)
 
-pub returns-in_err-add_some-clause-leads : goal.returns-in_err-add_some-clause-leads
-returns-in_err-add_some-clause-leads c =
-    let made = err_from_is_err_and c.from_residual-in_err-add_some.result c.from_residual-in_err-add_some.ensures.1 in
-    rw (made.1, made.2)
-    (short_leads c.args.self.now c.requires.ready c.args.index c.args.step.now c.refusal_of.new.self c.refusal_of.ensures.same
-    c.refusal_of.ensures.log)
-
-pub add_group-requires : goal.add_group-requires
-add_group-requires c =
+pub add_step_with-requires : goal.add_step_with-requires
+add_step_with-requires c =
     let m = c.args.self.now in
     let n = c.refusal_of.new.self in
     let step = c.args.step.now in
-    quiet_fits m c.requires.ready c.args.index step c.refusal_of.new.self c.add_some.new.group.items c.refusal_of.ensures.log
+    quiet_fits m c.requires.ready c.args.index step c.refusal_of.new.self (StepRecord c.args.index step ∷ at_most_one c.in_ok-item.item) c.refusal_of.ensures.log
     (inl c.requires.kind)
-    (seen_group m n c.args.index step c.in_ok-observed.field-0 c.add_some.new.group.items c.refusal_of.ensures.same c.refusal_of.ensures.log
-    c.requires.kind (sym c.in_ok-refusal.ensures.refusal ∙ c.in_default.is) c.in_ok-observed.ensures
-    (c.in_ok-add_some.ensures ∙ ap (λ g. g ++ at_most_one c.in_ok-observed.field-0) c.in_ok-group.ensures))
+    (seen_group m n c.args.index step c.in_ok-item.item (StepRecord c.args.index step ∷ at_most_one c.in_ok-item.item) c.refusal_of.ensures.same c.refusal_of.ensures.log
+    c.requires.kind (sym c.in_ok-refusal.ensures.refusal ∙ c.in_default.is) c.in_ok-item.ensures
+    refl)
 
-pub returns-in_err-add_group-clause-leads : goal.returns-in_err-add_group-clause-leads
-returns-in_err-add_group-clause-leads c =
+pub returns-in_err-add_step_with-clause-leads : goal.returns-in_err-add_step_with-clause-leads
+returns-in_err-add_step_with-clause-leads c =
     let m = c.args.self.now in
-    let made = err_from_is_err_and c.from_residual-in_err-add_group.result c.from_residual-in_err-add_group.ensures.1 in
+    let made = err_from_is_err_and c.from_residual-in_err-add_step_with.result c.from_residual-in_err-add_step_with.ensures.1 in
     rw (made.1, made.2)
-    (short_leads m c.requires.ready c.args.index c.args.step.now c.add_group.new.self
-    (log_alone m c.refusal_of.new.self c.add_group.new.self (c.refusal_of.ensures.same) c.add_group.ensures.same)
-    (ap (λ (q : Engine). q.ledger.records) c.in_err-add_group.ensures.err ∙ c.refusal_of.ensures.log))
+    (short_leads m c.requires.ready c.args.index c.args.step.now c.add_step_with.new.self
+    (log_alone m c.refusal_of.new.self c.add_step_with.new.self (c.refusal_of.ensures.same) c.add_step_with.ensures.same)
+    (ap (λ (q : Engine). q.ledger.records) c.in_err-add_step_with.ensures.err ∙ c.refusal_of.ensures.log))
 
 pub returns-clause-leads : goal.returns-clause-leads
 returns-clause-leads c =
     let m = c.args.self.now in
     let n = c.refusal_of.new.self in
-    let after = c.add_group.new.self in
+    let after = c.add_step_with.new.self in
     let step = c.args.step.now in
     let accepted : first_refusal m.ledger.records step ≡ None = sym c.in_ok-refusal.ensures.refusal ∙ c.in_default.is in
     quiet_whole m c.requires.ready c.args.index step c.requires.next (inl c.requires.kind)
     (step_has_names m.settings c.args.step.now c.requires.names) after
-    (log_alone m c.refusal_of.new.self after (c.refusal_of.ensures.same) c.in_ok-add_group.ensures.same) c.in_ok-add_group.ensures.room
-    c.add_some.new.group.items accepted
-    (seen_group m n c.args.index step c.in_ok-observed.field-0 c.add_some.new.group.items c.refusal_of.ensures.same c.refusal_of.ensures.log
-    c.requires.kind accepted c.in_ok-observed.ensures
-    (c.in_ok-add_some.ensures ∙ ap (λ g. g ++ at_most_one c.in_ok-observed.field-0) c.in_ok-group.ensures))
-    (c.in_ok-add_group.ensures.ok ∙ ap (λ l. l ++ c.add_some.new.group.items) (c.refusal_of.ensures.log))
+    (log_alone m c.refusal_of.new.self after (c.refusal_of.ensures.same) c.in_ok-add_step_with.ensures.same) c.in_ok-add_step_with.ensures.room
+    (StepRecord c.args.index step ∷ at_most_one c.in_ok-item.item) accepted
+    (seen_group m n c.args.index step c.in_ok-item.item (StepRecord c.args.index step ∷ at_most_one c.in_ok-item.item) c.refusal_of.ensures.same c.refusal_of.ensures.log
+    c.requires.kind accepted c.in_ok-item.ensures
+    refl)
+    (c.in_ok-add_step_with.ensures.ok ∙ ap (λ l. l ++ (StepRecord c.args.index step ∷ at_most_one c.in_ok-item.item)) (c.refusal_of.ensures.log))

@@ -54,28 +54,14 @@ returns-in-Some c =
     (ap (λ (q : Engine). q.overlay) same ∙ ap (λ (q : Engine). q.overlay) was)
     (omega (arith, c.add_step.ensures.spare, c.in_ok-refusal.ensures.room)) c.requires.next is (no_choice step (inl c.requires.kind)) (step_has_names m.settings step c.requires.names))
 
-pub returns-in_err-group : goal.returns-in_err-group
-returns-in_err-group c =
-    let made = err_from_is_err_and c.from_residual-in_err-group.result c.from_residual-in_err-group.ensures.1 in
-    rw (made.1, made.2)
-    (short_leads c.args.self.now c.requires.ready c.args.index c.args.step.now c.refusal_of.new.self c.refusal_of.ensures.same
-    c.refusal_of.ensures.log)
-
 pub announced-requires-clause-ready : goal.announced-requires-clause-ready
 announced-requires-clause-ready c =
     reserved_ready c.args.self.now c.refusal_of.new.self c.requires.ready c.refusal_of.ensures.same c.refusal_of.ensures.log
     c.in_ok-refusal.ensures.room
 
-pub returns-in_err-announced : goal.returns-in_err-announced
-returns-in_err-announced c =
-    let made = err_from_is_err_and c.from_residual-in_err-announced.result c.from_residual-in_err-announced.ensures.1 in
-    rw (made.1, made.2)
-    (short_leads c.args.self.now c.requires.ready c.args.index c.args.step.now c.refusal_of.new.self c.refusal_of.ensures.same
-    c.refusal_of.ensures.log)
-
-pub returns-in_err-add_some : goal.returns-in_err-add_some
-returns-in_err-add_some c =
-    let made = err_from_is_err_and c.from_residual-in_err-add_some.result c.from_residual-in_err-add_some.ensures.1 in
+pub returns-in_err-item : goal.returns-in_err-item
+returns-in_err-item c =
+    let made = err_from_is_err_and c.from_residual-in_err-item.result c.from_residual-in_err-item.ensures.1 in
     rw (made.1, made.2)
     (short_leads c.args.self.now c.requires.ready c.args.index c.args.step.now c.refusal_of.new.self c.refusal_of.ensures.same
     c.refusal_of.ensures.log)
@@ -138,9 +124,8 @@ add_started-requires-clause-can_add c =
     subst (λ p. IsStep p false step) (sym (ap (λ (q : Engine). q.settings) c.refusal_of.ensures.same)) c.requires.names in
     let accepted : first_refusal n.ledger.records step ≡ None =
     ap (λ l. first_refusal l step) log ∙ sym c.in_ok-refusal.ensures.refusal ∙ c.in_default.is in
-    let first = c.add_some.new.group.items in
-    let first_is = c.in_ok-add_some.ensures ∙ ap (λ g. g ++ at_most_one c.in_ok-announced.field-0) c.in_ok-group.ensures
-    ∙ ap (λ l. StepRecord c.args.index step ∷ l) c.in_ok-announced.ensures in
+    let first : List Record = StepRecord c.args.index step ∷ at_most_one c.in_ok-item.item in
+    let first_is = ap (λ l. StepRecord c.args.index step ∷ l) c.in_ok-item.ensures in
     let same = c.begin.ensures.same in
     can_add_turn n q first c.in_ok-acted.acted ready (ap (λ (x : Engine). x.settings) same) (ap (λ (x : Engine). x.frames) same)
     (ap (λ (x : Engine). x.ledger.records) same) (started_sent n.ledger.records c.args.index step first first_is)
@@ -160,9 +145,8 @@ returns c =
     subst (λ p. IsStep p false step) (sym (ap (λ (q : Engine). q.settings) c.refusal_of.ensures.same)) c.requires.names in
     let accepted : first_refusal n.ledger.records step ≡ None =
     ap (λ l. first_refusal l step) log ∙ sym c.in_ok-refusal.ensures.refusal ∙ c.in_default.is in
-    let first = c.add_some.new.group.items in
-    let first_is = c.in_ok-add_some.ensures ∙ ap (λ g. g ++ at_most_one c.in_ok-announced.field-0) c.in_ok-group.ensures
-    ∙ ap (λ l. StepRecord c.args.index step ∷ l) c.in_ok-announced.ensures in
+    let first : List Record = StepRecord c.args.index step ∷ at_most_one c.in_ok-item.item in
+    let first_is = ap (λ l. StepRecord c.args.index step ∷ l) c.in_ok-item.ensures in
     let of : SettingsValue → ℕ → List Record → Outcome = λ p f l. unless_refused (record {
       beginning = record { settings = p; frames = f; members = members_of l };
       log = l;

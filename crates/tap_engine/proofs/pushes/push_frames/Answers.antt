@@ -1,0 +1,42 @@
+use Rattle.std.proofs.Common.{◌≡◌, ℕ, ◌+◌, [], ◌∷◌, ◌++◌, List, length, ap, sym, subst, ◌∙◌, arith, append_assoc}
+use Rattle.std.specs.Vec.Iter.{into_iter_items}
+use Rattle.tap_log.specs.declared.record.Record.TheVariants.{Sent}
+use Rattle.tap_log.specs.Counts.{sent_count}
+use Rattle.tap_ledger.specs.Added.{CanAdd}
+use Rattle.tap_ledger.proofs.Adding.{can_first, can_rest}
+use Rattle.tap_records.specs.Seen.{bytes_records}
+use Rattle.tap_engine.proofs.Counting.{sent_on}
+use Rattle.tap_engine.proofs.pushes.push_frames.Goals as goal
+
+pub push_reserved-requires-clause-can_add : goal.push_reserved-requires-clause-can_add
+push_reserved-requires-clause-can_add c =
+    let log = c.loop-bytes.ledger.records in
+    let rest = into_iter_items c.next.new.self in
+    let Can : List (List ℕ) → Type 0 = λ l. CanAdd log (bytes_records (sent_count log) l) in
+    let can = subst Can c.in-Some.ensures.steps.0 c.loop-bytes.invariant.can_add in
+    subst (λ n. CanAdd log (Sent n c.in-Some.bytes ∷ [])) (sym c.sent-number.ensures)
+    (can_first log (Sent (sent_count log) c.in-Some.bytes ∷ []) (bytes_records (sent_count log + 1) rest) can)
+
+pub loop-bytes-preserved : goal.loop-bytes-preserved
+loop-bytes-preserved c =
+    let log = c.loop-bytes.ledger.records in
+    let bytes = c.in-Some.bytes in
+    let rest = into_iter_items c.next.new.self in
+    let number = sent_count log in
+    let was = c.loop-bytes.invariant in
+    let step = c.in-Some.ensures.steps.0 in
+    let more : c.push_reserved.new.self.records ≡ log ++ Sent number bytes ∷ [] =
+    c.push_reserved.ensures.records ∙ ap (λ n. log ++ Sent n bytes ∷ []) c.sent-number.ensures in
+    let on : sent_count c.push_reserved.new.self.records ≡ number + 1 = ap sent_count more ∙ sent_on log number bytes in
+    let Can : List (List ℕ) → Type 0 = λ l. CanAdd log (bytes_records number l) in
+    let can = can_rest log (Sent number bytes ∷ []) (bytes_records (number + 1) rest) (subst Can step was.can_add) in
+    record {
+      records = ap (λ n. c.push_reserved.new.self.records ++ bytes_records n rest) on
+          ∙ ap (λ l. l ++ bytes_records (number + 1) rest) more
+          ∙ append_assoc log (Sent number bytes ∷ []) (bytes_records (number + 1) rest)
+          ∙ ap (λ l. log ++ bytes_records number l) (sym step) ∙ was.records;
+      can_add = subst (λ n. CanAdd c.push_reserved.new.self.records (bytes_records n rest)) (sym on)
+          (subst (λ l. CanAdd l (bytes_records (number + 1) rest)) (sym more) can);
+      spare = omega (arith, ap length step, was.spare, c.push_reserved.ensures.spare);
+      room = omega (arith, ap length step, was.room, c.push_reserved.ensures.spare);
+    }
