@@ -1,7 +1,7 @@
 -- the order of names: their first digits that differ decide it
-use Rattle.std.proofs.Common.{◌≡◌, ◌↔◌, ◌⊎◌, inl, inr, ℕ, ◌<◌, true, false, suc, List, [], ◌∷◌, length, get_or, nat_eq, arith, ap, sym, refl, ◌∙◌}
+use Rattle.std.proofs.Common.{◌≡◌, ◌↔◌, ◌⊎◌, inl, inr, ℕ, ◌<◌, true, suc, List, [], ◌∷◌, length, get_or, nat_eq, arith, ap, sym, refl, ◌∙◌}
 use Rattle.std.specs.List.{common_prefix_len}
-use Rattle.std.specs.Cmp.Lexicographic.{pointwise, slice_cmp}
+use Rattle.std.specs.Cmp.Lexicographic.{slice_cmp}
 use Rattle.std.specs.Ordering.{is_eq, nat_cmp, ordering_reverse, ordering_then}
 use Rattle.std.specs.declared.cmp.Ordering.{Ordering}
 use Rattle.std.specs.declared.cmp.Ordering.TheVariants.{Less, Equal, Greater}
@@ -10,11 +10,8 @@ use Rattle.std.proofs.lemmas.Bool.Decides.{nat_tests}
 use Rattle.std.proofs.lemmas.Cmp.{nat_list_cmp_total, ranked, tied_itself}
 use Rattle.std.proofs.lemmas.Map.Text.{is_eq-slice_cmp}
 use Rattle.std.proofs.lemmas.Slice.Eq.{bytes_eq-Decides}
-use Rattle.tap_name.specs.declared.slot.Slot.{Slot}
 use Rattle.tap_name.specs.Order.{name_cmp, IsBelow}
 use Rattle.tap_name.specs.Prefix.{lcp}
-use Rattle.tap_name.specs.Slot.{Precedes, slot_cmp}
-use Rattle.tap_name.proofs.Prefix.{prefix_of_itself, whole_prefix}
 use Rattle.tap_name.proofs.Prefixes.{lcp-most, lcp-whole}
 
 same_digit : (x : ℕ) → nat_cmp x x ≡ Equal
@@ -98,49 +95,3 @@ below-cases a b = go (name_cmp a b) refl
     go Less is = inr (inl is)
     go Equal is = inl (name_cmp-equal a b (ap is_eq is))
     go Greater is = inr (inr (nat_list_cmp_total.antisymm b a ∙ ap ordering_reverse is))
-
--- slots compare by level, then digit
-pub slot_cmp-precedes : (a b : Slot) → (slot_cmp a b ≡ Less) ↔ Precedes a b
-slot_cmp-precedes a b =
-    let level = less_digit a.level b.level in
-    let digit = less_digit a.digit b.digit in
-    elim (cases_Bool (nat_eq a.level b.level)) [
-      | inl e ↦
-          let same : a.level ≡ b.level = eqb-true a.level b.level e in
-          let tie : nat_cmp a.level b.level ≡ Equal = ap (nat_cmp a.level) (sym same) ∙ same_digit a.level in
-          rw tie (λ less. record { level = omega arith; digit = λ _. digit.0 less }, λ before. digit.1 (before.digit same))
-      | inr e ↦
-          let apart = eqb-false a.level b.level e in
-          rw (other_digit a.level b.level (nat_cmp a.digit b.digit) apart) (
-            λ less. let below = level.0 less in record { level = omega arith; digit = λ same. absurd (apart same) },
-            λ before. level.1 (let up = before.level in omega (arith, apart)),
-          )
-    ]
-
--- names of one length that share all their digits compare as equal
-pub cmp-whole : (a b : List ℕ) → length a ≡ length b → common_prefix_len nat_eq a b ≡ length a → Equal ≡ slice_cmp nat_cmp a b
-cmp-whole a b len all =
-    let same : a ≡ b = whole_prefix a b len all in
-    sym (ap (λ (x : List ℕ). slice_cmp nat_cmp x b) same ∙ tied_itself nat_list_cmp_total b)
-
--- others are ordered by the first digits that they don't share
-pub cmp-parted : (a b : List ℕ) (shared : ℕ) → shared ≡ common_prefix_len nat_eq a b → shared < length a → shared < length b
-    → nat_cmp (get_or a shared 0) (get_or b shared 0) ≡ slice_cmp nat_cmp a b
-cmp-parted a b shared is in_a in_b =
-    ap (λ (k : ℕ). nat_cmp (get_or a k 0) (get_or b k 0)) is ∙ sym (raw_cmp a b (omega arith) (omega arith))
-
--- names of one length are equal if they share all their digits
-pub eq-whole : (a b : List ℕ) → length a ≡ length b → common_prefix_len nat_eq a b ≡ length a → true ≡ pointwise nat_eq a b
-eq-whole a b len all = sym ((bytes_eq-Decides a b).1 (whole_prefix a b len all))
-
--- and are not, if they don't
-pub eq-parted : (a b : List ℕ) (shared : ℕ) → shared ≡ common_prefix_len nat_eq a b → shared < length a → false ≡ pointwise nat_eq a b
-eq-parted a b shared is less =
-    elim (cases_Bool (pointwise nat_eq a b)) [
-      | inl e ↦
-          let same : a ≡ b = (bytes_eq-Decides a b).0 e in
-          let all : common_prefix_len nat_eq a b ≡ length a =
-          ap (λ (x : List ℕ). common_prefix_len nat_eq a x) (sym same) ∙ prefix_of_itself a in
-          absurd (omega arith)
-      | inr e ↦ sym e
-    ]

@@ -3,6 +3,7 @@ ghost use Rattle.std.proofs.Common.{rules};
 ghost use Rattle.std.proofs.lemmas.Slice.Eq.{bytes_eq-Decides};
 ghost use Rattle.std.specs.Cmp.{partial_equiv_from_equiv};
 ghost use Rattle.std.specs.Cmp.Lexicographic.{pointwise, slice_cmp, nat_list_eq_equiv, nat_list_cmp_total, texts_po, texts_ties};
+ghost use Rattle.std.specs.Int.{from_be_bytes, w64};
 ghost use Rattle.std.specs.Ordering.{nat_cmp};
 ghost use Rattle.std.specs.Hash.{same_Alike};
 ghost use Rattle.std.specs.List.{common_prefix_len};
@@ -106,6 +107,25 @@ impl Name {
         ensures is_digit { result < 16 }
     {
         self.places[at]
+    }
+
+    // The first digits, as many as names usually have, as one number in which the first digit is worth the most. Digits that
+    // the name doesn't have count as 0.
+    #[inline(always)]
+    fn head(&self) -> u64
+        ensures value { result ≡ from_be_bytes w64 self.now }
+        ensures digits { All (λ d. d < 16) self.now }
+    {
+        u64::from_be_bytes([
+            self.places[0],
+            self.places[1],
+            self.places[2],
+            self.places[3],
+            self.places[4],
+            self.places[5],
+            self.places[6],
+            self.places[7],
+        ])
     }
 
     /// The length of the longest common prefix of two names.
@@ -230,35 +250,25 @@ impl PartialEq for Name {
 
     ghost laws = { partial_equiv_from_equiv nat_list_eq_equiv };
 
+    // By their heads, and by all digits if the names haven't both eight.
+    #[inline(always)]
     fn eq(&self, other: &Name) -> bool {
-        let mine = self.as_slice();
-        let theirs = other.as_slice();
-        if mine.len() != theirs.len() {
+        if self.head() != other.head() {
             return false;
         }
-        if mine.len() == USUAL_DIGITS {
-            return are_same(&mine[..USUAL_DIGITS], &theirs[..USUAL_DIGITS]);
+        if self.len() == USUAL_DIGITS && other.len() == USUAL_DIGITS {
+            return true;
         }
-        for at in 0..mine.len() {
-            if mine[at] != theirs[at] {
-                return false;
-            }
-        }
-        true
+        are_same(self.as_slice(), other.as_slice())
     }
 }
 
-// Whether two names of as many digits are one. No digit ends the pass, so that all are compared at once if their number is known.
-#[inline(always)]
+// Whether digits are the same.
+#[inline(never)]
 fn are_same(mine: &[u8], theirs: &[u8]) -> bool
-    requires { length mine.now ≡ length theirs.now }
     ensures { result ≡ pointwise nat_eq mine.now theirs.now }
 {
-    let mut same = true;
-    for at in 0..mine.len() {
-        same = same & (mine[at] == theirs[at]);
-    }
-    same
+    mine == theirs
 }
 
 impl Eq for Name {
@@ -284,19 +294,30 @@ impl Ord for Name {
 
     ghost matches_eq = { texts_ties };
 
+    // By their heads. The digits are compared one by one only if the heads are equal and the names haven't both eight digits.
+    #[inline(always)]
     fn cmp(&self, other: &Name) -> Ordering {
-        let mine = self.as_slice();
-        let theirs = other.as_slice();
-        if mine.len() != theirs.len() {
-            return mine.cmp(theirs);
+        let mine = self.head();
+        let theirs = other.head();
+        if mine < theirs {
+            return Ordering::Less;
         }
-        for at in 0..mine.len() {
-            if mine[at] != theirs[at] {
-                return mine[at].cmp(&theirs[at]);
-            }
+        if theirs < mine {
+            return Ordering::Greater;
         }
-        Ordering::Equal
+        if self.len() == USUAL_DIGITS && other.len() == USUAL_DIGITS {
+            return Ordering::Equal;
+        }
+        cmp_digits(self.as_slice(), other.as_slice())
     }
+}
+
+// Compares digits one by one; a beginning of the other's comes first.
+#[inline(never)]
+fn cmp_digits(mine: &[u8], theirs: &[u8]) -> Ordering
+    ensures { result ≡ slice_cmp nat_cmp mine.now theirs.now }
+{
+    mine.cmp(theirs)
 }
 
 impl Hash for Name {
