@@ -5,15 +5,27 @@ use Rattle.std.specs.Ordering.{ordering_reverse}
 use Rattle.std.specs.declared.cmp.Ordering.{Ordering}
 use Rattle.std.proofs.lemmas.Bool.{cases_order, cases_eq}
 use Rattle.std.proofs.lemmas.List.{length-set, get_or-set_same, get_or-set_other}
-use Rattle.std.proofs.lemmas.List.Sums.{sum_by-insert, sum_by-set, sum_by-remove}
+use Rattle.std.proofs.lemmas.List.Sums.{get_or-le-sum_by, sum_by-insert, sum_by-set, sum_by-remove}
 use Rattle.std.proofs.lemmas.List.Edits.{length-insert, get_or-insert_at, get_or-insert_below, get_or-insert_above}
 use Rattle.std.proofs.lemmas.List.Quantifiers.{all_pairs_remove}
 use Rattle.tap_link.specs.declared.kind.Kind.{Kind}
+use Rattle.tap_link.specs.declared.kind.Kind.TheVariants.{Leaving, Pin}
 use Rattle.std.specs.declared.cmp.Ordering.TheVariants.{Less}
 use Rattle.tap_link.specs.Entry.{Entry}
-use Rattle.tap_link.specs.LinkSet.{LinkSetValue, LinksAscend, IsLinkSet, settled_count, is_settled}
+use Rattle.tap_link.specs.LinkSet.{LinkSetValue, LinksAscend, IsCounted, IsLinkSet, settled_count, is_settled}
 use Rattle.tap_link.specs.Places.{IsGapFor}
 use Rattle.tap_link.proofs.Present.{get_or_from_got, within_from_got}
+
+-- a link that is settled and not leaving counts as one, and others as none
+module _ {K : Type 0} (e : Entry K) where
+  pub counted_link : is_settled (Some e.kind) ≡ true → cond {A = ℕ} (is_settled (Some e.kind)) 1 0 ≡ 1
+  counted_link settled = rw settled refl
+
+  pub uncounted_pin : e.kind ≡ Pin → cond {A = ℕ} (is_settled (Some e.kind)) 1 0 ≡ 0
+  uncounted_pin pin = rw pin refl
+
+  pub uncounted_leaving : e.kind ≡ Leaving → cond {A = ℕ} (is_settled (Some e.kind)) 1 0 ≡ 0
+  uncounted_leaving leaving = rw leaving refl
 
 module _ {K : Type 0} (cmp : K → K → Ordering) where
   -- a link more, in its gap
@@ -91,3 +103,49 @@ module _ {K : Type 0} (cmp : K → K → Ordering) where
         ascending = ascending-set s.links at (record x { kind = kind }) x kept.ascending got refl;
         within_width = omega (arith, sum_by-set (λ f. cond (is_settled (Some f.kind)) 1 0) s.links at (record x { kind = kind }) x within);
       }
+
+  -- the same with the count
+  pub counted-insert : IsTotalOrder cmp → (s : LinkSetValue K) (e : Entry K) (at count now : ℕ) → IsCounted cmp s count
+      → IsGapFor cmp s.links e.target at → (is_settled (Some e.kind) ≡ true → settled_count s.links < s.width)
+      → now ≡ cond {A = ℕ} (is_settled (Some e.kind)) 1 0 + count → IsCounted cmp (record s { links = insert s.links at e }) now
+  counted-insert o s e at count now kept gap room is =
+      record {
+        valid = kept-insert o s e at kept.valid gap room;
+        count = omega (arith, kept.count, is, sum_by-insert (λ f. cond (is_settled (Some f.kind)) 1 0) s.links at e);
+      }
+
+  pub counted-remove : (s : LinkSetValue K) (at count now : ℕ) (x : Entry K) → IsCounted cmp s count → slice_get s.links at ≡ Some x
+      → now + cond {A = ℕ} (is_settled (Some x.kind)) 1 0 ≡ count → IsCounted cmp (record s { links = remove s.links at }) now
+  counted-remove s at count now x kept got is =
+      let within = within_from_got s.links at x got in
+      let here = ap (λ (f : Entry K). cond {A = ℕ} (is_settled (Some f.kind)) 1 0) (get_or_from_got s.links at x x got) in
+      record {
+        valid = kept-remove s at x kept.valid got;
+        count = omega (arith, kept.count, is, here, sum_by-remove (λ f. cond (is_settled (Some f.kind)) 1 0) s.links at x within);
+      }
+
+  pub counted-set : (s : LinkSetValue K) (at count now : ℕ) (x : Entry K) (kind : Kind) → IsCounted cmp s count
+      → slice_get s.links at ≡ Some x → (is_settled (Some kind) ≡ true → settled_count s.links < s.width)
+      → now + cond {A = ℕ} (is_settled (Some x.kind)) 1 0 ≡ cond {A = ℕ} (is_settled (Some kind)) 1 0 + count
+      → IsCounted cmp (record s { links = set s.links at (record x { kind = kind }) }) now
+  counted-set s at count now x kind kept got room is =
+      let within = within_from_got s.links at x got in
+      let here = ap (λ (f : Entry K). cond {A = ℕ} (is_settled (Some f.kind)) 1 0) (get_or_from_got s.links at x x got) in
+      record {
+        valid = kept-set s at x kind kept.valid got room;
+        count = omega (
+          arith,
+          kept.count,
+          is,
+          here,
+          sum_by-set (λ f. cond (is_settled (Some f.kind)) 1 0) s.links at (record x { kind = kind }) x within,
+        );
+      }
+
+  -- a link that is settled and not leaving is counted
+  pub one_counted : (s : LinkSetValue K) (at count : ℕ) (x : Entry K) → IsCounted cmp s count → slice_get s.links at ≡ Some x
+      → is_settled (Some x.kind) ≡ true → 1 ≤ count
+  one_counted s at count x kept got settled =
+      let within = within_from_got s.links at x got in
+      let here = ap (λ (f : Entry K). cond {A = ℕ} (is_settled (Some f.kind)) 1 0) (get_or_from_got s.links at x x got) in
+      omega (arith, kept.count, here, counted_link x settled, get_or-le-sum_by (λ (f : Entry K). cond {A = ℕ} (is_settled (Some f.kind)) 1 0) s.links at x within)

@@ -1,13 +1,13 @@
 -- The least settled link.
-use Rattle.std.proofs.Common.{◌≡◌, ◌≢◌, ℕ, ◌+◌, ◌<◌, true, false, cond, List, [], ◌∷◌, length, take, drop, get_or, slice_get, None, Some, arith, suc, refl, sym, ap, ◌∙◌, inl, inr}
+use Rattle.std.proofs.Common.{◌≡◌, ◌≢◌, ℕ, ◌+◌, ◌<◌, nat_lt, Option, is_some, true, false, cond, List, [], ◌∷◌, length, drop, get_or, slice_get, None, Some, arith, suc, refl, sym, ap, ◌∙◌, inl, inr}
 use Rattle.std.specs.Cmp.{IsTotalOrder}
 use Rattle.std.specs.Ordering.{is_eq, ordering_reverse}
 use Rattle.std.specs.declared.cmp.Ordering.{Ordering}
 use Rattle.std.specs.declared.cmp.Ordering.TheVariants.{Less, Equal, Greater}
-use Rattle.std.proofs.lemmas.Bool.{cases_Bool}
+use Rattle.std.proofs.lemmas.Bool.{cases_Bool, lt-ltb}
 use Rattle.std.proofs.lemmas.Cmp.{tied_itself, alike_right}
 use Rattle.std.proofs.lemmas.List.{at_drop_more}
-use Rattle.std.proofs.lemmas.List.Sums.{sum_by-cons, sum_by_more}
+use Rattle.std.proofs.lemmas.List.Sums.{sum_by-cons}
 use Rattle.tap_link.specs.declared.kind.Kind.{Kind}
 use Rattle.tap_link.specs.declared.kind.Kind.TheVariants.{Pin, Settled, Leaving}
 use Rattle.tap_link.specs.Entry.{Entry}
@@ -27,12 +27,6 @@ tied_is Greater tied = cc
 
 module _ {K : Type 0} where
   -- the steps of a loop over the links
-  pub settled_count-take_more : (links : List (Entry K)) (at : ℕ) (x : Entry K) → slice_get links at ≡ Some x
-      → settled_count (take (at + 1) links) ≡ settled_count (take at links) + cond (is_settled (Some x.kind)) 1 0
-  settled_count-take_more links at x got =
-      sum_by_more (λ e. cond (is_settled (Some e.kind)) 1 0) links at x (within_from_got links at x got)
-      ∙ ap (λ (e : Entry K). settled_count (take at links) + cond (is_settled (Some e.kind)) 1 0) (get_or_from_got links at x x got)
-
   least_settled-drop : (links : List (Entry K)) (at : ℕ) (x : Entry K) → slice_get links at ≡ Some x
       → least_settled (drop at links) ≡ least_settled (x ∷ drop (at + 1) links)
   least_settled-drop links at x got =
@@ -71,6 +65,16 @@ module _ {K : Type 0} where
             let rest : least_settled es ≡ None = rw is at none in
             rw (settled_count-cons e es, is) (omega (arith, counted_none es rest))
       ]
+
+  -- there is a least one exactly if some are counted
+  pub some_counted : (links : List (Entry K)) (count : ℕ) → count ≡ settled_count links → nat_lt 0 count ≡ is_some (least_settled links)
+  some_counted links count is = go (least_settled links) refl
+    where
+      go : (least : Option K) → least_settled links ≡ least → nat_lt 0 count ≡ is_some (least_settled links)
+      go None none = let zero : count ≡ 0 = is ∙ counted_none links none in rw (none, zero) refl
+      go (Some target) some =
+          let above : 0 < count = omega (arith, is, counted_some links target some) in
+          rw some (lt-ltb 0 count above)
 
 module _ {K : Type 0} (cmp : K → K → Ordering) where
   -- the target is below each of these

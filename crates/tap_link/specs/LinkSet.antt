@@ -63,6 +63,11 @@ module _ {K : Type 0} (cmp : K → K → Ordering) where
     pub ascending : LinksAscend set.links
     pub within_width : settled_count set.links ≤ set.width
 
+  -- what a set keeps beside its links: how many of them are settled and not leaving
+  pub record IsCounted (set : LinkSetValue K) (settled : ℕ) : Type 0 where
+    pub valid : IsLinkSet set
+    pub count : settled ≡ settled_count set.links
+
   -- the kind of the link to the target, if there is one
   abbrev pub kind_of : List (Entry K) → K → Option Kind
   kind_of links target = option_map (λ e. e.kind) (find (λ e. is_eq (cmp target e.target)) links)

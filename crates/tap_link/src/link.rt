@@ -68,6 +68,16 @@ impl<K: Ord + Copy> Link<K> {
         }
     }
 
+    // The target, lent.
+    pub(crate) fn lent_target(&self) -> &K
+        ensures { result.now ≡ self.now.target }
+    {
+        match &self.held {
+            Held::Pin(pin) => pin.lent_target(),
+            Held::Settled(settled) => settled.lent_target(),
+        }
+    }
+
     pub(crate) fn kind(&self) -> Kind
         ensures { result ≡ self.now.kind }
     {

@@ -36,6 +36,13 @@ impl<K: Ord + Copy> Pin<K> {
         self.target
     }
 
+    // The node that is pinned, lent.
+    pub(crate) fn lent_target(&self) -> &K
+        ensures { result.now ≡ self.now }
+    {
+        &self.target
+    }
+
     /// Turns the pin into a settled link to its target, at the target's release.
     pub fn settle(self, by: Release<K>) -> Settled<K>
         requires { K.cmp by.from self ≡ Equal }

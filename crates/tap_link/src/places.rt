@@ -2,7 +2,7 @@ ghost use Rattle.std.specs.Prelude.{◌≡◌, ◌<◌, ◌≤◌, [], length, I
 ghost use Rattle.std.specs.declared.cmp.Ordering.TheVariants.{Equal};
 ghost use Rattle.std.specs.Option.{ForSome};
 ghost use Rattle.tap_link.specs.Entry.{settled, leaving};
-ghost use Rattle.tap_link.specs.LinkSet.{LinksAscend, settled_count};
+ghost use Rattle.tap_link.specs.LinkSet.{LinksAscend};
 ghost use Rattle.tap_link.specs.Places.{StandsAt, IsGapFor};
 
 use crate::kind::Kind;
@@ -59,35 +59,22 @@ impl<K: Ord + Copy> Places<K> {
     }
 
     // Where the link to the target is, or where it would go. It halves what is left to look at.
-    pub(crate) fn search(&self, target: K) -> Result<usize, usize>
+    pub(crate) fn search(&self, target: &K) -> Result<usize, usize>
         requires { LinksAscend K.cmp self.now }
-        ensures found { IfOk result (StandsAt K.cmp self.now target) }
-        ensures absent { IfErr result (IsGapFor K.cmp self.now target) }
+        ensures found { IfOk result (StandsAt K.cmp self.now target.now) }
+        ensures absent { IfErr result (IsGapFor K.cmp self.now target.now) }
     {
         let mut low = 0;
         let mut high = self.len();
         while low < high {
             let at = low + (high - low) / 2;
-            match target.cmp(&self.link_at(at).target()) {
+            match target.cmp(self.link_at(at).lent_target()) {
                 Ordering::Less => high = at,
                 Ordering::Equal => return Ok(at),
                 Ordering::Greater => low = at + 1,
             }
         }
         Err(low)
-    }
-
-    // How many links are settled and not leaving.
-    pub(crate) fn count_settled(&self) -> usize
-        ensures { result ≡ settled_count self.now }
-    {
-        let mut count = 0;
-        for at in 0..self.len() {
-            if self.link_at(at).is_settled() {
-                count += 1;
-            }
-        }
-        count
     }
 
     // Puts a link in at its place.

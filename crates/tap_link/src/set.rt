@@ -1,4 +1,4 @@
-ghost use Rattle.std.specs.Prelude.{◌≡◌, ◌<◌, ◌≤◌, ◌↔◌, ◌&&◌, [], length, map, Some, IsOk, IsNone, IsSome, IfOk, IfSome, OnErr, OnOk, IsTrue, slice_get};
+ghost use Rattle.std.specs.Prelude.{◌≡◌, ◌<◌, ◌↔◌, ◌&&◌, [], length, map, is_some, Some, IsOk, IsNone, IsSome, IfOk, IfSome, OnErr, OnOk, IsTrue, slice_get};
 ghost use Rattle.std.specs.Option.{is_none};
 ghost use Rattle.tap_link.specs.LinkSet.{LinkSetValue, IsLinkSet, kind_of, is_pinned, is_settled, is_settled_or_leaving, settled_count, has_room, least_settled, IsLeastSettled, released_as, pinned, offered, released, forgotten, marked, removed};
 
@@ -20,17 +20,19 @@ use std::marker::Model;
 #[derive(Drop)]
 pub struct LinkSet<K: Ord + Copy> {
     width: u8,
+    // How many of the links are settled and not leaving. It is asked at each release and each offer.
+    settled: u8,
     places: Places<K>,
 }
 
 impl<K: Ord + Copy> Model for LinkSet<K> {
-    ghost use Rattle.tap_link.specs.LinkSet.{LinkSetValue, IsLinkSet};
+    ghost use Rattle.tap_link.specs.LinkSet.{LinkSetValue, IsCounted};
 
     ghost Value = { LinkSetValue K };
 
     ghost view = { λ s. record { width = s.width; links = s.places } };
 
-    ghost invariant = { λ s. IsLinkSet K.cmp (record { width = s.width; links = s.places }) };
+    ghost invariant = { λ s. IsCounted K.cmp (record { width = s.width; links = s.places }) s.settled };
 }
 
 impl<K: Ord + Copy> LinkSet<K> {
@@ -40,6 +42,7 @@ impl<K: Ord + Copy> LinkSet<K> {
     {
         LinkSet {
             width,
+            settled: 0,
             places: Places::new(alloc),
         }
     }
@@ -80,7 +83,7 @@ impl<K: Ord + Copy> LinkSet<K> {
         ensures kind { result ≡ kind_of K.cmp self.now.links target }
         ensures valid { IsLinkSet K.cmp self.now }
     {
-        match self.places.search(target) {
+        match self.places.search(&target) {
             Ok(at) => Some(self.places.link_at(at).kind()),
             Err(_) => None,
         }
@@ -97,7 +100,7 @@ impl<K: Ord + Copy> LinkSet<K> {
         ensures inline { length self.old.links < 4 → IsOk result }
         ensures linked { IsSome (kind_of K.cmp self.old.links target) → IsOk result }
     {
-        match self.places.search(target) {
+        match self.places.search(&target) {
             Ok(_) => Ok(false), // some link names it
             Err(at) => {
                 self.places.insert(at, Link::pin(target))?;
@@ -120,13 +123,14 @@ impl<K: Ord + Copy> LinkSet<K> {
         ensures linked { IsSome (kind_of K.cmp self.old.links target) → IsOk result }
         ensures full { ¬ (IsTrue (has_room self.old)) → IsOk result }
     {
-        match self.places.search(target) {
+        if !self.has_room() {
+            return Ok(false);
+        }
+        match self.places.search(&target) {
             Ok(_) => Ok(false),
             Err(at) => {
-                if !self.has_room() {
-                    return Ok(false);
-                }
                 self.places.insert(at, Link::settled(target))?;
+                self.settled += 1;
                 Ok(true)
             }
         }
@@ -140,7 +144,7 @@ impl<K: Ord + Copy> LinkSet<K> {
         ensures after { self.new ≡ released K.cmp self.old by.from }
         ensures nothing { result ≡ Released.Nothing → self.new ≡ self.old }
     {
-        let Ok(at) = self.places.search(by.from) else {
+        let Ok(at) = self.places.search(&by.from) else {
             return Released::Nothing;
         };
         match self.places.link_at(at).kind() {
@@ -148,6 +152,7 @@ impl<K: Ord + Copy> LinkSet<K> {
             Kind::Pin => {
                 if self.has_room() {
                     self.places.settle(at, by);
+                    self.settled += 1;
                     Released::Settled
                 } else {
                     self.places.remove(at).spend(by);
@@ -162,7 +167,7 @@ impl<K: Ord + Copy> LinkSet<K> {
         ensures answer { result ≡ is_pinned (kind_of K.cmp self.old.links by.from) }
         ensures after { self.new ≡ forgotten K.cmp self.old by.from }
     {
-        let Ok(at) = self.places.search(by.from) else {
+        let Ok(at) = self.places.search(&by.from) else {
             return false;
         };
         match self.places.link_at(at).kind() {
@@ -179,13 +184,14 @@ impl<K: Ord + Copy> LinkSet<K> {
         ensures answer { result ≡ is_settled (kind_of K.cmp self.old.links target) }
         ensures after { self.new ≡ marked K.cmp self.old target }
     {
-        let Ok(at) = self.places.search(target) else {
+        let Ok(at) = self.places.search(&target) else {
             return false;
         };
         match self.places.link_at(at).kind() {
             Kind::Pin | Kind::Leaving => false,
             Kind::Settled => {
                 self.places.mark_leaving(at);
+                self.settled -= 1;
                 true
             }
         }
@@ -196,12 +202,17 @@ impl<K: Ord + Copy> LinkSet<K> {
         ensures answer { result ≡ is_settled_or_leaving (kind_of K.cmp self.old.links target) }
         ensures after { self.new ≡ removed K.cmp self.old target }
     {
-        let Ok(at) = self.places.search(target) else {
+        let Ok(at) = self.places.search(&target) else {
             return false;
         };
         match self.places.link_at(at).kind() {
             Kind::Pin => false,
-            Kind::Settled | Kind::Leaving => {
+            Kind::Settled => {
+                self.places.remove(at).discard();
+                self.settled -= 1;
+                true
+            }
+            Kind::Leaving => {
                 self.places.remove(at).discard();
                 true
             }
@@ -223,12 +234,20 @@ impl<K: Ord + Copy> LinkSet<K> {
         None
     }
 
+    /// Whether there is a primary: a link that is settled and not leaving.
+    pub fn has_primary(&self) -> bool
+        ensures { result ≡ is_some (least_settled self.now.links) }
+    {
+        0 < self.settled
+    }
+
     /// Ends all links, with the node that holds them. It takes no memory.
     ///
     /// It consumes the set, so there is no value of which an `ensures` could speak.
     pub fn cease(self, by: &Cease<K>) {
         let LinkSet {
             width: _,
+            settled: _,
             mut places,
         } = self;
         places.cease(by);
@@ -238,6 +257,6 @@ impl<K: Ord + Copy> LinkSet<K> {
     pub fn has_room(&self) -> bool
         ensures { result ≡ has_room self.now }
     {
-        self.places.count_settled() < self.width as usize
+        self.settled < self.width
     }
 }

@@ -38,6 +38,13 @@ impl<K: Ord + Copy> Settled<K> {
         self.target
     }
 
+    // The node that is linked to, lent.
+    pub(crate) fn lent_target(&self) -> &K
+        ensures { result.now ≡ self.now.target }
+    {
+        &self.target
+    }
+
     /// Whether the node has said that it will leave.
     pub fn is_leaving(&self) -> bool
         ensures { result ≡ self.now.leaving }

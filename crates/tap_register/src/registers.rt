@@ -1,7 +1,8 @@
-ghost use Rattle.std.specs.Prelude.{◌≡◌, ◌==◌, ◌<◌, ◌≤◌, insert, vec_len, if◌then◌else◌, None, Some};
+ghost use Rattle.std.specs.Prelude.{◌≡◌, ◌==◌, ◌<◌, ◌≤◌, ◌∷◌, ◌++◌, All, insert, vec_len, if◌then◌else◌, None, Some};
 ghost use Rattle.std.specs.Prelude.{[], length, slice_get, IfOk, IfErr, OnOk, OnErr};
 ghost use Rattle.std.specs.Option.{option_map};
 ghost use Rattle.std.specs.Ordering.{is_eq};
+ghost use Rattle.std.specs.declared.cmp.Ordering.TheVariants.{Less};
 ghost use Rattle.tap_register.specs.Registers.{IsAscending, IsAt, IsGap, applied, entry_of, is_newer, newest};
 
 use crate::memory::NoMemory;
@@ -96,6 +97,20 @@ impl<K: Ord + Copy, V: Copy> Registers<K, V> {
                 Ok(true)
             }
         }
+    }
+
+    /// Adds an entry whose key is above all others. A refused call changes nothing.
+    pub fn push_last(&mut self, key: K, version: u32, value: V) -> Result<(), NoMemory>
+        requires { All (λ e. K.cmp e.key key ≡ Less) self.old }
+        ensures ok { OnOk result (self.new ≡ self.old ++ record { key = key; version = version; value = value } ∷ []) }
+        ensures err { OnErr result (self.new ≡ self.old) }
+    {
+        self.entries.push(Entry {
+            key,
+            version,
+            value,
+        })?;
+        Ok(())
     }
 
     /// The value that is kept under the key, and `None` exactly if the key is absent.

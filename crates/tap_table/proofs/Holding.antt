@@ -1,17 +1,15 @@
 -- The registers of holders over ascending names, and whether a member's table has a link to the owner.
-use Rattle.std.proofs.Common.{◌≡◌, inl, inr, ℕ, ◌+◌, ◌<◌, nat_eq, eqb, cond, Bool, true, false, None, List, [], ◌∷◌, ◌++◌, length, map, take, filter, get_or, AllPairs, refl, ap, sym, ◌∙◌}
+use Rattle.std.proofs.Common.{◌≡◌, inl, inr, ℕ, ◌+◌, ◌<◌, nat_eq, eqb, cond, Bool, true, false, List, [], ◌∷◌, ◌++◌, length, map, take, filter, get_or, All, AllPairs, refl, ap, sym, ◌∙◌}
 use Rattle.std.specs.List.{common_prefix_len}
-use Rattle.std.specs.Ordering.{is_gt, is_lt}
 use Rattle.std.specs.declared.cmp.Ordering.TheVariants.{Less}
 use Rattle.std.proofs.Math.Seq.{take-nil}
 use Rattle.std.proofs.lemmas.Bool.{cases_Bool}
 use Rattle.std.proofs.lemmas.List.{append-nil, map-append}
-use Rattle.std.proofs.lemmas.List.Elements.{All-filter, All-head, All-tail, filter_more}
+use Rattle.std.proofs.lemmas.List.Elements.{All-filter, All-map, filter_more}
 use Rattle.tap_name.specs.Settings.{SettingsValue}
 use Rattle.tap_name.specs.Slot.{slot_at}
 use Rattle.tap_name.proofs.Prefix.{prefix_of_itself}
 use Rattle.tap_register.specs.declared.registers.Entry.{Entry}
-use Rattle.tap_register.specs.Registers.{entry_of, written}
 use Rattle.tap_table.specs.Members.{IsBelow, holders_at_rest, holds, is_slot}
 use Rattle.tap_table.specs.Table.{name_cmp, place_of}
 use Rattle.tap_table.proofs.Grown.{IsAbove, above_the_first}
@@ -20,29 +18,10 @@ use Rattle.tap_table.proofs.Grown.{IsAbove, above_the_first}
 abbrev pub word_of : List ℕ → Entry (List ℕ) Bool
 word_of name = record { key = name; version = 0; value = true }
 
-module _ (name : List ℕ) where
-  below_all : (names : List (List ℕ)) → IsAbove name names
-      → filter (λ e. is_lt (name_cmp e.key name)) (map word_of names) ≡ map word_of names
-  below_all [] all = refl
-  below_all (x ∷ xs) all =
-      let here : name_cmp x name ≡ Less = All-head (λ t. IsBelow t name) x xs all in
-      rw here (ap (λ l. word_of x ∷ l) (below_all xs (All-tail (λ t. IsBelow t name) x xs all)))
-
-  above_none : (names : List (List ℕ)) → IsAbove name names → filter (λ e. is_gt (name_cmp e.key name)) (map word_of names) ≡ []
-  above_none [] all = refl
-  above_none (x ∷ xs) all =
-      let here : name_cmp x name ≡ Less = All-head (λ t. IsBelow t name) x xs all in
-      rw here (above_none xs (All-tail (λ t. IsBelow t name) x xs all))
-
-  pub no_word : (names : List (List ℕ)) → IsAbove name names → entry_of name_cmp (map word_of names) name ≡ None
-  no_word [] all = refl
-  no_word (x ∷ xs) all =
-      let here : name_cmp x name ≡ Less = All-head (λ t. IsBelow t name) x xs all in
-      rw here (no_word xs (All-tail (λ t. IsBelow t name) x xs all))
-
-  pub written_last : (names : List (List ℕ)) → IsAbove name names
-      → written name_cmp (map word_of names) (word_of name) ≡ map word_of (names ++ name ∷ [])
-  written_last names all = rw (below_all names all, above_none names all) (sym (map-append word_of names (name ∷ [])))
+-- the words of names that are below another have their keys below it
+pub words_below : (name : List ℕ) (names : List (List ℕ)) → IsAbove name names
+    → All (λ e. name_cmp e.key name ≡ Less) (map word_of names)
+words_below name names all = All-map (λ (e : Entry (List ℕ) Bool). name_cmp e.key name ≡ Less) word_of names all
 
 -- one name more
 module _ (p : SettingsValue) (owner : List ℕ) (names : List (List ℕ)) (i : ℕ) (name : List ℕ) where
@@ -60,14 +39,13 @@ module _ (p : SettingsValue) (owner : List ℕ) (names : List (List ℕ)) (i : �
       let end : List ℕ → List (List ℕ) = λ x. front ++ cond (holds p owner names x) (x ∷ []) [] in
       filter_more (holds p owner names) names i name within ∙ ap end (sym is)
 
-  pub holder-more : (old new : List (Entry (List ℕ) Bool)) → i < length names → name ≡ get_or names i name → AllPairs IsBelow names
-      → holds p owner names name ≡ true → old ≡ holders_at_rest p owner names (take i names) → new ≡ written name_cmp old (word_of name)
+  pub holder-more : (old new : List (Entry (List ℕ) Bool)) → i < length names → name ≡ get_or names i name
+      → holds p owner names name ≡ true → old ≡ holders_at_rest p owner names (take i names) → new ≡ old ++ word_of name ∷ []
       → new ≡ holders_at_rest p owner names (take (i + 1) names)
-  holder-more old new within is ascending has old_is new_is =
+  holder-more old new within is has old_is new_is =
       let front = filter (holds p owner names) (take i names) in
       let more = more_holders within is ∙ ap (λ b. front ++ cond b (name ∷ []) []) has in
-      new_is ∙ ap (λ l. written name_cmp l (word_of name)) old_is ∙ written_last name front (above_holders ascending within is)
-      ∙ ap (map word_of) (sym more)
+      new_is ∙ ap (λ l. l ++ word_of name ∷ []) old_is ∙ sym (map-append word_of front (name ∷ [])) ∙ ap (map word_of) (sym more)
 
   pub holder-skip : i < length names → name ≡ get_or names i name → holds p owner names name ≡ false
       → holders_at_rest p owner names (take i names) ≡ holders_at_rest p owner names (take (i + 1) names)

@@ -1,10 +1,10 @@
 -- The slots of a table, and what a change of one of them keeps.
-use Rattle.std.proofs.Common.{◌≡◌, ◌≢◌, ℕ, ◌+◌, ◌*◌, ◌<◌, zero, suc, List, [], ◌∷◌, ◌++◌, replicate, length, get_or, map, nat_eq, arith, ap, sym, refl, ◌∙◌, inl, inr}
-use Rattle.std.specs.List.{common_prefix_len}
+use Rattle.std.proofs.Common.{◌≡◌, ◌≢◌, ℕ, ◌*◌, ◌<◌, zero, suc, List, [], ◌∷◌, replicate, length, get_or, map, nat_eq, arith, ap, sym, refl, ◌∙◌, inl, inr}
+use Rattle.std.specs.List.{FoldsTo, common_prefix_len}
 use Rattle.std.proofs.Math.Nat.{mul-le-mul_left}
 use Rattle.std.proofs.lemmas.Bool.{cases_lt}
 use Rattle.std.proofs.lemmas.Nat.{div-mul-add, mod-mul-add}
-use Rattle.std.proofs.lemmas.List.{get_or-map, get_or_past, get_or-replicate, length-replicate, replicate-append-replicate}
+use Rattle.std.proofs.lemmas.List.{get_or-map, get_or_past, get_or-replicate, length-replicate}
 use Rattle.std.proofs.lemmas.List.Elements.{All-nil, All-replicate}
 use Rattle.std.proofs.lemmas.List.Sums.{common_prefix_len-le}
 use Rattle.tap_name.specs.declared.slot.Slot.{Slot}
@@ -52,13 +52,6 @@ links_of_set sets number d within = get_or-map (λ s. s.links) sets number d [] 
 abbrev pub empty_sets : ℕ → ℕ → List (LinkSetValue (List ℕ))
 empty_sets width n = replicate n (record { width = width; links = [] })
 
-pub empty_sets-more : (width n : ℕ) (sets more : List (LinkSetValue (List ℕ))) (new : LinkSetValue (List ℕ))
-    → sets ≡ empty_sets width n
-    → new ≡ record { width = width; links = [] } → more ≡ sets ++ new ∷ [] → more ≡ empty_sets width (n + 1)
-empty_sets-more width n sets more new so_far is grown =
-    let none : LinkSetValue (List ℕ) = record { width = width; links = [] } in
-    grown ∙ ap (λ s. s ++ new ∷ []) so_far ∙ ap (λ s. empty_sets width n ++ s ∷ []) is ∙ replicate-append-replicate n 1 none
-
 empty_slots : (width n : ℕ) → map (λ s. s.links) (empty_sets width n) ≡ replicate n []
 empty_slots width zero = refl
 empty_slots width (suc n) = ap (λ l. [] ∷ l) (empty_slots width n)
@@ -93,3 +86,13 @@ empty_sets-are p owner limits is_name =
       };
       widths = All-replicate (λ s. s.width ≡ p.width) count (record { width = p.width; links = [] }) refl;
     }
+
+-- what calls made one after another are all the same, if each call makes the same of the same
+pub made_alike : {F X : Type 0} (step : F → X → F → Type 0) (Is : F → Type 0) (x : X)
+    → ((f : F) (y : X) (next : F) → Is f → step f y next → (y ≡ x) × Is next)
+    → (ys : List X) (f last : F) → Is f → FoldsTo step f ys last → ys ≡ replicate (length ys) x
+made_alike step Is x each [] f last is folds = refl
+made_alike step Is x each (y ∷ ys) f last is folds =
+    let made = each f y folds.0 is folds.1 in
+    let rest = made_alike step Is x each ys folds.0 last made.1 folds.2 in
+    λ i. made.0 i ∷ rest i

@@ -70,7 +70,7 @@ pub(crate) fn holders_over(
     let least = least_shared(settings, owner, names);
     for member in names {
         if is_holder(owner, least, member) {
-            holders.apply(*member, 0, true)?;
+            holders.push_last(*member, 0, true)?;
         }
     }
     Ok(holders)

@@ -43,10 +43,8 @@ impl Sets {
         requires { slots ≤ most_slots_of_table }
         ensures { IfOk result (λ sets. sets ≡ replicate slots (record { width = width; links = [] })) }
     {
-        let mut sets = Vec::with_capacity(alloc, slots)?;
-        for _slot in 0..slots {
-            sets.push(LinkSet::new(alloc, width))?;
-        }
+        let mut sets = Vec::new(alloc);
+        sets.resize_with(slots, || LinkSet::new(alloc, width))?;
         Ok(Sets {
             sets,
             links: 0,
@@ -98,7 +96,7 @@ impl Sets {
         let before = set.len();
         let added = pin_in(set, target)?;
         let now = set.len();
-        self.with_primary[number] = set.primary().is_some();
+        self.with_primary[number] = set.has_primary();
         self.links = self.links - before + now;
         let empty_from = past(self.empty_from, number);
         self.empty_from = empty_from;
@@ -120,7 +118,7 @@ impl Sets {
         let before = set.len();
         let added = offer_in(set, target)?;
         let now = set.len();
-        self.with_primary[number] = set.primary().is_some();
+        self.with_primary[number] = set.has_primary();
         self.links = self.links - before + now;
         let empty_from = past(self.empty_from, number);
         self.empty_from = empty_from;
@@ -138,7 +136,7 @@ impl Sets {
         let before = set.len();
         let answer = set.release(by);
         let now = set.len();
-        self.with_primary[number] = set.primary().is_some();
+        self.with_primary[number] = set.has_primary();
         self.links = self.links - before + now;
         answer
     }
@@ -153,7 +151,7 @@ impl Sets {
         let before = set.len();
         let answer = set.forget(by);
         let now = set.len();
-        self.with_primary[number] = set.primary().is_some();
+        self.with_primary[number] = set.has_primary();
         self.links = self.links - before + now;
         answer
     }
@@ -166,7 +164,7 @@ impl Sets {
     {
         let set = &mut self.sets[number];
         let answer = set.mark_leaving(target);
-        self.with_primary[number] = set.primary().is_some();
+        self.with_primary[number] = set.has_primary();
         answer
     }
 
@@ -180,7 +178,7 @@ impl Sets {
         let before = set.len();
         let answer = set.remove_settled(target);
         let now = set.len();
-        self.with_primary[number] = set.primary().is_some();
+        self.with_primary[number] = set.has_primary();
         self.links = self.links - before + now;
         answer
     }

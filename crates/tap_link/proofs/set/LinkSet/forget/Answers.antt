@@ -1,5 +1,6 @@
-use Rattle.std.proofs.Common.{refl, ap, ◌∙◌}
-use Rattle.tap_link.proofs.Kept.{kept-remove}
+use Rattle.std.proofs.Common.{◌≡◌, Some, arith, refl, sym, ap, ◌∙◌}
+use Rattle.tap_link.specs.declared.kind.Kind.TheVariants.{Pin}
+use Rattle.tap_link.proofs.Kept.{counted-remove, uncounted_pin}
 use Rattle.tap_link.proofs.Search.{set_of, absent-kind_of, found_as, found-target, remove-without, not_pinned}
 use Rattle.tap_link.proofs.set.LinkSet.forget.Goals as goal
 
@@ -14,9 +15,12 @@ forget-requires-clause-by_target g c =
 
 pub invariant_of-self : goal.invariant_of-self
 invariant_of-self g c =
+    let same : Some c.remove.result ≡ Some c.link_at.result.now = sym c.remove.ensures.taken ∙ c.link_at.ensures in
+    let pin : c.remove.result.kind ≡ Pin = cc in
+    let none = uncounted_pin c.remove.result pin in
     rw c.remove.ensures.rest
-    (kept-remove g.K.Ord.cmp (set_of c.self.inside.width c.self.inside.places) c.in-Ok.at c.remove.result c.self.invariant
-    c.remove.ensures.taken)
+    (counted-remove g.K.Ord.cmp (set_of c.self.inside.width c.self.inside.places) c.in-Ok.at c.self.inside.settled
+    c.self.inside.settled c.remove.result c.self.invariant c.remove.ensures.taken (omega (arith, none)))
 
 pub returns-in-Settled : goal.returns-in-Settled
 returns-in-Settled g c =

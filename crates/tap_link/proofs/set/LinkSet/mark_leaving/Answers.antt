@@ -1,6 +1,7 @@
-use Rattle.std.proofs.Common.{refl, ap, ◌∙◌}
+use Rattle.std.proofs.Common.{◌≡◌, ◌-◌, true, Some, arith, refl, ap, ◌∙◌}
+use Rattle.tap_link.specs.LinkSet.{is_settled}
 use Rattle.tap_link.specs.declared.kind.Kind.TheVariants.{Leaving}
-use Rattle.tap_link.proofs.Kept.{kept-set}
+use Rattle.tap_link.proofs.Kept.{counted-set, counted_link, one_counted}
 use Rattle.tap_link.proofs.Search.{set_of, absent-kind_of, found_as, set-with_kind, not_settled}
 use Rattle.tap_link.proofs.set.LinkSet.mark_leaving.Goals as goal
 
@@ -11,9 +12,13 @@ returns-in_default-clause-answer g c =
 
 pub invariant_of-self : goal.invariant_of-self
 invariant_of-self g c =
+    let settled : is_settled (Some c.link_at.result.now.kind) ≡ true = cc in
+    let some = one_counted g.K.Ord.cmp (set_of c.self.inside.width c.self.inside.places) c.in-Ok.at c.self.inside.settled
+    c.link_at.result.now c.self.invariant c.link_at.ensures settled in
     rw (c.mark_leaving.ensures c.link_at.result.now c.link_at.ensures)
-    (kept-set g.K.Ord.cmp (set_of c.self.inside.width c.self.inside.places) c.in-Ok.at c.link_at.result.now Leaving c.self.invariant
-    c.link_at.ensures (λ settled. cc))
+    (counted-set g.K.Ord.cmp (set_of c.self.inside.width c.self.inside.places) c.in-Ok.at c.self.inside.settled
+    (c.self.inside.settled - 1) c.link_at.result.now Leaving c.self.invariant c.link_at.ensures (λ settled. cc)
+    (omega (arith, counted_link c.link_at.result.now settled, some)))
 
 pub returns-in-Pin : goal.returns-in-Pin
 returns-in-Pin g c =
@@ -41,3 +46,9 @@ pub returns-in_default-clause-after : goal.returns-in_default-clause-after
 returns-in_default-clause-after g c =
     rw (← c.self.view_is, absent-kind_of g.K.Ord.cmp c.self.inside.places c.args.target c.in_default.field-0 c.in_default.ensures.absent)
     refl
+
+pub overflow_sub-self : goal.overflow_sub-self
+overflow_sub-self g c =
+    let settled : is_settled (Some c.link_at.result.now.kind) ≡ true = cc in
+    one_counted g.K.Ord.cmp (set_of c.self.inside.width c.self.inside.places) c.in-Ok.at c.self.inside.settled c.link_at.result.now
+    c.self.invariant c.link_at.ensures settled

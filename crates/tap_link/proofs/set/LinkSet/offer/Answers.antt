@@ -1,9 +1,9 @@
-use Rattle.std.proofs.Common.{◌≡◌, true, refl, ap, ◌∙◌}
+use Rattle.std.proofs.Common.{◌≡◌, ◌+◌, true, Some, arith, refl, ap, ◌∙◌}
 use Rattle.std.proofs.lemmas.Bool.{ltb-true}
 use Rattle.tap_link.specs.declared.kind.Kind.TheVariants.{Settled}
-use Rattle.tap_link.specs.LinkSet.{has_room}
+use Rattle.tap_link.specs.LinkSet.{has_room, is_settled}
 use Rattle.tap_link.specs.Places.{IsGapFor}
-use Rattle.tap_link.proofs.Kept.{kept-insert}
+use Rattle.tap_link.proofs.Kept.{counted-insert, counted_link}
 use Rattle.tap_link.proofs.Search.{set_of, absent-kind_of, found-is_some, insert-with_link}
 use Rattle.tap_link.proofs.set.LinkSet.offer.Goals as goal
 
@@ -12,10 +12,11 @@ invariant_of-self-in-Err g c =
     let gap : IsGapFor g.K.Ord.cmp c.self.inside.places c.settled.result.target c.in-Err.at =
     rw c.settled.ensures.target c.in-Err.ensures.absent in
     let room : has_room (set_of c.self.inside.width c.self.inside.places) ≡ true = cc in
+    let settled : is_settled (Some c.settled.result.kind) ≡ true = rw c.settled.ensures.kind refl in
     rw c.in_ok-insert-in-Err.ensures.ok
-    (kept-insert g.K.Ord.cmp g.met.K.Ord.total (set_of c.self.inside.width c.self.inside.places) c.settled.result c.in-Err.at
-    c.self.invariant gap
-    (λ _. ltb-true _ _ room))
+    (counted-insert g.K.Ord.cmp g.met.K.Ord.total (set_of c.self.inside.width c.self.inside.places) c.settled.result c.in-Err.at
+    c.self.inside.settled (c.self.inside.settled + 1) c.self.invariant gap (λ _. ltb-true _ _ room)
+    (omega (arith, counted_link c.settled.result settled)))
 
 pub returns-in-Ok-clause-answer : goal.returns-in-Ok-clause-answer
 returns-in-Ok-clause-answer g c =

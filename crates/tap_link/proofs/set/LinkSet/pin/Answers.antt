@@ -1,8 +1,8 @@
-use Rattle.std.proofs.Common.{◌≡◌, true, refl, sym, ap, ◌∙◌, Some}
+use Rattle.std.proofs.Common.{◌≡◌, true, arith, refl, sym, ap, ◌∙◌, Some}
 use Rattle.tap_link.specs.declared.kind.Kind.TheVariants.{Pin}
 use Rattle.tap_link.specs.LinkSet.{is_settled}
 use Rattle.tap_link.specs.Places.{IsGapFor}
-use Rattle.tap_link.proofs.Kept.{kept-insert}
+use Rattle.tap_link.proofs.Kept.{counted-insert, uncounted_pin}
 use Rattle.tap_link.proofs.Search.{set_of, absent-kind_of, found-is_some, insert-with_link}
 use Rattle.tap_link.proofs.set.LinkSet.pin.Goals as goal
 
@@ -10,9 +10,10 @@ pub invariant_of-self-in-Err : goal.invariant_of-self-in-Err
 invariant_of-self-in-Err g c =
     let gap : IsGapFor g.K.Ord.cmp c.self.inside.places c.pin.result.target c.in-Err.at = rw c.pin.ensures.target c.in-Err.ensures.absent in
     rw c.in_ok-insert-in-Err.ensures.ok
-    (kept-insert g.K.Ord.cmp g.met.K.Ord.total (set_of c.self.inside.width c.self.inside.places) c.pin.result c.in-Err.at c.self.invariant
-    gap
-    (λ settled. let wrong : is_settled (Some Pin) ≡ true = rw c.pin.ensures.kind at settled in cc))
+    (counted-insert g.K.Ord.cmp g.met.K.Ord.total (set_of c.self.inside.width c.self.inside.places) c.pin.result c.in-Err.at
+    c.self.inside.settled c.self.inside.settled c.self.invariant gap
+    (λ settled. let wrong : is_settled (Some Pin) ≡ true = rw c.pin.ensures.kind at settled in cc)
+    (omega (arith, uncounted_pin c.pin.result c.pin.ensures.kind)))
 
 pub returns-in-Ok-clause-answer : goal.returns-in-Ok-clause-answer
 returns-in-Ok-clause-answer g c =

@@ -15,7 +15,7 @@ returns-then-is_settled-clause-least g c =
     let settled : is_settled (Some c.link_at-link.result.now.kind) ≡ true = cc in
     let found = least_settled-drop_settled c.self.inside.places c.loop-at.at c.link_at-link.result.now c.link_at-link.ensures settled in
     rw (← c.self.view_is, c.target.ensures)
-    (least_settled_is g.K.Ord.cmp g.met.K.Ord.total c.self.inside.places _ c.self.invariant.ascending (c.loop-at.invariant ∙ found))
+    (least_settled_is g.K.Ord.cmp g.met.K.Ord.total c.self.inside.places _ c.self.invariant.valid.ascending (c.loop-at.invariant ∙ found))
 
 pub returns-then-is_settled-clause-none : goal.returns-then-is_settled-clause-none
 returns-then-is_settled-clause-none g c =

@@ -1,8 +1,8 @@
-use Rattle.std.proofs.Common.{rules, ◌≡◌, true, false, refl, sym, ap, ◌∙◌, Some}
+use Rattle.std.proofs.Common.{rules, ◌≡◌, ◌+◌, arith, true, false, refl, sym, ap, ◌∙◌, Some}
 use Rattle.std.proofs.lemmas.Bool.{ltb-true}
-use Rattle.tap_link.specs.declared.kind.Kind.TheVariants.{Settled}
+use Rattle.tap_link.specs.declared.kind.Kind.TheVariants.{Pin, Settled}
 use Rattle.tap_link.specs.LinkSet.{has_room}
-use Rattle.tap_link.proofs.Kept.{kept-remove, kept-set}
+use Rattle.tap_link.proofs.Kept.{counted-remove, counted-set, uncounted_pin}
 use Rattle.tap_link.proofs.Search.{set_of, absent-kind_of, found_as, found-target, remove-without, set-with_kind, not_pinned}
 use Rattle.tap_link.proofs.set.LinkSet.release.Goals as goal
 
@@ -26,9 +26,12 @@ settle-requires g c = (
 pub invariant_of-self : goal.invariant_of-self
 invariant_of-self g c =
     let room : has_room (set_of c.self.inside.width c.self.inside.places) ≡ true = cc in
+    let pin : c.link_at.result.now.kind ≡ Pin = cc in
+    let none = uncounted_pin c.link_at.result.now pin in
     rw (c.settle.ensures c.link_at.result.now c.link_at.ensures)
-    (kept-set g.K.Ord.cmp (set_of c.self.inside.width c.self.inside.places) c.in-Ok.at c.link_at.result.now Settled c.self.invariant
-    c.link_at.ensures (λ _. ltb-true _ _ room))
+    (counted-set g.K.Ord.cmp (set_of c.self.inside.width c.self.inside.places) c.in-Ok.at c.self.inside.settled
+    (c.self.inside.settled + 1) c.link_at.result.now Settled c.self.invariant c.link_at.ensures (λ _. ltb-true _ _ room)
+    (omega (arith, none)))
 
 pub spend-requires-clause-by_target : goal.spend-requires-clause-by_target
 spend-requires-clause-by_target g c =
@@ -36,9 +39,12 @@ spend-requires-clause-by_target g c =
 
 pub invariant_of-self-else-has_room : goal.invariant_of-self-else-has_room
 invariant_of-self-else-has_room g c =
+    let same : Some c.remove.result ≡ Some c.link_at.result.now = sym c.remove.ensures.taken ∙ c.link_at.ensures in
+    let pin : c.remove.result.kind ≡ Pin = cc in
+    let none = uncounted_pin c.remove.result pin in
     rw c.remove.ensures.rest
-    (kept-remove g.K.Ord.cmp (set_of c.self.inside.width c.self.inside.places) c.in-Ok.at c.remove.result c.self.invariant
-    c.remove.ensures.taken)
+    (counted-remove g.K.Ord.cmp (set_of c.self.inside.width c.self.inside.places) c.in-Ok.at c.self.inside.settled
+    c.self.inside.settled c.remove.result c.self.invariant c.remove.ensures.taken (omega (arith, none)))
 
 pub returns-in-Settled : goal.returns-in-Settled
 returns-in-Settled g c =

@@ -1,4 +1,4 @@
-use Rattle.std.proofs.Common.{◌≡◌, arith, ap, is_some, ◌∙◌}
+use Rattle.std.proofs.Common.{◌≡◌, arith}
 use Rattle.tap_table.proofs.Counted.{counted_after, few_slots, fits_after}
 use Rattle.tap_table.specs.Sets.{has_primary}
 use Rattle.tap_table.proofs.WithPrimaries.{noted_after}
@@ -18,12 +18,12 @@ past-empty_from-requires c =
 
 pub invariant_of-self-2 : goal.invariant_of-self-2
 invariant_of-self-2 c =
-    let has : c.is_some.result ≡ has_primary c.offer_in.new.set = c.is_some.ensures ∙ ap is_some c.primary.ensures.value in
+    let has : c.has_primary.result ≡ has_primary c.offer_in.new.set = c.has_primary.ensures in
     record {
       counted = counted_after c.self.inside.sets.items c.self.inside.links c.args.number c.self.inside.empty_from c.index_mut-set.result.now
           c.self.invariant.counted (rw (← c.self.view_is) at c.requires) c.index_mut-set.ensures.value c.offer_in.new.set c.len-before.result
           c.len-now.result c.past-empty_from.result c.len-before.ensures.count c.len-now.ensures.count c.offer_in.ensures.few
           c.past-empty_from.ensures.after c.past-empty_from.ensures.least;
       primaries = noted_after c.self.inside.sets.items c.self.inside.with_primary.items c.self.invariant.primaries c.args.number
-          c.offer_in.new.set c.is_some.result has;
+          c.offer_in.new.set c.has_primary.result has;
     }
