@@ -5,7 +5,7 @@ use std::alloc::Global;
 use std::marker::Model;
 use tap_name::{Name, Settings};
 use tap_watch::Watch;
-use tap_wire::{Bytes, Frame, NoMemory, TellFields, encode, encode_tell_into};
+use tap_wire::{Bytes, Frame, NoMemory, TellFields, encode, encode_tell};
 
 /// The frames of a step, in the order in which they are sent, each as its bytes.
 ///
@@ -90,9 +90,8 @@ impl FrameList {
         ensures { OnOk result (self.new
             ≡ self.old ++ spelling settings.now (tell_frame from.now to.now fields.now watch.now) ∷ []) }
     {
-        let mut bytes = Vec::new(self.alloc);
-        encode_tell_into(&mut bytes, settings, from, to, fields, watch)?;
-        self.frames.push(Bytes::from_vec(bytes))?;
+        let bytes = encode_tell(self.alloc, settings, from, to, fields, watch)?;
+        self.frames.push(bytes)?;
         Ok(())
     }
 }

@@ -1,5 +1,5 @@
 -- whole frames: read where they were written, and written as they are read
-use Rattle.std.proofs.Common.{◌≡◌, ◌<◌, ◌≤◌, ◌++◌, ◌+◌, ◌-◌, ℕ, Bool, true, false, cond, List, [], ◌∷◌, length, drop, All, Result, Ok, Err, IsOk, IsTrue, Vec, vec_len, vec_capacity, arith, refl, ap, sym, subst, ◌∙◌, append_assoc, length-append}
+use Rattle.std.proofs.Common.{◌≡◌, ◌<◌, ◌≤◌, ◌++◌, ◌+◌, ◌-◌, ℕ, Bool, true, false, cond, List, [], ◌∷◌, length, drop, All, Result, Ok, Err, IsOk, IsTrue, arith, refl, ap, sym, subst, ◌∙◌, append_assoc, length-append}
 use Rattle.byteorder.specs.Endian.{big_bytes}
 use Rattle.byteorder.specs.Numbers.{length-bytes_high_first}
 use Rattle.tap_name.specs.Settings.{SettingsValue, AreWithinLimits}
@@ -20,7 +20,6 @@ use Rattle.tap_wire.specs.Kind.{code_of, kind_of, has_list}
 use Rattle.tap_wire.specs.Fields.{◌>>=◌, number_at}
 use Rattle.tap_wire.specs.Reading.{head_of_frame, head_of, opening_of, body_at, in_frame, frame_of, BodyFails, WantsMemory}
 use Rattle.tap_wire.specs.Spelling.{body_bytes, spelling, IsFrame, IsTyped}
-use Rattle.tap_wire.specs.Writing.{HasRoom}
 use Rattle.tap_wire.specs.Layout.{is_length, is_long, version_of, head_len, body_start, body_len}
 use Rattle.tap_wire.proofs.Steps.{bind_ok, bind_is}
 use Rattle.tap_wire.proofs.Pieces.{moved, byte_is, past_byte, byte_taken, number_is, past_number, number_taken, name_is, past_name, name_taken}
@@ -245,11 +244,6 @@ spelled_so p frame bytes limits all e =
 pub length-spelling : (p : SettingsValue) (frame : Frame) → AreWithinLimits p → IsFrame p frame
     → length (spelling p frame) ≡ body_start p + length (body_bytes frame.body)
 length-spelling p frame limits is = let h = stands p frame (spelling p frame) limits is (pieces p frame) in h.head.whole
-
--- room for a head, two names and so many bytes of a body has room for the spelling
-pub spelling_fits : {A : Type 0} (p : SettingsValue) (frame : Frame) (len : ℕ) (out : Vec ℕ A) → AreWithinLimits p → IsFrame p frame
-    → len ≡ length (body_bytes frame.body) → vec_len out + (body_start p + len) ≤ vec_capacity out → HasRoom out (spelling p frame)
-spelling_fits p frame len out limits is same room = omega (arith, length-spelling p frame limits is, same, room)
 
 -- ---- heads
 

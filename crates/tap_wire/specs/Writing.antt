@@ -1,12 +1,12 @@
--- bytes added at the end of a vector that has room for them
-use Rattle.std.specs.Prelude.{◌≡◌, ℕ, ◌+◌, ◌≤◌, List, ◌++◌, length, Vec, vec_len, vec_capacity}
+-- bytes written from a place on, over as many that are there
+use Rattle.std.specs.Prelude.{◌≡◌, ℕ, ◌+◌, ◌≤◌, List, ◌++◌, length, take}
 
--- so many bytes fit without memory
-abbrev pub HasRoom : {A : Type 0} → Vec ℕ A → List ℕ → Type 0
-HasRoom out bytes = vec_len out + length bytes ≤ vec_capacity out
+-- so many bytes fit from a place on
+abbrev pub HasRoom : List ℕ → ℕ → List ℕ → Type 0
+HasRoom out at bytes = at + length bytes ≤ length out
 
--- these bytes were added, and room was lost to them alone
-pub record Appends {A : Type 0} (old new : Vec ℕ A) (bytes : List ℕ) : Type 0 where
-  pub items : new.items ≡ old.items ++ bytes
-  pub len : vec_len new ≡ vec_len old + length bytes
-  pub capacity : vec_capacity old ≤ vec_capacity new
+-- these bytes were written from a place on, up to the next place, and those before them stayed
+pub record Puts (old : List ℕ) (at : ℕ) (bytes new : List ℕ) (next : ℕ) : Type 0 where
+  pub items : take next new ≡ take at old ++ bytes
+  pub past : next ≡ at + length bytes
+  pub len : length new ≡ length old

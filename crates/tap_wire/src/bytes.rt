@@ -1,15 +1,20 @@
-ghost use Rattle.std.specs.Prelude.{◌≡◌, IfOk};
+ghost use Rattle.std.specs.Prelude.{◌≡◌, ◌≤◌, IfOk, take};
 
 use crate::memory::NoMemory;
+use smallvec::SmallVec;
 use std::alloc::Global;
 use std::marker::Model;
 
-/// A list of bytes, as of a frame's spelling or the word of a cast. Contracts see the list of their numbers.
+// The most bytes that stand in the value itself: those of nearly all frames.
+pub(crate) const MOST_IN_PLACE: usize = 56;
+
+/// A list of bytes, as of a frame's spelling or the word of a cast. A few stand in the value itself. Contracts see the list of their
+/// numbers.
 ///
 /// Rule: docs/FORMATS.md, "Frames".
 #[derive(Debug, Drop)]
 pub struct Bytes {
-    bytes: Vec<u8>,
+    bytes: SmallVec<u8, MOST_IN_PLACE>,
 }
 
 impl Model for Bytes {
@@ -28,7 +33,7 @@ impl Bytes {
         ensures { IfOk result (λ b. b ≡ bytes.now) }
     {
         Ok(Bytes {
-            bytes: Vec::from_slice(alloc, bytes)?,
+            bytes: SmallVec::from_slice(alloc, bytes)?,
         })
     }
 
@@ -41,22 +46,23 @@ impl Bytes {
         self.bytes.as_slice()
     }
 
-    /// The list of a vector's bytes. It takes no memory.
-    ///
-    /// Rule: docs/FORMATS.md, "Frames".
-    pub fn from_vec(bytes: Vec<u8>) -> Bytes
-        ensures { result ≡ bytes.items }
+    // The list of the first of these bytes.
+    pub(crate) fn in_place(alloc: Global, places: [u8; MOST_IN_PLACE], len: usize) -> Bytes
+        requires { len ≤ MOST_IN_PLACE }
+        ensures { result ≡ take len places }
     {
-        Bytes { bytes }
+        Bytes {
+            bytes: SmallVec::from_buf_and_len(alloc, places, len),
+        }
     }
 
-    /// The vector of the bytes. It takes no memory.
-    ///
-    /// Rule: docs/FORMATS.md, "Frames".
-    pub fn into_vec(self) -> Vec<u8>
-        ensures { result.items ≡ self }
+    // The list of a vector's bytes.
+    pub(crate) fn of_vec(bytes: Vec<u8>) -> Bytes
+        ensures { result ≡ bytes.items }
     {
-        self.bytes
+        Bytes {
+            bytes: SmallVec::from_vec(bytes),
+        }
     }
 }
 

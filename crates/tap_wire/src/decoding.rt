@@ -1,4 +1,4 @@
-ghost use Rattle.std.specs.Prelude.{◌≡◌, ◌≢◌, ◌==◌, ◌+◌, ◌*◌, ◌-◌, ◌≤◌, ◌<◌, ◌↔◌, ◌&&◌, not, length, take, drop, slice_index, All, IsTrue, IfOk, OnOk, IfErr, IfSome, Ok, Err};
+ghost use Rattle.std.specs.Prelude.{◌≡◌, ◌≢◌, ◌==◌, ◌+◌, ◌-◌, ◌≤◌, ◌<◌, ◌↔◌, ◌&&◌, not, length, take, drop, slice_index, All, IsTrue, IfOk, OnOk, IfErr, IfSome, Ok, Err};
 ghost use Rattle.std.specs.Bool.{OnTrue};
 ghost use Rattle.tap_name.specs.Name.{IsName};
 ghost use Rattle.tap_name.specs.Settings.{AreWithinLimits};
@@ -13,29 +13,14 @@ ghost use Rattle.tap_wire.specs.Names.{sender_in, receiver_in, HeadGives};
 ghost use Rattle.tap_wire.specs.Spelling.{IsFrame, IsTyped, spelling};
 
 use crate::fault::{HeadFault, WireFault};
-use crate::fields::{are_below, bad_digit_unless, digits_at, name_of, u16_at};
+use crate::fields::{are_names, bad_digit_unless, digits_at, name_of, u16_at};
 use crate::frame::{Frame, Head};
 use crate::kind::Kind;
 use crate::layout::{body_start, head_len, is_long, version_of};
 use crate::opening::Opening;
 use crate::reading::body_at;
 use std::alloc::Global;
-use tap_name::{Name, Settings, USUAL_DIGITS};
-
-// Whether each digit of the two names is below the base.
-#[inline(always)]
-fn are_names(settings: &Settings, bytes: &[u8], start: usize) -> bool
-    requires { start + 2 * settings.now.digits ≤ length bytes.now }
-    ensures sender { OnTrue result (All (λ d. d < settings.now.base) (take settings.now.digits (drop start bytes.now))) }
-    ensures receiver { OnTrue result (All (λ d. d < settings.now.base) (take settings.now.digits (drop (start + settings.now.digits) bytes.now))) }
-{
-    let digits = settings.digits() as usize;
-    if digits == USUAL_DIGITS {
-        // If they have as many digits as usual, all are compared at once.
-        return are_below(settings.base(), &bytes[start..start + 2 * USUAL_DIGITS]);
-    }
-    are_below(settings.base(), &bytes[start..start + 2 * digits])
-}
+use tap_name::{Name, Settings};
 
 // The refusal of one of the two names, if a digit isn't below the base, which needs no look if all are known to be.
 #[inline(always)]

@@ -1,8 +1,8 @@
-ghost use Rattle.std.specs.Prelude.{◌≡◌, ◌++◌, IfOk, OnOk, OnErr, length};
+ghost use Rattle.std.specs.Prelude.{◌≡◌, ◌<◌, IfOk, length};
 ghost use Rattle.tap_wire.specs.Spelling.{IsFrame, head_bytes, body_bytes, tell_frame, spelling};
-ghost use Rattle.tap_wire.specs.Writing.{HasRoom, Appends};
+ghost use Rattle.tap_wire.specs.Writing.{HasRoom, Puts};
 
-use crate::bytes::Bytes;
+use crate::bytes::{Bytes, MOST_IN_PLACE};
 use crate::frame::{Frame, TellFields};
 use crate::kind::Kind;
 use crate::layout::{SLOT_LEN, body_len, body_start, is_long, version_of};
@@ -14,29 +14,62 @@ use tap_watch::Watch;
 
 // The head of a frame whose body has a code and so many bytes.
 #[tactic(auto, using(crate::proofs::Appending::sizes))]
-fn put_head(out: &mut Vec<u8>, settings: &Settings, code: u8, len: u16)
-    requires { HasRoom out.old (head_bytes settings.now code len) }
-    ensures { Appends out.old out.new (head_bytes settings.now code len) }
+fn put_head(out: &mut [u8], settings: &Settings, code: u8, len: u16) -> usize
+    requires { HasRoom out.old 0 (head_bytes settings.now code len) }
+    ensures { Puts out.old 0 (head_bytes settings.now code len) out.new result }
 {
-    put_byte(out, version_of(settings));
-    put_byte(out, code);
-    put_u16(out, len);
+    let at = put_byte(out, 0, version_of(settings));
+    let at = put_byte(out, at, code);
+    let at = put_u16(out, at, len);
     if is_long(settings) {
-        put_byte(out, settings.digits());
+        return put_byte(out, at, settings.digits());
     }
+    at
 }
 
 // A frame whose body has so many bytes, for which there is room.
 #[tactic(auto, using(crate::proofs::Appending::sizes))]
-fn put_frame(out: &mut Vec<u8>, settings: &Settings, frame: &Frame, len: u16)
+#[inline(always)]
+fn put_frame(out: &mut [u8], settings: &Settings, frame: &Frame, len: u16) -> usize
     requires long { len ≡ length (body_bytes frame.now.body) }
-    requires room { HasRoom out.old (spelling settings.now frame.now) }
-    ensures { Appends out.old out.new (spelling settings.now frame.now) }
+    requires room { HasRoom out.old 0 (spelling settings.now frame.now) }
+    ensures { Puts out.old 0 (spelling settings.now frame.now) out.new result }
 {
-    put_head(out, settings, Kind::of(&frame.body).code(), len);
-    put_name(out, &frame.from);
-    put_name(out, &frame.to);
-    put_body(out, &frame.body);
+    let at = put_head(out, settings, Kind::of(&frame.body).code(), len);
+    let at = put_name(out, at, &frame.from);
+    let at = put_name(out, at, &frame.to);
+    put_body(out, at, &frame.body)
+}
+
+// A Tell whose body has so many bytes, for which there is room.
+#[tactic(auto, using(crate::proofs::Appending::sizes))]
+#[inline(always)]
+fn put_tell_frame(
+    out: &mut [u8],
+    settings: &Settings,
+    from: &Name,
+    to: &Name,
+    fields: &TellFields,
+    watch: &Watch,
+    len: u16,
+) -> usize
+    requires long { len ≡ length (body_bytes (tell_frame from.now to.now fields.now watch.now).body) }
+    requires room { HasRoom out.old 0 (spelling settings.now (tell_frame from.now to.now fields.now watch.now)) }
+    ensures { Puts out.old 0 (spelling settings.now (tell_frame from.now to.now fields.now watch.now)) out.new result }
+{
+    let at = put_head(out, settings, Kind::Tell.code(), len);
+    let at = put_name(out, at, from);
+    let at = put_name(out, at, to);
+    put_tell(
+        out,
+        at,
+        &fields.joiner,
+        fields.prefix,
+        fields.level,
+        fields.session,
+        fields.depth,
+        watch,
+    )
 }
 
 /// The one spelling of a frame whose fields keep their rules.
@@ -47,73 +80,81 @@ pub fn encode(alloc: Global, settings: &Settings, frame: &Frame) -> Result<Bytes
     ensures { IfOk result (λ bytes. bytes ≡ spelling settings.now frame.now) }
 {
     let len = body_len(settings, &frame.body);
-    let mut out = Vec::with_capacity(alloc, body_start(settings) + len)?;
-    put_frame(&mut out, settings, frame, len as u16);
-    Ok(Bytes::from_vec(out))
+    if body_start(settings) + len > MOST_IN_PLACE {
+        return encode_long(alloc, settings, frame, len);
+    }
+    let mut places = [0; MOST_IN_PLACE];
+    let end = put_frame(&mut places, settings, frame, len as u16);
+    Ok(Bytes::in_place(alloc, places, end))
 }
 
-/// Adds the one spelling of a frame whose fields keep their rules at the end of bytes. If memory is refused they stay as
-/// they were.
-///
-/// Rule: docs/FORMATS.md, "Frames".
-pub fn encode_into(out: &mut Vec<u8>, settings: &Settings, frame: &Frame) -> Result<(), NoMemory>
-    requires { IsFrame settings.now frame.now }
-    ensures ok { OnOk result (out.new.items ≡ out.old.items ++ spelling settings.now frame.now) }
-    ensures err { OnErr result (out.new.items ≡ out.old.items) }
+// The spelling of a frame whose body has so many bytes.
+#[inline(never)]
+fn encode_long(
+    alloc: Global,
+    settings: &Settings,
+    frame: &Frame,
+    len: usize,
+) -> Result<Bytes, NoMemory>
+    requires frame { IsFrame settings.now frame.now }
+    requires long { len ≡ length (body_bytes frame.now.body) }
+    requires most { len < 65536 }
+    ensures { IfOk result (λ bytes. bytes ≡ spelling settings.now frame.now) }
 {
-    let len = body_len(settings, &frame.body);
-    out.reserve(body_start(settings) + len)?;
-    put_frame(out, settings, frame, len as u16);
-    Ok(())
+    let mut bytes = vec![in alloc; 0; body_start(settings) + len]?;
+    put_frame(bytes.as_mut_slice(), settings, frame, len as u16);
+    Ok(Bytes::of_vec(bytes))
 }
 
-/// Adds the one spelling of a Tell at the end of bytes, its watch list lent: so Tells to many receivers share one list, and
-/// none of them copies it. If memory is refused the bytes stay as they were.
+/// The one spelling of a Tell whose fields keep their rules, its watch list lent: so Tells to many receivers share one
+/// list, and none of them copies it.
 ///
 /// Rule: docs/FORMATS.md, "Frames".
-pub fn encode_tell_into(
-    out: &mut Vec<u8>,
+pub fn encode_tell(
+    alloc: Global,
     settings: &Settings,
     from: &Name,
     to: &Name,
     fields: &TellFields,
     watch: &Watch,
-) -> Result<(), NoMemory>
+) -> Result<Bytes, NoMemory>
     requires { IsFrame settings.now (tell_frame from.now to.now fields.now watch.now) }
-    ensures ok { OnOk result (out.new.items ≡ out.old.items ++ spelling settings.now (tell_frame from.now to.now fields.now watch.now)) }
-    ensures err { OnErr result (out.new.items ≡ out.old.items) }
+    ensures { IfOk result (λ bytes. bytes ≡ spelling settings.now (tell_frame from.now to.now fields.now watch.now)) }
 {
     let len = Kind::Tell.fixed_len(settings) + SLOT_LEN * watch.len();
-    out.reserve(body_start(settings) + len)?;
-    put_tell_frame(out, settings, from, to, fields, watch, len as u16);
-    Ok(())
+    if body_start(settings) + len > MOST_IN_PLACE {
+        return encode_long_tell(alloc, settings, from, to, fields, watch, len);
+    }
+    let mut places = [0; MOST_IN_PLACE];
+    let end = put_tell_frame(&mut places, settings, from, to, fields, watch, len as u16);
+    Ok(Bytes::in_place(alloc, places, end))
 }
 
-// A Tell whose body has so many bytes, for which there is room.
-#[tactic(auto, using(crate::proofs::Appending::sizes))]
-fn put_tell_frame(
-    out: &mut Vec<u8>,
+// The spelling of a Tell whose body has so many bytes.
+#[inline(never)]
+fn encode_long_tell(
+    alloc: Global,
     settings: &Settings,
     from: &Name,
     to: &Name,
     fields: &TellFields,
     watch: &Watch,
-    len: u16,
-)
+    len: usize,
+) -> Result<Bytes, NoMemory>
+    requires frame { IsFrame settings.now (tell_frame from.now to.now fields.now watch.now) }
     requires long { len ≡ length (body_bytes (tell_frame from.now to.now fields.now watch.now).body) }
-    requires room { HasRoom out.old (spelling settings.now (tell_frame from.now to.now fields.now watch.now)) }
-    ensures { Appends out.old out.new (spelling settings.now (tell_frame from.now to.now fields.now watch.now)) }
+    requires most { len < 65536 }
+    ensures { IfOk result (λ bytes. bytes ≡ spelling settings.now (tell_frame from.now to.now fields.now watch.now)) }
 {
-    put_head(out, settings, Kind::Tell.code(), len);
-    put_name(out, from);
-    put_name(out, to);
-    put_tell(
-        out,
-        &fields.joiner,
-        fields.prefix,
-        fields.level,
-        fields.session,
-        fields.depth,
+    let mut bytes = vec![in alloc; 0; body_start(settings) + len]?;
+    put_tell_frame(
+        bytes.as_mut_slice(),
+        settings,
+        from,
+        to,
+        fields,
         watch,
+        len as u16,
     );
+    Ok(Bytes::of_vec(bytes))
 }

@@ -1,7 +1,6 @@
-ghost use Rattle.std.specs.Prelude.{◌≡◌, ◌+◌, ◌*◌, ◌-◌, ◌/◌, ◌≤◌, ◌<◌, nat_le, length, take, drop, position, slice_index, All};
+ghost use Rattle.std.specs.Prelude.{◌≡◌, ◌+◌, ◌*◌, ◌-◌, ◌≤◌, ◌<◌, nat_le, length, take, drop, position, All};
 ghost use Rattle.std.specs.Bool.{OnTrue};
 ghost use Rattle.tap_name.specs.Name.{IsName};
-ghost use Rattle.tap_name.specs.declared.slot.Slot.{Slot};
 ghost use Rattle.tap_wire.specs.declared.fault.Broken.{Broken};
 ghost use Rattle.tap_wire.specs.Fields.{number_at, session_at, level_at, flag_at, name_at, optional_at};
 
@@ -135,16 +134,47 @@ pub(crate) fn name_of(settings: &Settings, digits: &[u8]) -> Name
     Name::of(digits)
 }
 
+// Whether each digit of the two names from a place on is below the base.
+#[inline(always)]
+pub(crate) fn are_names(settings: &Settings, bytes: &[u8], start: usize) -> bool
+    requires { start + 2 * settings.now.digits ≤ length bytes.now }
+    ensures sender { OnTrue result (All (λ d. d < settings.now.base) (take settings.now.digits (drop start bytes.now))) }
+    ensures receiver { OnTrue result (All (λ d. d < settings.now.base) (take settings.now.digits (drop (start + settings.now.digits) bytes.now))) }
+{
+    let digits = settings.digits() as usize;
+    if digits == USUAL_DIGITS {
+        // If they have as many digits as usual, all are compared at once.
+        return are_below(settings.base(), &bytes[start..start + 2 * USUAL_DIGITS]);
+    }
+    are_below(settings.base(), &bytes[start..start + 2 * digits])
+}
+
+// A name, each of its digits below the base, which needs no look if all are known to be.
+#[inline(always)]
+pub(crate) fn name_unless(
+    are_digits: bool,
+    settings: &Settings,
+    bytes: &[u8],
+    place: usize,
+) -> Result<Name, Broken>
+    requires there { place + settings.now.digits ≤ length bytes.now }
+    requires digits { OnTrue are_digits (All (λ d. d < settings.now.base) (take settings.now.digits (drop place bytes.now))) }
+    ensures { result ≡ name_at settings.now place bytes.now }
+{
+    let digits = digits_at(settings, bytes, place);
+    match bad_digit_unless(are_digits, settings, digits) {
+        None => Ok(name_of(settings, digits)),
+        Some(at) => Err(Broken { at: place + at }),
+    }
+}
+
 // A name, each of its digits below the base.
 pub(crate) fn name_at(settings: &Settings, bytes: &[u8], place: usize) -> Result<Name, Broken>
     requires { place + settings.now.digits ≤ length bytes.now }
     ensures { result ≡ name_at settings.now place bytes.now }
 {
-    let digits = digits_at(settings, bytes, place);
-    match bad_digit_unless(are_digits(settings, digits), settings, digits) {
-        None => Ok(name_of(settings, digits)),
-        Some(at) => Err(Broken { at: place + at }),
-    }
+    let are_digits = are_digits(settings, digits_at(settings, bytes, place));
+    name_unless(are_digits, settings, bytes, place)
 }
 
 // A flag that is 1 exactly if bytes follow it, and then a name.

@@ -18,7 +18,7 @@ mod writing;
 
 pub use bytes::Bytes;
 pub use decoding::{decode, decode_head};
-pub use encoding::{encode, encode_into, encode_tell_into};
+pub use encoding::{encode, encode_tell};
 pub use fault::{HeadFault, WireFault};
 pub use frame::{Body, Frame, Head, TellFields};
 pub use laws::{head_reads_back, reads_back, spelled_so};

@@ -4,7 +4,9 @@ ghost use Rattle.tap_wire.specs.Layout.{is_length};
 ghost use Rattle.tap_wire.specs.Reading.{BodyGives, prefix_at, level_above_at, seek_at, tell_at, hello_at, link_body_at, lay_at, find_at, answer_at, leave_at, cast_at, body_at};
 
 use crate::fault::{BodyFault, Broken};
-use crate::fields::{flag_at, level_at, name_at, optional_at, session_at, u16_at, u32_at};
+use crate::fields::{
+    are_names, flag_at, level_at, name_at, name_unless, optional_at, session_at, u16_at, u32_at,
+};
 use crate::frame::Body;
 use crate::kind::Kind;
 use crate::lists::{hello_links_at, watch_at, word_at};
@@ -115,8 +117,9 @@ fn lay_at(settings: &Settings, bytes: &[u8], start: usize) -> Result<Body, BodyF
 {
     let digits = settings.digits() as usize;
     let at = start + 2 * digits;
-    let object = name_at(settings, bytes, start)?;
-    let server = name_at(settings, bytes, start + digits)?;
+    let are_digits = are_names(settings, bytes, start);
+    let object = name_unless(are_digits, settings, bytes, start)?;
+    let server = name_unless(are_digits, settings, bytes, start + digits)?;
     let level = level_at(settings, bytes, at)?;
     let version = u32_at(bytes, at + 1);
     let on = flag_at(bytes, at + 5)?;
@@ -138,8 +141,9 @@ fn find_at(settings: &Settings, bytes: &[u8], start: usize) -> Result<Body, Body
 {
     let digits = settings.digits() as usize;
     let ticket = u32_at(bytes, start);
-    let object = name_at(settings, bytes, start + 4)?;
-    let asker = name_at(settings, bytes, start + 4 + digits)?;
+    let are_digits = are_names(settings, bytes, start + 4);
+    let object = name_unless(are_digits, settings, bytes, start + 4)?;
+    let asker = name_unless(are_digits, settings, bytes, start + 4 + digits)?;
     let level = level_at(settings, bytes, start + 4 + 2 * digits)?;
     Ok(Body::Find {
         ticket,

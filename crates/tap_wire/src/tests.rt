@@ -1,6 +1,7 @@
+use crate::bytes::MOST_IN_PLACE;
 use crate::{
     Body, Bytes, MOST_LETTERS, MOST_LINKS, TellFields, WireFault, decode, decode_head, encode,
-    encode_into, encode_tell_into,
+    encode_tell,
 };
 use std::alloc::{AllocError, Global};
 use std::process::Abort;
@@ -128,21 +129,6 @@ fn check_frame(
     Ok(())
 }
 
-// Reads a frame and spells it again after a byte, which stays.
-fn check_appended(
-    rt: &impl Abort,
-    alloc: Global,
-    settings: &Settings,
-    bytes: &[u8],
-) -> Result<(), Fail> {
-    let frame = decode(alloc, settings, bytes).map_err(|_| "a frame")?;
-    let mut out = vec![in alloc; 9]?;
-    encode_into(&mut out, settings, &frame).map_err(|_| "memory")?;
-    assert_eq!(rt; out[0], 9);
-    assert_eq!(rt; &out[1..], bytes);
-    Ok(())
-}
-
 #[test]
 fn reads_and_spells_each_kind(rt: HostRuntime) -> Result<(), Fail> {
     for digits in [2, 9] {
@@ -150,7 +136,6 @@ fn reads_and_spells_each_kind(rt: HostRuntime) -> Result<(), Fail> {
         for kind in 1..18 {
             let bytes = frame_of(rt.alloc(), &settings, kind)?;
             check_frame(&rt, rt.alloc(), &settings, kind, bytes.as_slice())?;
-            check_appended(&rt, rt.alloc(), &settings, bytes.as_slice())?;
         }
     }
     Ok(())
@@ -178,11 +163,10 @@ fn spells_many_tells_of_one_watch_list(rt: HostRuntime) -> Result<(), Fail> {
         session: 7,
         depth: 3,
     };
-    let mut out = Vec::new(rt.alloc());
-    for to in [joiner, from] {
-        encode_tell_into(&mut out, &settings, &from, &to, &fields, &watch).map_err(|_| "memory")?;
-    }
-    assert_eq!(rt; out.as_slice(), TWO_TELLS.as_slice());
+    let one = encode_tell(rt.alloc(), &settings, &from, &joiner, &fields, &watch);
+    let other = encode_tell(rt.alloc(), &settings, &from, &from, &fields, &watch);
+    assert_eq!(rt; one.map_err(|_| "memory")?.as_slice(), &TWO_TELLS[..20]);
+    assert_eq!(rt; other.map_err(|_| "memory")?.as_slice(), &TWO_TELLS[20..]);
     Ok(())
 }
 
@@ -198,12 +182,13 @@ fn reads_the_watch_list_of_a_tell(rt: HostRuntime) -> Result<(), Fail> {
     Ok(())
 }
 
+// Few bytes, which stand in the value itself, and many.
 #[test]
-fn takes_bytes_and_gives_them_back(rt: HostRuntime) -> Result<(), Fail> {
-    let bytes = Bytes::from_vec(vec![in rt.alloc(); 1, 2, 3]?);
-    let copy = Bytes::copy_of(rt.alloc(), bytes.as_slice()).map_err(|_| "memory")?;
-    let same = bytes.into_vec();
-    assert_eq!(rt; copy.as_slice(), [1, 2, 3].as_slice());
-    assert_eq!(rt; same.as_slice(), [1, 2, 3].as_slice());
+fn copies_any_number_of_bytes(rt: HostRuntime) -> Result<(), Fail> {
+    for len in [0, 3, MOST_IN_PLACE, MOST_IN_PLACE + 1, 200] {
+        let bytes = vec![in rt.alloc(); 7; len]?;
+        let copy = Bytes::copy_of(rt.alloc(), bytes.as_slice()).map_err(|_| "memory")?;
+        assert_eq!(rt; copy.as_slice(), bytes.as_slice());
+    }
     Ok(())
 }

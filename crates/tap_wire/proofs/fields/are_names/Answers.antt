@@ -1,6 +1,6 @@
 use Rattle.std.proofs.Common.{arith}
 use Rattle.tap_wire.proofs.Pieces.{below_pair}
-use Rattle.tap_wire.proofs.decoding.are_names.Goals as goal
+use Rattle.tap_wire.proofs.fields.are_names.Goals as goal
 
 pub returns-then-digits-eq-USUAL_DIGITS-clause-sender : goal.returns-then-digits-eq-USUAL_DIGITS-clause-sender
 returns-then-digits-eq-USUAL_DIGITS-clause-sender c =
