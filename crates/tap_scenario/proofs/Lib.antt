@@ -1,9 +1,11 @@
 pub mod Arrays
+pub mod Bytes
 pub mod Casts
 pub mod Keys
 pub mod Members
 pub mod Numbers
 pub mod Options
+pub mod Pairs
 pub mod Scripts
 pub mod Shapes
 pub mod Splits

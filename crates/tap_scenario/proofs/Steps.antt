@@ -78,7 +78,7 @@ text_of_step-join (RootSet object asker) = simp append_assoc
 text_of_step-join (Cast word prefix asker) = simp append_assoc
 
 -- there is no space in this, by a test
-no_space : (word : List ℕ) → list_all (λ byte. not (byte == 32)) word ≡ true → HasNoSpace word
+pub no_space : (word : List ℕ) → list_all (λ byte. not (byte == 32)) word ≡ true → HasNoSpace word
 no_space word passes = λ k d h. not-true _ (AllPass-from_list_all (λ byte. not (byte == 32)) word passes k d h)
 
 words-name : (first name : List ℕ) → list_all (λ byte. not (byte == 32)) first ≡ true

@@ -1,4 +1,4 @@
-ghost use Rattle.std.specs.Prelude.{◌≡◌, bytes_eq, find};
+ghost use Rattle.std.specs.Prelude.{◌≡◌, [], ◌∷◌, ◌++◌};
 ghost use Rattle.tap_scenario.specs.Kind.{text_of_kind, kind_of_word, is_there, link_of_pair};
 ghost use Rattle.tap_scenario.specs.Step.{step_of_name, step_of_pair, step_of_place};
 
@@ -56,41 +56,6 @@ pub(crate) const TO: &str = "to";
 
 pub(crate) const FROM: &str = "from";
 
-// All first words, those that long scenarios have most first.
-const KINDS: [Kind; 19] = [
-    Kind::Pair(PairKind::Walk),
-    Kind::Pair(PairKind::Find),
-    Kind::Pair(PairKind::Publish),
-    Kind::Pair(PairKind::Join),
-    Kind::Pair(PairKind::Withdraw),
-    Kind::Pair(PairKind::RootSet),
-    Kind::Name(NameKind::Root),
-    Kind::Name(NameKind::Table),
-    Kind::Name(NameKind::Leave),
-    Kind::Name(NameKind::Pointers),
-    Kind::Name(NameKind::Abandon),
-    Kind::Place(PlaceKind::Deliver),
-    Kind::Place(PlaceKind::Lose),
-    Kind::Place(PlaceKind::Repeat),
-    Kind::Settle,
-    Kind::Garble,
-    Kind::Cut,
-    Kind::Tick,
-    Kind::Cast,
-];
-
-// The first of these kinds whose steps begin with this word.
-fn kind_among(kinds: &[Kind], word: &[u8]) -> Option<Kind>
-    ensures { result ≡ find (λ kind. bytes_eq word.now (text_of_kind kind)) kinds.now }
-{
-    for kind in kinds {
-        if word == kind.text().as_bytes() {
-            return Some(*kind);
-        }
-    }
-    None
-}
-
 impl NameKind {
     // The step of this kind with this name.
     pub(crate) fn step(self, name: Name) -> Step
@@ -115,6 +80,17 @@ impl PairKind {
             PairKind::Join => "via",
             PairKind::Publish | PairKind::Withdraw => "at",
             PairKind::Find | PairKind::Walk | PairKind::RootSet => FROM,
+        }
+    }
+
+    // This word with a space on either side.
+    pub(crate) fn between(self) -> &'static str
+        ensures { result.now ≡ 32 ∷ link_of_pair self ++ 32 ∷ [] }
+    {
+        match self {
+            PairKind::Join => " via ",
+            PairKind::Publish | PairKind::Withdraw => " at ",
+            PairKind::Find | PairKind::Walk | PairKind::RootSet => " from ",
         }
     }
 
@@ -196,7 +172,28 @@ impl Kind {
     pub(crate) fn of(word: &[u8]) -> Option<Kind>
         ensures { result ≡ kind_of_word word.now }
     {
-        kind_among(&KINDS, word)
+        match word {
+            b"walk" => Some(Kind::Pair(PairKind::Walk)),
+            b"find" => Some(Kind::Pair(PairKind::Find)),
+            b"publish" => Some(Kind::Pair(PairKind::Publish)),
+            b"join" => Some(Kind::Pair(PairKind::Join)),
+            b"withdraw" => Some(Kind::Pair(PairKind::Withdraw)),
+            b"rootset" => Some(Kind::Pair(PairKind::RootSet)),
+            b"root" => Some(Kind::Name(NameKind::Root)),
+            b"table" => Some(Kind::Name(NameKind::Table)),
+            b"leave" => Some(Kind::Name(NameKind::Leave)),
+            b"pointers" => Some(Kind::Name(NameKind::Pointers)),
+            b"abandon" => Some(Kind::Name(NameKind::Abandon)),
+            b"deliver" => Some(Kind::Place(PlaceKind::Deliver)),
+            b"lose" => Some(Kind::Place(PlaceKind::Lose)),
+            b"repeat" => Some(Kind::Place(PlaceKind::Repeat)),
+            b"settle" => Some(Kind::Settle),
+            b"garble" => Some(Kind::Garble),
+            b"cut" => Some(Kind::Cut),
+            b"tick" => Some(Kind::Tick),
+            b"cast" => Some(Kind::Cast),
+            _ => None,
+        }
     }
 
     // Whether there are steps of this kind with these settings, in a scenario that is carried or not.

@@ -1,8 +1,10 @@
-ghost use Rattle.std.specs.Prelude.{◌≡◌, ◌↔◌, Some};
-ghost use Rattle.tap_scenario.specs.Step.{IsStep, settle_of_words, garble_of_words, cast_of_words, step_of_kind, step_of_words, step_of_text, text_of_step, is_played};
+ghost use Rattle.std.specs.Prelude.{◌≡◌, ◌↔◌, ◌^◌, Some, option_map};
+ghost use Rattle.tap_scenario.specs.declared.step.Step.TheVariants.{Cut};
+ghost use Rattle.tap_scenario.specs.Kind.{link_of_pair};
+ghost use Rattle.tap_scenario.specs.Step.{IsStep, one_name, two_names, one_number, two_numbers, step_of_name, step_of_pair, step_of_place, settle_of_words, garble_of_words, cast_of_words, step_of_words, step_of_text, text_of_step, is_played};
 
 use crate::cast::{Prefix, Word};
-use crate::kind::{FROM, Kind, MIXED, NEWEST, TO};
+use crate::kind::{FROM, Kind, MIXED, NEWEST, NameKind, PairKind, PlaceKind, TO};
 use crate::words::{Words, read_number};
 use tap_name::{Name, Settings, read_name};
 
@@ -151,6 +153,7 @@ impl Step {
 }
 
 // The step of the words after `settle`.
+#[inline(never)]
 fn read_settle(mut words: Words<'_>) -> Option<Step>
     ensures { result ≡ settle_of_words words.entry }
 {
@@ -168,6 +171,7 @@ fn read_settle(mut words: Words<'_>) -> Option<Step>
 }
 
 // The step of the words after `garble`.
+#[inline(never)]
 fn read_garble(mut words: Words<'_>) -> Option<Step>
     ensures { result ≡ garble_of_words words.entry }
 {
@@ -181,6 +185,7 @@ fn read_garble(mut words: Words<'_>) -> Option<Step>
 }
 
 // The step of the words after `cast`.
+#[inline(never)]
 fn read_cast(settings: &Settings, mut words: Words<'_>) -> Option<Step>
     ensures { result ≡ cast_of_words settings.now words.entry }
 {
@@ -202,36 +207,57 @@ fn read_cast(settings: &Settings, mut words: Words<'_>) -> Option<Step>
     })
 }
 
-// The step of a kind with these words after its first one.
+// The step of a kind that has one name.
 #[inline(never)]
-fn step_of_kind(settings: &Settings, kind: Kind, words: Words<'_>) -> Option<Step>
-    ensures { result ≡ step_of_kind settings.now kind words.entry }
+fn read_named(settings: &Settings, kind: NameKind, mut words: Words<'_>) -> Option<Step>
+    ensures { result ≡ option_map (step_of_name kind) (one_name settings.now words.entry) }
 {
-    match kind {
-        Kind::Name(kind) => {
-            let name = words.one_name(settings)?;
-            Some(kind.step(name))
-        }
-        Kind::Pair(kind) => {
-            let (first, second) = words.two_names(settings, kind.link().as_bytes())?;
-            Some(kind.step(first, second))
-        }
-        Kind::Place(kind) => {
-            let place = words.one_number(PLACE_MAX)?;
-            Some(kind.step(place as u32))
-        }
-        Kind::Settle => read_settle(words),
-        Kind::Garble => read_garble(words),
-        Kind::Cut => {
-            let (place, bytes) = words.two_numbers(PLACE_MAX, PLACE_MAX)?;
-            Some(Step::Cut {
-                place: place as u32,
-                bytes: bytes as u32,
-            })
-        }
-        Kind::Tick => words.only(Step::Tick),
-        Kind::Cast => read_cast(settings, words),
+    let name = words.next()?;
+    if words.next().is_some() {
+        return None;
     }
+    match read_name(settings, name) {
+        Ok(name) => Some(kind.step(name)),
+        Err(_) => None,
+    }
+}
+
+// The step of a kind that has two names with a word between them.
+#[inline(never)]
+fn read_pair(settings: &Settings, kind: PairKind, words: Words<'_>) -> Option<Step>
+    ensures { result ≡ option_map (λ names. step_of_pair kind names.0 names.1) (two_names settings.now (link_of_pair kind) words.entry) }
+{
+    let text = words.text()?;
+    let (first, others) = text.split_at_checked(settings.digits() as usize)?;
+    let second = others.strip_prefix(kind.between().as_bytes())?;
+    let Ok(first) = read_name(settings, first) else {
+        return None;
+    };
+    let Ok(second) = read_name(settings, second) else {
+        return None;
+    };
+    Some(kind.step(first, second))
+}
+
+// The step of a kind that has one place.
+#[inline(never)]
+fn read_place(kind: PlaceKind, words: Words<'_>) -> Option<Step>
+    ensures { result ≡ option_map (step_of_place kind) (one_number (2 ^ 32) words.entry) }
+{
+    let place = words.one_number(PLACE_MAX)?;
+    Some(kind.step(place as u32))
+}
+
+// The step of the words after `cut`.
+#[inline(never)]
+fn read_cut(words: Words<'_>) -> Option<Step>
+    ensures { result ≡ option_map (λ numbers. Cut numbers.0 numbers.1) (two_numbers (2 ^ 32) (2 ^ 32) words.entry) }
+{
+    let (place, bytes) = words.two_numbers(PLACE_MAX, PLACE_MAX)?;
+    Some(Step::Cut {
+        place: place as u32,
+        bytes: bytes as u32,
+    })
 }
 
 // The step that these words are: the first one gives its kind, which has to be there.
@@ -239,10 +265,18 @@ fn step_of_words(settings: &Settings, carrier: bool, mut words: Words<'_>) -> Op
     ensures { result ≡ step_of_words settings.now carrier words.entry }
 {
     let kind = Kind::of(words.next()?)?;
-    if kind.is_there(settings, carrier) {
-        step_of_kind(settings, kind, words)
-    } else {
-        None
+    if !kind.is_there(settings, carrier) {
+        return None;
+    }
+    match kind {
+        Kind::Name(kind) => read_named(settings, kind, words),
+        Kind::Pair(kind) => read_pair(settings, kind, words),
+        Kind::Place(kind) => read_place(kind, words),
+        Kind::Settle => read_settle(words),
+        Kind::Garble => read_garble(words),
+        Kind::Cut => read_cut(words),
+        Kind::Tick => words.only(Step::Tick),
+        Kind::Cast => read_cast(settings, words),
     }
 }
 
@@ -252,7 +286,7 @@ fn step_of_words(settings: &Settings, carrier: bool, mut words: Words<'_>) -> Op
 /// if names have 40 digits in base 16.
 ///
 /// Rule: docs/FORMATS.md, "The scenario".
-#[inline(never)]
+#[inline(always)]
 pub fn read_step(settings: &Settings, carrier: bool, text: &[u8]) -> Option<Step>
     ensures value { result ≡ step_of_text settings.now carrier text.now }
 

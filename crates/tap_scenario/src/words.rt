@@ -1,11 +1,10 @@
-ghost use Rattle.std.specs.Prelude.{◌≡◌, ◌==◌, ◌+◌, ◌≤◌, [], ◌∷◌, position, MatchOption, IfSome};
-ghost use Rattle.tap_scenario.specs.Step.{number_below, one_name, two_names, one_number, two_numbers, only};
-ghost use Rattle.tap_scenario.specs.Words.{words};
+ghost use Rattle.std.specs.Prelude.{◌≡◌, ◌==◌, ◌+◌, ◌≤◌, [], ◌∷◌, position, MatchOption, IfSome, option_copied};
+ghost use Rattle.tap_scenario.specs.Step.{number_below, one_number, two_numbers, only};
+ghost use Rattle.tap_scenario.specs.Words.{words, words_left};
 
 use crate::step::Step;
 use itoa::Buffer;
 use std::marker::Model;
-use tap_name::{Name, Settings, read_name};
 
 // The words of a text that are left, one space standing between each two. Contracts see them as a list.
 #[derive(Drop)]
@@ -67,6 +66,13 @@ impl<'a> Words<'a> {
         Words { rest: Some(text) }
     }
 
+    // The text whose words are left, if it isn't at its end.
+    pub(crate) fn text(self) -> Option<&'a [u8]>
+        ensures { words_left (option_copied result) ≡ self.entry }
+    {
+        self.rest
+    }
+
     // Takes the next word.
     pub(crate) fn next(&mut self) -> Option<&'a [u8]>
         ensures { MatchOption result ((self.old ≡ []) × (self.new ≡ [])) (λ word. self.old ≡ word.now ∷ self.new) }
@@ -82,32 +88,6 @@ impl<'a> Words<'a> {
                 Some(text)
             }
         }
-    }
-
-    // The name that the words are, if they are one name.
-    pub(crate) fn one_name(mut self, settings: &Settings) -> Option<Name>
-        ensures { result ≡ one_name settings.now self.entry }
-    {
-        let name = self.next()?;
-        if self.next().is_some() {
-            return None;
-        }
-        read_name(settings, name).ok()
-    }
-
-    // The names that the words are, if they are two names with this word between them.
-    pub(crate) fn two_names(mut self, settings: &Settings, link: &[u8]) -> Option<(Name, Name)>
-        ensures { result ≡ two_names settings.now link.now self.entry }
-    {
-        let first = self.next()?;
-        let word = self.next()?;
-        let second = self.next()?;
-        if self.next().is_some() || word != link {
-            return None;
-        }
-        let first = read_name(settings, first).ok()?;
-        let second = read_name(settings, second).ok()?;
-        Some((first, second))
     }
 
     // The number that the words are, if they are one number of at most so much.
