@@ -7,7 +7,9 @@ pub mod Beside
 pub mod Least
 pub mod Levels
 pub mod Lookups
+pub mod Lowest
 pub mod NamesHeld
 pub mod OnePair
 pub mod Relaying
 pub mod Telling
+pub mod Ways

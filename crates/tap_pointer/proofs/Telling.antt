@@ -1,5 +1,5 @@
 -- Laying the pairs of Lays as these tell, of all Lays that it takes to have all pairs laid as wanted, lays all as wanted.
-use Rattle.std.proofs.Common.{◌≡◌, ℕ, ◌+◌, Bool, true, false, List, [], ◌∷◌, ◌++◌, ◌==◌, length, map, Option, None, Some, refl, sym, ap, ◌∙◌, inl, inr}
+use Rattle.std.proofs.Common.{◌≡◌, ℕ, ◌+◌, Bool, true, false, List, [], ◌∷◌, ◌++◌, ◌==◌, length, map, drop, Option, None, Some, refl, sym, ap, ◌∙◌, inl, inr}
 use Rattle.std.specs.BTreeMap.{is_at}
 use Rattle.std.specs.List.{All, AllByRecursion}
 use Rattle.std.specs.List.Sorted.{IsStrictlySortedBy}
@@ -135,3 +135,26 @@ module _ (t : TableValue) where
       ∙ ap (λ es. laid_by_all es (lays_numbered next later)) (first_laid e.0 pairs last e.1 e.1.laid (wanted_hop t e) refl)
       ∙ first_kept (with_wanted t e) pairs (lays_numbered next later) others
       ∙ ap (λ more. with_wanted t e ∷ more) (all_laid_as_told next pairs (sorted_tail pair_cmp e.0 (keys_of pairs) sorted))
+
+-- of two Lays of one pair, one after the other, the second alone counts
+told_again : (first second : Lay) → pair_of_lay first ≡ pair_of_lay second → (pairs : List (Pair × PairState))
+    → laid_by (laid_by pairs first) second ≡ laid_by pairs second
+told_again first second same [] = refl
+told_again first second same (e ∷ pairs) =
+    elim (cases_Bool (is_at (pair_cmp (pair_of_lay first)) e.0)) [
+      | inl here ↦
+          let there : is_at (pair_cmp (pair_of_lay second)) e.0 ≡ true = ap (λ p. is_at (pair_cmp p) e.0) (sym same) ∙ here in
+          rw (here, there) refl
+      | inr other ↦
+          let there : is_at (pair_cmp (pair_of_lay second)) e.0 ≡ false = ap (λ p. is_at (pair_cmp p) e.0) (sym same) ∙ other in
+          rw (other, there) (ap (λ more. e ∷ more) (told_again first second same pairs))
+    ]
+
+pub told_twice : (lays : List Lay) (at : ℕ) (first second : Lay) → drop at lays ≡ first ∷ drop (at + 1) lays
+    → drop (at + 1) lays ≡ second ∷ drop (at + 1 + 1) lays → pair_of_lay first ≡ pair_of_lay second → (pairs : List (Pair × PairState))
+    → laid_by_all pairs (drop at lays) ≡ laid_by_all pairs (drop (at + 1) lays)
+told_twice lays at first second here next same pairs =
+    let rest = drop (at + 1 + 1) lays in
+    ap (laid_by_all pairs) (here ∙ ap (λ more. first ∷ more) next)
+    ∙ ap (λ es. laid_by_all es rest) (told_again first second same pairs)
+    ∙ sym (ap (laid_by_all pairs) next)

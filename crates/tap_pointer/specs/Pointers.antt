@@ -142,6 +142,12 @@ pub record IsPairState (owner : List ℕ) (e : Pair × PairState) : Type 0 where
   pub levels_from : All (λ r. 1 ≤ r.value.level) e.1.registers
   pub levels_to : All (λ r. r.value.level ≤ length e.0.object) e.1.registers
 
+-- A pair isn't held below a level: its registers are of this level or higher ones, and the owner publishes its object only if
+-- the level is 0.
+pub record IsHeldFrom (level : ℕ) (e : Pair × PairState) : Type 0 where
+  pub own : e.1.published ≡ true → level ≡ 0
+  pub registers : All (λ r. level ≤ r.value.level) e.1.registers
+
 -- what pointers keep: the pairs ascend
 pub record IsPointers (p : PointersValue) : Type 0 where
   pub ascending : IsStrictlySortedBy pair_cmp (keys_of p.pairs)

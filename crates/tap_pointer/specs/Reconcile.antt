@@ -1,5 +1,5 @@
 -- Where each pair is to be laid on to, and the Lays that this takes.
-use Rattle.std.specs.Prelude.{◌≡◌, ℕ, ◌+◌, nat_eq, nat_lt, ◌&&◌, ◌==◌, not, Bool, true, false, if◌then◌else◌, List, [], ◌∷◌, ◌++◌, map, drop, All, Option, None, Some}
+use Rattle.std.specs.Prelude.{◌≡◌, ℕ, ◌+◌, ◌<◌, nat_eq, nat_lt, ◌&&◌, ◌==◌, not, Bool, true, false, if◌then◌else◌, List, [], ◌∷◌, ◌++◌, length, map, drop, slice_index, All, Option, None, Some, IfSome}
 use Rattle.std.specs.BTreeMap.{is_at}
 use Rattle.std.specs.Cmp.Lexicographic.{pointwise}
 use Rattle.std.specs.List.{flat_map}
@@ -15,6 +15,8 @@ use Rattle.tap_pointer.specs.declared.laying.Laying.{Laying}
 use Rattle.tap_pointer.specs.declared.pair.Pair.{Pair}
 use Rattle.tap_pointer.specs.declared.state.PairState.{PairState}
 use Rattle.tap_pointer.specs.declared.state.Pointer.{Pointer}
+use Rattle.tap_pointer.specs.declared.way.Turn.{Turn}
+use Rattle.tap_pointer.specs.declared.way.Way.{Way}
 use Rattle.tap_pointer.specs.Pair.{pair_cmp}
 use Rattle.tap_pointer.specs.Pointers.{PointersValue, is_held_or_laid, level_held, pair_of, with_laid, with_lay}
 
@@ -130,29 +132,46 @@ AreLaid t p = All (λ e. e.1.laid ≡ wanted_hop t e) p.pairs
 abbrev pub AreLaidBut : TableValue → Pair → PointersValue → Type 0
 AreLaidBut t pair p = All (λ e. is_at (pair_cmp pair) e.0 ≡ false → e.1.laid ≡ wanted_hop t e) p.pairs
 
--- The way of a pair passes a level if the pair is held at this level or a lower one, and isn't laid on at a lower one.
+-- held at this level or a lower one
 abbrev pub is_held_to : ℕ → Option ℕ → Bool
 is_held_to level None = false
 is_held_to level (Some held) = nat_lt held (level + 1)
 
+-- laid on for a digit before the one at this level, so that the hop's own level is this one or a lower one
 abbrev pub turns_off : ℕ → Option Hop → Bool
 turns_off level None = false
 turns_off level (Some hop) = nat_lt hop.level (level + 1)
 
-abbrev pub passes : ℕ → PairState → Bool
-passes level state = is_held_to level (level_held state) && not (turns_off level state.laid)
+-- the object has the owner's own digit at the level
+abbrev pub has_own_digit : List ℕ → ℕ → List ℕ → Bool
+has_own_digit owner level object = slice_index object level == slice_index owner level
+
+-- The way of a pair passes a level if the pair is held at this level or a lower one, and isn't laid on before the digit at this level. If its
+-- object has the owner's own digit there, this digit is taken whatever the primaries are, and the pair doesn't count.
+abbrev pub passes : List ℕ → ℕ → Pair × PairState → Bool
+passes owner level (pair, state) =
+    is_held_to level (level_held state) && not (turns_off level state.laid) && not (has_own_digit owner level pair.object)
 
 -- each pair but those whose way passes a level is laid as wanted
 abbrev pub AreLaidBeside : TableValue → ℕ → PointersValue → Type 0
-AreLaidBeside t level p = All (λ e. passes level e.1 ≡ false → e.1.laid ≡ wanted_hop t e) p.pairs
+AreLaidBeside t level p = All (λ e. passes t.owner level e ≡ false → e.1.laid ≡ wanted_hop t e) p.pairs
+
+-- objects turn off to a hop: each that is held at a level and has a digit there is to be laid on to it
+abbrev pub TurnsTo : TableValue → Option Hop → Turn → Type 0
+TurnsTo t hop turn =
+    (object : List ℕ) → turn.level < length object → slice_index object turn.level ≡ turn.digit → hop ≡ hop_from t object (Some turn.level)
+
+-- a way: the objects that turn off so go to its hop
+abbrev pub IsWay : TableValue → Way → Type 0
+IsWay t way = IfSome way.turn (TurnsTo t way.hop)
 
 -- the pairs that may be laid elsewhere than wanted: all of them, or those whose way passes a level
-abbrev pub may_be_apart : Option ℕ → PairState → Bool
-may_be_apart None state = true
-may_be_apart (Some level) state = passes level state
+abbrev pub may_be_apart : List ℕ → Option ℕ → Pair × PairState → Bool
+may_be_apart owner None e = true
+may_be_apart owner (Some level) e = passes owner level e
 
 abbrev pub AreLaidUnlessApart : TableValue → Option ℕ → List (Pair × PairState) → Type 0
-AreLaidUnlessApart t level pairs = All (λ e. may_be_apart level e.1 ≡ false → e.1.laid ≡ wanted_hop t e) pairs
+AreLaidUnlessApart t level pairs = All (λ e. may_be_apart t.owner level e ≡ false → e.1.laid ≡ wanted_hop t e) pairs
 
 -- the object of each pair that is held or laid is a name of the settings
 abbrev pub AreNamesHeld : SettingsValue → PointersValue → Type 0

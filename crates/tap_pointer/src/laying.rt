@@ -1,12 +1,13 @@
-ghost use Rattle.std.specs.Prelude.{◌≡◌, ◌+◌, ◌≤◌, true, false, ◌++◌, length, All, Some, OnOk};
+ghost use Rattle.std.specs.Prelude.{◌≡◌, ◌+◌, ◌≤◌, true, false, ◌++◌, length, slice_index, All, Some, OnOk};
 ghost use Rattle.tap_name.specs.Name.{IsName};
 ghost use Rattle.tap_pointer.specs.Pointers.{is_held_or_laid};
-ghost use Rattle.tap_pointer.specs.Reconcile.{hop_of, is_same_hop, is_to, laying_at, layings, lays_numbered, may_be_apart, passes, told_off, told_on, turns_off, wanted_hop};
+ghost use Rattle.tap_pointer.specs.Reconcile.{hop_of, is_held_to, laying_at, layings, lays_numbered, may_be_apart, passes, told_off, told_on, turns_off, wanted_hop};
 
 use crate::hop::Hop;
 use crate::lay::Lay;
 use crate::pair::Pair;
 use crate::state::PairState;
+use tap_name::Name;
 use tap_register::Stamp;
 use tap_table::{Next, NoMemory, Table};
 
@@ -41,6 +42,7 @@ pub(crate) fn wanted_hop(table: &Table, pair: &Pair, state: &PairState) -> Optio
 }
 
 // Whether a pair that is laid so is laid where it is wanted.
+#[inline(always)]
 pub(crate) fn is_laid_so(laid: &Option<Hop>, wanted: &Option<Hop>) -> bool
     ensures { result ≡ true → laid.now ≡ wanted.now }
 {
@@ -48,11 +50,11 @@ pub(crate) fn is_laid_so(laid: &Option<Hop>, wanted: &Option<Hop>) -> bool
 }
 
 // Whether a pair may be laid elsewhere than wanted: if a level is given, its way passes this level.
-pub(crate) fn may_be_apart(level: Option<u8>, state: &PairState) -> bool
-    ensures { result ≡ may_be_apart level state.now }
+pub(crate) fn may_be_apart(owner: &Name, level: Option<u8>, pair: &Pair, state: &PairState) -> bool
+    ensures { result ≡ may_be_apart owner.now level (pair.now, state.now) }
 {
     match level {
-        Some(level) => passes(level, state),
+        Some(level) => passes(owner, level, pair, state),
         None => true,
     }
 }
@@ -67,17 +69,35 @@ fn turns_off(level: u8, laid: &Option<Hop>) -> bool
     }
 }
 
-// Whether the way of a pair passes a level.
-fn passes(level: u8, state: &PairState) -> bool
-    ensures { result ≡ passes level state.now }
+// Whether a pair is held at a level or a lower one.
+fn is_held_to(level: u8, held: Option<u8>) -> bool
+    ensures { result ≡ is_held_to level held }
+{
+    match held {
+        Some(held) => held <= level,
+        None => false,
+    }
+}
+
+// The digit at a place, and 0 past the last.
+fn digit_or_zero(name: &Name, at: usize) -> u8
+    ensures { result ≡ slice_index name.now at }
+{
+    if at < name.len() { name.digit(at) } else { 0 }
+}
+
+// Whether the way of a pair passes a level, and its object has another digit there than the owner.
+fn passes(owner: &Name, level: u8, pair: &Pair, state: &PairState) -> bool
+    ensures { result ≡ passes owner.now level (pair.now, state.now) }
 {
     if turns_off(level, &state.laid) {
         return false;
     }
-    match state.level_held() {
-        Some(held) => held <= level,
-        None => false,
+    let at = level as usize;
+    if digit_or_zero(&pair.object, at) == digit_or_zero(owner, at) {
+        return false;
     }
+    is_held_to(level, state.level_held())
 }
 
 // The hop that is told off, if a pair is laid at one hop and wanted at another.

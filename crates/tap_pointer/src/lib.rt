@@ -17,6 +17,7 @@ mod state;
 #[cfg(test)]
 mod tests;
 mod walk;
+mod way;
 
 pub use held::Held;
 pub use hop::Hop;

@@ -1,4 +1,4 @@
-ghost use Rattle.std.specs.Prelude.{◌≡◌, ◌+◌, ◌*◌, ◌<◌, ◌≤◌, if◌then◌else◌, not, length, map, slice_get, Some, IfOk, OnOk, OnErr};
+ghost use Rattle.std.specs.Prelude.{◌≡◌, ◌+◌, ◌*◌, ◌<◌, ◌≤◌, not, length, map, slice_get, Some, IfOk, OnOk, OnErr};
 ghost use Rattle.tap_name.specs.Name.{IsName};
 ghost use Rattle.tap_pointer.specs.Pointers.{IsPointers, all_withdrawn, is_news, lay_applied, least_server, no_pointers, own_pair, pair_of, pairs_held, pointer_at, published, owner_publishes, held_or_laid_count, withdrawn};
 ghost use Rattle.tap_pointer.specs.Reconcile.{AreLaid, AreLaidBeside, AreLaidBut, AreLaidUnlessApart, AreNamesHeld, clear_lays, cleared, reconcile_lays, reconciled};
@@ -27,7 +27,8 @@ use tap_table::{NoMemory, Table};
 /// what is known of each pair, ascending by object, then server.
 ///
 /// The pairs lie in an ordered map, so one pair is found, added and reconciled in time that grows with the logarithm of
-/// their number.
+/// their number. The lowest level at which a pair may be held is kept, so that a new primary of a level below it takes no
+/// time.
 ///
 /// Rule: docs/PROTOCOL.md, "Pointers".
 #[derive(Drop)]
@@ -36,17 +37,19 @@ pub struct Pointers {
     owner: Name,
     pairs: BTreeMap<Pair, PairState>,
     held_or_laid: usize,
+    lowest: u8,
 }
 
 impl Model for Pointers {
     ghost use Rattle.std.specs.Prelude.{◌≡◌, All};
-    ghost use Rattle.tap_pointer.specs.Pointers.{IsPairState, PointersValue, held_or_laid_count};
+    ghost use Rattle.tap_pointer.specs.Pointers.{IsHeldFrom, IsPairState, PointersValue, held_or_laid_count};
 
     ghost Value = { PointersValue };
 
     ghost view = { λ p. record { owner = p.owner; pairs = p.pairs.entries } };
 
-    ghost invariant = { λ p. (All (IsPairState p.owner) p.pairs.entries) × (p.held_or_laid ≡ held_or_laid_count p.pairs.entries) };
+    ghost invariant = { λ p. (All (IsPairState p.owner) p.pairs.entries) × (p.held_or_laid ≡ held_or_laid_count p.pairs.entries)
+        × (All (IsHeldFrom p.lowest) p.pairs.entries) };
 }
 
 impl Pointers {
@@ -59,6 +62,7 @@ impl Pointers {
             owner,
             pairs: BTreeMap::new(alloc),
             held_or_laid: 0,
+            lowest: u8::MAX,
         }
     }
 
@@ -99,6 +103,7 @@ impl Pointers {
     {
         let own = self.own(object);
         let (first, change) = publish(&mut self.pairs, self.alloc, own)?;
+        self.lowest = 0;
         self.held_or_laid = change.count_after(self.held_or_laid, self.pairs.len());
         Ok(first)
     }
@@ -146,6 +151,7 @@ impl Pointers {
         let pair = Pair { object, server };
         let pointer = Pointer { level, on };
         let (newer, change) = take(&mut self.pairs, self.alloc, pair, from, version, pointer)?;
+        self.lowest = self.lowest.min(level);
         self.held_or_laid = change.count_after(self.held_or_laid, self.pairs.len());
         Ok(newer)
     }
@@ -174,7 +180,8 @@ impl Pointers {
     }
 
     /// Does what `reconcile` does, if no pair needs it but those whose way passes this level: those that are held at this
-    /// level or a lower one, and aren't laid on at a lower one. Each other pair is laid as wanted, and isn't looked up.
+    /// level or a lower one, aren't laid on at a lower one, and whose object has another digit there than the owner. Each
+    /// other pair is laid as wanted, and isn't looked up.
     ///
     /// So it serves after a step that changed primaries of this level alone.
     ///
@@ -194,6 +201,9 @@ impl Pointers {
         ensures stamped { IfOk result (λ lays. stamp.new ≡ stamp.old + length lays) }
         ensures laid { OnOk result (AreLaid table.now self.new) }
     {
+        if level < self.lowest {
+            return Ok(List::from_vec(Vec::new(self.alloc)));
+        }
         self.lays_as_wanted(table, stamp, Some(level))
     }
 
@@ -298,6 +308,7 @@ impl Pointers {
         let pointer = Pointer { level, on };
         let alloc = self.alloc;
         let relaid = take_and_lay(&mut self.pairs, alloc, table, pair, from, version, pointer)?;
+        self.lowest = self.lowest.min(level);
         self.held_or_laid = relaid
             .change
             .count_after(self.held_or_laid, self.pairs.len());

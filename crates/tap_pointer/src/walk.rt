@@ -1,21 +1,25 @@
-ghost use Rattle.std.specs.Prelude.{◌≡◌, ◌+◌, ◌*◌, ◌≤◌, true, false, [], length, map, slice_get, All, IfOk};
+ghost use Rattle.std.specs.Prelude.{◌≡◌, ◌+◌, ◌*◌, ◌<◌, ◌≤◌, true, false, List, [], length, map, drop, slice_get, All, IfOk};
 ghost use Rattle.tap_name.specs.Name.{IsName};
+ghost use Rattle.tap_pointer.specs.declared.pair.Pair.{Pair};
+ghost use Rattle.tap_pointer.specs.declared.state.PairState.{PairState};
+ghost use Rattle.tap_pointer.specs.Due.{pair_of_lay};
 ghost use Rattle.tap_pointer.specs.Pointers.{held_among, is_held_or_laid, is_of, pair_of, held_or_laid_count, server_among, with_published};
-ghost use Rattle.tap_pointer.specs.Reconcile.{AreLaidUnlessApart, hop_told, laid_by, laid_by_all, layings_to_none, layings_to_wanted, lays_numbered, wanted_hop};
+ghost use Rattle.tap_pointer.specs.Reconcile.{AreLaidUnlessApart, hop_told, laid_by, laid_by_all, layings_to_none, layings_to_wanted, lays_numbered};
 
 use crate::hop::Hop;
 use crate::lay::Lay;
-use crate::laying::{is_laid_so, may_be_apart, push_layings, wanted_hop};
+use crate::laying::{is_laid_so, may_be_apart, push_layings};
 use crate::pair::Pair;
 use crate::state::PairState;
+use crate::way::{Way, follow};
 use std::alloc::Global;
 use std::collections::BTreeMap;
 use tap_name::Name;
 use tap_register::Stamp;
 use tap_table::{NoMemory, Table};
 
-// The Lays that it takes to have all pairs laid as wanted, of which those that may be laid elsewhere alone are looked up. Mostly
-// there are none, and then it takes no memory.
+// The Lays that it takes to have all pairs laid as wanted. Of those that may be laid elsewhere, one that goes the way of the pair
+// looked up before isn't looked up itself. Mostly there are no Lays, and then it takes no memory.
 pub(crate) fn lays_to_wanted(
     alloc: Global,
     pairs: &BTreeMap<Pair, PairState>,
@@ -31,15 +35,20 @@ pub(crate) fn lays_to_wanted(
     ensures stamped { IfOk result (λ lays. stamp.new ≡ stamp.old + length lays.items) }
 {
     let mut lays = Vec::new(alloc);
+    let mut way = Way {
+        turn: None,
+        hop: None,
+    };
+    let owner = table.owner();
     for (pair, state) in pairs {
-        if !may_be_apart(level, state) {
+        if !may_be_apart(&owner, level, pair, state) {
             continue;
         }
-        let wanted = wanted_hop(table, pair, state);
-        if is_laid_so(&state.laid, &wanted) {
+        follow(&mut way, table, pair, state);
+        if is_laid_so(&state.laid, &way.hop) {
             continue;
         }
-        push_layings(&mut lays, stamp, pair, &state.laid, &wanted)?;
+        push_layings(&mut lays, stamp, pair, &state.laid, &way.hop)?;
     }
     Ok(lays)
 }
@@ -55,10 +64,35 @@ pub(crate) fn lay_as_told(
     ensures count { result ≡ held_or_laid_count pairs.new.entries }
 {
     let mut count = count;
-    for told in lays {
+    for (at, told) in lays.iter().enumerate() {
+        if is_told_again(lays, at) {
+            continue;
+        }
         count = lay_by(pairs, told, count);
     }
     count
+}
+
+// Whether the Lay after the one at a place is of the same pair: then the first of both needn't be done.
+fn is_told_again(lays: &[Lay], at: usize) -> bool
+    requires { at < length lays.now }
+    ensures { result ≡ true → (pairs : List (Pair × PairState))
+        → laid_by_all pairs (drop at lays.now) ≡ laid_by_all pairs (drop (at + 1) lays.now) }
+{
+    match lays.get(at + 1) {
+        Some(next) => is_of_one_pair(&lays[at], next),
+        None => false,
+    }
+}
+
+// Whether two Lays are of one pair.
+fn is_of_one_pair(one: &Lay, other: &Lay) -> bool
+    ensures { result ≡ true → pair_of_lay one.now ≡ pair_of_lay other.now }
+{
+    if one.object != other.object {
+        return false;
+    }
+    one.server == other.server
 }
 
 // Lays the pair of a Lay as this tells, if the pair is known, and gives how many pairs are held or laid then.

@@ -8,6 +8,17 @@ use Rattle.tap_pointer.specs.Reconcile.{AreLaidUnlessApart, layings, layings_to_
 use Rattle.tap_pointer.proofs.Layings.{few_here, laid_already, length_step, numbered_step}
 use Rattle.tap_pointer.proofs.walk.lays_to_wanted.Goals as goal
 
+pub follow-requires-clause-name : goal.follow-requires-clause-name
+follow-requires-clause-name c =
+    let settings = c.args.table.now.settings in
+    let pair = c.in-Some.pair.now in
+    let state = c.in-Some.state.now in
+    let rest = c.next.new.self in
+    let left : c.loop-pair.pair-iterator ≡ (pair, state) ∷ rest =
+    rest_more deref_pair _ _ c.next.result (c.in-Some.pair, c.in-Some.state) c.in-Some.is c.next.ensures.steps in
+    All-head (λ e. is_held_or_laid e.1 ≡ true → IsName settings e.0.object) (pair, state) rest
+    (subst (All (λ e. is_held_or_laid e.1 ≡ true → IsName settings e.0.object)) left c.loop-pair.invariant.3)
+
 pub push_layings-requires : goal.push_layings-requires
 push_layings-requires c =
     let t = c.args.table.now in
@@ -16,8 +27,8 @@ push_layings-requires c =
     let rest = c.next.new.self in
     let left : c.loop-pair.pair-iterator ≡ (pair, state) ∷ rest =
     rest_more deref_pair _ _ c.next.result (c.in-Some.pair, c.in-Some.state) c.in-Some.is c.next.ensures.steps in
-    let lays : length (layings pair state.laid c.wanted_hop-wanted.result) ≡ length (layings pair state.laid (wanted_hop t (pair, state))) =
-    ap (λ hop. length (layings pair state.laid hop)) c.wanted_hop-wanted.ensures in
+    let lays : length (layings pair state.laid c.follow.new.way.hop) ≡ length (layings pair state.laid (wanted_hop t (pair, state))) =
+    ap (λ hop. length (layings pair state.laid hop)) c.follow.ensures.wanted in
     let spans : held_or_laid_count c.loop-pair.pair-iterator ≡ held_or_laid_count ((pair, state) ∷ rest) = ap held_or_laid_count left in
     omega (arith, lays, spans, few_here t (pair, state) rest, c.loop-pair.invariant.2)
 
@@ -34,9 +45,9 @@ loop-pair-preserved c =
     rest_more deref_pair _ _ c.next.result (c.in-Some.pair, c.in-Some.state) c.in-Some.is c.next.ensures.steps in
     let pushed : c.push_layings.new.lays.items ≡ lays ++ lays_numbered stamp here =
     c.in_ok-push_layings.ensures.added
-    ∙ ap (λ hop. lays ++ lays_numbered stamp (layings pair state.laid hop)) c.wanted_hop-wanted.ensures in
+    ∙ ap (λ hop. lays ++ lays_numbered stamp (layings pair state.laid hop)) c.follow.ensures.wanted in
     let stamped : c.push_layings.new.stamp ≡ stamp + length here =
-    c.in_ok-push_layings.ensures.stamped ∙ ap (λ hop. stamp + length (layings pair state.laid hop)) c.wanted_hop-wanted.ensures in
+    c.in_ok-push_layings.ensures.stamped ∙ ap (λ hop. stamp + length (layings pair state.laid hop)) c.follow.ensures.wanted in
     let spans : held_or_laid_count c.loop-pair.pair-iterator ≡ held_or_laid_count ((pair, state) ∷ rest) = ap held_or_laid_count left in
     rw (pushed, stamped) (
       numbered_step lays (lays_numbered c.args.stamp.now (layings_to_wanted t c.args.pairs.now.entries)) stamp here
@@ -47,8 +58,10 @@ loop-pair-preserved c =
           (subst (All (λ e. is_held_or_laid e.1 ≡ true → IsName t.settings e.0.object)) left c.loop-pair.invariant.3),
       All-tail (λ e. All (λ r. r.value.level ≤ length e.0.object) e.1.registers) (pair, state) rest
           (subst (All (λ e. All (λ r. r.value.level ≤ length e.0.object) e.1.registers)) left c.loop-pair.invariant.4),
-      All-tail (λ e. may_be_apart c.args.level e.1 ≡ false → e.1.laid ≡ wanted_hop t e) (pair, state) rest
+      All-tail (λ e. may_be_apart t.owner c.args.level e ≡ false → e.1.laid ≡ wanted_hop t e) (pair, state) rest
           (subst (AreLaidUnlessApart t c.args.level) left c.loop-pair.invariant.5),
+      c.follow.ensures.way,
+      c.loop-pair.invariant.7,
     )
 
 -- a pair that is laid as wanted takes no Lay
@@ -61,7 +74,7 @@ loop-pair-preserved-then-is_laid_so c =
     let left : c.loop-pair.pair-iterator ≡ (pair, state) ∷ rest =
     rest_more deref_pair _ _ c.next.result (c.in-Some.pair, c.in-Some.state) c.in-Some.is c.next.ensures.steps in
     let laid : state.laid ≡ wanted_hop t (pair, state) =
-    c.is_laid_so.ensures c.if-is_laid_so.true ∙ c.wanted_hop-wanted.ensures in
+    c.is_laid_so.ensures c.if-is_laid_so.true ∙ c.follow.ensures.wanted in
     let same : layings_to_wanted t c.loop-pair.pair-iterator ≡ layings_to_wanted t rest =
     ap (layings_to_wanted t) left ∙ ap (λ here. here ++ layings_to_wanted t rest) (laid_already t (pair, state) laid) in
     let spans : held_or_laid_count c.loop-pair.pair-iterator ≡ held_or_laid_count ((pair, state) ∷ rest) = ap held_or_laid_count left in (
@@ -72,8 +85,10 @@ loop-pair-preserved-then-is_laid_so c =
           (subst (All (λ e. is_held_or_laid e.1 ≡ true → IsName t.settings e.0.object)) left c.loop-pair.invariant.3),
       All-tail (λ e. All (λ r. r.value.level ≤ length e.0.object) e.1.registers) (pair, state) rest
           (subst (All (λ e. All (λ r. r.value.level ≤ length e.0.object) e.1.registers)) left c.loop-pair.invariant.4),
-      All-tail (λ e. may_be_apart c.args.level e.1 ≡ false → e.1.laid ≡ wanted_hop t e) (pair, state) rest
+      All-tail (λ e. may_be_apart t.owner c.args.level e ≡ false → e.1.laid ≡ wanted_hop t e) (pair, state) rest
           (subst (AreLaidUnlessApart t c.args.level) left c.loop-pair.invariant.5),
+      c.follow.ensures.way,
+      c.loop-pair.invariant.7,
     )
 
 -- nor does one that may not be laid elsewhere
@@ -86,8 +101,9 @@ loop-pair-preserved-then-not-may_be_apart c =
     let left : c.loop-pair.pair-iterator ≡ (pair, state) ∷ rest =
     rest_more deref_pair _ _ c.next.result (c.in-Some.pair, c.in-Some.state) c.in-Some.is c.next.ensures.steps in
     let kept : state.laid ≡ wanted_hop t (pair, state) =
-    All-head (λ e. may_be_apart c.args.level e.1 ≡ false → e.1.laid ≡ wanted_hop t e) (pair, state) rest
-    (subst (AreLaidUnlessApart t c.args.level) left c.loop-pair.invariant.5) (sym c.may_be_apart.ensures ∙ c.if-not-may_be_apart.true) in
+    All-head (λ e. may_be_apart t.owner c.args.level e ≡ false → e.1.laid ≡ wanted_hop t e) (pair, state) rest
+    (subst (AreLaidUnlessApart t c.args.level) left c.loop-pair.invariant.5) (ap (λ owner. may_be_apart owner c.args.level (pair, state)) (sym c.loop-pair.invariant.7)
+    ∙ sym c.may_be_apart.ensures ∙ c.if-not-may_be_apart.true) in
     let same : layings_to_wanted t c.loop-pair.pair-iterator ≡ layings_to_wanted t rest =
     ap (layings_to_wanted t) left ∙ ap (λ here. here ++ layings_to_wanted t rest) (laid_already t (pair, state) kept) in
     let spans : held_or_laid_count c.loop-pair.pair-iterator ≡ held_or_laid_count ((pair, state) ∷ rest) = ap held_or_laid_count left in (
@@ -98,6 +114,8 @@ loop-pair-preserved-then-not-may_be_apart c =
           (subst (All (λ e. is_held_or_laid e.1 ≡ true → IsName t.settings e.0.object)) left c.loop-pair.invariant.3),
       All-tail (λ e. All (λ r. r.value.level ≤ length e.0.object) e.1.registers) (pair, state) rest
           (subst (All (λ e. All (λ r. r.value.level ≤ length e.0.object) e.1.registers)) left c.loop-pair.invariant.4),
-      All-tail (λ e. may_be_apart c.args.level e.1 ≡ false → e.1.laid ≡ wanted_hop t e) (pair, state) rest
+      All-tail (λ e. may_be_apart t.owner c.args.level e ≡ false → e.1.laid ≡ wanted_hop t e) (pair, state) rest
           (subst (AreLaidUnlessApart t c.args.level) left c.loop-pair.invariant.5),
+      c.loop-pair.invariant.6,
+      c.loop-pair.invariant.7,
     )

@@ -2,10 +2,11 @@ use Rattle.std.proofs.Common.{◌≡◌, [], map, true, ap, eqb-true, sym, subst
 use Rattle.std.specs.List.{All}
 use Rattle.std.specs.Vec.{vec_len}
 use Rattle.std.proofs.lemmas.List.{nil_from_length}
-use Rattle.tap_pointer.specs.Pointers.{IsPairState, with_laid}
+use Rattle.tap_pointer.specs.Pointers.{IsHeldFrom, IsPairState, with_laid}
 use Rattle.tap_pointer.specs.Reconcile.{AreLaid, laid_by_all, wanted_hop, with_wanted}
 use Rattle.tap_pointer.proofs.Known.{known-laid, known-map}
 use Rattle.tap_pointer.proofs.Layings.{all_laid}
+use Rattle.tap_pointer.proofs.Lowest.{from-laid, from-map}
 use Rattle.tap_pointer.proofs.Telling.{all_laid_as_told}
 use Rattle.tap_pointer.proofs.pointers.Pointers.lays_as_wanted.Goals as goal
 use Rattle.tap_pointer.proofs.pointers.Pointers.lays_as_wanted.Goals.{After-is_empty, After-lay_as_told-self-inside}
@@ -43,12 +44,16 @@ told c =
 pub invariant_of-self : goal.invariant_of-self
 invariant_of-self c =
     let owner = c.self.inside.owner in
+    let lowest = c.self.inside.lowest in
     let t = c.args.table.now in
     let all = told (goal.at.invariant_of-self c).After-lay_as_told-self-inside in (
       subst (All (IsPairState owner)) (sym all)
           (known-map owner (λ e. with_laid e.1 (wanted_hop t e)) (λ e known. known-laid owner e.0 e.1 known (wanted_hop t e))
           c.self.inside.pairs.entries c.self.invariant.0),
       c.lay_as_told-self-inside.ensures.count,
+      subst (All (IsHeldFrom lowest)) (sym all)
+          (from-map lowest (λ e. with_laid e.1 (wanted_hop t e)) (λ e from. from-laid lowest e.0 e.1 from (wanted_hop t e))
+          c.self.inside.pairs.entries c.self.invariant.2),
     )
 
 pub returns-clause-after : goal.returns-clause-after

@@ -9,6 +9,7 @@ use Rattle.tap_pointer.specs.Pointers.{IsPairState, is_held_or_laid, pair_of, st
 use Rattle.tap_pointer.specs.Reconcile.{AreLaid, AreLaidBut, AreNamesHeld, layings, lays_numbered, wanted_hop}
 use Rattle.tap_pointer.proofs.Known.{All-found, count_from, count_to, known-among, known-laid, lays_pair, put_keeps, some_if_found}
 use Rattle.tap_pointer.proofs.Layings.{all_laid}
+use Rattle.tap_pointer.proofs.Lowest.{from-among, from-laid, from-put}
 use Rattle.tap_pointer.proofs.OnePair.{laid_as_wanted, laid_if_absent, laid_if_laid, none_if_absent, settles}
 use Rattle.tap_pointer.proofs.Laws.{laid_sends_nothing}
 use Rattle.tap_pointer.proofs.pointers.Pointers.reconcile_pair.Goals as goal
@@ -119,9 +120,16 @@ invariant_of-self c =
     let new = c.lay.new.pairs.entries in
     let lays = lays_pair pairs new pair hop c.lay.result change c.unwrap-change.ensures c.lay.ensures.change c.lay.ensures.after in
     let known = known-laid owner pair (state_among pairs pair) (known-among owner pair pairs c.self.invariant.0) hop in
+    let kept =
     put_keeps pairs pair c.lay.ensures.ordered (with_laid (state_among pairs pair) hop) change lays.is new lays.after
     c.self.inside.held_or_laid c.self.invariant.1
-    owner c.count_after-self-inside.result c.count_after-self-inside.ensures c.self.invariant.0 known
+    owner c.count_after-self-inside.result c.count_after-self-inside.ensures c.self.invariant.0 known in
+    let lowest = c.self.inside.lowest in (
+      kept.0,
+      kept.1,
+      from-put lowest pair pairs new (with_laid (state_among pairs pair) hop) lays.after c.self.invariant.2
+          (from-laid lowest pair (state_among pairs pair) (from-among lowest pair pairs c.self.invariant.2) hop),
+    )
 
 pub returns-clause-answer : goal.returns-clause-answer
 returns-clause-answer c =

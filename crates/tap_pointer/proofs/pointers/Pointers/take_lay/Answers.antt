@@ -1,8 +1,9 @@
-use Rattle.std.proofs.Common.{◌≡◌, ◌++◌, All, Option, ap, subst, sym, ◌∙◌}
+use Rattle.std.proofs.Common.{rules, ◌≡◌, ℕ, ◌++◌, min, All, Option, arith, ap, subst, sym, ◌∙◌}
 use Rattle.tap_pointer.specs.declared.hop.Hop.{Hop}
-use Rattle.tap_pointer.specs.Pointers.{IsPairState, PointersValue, held_or_laid_count, pair_of, pointer_at, state_among, with_lay}
+use Rattle.tap_pointer.specs.Pointers.{IsHeldFrom, IsPairState, PointersValue, held_or_laid_count, pair_of, pointer_at, state_among, with_lay}
 use Rattle.tap_pointer.specs.Reconcile.{AreLaid, layings, lays_numbered, relaid, wanted_hop}
 use Rattle.tap_pointer.proofs.Known.{count_from, count_to, known-among, known-laid, known-with_lay, put_keeps}
+use Rattle.tap_pointer.proofs.Lowest.{from-among, from-laid, from-lower, from-put, from-with_lay}
 use Rattle.tap_pointer.proofs.Relaying.{relaid-lays, relaid-pairs}
 use Rattle.tap_pointer.proofs.pointers.Pointers.take_lay.Goals as goal
 use Rattle.tap_pointer.proofs.pointers.Pointers.take_lay.Goals.{After-count_after-self-inside}
@@ -35,6 +36,7 @@ count_after-self-inside-requires-clause-to c =
 -- what is known of the pairs is as it should be, and counted
 keeps : (c : After-count_after-self-inside) → (All (IsPairState c.self.inside.owner) c.take_and_lay.new.pairs.entries)
     × (c.count_after-self-inside.result ≡ held_or_laid_count c.take_and_lay.new.pairs.entries)
+    × (All (IsHeldFrom c.min-self-inside.result) c.take_and_lay.new.pairs.entries)
 keeps c =
     let pairs = c.self.inside.pairs.entries in
     let owner = c.self.inside.owner in
@@ -47,9 +49,21 @@ keeps c =
     (known-with_lay owner pair (state_among pairs pair) (known-among owner pair pairs c.self.invariant.0) c.args.from c.args.version
     pointer c.requires.from c.requires.to)
     (wanted_hop c.args.table.now (pair, taken)) in
+    let kept =
     put_keeps pairs pair c.take_and_lay.ensures.ordered state c.in_ok-relaid.relaid.change c.in_ok-relaid.ensures.change
     c.take_and_lay.new.pairs.entries c.in_ok-relaid.ensures.after c.self.inside.held_or_laid c.self.invariant.1
-    owner c.count_after-self-inside.result c.count_after-self-inside.ensures c.self.invariant.0 known
+    owner c.count_after-self-inside.result c.count_after-self-inside.ensures c.self.invariant.0 known in
+    let lowest : ℕ = c.min-self-inside.result in
+    let is : lowest ≡ min c.self.inside.lowest c.args.level = search rules in
+    let from = from-lower c.self.inside.lowest lowest (omega (arith, is)) pairs c.self.invariant.2 in
+    let taken_from =
+    from-with_lay lowest pair (state_among pairs pair) (from-among lowest pair pairs from) c.args.from c.args.version pointer
+    (omega (arith, is)) in (
+      kept.0,
+      kept.1,
+      from-put lowest pair pairs c.take_and_lay.new.pairs.entries state c.in_ok-relaid.ensures.after from
+          (from-laid lowest pair taken taken_from (wanted_hop c.args.table.now (pair, taken))),
+    )
 
 pub invariant_of-self-in_err-push_layings : goal.invariant_of-self-in_err-push_layings
 invariant_of-self-in_err-push_layings c = keeps (goal.at.invariant_of-self-in_err-push_layings c).After-count_after-self-inside

@@ -6,6 +6,7 @@ use Rattle.tap_pointer.specs.Pair.{pair_cmp}
 use Rattle.tap_pointer.specs.Pointers.{PointersValue, own_pair, state_among, with_published, withdrawn}
 use Rattle.tap_pointer.proofs.Known.{count_from, count_to, known-among, known-withdrawn, put_keeps}
 use Rattle.tap_pointer.proofs.Laws.{withdrawn_put}
+use Rattle.tap_pointer.proofs.Lowest.{from-among, from-put, from-withdrawn}
 use Rattle.tap_pointer.proofs.pointers.Pointers.withdraw.Goals as goal
 
 pub count_after-self-inside-requires-clause-from : goal.count_after-self-inside-requires-clause-from
@@ -29,9 +30,17 @@ invariant_of-self-2 c =
     let owner = c.self.inside.owner in
     let own = c.own-own.result in
     let known = known-withdrawn owner own (state_among pairs own) (known-among owner own pairs c.self.invariant.0) in
+    let kept =
     put_keeps pairs own c.withdraw.ensures.ordered (with_published (state_among pairs own) false) c.in-Some.change
     c.in-Some.ensures.change c.withdraw.new.pairs.entries c.in-Some.ensures.after c.self.inside.held_or_laid c.self.invariant.1
-    owner c.count_after-self-inside.result c.count_after-self-inside.ensures c.self.invariant.0 known
+    owner c.count_after-self-inside.result c.count_after-self-inside.ensures c.self.invariant.0 known in
+    let lowest = c.self.inside.lowest in (
+      kept.0,
+      kept.1,
+      from-put lowest own pairs c.withdraw.new.pairs.entries (with_published (state_among pairs own) false)
+          c.in-Some.ensures.after c.self.invariant.2
+          (from-withdrawn lowest own (state_among pairs own) (from-among lowest own pairs c.self.invariant.2)),
+    )
 
 pub returns-clause-after : goal.returns-clause-after
 returns-clause-after c =
