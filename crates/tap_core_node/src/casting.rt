@@ -1,4 +1,4 @@
-ghost use Rattle.std.specs.Prelude.{◌≡◌, ◌-◌, ◌||◌, ◌<◌, ◌≤◌, true, if◌then◌else◌, Some, ◌++◌, length, map, All, IfOk, OnOk};
+ghost use Rattle.std.specs.Prelude.{◌≡◌, ◌-◌, ◌||◌, ◌<◌, ◌≤◌, true, Some, ◌++◌, length, map, All, IfOk, OnOk};
 ghost use Rattle.std.specs.List.{slice_index_or};
 ghost use Rattle.tap_name.specs.Name.{IsName};
 ghost use Rattle.tap_name.specs.Word.{IsWord};
@@ -54,19 +54,44 @@ impl CoreNode {
         ensures { IfOk result (λ news. FollowsAs (core_state self.old) (Some (casts (core_state self.old) (copied_with copy.now word.now)))
             (core_state self.new) sent.old sent.new news) }
     {
+        let mut news = News::Nothing;
+        self.notes_cast(sent, copy, word, &mut news)?;
+        Ok(news)
+    }
+
+    // Takes a copy of a cast or starts one, and notes what there is to say of it.
+    pub(crate) fn notes_cast(
+        &mut self,
+        sent: &mut FrameList,
+        copy: &CastCopy,
+        word: &[u8],
+        news: &mut News,
+    ) -> Result<(), NoMemory>
+        requires sound { IsSoundNode (core_state self.old) }
+        requires room { has_numbers_left (core_state self.old) ≡ true }
+        requires level { copy.now.level ≤ self.old.core.table.settings.digits }
+        requires parent { IsParent self.old.core.table.settings copy.now.parent }
+        requires depth { copy.now.depth < 65535 }
+        requires word { IsWord word.now }
+        requires nothing { news.old ≡ News.Nothing }
+        ensures { OnOk result (FollowsAs (core_state self.old) (Some (casts (core_state self.old) (copied_with copy.now word.now)))
+            (core_state self.new) sent.old sent.new news.new) }
+    {
         let table = self.core.ties().table();
         match self.parts.casts.cast(copy.cast, copy.level, table)? {
             CastTurn::Already => {
                 self.sender().answer_cast(sent, &copy.parent)?;
-                Ok(News::Nothing)
+                Ok(())
             }
             CastTurn::Now { first, targets } => {
                 if targets.is_empty() {
                     self.sender().answer_cast(sent, &copy.parent)?;
-                    return Ok(cast_news(copy.cast, first, is_root(&copy.parent)));
+                    *news = cast_news(copy.cast, first, is_root(&copy.parent));
+                    return Ok(());
                 }
                 self.cast_spreads(sent, copy, word, &targets)?;
-                Ok(cast_news(copy.cast, first, false))
+                *news = cast_news(copy.cast, first, false);
+                Ok(())
             }
         }
     }
@@ -111,22 +136,26 @@ impl CoreNode {
 
     // CastAck: the session of this number has one answer more. The last one is passed on, and at the root the cast is
     // closed.
+    #[inline(never)]
     pub(crate) fn cast_answered(
         &mut self,
         sent: &mut FrameList,
         session: u32,
-    ) -> Result<News, NoMemory>
-        requires { IsSoundNode (core_state self.old) }
-        ensures { IfOk result (λ news. FollowsAs (core_state self.old) (Some (cast_answered (core_state self.old) session))
-            (core_state self.new) sent.old sent.new news) }
+        news: &mut News,
+    ) -> Result<(), NoMemory>
+        requires sound { IsSoundNode (core_state self.old) }
+        requires nothing { news.old ≡ News.Nothing }
+        ensures { OnOk result (FollowsAs (core_state self.old) (Some (cast_answered (core_state self.old) session))
+            (core_state self.new) sent.old sent.new news.new) }
     {
         match self.parts.cast_sessions.answered(session) {
             Answered::Closed(parent) => {
                 self.sender().answer_cast(sent, &parent)?;
                 let cast = cast_of(self.parts.cast_numbers.as_slice(), session);
-                Ok(cast_news(cast, false, is_root(&parent)))
+                *news = cast_news(cast, false, is_root(&parent));
+                Ok(())
             }
-            Answered::Open | Answered::Unknown => Ok(News::Nothing),
+            Answered::Open | Answered::Unknown => Ok(()),
         }
     }
 }

@@ -100,43 +100,55 @@ impl CoreNode {
         Sender::of(self.core.ties().table())
     }
 
-    /// Takes a frame: it does as the rule of a node says. If memory is refused, the node is used no more.
+    /// Takes a frame: it does as the rule of a node says, and leaves what it notes in `news`. If memory is refused, the node is used
+    /// no more.
     ///
     /// Rule: docs/PROTOCOL.md, "Steps of a node".
     #[tactic(auto, unfolding(tap_rule::specs::FrameRules::frame_at_core))]
-    pub fn take(&mut self, frame: &Frame, sent: &mut FrameList) -> Result<News, NoMemory>
+    pub fn take(
+        &mut self,
+        frame: &Frame,
+        sent: &mut FrameList,
+        news: &mut News,
+    ) -> Result<(), NoMemory>
         requires { MayTake (core_state self.old) frame.now }
-        ensures { IfOk result (λ news. FollowsAs (core_state self.old)
-            (frame_at_core (core_state self.old) frame.now.from frame.now.body) (core_state self.new) sent.old sent.new news) }
+        ensures { OnOk result (FollowsAs (core_state self.old)
+            (frame_at_core (core_state self.old) frame.now.from frame.now.body) (core_state self.new) sent.old sent.new news.new) }
     {
-        let from = frame.from;
+        *news = News::Nothing;
         match &frame.body {
             Body::Seek { .. } => self.take_seek(frame, sent),
             Body::Tell { .. } => self.take_tell(frame, sent),
             Body::Heard { session } | Body::Ack { session } => self.answered(sent, *session),
-            Body::Release => self.releases(sent, Release { from }),
-            Body::Link { version, on } => self.hears_and_releases(sent, from, *version, *on),
+            Body::Release => self.releases(sent, Release { from: frame.from }),
+            Body::Link { version, on } => self.hears_and_releases(sent, frame.from, *version, *on),
             Body::Lay { .. } => self.take_lay(frame, sent),
             Body::Find { .. } => self.take_find(frame, sent),
-            Body::Answer { ticket, server } => Ok(News::Answered {
-                ticket: *ticket,
-                server: *server,
-            }),
-            Body::Leave { replacement } => self.takes_leave(sent, from, *replacement),
-            Body::Gone => self.takes_out(sent, from),
-            Body::Forget => Ok(self.forgets(Forget { from })),
-            Body::Cast { .. } => self.take_cast(frame, sent),
-            Body::CastAck { session } => self.cast_answered(sent, *session),
-            Body::Hello { .. } | Body::Done | Body::Left => Ok(News::Nothing),
+            Body::Answer { ticket, server } => {
+                *news = News::Answered {
+                    ticket: *ticket,
+                    server: *server,
+                };
+                Ok(())
+            }
+            Body::Leave { replacement } => self.takes_leave(sent, frame.from, *replacement),
+            Body::Gone => self.takes_out(sent, frame.from),
+            Body::Forget => {
+                self.forgets(Forget { from: frame.from });
+                Ok(())
+            }
+            Body::Cast { .. } => self.take_cast(frame, sent, news),
+            Body::CastAck { session } => self.cast_answered(sent, *session, news),
+            Body::Hello { .. } | Body::Done | Body::Left => Ok(()),
         }
     }
 
     // Takes a Tell.
-    fn take_tell(&mut self, frame: &Frame, sent: &mut FrameList) -> Result<News, NoMemory>
+    fn take_tell(&mut self, frame: &Frame, sent: &mut FrameList) -> Result<(), NoMemory>
         requires { MayTake (core_state self.old) frame.now }
         ensures { (joiner : List ℕ) (prefix level session depth : ℕ) (watch : List Slot) → frame.now.body ≡ Body.Tell joiner prefix level session depth watch
-            → IfOk result (λ news. FollowsAs (core_state self.old)
-            (frame_at_core (core_state self.old) frame.now.from frame.now.body) (core_state self.new) sent.old sent.new news) }
+            → OnOk result (FollowsAs (core_state self.old)
+            (frame_at_core (core_state self.old) frame.now.from frame.now.body) (core_state self.new) sent.old sent.new News.Nothing) }
     {
         let from = frame.from;
         let Body::Tell {
@@ -148,7 +160,7 @@ impl CoreNode {
             watch,
         } = &frame.body
         else {
-            return Ok(News::Nothing);
+            return Ok(());
         };
         let parent = Parent::Node {
             name: from,
@@ -165,14 +177,14 @@ impl CoreNode {
     }
 
     // Heard or Ack: a session of joins has one answer more, and after the last one its parent is answered.
-    fn answered(&mut self, sent: &mut FrameList, session: u32) -> Result<News, NoMemory>
+    fn answered(&mut self, sent: &mut FrameList, session: u32) -> Result<(), NoMemory>
         requires { IsSoundNode (core_state self.old) }
-        ensures { IfOk result (λ news. FollowsAs (core_state self.old) (Some (answered (core_state self.old) session))
-            (core_state self.new) sent.old sent.new news) }
+        ensures { OnOk result (FollowsAs (core_state self.old) (Some (answered (core_state self.old) session))
+            (core_state self.new) sent.old sent.new News.Nothing) }
     {
         let sender = self.sender();
         take_answer(&mut self.parts.sessions, &sender, sent, session)?;
-        Ok(News::Nothing)
+        Ok(())
     }
 
     // Link: a new one is answered with a Release.
@@ -182,38 +194,37 @@ impl CoreNode {
         holder: Name,
         version: u32,
         on: bool,
-    ) -> Result<News, NoMemory>
+    ) -> Result<(), NoMemory>
         requires sound { IsSoundNode (core_state self.old) }
         requires name { IsName self.old.core.table.settings holder }
         requires other { holder ≢ self.old.core.table.owner }
-        ensures { IfOk result (λ news. FollowsAs (core_state self.old)
-            (Some (hears_and_releases (core_state self.old) holder version on)) (core_state self.new) sent.old sent.new news) }
+        ensures { OnOk result (FollowsAs (core_state self.old)
+            (Some (hears_and_releases (core_state self.old) holder version on)) (core_state self.new) sent.old sent.new News.Nothing) }
     {
         hear_and_release(self.core.ties_mut(), sent, holder, version, on)?;
-        Ok(News::Nothing)
+        Ok(())
     }
 
     // Forget: a pin on the sender is gone.
-    fn forgets(&mut self, by: Forget<Name>) -> News
+    fn forgets(&mut self, by: Forget<Name>)
         requires sound { IsSoundNode (core_state self.old) }
         requires name { IsName self.old.core.table.settings by.from }
         requires other { by.from ≢ self.old.core.table.owner }
         ensures { (before : List (List ℕ)) → FollowsAs (core_state self.old) (Some (forgets (core_state self.old) by.from))
-            (core_state self.new) before before result }
+            (core_state self.new) before before News.Nothing }
     {
         self.core.ties_mut().forget(by);
-        News::Nothing
     }
 
     // Release: a pin on the sender is settled if its slot has room, and else dropped. If the slot's primary is another one
     // now, pairs may be wanted elsewhere.
-    fn releases(&mut self, sent: &mut FrameList, by: Release<Name>) -> Result<News, NoMemory>
+    fn releases(&mut self, sent: &mut FrameList, by: Release<Name>) -> Result<(), NoMemory>
         requires sound { IsSoundNode (core_state self.old) }
         requires room { has_numbers_left (core_state self.old) ≡ true }
         requires name { IsName self.old.core.table.settings by.from }
         requires other { by.from ≢ self.old.core.table.owner }
-        ensures { IfOk result (λ news. FollowsAs (core_state self.old) (Some (releases (core_state self.old) by.from))
-            (core_state self.new) sent.old sent.new news) }
+        ensures { OnOk result (FollowsAs (core_state self.old) (Some (releases (core_state self.old) by.from))
+            (core_state self.new) sent.old sent.new News.Nothing) }
     {
         let from = by.from;
         let before = self.core.ties().table().near(&from).primary();
@@ -221,11 +232,11 @@ impl CoreNode {
         self.sender().send_word(sent, word)?;
         let after = self.core.ties().table().near(&from).primary();
         if before == after {
-            return Ok(News::Nothing);
+            return Ok(());
         }
         let level = self.core.ties().table().owner().lcp(&from) as u8;
         self.reconciles_at(sent, level)?;
-        Ok(News::Nothing)
+        Ok(())
     }
 
     // Lays all pairs as wanted, if no pair needs it but those whose way passes a level.
@@ -304,11 +315,11 @@ impl CoreNode {
     }
 
     // Takes a Lay.
-    fn take_lay(&mut self, frame: &Frame, sent: &mut FrameList) -> Result<News, NoMemory>
+    fn take_lay(&mut self, frame: &Frame, sent: &mut FrameList) -> Result<(), NoMemory>
         requires { MayTake (core_state self.old) frame.now }
         ensures { (object server : List ℕ) (level version : ℕ) (on : Bool) → frame.now.body ≡ Body.Lay object server level version on
-            → IfOk result (λ news. FollowsAs (core_state self.old)
-            (frame_at_core (core_state self.old) frame.now.from frame.now.body) (core_state self.new) sent.old sent.new news) }
+            → OnOk result (FollowsAs (core_state self.old)
+            (frame_at_core (core_state self.old) frame.now.from frame.now.body) (core_state self.new) sent.old sent.new News.Nothing) }
     {
         let from = frame.from;
         let Body::Lay {
@@ -319,7 +330,7 @@ impl CoreNode {
             on,
         } = &frame.body
         else {
-            return Ok(News::Nothing);
+            return Ok(());
         };
         let lay = TakenLay {
             from,
@@ -333,11 +344,11 @@ impl CoreNode {
     }
 
     // Takes a Find.
-    fn take_find(&mut self, frame: &Frame, sent: &mut FrameList) -> Result<News, NoMemory>
+    fn take_find(&mut self, frame: &Frame, sent: &mut FrameList) -> Result<(), NoMemory>
         requires { MayTake (core_state self.old) frame.now }
         ensures { (ticket : ℕ) (object asker : List ℕ) (level : ℕ) → frame.now.body ≡ Body.Find ticket object asker level
-            → IfOk result (λ news. FollowsAs (core_state self.old)
-            (frame_at_core (core_state self.old) frame.now.from frame.now.body) (core_state self.new) sent.old sent.new news) }
+            → OnOk result (FollowsAs (core_state self.old)
+            (frame_at_core (core_state self.old) frame.now.from frame.now.body) (core_state self.new) sent.old sent.new News.Nothing) }
     {
         let Body::Find {
             ticket,
@@ -346,7 +357,7 @@ impl CoreNode {
             level,
         } = &frame.body
         else {
-            return Ok(News::Nothing);
+            return Ok(());
         };
         let find = TakenFind {
             ticket: *ticket,
@@ -358,15 +369,15 @@ impl CoreNode {
     }
 
     // Lay: the register of the pair takes it, and the pair is laid as wanted.
-    fn takes_lay(&mut self, sent: &mut FrameList, lay: &TakenLay) -> Result<News, NoMemory>
+    fn takes_lay(&mut self, sent: &mut FrameList, lay: &TakenLay) -> Result<(), NoMemory>
         requires sound { IsSoundNode (core_state self.old) }
         requires room { has_numbers_left (core_state self.old) ≡ true }
         requires object { IsName self.old.core.table.settings lay.now.object }
         requires server { IsName self.old.core.table.settings lay.now.server }
         requires level { IsLevel self.old.core.table.settings lay.now.level }
-        ensures { IfOk result (λ news. FollowsAs (core_state self.old) (Some
+        ensures { OnOk result (FollowsAs (core_state self.old) (Some
             (takes_lay (core_state self.old) lay.now.from (pair_of lay.now.object lay.now.server) lay.now.level lay.now.version lay.now.on))
-            (core_state self.new) sent.old sent.new news) }
+            (core_state self.new) sent.old sent.new News.Nothing) }
     {
         let table = self.core.ties().table();
         take_lay(
@@ -376,20 +387,20 @@ impl CoreNode {
             sent,
             lay,
         )?;
-        Ok(News::Nothing)
+        Ok(())
     }
 
     // Find: it is answered if a server is held or this is the root, and goes on if not.
-    fn finds(&self, sent: &mut FrameList, find: &TakenFind) -> Result<News, NoMemory>
+    fn finds(&self, sent: &mut FrameList, find: &TakenFind) -> Result<(), NoMemory>
         requires sound { IsSoundNode (core_state self.now) }
         requires object { IsName self.now.core.table.settings find.now.object }
         requires asker { IsName self.now.core.table.settings find.now.asker }
         requires level { find.now.level ≤ self.now.core.table.settings.digits }
-        ensures { IfOk result (λ news. FollowsAs (core_state self.now)
-            (Some (finds (core_state self.now) find.now.ticket find.now.object find.now.asker find.now.level)) (core_state self.now) sent.old sent.new news) }
+        ensures { OnOk result (FollowsAs (core_state self.now)
+            (Some (finds (core_state self.now) find.now.ticket find.now.object find.now.asker find.now.level)) (core_state self.now) sent.old sent.new News.Nothing) }
     {
         take_find(&self.parts.pointers, self.core.ties().table(), sent, find)?;
-        Ok(News::Nothing)
+        Ok(())
     }
 
     // Leave: it marks the leaver, takes the replacement if its slot wants one, and answers. If another node is the slot's
@@ -399,14 +410,14 @@ impl CoreNode {
         sent: &mut FrameList,
         from: Name,
         replacement: Option<Name>,
-    ) -> Result<News, NoMemory>
+    ) -> Result<(), NoMemory>
         requires sound { IsSoundNode (core_state self.old) }
         requires room { has_numbers_left (core_state self.old) ≡ true }
         requires name { IsName self.old.core.table.settings from }
         requires other { from ≢ self.old.core.table.owner }
         requires replacement { IfSome replacement (IsName self.old.core.table.settings) }
-        ensures { IfOk result (λ news. FollowsAs (core_state self.old) (Some (takes_leave (core_state self.old) from replacement))
-            (core_state self.new) sent.old sent.new news) }
+        ensures { OnOk result (FollowsAs (core_state self.old) (Some (takes_leave (core_state self.old) from replacement))
+            (core_state self.new) sent.old sent.new News.Nothing) }
     {
         let other = has_other_primary(self.core.ties().table(), &from);
         let level = level_of_leave(self.core.ties().table(), &from, &replacement);
@@ -420,37 +431,44 @@ impl CoreNode {
         sender.send_word(sent, word)?;
         sender.send(sent, &from, Body::Left)?;
         if other {
-            return Ok(News::Nothing);
+            return Ok(());
         }
         self.reconciles_beside(sent, level)?;
-        Ok(News::Nothing)
+        Ok(())
     }
 
     // Gone: its link to the sender is taken out. That mostly leaves the slot's primary as it was, since the link was marked.
-    fn takes_out(&mut self, sent: &mut FrameList, from: Name) -> Result<News, NoMemory>
+    fn takes_out(&mut self, sent: &mut FrameList, from: Name) -> Result<(), NoMemory>
         requires sound { IsSoundNode (core_state self.old) }
         requires room { has_numbers_left (core_state self.old) ≡ true }
         requires name { IsName self.old.core.table.settings from }
         requires other { from ≢ self.old.core.table.owner }
-        ensures { IfOk result (λ news. FollowsAs (core_state self.old) (Some (takes_out (core_state self.old) from))
-            (core_state self.new) sent.old sent.new news) }
+        ensures { OnOk result (FollowsAs (core_state self.old) (Some (takes_out (core_state self.old) from))
+            (core_state self.new) sent.old sent.new News.Nothing) }
     {
         let old_primary = self.core.ties().table().near(&from).primary();
         self.core.ties_mut().remove_settled(from);
         let new_primary = self.core.ties().table().near(&from).primary();
         if old_primary == new_primary {
-            return Ok(News::Nothing);
+            return Ok(());
         }
         self.reconciles(sent)?;
-        Ok(News::Nothing)
+        Ok(())
     }
 
     // Takes a Cast.
-    fn take_cast(&mut self, frame: &Frame, sent: &mut FrameList) -> Result<News, NoMemory>
-        requires { MayTake (core_state self.old) frame.now }
+    #[inline(never)]
+    fn take_cast(
+        &mut self,
+        frame: &Frame,
+        sent: &mut FrameList,
+        news: &mut News,
+    ) -> Result<(), NoMemory>
+        requires may { MayTake (core_state self.old) frame.now }
+        requires nothing { news.old ≡ News.Nothing }
         ensures { (cast level session depth : ℕ) (word : List ℕ) → frame.now.body ≡ Body.Cast cast level session depth word
-            → IfOk result (λ news. FollowsAs (core_state self.old)
-            (frame_at_core (core_state self.old) frame.now.from frame.now.body) (core_state self.new) sent.old sent.new news) }
+            → OnOk result (FollowsAs (core_state self.old)
+            (frame_at_core (core_state self.old) frame.now.from frame.now.body) (core_state self.new) sent.old sent.new news.new) }
     {
         let from = frame.from;
         let Body::Cast {
@@ -461,7 +479,7 @@ impl CoreNode {
             word,
         } = &frame.body
         else {
-            return Ok(News::Nothing);
+            return Ok(());
         };
         let parent = Parent::Node {
             name: from,
@@ -473,7 +491,7 @@ impl CoreNode {
             parent,
             depth: *depth,
         };
-        self.casts(sent, &copy, word.as_slice())
+        self.notes_cast(sent, &copy, word.as_slice(), news)
     }
 
     /// It publishes an object.

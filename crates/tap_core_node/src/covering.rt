@@ -1,4 +1,4 @@
-ghost use Rattle.std.specs.Prelude.{◌≡◌, ◌≢◌, ℕ, ◌==◌, ◌+◌, ◌<◌, ◌≤◌, true, if◌then◌else◌, Some, List, [], ◌∷◌, ◌++◌, length, All, IfOk, OnOk};
+ghost use Rattle.std.specs.Prelude.{◌≡◌, ◌≢◌, ℕ, ◌==◌, ◌+◌, ◌<◌, ◌≤◌, true, if◌then◌else◌, Some, List, [], ◌∷◌, ◌++◌, length, All, OnOk};
 ghost use Rattle.tap_name.specs.Name.{IsName};
 ghost use Rattle.tap_session.specs.Session.{most_sessions};
 ghost use Rattle.tap_multicast.specs.Covers.{MayCover};
@@ -38,23 +38,19 @@ pub(crate) struct Request {
 
 impl CoreNode {
     // Takes a Seek: it goes on to the primary of the joiner's slot, or else the node is the joiner's surrogate.
-    pub(crate) fn take_seek(
-        &mut self,
-        frame: &Frame,
-        sent: &mut FrameList,
-    ) -> Result<News, NoMemory>
+    pub(crate) fn take_seek(&mut self, frame: &Frame, sent: &mut FrameList) -> Result<(), NoMemory>
         requires { MayTake (core_state self.old) frame.now }
-        ensures { (joiner : List ℕ) → frame.now.body ≡ Body.Seek joiner → IfOk result (λ news. FollowsAs (core_state self.old)
-            (frame_at_core (core_state self.old) frame.now.from frame.now.body) (core_state self.new) sent.old sent.new news) }
+        ensures { (joiner : List ℕ) → frame.now.body ≡ Body.Seek joiner → OnOk result (FollowsAs (core_state self.old)
+            (frame_at_core (core_state self.old) frame.now.from frame.now.body) (core_state self.new) sent.old sent.new News.Nothing) }
     {
         let Body::Seek { joiner } = &frame.body else {
-            return Ok(News::Nothing);
+            return Ok(());
         };
         let joiner = *joiner;
         match self.core.seek(&joiner) {
             Sought::Forward(next) => {
                 self.sender().send(sent, &next, Body::Seek { joiner })?;
-                Ok(News::Nothing)
+                Ok(())
             }
             Sought::Surrogate(prefix) => {
                 let settings = self.core.ties().table().settings();
@@ -77,7 +73,7 @@ impl CoreNode {
         sent: &mut FrameList,
         request: &Request,
         watch: &Watch,
-    ) -> Result<News, NoMemory>
+    ) -> Result<(), NoMemory>
         requires sound { IsSoundNode (core_state self.old) }
         requires room { has_numbers_left (core_state self.old) ≡ true }
         requires name { IsName self.old.core.table.settings request.now.joiner }
@@ -87,15 +83,15 @@ impl CoreNode {
         requires few { length (targets_by_name (pinned self.old.core.table request.now.joiner)) ≤ most_links }
         requires parent { IsParent self.old.core.table.settings request.now.parent }
         requires depth { request.now.depth < 65535 }
-        ensures { IfOk result (λ news. FollowsAs (core_state self.old)
+        ensures { OnOk result (FollowsAs (core_state self.old)
             (Some (pins_and_covers (core_state self.old) (asked_with request.now watch.now)))
-            (core_state self.new) sent.old sent.new news) }
+            (core_state self.new) sent.old sent.new News.Nothing) }
     {
         let joiner = request.joiner;
         let word = self.core.ties_mut().pin(&mut self.parts.stamp, joiner)?;
         self.sender().send_word(sent, word)?;
         self.covers(sent, request, watch)?;
-        Ok(News::Nothing)
+        Ok(())
     }
 
     // It covers the joiner, which it has pinned.

@@ -93,36 +93,36 @@ impl JoiningNode {
     /// Takes a frame but a Done: it does as the rule of a node says. If memory is refused, the node is used no more.
     ///
     /// Rule: docs/PROTOCOL.md, "Steps of a node".
-    pub fn take(&mut self, frame: &Frame, sent: &mut FrameList) -> Result<News, NoMemory>
+    #[tactic(auto, unfolding(tap_rule::specs::FrameRules::frame_at_joining))]
+    pub fn take(&mut self, frame: &Frame, sent: &mut FrameList) -> Result<(), NoMemory>
         requires may { MayTake (joining_state self.old) frame.now }
         requires other { frame.now.body ≢ bodies.Done }
-        ensures { IfOk result (λ news. FollowsAs (joining_state self.old)
-            (frame_at_joining (joining_state self.old) frame.now.from frame.now.body) (joining_state self.new) sent.old sent.new news) }
+        ensures { OnOk result (FollowsAs (joining_state self.old)
+            (frame_at_joining (joining_state self.old) frame.now.from frame.now.body) (joining_state self.new) sent.old sent.new News.Nothing) }
     {
-        let from = frame.from;
         match &frame.body {
             Body::Tell {
                 joiner,
                 session,
                 depth,
                 ..
-            } => self.meets(sent, from, *joiner, *session, *depth),
+            } => self.meets(sent, frame.from, *joiner, *session, *depth),
             Body::Hello {
                 session,
                 core,
                 links,
-            } => self.takes_hello(sent, from, *session, *core, links),
+            } => self.takes_hello(sent, frame.from, *session, *core, links),
             Body::Heard { session } | Body::Ack { session } => self.answered(sent, *session),
-            Body::Release => self.releases(sent, Release { from }),
+            Body::Release => self.releases(sent, Release { from: frame.from }),
             Body::Link { version, on } => {
-                self.hears(from, *version, *on)?;
-                Ok(News::Nothing)
+                self.hears(frame.from, *version, *on)?;
+                Ok(())
             }
             Body::Forget => {
-                self.forgets(Forget { from });
-                Ok(News::Nothing)
+                self.forgets(Forget { from: frame.from });
+                Ok(())
             }
-            Body::Cast { session, .. } => self.answers_cast(sent, from, *session),
+            Body::Cast { session, .. } => self.answers_cast(sent, frame.from, *session),
             Body::Seek { .. }
             | Body::Done
             | Body::Lay { .. }
@@ -131,7 +131,7 @@ impl JoiningNode {
             | Body::Leave { .. }
             | Body::Left
             | Body::Gone
-            | Body::CastAck { .. } => Ok(News::Nothing),
+            | Body::CastAck { .. } => Ok(()),
         }
     }
 
@@ -143,16 +143,16 @@ impl JoiningNode {
         joiner: Name,
         session: u32,
         depth: u16,
-    ) -> Result<News, NoMemory>
+    ) -> Result<(), NoMemory>
         requires sender { IsName self.old.joining.ties.table.settings from }
         requires session { 1 ≤ session }
         requires name { IsName self.old.joining.ties.table.settings joiner }
         requires other { joiner ≢ self.old.joining.ties.table.owner }
         requires number { self.old.stamp < u32.MAX }
         requires room { self.old.sessions.opened < most_sessions }
-        ensures { IfOk result (λ news. StepsAs (joining_state self.old) (meets (joining_state self.old) from
+        ensures { OnOk result (StepsAs (joining_state self.old) (meets (joining_state self.old) from
             (record { joiner = joiner; prefix = 0; level = 0; session = session; depth = depth }))
-            (joining_state self.new) sent.old sent.new news) }
+            (joining_state self.new) sent.old sent.new News.Nothing) }
     {
         let word = self.joining.ties_mut().pin(&mut self.stamp, joiner)?;
         let sender = self.sender();
@@ -166,7 +166,7 @@ impl JoiningNode {
         } else {
             sender.send(sent, &from, Body::Ack { session })?;
         }
-        Ok(News::Nothing)
+        Ok(())
     }
 
     // Greets a joiner, in a session that waits for its answer alone.
@@ -202,43 +202,43 @@ impl JoiningNode {
         session: u32,
         core: bool,
         links: &List<Offered>,
-    ) -> Result<News, NoMemory>
+    ) -> Result<(), NoMemory>
         requires sender { IsName self.old.joining.ties.table.settings from }
         requires session { 1 ≤ session }
         requires links { AreLinks self.old.joining.ties.table.settings links.now }
         requires numbers { self.old.stamp + length links.now < u32.MAX }
-        ensures { IfOk result (λ news. StepsAs (joining_state self.old) (takes_hello (joining_state self.old) from session core links.now)
-            (joining_state self.new) sent.old sent.new news) }
+        ensures { OnOk result (StepsAs (joining_state self.old) (takes_hello (joining_state self.old) from session core links.now)
+            (joining_state self.new) sent.old sent.new News.Nothing) }
     {
         let words = self.joining.hello(&mut self.stamp, from, core, links)?;
         let sender = self.sender();
         sender.send_words(sent, words)?;
         sender.send(sent, &from, Body::Heard { session })?;
-        Ok(News::Nothing)
+        Ok(())
     }
 
     // Heard or Ack: a session has one answer more, and after the last one its parent is answered.
-    fn answered(&mut self, sent: &mut FrameList, session: u32) -> Result<News, NoMemory>
+    fn answered(&mut self, sent: &mut FrameList, session: u32) -> Result<(), NoMemory>
         requires { HaveParents self.old.joining.ties.table.settings self.old.sessions }
-        ensures { IfOk result (λ news. StepsAs (joining_state self.old) (answered (joining_state self.old) session)
-            (joining_state self.new) sent.old sent.new news) }
+        ensures { OnOk result (StepsAs (joining_state self.old) (answered (joining_state self.old) session)
+            (joining_state self.new) sent.old sent.new News.Nothing) }
     {
         let sender = self.sender();
         take_answer(&mut self.sessions, &sender, sent, session)?;
-        Ok(News::Nothing)
+        Ok(())
     }
 
     // Release: a pin on the sender is settled if its slot has room, and else dropped.
-    fn releases(&mut self, sent: &mut FrameList, by: Release<Name>) -> Result<News, NoMemory>
+    fn releases(&mut self, sent: &mut FrameList, by: Release<Name>) -> Result<(), NoMemory>
         requires name { IsName self.old.joining.ties.table.settings by.from }
         requires other { by.from ≢ self.old.joining.ties.table.owner }
         requires number { self.old.stamp < u32.MAX }
-        ensures { IfOk result (λ news. StepsAs (joining_state self.old) (releases (joining_state self.old) by.from)
-            (joining_state self.new) sent.old sent.new news) }
+        ensures { OnOk result (StepsAs (joining_state self.old) (releases (joining_state self.old) by.from)
+            (joining_state self.new) sent.old sent.new News.Nothing) }
     {
         let word = self.joining.ties_mut().release(&mut self.stamp, by);
         self.sender().send_word(sent, word)?;
-        Ok(News::Nothing)
+        Ok(())
     }
 
     // Link: the register of its holders takes the word.
@@ -266,14 +266,14 @@ impl JoiningNode {
         sent: &mut FrameList,
         from: Name,
         session: u32,
-    ) -> Result<News, NoMemory>
+    ) -> Result<(), NoMemory>
         requires sender { IsName self.old.joining.ties.table.settings from }
         requires session { 1 ≤ session }
-        ensures { IfOk result (λ news. StepsAs (joining_state self.old) (answers_cast (joining_state self.old) from session)
-            (joining_state self.new) sent.old sent.new news) }
+        ensures { OnOk result (StepsAs (joining_state self.old) (answers_cast (joining_state self.old) from session)
+            (joining_state self.new) sent.old sent.new News.Nothing) }
     {
         self.sender().send(sent, &from, Body::CastAck { session })?;
-        Ok(News::Nothing)
+        Ok(())
     }
 
     /// Starts its join: a Seek, to the node that it knows.

@@ -82,24 +82,34 @@ impl LeavingNode {
         self.leaving.awaited() == 0
     }
 
-    /// Takes a frame but a Left: it does as the rule of a node says. If memory is refused, the node is used no more.
+    /// Takes a frame but a Left: it does as the rule of a node says, and leaves what it notes in `news`. If memory is refused, the
+    /// node is used no more.
     ///
     /// Rule: docs/PROTOCOL.md, "Steps of a node".
-    pub fn take(&mut self, frame: &Frame, sent: &mut FrameList) -> Result<News, NoMemory>
+    #[tactic(auto, unfolding(tap_rule::specs::FrameRules::frame_at_leaving))]
+    pub fn take(
+        &mut self,
+        frame: &Frame,
+        sent: &mut FrameList,
+        news: &mut News,
+    ) -> Result<(), NoMemory>
         requires may { MayTake (leaving_state self.old) frame.now }
         requires other { frame.now.body ≢ bodies.Left }
-        ensures { IfOk result (λ news. FollowsAs (leaving_state self.old)
-            (frame_at_leaving (leaving_state self.old) frame.now.from frame.now.body) (leaving_state self.new) sent.old sent.new news) }
+        ensures { OnOk result (FollowsAs (leaving_state self.old)
+            (frame_at_leaving (leaving_state self.old) frame.now.from frame.now.body) (leaving_state self.new) sent.old sent.new news.new) }
     {
-        let from = frame.from;
+        *news = News::Nothing;
         match &frame.body {
-            Body::Link { version, on } => self.hears_and_releases(sent, from, *version, *on),
+            Body::Link { version, on } => self.hears_and_releases(sent, frame.from, *version, *on),
             Body::Lay { .. } => self.take_lay(frame, sent),
             Body::Find { .. } => self.take_find(frame, sent),
-            Body::Answer { ticket, server } => Ok(News::Answered {
-                ticket: *ticket,
-                server: *server,
-            }),
+            Body::Answer { ticket, server } => {
+                *news = News::Answered {
+                    ticket: *ticket,
+                    server: *server,
+                };
+                Ok(())
+            }
             Body::Seek { .. }
             | Body::Tell { .. }
             | Body::Hello { .. }
@@ -112,7 +122,7 @@ impl LeavingNode {
             | Body::Gone
             | Body::Forget
             | Body::Cast { .. }
-            | Body::CastAck { .. } => Ok(News::Nothing),
+            | Body::CastAck { .. } => Ok(()),
         }
     }
 
@@ -123,22 +133,22 @@ impl LeavingNode {
         holder: Name,
         version: u32,
         on: bool,
-    ) -> Result<News, NoMemory>
+    ) -> Result<(), NoMemory>
         requires name { IsName self.old.leaving.ties.table.settings holder }
         requires other { holder ≢ self.old.leaving.ties.table.owner }
-        ensures { IfOk result (λ news. StepsAs (leaving_state self.old) (hears_and_releases (leaving_state self.old) holder version on)
-            (leaving_state self.new) sent.old sent.new news) }
+        ensures { OnOk result (StepsAs (leaving_state self.old) (hears_and_releases (leaving_state self.old) holder version on)
+            (leaving_state self.new) sent.old sent.new News.Nothing) }
     {
         hear_and_release(self.leaving.ties_mut(), sent, holder, version, on)?;
-        Ok(News::Nothing)
+        Ok(())
     }
 
     // Takes a Lay.
-    fn take_lay(&mut self, frame: &Frame, sent: &mut FrameList) -> Result<News, NoMemory>
+    fn take_lay(&mut self, frame: &Frame, sent: &mut FrameList) -> Result<(), NoMemory>
         requires may { MayTake (leaving_state self.old) frame.now }
         requires kind { IsLayBody frame.now.body }
-        ensures { IfOk result (λ news. FollowsAs (leaving_state self.old)
-            (frame_at_leaving (leaving_state self.old) frame.now.from frame.now.body) (leaving_state self.new) sent.old sent.new news) }
+        ensures { OnOk result (FollowsAs (leaving_state self.old)
+            (frame_at_leaving (leaving_state self.old) frame.now.from frame.now.body) (leaving_state self.new) sent.old sent.new News.Nothing) }
     {
         let from = frame.from;
         let Body::Lay {
@@ -149,7 +159,7 @@ impl LeavingNode {
             on,
         } = &frame.body
         else {
-            return Ok(News::Nothing);
+            return Ok(());
         };
         let lay = TakenLay {
             from,
@@ -163,11 +173,11 @@ impl LeavingNode {
     }
 
     // Takes a Find.
-    fn take_find(&mut self, frame: &Frame, sent: &mut FrameList) -> Result<News, NoMemory>
+    fn take_find(&mut self, frame: &Frame, sent: &mut FrameList) -> Result<(), NoMemory>
         requires may { MayTake (leaving_state self.old) frame.now }
         requires kind { IsFindBody frame.now.body }
-        ensures { IfOk result (λ news. FollowsAs (leaving_state self.old)
-            (frame_at_leaving (leaving_state self.old) frame.now.from frame.now.body) (leaving_state self.new) sent.old sent.new news) }
+        ensures { OnOk result (FollowsAs (leaving_state self.old)
+            (frame_at_leaving (leaving_state self.old) frame.now.from frame.now.body) (leaving_state self.new) sent.old sent.new News.Nothing) }
     {
         let Body::Find {
             ticket,
@@ -176,7 +186,7 @@ impl LeavingNode {
             level,
         } = &frame.body
         else {
-            return Ok(News::Nothing);
+            return Ok(());
         };
         let find = TakenFind {
             ticket: *ticket,
@@ -188,15 +198,15 @@ impl LeavingNode {
     }
 
     // Lay: the register of its sender takes it, and its pair is laid as wanted.
-    fn takes_lay(&mut self, sent: &mut FrameList, lay: &TakenLay) -> Result<News, NoMemory>
+    fn takes_lay(&mut self, sent: &mut FrameList, lay: &TakenLay) -> Result<(), NoMemory>
         requires sound { IsSoundNode (leaving_state self.old) }
         requires room { has_numbers_left (leaving_state self.old) ≡ true }
         requires object { IsName self.old.leaving.ties.table.settings lay.now.object }
         requires server { IsName self.old.leaving.ties.table.settings lay.now.server }
         requires level { IsLevel self.old.leaving.ties.table.settings lay.now.level }
-        ensures { IfOk result (λ news. StepsAs (leaving_state self.old) (reconciles
+        ensures { OnOk result (StepsAs (leaving_state self.old) (reconciles
             (takes_lay (leaving_state self.old) lay.now.from (pair_of lay.now.object lay.now.server) lay.now.level lay.now.version lay.now.on))
-            (leaving_state self.new) sent.old sent.new news) }
+            (leaving_state self.new) sent.old sent.new News.Nothing) }
     {
         let table = self.leaving.ties().table();
         take_lay(
@@ -206,17 +216,17 @@ impl LeavingNode {
             sent,
             lay,
         )?;
-        Ok(News::Nothing)
+        Ok(())
     }
 
     // Find: it is answered, or it goes on.
-    fn finds(&self, sent: &mut FrameList, find: &TakenFind) -> Result<News, NoMemory>
+    fn finds(&self, sent: &mut FrameList, find: &TakenFind) -> Result<(), NoMemory>
         requires sound { IsSoundNode (leaving_state self.now) }
         requires object { IsName self.now.leaving.ties.table.settings find.now.object }
         requires asker { IsName self.now.leaving.ties.table.settings find.now.asker }
         requires level { find.now.level ≤ self.now.leaving.ties.table.settings.digits }
-        ensures { IfOk result (λ news. StepsAs (leaving_state self.now) (finds (leaving_state self.now) find.now.ticket find.now.object find.now.asker find.now.level)
-            (leaving_state self.now) sent.old sent.new news) }
+        ensures { OnOk result (StepsAs (leaving_state self.now) (finds (leaving_state self.now) find.now.ticket find.now.object find.now.asker find.now.level)
+            (leaving_state self.now) sent.old sent.new News.Nothing) }
     {
         take_find(
             &self.parts.pointers,
@@ -224,7 +234,7 @@ impl LeavingNode {
             sent,
             find,
         )?;
-        Ok(News::Nothing)
+        Ok(())
     }
 
     /// Takes a Left: the sender is awaited no more.

@@ -1,5 +1,5 @@
 -- A frame at a node that has ceased: what it does is its rule's, from the frames that it sends.
-use Rattle.std.proofs.Common.{◌≡◌, ◌⊎◌, ℕ, Bool, if◌then◌else◌, List, [], ◌∷◌, ◌++◌, None, Some, refl, inl, inr}
+use Rattle.std.proofs.Common.{◌≡◌, ◌⊎◌, ℕ, Bool, if◌then◌else◌, List, [], ◌∷◌, ◌++◌, Some, refl, inl, inr}
 use Rattle.tap_name.specs.Settings.{SettingsValue}
 use Rattle.tap_name.specs.declared.slot.Slot.{Slot}
 use Rattle.tap_session.specs.Session.{SessionsValue}
@@ -61,7 +61,3 @@ module _ (p : SettingsValue) (name : List ℕ) (sessions left : SessionsValue) (
       answers (answered_at sessions session) (answer_sends (answer_to (session_of sessions.sessions session))) (rw is refl) closed added
   answer_ceased session (inr is) closed added =
       answers (answered_at sessions session) (answer_sends (answer_to (session_of sessions.sessions session))) (rw is refl) closed added
-
-  -- a frame without a rule
-  pub none_ceased : frame_at_ceased ceased from body ≡ None → left ≡ sessions → sent ≡ before → TakesCeased
-  none_ceased none same still = rw (none, same) (record { state = refl; frames = still; noted = refl })

@@ -1,4 +1,4 @@
-ghost use Rattle.std.specs.Prelude.{◌≡◌, ◌≢◌, ◌≤◌, ◌&&◌, nat_lt, true, false, length, All, Contains, IfOk, IsTrue, Err};
+ghost use Rattle.std.specs.Prelude.{◌≡◌, ◌≤◌, ◌&&◌, nat_lt, true, false, length, All, Contains, IfOk, IsTrue, Err};
 ghost use Rattle.std.specs.Option.{option_copied};
 ghost use Rattle.tap_name.specs.Name.{IsName};
 ghost use Rattle.tap_rule.specs.Node.{joiner, member_at_rest, name_of, settings_of};
@@ -7,7 +7,7 @@ ghost use Rattle.tap_wire.specs.Spelling.{IsFrame};
 ghost use Rattle.tap_node.specs.Node.{has_room_left, node_status, pointers_lent, running, table_lent};
 
 use crate::fault::NodeFault;
-use crate::state::{State, turned};
+use crate::state::State;
 use crate::status::NodeStatus;
 use crate::turn::Turn;
 use std::alloc::Global;
@@ -18,7 +18,7 @@ use tap_multicast::Covers;
 use tap_name::{List, Name, Settings};
 use tap_pointer::Pointers;
 use tap_session::Sessions;
-use tap_step::{NoMemory, Sender};
+use tap_step::{News, NoMemory, Sender};
 use tap_strange::{is_strange, is_strange_to_ended};
 use tap_table::Table;
 use tap_turn::FrameList;
@@ -36,8 +36,7 @@ use tap_wire::{Frame, WireFault, decode};
 #[derive(Drop)]
 pub struct Node {
     pub(crate) alloc: Global,
-    pub(crate) settings: Settings,
-    pub(crate) name: Name,
+    pub(crate) sender: Sender,
     pub(crate) state: State,
 }
 
@@ -48,9 +47,9 @@ impl Model for Node {
 
     ghost use Rattle.tap_node.specs.Seen.{IsKeptFor, node_value};
 
-    ghost view = { λ n. node_value n.settings n.name n.state };
+    ghost view = { λ n. node_value n.sender.settings n.sender.name n.state };
 
-    ghost invariant = { λ n. IsKeptFor n.settings n.name (node_value n.settings n.name n.state) };
+    ghost invariant = { λ n. IsKeptFor n.sender.settings n.sender.name (node_value n.sender.settings n.sender.name n.state) };
 }
 
 impl Node {
@@ -76,8 +75,10 @@ impl Node {
         let core = CoreNode::member(alloc, name, settings, members)?;
         Ok(Node {
             alloc,
-            settings: *settings,
-            name,
+            sender: Sender {
+                settings: *settings,
+                name,
+            },
             state: State::Core(core),
         })
     }
@@ -90,8 +91,10 @@ impl Node {
         let joining = JoiningNode::new(alloc, name, settings)?;
         Ok(Node {
             alloc,
-            settings: *settings,
-            name,
+            sender: Sender {
+                settings: *settings,
+                name,
+            },
             state: State::Joining(joining),
         })
     }
@@ -100,7 +103,7 @@ impl Node {
     pub fn name(&self) -> Name
         ensures { result ≡ name_of self.now.state }
     {
-        self.name
+        self.sender.name
     }
 
     /// What it is. `Ended` exactly if an earlier call answered `NoMemory`.
@@ -201,7 +204,7 @@ impl Node {
         if self.is_ended() {
             return Err(NodeFault::Ended);
         }
-        match decode(self.alloc, &self.settings, bytes) {
+        match decode(self.alloc, &self.sender.settings, bytes) {
             Ok(frame) => self.take_frame(&frame),
             Err(WireFault::NoMemory) => {
                 self.state = State::ended(self.alloc);
@@ -218,16 +221,23 @@ impl Node {
         requires frame { IsFrame (settings_of self.old.state) frame.now }
         ensures { AnswersAs (at_frame self.old frame.now) self.old result self.new }
     {
-        if frame.to != self.name {
+        if frame.to != self.sender.name {
             return Err(NodeFault::NotMine(frame.to));
         }
         if self.is_strange(frame) {
             return Err(NodeFault::Strange);
         }
-        let sender = self.sender();
-        let mut sent = FrameList::new(self.alloc);
-        let news = self.state.take(self.alloc, &sender, &mut sent, frame);
-        turned(self.alloc, &mut self.state, sent, news)
+        let mut turn = Turn {
+            sent: FrameList::new(self.alloc),
+            news: News::Nothing,
+        };
+        match self.state.takes(self.alloc, &self.sender, &mut turn, frame) {
+            Ok(()) => Ok(turn),
+            Err(NoMemory) => {
+                self.state = State::ended(self.alloc);
+                Err(NodeFault::NoMemory)
+            }
+        }
     }
 
     // Who sends its frames.
@@ -235,10 +245,7 @@ impl Node {
         ensures value { result ≡ node_sender self.now.state }
         ensures name { IsName result.settings result.name }
     {
-        Sender {
-            settings: self.settings,
-            name: self.name,
-        }
+        self.sender
     }
 
     // Whether memory was refused in an earlier step.
@@ -272,7 +279,7 @@ impl Node {
                 frame,
             ),
             State::Gone(_) | State::Ceased(_) | State::Ended(_) => {
-                is_strange_to_ended(&self.settings, &self.name, frame)
+                is_strange_to_ended(&self.sender.settings, &self.sender.name, frame)
             }
         }
     }

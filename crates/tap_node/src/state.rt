@@ -50,21 +50,23 @@ impl State {
     // Does as the rule of a frame says that isn't strange. What changes the status is done by calls that aren't inlined, so that
     // other frames don't clear room for a second state.
     #[inline(never)]
-    pub(crate) fn take(
+    pub(crate) fn takes(
         &mut self,
         alloc: Global,
         sender: &Sender,
-        sent: &mut FrameList,
+        turn: &mut Turn,
         frame: &Frame,
-    ) -> Result<News, NoMemory>
+    ) -> Result<(), NoMemory>
         requires held { IsHeldBy sender.now.settings sender.now.name self.old }
         requires may { MayTake (state_held sender.now.settings sender.now.name self.old) frame.now }
-        ensures { IfOk result (λ news. FollowsFrom sender.now.settings sender.now.name self.old self.new frame.now.from frame.now.body sent.old sent.new news) }
+        requires nothing { turn.old.news ≡ News.Nothing }
+        ensures { OnOk result (FollowsFrom sender.now.settings sender.now.name self.old self.new frame.now.from frame.now.body
+            turn.old.sent turn.new.sent turn.new.news) }
     {
         match &frame.body {
-            Body::Done => self.takes_done(alloc, sender, sent),
-            Body::Left => self.takes_left(alloc, sender, sent, frame.from),
-            _ => self.stays(sender, sent, frame),
+            Body::Done => self.takes_done(alloc, sender, turn),
+            Body::Left => self.takes_left(alloc, sender, turn, &frame.from),
+            _ => self.stays(sender, turn, frame),
         }
     }
 
@@ -74,18 +76,19 @@ impl State {
         &mut self,
         alloc: Global,
         sender: &Sender,
-        sent: &mut FrameList,
-    ) -> Result<News, NoMemory>
+        turn: &mut Turn,
+    ) -> Result<(), NoMemory>
         requires held { IsHeldBy sender.now.settings sender.now.name self.old }
         requires sound { IsSoundNode (state_held sender.now.settings sender.now.name self.old) }
         requires room { has_numbers_left (state_held sender.now.settings sender.now.name self.old) ≡ true }
-        ensures { (from : List ℕ) → IfOk result (λ news. FollowsFrom sender.now.settings sender.now.name self.old self.new from bodies.Done
-            sent.old sent.new news) }
+        ensures { (from : List ℕ) → OnOk result (FollowsFrom sender.now.settings sender.now.name self.old self.new from bodies.Done
+            turn.old.sent turn.new.sent turn.new.news) }
     {
         let state = mem::replace(self, State::ended(alloc));
-        let (next, news) = state.is_done(alloc, sender, sent)?;
+        let (next, news) = state.is_done(alloc, sender, &mut turn.sent)?;
         *self = next;
-        Ok(news)
+        turn.news = news;
+        Ok(())
     }
 
     // Takes a Left.
@@ -94,40 +97,38 @@ impl State {
         &mut self,
         alloc: Global,
         sender: &Sender,
-        sent: &mut FrameList,
-        from: Name,
-    ) -> Result<News, NoMemory>
+        turn: &mut Turn,
+        from: &Name,
+    ) -> Result<(), NoMemory>
         requires held { IsHeldBy sender.now.settings sender.now.name self.old }
         requires sound { IsSoundNode (state_held sender.now.settings sender.now.name self.old) }
         requires room { has_numbers_left (state_held sender.now.settings sender.now.name self.old) ≡ true }
-        ensures { IfOk result (λ news. FollowsFrom sender.now.settings sender.now.name self.old self.new from bodies.Left
-            sent.old sent.new news) }
+        ensures { OnOk result (FollowsFrom sender.now.settings sender.now.name self.old self.new from.now bodies.Left
+            turn.old.sent turn.new.sent turn.new.news) }
     {
         let state = mem::replace(self, State::ended(alloc));
-        let (next, news) = state.is_left(sender, sent, from)?;
+        let (next, news) = state.is_left(sender, &mut turn.sent, *from)?;
         *self = next;
-        Ok(news)
+        turn.news = news;
+        Ok(())
     }
 
     // Does as the rule of a frame says after which the status is the same.
-    fn stays(
-        &mut self,
-        sender: &Sender,
-        sent: &mut FrameList,
-        frame: &Frame,
-    ) -> Result<News, NoMemory>
+    fn stays(&mut self, sender: &Sender, turn: &mut Turn, frame: &Frame) -> Result<(), NoMemory>
         requires held { IsHeldBy sender.now.settings sender.now.name self.old }
         requires may { MayTake (state_held sender.now.settings sender.now.name self.old) frame.now }
         requires no_done { frame.now.body ≢ bodies.Done }
         requires no_left { frame.now.body ≢ bodies.Left }
-        ensures { IfOk result (λ news. FollowsFrom sender.now.settings sender.now.name self.old self.new frame.now.from frame.now.body sent.old sent.new news) }
+        requires nothing { turn.old.news ≡ News.Nothing }
+        ensures { OnOk result (FollowsFrom sender.now.settings sender.now.name self.old self.new frame.now.from frame.now.body
+            turn.old.sent turn.new.sent turn.new.news) }
     {
         match self {
-            State::Joining(node) => node.take(frame, sent),
-            State::Core(node) => node.take(frame, sent),
-            State::Leaving(node) => node.take(frame, sent),
-            State::Ceased(sessions) => take_ceased(sessions, sender, sent, frame),
-            State::Gone(_) | State::Ended(_) => Ok(News::Nothing),
+            State::Joining(node) => node.take(frame, &mut turn.sent),
+            State::Core(node) => node.take(frame, &mut turn.sent, &mut turn.news),
+            State::Leaving(node) => node.take(frame, &mut turn.sent, &mut turn.news),
+            State::Ceased(sessions) => take_ceased(sessions, sender, &mut turn.sent, frame),
+            State::Gone(_) | State::Ended(_) => Ok(()),
         }
     }
 
@@ -380,18 +381,19 @@ pub(crate) fn turned(
 
 // A frame at a node that has ceased.
 #[inline(never)]
+#[tactic(auto, unfolding(tap_rule::specs::FrameRules::frame_at_ceased))]
 fn take_ceased(
     sessions: &mut Sessions,
     sender: &Sender,
     sent: &mut FrameList,
     frame: &Frame,
-) -> Result<News, NoMemory>
+) -> Result<(), NoMemory>
     requires own { IsName sender.now.settings sender.now.name }
     requires parents { HaveParents sender.now.settings sessions.old }
     requires frame { IsFrame sender.now.settings frame.now }
-    ensures { IfOk result (λ news. FollowsAs (ended_state ceased sender.now.settings sender.now.name sessions.old)
+    ensures { OnOk result (FollowsAs (ended_state ceased sender.now.settings sender.now.name sessions.old)
         (frame_at_ceased (ended_state ceased sender.now.settings sender.now.name sessions.old) frame.now.from frame.now.body)
-        (ended_state ceased sender.now.settings sender.now.name sessions.new) sent.old sent.new news) }
+        (ended_state ceased sender.now.settings sender.now.name sessions.new) sent.old sent.new News.Nothing) }
 {
     let from = frame.from;
     match &frame.body {
@@ -424,5 +426,5 @@ fn take_ceased(
         | Body::Forget
         | Body::CastAck { .. } => {}
     }
-    Ok(News::Nothing)
+    Ok(())
 }

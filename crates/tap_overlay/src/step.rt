@@ -44,6 +44,7 @@ pub(crate) fn start_at(
 }
 
 // A node takes a frame, if it has room for a step.
+#[inline(always)]
 fn take_if_room(node: &mut Node, bytes: &[u8]) -> Result<Turn, OverlayFault>
     ensures step { IfRoom (take_outcome node.old bytes.now) node.old node.new result }
     ensures memory { result ≡ Err (OverlayFault.Node NodeFault.NoMemory) → MayWant node.old bytes.now }

@@ -1,37 +1,17 @@
 ghost use Rattle.std.specs.Prelude.{◌≡◌, ◌≤◌, [], ◌∷◌, length, map};
 ghost use Rattle.tap_table.specs.Table.{rows};
-ghost use Rattle.tap_wire.specs.Spelling.{AreLinks, IsBody};
-ghost use Rattle.tap_rule.specs.Strange.{is_too_many, most_links_kept, names_to_link};
+ghost use Rattle.tap_wire.specs.Spelling.{AreLinks};
+ghost use Rattle.tap_rule.specs.Strange.{is_too_many, most_links_kept};
 ghost use Rattle.tap_strange.specs.Strangers.{IsFor, IsValid, is_known_to, new_among, new_beside, table_known};
 
 use crate::known::Known;
 use tap_name::{Name, Offered};
-use tap_wire::Body;
 
 // How many links a node may have.
 const MOST_LINKS: usize = 255;
 
-// Whether the node could have too many links with a frame from this sender.
-#[tactic(auto, unfolding(tap_rule::specs::Strange::names_to_link))]
-pub(crate) fn is_too_many(known: Known<'_>, from: &Name, body: &Body) -> bool
-    requires valid { IsValid known }
-    requires few { length (rows (table_known known)) ≤ most_links_kept }
-    requires body { IsBody (table_known known).settings body.now }
-    ensures { IsFor known.entry (λ node. is_too_many node (names_to_link from.now body.now)) result }
-{
-    match body {
-        Body::Seek { joiner: name }
-        | Body::Tell { joiner: name, .. }
-        | Body::Leave {
-            replacement: Some(name),
-        } => has_no_room(known, name),
-        Body::Hello { links, .. } => has_no_room_for(known, from, links.as_slice()),
-        _ => false,
-    }
-}
-
 // Whether a link to this name may be one too many.
-fn has_no_room(known: Known<'_>, name: &Name) -> bool
+pub(crate) fn has_no_room(known: Known<'_>, name: &Name) -> bool
     requires valid { IsValid known }
     requires few { length (rows (table_known known)) ≤ most_links_kept }
     ensures { IsFor known.entry (λ node. is_too_many node (name.now ∷ [])) result }
@@ -54,7 +34,8 @@ fn is_known(known: Known<'_>, name: &Name) -> bool
 }
 
 // Whether links to the sender of a Hello and to all its names may be too many. If even all of them fit, none is looked up.
-fn has_no_room_for(known: Known<'_>, from: &Name, links: &[Offered]) -> bool
+#[inline(never)]
+pub(crate) fn has_no_room_for(known: Known<'_>, from: &Name, links: &[Offered]) -> bool
     requires valid { IsValid known }
     requires few { length (rows (table_known known)) ≤ most_links_kept }
     requires links { AreLinks (table_known known).settings links.now }

@@ -6,7 +6,7 @@ ghost use Rattle.tap_rule.specs.Strange.{is_leaving, is_no_pin, is_strange, is_s
 ghost use Rattle.tap_strange.specs.Strangers.{IsFor, IsForNode, IsValid, table_known};
 
 use crate::known::Known;
-use crate::room::is_too_many;
+use crate::room::{has_no_room, has_no_room_for};
 use tap_link::Kind;
 use tap_multicast::Covers;
 use tap_name::{Name, Settings};
@@ -20,6 +20,7 @@ const MOST_DEPTH: u16 = 65_535;
 /// links, and the frame's body keeps the rules of its fields. It takes no memory.
 ///
 /// Rule: docs/PROTOCOL.md, "Strange frames".
+#[inline(always)]
 pub fn is_strange(table: &Table, covers: &Covers, frame: &Frame) -> bool
     requires few { length (rows table.now) ≤ most_links_kept }
     requires body { IsBody table.now.settings frame.now.body }
@@ -40,7 +41,9 @@ pub fn is_strange_to_ended(settings: &Settings, name: &Name, frame: &Frame) -> b
     frame.from == *name || is_strange_from_another(Known::Nothing { settings, name }, frame)
 }
 
-// Whether a frame that isn't from the node itself is strange to it.
+// Whether a frame that isn't from the node itself is strange to it: by what it says, or by the names that it could link.
+#[inline(always)]
+#[tactic(auto, unfolding(tap_rule::specs::Strange::is_strange_body, tap_rule::specs::Strange::names_to_link))]
 fn is_strange_from_another(known: Known<'_>, frame: &Frame) -> bool
     requires valid { IsValid known }
     requires few { length (rows (table_known known)) ≤ most_links_kept }
@@ -48,22 +51,18 @@ fn is_strange_from_another(known: Known<'_>, frame: &Frame) -> bool
     ensures { IsFor known.entry (λ node. is_strange_body node frame.now.body
         || is_too_many node (names_to_link frame.now.from frame.now.body)) result }
 {
-    is_strange_body(known, &frame.body) || is_too_many(known, &frame.from, &frame.body)
-}
-
-// Whether it is strange by what it says.
-#[tactic(auto, unfolding(tap_rule::specs::Strange::is_strange_body))]
-fn is_strange_body(known: Known<'_>, body: &Body) -> bool
-    ensures { IsFor known.entry (λ node. is_strange_body node body.now) result }
-{
-    match body {
-        Body::Seek { joiner } => is_strange_seek(known, joiner),
+    match &frame.body {
+        Body::Seek { joiner } => is_strange_seek(known, joiner) || has_no_room(known, joiner),
         Body::Tell {
             joiner,
             prefix,
             depth,
             ..
-        } => is_strange_tell(known, joiner, *prefix, *depth),
+        } => is_strange_tell(known, joiner, *prefix, *depth) || has_no_room(known, joiner),
+        Body::Hello { links, .. } => has_no_room_for(known, &frame.from, links.as_slice()),
+        Body::Leave {
+            replacement: Some(name),
+        } => has_no_room(known, name),
         Body::Cast { depth, .. } => *depth == MOST_DEPTH,
         _ => false,
     }

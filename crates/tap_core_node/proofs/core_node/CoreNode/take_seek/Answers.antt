@@ -2,6 +2,7 @@ use Rattle.std.proofs.Common.{refl, sym, ◌∙◌}
 use Rattle.std.proofs.lemmas.Result.{IfOk-weaker}
 use Rattle.tap_rule.specs.FrameRules.{frame_at_core}
 use Rattle.tap_rule.specs.Node.{NodeState}
+use Rattle.tap_step.specs.declared.news.News.TheVariants.{Nothing}
 use Rattle.tap_core_node.specs.State.{core_state}
 use Rattle.tap_core_node.proofs.Asked.{MayBeCovered, next_named, seeker_apart, seeker_may, seeker_name, surrogate_within}
 use Rattle.tap_core_node.proofs.Pins.{at_surrogate, sent_on}
@@ -104,6 +105,6 @@ returns-in_ok-watch-in-Surrogate c =
     let node : NodeState = core_state c.args.self.now in
     let full = rw (c.settings-settings.ensures.value, c.table.ensures.value, c.ties.ensures) at c.in_ok-watch-in-Surrogate.ensures.slots in
     λ joiner is. rw c.in-Seek.is (IfOk-weaker c.pins_and_covers.result _ _
-    (at_surrogate node c.requires.sound refl c.args.sent.now c.in-Seek.joiner c.in-Surrogate.prefix c.in_ok-watch-in-Surrogate.watch
-    (sym c.seek.ensures ∙ c.in-Surrogate.is) full _ _)
+    (λ _. at_surrogate node c.requires.sound refl c.args.sent.now c.in-Seek.joiner c.in-Surrogate.prefix c.in_ok-watch-in-Surrogate.watch
+    (sym c.seek.ensures ∙ c.in-Surrogate.is) full _ _ Nothing)
     c.pins_and_covers.ensures)

@@ -20,9 +20,9 @@ pub returns-in-Tell : goal.returns-in-Tell
 returns-in-Tell c =
     let told = c.in-Tell in
     IfOk-weaker c.meets.result _ _
-    (λ news steps.
+    (λ _ steps.
     tell_follows (joining_state c.args.self.now) refl (c.requires.may.sound.alone refl) c.args.frame.now (joining_state c.meets.new.self)
-    c.args.sent.now c.meets.new.sent news
+    c.args.sent.now c.meets.new.sent Nothing
     (record { joiner = told.joiner; prefix = told.prefix; level = told.level; session = told.session; depth = told.depth })
     told.watch told.is steps)
     c.meets.ensures
@@ -30,18 +30,18 @@ returns-in-Tell c =
 pub returns-in-Hello : goal.returns-in-Hello
 returns-in-Hello c =
     IfOk-weaker c.takes_hello.result _ _
-    (λ news steps.
+    (λ _ steps.
     hello_follows (joining_state c.args.self.now) refl (c.requires.may.sound.alone refl) c.args.frame.now
-    (joining_state c.takes_hello.new.self) c.args.sent.now c.takes_hello.new.sent news
+    (joining_state c.takes_hello.new.self) c.args.sent.now c.takes_hello.new.sent Nothing
     c.in-Hello.session c.in-Hello.core c.in-Hello.links c.in-Hello.is steps)
     c.takes_hello.ensures
 
 pub returns-in-Release : goal.returns-in-Release
 returns-in-Release c =
     IfOk-weaker c.releases.result _ _
-    (λ news steps.
+    (λ _ steps.
     release_follows (joining_state c.args.self.now) refl (c.requires.may.sound.alone refl) c.args.frame.now
-    (joining_state c.releases.new.self) c.args.sent.now c.releases.new.sent news c.in-Release.is steps)
+    (joining_state c.releases.new.self) c.args.sent.now c.releases.new.sent Nothing c.in-Release.is steps)
     c.releases.ensures
 
 pub returns-in_ok-hears-in-Link : goal.returns-in_ok-hears-in-Link
@@ -62,17 +62,17 @@ returns-in-Forget c =
 pub returns-in-Cast : goal.returns-in-Cast
 returns-in-Cast c =
     IfOk-weaker c.answers_cast.result _ _
-    (λ news steps.
+    (λ _ steps.
     cast_follows (joining_state c.args.self.now) refl (c.requires.may.sound.alone refl) c.args.frame.now
-    (joining_state c.answers_cast.new.self) c.args.sent.now c.answers_cast.new.sent news _ _ c.in-Cast.session _ _ c.in-Cast.is steps)
+    (joining_state c.answers_cast.new.self) c.args.sent.now c.answers_cast.new.sent Nothing _ _ c.in-Cast.session _ _ c.in-Cast.is steps)
     c.answers_cast.ensures
 
 pub returns-in-Heard : goal.returns-in-Heard
 returns-in-Heard c =
     IfOk-weaker c.answered.result _ _
-    (λ news steps.
+    (λ _ steps.
     answer_follows (joining_state c.args.self.now) refl (c.requires.may.sound.alone refl) c.args.frame.now
-    (joining_state c.answered.new.self) c.args.sent.now c.answered.new.sent news c.in-Heard.session c.in-Heard.is steps)
+    (joining_state c.answered.new.self) c.args.sent.now c.answered.new.sent Nothing c.in-Heard.session c.in-Heard.is steps)
     c.answered.ensures
 
 pub returns-in-Seek : goal.returns-in-Seek

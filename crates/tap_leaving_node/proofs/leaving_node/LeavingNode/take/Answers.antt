@@ -1,17 +1,18 @@
 use Rattle.std.proofs.Common.{rules}
 use Rattle.std.proofs.lemmas.Result.{IfOk-weaker}
 use Rattle.tap_rule.specs.FrameRules.{frame_at_leaving}
+use Rattle.tap_step.specs.declared.news.News.TheVariants.{Nothing}
 use Rattle.tap_leaving_node.specs.State.{leaving_state}
 use Rattle.tap_leaving_node.proofs.Taken.{answer_follows, link_follows}
 use Rattle.tap_leaving_node.proofs.leaving_node.LeavingNode.take.Goals as goal
 
 pub returns-in-Link : goal.returns-in-Link
 returns-in-Link c =
-    IfOk-weaker c.hears_and_releases.result _ _
-    (λ news steps.
+    (IfOk-weaker c.hears_and_releases.result _ _
+    (λ _ steps.
     link_follows (leaving_state c.args.self.now) tt c.args.frame.now (leaving_state c.hears_and_releases.new.self) c.args.sent.now
-    c.hears_and_releases.new.sent news c.requires.may.sound.laid c.in-Link.version c.in-Link.on c.in-Link.is steps)
-    c.hears_and_releases.ensures
+    c.hears_and_releases.new.sent Nothing c.requires.may.sound.laid c.in-Link.version c.in-Link.on c.in-Link.is steps)
+    c.hears_and_releases.ensures)
 
 pub returns-in-Answer : goal.returns-in-Answer
 returns-in-Answer c =

@@ -1,4 +1,5 @@
 use Rattle.std.proofs.lemmas.Result.{IfOk-weaker}
+use Rattle.tap_step.specs.declared.news.News.TheVariants.{Nothing}
 use Rattle.tap_leaving_node.specs.State.{leaving_state}
 use Rattle.tap_leaving_node.proofs.Taken.{find_follows}
 use Rattle.tap_leaving_node.proofs.leaving_node.LeavingNode.take_find.Goals as goal
@@ -6,7 +7,7 @@ use Rattle.tap_leaving_node.proofs.leaving_node.LeavingNode.take_find.Goals as g
 pub returns : goal.returns
 returns c =
     IfOk-weaker c.finds.result _ _
-    (λ news steps.
-    find_follows (leaving_state c.args.self.now) tt c.args.frame.now (leaving_state c.args.self.now) c.args.sent.now c.finds.new.sent news
+    (λ _ steps.
+    find_follows (leaving_state c.args.self.now) tt c.args.frame.now (leaving_state c.args.self.now) c.args.sent.now c.finds.new.sent Nothing
     c.requires.may.sound.laid c.in-Find.ticket c.in-Find.object c.in-Find.asker c.in-Find.level c.in-Find.is steps)
     c.finds.ensures

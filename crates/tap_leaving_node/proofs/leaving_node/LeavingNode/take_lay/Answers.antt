@@ -1,4 +1,5 @@
 use Rattle.std.proofs.lemmas.Result.{IfOk-weaker}
+use Rattle.tap_step.specs.declared.news.News.TheVariants.{Nothing}
 use Rattle.tap_leaving_node.specs.State.{leaving_state}
 use Rattle.tap_leaving_node.proofs.Taken.{lay_follows}
 use Rattle.tap_leaving_node.proofs.leaving_node.LeavingNode.take_lay.Goals as goal
@@ -6,7 +7,7 @@ use Rattle.tap_leaving_node.proofs.leaving_node.LeavingNode.take_lay.Goals as go
 pub returns : goal.returns
 returns c =
     IfOk-weaker c.takes_lay.result _ _
-    (λ news steps.
+    (λ _ steps.
     lay_follows (leaving_state c.args.self.now) tt c.args.frame.now (leaving_state c.takes_lay.new.self) c.args.sent.now
-    c.takes_lay.new.sent news c.in-Lay.object c.in-Lay.server c.in-Lay.level c.in-Lay.version c.in-Lay.on c.in-Lay.is steps)
+    c.takes_lay.new.sent Nothing c.in-Lay.object c.in-Lay.server c.in-Lay.level c.in-Lay.version c.in-Lay.on c.in-Lay.is steps)
     c.takes_lay.ensures

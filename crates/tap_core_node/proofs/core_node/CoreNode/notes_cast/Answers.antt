@@ -7,7 +7,7 @@ use Rattle.tap_core_node.specs.Requests.{copied_with}
 use Rattle.tap_core_node.specs.State.{core_state}
 use Rattle.tap_core_node.proofs.CastSteps.{cast_again, cast_alone, cast_few, cast_goes_on, cast_levels, cast_names}
 use Rattle.tap_core_node.proofs.Followed.{casts_quiet, follows_quiet}
-use Rattle.tap_core_node.proofs.core_node.CoreNode.casts.Goals as goal
+use Rattle.tap_core_node.proofs.core_node.CoreNode.notes_cast.Goals as goal
 
 pub returns-then-is_empty : goal.returns-then-is_empty
 returns-then-is_empty c =
@@ -49,9 +49,10 @@ returns-in_ok-answer_cast-in-Already c =
     let node : NodeState = core_state c.args.self.now in
     let copy = copied_with c.args.copy.now c.args.word.now in
     let found = rw (c.table-table.ensures.value, c.ties.ensures) at c.in_ok-cast.ensures.turn in
-    follows_quiet node (casts node copy) _ c.args.sent.now _ Nothing (casts_quiet node refl c.requires.sound.laid copy)
+    rw c.requires.nothing (follows_quiet node (casts node copy) _ c.args.sent.now _ Nothing
+    (casts_quiet node refl c.requires.sound.laid copy)
     (cast_again node copy _ c.args.sent.now _ c.in_ok-cast.ensures.after (sym found ∙ c.in-Already.is)
-    (rw c.sender.ensures.value at c.in_ok-answer_cast-in-Already.ensures))
+    (rw c.sender.ensures.value at c.in_ok-answer_cast-in-Already.ensures)))
 
 pub returns-in_ok-cast_spreads-in-Now : goal.returns-in_ok-cast_spreads-in-Now
 returns-in_ok-cast_spreads-in-Now c =
