@@ -13,6 +13,7 @@ use tap_name::{Name, Settings};
 use tap_node::{NodeFault, Turn};
 use tap_overlay::{Overlay, OverlayFault};
 use tap_scenario::Step;
+use tap_turn::FrameList;
 
 // The room for a step and one record after it, with room for a refusal and the last record after these.
 const ROOM_FOR_STEP: usize = 4;
@@ -56,12 +57,12 @@ impl Engine {
     }
 
     // Whether with the frames of a turn more are sent in all than may be.
-    pub(crate) fn is_too_many(&self, turn: &Turn) -> bool
+    pub(crate) fn is_too_many(&self, sent: &FrameList) -> bool
         requires { sent_count self.now.ledger.records ≤ self.now.frames }
-        ensures { result ≡ nat_lt (self.now.frames - sent_count self.now.ledger.records) (length turn.now.sent) }
+        ensures { result ≡ nat_lt (self.now.frames - sent_count self.now.ledger.records) (length sent.now) }
     {
         let left = self.frames - self.ledger.sent();
-        (left as usize) < turn.sent.len()
+        (left as usize) < sent.len()
     }
 
     /// A step that only chooses is added alone, with room for its refusal and the last record. `NoMemory` adds nothing.

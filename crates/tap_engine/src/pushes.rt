@@ -7,21 +7,23 @@ ghost use Rattle.tap_records.specs.Seen.{bytes_records, seen_after, seen_before,
 use tap_ledger::Ledger;
 use tap_log::Record;
 use tap_name::Name;
-use tap_node::{News, Turn};
+use tap_node::News;
 use tap_records::{record_after, record_before};
+use tap_turn::FrameList;
 use tap_wire::Bytes;
 
-// Adds the records of the turn of a node of this name, for which there is room.
-pub(crate) fn push_turn(ledger: &mut Ledger, name: &Name, turn: Turn)
-    requires room { length turn.sent + 2 ≤ ledger.old.spare }
-    requires can_add { CanAdd ledger.old.records (turn_records (sent_count ledger.old.records) name.now turn) }
-    ensures records { ledger.new.records ≡ ledger.old.records ++ turn_records (sent_count ledger.old.records) name.now turn }
-    ensures spare { ledger.old.spare ≤ ledger.new.spare + (length turn.sent + 2) }
+// Adds the records of the turn of a node of this name, its frames and its news, for which there is room.
+pub(crate) fn push_turn(ledger: &mut Ledger, name: &Name, sent: FrameList, news: &News)
+    requires room { length sent + 2 ≤ ledger.old.spare }
+    requires can_add { CanAdd ledger.old.records
+        (turn_records (sent_count ledger.old.records) name.now (record { sent = sent; news = news.now })) }
+    ensures records { ledger.new.records ≡ ledger.old.records
+        ++ turn_records (sent_count ledger.old.records) name.now (record { sent = sent; news = news.now }) }
+    ensures spare { ledger.old.spare ≤ ledger.new.spare + (length sent + 2) }
 {
-    let Turn { sent, news } = turn;
     match news {
         News::Nothing => push_frames(ledger, sent.into_frames()),
-        _ => push_with_news(ledger, name, &news, sent.into_frames()),
+        _ => push_with_news(ledger, name, news, sent.into_frames()),
     }
 }
 
@@ -61,7 +63,6 @@ fn push_frames(ledger: &mut Ledger, frames: Vec<Bytes>)
     ensures spare { ledger.new.spare + length frames.items ≡ ledger.old.spare }
 {
     for bytes in frames {
-        let number = ledger.sent();
-        ledger.push_reserved(Record::Sent { number, bytes });
+        ledger.push_sent(bytes);
     }
 }

@@ -80,7 +80,7 @@ impl Engine {
             let all = (Record.Step index step.now ∷ at_most_one item) ++ turn_records (sent_count self.old.ledger.records) acted.name acted.turn in
             LogsAs (adds_within w (Record.Step index step.now ∷ []) all) self.old result self.new }
     {
-        if self.is_too_many(&acted.turn) {
+        if self.is_too_many(&acted.turn.sent) {
             self.add_step(index, step);
             return self.spend();
         }
@@ -88,7 +88,7 @@ impl Engine {
         self.ledger.reserve(turn.sent.len() + ROOM_BESIDE_FRAMES)?;
         self.add_step(index, step);
         push_some(&mut self.ledger, item);
-        push_turn(&mut self.ledger, &name, turn);
+        push_turn(&mut self.ledger, &name, turn.sent, &turn.news);
         Ok(())
     }
 

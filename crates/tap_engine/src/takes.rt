@@ -8,7 +8,8 @@ use crate::pushes::push_turn;
 use crate::stop::Stop;
 use tap_log::{Record, Refusal};
 use tap_name::Name;
-use tap_node::Turn;
+use tap_node::News;
+use tap_turn::FrameList;
 use tap_wire::decode_head;
 
 // The room for a group beside that for its frames, with room for a refusal and the last record after it: the record of the frame that is
@@ -43,28 +44,37 @@ impl Engine {
         let Ok(head) = decode_head(&self.settings, flight.bytes) else {
             unreachable!()
         };
-        match self.overlay.take(&head.to, flight.bytes) {
-            Ok(turn) => self.add_taken(number, &head.to, turn),
+        let name = head.to;
+        match self.overlay.take(&name, flight.bytes) {
+            Ok(turn) => self.add_taken(number, &name, turn.sent, &turn.news),
             Err(_) => Err(Stop::NoMemory),
         }
     }
 
-    // Adds the group of a frame that its receiver has taken.
-    #[inline(never)]
-    fn add_taken(&mut self, number: u32, name: &Name, turn: Turn) -> Result<(), Stop>
+    // Adds the group of a frame that its receiver has taken: what it sends, and its news.
+    #[inline(always)]
+    fn add_taken(
+        &mut self,
+        number: u32,
+        name: &Name,
+        sent: FrameList,
+        news: &News,
+    ) -> Result<(), Stop>
         requires room { 1 ≤ self.old.ledger.spare }
         requires sent { sent_count self.old.ledger.records ≤ self.old.frames }
-        requires can_add { CanAddTurn self.old (Record.Taken number ∷ []) (record { name = name.now; turn = turn }) }
+        requires can_add { CanAddTurn self.old (Record.Taken number ∷ [])
+            (record { name = name.now; turn = record { sent = sent; news = news.now } }) }
         ensures { let w = world_value self.old None false in
-            let group = Record.Taken number ∷ turn_records (sent_count self.old.ledger.records) name.now turn in
+            let group = Record.Taken number ∷ turn_records (sent_count self.old.ledger.records) name.now
+            (record { sent = sent; news = news.now }) in
             LogsAs (adds_within w [] group) self.old result self.new }
     {
-        if self.is_too_many(&turn) {
+        if self.is_too_many(&sent) {
             return self.spend();
         }
-        self.ledger.reserve(turn.sent.len() + ROOM_BESIDE_FRAMES)?;
+        self.ledger.reserve(sent.len() + ROOM_BESIDE_FRAMES)?;
         self.ledger.push_reserved(Record::Taken { number });
-        push_turn(&mut self.ledger, name, turn);
+        push_turn(&mut self.ledger, name, sent, news);
         Ok(())
     }
 }

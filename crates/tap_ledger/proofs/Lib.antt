@@ -12,3 +12,4 @@ pub mod Single
 pub mod Begun
 pub mod Asked
 pub mod Staying
+pub mod Sending

@@ -4,14 +4,15 @@ use Rattle.std.specs.Prelude.{if◌then◌else◌, option_and_then, fold}
 use Rattle.tap_scenario.specs.declared.step.Step.{Step}
 use Rattle.tap_scenario.specs.declared.step.Step.TheVariants.{Join, Depart}
 use Rattle.tap_log.specs.declared.record.Record.{Record}
-use Rattle.tap_log.specs.declared.record.Record.TheVariants.{Step as StepRecord, Core, Gone, Abandoned, Published, Withdrawn, Asked, CastFrom}
-use Rattle.tap_log.specs.Kinds.{abandoned_name, accepts, asked_ticket, begun_cast, core_name, gone_name, published_pair, step_of, withdrawn_pair}
+use Rattle.tap_log.specs.declared.record.Record.TheVariants.{Step as StepRecord, Taken, Core, Gone, Abandoned, Published, Withdrawn, Asked, CastFrom}
+use Rattle.tap_log.specs.Kinds.{abandoned_name, accepts, asked_ticket, begins_group, begun_cast, core_name, gone_name, published_pair, step_of, withdrawn_pair}
 use Rattle.tap_log.specs.Laws.{at_most_one}
 use Rattle.tap_history.specs.Core.{accepted_step}
 use Rattle.tap_history.specs.Names.{with_name}
 use Rattle.tap_history.specs.Steps.{depart_name, join_name}
 use Rattle.tap_ledger.specs.NameLists.{NameLists, accepted_after, lists_after, names_changed}
-use Rattle.tap_ledger.specs.Quiet.{is_coming_or_going, is_quiet, moves_node, tells_more}
+use Rattle.tap_ledger.specs.Kept.{leaver_next}
+use Rattle.tap_ledger.specs.Quiet.{is_coming_or_going, is_moving_step, is_quiet, is_request, moves_node, tells_more, tells_of_request}
 use Rattle.tap_ledger.proofs.Accepted.{make_lists}
 use Rattle.tap_ledger.proofs.Conditions.{both_left, both_right}
 use Rattle.tap_ledger.proofs.Less.{without_none}
@@ -83,41 +84,98 @@ not_true false is = refl
 
 -- nor does the step that is accepted
 none_accepted : {X : Type 0} (h : Step → Option X) → ((step : Step) → is_coming_or_going step ≡ false → h step ≡ None)
-    → (last : Option Record) (item : Record) → is_quiet last item ≡ true → option_and_then h (accepted_after last item) ≡ None
+    → (last : Option Record) (item : Record) → is_moving_step last ≡ false → option_and_then h (accepted_after last item) ≡ None
 unfolding accepted_step
-none_accepted h none None item quiet = refl
-none_accepted h none (Some last) item quiet =
-    none_if h (accepts false item) (step_of last) (none_of h none last
-    (not_true (moves_node last) (both_right (not (tells_more item)) (not (moves_node last)) quiet)))
+none_accepted h none None item still = refl
+none_accepted h none (Some last) item still = none_if h (accepts false item) (step_of last) (none_of h none last still)
 
 -- ---- what is kept
 
--- what a quiet record tells, and the step that it accepts
-pub record TellsNothing (last : Option Record) (item : Record) : Type 0 where
+-- the record tells of no node that comes or goes, and accepts no step by which one does
+pub record NamesNobody (last : Option Record) (item : Record) : Type 0 where
   pub core : core_name item ≡ None
   pub gone : gone_name item ≡ None
   pub abandoned : abandoned_name item ≡ None
+  pub joins : option_and_then join_name (accepted_after last item) ≡ None
+  pub departs : option_and_then depart_name (accepted_after last item) ≡ None
+
+-- what a quiet record tells, and the step that it accepts
+pub record TellsNothing (last : Option Record) (item : Record) : Type 0 where
+  pub nobody : NamesNobody last item
   pub published : published_pair item ≡ None
   pub withdrawn : withdrawn_pair item ≡ None
   pub asked : asked_ticket item ≡ None
   pub begun : begun_cast item ≡ None
-  pub joins : option_and_then join_name (accepted_after last item) ≡ None
-  pub departs : option_and_then depart_name (accepted_after last item) ≡ None
 
 pub quiet_tells : (last : Option Record) (item : Record) → is_quiet last item ≡ true → TellsNothing last item
 quiet_tells last item quiet =
     let tells = not_true (tells_more item) (both_left (not (tells_more item)) _ quiet) in
+    let still = not_true (is_moving_step last) (both_right (not (tells_more item)) _ quiet) in
     record {
-      core = no_core item tells;
-      gone = no_gone item tells;
-      abandoned = no_abandoned item tells;
+      nobody = record {
+        core = no_core item tells;
+        gone = no_gone item tells;
+        abandoned = no_abandoned item tells;
+        joins = none_accepted join_name no_join last item still;
+        departs = none_accepted depart_name no_departure last item still;
+      };
       published = no_published item tells;
       withdrawn = no_withdrawn item tells;
       asked = no_asked item tells;
       begun = no_cast item tells;
-      joins = none_accepted join_name no_join last item quiet;
-      departs = none_accepted depart_name no_departure last item quiet;
     }
+
+-- ---- requests
+
+request_core : (item : Record) → tells_of_request item ≡ true → core_name item ≡ None
+unfolding tells_of_request core_name
+request_core (Core name) tells = absurd (cc)
+request_core item tells = refl
+
+request_gone : (item : Record) → tells_of_request item ≡ true → gone_name item ≡ None
+unfolding tells_of_request gone_name
+request_gone (Gone name) tells = absurd (cc)
+request_gone item tells = refl
+
+request_abandoned : (item : Record) → tells_of_request item ≡ true → abandoned_name item ≡ None
+unfolding tells_of_request abandoned_name
+request_abandoned (Abandoned name) tells = absurd (cc)
+request_abandoned item tells = refl
+
+request_begins : (item : Record) → tells_of_request item ≡ true → begins_group false item ≡ false
+unfolding tells_of_request begins_group
+request_begins (StepRecord index step) tells = absurd (cc)
+request_begins (Taken number) tells = absurd (cc)
+request_begins item tells = refl
+
+-- what the record of a request leaves as it is
+pub record TellsOfRequest (last : Option Record) (item : Record) : Type 0 where
+  pub nobody : NamesNobody last item
+  pub begins : begins_group false item ≡ false
+
+pub request_tells : (last : Option Record) (item : Record) → is_request last item ≡ true → TellsOfRequest last item
+request_tells last item request =
+    let tells = both_left (tells_of_request item) _ request in
+    let still = not_true (is_moving_step last) (both_right (tells_of_request item) _ request) in
+    record {
+      nobody = record {
+        core = request_core item tells;
+        gone = request_gone item tells;
+        abandoned = request_abandoned item tells;
+        joins = none_accepted join_name no_join last item still;
+        departs = none_accepted depart_name no_departure last item still;
+      };
+      begins = request_begins item tells;
+    }
+
+-- who departs stays
+pub request_leaves : (last : Option Record) (item : Record) (departing leaver : Option (List ℕ)) → TellsOfRequest last item
+    → leaver ≡ leaver_next (begins_group false item) departing (option_and_then depart_name (accepted_after last item)) leaver
+request_leaves last item departing leaver tells =
+    sym (ap (λ b. leaver_next b departing (option_and_then depart_name (accepted_after last item)) leaver) tells.begins
+    ∙ ap (λ d. leaver_next false departing d leaver) tells.nobody.departs)
+
+-- ---- the lists
 
 -- nobody comes and nobody goes
 changed_none : (names gone : List (List ℕ)) (came goes : Option (List ℕ)) → came ≡ None → goes ≡ None
@@ -135,7 +193,7 @@ new_none : (names : List (List ℕ)) (one : Option (List ℕ)) → one ≡ None 
 new_none names one none = sym (ap (λ o. fold with_name names (at_most_one o)) none)
 
 -- the lists stay
-pub lists_stay : (r : NameLists) (last : Option Record) (item : Record) → TellsNothing last item
+pub lists_stay : (r : NameLists) (last : Option Record) (item : Record) → NamesNobody last item
     → r ≡ lists_after r (accepted_after last item) item
 unfolding make_lists
 lists_stay r last item tells =

@@ -30,7 +30,7 @@ pub(crate) fn follow(frames: &mut Outstanding, item: &Record, record_place: usiz
     ensures room { frames.old.room ≤ frames.new.room + 1 }
     ensures ascending { AreOutstanding frames.old }
 {
-    // What is outstanding ascends by number.
+    // No effect at run time. The proof reads from this call that the outstanding numbers ascend.
     let _ = frames.len();
     match item {
         Record::Sent { .. } => {
@@ -42,6 +42,7 @@ pub(crate) fn follow(frames: &mut Outstanding, item: &Record, record_place: usiz
 }
 
 // Takes the frame with this number, if it is outstanding.
+#[inline(always)]
 fn take(frames: &mut Outstanding, number: u32)
     ensures { frames.new ≡ taken_by frames.old number }
 {

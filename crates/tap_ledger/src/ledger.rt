@@ -15,20 +15,21 @@ ghost use Rattle.tap_history.specs.Refusals.{begin_settings};
 ghost use Rattle.tap_ledger.specs.Added.{CanAdd};
 ghost use Rattle.tap_ledger.specs.Kept.{leaver_next};
 ghost use Rattle.tap_ledger.specs.NameLists.{accepted_after};
-ghost use Rattle.tap_ledger.specs.Quiet.{is_quiet};
+ghost use Rattle.tap_ledger.specs.Quiet.{is_moving_step, is_quiet, is_request};
 
 use crate::counts::{counted_cast, counted_ticket};
 use crate::flights::{OutstandingFrame, follow, frame_of, payload};
 use crate::pairs::{Pairs, stays_published};
-use crate::quiet::{moves_node, tells_more};
+use crate::quiet::{moves_node, tells_more, tells_of_request};
 use crate::roll::Roll;
 use crate::steps::{accepted_step, departs};
 use std::alloc::Global;
 use std::marker::Model;
-use tap_log::{Log, NoMemory, Pair, Record, begins_group, published_pair, withdrawn_pair};
+use tap_log::{Log, NoMemory, Pair, Record, begins_group};
 use tap_name::{List, Name, Settings};
 use tap_outstanding::Outstanding;
 use tap_scenario::Step;
+use tap_wire::Bytes;
 
 // For how many records room is made at once, at least.
 const MADE_AT_ONCE: usize = 256;
@@ -109,7 +110,7 @@ impl Ledger {
     /// Makes room for so many more records, of any kind, so that adding them takes no memory. A refused call changes nothing.
     ///
     /// Rule: docs/DECISIONS.md, "The logs of a run".
-    #[inline]
+    #[inline(always)]
     pub fn reserve(&mut self, more: usize) -> Result<(), NoMemory>
         ensures records { self.new.records ≡ self.old.records }
         ensures ok { OnOk result (self.new.spare ≡ max self.old.spare more) }
@@ -119,6 +120,17 @@ impl Ledger {
             self.room = self.room.max(more);
             return Ok(());
         }
+        self.make_room(more)
+    }
+
+    // Makes room for so many more records, which are more than there is room for in each part.
+    #[inline(never)]
+    fn make_room(&mut self, more: usize) -> Result<(), NoMemory>
+        requires { self.old.spare ≤ more }
+        ensures records { self.new.records ≡ self.old.records }
+        ensures ok { OnOk result (self.new.spare ≡ more) }
+        ensures err { OnErr result (self.new ≡ self.old) }
+    {
         let all = more.max(MADE_AT_ONCE);
         self.log.reserve(all)?;
         self.roll.reserve(all)?;
@@ -141,8 +153,80 @@ impl Ledger {
     {
         if self.is_quiet(&item) {
             self.push_quiet(item);
+        } else if self.is_request(&item) {
+            self.push_request(item);
         } else {
             self.push_any(item);
+        }
+    }
+
+    // Whether the record tells of a request, and accepts no step by which a node is to join or to depart.
+    #[inline(always)]
+    fn is_request(&self, item: &Record) -> bool
+        ensures { result ≡ is_request (last_of self.now.records) item.now }
+    {
+        tells_of_request(item) && !self.has_moving_step()
+    }
+
+    // Adds a record that tells of a request.
+    #[inline(never)]
+    fn push_request(&mut self, item: Record)
+        requires room { 1 ≤ self.old.spare }
+        requires can_add { CanAdd self.old.records (item ∷ []) }
+        requires request { is_request (last_of self.old.records) item ≡ true }
+        ensures records { self.new.records ≡ self.old.records ++ item ∷ [] }
+        ensures spare { self.new.spare + 1 ≡ self.old.spare }
+    {
+        self.pairs.change(&item);
+        follow(&mut self.frames, &item, self.log.len());
+        self.tickets += counted_ticket(&item);
+        self.casts += counted_cast(&item);
+        self.log.push_reserved(item);
+        self.room -= 1;
+        self.made -= 1;
+    }
+
+    /// Adds that a frame is sent, with the next number, for which there is room. It takes no memory.
+    ///
+    /// Rule: docs/FORMATS.md, "Groups and moments".
+    #[inline(always)]
+    pub fn push_sent(&mut self, bytes: Bytes)
+        requires room { 1 ≤ self.old.spare }
+        requires can_add { CanAdd self.old.records (Sent (sent_count self.old.records) bytes ∷ []) }
+        ensures records { self.new.records ≡ self.old.records ++ Sent (sent_count self.old.records) bytes ∷ [] }
+        ensures spare { self.new.spare + 1 ≡ self.old.spare }
+    {
+        if self.has_moving_step() {
+            return self.push_first_sent(bytes);
+        }
+        // No effect at run time. The proof reads from this call that the outstanding numbers ascend.
+        let _ = self.frames.len();
+        let number = self.frames.send_reserved(self.log.len());
+        self.log.push_reserved(Record::Sent { number, bytes });
+        self.room -= 1;
+        self.made -= 1;
+    }
+
+    // Adds that a frame is sent after a step by which a node is to join or to depart.
+    #[inline(never)]
+    fn push_first_sent(&mut self, bytes: Bytes)
+        requires room { 1 ≤ self.old.spare }
+        requires can_add { CanAdd self.old.records (Sent (sent_count self.old.records) bytes ∷ []) }
+        ensures records { self.new.records ≡ self.old.records ++ Sent (sent_count self.old.records) bytes ∷ [] }
+        ensures spare { self.new.spare + 1 ≡ self.old.spare }
+    {
+        let number = self.sent();
+        self.push_any(Record::Sent { number, bytes });
+    }
+
+    // Whether the last record begins a step by which a node is to join or to depart.
+    #[inline(always)]
+    fn has_moving_step(&self) -> bool
+        ensures { result ≡ is_moving_step (last_of self.now.records) }
+    {
+        match self.log.as_slice().last() {
+            Some(last) => moves_node(last),
+            None => false,
         }
     }
 
@@ -151,13 +235,7 @@ impl Ledger {
     fn is_quiet(&self, item: &Record) -> bool
         ensures { result ≡ is_quiet (last_of self.now.records) item.now }
     {
-        if tells_more(item) {
-            return false;
-        }
-        match self.log.as_slice().last() {
-            Some(last) => !moves_node(last),
-            None => true,
-        }
+        !tells_more(item) && !self.has_moving_step()
     }
 
     // Adds a record that is quiet after the last one.
@@ -187,8 +265,7 @@ impl Ledger {
         let accepted = self.accepted_by(&item);
         let begins = begins_group(false, &item);
         self.leaver = leaver_next(begins, self.departing(), departs(&accepted), self.leaver);
-        self.pairs
-            .change(withdrawn_pair(&item), published_pair(&item));
+        self.pairs.change(&item);
         self.roll.change(&accepted, &item);
         follow(&mut self.frames, &item, self.log.len());
         self.tickets += counted_ticket(&item);

@@ -85,7 +85,7 @@ impl Names {
     pub(crate) fn has(&self, name: &Name) -> bool
         ensures { result ≡ has_name self.now.names name.now }
     {
-        self.found.contains(name)
+        !self.items.is_empty() && self.found.contains(name)
     }
 
     // Makes room for so many more names. A refused call changes nothing.

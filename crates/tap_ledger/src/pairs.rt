@@ -1,13 +1,14 @@
 ghost use Rattle.std.specs.Prelude.{◌≡◌, ◌≤◌, ◌+◌, max, false, not, ◌&&◌, ◌||◌, OnOk, OnErr};
 ghost use Rattle.tap_log.specs.declared.record.Pair.{Pair};
+ghost use Rattle.tap_log.specs.Kinds.{published_pair, withdrawn_pair};
 ghost use Rattle.tap_history.specs.Published.{same_pair};
-ghost use Rattle.tap_ledger.specs.Pairs.{has_key, is_pair, key_after, stays_published};
+ghost use Rattle.tap_ledger.specs.Pairs.{has_key, key_after, stays_published};
 
 use crate::names::Names;
 use std::alloc::Global;
 use std::collections::HashSet;
 use std::marker::Model;
-use tap_log::{NoMemory, Pair};
+use tap_log::{NoMemory, Pair, Record};
 use tap_name::Name;
 
 // Pairs, each once, with room that was made for more. A pair goes once it is withdrawn, and not when its server departs. Contracts see
@@ -78,37 +79,25 @@ impl Pairs {
         self.items.remove(&(pair.object, pair.server));
     }
 
-    // Takes a pair away, if there is one.
-    fn remove_some(&mut self, pair: Option<Pair>)
-        ensures pairs { (q : Pair) → has_key self.new.keys q ≡ (not (is_pair pair q) && has_key self.old.keys q) }
-        ensures room { self.new.room ≡ self.old.room }
-    {
-        match pair {
-            Some(pair) => self.remove(pair),
-            None => {}
-        }
-    }
-
-    // Adds a pair, if there is one.
-    fn insert_some(&mut self, pair: Option<Pair>)
+    // Follows one more record: takes the pair away that it withdraws, or adds the one that it publishes.
+    #[tactic(auto, unfolding(tap_log::specs::Kinds::withdrawn_pair, tap_log::specs::Kinds::published_pair))]
+    pub(crate) fn change(&mut self, item: &Record)
         requires { 1 ≤ self.old.room }
-        ensures pairs { (q : Pair) → has_key self.new.keys q ≡ (is_pair pair q || has_key self.old.keys q) }
+        ensures pairs { (q : Pair) → has_key self.new.keys q
+            ≡ key_after (has_key self.old.keys) (withdrawn_pair item.now) (published_pair item.now) q }
         ensures room { self.old.room ≤ self.new.room + 1 }
     {
-        match pair {
-            Some(pair) => self.insert(pair),
-            None => {}
+        match item {
+            Record::Withdrawn { object, server } => self.remove(Pair {
+                object: *object,
+                server: *server,
+            }),
+            Record::Published { object, server } => self.insert(Pair {
+                object: *object,
+                server: *server,
+            }),
+            _ => {}
         }
-    }
-
-    // Takes a pair away that is withdrawn, and adds one that is published.
-    pub(crate) fn change(&mut self, withdrawn: Option<Pair>, published: Option<Pair>)
-        requires { 1 ≤ self.old.room }
-        ensures pairs { (q : Pair) → has_key self.new.keys q ≡ key_after (has_key self.old.keys) withdrawn published q }
-        ensures room { self.old.room ≤ self.new.room + 1 }
-    {
-        self.remove_some(withdrawn);
-        self.insert_some(published);
     }
 }
 

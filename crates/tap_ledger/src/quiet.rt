@@ -1,5 +1,5 @@
 ghost use Rattle.std.specs.Prelude.{◌≡◌};
-ghost use Rattle.tap_ledger.specs.Quiet.{is_coming_or_going, moves_node, tells_more};
+ghost use Rattle.tap_ledger.specs.Quiet.{is_coming_or_going, moves_node, tells_more, tells_of_request};
 
 use tap_log::Record;
 use tap_scenario::Step;
@@ -11,6 +11,18 @@ pub(crate) fn tells_more(item: &Record) -> bool
 {
     match item {
         Record::Core { .. } | Record::Gone { .. } | Record::Abandoned { .. } => true,
+        Record::Published { .. } | Record::Withdrawn { .. } => true,
+        Record::Asked { .. } | Record::CastFrom { .. } => true,
+        _ => false,
+    }
+}
+
+// Whether the record tells of a publication, a withdrawal, a lookup or a cast.
+#[tactic(auto, unfolding(crate::specs::Quiet::tells_of_request))]
+pub(crate) fn tells_of_request(item: &Record) -> bool
+    ensures { result ≡ tells_of_request item.now }
+{
+    match item {
         Record::Published { .. } | Record::Withdrawn { .. } => true,
         Record::Asked { .. } | Record::CastFrom { .. } => true,
         _ => false,

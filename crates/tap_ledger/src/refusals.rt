@@ -1,7 +1,7 @@
 ghost use Rattle.std.specs.Prelude.{◌≡◌, ◌+◌, [], ◌∷◌, nat_lt, slice_set, take, option_copied, option_map, is_ok, IfOk, List};
 ghost use Rattle.tap_wire.specs.Reading.{frame_of};
 ghost use Rattle.tap_log.specs.declared.record.Record.{Record};
-ghost use Rattle.tap_history.specs.Refusals.{begin_settings, damaged, first_refusal, first_some, is_joining, is_only_core, is_readable, packets_of_step, refused_if, refuses_already_abandoned, refuses_already_published, refuses_departing, refuses_last_node, refuses_name_taken, refuses_no_such_byte, refuses_no_such_flight, refuses_no_such_node, refuses_not_at_rest, refuses_not_core, refuses_not_in_prefix, refuses_not_joining, refuses_not_published, refuses_readable, refuses_too_many_nodes, refuses_too_many_packets, unless_within};
+ghost use Rattle.tap_history.specs.Refusals.{begin_settings, damaged, first_refusal, first_some, is_only_core, is_readable, packets_of_step, refused_if, refuses_already_abandoned, refuses_already_published, refuses_departing, refuses_last_node, refuses_name_taken, refuses_no_such_byte, refuses_no_such_flight, refuses_no_such_node, refuses_not_at_rest, refuses_not_core, refuses_not_in_prefix, refuses_not_joining, refuses_not_published, refuses_readable, refuses_too_many_nodes, refuses_too_many_packets, unless_within};
 
 use crate::ledger::Ledger;
 use crate::steps::{
@@ -89,32 +89,19 @@ fn is_too_many(made: u32, more: u32) -> bool
 }
 
 impl Ledger {
-    // 1: no node of this name is present.
-    #[tactic(auto, unfolding(tap_history::specs::Refusals::refuses_no_such_node))]
-    fn no_such_node(&self, step: &Step) -> Option<Refusal>
-        ensures { result ≡ refuses_no_such_node self.now.records step.now }
+    // The first one of 1 and 2: no node of this name is present, or the node is joining.
+    #[tactic(auto, unfolding(tap_history::specs::Refusals::refuses_no_such_node, tap_history::specs::Refusals::refuses_not_core))]
+    fn not_there(&self, step: &Step) -> Option<Refusal>
+        ensures { result ≡ first_some (refuses_no_such_node self.now.records step.now ∷ refuses_not_core self.now.records step.now ∷ []) }
     {
         let name = asked_node(step)?;
-        refused_if(!self.is_present(&name), Refusal::NoSuchNode)
-    }
-
-    // Whether a node is present and not core.
-    fn is_joining(&self, name: &Name) -> bool
-        ensures { result ≡ is_joining self.now.records name.now }
-    {
-        self.is_present(name) && !self.is_core(name)
-    }
-
-    // 2: the node is joining.
-    #[tactic(auto, unfolding(tap_history::specs::Refusals::refuses_not_core))]
-    fn not_core(&self, step: &Step) -> Option<Refusal>
-        ensures { result ≡ refuses_not_core self.now.records step.now }
-    {
+        if !self.is_present(name) {
+            return Some(Refusal::NoSuchNode);
+        }
         if suits_joining(step) {
             return None;
         }
-        let name = asked_node(step)?;
-        refused_if(self.is_joining(&name), Refusal::NotCore)
+        refused_if(!self.is_core(name), Refusal::NotCore)
     }
 
     // 3: a node is departing.
@@ -296,10 +283,7 @@ impl Ledger {
             ∷ refuses_departing self.now.records step.now
             ∷ refuses_not_at_rest self.now.records step.now ∷ []) }
     {
-        if let Some(refusal) = self.no_such_node(step) {
-            return Some(refusal);
-        }
-        if let Some(refusal) = self.not_core(step) {
+        if let Some(refusal) = self.not_there(step) {
             return Some(refusal);
         }
         if let Some(refusal) = self.while_departing(step) {

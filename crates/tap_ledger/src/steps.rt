@@ -1,4 +1,4 @@
-ghost use Rattle.std.specs.Prelude.{◌≡◌, false, option_and_then};
+ghost use Rattle.std.specs.Prelude.{◌≡◌, false, option_and_then, option_copied};
 ghost use Rattle.tap_history.specs.Core.{accepted_step};
 ghost use Rattle.tap_history.specs.Steps.{abandon_name, asked_node, depart_name, flight_place, join_name, publish_pair, suits_departure, suits_joining, withdraw_pair};
 
@@ -8,16 +8,16 @@ use tap_scenario::Step;
 
 // The node that has to be there for the step.
 #[tactic(auto, unfolding(tap_history::specs::Steps::asked_node))]
-pub(crate) fn asked_node(step: &Step) -> Option<Name>
-    ensures { result ≡ asked_node step.now }
+pub(crate) fn asked_node(step: &Step) -> Option<&Name>
+    ensures { option_copied result ≡ asked_node step.now }
 {
     match step {
-        Step::Join { via, .. } => Some(*via),
-        Step::Depart { name } | Step::Abandon { name } => Some(*name),
-        Step::Table { name } | Step::Pointers { name } => Some(*name),
-        Step::Publish { server, .. } | Step::Withdraw { server, .. } => Some(*server),
-        Step::Find { asker, .. } | Step::Walk { asker, .. } => Some(*asker),
-        Step::RootSet { asker, .. } | Step::Cast { asker, .. } => Some(*asker),
+        Step::Join { via, .. } => Some(via),
+        Step::Depart { name } | Step::Abandon { name } => Some(name),
+        Step::Table { name } | Step::Pointers { name } => Some(name),
+        Step::Publish { server, .. } | Step::Withdraw { server, .. } => Some(server),
+        Step::Find { asker, .. } | Step::Walk { asker, .. } => Some(asker),
+        Step::RootSet { asker, .. } | Step::Cast { asker, .. } => Some(asker),
         _ => None,
     }
 }

@@ -15,6 +15,7 @@ struct Spot {
 }
 
 /// The number whose mark has so many marks before it.
+#[inline(never)]
 pub(crate) fn find(marks: &[u8], sums: &[Vec<u32>], place: u32) -> usize
     requires tower { IsTower marks.now sums.now }
     requires within { place < sum marks.now }
@@ -30,6 +31,7 @@ pub(crate) fn find(marks: &[u8], sums: &[Vec<u32>], place: u32) -> usize
 }
 
 /// What `find` gives, if no mark stands before a number. The first mark is mostly there.
+#[inline(always)]
 pub(crate) fn find_after(marks: &[u8], sums: &[Vec<u32>], low: usize, place: u32) -> usize
     requires tower { IsTower marks.now sums.now }
     requires low { sum_before marks.now low ≡ 0 }
@@ -153,6 +155,7 @@ fn sum_between(counts: &[u32], from: usize, to: usize) -> u32
 }
 
 /// Adds the mark of the next number, and the sums of the sixteens that are now whole. It takes no memory.
+#[inline(always)]
 pub(crate) fn raise(marks: &mut Vec<u8>, sums: &mut [Vec<u32>])
     requires tower { IsTower marks.old.items sums.old }
     requires few { vec_len marks.old < 4000000000 }

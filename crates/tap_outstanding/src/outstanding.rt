@@ -137,6 +137,7 @@ impl Outstanding {
     }
 
     /// Sends a frame for which there is room, and gives its number. It takes no memory.
+    #[inline(always)]
     pub fn send_reserved(&mut self, record_place: usize) -> u32
         requires few { self.old.sent < most_sent }
         requires room { 1 ≤ self.old.room }
@@ -153,6 +154,7 @@ impl Outstanding {
 
     /// The outstanding frame at a place, from 0 for the oldest, and `None` exactly if the place is at or
     /// above their number.
+    #[inline(always)]
     pub fn frame_at(&self, place: u32) -> Option<Flight>
         ensures { result ≡ slice_get self.now.frames place }
     {
@@ -208,6 +210,7 @@ impl Outstanding {
 
     /// Takes the frame with this number, if it is outstanding, and answers whether it was; the order of the
     /// others stays.
+    #[inline(always)]
     pub fn take_number(&mut self, number: u32) -> bool
         ensures taken { result ≡ is_some (place_of_number self.old.frames number) }
         ensures after { self.new ≡ option_map_or (taken_at self.old) (place_of_number self.old.frames number) self.old }

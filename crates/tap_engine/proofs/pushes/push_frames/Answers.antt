@@ -8,14 +8,13 @@ use Rattle.tap_records.specs.Seen.{bytes_records}
 use Rattle.tap_engine.proofs.Counting.{sent_on}
 use Rattle.tap_engine.proofs.pushes.push_frames.Goals as goal
 
-pub push_reserved-requires-clause-can_add : goal.push_reserved-requires-clause-can_add
-push_reserved-requires-clause-can_add c =
+pub push_sent-requires-clause-can_add : goal.push_sent-requires-clause-can_add
+push_sent-requires-clause-can_add c =
     let log = c.loop-bytes.ledger.records in
     let rest = into_iter_items c.next.new.self in
     let Can : List (List ℕ) → Type 0 = λ l. CanAdd log (bytes_records (sent_count log) l) in
     let can = subst Can c.in-Some.ensures.steps.0 c.loop-bytes.invariant.can_add in
-    subst (λ n. CanAdd log (Sent n c.in-Some.bytes ∷ [])) (sym c.sent-number.ensures)
-    (can_first log (Sent (sent_count log) c.in-Some.bytes ∷ []) (bytes_records (sent_count log + 1) rest) can)
+    can_first log (Sent (sent_count log) c.in-Some.bytes ∷ []) (bytes_records (sent_count log + 1) rest) can
 
 pub loop-bytes-preserved : goal.loop-bytes-preserved
 loop-bytes-preserved c =
@@ -25,18 +24,18 @@ loop-bytes-preserved c =
     let number = sent_count log in
     let was = c.loop-bytes.invariant in
     let step = c.in-Some.ensures.steps.0 in
-    let more : c.push_reserved.new.self.records ≡ log ++ Sent number bytes ∷ [] =
-    c.push_reserved.ensures.records ∙ ap (λ n. log ++ Sent n bytes ∷ []) c.sent-number.ensures in
-    let on : sent_count c.push_reserved.new.self.records ≡ number + 1 = ap sent_count more ∙ sent_on log number bytes in
+    let more : c.push_sent.new.self.records ≡ log ++ Sent number bytes ∷ [] =
+    c.push_sent.ensures.records in
+    let on : sent_count c.push_sent.new.self.records ≡ number + 1 = ap sent_count more ∙ sent_on log number bytes in
     let Can : List (List ℕ) → Type 0 = λ l. CanAdd log (bytes_records number l) in
     let can = can_rest log (Sent number bytes ∷ []) (bytes_records (number + 1) rest) (subst Can step was.can_add) in
     record {
-      records = ap (λ n. c.push_reserved.new.self.records ++ bytes_records n rest) on
+      records = ap (λ n. c.push_sent.new.self.records ++ bytes_records n rest) on
           ∙ ap (λ l. l ++ bytes_records (number + 1) rest) more
           ∙ append_assoc log (Sent number bytes ∷ []) (bytes_records (number + 1) rest)
           ∙ ap (λ l. log ++ bytes_records number l) (sym step) ∙ was.records;
-      can_add = subst (λ n. CanAdd c.push_reserved.new.self.records (bytes_records n rest)) (sym on)
+      can_add = subst (λ n. CanAdd c.push_sent.new.self.records (bytes_records n rest)) (sym on)
           (subst (λ l. CanAdd l (bytes_records (number + 1) rest)) (sym more) can);
-      spare = omega (arith, ap length step, was.spare, c.push_reserved.ensures.spare);
-      room = omega (arith, ap length step, was.room, c.push_reserved.ensures.spare);
+      spare = omega (arith, ap length step, was.spare, c.push_sent.ensures.spare);
+      room = omega (arith, ap length step, was.room, c.push_sent.ensures.spare);
     }

@@ -9,7 +9,7 @@ pub push_frames-requires-clause-can_add : goal.push_frames-requires-clause-can_a
 push_frames-requires-clause-can_add c =
     let log = c.args.ledger.now.records in
     subst (CanAdd log)
-    (frames_alone (sent_count log) c.args.name.now c.args.turn c.in-Nothing.is ∙ ap (bytes_records (sent_count log)) (sym c.into_frames.ensures))
+    (frames_alone (sent_count log) c.args.name.now (record { sent = c.args.sent; news = c.args.news.now }) c.in-Nothing.is ∙ ap (bytes_records (sent_count log)) (sym c.into_frames.ensures))
     c.requires.can_add
 
 pub returns-in-Nothing-clause-records : goal.returns-in-Nothing-clause-records
@@ -17,4 +17,4 @@ returns-in-Nothing-clause-records c =
     let log = c.args.ledger.now.records in
     c.push_frames.ensures.records
     ∙ ap (λ l. log ++ l) (ap (bytes_records (sent_count log)) c.into_frames.ensures
-    ∙ sym (frames_alone (sent_count log) c.args.name.now c.args.turn c.in-Nothing.is))
+    ∙ sym (frames_alone (sent_count log) c.args.name.now (record { sent = c.args.sent; news = c.args.news.now }) c.in-Nothing.is))

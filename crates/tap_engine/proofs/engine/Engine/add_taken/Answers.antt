@@ -14,7 +14,7 @@ use Rattle.tap_engine.proofs.engine.Engine.add_taken.Goals as goal
 pub returns-then-is_too_many : goal.returns-then-is_too_many
 returns-then-is_too_many c =
     let m = c.args.self.now in
-    let acted : Acted = record { name = c.args.name.now; turn = c.args.turn } in
+    let acted : Acted = record { name = c.args.name.now; turn = record { sent = c.args.sent; news = c.args.news.now } } in
     let all : List Record = Taken c.args.number ∷ turn_records (sent_count m.ledger.records) acted.name acted.turn in
     let spent = c.spend.ensures in
     logs_spent m c.spend.new.self [] all (length acted.turn.sent) c.spend.result c.requires.can_add.counts c.requires.sent
@@ -23,7 +23,7 @@ returns-then-is_too_many c =
 pub push_reserved-requires-clause-can_add : goal.push_reserved-requires-clause-can_add
 push_reserved-requires-clause-can_add c =
     let m = c.args.self.now in
-    let acted : Acted = record { name = c.args.name.now; turn = c.args.turn } in
+    let acted : Acted = record { name = c.args.name.now; turn = record { sent = c.args.sent; news = c.args.news.now } } in
     let taken : List Record = Taken c.args.number ∷ [] in
     let can = group_may_be_added m taken acted c.requires.can_add c.requires.sent (sym c.is_too_many.ensures ∙ c.if-is_too_many.false) in
     subst (λ l. CanAdd l taken) (sym c.reserve.ensures.records)
@@ -32,7 +32,7 @@ push_reserved-requires-clause-can_add c =
 pub push_turn-requires-clause-can_add : goal.push_turn-requires-clause-can_add
 push_turn-requires-clause-can_add c =
     let m = c.args.self.now in
-    let acted : Acted = record { name = c.args.name.now; turn = c.args.turn } in
+    let acted : Acted = record { name = c.args.name.now; turn = record { sent = c.args.sent; news = c.args.news.now } } in
     let taken : List Record = Taken c.args.number ∷ [] in
     let now : c.push_reserved.new.self.records ≡ m.ledger.records ++ taken =
     c.push_reserved.ensures.records ∙ ap (λ l. l ++ taken) c.reserve.ensures.records in
@@ -42,7 +42,7 @@ push_turn-requires-clause-can_add c =
 pub returns : goal.returns
 returns c =
     let m = c.args.self.now in
-    let acted : Acted = record { name = c.args.name.now; turn = c.args.turn } in
+    let acted : Acted = record { name = c.args.name.now; turn = record { sent = c.args.sent; news = c.args.news.now } } in
     let taken : List Record = Taken c.args.number ∷ [] in
     let after : Engine = record m { ledger = c.push_turn.new.ledger } in
     let now : c.push_reserved.new.self.records ≡ m.ledger.records ++ taken =

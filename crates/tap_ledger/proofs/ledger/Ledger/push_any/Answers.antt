@@ -1,7 +1,7 @@
 use Rattle.std.proofs.Common.{◌≡◌, ◌≤◌, ◌+◌, ◌∙◌, false, [], ◌∷◌, List, ap, sym, subst, arith}
 use Rattle.std.specs.Prelude.{option_and_then}
 use Rattle.tap_log.specs.declared.record.Record.{Record}
-use Rattle.tap_log.specs.Kinds.{asked_ticket, begins_group, begun_cast, withdrawn_pair}
+use Rattle.tap_log.specs.Kinds.{asked_ticket, begins_group, begun_cast}
 use Rattle.tap_log.specs.Log.{last_of}
 use Rattle.tap_log.proofs.Growing.{one_more_record_holds}
 use Rattle.tap_history.specs.Departing.{departing_of}
@@ -11,7 +11,6 @@ use Rattle.tap_ledger.specs.Flights.{followed}
 use Rattle.tap_ledger.specs.Kept.{Kept, leaver_next}
 use Rattle.tap_ledger.specs.Ledger.{LedgerValue}
 use Rattle.tap_ledger.specs.NameLists.{accepted_after, lists_after}
-use Rattle.tap_ledger.specs.Pairs.{has_key, key_after}
 use Rattle.tap_ledger.proofs.Keeping.{kept_push}
 use Rattle.tap_ledger.proofs.Uncarried.{at_most, casts_fit, tickets_fit}
 use Rattle.tap_ledger.proofs.ledger.Ledger.push_any.Goals as goal
@@ -74,9 +73,7 @@ invariant_of-self c =
           c.leaver_next-self-inside.result kept can c.follow.ensures.ascending.ascending
           (c.follow.ensures.frames ∙ ap (λ n. followed c.self.inside.frames n item) c.len.ensures)
           (c.change-2.ensures.lists ∙ ap (λ s. lists_after lists s item) accepted)
-          (λ q. c.change.ensures.pairs q
-          ∙ ap (λ w. key_after (has_key keys) w c.published_pair.result q) c.withdrawn_pair.ensures
-          ∙ ap (λ p. key_after (has_key keys) (withdrawn_pair item) p q) c.published_pair.ensures)
+          c.change.ensures.pairs
           (ap (λ n. c.self.inside.tickets + n) c.counted_ticket.ensures)
           (ap (λ n. c.self.inside.casts + n) c.counted_cast.ensures)
           (c.leaver_next-self-inside.ensures

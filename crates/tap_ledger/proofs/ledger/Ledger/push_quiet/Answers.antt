@@ -54,14 +54,14 @@ invariant_of-self c =
       kept = subst Keeps (sym c.push_reserved.ensures.records) (kept_push log settings frames lists keys tickets casts leaver item
           c.follow.new.frames lists keys tickets casts c.settle_leaver.new.leaver kept can c.follow.ensures.ascending.ascending
           (c.follow.ensures.frames ∙ ap (λ n. followed frames n item) c.len.ensures)
-          (lists_stay lists last item tells)
+          (lists_stay lists last item tells.nobody)
           (λ q. keys_stay (has_key keys) (withdrawn_pair item) (published_pair item) q tells.withdrawn tells.published)
           (count_stays tickets (asked_ticket item) tells.asked)
           (count_stays casts (begun_cast item) tells.begun)
           (c.settle_leaver.ensures
           ∙ ap (λ b. leaver_next b (if c.is_empty-rest.result then None else leaver) None leaver) c.begins_group.ensures
           ∙ ap (λ d. leaver_next (begins_group false item) d None leaver) departing
-          ∙ ap (λ d. leaver_next (begins_group false item) (departing_of log) d leaver) (sym tells.departs)));
+          ∙ ap (λ d. leaver_next (begins_group false item) (departing_of log) d leaver) (sym tells.nobody.departs)));
       within = omega (arith, within, some);
       room = record {
         in_log = let was = room.in_log in omega (arith, was, some, within, c.push_reserved.ensures.spare);
