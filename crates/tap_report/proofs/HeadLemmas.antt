@@ -1,6 +1,7 @@
 -- Where the kind and the names stand in the bytes of a frame whose head is read, so that they are printed from there.
-use Rattle.std.proofs.Common.{◌≡◌, ◌≤◌, ◌<◌, ℕ, ◌+◌, ◌-◌, List, take, drop, length, slice_index, slice_range, All, Result, Ok, Err, IsOk, refl, sym, ◌∙◌, subst, arith}
-use Rattle.std.proofs.lemmas.List.Elements.{All-weaker}
+use Rattle.std.proofs.Common.{◌≡◌, ◌≤◌, ◌<◌, ℕ, ◌+◌, ◌-◌, ◌*◌, List, take, drop, length, slice_index, slice_range, All, Result, Ok, Err, IsOk, refl, ap, sym, ◌∙◌, subst, arith}
+use Rattle.std.proofs.lemmas.List.{drop-drop, drop-take, take-append-drop, take-take}
+use Rattle.std.proofs.lemmas.List.Elements.{All-append, All-weaker}
 use Rattle.tap_name.specs.Settings.{AreWithinLimits, SettingsValue}
 use Rattle.tap_name.specs.Name.{IsName}
 use Rattle.tap_wire.specs.declared.fault.HeadFault.{HeadFault}
@@ -60,14 +61,37 @@ stands_by p bytes (Err fault) is ok = absurd cc
 pub head_stands : (p : SettingsValue) (bytes : List ℕ) → IsOk (head_of p bytes) → StandsIn p bytes
 head_stands p bytes ok = stands_by p bytes (head_of p bytes) refl ok
 
--- a piece of as many bytes as a name has digits
-pub name_piece : (p : SettingsValue) (bytes : List ℕ) (place from to : ℕ) → from ≡ place → to ≡ from + p.digits
-    → slice_range bytes from to ≡ take p.digits (drop place bytes)
-name_piece p bytes place from to starts ends =
-    let len : to - from ≡ p.digits = omega arith in rw (len, starts) refl
+-- the digits of both names
+abbrev pub names_in : SettingsValue → List ℕ → List ℕ
+names_in p bytes = take (2 * p.digits) (drop (head_len p) bytes)
 
--- the digits of such a piece can be printed, if it is a name
+-- the piece of the bytes in which the names stand
+pub names_piece : (p : SettingsValue) (bytes : List ℕ) (from to : ℕ) → from ≡ head_len p → to ≡ from + 2 * p.digits
+    → slice_range bytes from to ≡ names_in p bytes
+names_piece p bytes from to starts ends =
+    let len : to - from ≡ 2 * p.digits = omega arith in rw (len, starts) refl
+
+-- the first name is the sender's, and the second one the receiver's
+pub first_is_sender : (p : SettingsValue) (bytes : List ℕ) → take p.digits (names_in p bytes) ≡ sender_in p bytes
+first_is_sender p bytes = take-take p.digits (2 * p.digits) (drop (head_len p) bytes) (omega arith)
+
+pub second_is_receiver : (p : SettingsValue) (bytes : List ℕ) → drop p.digits (names_in p bytes) ≡ receiver_in p bytes
+second_is_receiver p bytes =
+    let two : 2 * p.digits ≡ p.digits + p.digits = omega arith in
+    ap (λ n. drop p.digits (take n (drop (head_len p) bytes))) two
+    ∙ drop-take p.digits p.digits (drop (head_len p) bytes)
+    ∙ ap (take p.digits) (drop-drop p.digits (head_len p) bytes)
+
+-- the digits of a piece can be printed, if it is a name
 pub piece_below : (p : SettingsValue) (name piece : List ℕ) → AreWithinLimits p → IsName p name → piece ≡ name
     → All (λ d. d < 16) piece
 piece_below p name piece limits is same =
     rw same (All-weaker (λ d. d < p.base) (λ d. d < 16) (λ d below. omega (arith, limits.base_to)) name is.below)
+
+-- their digits can be printed
+pub names_below : (p : SettingsValue) (bytes : List ℕ) → AreWithinLimits p → StandsIn p bytes → All (λ d. d < 16) (names_in p bytes)
+names_below p bytes limits stands =
+    let first = piece_below p (sender_in p bytes) (take p.digits (names_in p bytes)) limits stands.sender (first_is_sender p bytes) in
+    let second = piece_below p (receiver_in p bytes) (drop p.digits (names_in p bytes)) limits stands.receiver (second_is_receiver p bytes) in
+    subst (All (λ d. d < 16)) (take-append-drop p.digits (names_in p bytes))
+    (All-append (λ d. d < 16) (take p.digits (names_in p bytes)) (drop p.digits (names_in p bytes)) first second)

@@ -8,20 +8,27 @@ use Rattle.tap_io.specs.Sink.{SinkState}
 use Rattle.tap_log.specs.declared.record.Record.{Record}
 use Rattle.tap_log.specs.declared.record.Record.TheVariants.{Begin}
 use Rattle.tap_report.specs.Summary.{ending}
-use Rattle.tap_report.specs.Tally.{numbers_in, tally_after}
+use Rattle.tap_report.specs.Tally.{numbers_in}
 use Rattle.tap_report.specs.Text.{IsBegin, IsPrintable, IsPrintableLog, BeginsAfter, BeginsOnce, texts_after, text_of_record, text_of_log, settings_after, settings_so_far}
 use Rattle.tap_report.specs.Written.{WritesText}
-use Rattle.tap_report.specs.Reporter.{ReporterValue, Puts, PutsAll, Finishes, PutsEach, PutsWriteTheText, Reports, new_reporter}
+use Rattle.tap_report.specs.Reporter.{ReporterValue, Puts, PutsAll, Finishes, PutsEach, PutsWriteTheText, Reports, kept_after, new_reporter}
 use Rattle.tap_report.specs.declared.mode.Mode.{Mode}
 use Rattle.tap_report.specs.declared.written.Written.{Written}
 use Rattle.tap_report.specs.declared.written.Written.TheVariants.{All as AllWritten}
 use Rattle.tap_report.proofs.TextLemmas.{texts_after-append, texts_after-push, settings_so_far-push, take_next, ArePrintable-push}
-use Rattle.tap_report.proofs.TallyLemmas.{tally_of-append, tally_of-push}
+use Rattle.tap_report.proofs.TallyLemmas.{ending-kept, kept_of-append, kept_of-push, none_kept}
 use Rattle.tap_report.proofs.WritesLemmas.{WritesText-then, WritesText-none}
 
 -- before the first put
 pub Reports-new : (mode : Mode) (state : SinkState) → Reports mode [] state state (new_reporter mode)
-Reports-new mode state = record { same_mode = refl; settings = refl; count = refl; tally = refl; text = WritesText-none state AllWritten }
+Reports-new mode state =
+    record {
+      same_mode = refl;
+      settings = refl;
+      count = refl;
+      tally = sym (none_kept mode);
+      text = WritesText-none state AllWritten;
+    }
 
 -- one put more
 pub Reports-put : {mode : Mode} {records : List Record} {old mid new : SinkState} {before after : ReporterValue} {item : Record}
@@ -35,7 +42,7 @@ Reports-put {mode = mode} {records = records} {mid = mid} {new = new} {before = 
       same_mode = r.same_mode;
       settings = ap (λ s. settings_after s item) r.settings ∙ sym (settings_so_far-push records item);
       count = ap (λ n. n + 1) r.count ∙ sym (length-append records (item ∷ []));
-      tally = ap (λ t. tally_after t item) r.tally ∙ sym (tally_of-push records item);
+      tally = rw r.same_mode (ap (λ t. kept_after mode t item) r.tally ∙ sym (kept_of-push mode records item));
       text = rw (texts_after-push mode None records item) (WritesText-then r.text text);
     })
 
@@ -51,7 +58,7 @@ Reports-put_all {mode = mode} {records = records} {mid = mid} {new = new} {befor
       same_mode = r.same_mode;
       settings = ap (λ s. fold settings_after s items) r.settings ∙ sym (fold-append settings_after None records items);
       count = ap (λ n. n + length items) r.count ∙ sym (length-append records items);
-      tally = ap (λ t. fold tally_after t items) r.tally ∙ sym (tally_of-append records items);
+      tally = rw r.same_mode (ap (λ t. fold (kept_after mode) t items) r.tally ∙ sym (kept_of-append mode records items));
       text = rw (texts_after-append mode None records items) (WritesText-then r.text text);
     })
 
@@ -64,7 +71,7 @@ Reports-finish {mode = mode} {records = records} {mid = mid} {new = new} {before
     subst (λ t. WritesText mid new (ending mode (settings_so_far records) (numbers_in t)) before.so_far written) r.tally
     (subst (λ s. WritesText mid new (ending mode s (numbers_in before.tally)) before.so_far written) r.settings
     (subst (λ m. WritesText mid new (ending m before.settings (numbers_in before.tally)) before.so_far written) r.same_mode f.text)) in
-    WritesText-then r.text last
+    WritesText-then r.text (rw (ending-kept mode (settings_so_far records) records) at last)
 
 -- the put of the next record of a log
 pub Reports-next : {mode : Mode} {old mid new : SinkState} {before after : ReporterValue} {written : Written} (records : List Record)

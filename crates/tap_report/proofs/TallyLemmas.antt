@@ -3,12 +3,16 @@ use Rattle.std.proofs.Common.{◌≡◌, ◌≤◌, ℕ, ◌+◌, List, [], ◌�
 use Rattle.std.specs.Prelude.{cond, fold, is_some, max}
 use Rattle.std.specs.List.{filter_map}
 use Rattle.std.proofs.lemmas.List.Sums.{fold-append}
+use Rattle.tap_name.specs.Settings.{SettingsValue}
 use Rattle.tap_log.specs.declared.record.Record.{Record}
 use Rattle.tap_log.specs.Kinds.{core_name, sent_number}
 use Rattle.tap_log.specs.Laws.{at_most_one}
 use Rattle.tap_log.proofs.Growing.{filter_map-push}
-use Rattle.tap_report.specs.Summary.{finds_server, hops_in, is_gone}
-use Rattle.tap_report.specs.Tally.{CountsWithin, accepted_after, departures_after, departures_known, is_core, is_sent, opening_after, opens_carried, tally_after, tally_of}
+use Rattle.tap_report.specs.Summary.{ending, finds_server, hops_in, is_gone, numbers_of}
+use Rattle.tap_report.specs.Tally.{CountsWithin, accepted_after, departures_after, departures_known, is_core, is_sent, numbers_in, opening_after, opens_carried, tally_after, tally_of}
+use Rattle.tap_report.specs.Reporter.{kept_after, kept_of}
+use Rattle.tap_report.specs.declared.mode.Mode.{Mode}
+use Rattle.tap_report.specs.declared.mode.Mode.TheVariants.{Long, Brief, Summary}
 use Rattle.tap_report.specs.declared.opening.Opening.TheVariants.{Nothing}
 use Rattle.tap_report.specs.declared.tally.Tally.{Tally}
 use Rattle.tap_report.proofs.DepartedLemmas.{departures-push, members-push, opening_tells}
@@ -67,13 +71,20 @@ CountsWithin-more most more t greater w = record {
   answered = omega (arith, w.answered);
 }
 
+-- the same of what is kept in a mode
+pub CountsWithin-kept : (mode : Mode) (most : ℕ) (t : Tally) (item : Record) → CountsWithin most t
+    → CountsWithin (most + 1) (kept_after mode t item)
+CountsWithin-kept Long most t item w = CountsWithin-more most (most + 1) t (omega arith) w
+CountsWithin-kept Brief most t item w = CountsWithin-more most (most + 1) t (omega arith) w
+CountsWithin-kept Summary most t item w = CountsWithin-after most t item w
+
 -- several records more count once each at most
-pub CountsWithin-fold : (most : ℕ) (t : Tally) (items : List Record) → CountsWithin most t
-    → CountsWithin (most + length items) (fold tally_after t items)
-CountsWithin-fold most t [] w = CountsWithin-more most (most + 0) t (omega arith) w
-CountsWithin-fold most t (item ∷ items) w =
+pub CountsWithin-fold : (mode : Mode) (most : ℕ) (t : Tally) (items : List Record) → CountsWithin most t
+    → CountsWithin (most + length items) (fold (kept_after mode) t items)
+CountsWithin-fold mode most t [] w = CountsWithin-more most (most + 0) t (omega arith) w
+CountsWithin-fold mode most t (item ∷ items) w =
     CountsWithin-more (most + 1 + length items) (most + suc (length items)) _ (omega arith)
-    (CountsWithin-fold (most + 1) (tally_after t item) items (CountsWithin-after most t item w))
+    (CountsWithin-fold mode (most + 1) (kept_after mode t item) items (CountsWithin-kept mode most t item w))
 
 -- what is kept of some records and then of others is what is kept of both
 pub tally_of-append : (records items : List Record) → tally_of (records ++ items) ≡ fold tally_after (tally_of records) items
@@ -81,3 +92,30 @@ tally_of-append records [] = ap tally_of (append-nil records)
 tally_of-append records (item ∷ items) =
     ap tally_of (sym (append_assoc records (item ∷ []) items)) ∙ tally_of-append (records ++ item ∷ []) items
     ∙ ap (λ t. fold tally_after t items) (tally_of-push records item)
+
+nothing_kept : (t : Tally) (items : List Record) → fold (λ x item. x) t items ≡ t
+nothing_kept t [] = refl
+nothing_kept t (item ∷ items) = nothing_kept t items
+
+-- the same of what is kept in a mode
+pub kept_of-append : (mode : Mode) (records items : List Record)
+    → kept_of mode (records ++ items) ≡ fold (kept_after mode) (kept_of mode records) items
+kept_of-append Long records items = sym (nothing_kept (tally_of []) items)
+kept_of-append Brief records items = sym (nothing_kept (tally_of []) items)
+kept_of-append Summary records items = tally_of-append records items
+
+pub kept_of-push : (mode : Mode) (records : List Record) (item : Record)
+    → kept_of mode (records ++ item ∷ []) ≡ kept_after mode (kept_of mode records) item
+kept_of-push mode records item = kept_of-append mode records (item ∷ [])
+
+pub none_kept : (mode : Mode) → kept_of mode [] ≡ tally_of []
+none_kept Long = refl
+none_kept Brief = refl
+none_kept Summary = refl
+
+-- what is kept tells what stands after the last record
+pub ending-kept : (mode : Mode) (settings : Option SettingsValue) (records : List Record)
+    → ending mode settings (numbers_in (kept_of mode records)) ≡ ending mode settings (numbers_of records)
+ending-kept Long settings records = refl
+ending-kept Brief settings records = refl
+ending-kept Summary settings records = refl

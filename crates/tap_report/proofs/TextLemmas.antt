@@ -11,18 +11,13 @@ use Rattle.std.proofs.lemmas.List.Sums.{fold-append}
 use Rattle.tap_name.specs.Digits.{text_of_digit}
 use Rattle.tap_name.specs.Settings.{SettingsValue}
 use Rattle.tap_log.specs.declared.record.Record.{Record}
-use Rattle.tap_log.specs.declared.record.Record.TheVariants.{Begin, Step, Sent, Taken, Packet, Arrived, Ticked, Lost}
+use Rattle.tap_log.specs.declared.record.Record.TheVariants.{Begin}
 use Rattle.tap_report.specs.Shapes.{line}
 use Rattle.tap_report.specs.Lookups.{node_at}
-use Rattle.tap_report.specs.Text.{IsBegin, IsPrintable, ArePrintable, further_lines, is_in_brief, is_printed, line_of, text_of_record, texts_after, settings_after, settings_so_far}
+use Rattle.tap_report.specs.Text.{IsBegin, IsPrintable, ArePrintable, further_lines, is_printed, line_of, text_of_record, texts_after, settings_after, settings_so_far}
 use Rattle.tap_report.specs.declared.mode.Mode.{Mode}
 
--- a record that is printed has its lines
-pub lines_of_record : (mode : Mode) (settings : Option SettingsValue) (item : Record) → is_printed mode item ≡ true
-    → text_of_record mode settings item ≡ line (line_of settings item) ++ further_lines mode item
-lines_of_record mode settings item printed = ap (λ b. if b then line (line_of settings item) ++ further_lines mode item else []) printed
-
--- one that isn't has none
+-- a record that isn't printed has no lines
 pub no_lines_of_record : (mode : Mode) (settings : Option SettingsValue) (item : Record) → is_printed mode item ≡ false
     → text_of_record mode settings item ≡ []
 no_lines_of_record mode settings item printed = ap (λ b. if b then line (line_of settings item) ++ further_lines mode item else []) printed
@@ -58,17 +53,6 @@ texts_after-append mode settings (first ∷ rest) items =
     ap (λ l. text_of_record mode settings first ++ l) (texts_after-append mode (settings_after settings first) rest items)
     ∙ sym (append_assoc (text_of_record mode settings first) (texts_after mode (settings_after settings first) rest)
     (texts_after mode (fold settings_after (settings_after settings first) rest) items))
-
--- a record that the brief text leaves out has one line alone
-pub no_further_lines : (mode : Mode) (item : Record) → is_in_brief item ≡ false → further_lines mode item ≡ []
-no_further_lines mode (Step index step) detail = refl
-no_further_lines mode (Sent number bytes) detail = refl
-no_further_lines mode (Taken number) detail = refl
-no_further_lines mode (Packet number frame ack) detail = refl
-no_further_lines mode (Arrived packet) detail = refl
-no_further_lines mode Ticked detail = refl
-no_further_lines mode (Lost packet) detail = refl
-no_further_lines mode item detail = absurd cc
 
 -- each record of a log is printable with the settings before it
 pub ArePrintable-at : (settings : Option SettingsValue) (records : List Record) (i : ℕ) (item : Record) → ArePrintable settings records

@@ -13,7 +13,7 @@ pub record PrinterValue : Type 0 where
 
 -- how many bytes may wait
 abbrev pub most_waiting : ℕ
-most_waiting = 512
+most_waiting = 2048
 
 -- before the first piece
 abbrev pub new_printer : PrinterValue

@@ -10,6 +10,7 @@ use Rattle.tap_report.specs.Text.{text_of_record, texts_after, text_of_log, sett
 pub use Rattle.tap_report.specs.Text.{settings_after}
 use Rattle.tap_report.specs.Written.{WritesText}
 use Rattle.tap_report.specs.declared.mode.Mode.{Mode}
+use Rattle.tap_report.specs.declared.mode.Mode.TheVariants.{Long, Brief, Summary}
 use Rattle.tap_report.specs.declared.tally.Tally.{Tally}
 use Rattle.tap_report.specs.declared.written.Written.{Written}
 use Rattle.tap_report.specs.declared.written.Written.TheVariants.{All}
@@ -18,8 +19,8 @@ use Rattle.tap_report.specs.declared.written.Written.TheVariants.{All}
 abbrev pub most_records : ℕ
 most_records = 4000000000
 
--- The mode, the settings of the `Begin` that was put, how many records were put, what the summary is made from, and
--- whether all was written.
+-- The mode, the settings of the `Begin` that was put, how many records were put, what the summary is made from, if the
+-- mode has one, and whether all was written.
 pub record ReporterValue : Type 0 where
   pub mode : Mode
   pub settings : Option SettingsValue
@@ -36,13 +37,25 @@ pub record IsKept (records : ℕ) (tally : Tally) (printer : PrinterValue) : Typ
 abbrev pub new_reporter : Mode → ReporterValue
 new_reporter mode = record { mode = mode; settings = None; records = 0; tally = tally_of []; so_far = All }
 
+-- what is kept for the summary, with one record more: nothing in the modes that have none
+abbrev pub kept_after : Mode → Tally → Record → Tally
+kept_after Long t item = t
+kept_after Brief t item = t
+kept_after Summary t item = tally_after t item
+
+-- what is kept of records
+abbrev pub kept_of : Mode → List Record → Tally
+kept_of Long records = tally_of []
+kept_of Brief records = tally_of []
+kept_of Summary records = tally_of records
+
 -- after the put of a record, whether it was written or not
 abbrev pub after_put : ReporterValue → Record → Written → ReporterValue
 after_put r item written =
     record r {
       settings = settings_after r.settings item;
       records = r.records + 1;
-      tally = tally_after r.tally item;
+      tally = kept_after r.mode r.tally item;
       so_far = written;
     }
 
@@ -57,7 +70,7 @@ after_puts r items written =
     record r {
       settings = fold settings_after r.settings items;
       records = r.records + length items;
-      tally = fold tally_after r.tally items;
+      tally = fold (kept_after r.mode) r.tally items;
       so_far = written;
     }
 
@@ -90,5 +103,5 @@ pub record Reports (mode : Mode) (records : List Record) (old new : SinkState) (
   pub same_mode : reporter.mode ≡ mode
   pub settings : reporter.settings ≡ settings_so_far records
   pub count : reporter.records ≡ length records
-  pub tally : reporter.tally ≡ tally_of records
+  pub tally : reporter.tally ≡ kept_of mode records
   pub text : WritesText old new (texts_after mode None records) All reporter.so_far

@@ -1,19 +1,22 @@
-ghost use Rattle.std.specs.Prelude.{◌≡◌, ◌≢◌, ◌+◌, ◌≤◌, codes, length, IsOk, IsSomeAnd};
+ghost use Rattle.std.specs.Prelude.{◌≡◌, ◌≢◌, ◌+◌, ◌*◌, ◌≤◌, ◌<◌, ◌++◌, All, codes, drop, length, take, IsOk, IsSomeAnd};
 ghost use Rattle.hex.specs.Hex.{encode_lower};
 ghost use Rattle.tap_report.specs.Printer.{Prints, Waits, most_waiting};
 ghost use Rattle.tap_report.specs.Frames.{garbled_line, heading, packet_line, packet_word, sent_line, text_of_head, word_of_kind, words_of_fault};
-ghost use Rattle.tap_report.specs.Shapes.{number_after};
+ghost use Rattle.tap_report.specs.Shapes.{line, number_after, spaced_name};
 ghost use Rattle.tap_wire.specs.declared.fault.WireFault.TheVariants.{NoMemory};
 ghost use Rattle.tap_wire.specs.Layout.{head_len};
 ghost use Rattle.tap_wire.specs.Reading.{head_of};
 
-use crate::printer::Printer;
+use crate::printer::{Printer, usual_text};
 use tap_io::Sink;
-use tap_name::Settings;
+use tap_name::{Settings, USUAL_DIGITS};
 use tap_wire::WireFault;
 
 // The most bytes of the line of a frame before its own ones: a word, a number, the word of a kind, two names, and five spaces.
 const MOST_BEFORE_BYTES: usize = 106;
+
+// The most bytes of the line of a frame that is taken: a word, a number, and the end of the line.
+const MOST_OF_TAKEN: usize = 17;
 
 // How many bytes are encoded at once.
 const PIECE: usize = 64;
@@ -30,7 +33,7 @@ impl Printer {
     )
         requires { IsSomeAnd settings.now (λ p. IsOk (head_of p bytes.now)) }
         ensures { Prints (K.state sink.old) (K.state sink.new)
-            (sent_line settings.now number bytes.now) self.old self.new }
+            (line (sent_line settings.now number bytes.now)) self.old self.new }
     {
         self.make_room(sink, MOST_BEFORE_BYTES);
         self.push(b"sent ");
@@ -39,6 +42,7 @@ impl Printer {
         self.push_heading(settings, bytes);
         self.push(b" ");
         self.add_hex(sink, bytes);
+        self.end_line(sink);
     }
 
     // Adds what the head of a frame says, which is read with these settings, if there is room for the most that it may say.
@@ -63,12 +67,55 @@ impl Printer {
     {
         let digits = settings.digits() as usize;
         let from = head_len(settings);
-        let to = from + digits;
+        let to = from + 2 * digits;
         self.push_kind(bytes[1]);
+        self.push_names(digits, &bytes[from..to]);
+    }
+
+    // Adds two names of so many digits each, with a space before each of them.
+    #[inline(always)]
+    fn push_names(&mut self, digits: usize, names: &[u8])
+        requires both { length names.now ≡ 2 * digits }
+        requires below { All (λ digit. digit < 16) names.now }
+        requires room { length self.old.waiting + length names.now + 2 ≤ most_waiting }
+        ensures text { Waits (spaced_name (take digits names.now) ++ spaced_name (drop digits names.now)) self.old self.new }
+        ensures len { length self.new.waiting ≡ length self.old.waiting + length names.now + 2 }
+    {
+        if digits == USUAL_DIGITS {
+            self.push_usual_names(names);
+        } else {
+            self.push_two_names(&names[..digits], &names[digits..]);
+        }
+    }
+
+    // Adds two names of the usual length, whose digits are printed all at once.
+    #[inline(always)]
+    fn push_usual_names(&mut self, names: &[u8])
+        requires both { length names.now ≡ 16 }
+        requires below { All (λ digit. digit < 16) names.now }
+        requires room { length self.old.waiting + 18 ≤ most_waiting }
+        ensures text { Waits (spaced_name (take 8 names.now) ++ spaced_name (drop 8 names.now)) self.old self.new }
+        ensures len { length self.new.waiting ≡ length self.old.waiting + 18 }
+    {
+        let text = usual_text(names);
         self.push(b" ");
-        self.push_digits(&bytes[from..to]);
+        self.push(&text[..USUAL_DIGITS]);
         self.push(b" ");
-        self.push_digits(&bytes[to..to + digits]);
+        self.push(&text[USUAL_DIGITS..]);
+    }
+
+    // Adds the digits of two names, with a space before each of them.
+    fn push_two_names(&mut self, first: &[u8], second: &[u8])
+        requires room { length self.old.waiting + length first.now + length second.now + 2 ≤ most_waiting }
+        requires first { All (λ digit. digit < 16) first.now }
+        requires second { All (λ digit. digit < 16) second.now }
+        ensures text { Waits (spaced_name first.now ++ spaced_name second.now) self.old self.new }
+        ensures len { length self.new.waiting ≡ length self.old.waiting + length first.now + length second.now + 2 }
+    {
+        self.push(b" ");
+        self.push_digits(first);
+        self.push(b" ");
+        self.push_digits(second);
     }
 
     // Adds the word of the kind with this code, if there is one.
@@ -156,26 +203,46 @@ impl Printer {
     #[inline(never)]
     pub(crate) fn add_packet<K: Sink>(&mut self, sink: &mut K, packet: u32, frame: u32, ack: bool)
         ensures { Prints (K.state sink.old) (K.state sink.new)
-            (packet_line packet frame ack) self.old self.new }
+            (line (packet_line packet frame ack)) self.old self.new }
     {
         self.add_number_after(sink, b"packet ", packet);
         self.add_number_after(sink, packet_word(ack), frame);
+        self.end_line(sink);
+    }
+
+    pub(crate) fn add_taken<K: Sink>(&mut self, sink: &mut K, number: u32)
+        ensures { Prints (K.state sink.old) (K.state sink.new)
+            (line (number_after (codes "taken ") number)) self.old self.new }
+    {
+        self.make_room(sink, MOST_OF_TAKEN);
+        self.push(b"taken ");
+        self.push_u32(number);
+        self.push(b"\n");
     }
 
     #[inline(never)]
     pub(crate) fn add_arrived<K: Sink>(&mut self, sink: &mut K, packet: u32)
         ensures { Prints (K.state sink.old) (K.state sink.new)
-            (number_after (codes "arrived ") packet) self.old self.new }
+            (line (number_after (codes "arrived ") packet)) self.old self.new }
     {
         self.add_number_after(sink, b"arrived ", packet);
+        self.end_line(sink);
+    }
+
+    pub(crate) fn add_ticked<K: Sink>(&mut self, sink: &mut K)
+        ensures { Prints (K.state sink.old) (K.state sink.new) (line (codes "ticked")) self.old self.new }
+    {
+        self.add(sink, b"ticked");
+        self.end_line(sink);
     }
 
     #[inline(never)]
     pub(crate) fn add_lost<K: Sink>(&mut self, sink: &mut K, packet: u32)
         ensures { Prints (K.state sink.old) (K.state sink.new)
-            (number_after (codes "lost ") packet) self.old self.new }
+            (line (number_after (codes "lost ") packet)) self.old self.new }
     {
         self.add_number_after(sink, b"lost ", packet);
+        self.end_line(sink);
     }
 }
 

@@ -1,11 +1,11 @@
 ghost use Rattle.std.specs.Prelude.{◌≡◌, ◌++◌, true, false};
 ghost use Rattle.tap_report.specs.Lookups.{is_lookup};
 ghost use Rattle.tap_report.specs.Printer.{Prints};
-ghost use Rattle.tap_report.specs.declared.mode.Mode.TheVariants.{Summary};
+ghost use Rattle.tap_report.specs.declared.mode.Mode.TheVariants.{Brief, Long, Summary};
 ghost use Rattle.tap_report.specs.Shapes.{line};
 ghost use Rattle.tap_report.specs.Summary.{ending, summary_text};
 ghost use Rattle.tap_report.specs.Tally.{numbers_in};
-ghost use Rattle.tap_report.specs.Text.{IsPrintable, further_lines, is_in_brief, is_printed, line_of, text_of_record};
+ghost use Rattle.tap_report.specs.Text.{IsPrintable, further_lines, is_in_brief, line_of, text_of_record};
 
 use crate::lookups::is_lookup;
 use crate::mode::Mode;
@@ -30,35 +30,67 @@ impl Printer {
         ensures { Prints (K.state sink.old) (K.state sink.new)
             (text_of_record mode settings.now item.now) self.old self.new }
     {
-        if is_printed(mode, item) {
-            self.add_lines(sink, mode, settings, item);
+        match mode {
+            Mode::Long => self.add_lines(sink, settings, item),
+            Mode::Brief => self.add_in_brief(sink, settings, item),
+            Mode::Summary => {}
         }
     }
 
-    // Adds the lines of a record. One that the brief text leaves out has no further lines.
-    fn add_lines<K: Sink>(
+    // Adds the lines of a record. One that the brief text leaves out has one line alone.
+    fn add_lines<K: Sink>(&mut self, sink: &mut K, settings: &Option<Settings>, item: &Record)
+        requires { IsPrintable settings.now item.now }
+        ensures { Prints (K.state sink.old) (K.state sink.new)
+            (text_of_record Long settings.now item.now) self.old self.new }
+    {
+        match item {
+            Record::Step { index, step } => self.add_step(sink, *index, step),
+            Record::Sent { number, bytes } => self.add_sent(
+                sink,
+                settings,
+                *number,
+                bytes.as_slice(),
+            ),
+            Record::Taken { number } => self.add_taken(sink, *number),
+            Record::Packet { number, frame, ack } => self.add_packet(sink, *number, *frame, *ack),
+            Record::Arrived { packet } => self.add_arrived(sink, *packet),
+            Record::Ticked => self.add_ticked(sink),
+            Record::Lost { packet } => self.add_lost(sink, *packet),
+            _ => self.add_brief_lines(sink, Mode::Long, settings, item),
+        }
+    }
+
+    // Adds the lines of a record in the brief text, if it has them.
+    fn add_in_brief<K: Sink>(&mut self, sink: &mut K, settings: &Option<Settings>, item: &Record)
+        requires { IsPrintable settings.now item.now }
+        ensures { Prints (K.state sink.old) (K.state sink.new)
+            (text_of_record Brief settings.now item.now) self.old self.new }
+    {
+        if is_in_brief(item) {
+            self.add_brief_lines(sink, Mode::Brief, settings, item);
+        }
+    }
+
+    // Adds the lines of a record that the brief text has too.
+    #[inline(never)]
+    fn add_brief_lines<K: Sink>(
         &mut self,
         sink: &mut K,
         mode: Mode,
         settings: &Option<Settings>,
         item: &Record,
     )
-        requires { IsPrintable settings.now item.now }
+        requires printable { IsPrintable settings.now item.now }
+        requires brief { is_in_brief item.now ≡ true }
         ensures { Prints (K.state sink.old) (K.state sink.new)
             (line (line_of settings.now item.now) ++ further_lines mode item.now) self.old self.new }
     {
-        if is_in_brief(item) {
-            self.add_brief_line(sink, settings, item);
-            self.end_line(sink);
-            self.add_further_lines(sink, mode, settings, item);
-        } else {
-            self.add_detail(sink, settings, item);
-            self.end_line(sink);
-        }
+        self.add_brief_line(sink, settings, item);
+        self.end_line(sink);
+        self.add_further_lines(sink, mode, settings, item);
     }
 
     // Adds the first line of a record that the brief text has too.
-    #[inline(never)]
     fn add_brief_line<K: Sink>(&mut self, sink: &mut K, settings: &Option<Settings>, item: &Record)
         requires printable { IsPrintable settings.now item.now }
         requires brief { is_in_brief item.now ≡ true }
@@ -112,32 +144,7 @@ impl Printer {
         }
     }
 
-    // Adds the line of a record that the brief text leaves out.
-    fn add_detail<K: Sink>(&mut self, sink: &mut K, settings: &Option<Settings>, item: &Record)
-        requires printable { IsPrintable settings.now item.now }
-        requires detail { is_in_brief item.now ≡ false }
-        ensures { Prints (K.state sink.old) (K.state sink.new)
-            (line_of settings.now item.now) self.old self.new }
-    {
-        match item {
-            Record::Step { index, step } => self.add_step(sink, *index, step),
-            Record::Sent { number, bytes } => self.add_sent(
-                sink,
-                settings,
-                *number,
-                bytes.as_slice(),
-            ),
-            Record::Taken { number } => self.add_u32_after(sink, b"taken ", *number),
-            Record::Packet { number, frame, ack } => self.add_packet(sink, *number, *frame, *ack),
-            Record::Arrived { packet } => self.add_arrived(sink, *packet),
-            Record::Ticked => self.add(sink, b"ticked"),
-            Record::Lost { packet } => self.add_lost(sink, *packet),
-            _ => unreachable!(),
-        }
-    }
-
     // Adds the further lines of a beginning, a table and pointers.
-    #[inline(never)]
     fn add_further_lines<K: Sink>(
         &mut self,
         sink: &mut K,
@@ -200,17 +207,6 @@ impl Printer {
     {
         self.add_number_after(sink, word, count);
         self.end_line(sink);
-    }
-}
-
-// Whether a record has lines in the text.
-fn is_printed(mode: Mode, item: &Record) -> bool
-    ensures { result ≡ is_printed mode item.now }
-{
-    match mode {
-        Mode::Long => true,
-        Mode::Brief => is_in_brief(item),
-        Mode::Summary => false,
     }
 }
 

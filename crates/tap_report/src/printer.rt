@@ -6,10 +6,10 @@ ghost use Rattle.tap_report.specs.Printer.{Prints, Waits, emptied, most_waiting,
 use crate::written::{Written, write_text};
 use std::marker::Model;
 use tap_io::Sink;
-use tap_name::text_of_digit;
+use tap_name::{USUAL_DIGITS, text_of_digit};
 
 // How many bytes may wait.
-const ROOM: usize = 512;
+const ROOM: usize = 2048;
 
 // The most digits of a `u32`, in decimal.
 pub(crate) const MOST_DIGITS: usize = 10;
@@ -180,7 +180,20 @@ impl Printer {
     }
 }
 
+// The text of the digits of two names of the usual length. All are printed at once.
+#[inline(never)]
+pub(crate) fn usual_text(digits: &[u8]) -> [u8; 2 * USUAL_DIGITS]
+    requires few { length digits.now ≡ 16 }
+    requires below { All (λ digit. digit < 16) digits.now }
+    ensures { result ≡ text_of_name digits.now }
+{
+    let mut text = [0; 2 * USUAL_DIGITS];
+    print_digits(&digits[..2 * USUAL_DIGITS], &mut text);
+    text
+}
+
 // Prints digits, each in its place.
+#[inline(always)]
 fn print_digits(digits: &[u8], text: &mut [u8])
     requires places { length text.old ≡ length digits.now }
     requires below { All (λ digit. digit < 16) digits.now }

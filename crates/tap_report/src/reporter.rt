@@ -1,7 +1,7 @@
 ghost use Rattle.std.specs.Prelude.{◌≡◌, ◌<◌, ◌≤◌, ◌+◌, ◌-◌, ◌↔◌, IsNone, IsTrue, fold, length};
 ghost use Rattle.tap_report.specs.Printer.{Prints};
-ghost use Rattle.tap_report.specs.Reporter.{Finishes, Puts, PutsAll, PutsWriteTheText, most_records, new_reporter, settings_after};
-ghost use Rattle.tap_report.specs.Tally.{CountsWithin, tally_after};
+ghost use Rattle.tap_report.specs.Reporter.{Finishes, Puts, PutsAll, PutsWriteTheText, kept_after, most_records, new_reporter, settings_after};
+ghost use Rattle.tap_report.specs.Tally.{CountsWithin};
 ghost use Rattle.tap_report.specs.Text.{ArePrintable, BeginsAfter, IsBegin, IsPrintable, IsPrintableLog, text_of_log, texts_after};
 ghost use Rattle.tap_report.specs.Written.{WritesText};
 
@@ -22,7 +22,7 @@ pub const MOST_RECORDS: u32 = 4_000_000_000;
 /// Writes the text of a run, record by record.
 ///
 /// Contracts see what it keeps: the mode, the settings of the `Begin` that was put, how many records were put, what the
-/// summary is made from, and whether all was written. It takes no memory.
+/// summary is made from, if the mode has one, and whether all was written. It takes no memory.
 ///
 /// Rule: docs/FORMATS.md, "The printed text".
 #[derive(Debug, Drop)]
@@ -82,7 +82,7 @@ impl Reporter {
             .add_record(sink, self.mode, &self.settings, item);
         let written = self.printer.flush(sink);
         keep_settings(&mut self.settings, item);
-        self.tally.add(item);
+        keep_for_summary(&mut self.tally, self.mode, item);
         self.records += 1;
         written
     }
@@ -146,12 +146,23 @@ fn print_each<K: Sink>(
     requires counts { CountsWithin (u64.MAX - length items.now) tally.old }
     ensures text { Prints (K.state sink.old) (K.state sink.new) (texts_after mode settings.old items.now) printer.old printer.new }
     ensures settings { settings.new ≡ fold settings_after settings.old items.now }
-    ensures tally { tally.new ≡ fold tally_after tally.old items.now }
+    ensures tally { tally.new ≡ fold (kept_after mode) tally.old items.now }
 {
     for item in items {
         printer.add_record(sink, mode, settings, item);
         keep_settings(settings, item);
-        tally.add(item);
+        keep_for_summary(tally, mode, item);
+    }
+}
+
+// Keeps one record more for the summary, if the mode has one.
+fn keep_for_summary(tally: &mut Tally, mode: Mode, item: &Record)
+    requires { CountsWithin (u64.MAX - 1) tally.old }
+    ensures { tally.new ≡ kept_after mode tally.old item.now }
+{
+    match mode {
+        Mode::Long | Mode::Brief => {}
+        Mode::Summary => tally.add(item),
     }
 }
 

@@ -84,6 +84,7 @@ impl Printer {
     }
 
     // Adds a word and a name, and then another word and name.
+    #[inline(always)]
     pub(crate) fn add_two_names_after<K: Sink>(
         &mut self,
         sink: &mut K,

@@ -1,5 +1,6 @@
 ghost use Rattle.tap_report.specs.Printer.{Prints};
 ghost use Rattle.tap_report.specs.Starts.{begin_line, member_line, member_lines, step_line};
+ghost use Rattle.tap_report.specs.Shapes.{line};
 ghost use Rattle.tap_report.specs.Text.{members_in};
 
 use crate::mode::Mode;
@@ -51,10 +52,11 @@ impl Printer {
     #[inline(never)]
     pub(crate) fn add_step<K: Sink>(&mut self, sink: &mut K, index: u32, step: &Step)
         ensures { Prints (K.state sink.old) (K.state sink.new)
-            (step_line index step.now) self.old self.new }
+            (line (step_line index step.now)) self.old self.new }
     {
         self.add_u32_after(sink, b"step ", index);
         self.add(sink, b" ");
         self.add_step_text(sink, step);
+        self.end_line(sink);
     }
 }

@@ -11,7 +11,24 @@ use tap_scenario::{Prefix, Step, Word, WordsAfter};
 
 // Steps, as they are written in a scenario.
 impl Printer {
+    // Adds the text of a step. A run has many of the kinds that come first, which are printed without the list of their words.
     pub(crate) fn add_step_text<K: Sink>(&mut self, sink: &mut K, step: &Step)
+        ensures { Prints (K.state sink.old) (K.state sink.new)
+            (text_of_step step.now) self.old self.new }
+    {
+        match step {
+            Step::Publish { object, server } => self.add_at(sink, b"publish ", object, server),
+            Step::Withdraw { object, server } => self.add_at(sink, b"withdraw ", object, server),
+            Step::Find { object, asker } => self.add_from(sink, b"find ", object, asker),
+            Step::Walk { object, asker } => self.add_from(sink, b"walk ", object, asker),
+            Step::Settle => self.add(sink, b"settle"),
+            _ => self.add_words_of(sink, step),
+        }
+    }
+
+    // Adds the words of a step.
+    #[inline(never)]
+    fn add_words_of<K: Sink>(&mut self, sink: &mut K, step: &Step)
         ensures { Prints (K.state sink.old) (K.state sink.new)
             (text_of_step step.now) self.old self.new }
     {

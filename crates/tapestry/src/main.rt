@@ -30,7 +30,11 @@ fn main(rt: HostRuntime) -> ExitCode {
         Ok(words) => {
             let mut source = StdSource::new(rt.stdin());
             let mut sink = StdSink::new(io::writer(&rt));
-            tap_top::run(rt.alloc(), &words, &mut source, &mut sink).status
+            let ended = tap_top::run(rt.alloc(), &words, &mut source, &mut sink);
+            let status = ended.status;
+            // The memory of the world ends with the process, so nothing of it is given back piece by piece.
+            std::mem::forget(ended);
+            status
         }
     };
     ExitCode::from(status.exit_code())

@@ -1,9 +1,9 @@
 use Rattle.std.proofs.Common.{take, [], ◌∷◌, refl, ap, sym, arith, ◌∙◌}
 use Rattle.std.proofs.lemmas.List.Sums.{fold-append}
-use Rattle.tap_report.specs.Tally.{tally_after}
+use Rattle.tap_report.specs.Reporter.{kept_after}
 use Rattle.tap_report.specs.Text.{settings_after}
 use Rattle.tap_report.proofs.PrintsLemmas.{◌⨾◌, Prints-none}
-use Rattle.tap_report.proofs.TallyLemmas.{CountsWithin-after, CountsWithin-more}
+use Rattle.tap_report.proofs.TallyLemmas.{CountsWithin-kept, CountsWithin-more}
 use Rattle.tap_report.proofs.TextLemmas.{ArePrintable-at, take_next, texts_after-push}
 use Rattle.tap_report.proofs.reporter.print_each.Goals as goal
 
@@ -29,9 +29,11 @@ loop-item-preserved g c =
     let was = c.loop-item.invariant in
     let first = take i items in
     let next = take_next items i item c.loop-item-test.true c.item-item.is in
-    rw (next, c.keep_settings.ensures, c.add.ensures) (record {
+    rw (next, c.keep_settings.ensures, c.keep_for_summary.ensures) (record {
       text = rw (texts_after-push c.args.mode c.args.settings.now first item) (was.text ⨾ rw was.settings at c.add_record.ensures);
       settings = ap (λ s. settings_after s item) was.settings ∙ sym (fold-append settings_after c.args.settings.now first (item ∷ []));
-      tally = ap (λ t. tally_after t item) was.tally ∙ sym (fold-append tally_after c.args.tally.now first (item ∷ []));
-      within = CountsWithin-more _ _ _ (omega arith) (CountsWithin-after _ c.loop-item.tally item was.within);
+      tally =
+          ap (λ t. kept_after c.args.mode t item) was.tally
+          ∙ sym (fold-append (kept_after c.args.mode) c.args.tally.now first (item ∷ []));
+      within = CountsWithin-more _ _ _ (omega arith) (CountsWithin-kept c.args.mode _ c.loop-item.tally item was.within);
     })

@@ -5,4 +5,4 @@ pub returns : goal.returns
 returns g c =
     let number = Waits-then c.push.ensures.text c.push_u32.ensures.text in
     let head = Waits-then (Waits-then number c.push-2.ensures.text) c.push_heading.ensures.text in
-    c.make_room.ensures.prints ⨾ Prints-waits (Waits-then head c.push-3.ensures.text) ⨾ c.add_hex.ensures
+    c.make_room.ensures.prints ⨾ Prints-waits (Waits-then head c.push-3.ensures.text) ⨾ c.add_hex.ensures ⨾ c.end_line.ensures

@@ -7,7 +7,7 @@ use Rattle.tap_report.proofs.reporter.Reporter.put_all.Goals as goal
 pub invariant_of-self : goal.invariant_of-self
 invariant_of-self g c = record {
   counts = rw c.print_each.ensures.tally
-      (CountsWithin-fold c.self.inside.records c.self.inside.tally c.args.items.now c.self.invariant.counts);
+      (CountsWithin-fold c.self.inside.mode c.self.inside.records c.self.inside.tally c.args.items.now c.self.invariant.counts);
   written = ap (λ (p : PrinterValue). p.waiting) c.flush.ensures.emptied;
 }
 

@@ -1,5 +1,5 @@
 use Rattle.tap_report.proofs.PrintsLemmas.{◌⨾◌}
-use Rattle.tap_report.proofs.printer.Printer.add_step_text.Goals as goal
+use Rattle.tap_report.proofs.printer.Printer.add_words_of.Goals as goal
 
 pub returns : goal.returns
 returns g c =
