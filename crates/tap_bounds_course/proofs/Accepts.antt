@@ -25,7 +25,7 @@ use Rattle.tap_course.specs.Starts.{next_cast, next_ticket, start_of_step}
 use Rattle.tap_course.proofs.Frames.{starting_moves, step_moves, taken_moves}
 use Rattle.tap_course.proofs.Nodes.{HasNoStep, joiner_is_new, name_at, no_steps, none_accepted, none_named, start_in, taken_no_step}
 use Rattle.tap_course.proofs.Within.{IsIdle, IsStarting, is_accepted, step_kind, step_within, taken_within}
-use Rattle.tap_lookup_course.proofs.Starting.{starting_begins}
+use Rattle.tap_safe_course.proofs.Starting.{starting_accepted}
 use Rattle.tap_link_bounds.specs.OfJoins.{IsJoin, JoinsAlone}
 use Rattle.tap_bounds_course.specs.Joins.{joined_by, joined_in, is_other_start}
 
@@ -137,7 +137,7 @@ module _ (p : SettingsValue) (log : List Record) (s : System) where
       let so = starts_so log starting.name step starting.start starting.accepted starting.at in
       let accepted : accepted_in false (StepRecord index step ∷ items) ≡ step ∷ [] =
       accepted_first index step items none
-      ∙ ap (λ b. if b then step ∷ [] else []) (starting_begins p log s step items starting may).0 in
+      ∙ ap (λ b. if b then step ∷ [] else []) (starting_accepted p log s step items starting may) in
       subst (Accepts log (StepRecord index step ∷ items)) (sym (starting_moves p log s index step items starting)) (record {
         joins = ap (filter_map join_name) accepted ∙ so.joins;
         alone = λ alone. (so.alone (sym (ap (filter is_other_start) accepted) ∙ alone), tt);

@@ -23,11 +23,11 @@ use Rattle.tap_course.proofs.Frames.{course_frames_holds}
 use Rattle.tap_course.proofs.Nodes.{name_at, start_in}
 use Rattle.tap_invariant.specs.Moves.{may_run}
 use Rattle.tap_lawful.specs.Next.{beginning_in}
+use Rattle.tap_safe_course.specs.Headline.{OfLawfulLogs}
 use Rattle.tap_safe_course.specs.Moments.{AtEachMoment}
 use Rattle.tap_safe_course.specs.Safe.{IsRun}
 use Rattle.tap_safe_course.proofs.Lawful.{lawful_logs_are_safe}
 use Rattle.tap_safe_course.proofs.Safe.{run_at_moment, runs_are_sound}
-use Rattle.tap_pointer_course.specs.Paths.{OfLawfulLogs}
 use Rattle.tap_pointer_course.proofs.Runs.{run_grown}
 use Rattle.tap_bounds.specs.Moves.{traffic_of}
 use Rattle.tap_bounds.specs.Traffic.{no_traffic}

@@ -8,11 +8,11 @@ use Rattle.tap_course.specs.Course.{system_of}
 use Rattle.tap_course.proofs.Growing.{course_grows_holds}
 use Rattle.tap_invariant.specs.Moves.{after_moves}
 use Rattle.tap_lawful.specs.Next.{beginning_in}
+use Rattle.tap_safe_course.specs.Headline.{OfLawfulLogs}
 use Rattle.tap_safe_course.specs.Moments.{AtEachMoment}
 use Rattle.tap_safe_course.specs.Safe.{IsRun}
 use Rattle.tap_safe_course.proofs.Lawful.{lawful_logs_are_safe}
 use Rattle.tap_safe_course.proofs.Safe.{run_at_moment}
-use Rattle.tap_pointer_course.specs.Paths.{OfLawfulLogs}
 use Rattle.tap_bounds.specs.Acks.{AcksAreFew}
 use Rattle.tap_bounds.specs.Dones.{DonesAreFew}
 use Rattle.tap_bounds.specs.Few.{FewAreSent}

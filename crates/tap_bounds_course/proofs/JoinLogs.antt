@@ -25,12 +25,12 @@ use Rattle.tap_course.specs.Named.{HaveNames}
 use Rattle.tap_course.proofs.Growing.{by_groups, course_grows_holds, starts_uncarried, whole}
 use Rattle.tap_course.proofs.Within.{IsWhole}
 use Rattle.tap_lawful.specs.Next.{beginning_in}
+use Rattle.tap_safe_course.specs.Headline.{OfLawfulLogs}
 use Rattle.tap_safe_course.specs.Moments.{AtEachMoment}
 use Rattle.tap_safe_course.specs.Safe.{IsRun}
 use Rattle.tap_safe_course.proofs.Lawful.{lawful_logs_are_safe}
 use Rattle.tap_safe_course.proofs.Possible.{group_may_move}
 use Rattle.tap_safe_course.proofs.Safe.{run_at_moment, runs_are_sound, steps_after, steps_before}
-use Rattle.tap_pointer_course.specs.Paths.{OfLawfulLogs}
 use Rattle.tap_bounds.specs.Moves.{traffic_of}
 use Rattle.tap_bounds.specs.Traffic.{Traffic, no_traffic}
 use Rattle.tap_link_bounds.specs.OfJoins.{JoinsAlone}

@@ -20,11 +20,12 @@ use Rattle.tap_invariant.specs.Moves.{after_moves, may_run}
 use Rattle.tap_invariant.specs.Sound.{Sound}
 use Rattle.tap_invariant.proofs.Members.{sound_at_rest}
 use Rattle.tap_invariant.proofs.Moves.{move_keeps}
+use Rattle.tap_invariant.proofs.Delivered.{is_delivery}
 use Rattle.tap_bounds.specs.Moves.{traffic_of}
 use Rattle.tap_bounds.specs.Traffic.{Traffic, no_traffic, traffic_after}
 use Rattle.tap_link_bounds.specs.OfJoins.{JoinsAlone, joiner_said}
 use Rattle.tap_link_bounds.proofs.Kept.{joiner_joins}
-use Rattle.tap_link_bounds.proofs.Made.{IsMade, delivery_made, delivery_of, join_made}
+use Rattle.tap_link_bounds.proofs.Made.{IsMade, delivery_made, join_made}
 use Rattle.tap_bounds_course.specs.Joins.{joined_in}
 
 -- ---- nodes, and joiners of frames
@@ -84,7 +85,7 @@ module _ (p : SettingsValue) (s : System) (r : Traffic) (sound : Sound p s) (nam
   delivery_named number may =
       let frame = may.frame in
       let node = may.receiver.state in
-      let is = delivery_of p s number frame node sound may.among may.receiver.is in
+      let is = is_delivery p s number frame node sound may.among may.receiver.is in
       named_kept p s (moved p s (Delivers number)) r (traffic_after p s r (Delivers number)) (name_of node) _ _
       (delivery_made p s r number node frame.from frame.body is) (move_keeps p s (Delivers number) may sound) names names
       (λ x among. among) (are.nodes (name_of node) (record { state = node; is = is.at })) are

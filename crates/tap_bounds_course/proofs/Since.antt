@@ -26,10 +26,10 @@ use Rattle.tap_invariant.specs.Moves.{after_moves, may_run}
 use Rattle.tap_safe_course.specs.Safe.{IsRun}
 use Rattle.tap_safe_course.proofs.Possible.{group_may_move}
 use Rattle.tap_safe_course.proofs.Safe.{runs_are_sound, steps_after, steps_before}
-use Rattle.tap_lookup_course.specs.Alone.{AcceptNoStart}
-use Rattle.tap_lookup_course.proofs.GroupKinds.{IsKnownGroup, IsStartGroup, group_kind}
-use Rattle.tap_lookup_course.proofs.Splits.{no_step_among, none_in_first, none_in_second, parted_where, start_accepted}
-use Rattle.tap_lookup_course.proofs.Starting.{starting_begins, starts_is_start}
+use Rattle.tap_safe_course.specs.Starts.{AcceptNoStart}
+use Rattle.tap_safe_course.proofs.GroupKinds.{IsKnownGroup, group_kind}
+use Rattle.tap_safe_course.proofs.Splits.{no_step_among, none_in_first, none_in_second, parted_where}
+use Rattle.tap_safe_course.proofs.Starting.{start_group_accepts}
 use Rattle.tap_bounds.specs.Lookups.{AreDeliveries}
 use Rattle.tap_bounds.specs.Moves.{traffic_of}
 use Rattle.tap_bounds.specs.Traffic.{Traffic, no_traffic}
@@ -130,21 +130,9 @@ module _ (b : Beginning) where
     delivers_at_most none =
         elim kind [
           | inl idle ↦ subst (λ m. AreDeliveries (at_most_one m)) (sym idle.still) tt
-          | inr (inl start) ↦ absurd (not_started start)
+          | inr (inl start) ↦ absurd (start_group_accepts b.settings log (system_of log) group start none)
           | inr (inr taken) ↦ subst (λ m. AreDeliveries (at_most_one m)) (sym taken.moves) tt
         ]
-      where
-        not_started : IsStartGroup b.settings log (system_of log) group → ⊥
-        not_started start =
-            let begins = starting_begins b.settings log (system_of log) start.step start.items start.starting start.may in
-            let starts = starts_is_start log start.step (start.starting.name, start.starting.start) start.starting.at in
-            let mine : AcceptNoStart (StepRecord start.index start.step ∷ start.items) = subst AcceptNoStart start.is none in
-            by_items start.items begins.0 starts mine
-          where
-            by_items : (items : List Record) → is_accepted items ≡ true → is_start start.step ≡ true
-                → AcceptNoStart (StepRecord start.index start.step ∷ items) → ⊥
-            by_items [] accepted starts mine = let wrong : false ≡ true = accepted in cc
-            by_items (next ∷ items) accepted starts mine = start_accepted start.index start.step next items starts accepted mine
 
     -- ---- the step of the group
 

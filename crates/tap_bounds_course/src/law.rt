@@ -2,7 +2,7 @@ ghost use Rattle.tap_bounds_course.specs.AtRest.{LookupsAtRestSendFew, Publicati
 ghost use Rattle.tap_bounds_course.specs.Enough.{EndsFinished, NeverSpent};
 ghost use Rattle.tap_bounds_course.specs.Few.{FramesAreFew, FramesAreKnown};
 ghost use Rattle.tap_bounds_course.specs.Joins.{JoinsSendFew, RunJoinsSendFew};
-ghost use Rattle.tap_pointer_course.specs.Paths.{OfLawfulLogs};
+ghost use Rattle.tap_safe_course.specs.Headline.{OfLawfulLogs};
 ghost use Rattle.tap_safe_course.specs.Moments.{AtEachMoment};
 
 /// At each moment of a run the frames that its moves have sent and taken are those of its log: the log has a `Sent` record with the bytes

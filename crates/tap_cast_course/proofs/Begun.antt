@@ -42,13 +42,13 @@ use Rattle.tap_course.proofs.Within.{IsQuiet, IsStarting, step_kind}
 use Rattle.tap_safe_course.specs.Safe.{IsRun}
 use Rattle.tap_safe_course.proofs.Possible.{group_may_move}
 use Rattle.tap_safe_course.proofs.Safe.{runs_are_sound}
+use Rattle.tap_safe_course.proofs.Each.{each_of_run}
 use Rattle.tap_cast_moves.specs.Moves.{IsNewCast}
 use Rattle.tap_cast_moves.specs.Recalled.{is_core, recalled, recalled_delivery, recalled_frame, recalled_start, run_begun, run_marked, runs_begun, runs_noted}
 use Rattle.tap_cast_moves.specs.Remembered.{CastMemory, CastRun}
 use Rattle.tap_cast_course.specs.Begun.{BeginsRight, CastsStayBegun, GroupsBeginRight, StaysBegun}
 use Rattle.tap_cast_course.specs.Casts.{casts_of, recalled_by}
 use Rattle.tap_cast_course.proofs.Casts.{fresh, grown_casts, runs_keep}
-use Rattle.tap_cast_course.proofs.Each.{each_of_run}
 
 -- ---- a cast stays as it was begun
 

@@ -1,7 +1,6 @@
 pub mod Casts
 pub mod Plain
 pub mod Told
-pub mod Each
 pub mod Once
 pub mod Begun
 pub mod Said

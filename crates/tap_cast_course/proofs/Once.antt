@@ -29,6 +29,7 @@ use Rattle.tap_course.proofs.Growing.{by_groups}
 use Rattle.tap_safe_course.specs.Safe.{IsRun}
 use Rattle.tap_safe_course.proofs.Possible.{group_may_move}
 use Rattle.tap_safe_course.proofs.Safe.{runs_are_sound, steps_after, steps_before}
+use Rattle.tap_safe_course.proofs.Each.{each_of_run}
 use Rattle.tap_cast_moves.specs.Moves.{IsNewCast}
 use Rattle.tap_cast_moves.specs.News.{news_of, news_of_frame}
 use Rattle.tap_cast_moves.specs.Recalled.{recalled, recalled_delivery, recalled_frame, recalled_start, runs_begun, runs_noted}
@@ -37,7 +38,6 @@ use Rattle.tap_cast_moves.proofs.Moves.{news_are_true}
 use Rattle.tap_cast_course.specs.Casts.{casts_of, recalled_by}
 use Rattle.tap_cast_course.specs.Told.{ClosedHasReachedAll, GroupsReachRight, IsReachedRight, IsToldOnce, ReachesRight, ReachesAtMostOnce, RestSaysClosed, RunIsToldOnce, is_closed, is_reached, says_closed, says_reached}
 use Rattle.tap_cast_course.proofs.Casts.{IsKept, fresh, grown_casts, rest_no_casts, runs_keep, start_casts}
-use Rattle.tap_cast_course.proofs.Each.{each_of_run}
 use Rattle.tap_cast_course.proofs.Plain.{closed_on, closes_by, group_tells, news_by, reached_on, reaches, reaches_by}
 use Rattle.tap_cast_course.proofs.Told.{closed_grows, one_if, reached_grows}
 

@@ -10,16 +10,16 @@ use Rattle.tap_history.specs.Core.{core_of}
 use Rattle.tap_rule.specs.Sent.{IsAmong}
 use Rattle.tap_course.specs.Beginning.{Beginning}
 use Rattle.tap_lawful.specs.Next.{beginning_in}
+use Rattle.tap_safe_course.specs.Headline.{OfLawfulLogs}
 use Rattle.tap_safe_course.specs.Moments.{AtEachMoment}
 use Rattle.tap_safe_course.specs.Safe.{IsRun}
 use Rattle.tap_safe_course.proofs.Lawful.{lawful_logs_are_safe}
 use Rattle.tap_safe_course.proofs.Safe.{run_at_moment, run_more}
-use Rattle.tap_pointer_course.specs.Paths.{OfLawfulLogs}
+use Rattle.tap_safe_course.proofs.Each.{StandsIn, each_of_run}
 use Rattle.tap_cast_course.specs.Begun.{IsBegunRight}
 use Rattle.tap_cast_course.specs.Casts.{casts_of}
 use Rattle.tap_cast_course.specs.ReachAll.{CastsReachAll, IsOfAudience, ReachesWhomItHasTo, ReachesWhomItMay}
 use Rattle.tap_cast_course.proofs.Begun.{begins_right}
-use Rattle.tap_cast_course.proofs.Each.{StandsIn, each_of_run}
 use Rattle.tap_cast_course.proofs.Once.{closed_has_reached_all, reaches_at_most_once, rest_says_closed, right_group}
 use Rattle.tap_cast_course.proofs.Said.{are_said, stays_to_end}
 

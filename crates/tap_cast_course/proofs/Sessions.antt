@@ -15,11 +15,11 @@ use Rattle.tap_safety.specs.System.{IsUnderWay, System}
 use Rattle.tap_course.specs.Beginning.{Beginning}
 use Rattle.tap_course.specs.Course.{system_of}
 use Rattle.tap_lawful.specs.Next.{beginning_in}
+use Rattle.tap_safe_course.specs.Headline.{OfLawfulLogs}
 use Rattle.tap_safe_course.specs.Moments.{AtEachMoment}
 use Rattle.tap_safe_course.specs.Safe.{IsRun}
 use Rattle.tap_safe_course.proofs.Lawful.{lawful_logs_are_safe}
 use Rattle.tap_safe_course.proofs.Safe.{run_at_moment, runs_are_sound}
-use Rattle.tap_pointer_course.specs.Paths.{OfLawfulLogs}
 use Rattle.tap_cast_moves.specs.Remembered.{CastMemory}
 use Rattle.tap_cast_moves.specs.Seen.{seen_node, seen_session}
 use Rattle.tap_cast_moves.specs.Sessions.{CastSessions}

@@ -1,4 +1,4 @@
-ghost use Rattle.tap_pointer_course.specs.Paths.{OfLawfulLogs};
+ghost use Rattle.tap_safe_course.specs.Headline.{OfLawfulLogs};
 ghost use Rattle.tap_safe_course.specs.Moments.{AtEachMoment};
 ghost use Rattle.tap_cast_course.specs.Begun.{CastsStayBegun, GroupsBeginRight};
 ghost use Rattle.tap_cast_course.specs.Casts.{RestHasNoCasts, RunCastsAreKept, RunCastsAreNumbered, RunCastsAreQuiet};

@@ -511,7 +511,7 @@ module _ (p : SettingsValue) (number : ℕ) (name : List ℕ) (acted : Acted) wh
       first_tells gone_name (news_before name acted.news) (sent_records p number acted.sent) (news_after acted.news) _
       (gone_before name acted.news) (sent_none gone_name (λ number bytes. refl) p number acted.sent) (gone_later acted.news)
 
-core_announced : (log : List Record) (step : Step) → filter_map core_name (announced log step) ≡ []
+pub core_announced : (log : List Record) (step : Step) → filter_map core_name (announced log step) ≡ []
 unfolding announced core_name
 core_announced log (Publish object server) = refl
 core_announced log (Withdraw object server) = refl
@@ -662,7 +662,7 @@ acted_accepted p number name acted frame frames sends =
     ∙ first_accepted p number name acted.news frame frames
 
 -- a join sends a frame
-join_accepted : (p : SettingsValue) (number : ℕ) (name via : List ℕ)
+pub join_accepted : (p : SettingsValue) (number : ℕ) (name via : List ℕ)
     → is_accepted (acted_records p number name (act (joiner p name) (Starts (Joins via)))) ≡ true
 unfolding by_receiver
 join_accepted p number name via =

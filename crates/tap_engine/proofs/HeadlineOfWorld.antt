@@ -10,6 +10,7 @@ use Rattle.tap_safe_course.proofs.Safe.{steps_before}
 use Rattle.tap_whole_course.specs.Headline.{HasHeadline}
 use Rattle.tap_whole_course.proofs.Ended.{may_cut, may_finish, may_refuse, may_spend}
 use Rattle.tap_whole_course.proofs.Headline.{ended_logs_have_headline}
+use Rattle.tap_engine.specs.Headline.{WorldHasHeadline}
 use Rattle.tap_engine.specs.Holders.{HoldersAreExactAtRest}
 use Rattle.tap_engine.specs.Kept.{AreKept, world_value}
 use Rattle.tap_engine.specs.World.{WorldValue}
@@ -27,7 +28,7 @@ module _ (w : WorldValue) (is : IsWorldLog w) (named : HaveNames w.beginning.set
         steps = steps_before w.beginning.settings is.course m.more (subst (HaveNames w.beginning.settings) m.is named);
       }
 
-  pub headline_of_world : HasHeadline w.beginning.settings w.log
+  pub headline_of_world : WorldHasHeadline w
   headline_of_world =
       let b = w.beginning in
       let course = is.course in
@@ -47,12 +48,12 @@ module _ (w : WorldValue) (is : IsWorldLog w) (named : HaveNames w.beginning.set
       w.stopped w.refused is.gone_to
 
 -- at rest it says who holds a link
-pub exact_holders : (w : WorldValue) → HasHeadline w.beginning.settings w.log → HoldersAreExactAtRest w.log
+pub exact_holders : (w : WorldValue) → WorldHasHeadline w → HoldersAreExactAtRest w.log
 exact_holders w headline = λ m moment rest holder target core_holder core. (headline.safe.rest m moment rest).left.holders holder target core
 
 -- so the log of an engine has it
 pub kept_headline : (engine : Engine) (refused : Option Refusal) (stopped : Bool) → AreKept engine refused stopped
-    → HasHeadline engine.settings engine.ledger.records
+    → WorldHasHeadline (world_value engine refused stopped)
 kept_headline engine refused stopped kept = headline_of_world (world_value engine refused stopped) kept.log kept.named
 
 -- and it says who holds a link at each rest

@@ -1,5 +1,6 @@
 pub mod Kinds
 pub mod World
+pub mod Headline
 pub mod Holders
 pub mod Outcome
 pub mod WorldLog

@@ -10,9 +10,13 @@ use Rattle.tap_lawful.specs.Next.{beginning_in, begun_count}
 use Rattle.tap_lawful.specs.Lawful.{IsLogOf}
 use Rattle.tap_whole_course.specs.Headline.{HasHeadline}
 
--- each log of a run has the headline: that of one which isn't over, or which ended early for want of memory, and that of one which is over
+-- The log has the headline, by the settings of the scenario: docs/PROOFS.md, "The headline, sentence by sentence".
+abbrev pub RunHasHeadline : ScenarioValue → List Record → Type 0
+RunHasHeadline s log = HasHeadline s.settings log
+
+-- each log of a run has it: that of one which isn't over, or which ended early for want of memory, and that of one which is over
 abbrev pub LogsHaveHeadline : Type 0
-LogsHaveHeadline = (s : ScenarioValue) (log : List Record) → IsScript s → IsLogOf s log → HasHeadline s.settings log
+LogsHaveHeadline = (s : ScenarioValue) (log : List Record) → IsScript s → IsLogOf s log → RunHasHeadline s log
 
 -- the log begins as the scenario does, and its steps are the scenario's first ones
 pub record FollowsScript (s : ScenarioValue) (log : List Record) : Type 0 where

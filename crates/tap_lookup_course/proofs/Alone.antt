@@ -12,7 +12,7 @@ use Rattle.tap_log.specs.declared.record.Record.TheVariants.{Answered, Asked, St
 use Rattle.tap_history.specs.Groups.{is_ended}
 use Rattle.tap_history.specs.Moments.{is_rest}
 use Rattle.tap_history.specs.Published.{has_pair, published_of}
-use Rattle.tap_history.specs.Steps.{actor_of, is_start}
+use Rattle.tap_history.specs.Steps.{actor_of}
 use Rattle.tap_rule.specs.Event.{Start}
 use Rattle.tap_rule.specs.Event.Event.{Starts}
 use Rattle.tap_rule.specs.Event.Start.{Find as Finds}
@@ -31,23 +31,25 @@ use Rattle.tap_course.proofs.Nodes.{name_at, start_in}
 use Rattle.tap_course.proofs.Within.{is_accepted}
 use Rattle.tap_invariant.specs.Sound.{Sound}
 use Rattle.tap_lawful.specs.Next.{beginning_in}
+use Rattle.tap_safe_course.specs.Headline.{OfLawfulLogs}
 use Rattle.tap_safe_course.specs.Moments.{AtEachMoment}
 use Rattle.tap_safe_course.specs.Safe.{IsRun}
+use Rattle.tap_safe_course.specs.Starts.{AcceptNoStart, IsAskedAtRest}
+use Rattle.tap_safe_course.proofs.GroupKinds.{IsIdleGroup, IsKnownGroup, IsStartGroup, IsTakenGroup, run_kind, run_moves}
 use Rattle.tap_safe_course.proofs.Lawful.{lawful_logs_are_safe}
 use Rattle.tap_safe_course.proofs.Safe.{run_at_moment, runs_are_sound, steps_after, steps_before}
+use Rattle.tap_safe_course.proofs.Splits.{all_at, no_step_among, none_in_first, none_in_second, parted_where, start_accepted}
+use Rattle.tap_safe_course.proofs.Starting.{start_group_accepts, starting_accepted, starts_is_start}
 use Rattle.tap_pointer_moves.specs.Publications.{is_served, publishes_in}
 use Rattle.tap_pointer_moves.specs.Told.{PointersStand}
-use Rattle.tap_pointer_course.specs.Paths.{OfLawfulLogs}
 use Rattle.tap_pointer_course.proofs.Runs.{run_grown, run_rests, served_is}
 use Rattle.tap_lookup_moves.specs.Alone.{GoesAlone, IsExact}
 use Rattle.tap_lookup_moves.proofs.Alone.{lookup_begins_alone, lookup_goes_on_alone}
-use Rattle.tap_lookup_course.specs.Alone.{AcceptNoStart, IsAskedAtRest, IsExactIn, LookupsAloneAreExact}
+use Rattle.tap_lookup_course.specs.Alone.{IsExactIn, LookupsAloneAreExact}
 use Rattle.tap_lookup_course.proofs.Growing.{act_all, receive_all}
-use Rattle.tap_lookup_course.proofs.GroupKinds.{IsIdleGroup, IsKnownGroup, IsStartGroup, IsTakenGroup, run_kind, run_moves}
 use Rattle.tap_lookup_course.proofs.Runs.{run_looked}
-use Rattle.tap_lookup_course.proofs.Splits.{all_at, no_step_among, none_in_first, none_in_second, parted_where, start_accepted}
-use Rattle.tap_lookup_course.proofs.Starting.{starting_begins, starts_is_start}
-use Rattle.tap_lookup_course.proofs.Unanswered.{IsUnanswered}
+use Rattle.tap_lookup_course.proofs.Starting.{starting_unanswered}
+use Rattle.tap_lookup_course.proofs.Unanswered.{IsUnanswered, idle_unanswered}
 
 -- ---- what is so since a lookup was asked for at rest
 
@@ -115,16 +117,7 @@ module _ (b : Beginning) (log group : List Record) (run : IsRun b log) (follows 
     -- a start that is accepted is among what follows
     not_started : (start : IsStartGroup b.settings log (system_of log) group) → (first : List Record) → AcceptNoStart (first ++ group) → ⊥
     not_started start first none =
-        let begins = starting_begins b.settings log (system_of log) start.step start.items start.starting start.may in
-        let starts = starts_is_start log start.step (start.starting.name, start.starting.start) start.starting.at in
-        let mine : AcceptNoStart (StepRecord start.index start.step ∷ start.items) =
-        subst AcceptNoStart start.is (none_in_second first group none) in
-        by_items start.items begins.0 starts mine
-      where
-        by_items : (items : List Record) → is_accepted items ≡ true → is_start start.step ≡ true
-            → AcceptNoStart (StepRecord start.index start.step ∷ items) → ⊥
-        by_items [] accepted starts mine = let wrong : false ≡ true = accepted in cc
-        by_items (next ∷ items) accepted starts mine = start_accepted start.index start.step next items starts accepted mine
+        start_group_accepts b.settings log (system_of log) group start (none_in_second first group none)
 
     goes_by : AcceptNoStart (after ++ group) → Goes (system_of (log ++ group))
     goes_by none =
@@ -155,7 +148,8 @@ module _ (b : Beginning) (log group : List Record) (run : IsRun b log) (follows 
     idle_exact idle =
         let Holds = AnswerExact (system_of before) ticket object in
         let items : All Holds idle.items =
-        All-weaker IsUnanswered Holds (λ item none. free_exact (system_of before) ticket object item none) idle.items idle.none in
+        All-weaker IsUnanswered Holds (λ item none. free_exact (system_of before) ticket object item none) idle.items
+        (idle_unanswered b.settings log (system_of log) group idle follows.may) in
         subst (All Holds) (sym idle.is) (All-cons Holds (StepRecord idle.index idle.step) idle.items tt items)
 
     -- in the group of a start no answer comes before the start is accepted
@@ -163,20 +157,18 @@ module _ (b : Beginning) (log group : List Record) (run : IsRun b log) (follows 
         (server : Option (List ℕ)) (later : List Record) → group ≡ middle ++ Answered answered server ∷ later → AcceptNoStart middle → ⊥
     start_first start middle answered server later is none = by_middle middle (sym start.is ∙ is) none
       where
-        begins : (is_accepted start.items ≡ true)
-            × ((ticket : ℕ) (server : Option (List ℕ)) (rest : List Record) → start.items ≡ Answered ticket server ∷ rest → ⊥)
-        begins = starting_begins b.settings log (system_of log) start.step start.items start.starting start.may
-
         by_middle : (middle : List Record)
             → StepRecord start.index start.step ∷ start.items ≡ middle ++ Answered answered server ∷ later → AcceptNoStart middle → ⊥
         by_middle [] is none =
             let wrong : StepRecord start.index start.step ≡ Answered answered server = cc in cc
         by_middle (m ∷ []) is none =
-            let items : start.items ≡ Answered answered server ∷ later = cc in begins.1 answered server later items
+            let items : start.items ≡ Answered answered server ∷ later = cc in
+            starting_unanswered b.settings log (system_of log) start.step start.items start.starting answered server later items
         by_middle (m ∷ next ∷ middle) is none =
             let first : m ≡ StepRecord start.index start.step = cc in
             let items : start.items ≡ next ∷ (middle ++ Answered answered server ∷ later) = cc in
-            let accepted : is_accepted (next ∷ middle) ≡ true = sym (ap is_accepted items) ∙ begins.0 in
+            let accepted : is_accepted (next ∷ middle) ≡ true = sym (ap is_accepted items)
+            ∙ starting_accepted b.settings log (system_of log) start.step start.items start.starting start.may in
             let starts = starts_is_start log start.step (start.starting.name, start.starting.start) start.starting.at in
             start_accepted start.index start.step next middle starts accepted
             (subst (λ r. AcceptNoStart (r ∷ next ∷ middle)) first none)

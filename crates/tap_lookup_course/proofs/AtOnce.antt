@@ -21,6 +21,7 @@ use Rattle.tap_course.proofs.Within.{IsWhole}
 use Rattle.tap_invariant.specs.Sound.{Sound}
 use Rattle.tap_safe_course.specs.Safe.{IsRun}
 use Rattle.tap_safe_course.proofs.Safe.{run_more, runs_are_sound}
+use Rattle.tap_safe_course.proofs.GroupKinds.{IsStartGroup, run_moves}
 use Rattle.tap_pointer_moves.specs.Publications.{is_served}
 use Rattle.tap_pointer_moves.proofs.Publications.{start_serves}
 use Rattle.tap_pointer_course.proofs.Growing.{Grown}
@@ -33,7 +34,6 @@ use Rattle.tap_lookup_course.specs.Answers.{was_asked}
 use Rattle.tap_lookup_course.specs.NoServer.{EndsAsAsked}
 use Rattle.tap_lookup_course.proofs.Failing.{HasFailed}
 use Rattle.tap_lookup_course.proofs.Growing.{asked_grows}
-use Rattle.tap_lookup_course.proofs.GroupKinds.{IsStartGroup, run_moves}
 use Rattle.tap_lookup_course.proofs.Moments.{IsClear, disturbed_by, end_moment, ends_now, now_disturbed}
 use Rattle.tap_lookup_course.proofs.Runs.{asked_first, find_step, finds_asked}
 

@@ -20,7 +20,7 @@ use Rattle.tap_lookup_course.specs.Answers.{was_asked}
 use Rattle.tap_lookup_course.specs.NoServer.{AnsweredNoneWereDisturbed, IsBusy, IsDisturbed, LookupsEndWithoutServer, WasDisturbed}
 use Rattle.tap_lookup_course.proofs.Growing.{asked_grows}
 use Rattle.tap_lookup_course.proofs.Moments.{ends_longer}
-use Rattle.tap_lookup_course.proofs.Splits.{all_at, parted_where}
+use Rattle.tap_safe_course.proofs.Splits.{all_at, parted_where}
 use Rattle.tap_lookup_course.proofs.Unanswered.{IsUnanswered}
 
 module _ (p : SettingsValue) (log ending : List Record) (uncarried : is_carried log ≡ false) (still : is_carried (log ++ ending) ≡ false)

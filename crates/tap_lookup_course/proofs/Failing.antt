@@ -20,6 +20,7 @@ use Rattle.tap_course.proofs.Within.{IsWhole}
 use Rattle.tap_invariant.specs.Sound.{Sound}
 use Rattle.tap_safe_course.specs.Safe.{IsRun}
 use Rattle.tap_safe_course.proofs.Safe.{run_more, runs_are_sound}
+use Rattle.tap_safe_course.proofs.GroupKinds.{IsKnownGroup, IsTakenGroup, run_kind, run_moves}
 use Rattle.tap_pointer_course.proofs.Growing.{Grown}
 use Rattle.tap_pointer_course.proofs.Runs.{run_grown, served_is}
 use Rattle.tap_lookup_moves.specs.Alone.{IsOnWalk}
@@ -30,7 +31,6 @@ use Rattle.tap_lookup_moves.proofs.NoServer.{ends_of_walks_are_exact, finds_stay
 use Rattle.tap_lookup_course.specs.Answers.{was_asked}
 use Rattle.tap_lookup_course.specs.NoServer.{HasEndedBy, WasDisturbed}
 use Rattle.tap_lookup_course.proofs.Growing.{asked_grows}
-use Rattle.tap_lookup_course.proofs.GroupKinds.{IsKnownGroup, IsTakenGroup, run_kind, run_moves}
 use Rattle.tap_lookup_course.proofs.Moments.{HasBeenDisturbed, disturbed_by, disturbed_still, end_moment, ended_later, ended_still, answered_still, ends_now, now_disturbed}
 use Rattle.tap_lookup_course.proofs.Runs.{Looked, run_looked}
 use Rattle.tap_lookup_course.proofs.Unanswered.{IsUnanswered}

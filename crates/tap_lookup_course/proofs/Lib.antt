@@ -1,9 +1,7 @@
 pub mod Unanswered
 pub mod Growing
 pub mod Runs
-pub mod Splits
 pub mod Starting
-pub mod GroupKinds
 pub mod Alone
 pub mod Moments
 pub mod Tickets

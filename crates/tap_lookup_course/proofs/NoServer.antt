@@ -20,11 +20,13 @@ use Rattle.tap_course.specs.Starts.{announced}
 use Rattle.tap_course.proofs.Growing.{by_groups, start_system, whole}
 use Rattle.tap_course.proofs.Within.{IsWhole}
 use Rattle.tap_lawful.specs.Next.{beginning_in}
+use Rattle.tap_safe_course.specs.Headline.{OfLawfulLogs}
 use Rattle.tap_safe_course.specs.Moments.{AtEachMoment}
 use Rattle.tap_safe_course.specs.Safe.{IsRun}
 use Rattle.tap_safe_course.proofs.Lawful.{lawful_logs_are_safe}
 use Rattle.tap_safe_course.proofs.Safe.{run_at_moment, runs_are_sound, steps_after, steps_before}
-use Rattle.tap_pointer_course.specs.Paths.{OfLawfulLogs}
+use Rattle.tap_safe_course.proofs.GroupKinds.{IsKnownGroup, IsStartGroup, IsTakenGroup, run_kind}
+use Rattle.tap_safe_course.proofs.Splits.{all_at, parted_where}
 use Rattle.tap_lookup_moves.specs.Answers.{news_of, news_of_frame}
 use Rattle.tap_lookup_moves.proofs.Answers.{noted_delivery, noted_start}
 use Rattle.tap_lookup_course.specs.Answers.{was_asked}
@@ -32,11 +34,9 @@ use Rattle.tap_lookup_course.specs.NoServer.{AnsweredNoneWereDisturbed, HasEnded
 use Rattle.tap_lookup_course.proofs.AtOnce.{start_failed}
 use Rattle.tap_lookup_course.proofs.Failing.{HasFailed, IsNoted, Watched, answer_watched, failed_still, fails_by, find_watched, free_noted}
 use Rattle.tap_lookup_course.proofs.Growing.{act_all, asked_grows, receive_all}
-use Rattle.tap_lookup_course.proofs.GroupKinds.{IsKnownGroup, IsStartGroup, IsTakenGroup, run_kind}
 use Rattle.tap_lookup_course.proofs.Moments.{end_moment}
-use Rattle.tap_lookup_course.proofs.Splits.{all_at, parted_where}
 use Rattle.tap_lookup_course.proofs.Tickets.{asked_once}
-use Rattle.tap_lookup_course.proofs.Unanswered.{IsUnanswered, announced_unanswered}
+use Rattle.tap_lookup_course.proofs.Unanswered.{IsUnanswered, announced_unanswered, idle_unanswered}
 
 module _ (b : Beginning) (log group : List Record) (run : IsRun b log) (follows : Follows b log group)
     (names : HaveNames b.settings group) (watched : Watched b.settings log (system_of log)) where
@@ -82,7 +82,8 @@ module _ (b : Beginning) (log group : List Record) (run : IsRun b log) (follows 
       elim kind [
         | inl idle ↦
             let items : All IsUnanswered group =
-            subst (All IsUnanswered) (sym idle.is) (All-cons IsUnanswered (StepRecord idle.index idle.step) idle.items tt idle.none) in
+            subst (All IsUnanswered) (sym idle.is) (All-cons IsUnanswered (StepRecord idle.index idle.step) idle.items tt
+            (idle_unanswered b.settings log (system_of log) group idle follows.may)) in
             absurd (all_at IsUnanswered group middle (Answered ticket None) rest items is)
         | inr (inl start) ↦
             let st = start.starting in

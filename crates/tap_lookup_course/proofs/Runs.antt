@@ -32,6 +32,7 @@ use Rattle.tap_course.proofs.Nodes.{name_at, start_in}
 use Rattle.tap_course.proofs.Within.{IsStarting, step_kind}
 use Rattle.tap_invariant.specs.Sound.{Sound}
 use Rattle.tap_lawful.specs.Next.{beginning_in}
+use Rattle.tap_safe_course.specs.Headline.{OfLawfulLogs}
 use Rattle.tap_safe_course.specs.Moments.{AtEachMoment}
 use Rattle.tap_safe_course.specs.Safe.{IsRun}
 use Rattle.tap_safe_course.proofs.Lawful.{lawful_logs_are_safe}
@@ -39,7 +40,7 @@ use Rattle.tap_safe_course.proofs.Possible.{group_may_move}
 use Rattle.tap_safe_course.proofs.Safe.{run_at_moment, runs_are_sound, steps_after, steps_before}
 use Rattle.tap_pointer_moves.specs.Ever.{AreOfPublished}
 use Rattle.tap_pointer_moves.specs.Told.{PointersStand}
-use Rattle.tap_pointer_course.specs.Paths.{OfLawfulLogs, was_published}
+use Rattle.tap_pointer_course.specs.Paths.{was_published}
 use Rattle.tap_pointer_course.proofs.Growing.{ever_grows}
 use Rattle.tap_pointer_course.proofs.Runs.{idle_starts_none, run_grown}
 use Rattle.tap_lookup_moves.specs.Answers.{IsAskedFor, LookupsAreOf}

@@ -15,7 +15,7 @@ use Rattle.tap_log.specs.Laws.{at_most_one}
 use Rattle.tap_log.specs.declared.record.LinkLine.{LinkLine}
 use Rattle.tap_log.specs.declared.record.NodeWord.{NodeWord}
 use Rattle.tap_log.specs.declared.record.Record.{Record}
-use Rattle.tap_log.specs.declared.record.Record.TheVariants.{Answered, Refused, RootOf, TableOf, Walked}
+use Rattle.tap_log.specs.declared.record.Record.TheVariants.{Answered, Refused, RootOf, Step as StepRecord, TableOf, Walked}
 use Rattle.tap_log.specs.declared.record.Refusal.{Refusal}
 use Rattle.tap_history.specs.Core.{core_of}
 use Rattle.tap_history.specs.Refusals.{first_refusal}
@@ -23,10 +23,12 @@ use Rattle.tap_rule.specs.Event.{Start}
 use Rattle.tap_rule.specs.Node.{NodeState}
 use Rattle.tap_safety.specs.System.{System}
 use Rattle.tap_course.specs.Starts.{announced}
-use Rattle.tap_course.specs.Course.{FollowStep, IsRefused, is_choice}
+use Rattle.tap_course.specs.Course.{FollowStep, IsRefused, MayFollow, is_choice}
 use Rattle.tap_course.specs.Damage.{copied_number, fault_of_copy, garbled}
 use Rattle.tap_course.specs.Group.{accepted_records, records_unless, start_at, started_records}
 use Rattle.tap_course.specs.Observed.{link_line, nodes_of, observed, pointers_record, table_record, word_of_status}
+use Rattle.tap_safe_course.proofs.GroupKinds.{IsIdleGroup}
+use Rattle.tap_pointer_course.proofs.Runs.{idle_starts_none}
 use Rattle.tap_pointer_course.proofs.Unpaired.{StartsSome}
 
 -- a record answers no lookup
@@ -125,3 +127,15 @@ module _ (p : SettingsValue) (log : List Record) (s : System) (index : ℕ) (ste
       → All IsUnanswered items ⊎ StartsSome log step
   follow_unanswered true choice follow = inl (choice_unanswered follow)
   follow_unanswered false choice follow = unless_unanswered (first_refusal log step) refl follow
+
+-- ---- the group of a step that moves nothing
+
+pub idle_unanswered : (p : SettingsValue) (log : List Record) (s : System) (group : List Record) → (idle : IsIdleGroup p log s group)
+    → MayFollow p log s group → All IsUnanswered idle.items
+unfolding MayFollow
+idle_unanswered p log s group idle may =
+    let follow : MayFollow p log s (StepRecord idle.index idle.step ∷ idle.items) = subst (MayFollow p log s) idle.is may in
+    elim (follow_unanswered p log s idle.index idle.step idle.items (is_choice idle.step) refl follow) [
+      | inl none ↦ none
+      | inr starts ↦ absurd (idle_starts_none log idle.step idle.items idle.idle starts)
+    ]

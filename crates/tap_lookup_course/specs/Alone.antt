@@ -1,31 +1,18 @@
 -- A lookup that is made alone, in the words of the log of a run.
 --
 -- Rule: docs/FORMATS.md, "The course of a run".
-use Rattle.std.specs.Prelude.{◌≡◌, false, true, ℕ, List, [], ◌∷◌, ◌++◌, filter, Option, None, Some}
+use Rattle.std.specs.Prelude.{◌≡◌, ℕ, List, ◌∷◌, ◌++◌, Option, None, Some}
 use Rattle.tap_name.specs.Settings.{SettingsValue}
 use Rattle.tap_pointer.specs.Pointers.{pair_of}
-use Rattle.tap_scenario.specs.declared.step.Step.TheVariants.{Find}
 use Rattle.tap_log.specs.declared.record.Record.{Record}
-use Rattle.tap_log.specs.declared.record.Record.TheVariants.{Answered, Asked, Step as StepRecord}
-use Rattle.tap_history.specs.Core.{accepted_in}
-use Rattle.tap_history.specs.Moments.{is_rest}
-use Rattle.tap_history.specs.Steps.{is_start}
+use Rattle.tap_log.specs.declared.record.Record.TheVariants.{Answered}
+use Rattle.tap_safe_course.specs.Starts.{AcceptNoStart, IsAskedAtRest}
 use Rattle.tap_pointer_course.specs.Paths.{IsPublishedIn}
 
 -- The answer is exact by the log: it names the server of a pair of the object that is published, and none only if no such pair is.
 abbrev pub IsExactIn : List Record → List ℕ → Option (List ℕ) → Type 0
 IsExactIn log object (Some server) = IsPublishedIn log (pair_of object server)
 IsExactIn log object None = (server : List ℕ) → IsPublishedIn log (pair_of object server) → ⊥
-
--- none of the steps that these records accept is a start
-abbrev pub AcceptNoStart : List Record → Type 0
-AcceptNoStart items = filter is_start (accepted_in false items) ≡ []
-
--- the log has come to a rest, then a lookup is accepted, and then come these records
-pub record IsAskedAtRest (log before : List Record) (ticket : ℕ) (object asker : List ℕ) (after : List Record) : Type 0 where
-  pub index : ℕ
-  pub is : log ≡ before ++ StepRecord index (Find object asker) ∷ Asked ticket object asker ∷ after
-  pub rest : is_rest before ≡ true
 
 -- A lookup made alone is exact: if it is accepted at a rest, and no other start between then and an answer, that answer is the lookup's own, and
 -- exact by what the log had as published at that rest.

@@ -1,4 +1,4 @@
-ghost use Rattle.tap_pointer_course.specs.Paths.{OfLawfulLogs};
+ghost use Rattle.tap_safe_course.specs.Headline.{OfLawfulLogs};
 ghost use Rattle.tap_safe_course.specs.Moments.{AtEachMoment};
 ghost use Rattle.tap_lookup_course.specs.Alone.{LookupsAloneAreExact};
 ghost use Rattle.tap_lookup_course.specs.Answers.{AnswersWerePublished, LookupsGoToCoreIn};

@@ -9,15 +9,12 @@ use Rattle.std.proofs.lemmas.List.Folds.{list_any-append}
 use Rattle.std.proofs.lemmas.Slice.Eq.{bytes_eq-Decides}
 use Rattle.tap_name.specs.Names.{has_name}
 use Rattle.tap_name.specs.Settings.{SettingsValue}
-use Rattle.tap_table.specs.Ties.{holders_on}
-use Rattle.tap_depart.specs.Leaving.{notice_for, started_leaving}
 use Rattle.tap_pointer.specs.declared.pair.Pair.{Pair}
 use Rattle.tap_pointer.specs.Pointers.{pair_of}
 use Rattle.tap_scenario.specs.declared.step.Step.{Step}
 use Rattle.tap_scenario.specs.declared.step.Step.TheVariants.{Abandon, Cast, Depart, Find, Join, Publish, Withdraw}
-use Rattle.tap_wire.specs.declared.frame.Body.TheVariants.{Leave as LeaveBody}
 use Rattle.tap_log.specs.Counts.{sent_count}
-use Rattle.tap_log.specs.Kinds.{accepts, begins_group, is_carried, published_pair, withdrawn_pair}
+use Rattle.tap_log.specs.Kinds.{is_carried, published_pair, withdrawn_pair}
 use Rattle.tap_log.specs.declared.record.Pair as logged
 use Rattle.tap_log.specs.declared.record.Record.{Record}
 use Rattle.tap_log.specs.declared.record.Record.TheVariants.{Published, Step as StepRecord, Taken, Withdrawn}
@@ -26,27 +23,23 @@ use Rattle.tap_history.specs.GroupLaws.{IsGroup}
 use Rattle.tap_history.specs.Published.{has_pair, published_of, same_pair, unwithdrawn_pair, unwithdrawn_pairs}
 use Rattle.tap_history.specs.Steps.{actor_of, depart_name}
 use Rattle.tap_rule.specs.Act.{act}
-use Rattle.tap_rule.specs.Event.{Acted, Start}
+use Rattle.tap_rule.specs.Event.{Start}
 use Rattle.tap_rule.specs.Event.Event.{Starts}
-use Rattle.tap_rule.specs.Event.News.{Gone as IsGone}
 use Rattle.tap_rule.specs.Event.Start.{Abandon as GivesUp, Join as Joins, Leave as Leaves, Publish as Publishes, Withdraw as Withdraws}
 use Rattle.tap_rule.specs.Node.{NodeState}
 use Rattle.tap_rule.specs.Node.Status.{Core}
-use Rattle.tap_rule.specs.Reaction.{message}
-use Rattle.tap_rule.specs.Sent.{IsAmong}
-use Rattle.tap_rule.proofs.Among.{among-map}
-use Rattle.tap_rule.proofs.StartSteps.{leave_start_law}
 use Rattle.tap_safety.specs.Move.{may_move, may_start}
 use Rattle.tap_safety.specs.Move.Move.{Begins, Delivers}
 use Rattle.tap_safety.specs.Moved.{moved, starter}
 use Rattle.tap_safety.specs.System.{System}
-use Rattle.tap_course.specs.Acts.{acted_records, news_after, news_before, sent_records}
+use Rattle.tap_course.specs.Acts.{acted_records}
 use Rattle.tap_course.specs.Group.{records_of_act, start_at}
 use Rattle.tap_course.specs.Observed.{pair_line}
 use Rattle.tap_course.specs.Starts.{announced, start_of_step}
-use Rattle.tap_course.proofs.Nodes.{HasNoStep, acted_accepted, name_at, named_in_group, no_steps, none_accepted, none_named, start_in, step_begins, taken_begins, taken_no_step}
+use Rattle.tap_course.proofs.Nodes.{HasNoStep, name_at, named_in_group, no_steps, none_accepted, none_named, start_in, step_begins, taken_begins, taken_no_step}
 use Rattle.tap_course.proofs.Within.{IsIdle, IsStarting, Within, is_accepted, is_group}
 use Rattle.tap_invariant.specs.Sound.{Sound}
+use Rattle.tap_safe_course.proofs.Starting.{leave_accepted}
 use Rattle.tap_pointer_moves.specs.Ever.{AreOfPublished}
 use Rattle.tap_pointer_moves.specs.Publications.{IsLeaver, has_left, is_pair, is_served, served_after}
 use Rattle.tap_pointer_moves.specs.Told.{PointersStand}
@@ -284,37 +277,6 @@ taken_says : (number : ℕ) (rest : List Record) → All IsUnpaired rest
     → (filter_map withdrawn_pair (Taken number ∷ rest) ≡ []) × (unwithdrawn_pairs (Taken number ∷ rest) ≡ [])
 unfolding published_pair withdrawn_pair
 taken_says number rest none = (none_withdrawn rest none, none_published rest none)
-
--- ---- a departure is accepted
-
-some_first : {A : Type 0} (x : A) (xs : List A) → IsAmong x xs → (y : A) × (ys : List A) × (xs ≡ y ∷ ys)
-some_first x [] among = absurd among
-some_first x (y ∷ ys) among = (y, ys, refl)
-
-gone_accepted : (p : SettingsValue) (number : ℕ) (name : List ℕ) (acted : Acted) → acted.news ≡ IsGone
-    → is_accepted (acted_records p number name acted) ≡ true
-unfolding news_before accepts begins_group
-gone_accepted p number name acted gone =
-    ap (λ news. is_accepted (news_before name news ++ (sent_records p number acted.sent ++ news_after news))) gone
-
-pub leave_accepted : (p : SettingsValue) (number : ℕ) (name : List ℕ) (node : NodeState) → node.status ≡ Core
-    → is_accepted (acted_records p number name (act node (Starts Leaves))) ≡ true
-leave_accepted p number name node core = by_holders (holders_on node.ties) refl
-  where
-    by_holders : (holders : List (List ℕ)) → holders_on node.ties ≡ holders
-        → is_accepted (acted_records p number name (act node (Starts Leaves))) ≡ true
-    by_holders [] none =
-        gone_accepted p number name (act node (Starts Leaves)) ((leave_start_law node core).finishes (ap length none)).news
-    by_holders (h ∷ hs) some =
-        let first : IsAmong h (holders_on node.ties) = subst (IsAmong h) (sym some) (inl refl) in
-        let notice = among-map (notice_for node.ties.table) h (holders_on node.ties) first in
-        let said = among-map (λ n. message n.to (LeaveBody n.replacement)) (notice_for node.ties.table h)
-        (started_leaving node.ties).notices notice in
-        let waits = (leave_start_law node core).waits (λ none.
-        let more : length (h ∷ hs) ≡ 0 = ap length (sym some) ∙ none in omega (arith, more)) in
-        let sent = waits.4.named (message h (LeaveBody (notice_for node.ties.table h).replacement)) said in
-        let list = some_first _ (act node (Starts Leaves)).sent sent in
-        acted_accepted p number name (act node (Starts Leaves)) list.0 list.1 list.2
 
 -- ---- one more group
 

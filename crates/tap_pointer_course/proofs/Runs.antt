@@ -34,6 +34,7 @@ use Rattle.tap_course.proofs.Within.{IsIdle, step_kind, step_within, taken_withi
 use Rattle.tap_invariant.specs.Sound.{Sound}
 use Rattle.tap_invariant.proofs.Members.{node_is_member}
 use Rattle.tap_lawful.specs.Next.{beginning_in}
+use Rattle.tap_safe_course.specs.Headline.{OfLawfulLogs}
 use Rattle.tap_safe_course.specs.Moments.{AtEachMoment}
 use Rattle.tap_safe_course.specs.Safe.{IsRun}
 use Rattle.tap_safe_course.proofs.Lawful.{lawful_logs_are_safe}
@@ -45,7 +46,7 @@ use Rattle.tap_pointer_moves.proofs.Ever.{ever_at_rest}
 use Rattle.tap_pointer_moves.proofs.Moves.{pointers_at_rest}
 use Rattle.tap_pointer_moves.proofs.Paths.{pointers_on_paths}
 use Rattle.tap_pointer_moves.proofs.Rules.{nothing_published}
-use Rattle.tap_pointer_course.specs.Paths.{KnownWerePublished, OfLawfulLogs, PointersOnTheirPaths, PointersStandIn, PublishedAreServed, was_published}
+use Rattle.tap_pointer_course.specs.Paths.{KnownWerePublished, PointersOnTheirPaths, PointersStandIn, PublishedAreServed, was_published}
 use Rattle.tap_pointer_course.proofs.Growing.{Grown, idle_grown, starting_grown, taken_grown}
 use Rattle.tap_pointer_course.proofs.Unpaired.{IsUnpaired, StartsSome, act_unpaired, follow_unpaired}
 

@@ -6,7 +6,6 @@ use Rattle.std.specs.List.{filter_map}
 use Rattle.tap_name.specs.Names.{Among}
 use Rattle.tap_name.specs.Settings.{SettingsValue}
 use Rattle.tap_pointer.specs.declared.pair.Pair.{Pair}
-use Rattle.tap_scenario.specs.Scenario.{IsScript, ScenarioValue}
 use Rattle.tap_log.specs.Kinds.{published_pair}
 use Rattle.tap_log.specs.declared.record.Record.{Record}
 use Rattle.tap_history.specs.Moments.{is_rest}
@@ -14,8 +13,6 @@ use Rattle.tap_history.specs.Published.{has_pair, published_of}
 use Rattle.tap_surrogate.specs.Walk.{walk}
 use Rattle.tap_course.specs.Course.{system_of}
 use Rattle.tap_course.specs.Observed.{pair_line}
-use Rattle.tap_lawful.specs.Lawful.{IsPlayed}
-use Rattle.tap_safe_course.specs.Headline.{AtMomentsOf}
 use Rattle.tap_safe_course.specs.Moments.{tables_of}
 use Rattle.tap_pointer_moves.specs.Ever.{AreOfPublished}
 use Rattle.tap_pointer_moves.specs.Paths.{HoldsPair}
@@ -46,7 +43,3 @@ KnownWerePublished p log = AreOfPublished (was_published log) (system_of log)
 abbrev pub PointersOnTheirPaths : SettingsValue → List Record → Type 0
 PointersOnTheirPaths p log = is_rest log ≡ true → (x : List ℕ) (pair : Pair) → HoldsPair (system_of log) x pair
     ↔ (IsPublishedIn log pair × Among x (walk p.base (tables_of log) pair.server pair.object))
-
--- this holds of the log of each run of a scenario that isn't over, up to each of its moments
-abbrev pub OfLawfulLogs : (SettingsValue → List Record → Type 0) → Type 0
-OfLawfulLogs Holds = (s : ScenarioValue) (log : List Record) → IsScript s → IsPlayed s log → AtMomentsOf log (Holds s.settings)

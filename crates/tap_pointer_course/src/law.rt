@@ -1,5 +1,6 @@
+ghost use Rattle.tap_safe_course.specs.Headline.{OfLawfulLogs};
 ghost use Rattle.tap_safe_course.specs.Moments.{AtEachMoment};
-ghost use Rattle.tap_pointer_course.specs.Paths.{KnownWerePublished, OfLawfulLogs, PointersOnTheirPaths, PointersStandIn, PublishedAreServed};
+ghost use Rattle.tap_pointer_course.specs.Paths.{KnownWerePublished, PointersOnTheirPaths, PointersStandIn, PublishedAreServed};
 
 /// At each moment of a run pointers stand in its system: where a node has laid a pair, the last Lay that it has sent there says so, on its way
 /// or in a register, and where it has laid none the last Lay is off.

@@ -2,7 +2,7 @@
 use Rattle.std.proofs.Common.{inl, refl, Option, None, Some}
 use Rattle.tap_scenario.specs.Scenario.{IsScript, ScenarioValue}
 use Rattle.tap_lawful.specs.Lawful.{IsLogOf}
-use Rattle.tap_whole_course.specs.Headline.{HasHeadline}
+use Rattle.tap_headline.specs.Headline.{RunHasHeadline}
 use Rattle.tap_headline.proofs.Headline.{logs_have_headline}
 use Rattle.tap_replay.specs.Player.{GoesOnUnless}
 use Rattle.tap_replay.specs.declared.end.End.{End}
@@ -15,5 +15,5 @@ run_log s None run of = record { played = run.world.log; is_played = of.goes_on.
 run_log s (Some end) run left = ended_log s end run.world.log left.ended
 
 pub run_has_headline : (s : ScenarioValue) (over : Option End) (run : Run) → IsScript s → GoesOnUnless over s run
-    → HasHeadline s.settings run.world.log
+    → RunHasHeadline s run.world.log
 run_has_headline s over run valid of = logs_have_headline s run.world.log valid (run_log s over run of)

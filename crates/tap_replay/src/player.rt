@@ -2,7 +2,7 @@ ghost use Rattle.std.specs.Prelude.{◌≡◌, ◌<◌, IfOk};
 ghost use Rattle.tap_lawful.specs.Laws.{left_of};
 ghost use Rattle.tap_lawful.specs.Next.{beginning_in};
 ghost use Rattle.tap_replay.specs.Player.{HasPlayed, MayTurn, Turns, over_by};
-ghost use Rattle.tap_whole_course.specs.Headline.{HasHeadline};
+ghost use Rattle.tap_headline.specs.Headline.{RunHasHeadline};
 ghost use Rattle.tap_scenario.specs.Scenario.{EachStepIsPlayed};
 
 use crate::choice::Choice;
@@ -48,6 +48,7 @@ impl Player {
         ensures over { IfOk result (λ player. player.over ≡ None) }
         ensures played { IfOk result (HasPlayed scenario.now) }
         ensures may { IfOk result (λ player. MayTurn scenario.now player.world.log) }
+        ensures headline { IfOk result (λ player. RunHasHeadline scenario.now player.world.log) }
     {
         let world = World::new(
             alloc,
@@ -82,7 +83,7 @@ impl Player {
 
         // At each moment of the log there is a core node, no table has a hole, each walk leads to the one root, and at rest each node that
         // is present is core; and what is said of pointers, lookups, casts, sessions, watch lists and the frames of joins holds.
-        ensures headline { HasHeadline scenario.now.settings self.new.world.log }
+        ensures headline { RunHasHeadline scenario.now self.new.world.log }
 
         // So a caller that takes one turn after the other comes to an end.
         ensures less { result ≡ Turned.More → left_of scenario.now self.new.world.log < left_of scenario.now self.old.world.log }

@@ -1,5 +1,5 @@
 ghost use Rattle.std.specs.Prelude.{IfSome};
-ghost use Rattle.tap_whole_course.specs.Headline.{HasHeadline};
+ghost use Rattle.tap_headline.specs.Headline.{RunHasHeadline};
 ghost use Rattle.tap_scenario.specs.Scenario.{EachStepIsPlayed};
 ghost use Rattle.tap_replay.specs.Whole.{IsReplay};
 
@@ -34,7 +34,7 @@ pub struct Played {
 pub fn replay(alloc: Global, scenario: &Scenario) -> Played
     requires { EachStepIsPlayed scenario.now }
     ensures left { IsReplay scenario.now result }
-    ensures headline { IfSome result.world (λ world. HasHeadline scenario.now.settings world.log) }
+    ensures headline { IfSome result.world (λ world. RunHasHeadline scenario.now world.log) }
 {
     let Ok(mut player) = Player::new(alloc, scenario) else {
         return Played {

@@ -14,3 +14,6 @@ pub mod Alone
 pub mod Ended
 pub mod Headline
 pub mod Lawful
+pub mod Splits
+pub mod GroupKinds
+pub mod Starting

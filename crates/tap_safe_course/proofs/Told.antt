@@ -35,7 +35,7 @@ use Rattle.tap_course.specs.Damage.{copied_number, fault_of_copy, garbled}
 use Rattle.tap_course.specs.Group.{accepted_records, records_unless, start_at, started_records}
 use Rattle.tap_course.specs.Observed.{link_line, observed, pointers_record, table_record, word_of_status}
 use Rattle.tap_course.specs.Starts.{announced, next_cast, next_ticket, start_of_step}
-use Rattle.tap_course.proofs.Nodes.{name_at, one_if, start_in}
+use Rattle.tap_course.proofs.Nodes.{core_announced, name_at, one_if, start_in}
 use Rattle.tap_course.proofs.Status.{tells_core}
 use Rattle.tap_safe_course.proofs.Rules.{GivesUp}
 use Rattle.std.specs.Prelude.{map, option_and_then}
@@ -75,16 +75,6 @@ core_sent : (p : SettingsValue) (number : ℕ) (frames : List Frame) → filter_
 unfolding core_name
 core_sent p number [] = refl
 core_sent p number (frame ∷ frames) = core_sent p (number + 1) frames
-
--- what is said of a start first
-core_announced : (log : List Record) (step : Step) → filter_map core_name (announced log step) ≡ []
-unfolding announced core_name
-core_announced log (Publish object server) = refl
-core_announced log (Withdraw object server) = refl
-core_announced log (Find object asker) = refl
-core_announced log (Abandon name) = refl
-core_announced log (Cast word prefix asker) = refl
-core_announced log step = refl
 
 -- all that is said of what a node did
 core_acted : (p : SettingsValue) (number : ℕ) (name : List ℕ) (acted : Acted)

@@ -3,6 +3,7 @@
 -- Rule: docs/FORMATS.md, "The course of a run" and "The ways a run ends".
 use Rattle.std.specs.Prelude.{◌≡◌, ℕ, true, List, [], ◌∷◌, ◌++◌, take, Some}
 use Rattle.tap_name.specs.Settings.{SettingsValue}
+use Rattle.tap_scenario.specs.Scenario.{IsScript, ScenarioValue}
 use Rattle.tap_scenario.specs.declared.step.Step.{Step}
 use Rattle.tap_log.specs.declared.record.Record.{Record}
 use Rattle.tap_log.specs.declared.record.Record.TheVariants.{Step as StepRecord, Spent, Finished}
@@ -10,12 +11,17 @@ use Rattle.tap_log.specs.declared.record.Refusal.{Refusal}
 use Rattle.tap_history.specs.Moments.{is_moment}
 use Rattle.tap_history.specs.Refusals.{first_refusal}
 use Rattle.tap_course.specs.Beginning.{Beginning}
+use Rattle.tap_lawful.specs.Lawful.{IsPlayed}
 use Rattle.tap_safe_course.specs.Moments.{HasCoreNodes, HasNoHole, RestIsAllCore, WalksEndAtRoots}
 use Rattle.tap_safe_course.specs.Safe.{IsRun}
 
 -- this holds of the log up to each of its moments
 abbrev pub AtMomentsOf : List Record → (List Record → Type 0) → Type 0
 AtMomentsOf log Holds = (m : ℕ) → is_moment log m ≡ true → Holds (take m log)
+
+-- this holds of the log of each run of a scenario that isn't over, up to each of its moments
+abbrev pub OfLawfulLogs : (SettingsValue → List Record → Type 0) → Type 0
+OfLawfulLogs Holds = (s : ScenarioValue) (log : List Record) → IsScript s → IsPlayed s log → AtMomentsOf log (Holds s.settings)
 
 -- At each moment there is a core node, no core node's table has a hole that another core node could fill, each walk from a core node leads to
 -- the one root of its object, and at rest each node that is present is core.

@@ -6,3 +6,4 @@ pub mod Taken
 pub mod Each
 pub mod Headline
 pub mod Lawful
+pub mod Starts

@@ -9,9 +9,8 @@ use Rattle.tap_history.specs.Groups.{is_spent}
 use Rattle.tap_engine.specs.World.{WorldValue}
 use Rattle.tap_lawful.specs.Lawful.{IsLogOf}
 use Rattle.tap_headline.specs.Endings.{HasAllSteps}
-use Rattle.tap_headline.specs.Headline.{FollowsScript}
+use Rattle.tap_headline.specs.Headline.{FollowsScript, RunHasHeadline}
 use Rattle.tap_bounds_course.specs.Enough.{AsksForJoinsAlone, HasEnoughFrames}
-use Rattle.tap_whole_course.specs.Headline.{HasHeadline}
 use Rattle.tap_replay.specs.Player.{IsLeft}
 use Rattle.tap_replay.specs.declared.end.End.TheVariants.{Done, Spent}
 use Rattle.tap_words.specs.declared.asked.Asked.{Asked}
@@ -25,7 +24,7 @@ pub record IsLogAsked (asked : Asked) (old new : SourceState) (log : List Record
   pub wanted : IsWanted asked old new script
   pub run : IsLogOf script log
   pub follows : FollowsScript script log
-  pub headline : HasHeadline script.settings log
+  pub headline : RunHasHeadline script log
 
 -- The scenario that the words ask for was had, and every step of it was run: its run has left a world, which it has not stopped.
 pub record HasRunAll (asked : Asked) (old new : SourceState) (world : Option WorldValue) : Type 0 where

@@ -2,10 +2,9 @@ ghost use Rattle.std.specs.Prelude.{◌≡◌};
 ghost use Rattle.tap_top.specs.Ending.{with_writing};
 ghost use Rattle.tap_top.specs.Status.{exit_code, status_of};
 
-use tap_replay::End;
+use tap_replay::{End, World};
 use tap_report::Written;
 use tap_scenario::Fault;
-use tap_world::World;
 
 /// How the top call ended.
 ///

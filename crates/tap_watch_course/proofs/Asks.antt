@@ -35,7 +35,7 @@ use Rattle.tap_safety.specs.Frames.{tell_body}
 use Rattle.tap_safety.specs.Move.Move.{Delivers}
 use Rattle.tap_safety.specs.Moved.{moved, starter}
 use Rattle.tap_safety.specs.Step.{numbered_from}
-use Rattle.tap_safety.specs.System.{AmongFrames, Covers, System, IsUnderWay}
+use Rattle.tap_safety.specs.System.{Covers, System, IsUnderWay}
 use Rattle.tap_safety.proofs.Moves.{starts}
 use Rattle.tap_safety.proofs.Told.{among_either, among_sent}
 use Rattle.tap_moves.specs.ByRule.{taken_at}
@@ -51,8 +51,6 @@ use Rattle.tap_name.specs.Prefix.{lcp}
 use Rattle.std.proofs.lemmas.List.Elements.{All-nil}
 use Rattle.tap_moves.proofs.InvariantMoves.{due, name_at, of_node, told_name, way}
 use Rattle.tap_moves.proofs.MovesMade.{is_found}
-use Rattle.tap_invariant.specs.Sound.{Sound}
-use Rattle.tap_invariant.proofs.Consequences.{none_is_strange}
 use Rattle.tap_watch_course.specs.Answers.{WatchMemory}
 use Rattle.tap_watch_course.specs.Recalled.{asked, asked_at, asked_at_core, asked_by_seek, recalled, recalled_asked, table_for}
 use Rattle.tap_watch_course.specs.Watched.{WatchesAreSound}
@@ -262,18 +260,3 @@ pub delivery_recalls : (p : SettingsValue) (s : System) (r : WatchMemory) (numbe
     → IsDelivery p s number node from body → recalled s r (Delivers number) ≡ recalled_asked r node (asked node from body)
 unfolding recalled
 delivery_recalls p s r number node from body is = rw (is_found p s number node from body (due p s number node from body is), is.at) refl
-
--- a frame that comes to a node is delivered
-pub frame_due : (p : SettingsValue) (s : System) (number : ℕ) (frame : Frame) (node : NodeState) → Sound p s
-    → AmongFrames number frame s.frames → s.node frame.to ≡ Some node → IsDelivery p s number node frame.from frame.body
-frame_due p s number frame node sound among at =
-    let name : name_of node ≡ frame.to = (sound.nodes.nodes frame.to node at).name in
-    let same : frame ≡ frame_to node frame.from frame.body =
-    ap (λ to. record { from = frame.from; to = to; body = frame.body }) (sym name) in
-    record {
-      invariant = sound.invariant.basis;
-      nodes = sound.nodes;
-      among = subst (λ f. AmongFrames number f s.frames) same among;
-      at = ap s.node name ∙ at;
-      known = subst (λ f. is_strange node f ≡ false) same (none_is_strange p s number frame node sound among at);
-    }

@@ -1,6 +1,7 @@
 -- Each move keeps that chains of Tells lead from the joiner's surrogate to the node that covers the joiner.
 use Rattle.std.proofs.Common.{◌≡◌, ◌⊎◌, ℕ, Bool, true, false, List, [], ◌∷◌, Option, None, Some, ap, refl, sym, subst, ◌∙◌, inl, inr}
 use Rattle.std.specs.Option.{is_none}
+use Rattle.std.specs.List.{last_or}
 use Rattle.tap_name.specs.Prefix.{lcp}
 use Rattle.tap_name.specs.Settings.{SettingsValue}
 use Rattle.tap_name.specs.declared.slot.Slot.{Slot}
@@ -40,11 +41,12 @@ use Rattle.tap_moves.proofs.InvariantMoves.{due, name_at, of_node, way}
 use Rattle.tap_moves.proofs.MovesMade.{by_rule, is_found, starts_none, starts_none_as, tell_starts_none}
 use Rattle.tap_moves.proofs.SessionsMade.{opened_found}
 use Rattle.tap_invariant.specs.Sound.{Sound}
+use Rattle.tap_invariant.proofs.Delivered.{is_delivery}
 use Rattle.tap_watch_course.specs.Answers.{FirstCover, WatchMemory, none_answered}
-use Rattle.tap_watch_course.specs.Chains.{ChainsAre, ChainsLead, LeadsTo, MoveKeepsChains, last_of}
+use Rattle.tap_watch_course.specs.Chains.{ChainsAre, ChainsLead, LeadsTo, MoveKeepsChains}
 use Rattle.tap_watch_course.specs.Recalled.{asked, asked_at_core, asked_by_seek, chain_to, recalled, recalled_asked, recalled_cover, recalled_first}
 use Rattle.tap_watch_course.proofs.Aside.{OpensNoRoot, frame_aside}
-use Rattle.tap_watch_course.proofs.Asks.{begins_aside, core_asks, core_only, delivery_recalls, frame_due, nothing_begins}
+use Rattle.tap_watch_course.proofs.Asks.{begins_aside, core_asks, core_only, delivery_recalls, nothing_begins}
 use Rattle.tap_watch_course.proofs.Grown.{new_chain, old_chain}
 use Rattle.tap_watch_course.proofs.Spread.{covers_tell}
 
@@ -213,7 +215,7 @@ led_longer s chain x y b prefix led = record {
   first = refl;
   surrogate = led.surrogate;
   seated = led.seated;
-  last = ap (λ l. last_of (y ∷ l)) led.first ∙ ap last_of (sym led.first) ∙ led.last;
+  last = ap (λ l. last_or None (y ∷ l)) led.first ∙ ap (last_or None) (sym led.first) ∙ led.last;
   shares = led.shares;
 }
 
@@ -291,7 +293,7 @@ frame_leads : (p : SettingsValue) (s : System) (r : WatchMemory) (number : ℕ) 
     → ChainsLead s r → AmongFrames number frame s.frames → s.node frame.to ≡ Some node
     → ChainsLead (after_delivery p s number) (recalled s r (Delivers number))
 frame_leads p s r number frame node sound chains among at =
-    delivery_leads p s r number node frame.from frame.body (frame_due p s number frame node sound among at) chains
+    delivery_leads p s r number node frame.from frame.body (is_delivery p s number frame node sound among at) chains
 
 start_leads : (p : SettingsValue) (s : System) (r : WatchMemory) (x : List ℕ) (start : Start) → ChainsLead s r
     → ChainsLead (after_start p s x start) r

@@ -27,19 +27,20 @@ use Rattle.tap_course.specs.Named.{HaveNames}
 use Rattle.tap_course.proofs.Frames.{taken_moves}
 use Rattle.tap_course.proofs.Growing.{grown_system}
 use Rattle.tap_invariant.specs.Sound.{Sound}
+use Rattle.tap_invariant.proofs.Delivered.{is_delivery}
 use Rattle.tap_lawful.specs.Next.{beginning_in}
 use Rattle.tap_safe_course.specs.Moments.{AtEachMoment}
 use Rattle.tap_safe_course.specs.Safe.{IsRun}
 use Rattle.tap_safe_course.proofs.Lawful.{lawful_logs_are_safe}
 use Rattle.tap_safe_course.proofs.Safe.{run_at_moment, run_more, runs_are_sound}
-use Rattle.tap_cast_course.proofs.Each.{each_of_run}
+use Rattle.tap_safe_course.proofs.Each.{each_of_run}
 use Rattle.tap_watch_course.specs.Answers.{Answer, WatchMemory}
 use Rattle.tap_watch_course.specs.Clause.{CoreHasAnswersNow, HasAnswers, HasLinkIn, IsFullIn, LawfulWatchClauseHolds, WatchClauseHolds}
 use Rattle.tap_watch_course.specs.Had.{InOneSlot, IsHad}
 use Rattle.tap_watch_course.specs.Recalled.{asked_at, recalled_asked}
 use Rattle.tap_watch_course.specs.Runs.{recalled_by, watches_of}
 use Rattle.tap_watch_course.proofs.Becomes.{TakesDone, takes_done}
-use Rattle.tap_watch_course.proofs.Asks.{delivery_recalls, frame_due}
+use Rattle.tap_watch_course.proofs.Asks.{delivery_recalls}
 use Rattle.tap_watch_course.proofs.Told.{run_told}
 use Rattle.tap_watch_course.proofs.Runs.{grown_watches, run_answers_kept, run_chains_kept, run_core_has, run_watches_kept}
 
@@ -103,7 +104,7 @@ module _ (b : Beginning) (before group : List Record) (run : IsRun b before) (fo
 
   delivery : IsDelivery p s done.number done.node done.from Done
   delivery =
-      frame_due p s done.number (frame_to done.node done.from Done) done.node (runs_are_sound b before run) done.among done.at
+      is_delivery p s done.number (frame_to done.node done.from Done) done.node (runs_are_sound b before run) done.among done.at
 
   system_is : system_of (before ++ group) ≡ after_delivery p s done.number
   system_is =

@@ -51,6 +51,7 @@ use Rattle.tap_invariant.specs.Moves.{after_moves, may_run}
 use Rattle.tap_invariant.specs.Sound.{Sound}
 use Rattle.tap_invariant.proofs.Members.{sound_at_rest}
 use Rattle.tap_invariant.proofs.Moves.{move_keeps}
+use Rattle.tap_invariant.proofs.Delivered.{is_delivery}
 use Rattle.tap_safety.proofs.SessionLaws.{quiet_law}
 use Rattle.tap_safety.specs.AtRest.{system_at_rest}
 use Rattle.tap_safety.specs.Move.{Move, may_start}
@@ -70,7 +71,7 @@ use Rattle.tap_watch_course.specs.Recalled.{asked, asked_at_core, asked_by_seek,
 use Rattle.tap_watch_course.proofs.HeldMoves.{delivery_step, join_held, start_step}
 use Rattle.tap_watch_course.proofs.HeldSteps.{IsHeldStep, answers_kept, still_core, still_known}
 use Rattle.tap_watch_course.proofs.Full.{full_stays}
-use Rattle.tap_watch_course.proofs.Asks.{core_only, delivery_recalls, frame_due}
+use Rattle.tap_watch_course.proofs.Asks.{core_only, delivery_recalls}
 use Rattle.tap_watch_course.proofs.Spread.{given, own_or_primary}
 
 core_was : (s : System) (x : List ℕ) → IsCoreNode s x → WasCore s x
@@ -296,7 +297,7 @@ frame_holds : (p : SettingsValue) (s : System) (r : WatchMemory) (number : ℕ) 
     → AnswersAreHeld p s r → AmongFrames number frame s.frames → s.node frame.to ≡ Some node
     → AnswersAreHeld p (after_delivery p s number) (recalled s r (Delivers number))
 frame_holds p s r number frame node sound held among at =
-    let due = frame_due p s number frame node sound among at in
+    let due = is_delivery p s number frame node sound among at in
     delivery_holds p s r number node frame.from frame.body due held
 
 start_kept : (p : SettingsValue) (s : System) (r : WatchMemory) (x : List ℕ) (start : Start) (node : NodeState)
@@ -346,7 +347,7 @@ run_answers p members moves are may =
 
 pub core_has : CoreHasAnswers
 core_has p s r number from node sound held among at goes_on answer there mine =
-    let is = frame_due p s number (frame_to node from Done) node sound among at in
+    let is = is_delivery p s number (frame_to node from Done) node sound among at in
     let under : IsUnderWay s from (name_of node) Done = record { number = number; among = among } in
     let inv = sound.invariant.basis in
     let joiner = inv.of_joiners.dones from (name_of node) under in

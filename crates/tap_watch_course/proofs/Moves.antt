@@ -45,11 +45,12 @@ use Rattle.tap_invariant.specs.Moves.{after_moves, may_run}
 use Rattle.tap_invariant.specs.Sound.{Sound}
 use Rattle.tap_invariant.proofs.Members.{sound_at_rest}
 use Rattle.tap_invariant.proofs.Moves.{move_keeps}
+use Rattle.tap_invariant.proofs.Delivered.{is_delivery}
 use Rattle.tap_watch_course.specs.Answers.{Answer, FirstCover, WatchMemory, answers_for, had_primary, none_answered}
 use Rattle.tap_watch_course.specs.Recalled.{asked, asked_at_core, asked_by_seek, chain_above, chain_to, recalled, recalled_asked, recalled_cover, recalled_first, table_for}
 use Rattle.tap_watch_course.specs.Watched.{CoveredFirst, IsAnswered, MoveKeepsWatches, RunWatchesAreSound, WatchesAreSound, WatchesAtRest, recalled_moves}
 use Rattle.tap_watch_course.proofs.Aside.{frame_aside}
-use Rattle.tap_watch_course.proofs.Asks.{IsCovering, aside_kept, changed_cover, core_asks, core_only, covered_before, delivery_recalls, frame_due, others_covered, start_keeps, table_stays}
+use Rattle.tap_watch_course.proofs.Asks.{IsCovering, aside_kept, changed_cover, core_asks, core_only, covered_before, delivery_recalls, others_covered, start_keeps, table_stays}
 use Rattle.tap_watch_course.proofs.Grown.{answered_now, more_covers, new_chain, old_chain, still_answered}
 use Rattle.tap_watch_course.proofs.Spread.{given, left_within, own_or_primary, covers_tell, left_by, left_or_answered}
 
@@ -335,7 +336,7 @@ frame_keeps : (p : SettingsValue) (s : System) (r : WatchMemory) (number : ℕ) 
     → WatchesAreSound p s r → AmongFrames number frame s.frames → s.node frame.to ≡ Some node
     → WatchesAreSound p (after_delivery p s number) (recalled s r (Delivers number))
 frame_keeps p s r number frame node sound watches among at =
-    delivery_keeps p s r number node frame.from frame.body (frame_due p s number frame node sound among at) watches
+    delivery_keeps p s r number node frame.from frame.body (is_delivery p s number frame node sound among at) watches
 
 pub move_keeps_watches : MoveKeepsWatches
 unfolding recalled

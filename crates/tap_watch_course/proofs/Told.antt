@@ -32,6 +32,7 @@ use Rattle.tap_course.specs.Laws.{HasBytes}
 use Rattle.tap_course.specs.Named.{HaveNames}
 use Rattle.tap_course.proofs.Frames.{course_frames_holds}
 use Rattle.tap_course.proofs.Growing.{by_groups, grown_system, start_system}
+use Rattle.tap_invariant.proofs.Delivered.{is_delivery}
 use Rattle.tap_safe_course.specs.Safe.{IsRun}
 use Rattle.tap_safe_course.proofs.Possible.{group_may_move}
 use Rattle.tap_safe_course.proofs.Safe.{run_begins, runs_are_sound, steps_after, steps_before}
@@ -39,7 +40,7 @@ use Rattle.tap_watch_course.specs.Answers.{FirstCover, WatchMemory, none_answere
 use Rattle.tap_watch_course.specs.Chains.{AreTold, ChainsAre, HasTold}
 use Rattle.tap_watch_course.specs.Recalled.{asked, asked_at_core, asked_by_seek, chain_to, recalled, recalled_asked}
 use Rattle.tap_watch_course.specs.Runs.{recalled_by, watches_of}
-use Rattle.tap_watch_course.proofs.Asks.{core_asks, core_only, delivery_recalls, frame_due}
+use Rattle.tap_watch_course.proofs.Asks.{core_asks, core_only, delivery_recalls}
 use Rattle.tap_watch_course.proofs.Chains.{OfChain, StaysSo, chains_stay, cover_chains, none_chains, start_chains}
 use Rattle.tap_watch_course.proofs.Runs.{grown_watches, start_watches}
 
@@ -181,7 +182,7 @@ module _ (b : Beginning) (log group : List Record) (run : IsRun b log) (follows 
   move_told (Begins x start) may = start_chains Before After stay p s x start r chains
   move_told (Delivers number) may =
       delivery_told number may.receiver.state may.frame.from may.frame.body
-      (frame_due p s number may.frame may.receiver.state (runs_are_sound b log run) may.among may.receiver.is)
+      (is_delivery p s number may.frame may.receiver.state (runs_are_sound b log run) may.among may.receiver.is)
 
   group_told : ChainsAre After (system_of (log ++ group)) (watches_of (log ++ group))
   group_told =

@@ -1,5 +1,6 @@
 -- Chains of Tells: each leads from the joiner's surrogate to the node that covers the joiner.
-use Rattle.std.specs.Prelude.{◌≡◌, ℕ, List, [], ◌∷◌, Option, None, Some}
+use Rattle.std.specs.Prelude.{◌≡◌, ℕ, List, [], ◌∷◌, None, Some}
+use Rattle.std.specs.List.{last_or}
 use Rattle.tap_name.specs.Prefix.{lcp}
 use Rattle.tap_name.specs.Settings.{SettingsValue}
 use Rattle.tap_name.specs.declared.slot.Slot.{Slot}
@@ -16,19 +17,13 @@ use Rattle.tap_invariant.specs.Sound.{Sound}
 use Rattle.tap_watch_course.specs.Answers.{FirstCover, WatchMemory}
 use Rattle.tap_watch_course.specs.Recalled.{recalled}
 
--- the last node of a chain
-abbrev pub last_of : List (List ℕ) → Option (List ℕ)
-last_of [] = None
-last_of (x ∷ []) = Some x
-last_of (x ∷ y ∷ others) = last_of (y ∷ others)
-
 -- the chain begins with x, and ends with the surrogate of b, which shares so many digits with b
 pub record LeadsTo (s : System) (chain : List (List ℕ)) (x b : List ℕ) (prefix : ℕ) : Type 0 where
   pub above : List (List ℕ)
   pub first : chain ≡ x ∷ above
   pub surrogate : List ℕ
   pub seated : s.surrogate b ≡ Some surrogate
-  pub last : last_of chain ≡ Some surrogate
+  pub last : last_or None chain ≡ Some surrogate
   pub shares : prefix ≡ lcp surrogate b
 
 -- This holds of each chain, the node that it leads to, the joiner and its prefix: of that of each Tell under way, which leads to its sender, and of

@@ -15,8 +15,8 @@ use Rattle.tap_history.specs.Steps.{is_start, join_name}
 use Rattle.tap_history.proofs.Less.{filter-twice}
 use Rattle.tap_course.specs.Beginning.{Beginning}
 use Rattle.tap_safe_course.proofs.Ended.{run_is_open, starts_no_join as no_start_joins}
-use Rattle.tap_lookup_course.specs.Alone.{AcceptNoStart}
-use Rattle.tap_lookup_course.proofs.Splits.{all_at, none_in_first, parted_where}
+use Rattle.tap_safe_course.specs.Starts.{AcceptNoStart}
+use Rattle.tap_safe_course.proofs.Splits.{all_at, none_in_first, parted_where}
 use Rattle.tap_bounds_course.specs.AtRest.{LookupsAtRestSendFew, PublicationsAtRestSendFew}
 use Rattle.tap_bounds_course.specs.Joins.{AcceptsJoinsAlone, JoinsSendFew, is_other_start, most_of_joins}
 use Rattle.tap_whole_course.proofs.Ended.{IsEnded, IsPlain}

@@ -18,6 +18,7 @@ use Rattle.tap_surrogate.specs.Nodes.{core_links}
 use Rattle.tap_surrogate.specs.Walk.{walk}
 use Rattle.tap_rule.specs.Sent.{IsAmong}
 use Rattle.tap_safe_course.proofs.Ended.{run_is_open}
+use Rattle.tap_safe_course.proofs.Splits.{all_at, parted_where}
 use Rattle.tap_safety.specs.AtRest.{system_at_rest}
 use Rattle.tap_safety.specs.System.{Covers, IsUnderWay, System}
 use Rattle.tap_course.specs.Beginning.{Beginning, begin_record}
@@ -29,7 +30,6 @@ use Rattle.tap_lookup_course.specs.Alone.{LookupsAloneAreExact}
 use Rattle.tap_lookup_course.specs.Answers.{AnswersWerePublished}
 use Rattle.tap_lookup_course.specs.NoServer.{AnsweredNoneWereDisturbed, LookupsEndWithoutServer}
 use Rattle.tap_lookup_course.proofs.Endings.{disturbed_kept, ends_kept}
-use Rattle.tap_lookup_course.proofs.Splits.{all_at, parted_where}
 use Rattle.tap_lookup_course.proofs.Unanswered.{IsUnanswered}
 use Rattle.tap_cast_course.specs.ReachAll.{CastsReachAll, HasReachedAll, ReachesWhomItHasTo, ReachesWhomItMay}
 use Rattle.tap_cast_course.specs.Sessions.{AnswersAreAwaited, HasCastSession, HasJoinSession, RestHasNoCastSessions}

@@ -1,4 +1,4 @@
-ghost use Rattle.std.specs.Prelude.{◌≡◌, ◌≢◌, ◌≤◌, ◌+◌, ◌↔◌, ℕ, true, false, nat_eq, length, position, option_copied, IfOk, IfSome, IsNone, Err};
+ghost use Rattle.std.specs.Prelude.{◌≡◌, ◌≢◌, ◌≤◌, ◌+◌, ◌↔◌, true, false, nat_eq, length, position, option_copied, IfOk, IfSome, IsNone, Err};
 ghost use Rattle.tap_name.specs.Names.{has_name};
 ghost use Rattle.tap_log.specs.Counts.{ticket_count};
 ghost use Rattle.tap_log.specs.Log.{begun_steps};
@@ -11,7 +11,7 @@ ghost use Rattle.tap_node.specs.Node.{has_room_left};
 ghost use Rattle.tap_course.specs.Course.{is_choice, system_of};
 ghost use Rattle.tap_ranges.specs.Range.{IsInRange};
 ghost use Rattle.tap_overlay.specs.Overlay.{IsNodeOf};
-ghost use Rattle.tap_whole_course.specs.Headline.{HasHeadline};
+ghost use Rattle.tap_engine.specs.Headline.{WorldHasHeadline};
 ghost use Rattle.tap_engine.specs.Holders.{HoldersAreExactAtRest};
 ghost use Rattle.tap_engine.specs.Kinds.{damages, most_index, observes};
 ghost use Rattle.tap_engine.specs.Outcome.{refusal_in, stops};
@@ -59,7 +59,7 @@ impl Model for World {
 
 impl World {
     ghost use Rattle.tap_course.specs.Named.{HaveNames};
-    ghost use Rattle.tap_course.specs.Beginning.{Beginning, IsWithinLimits};
+    ghost use Rattle.tap_course.specs.Beginning.{IsWithinLimits};
     ghost use Rattle.tap_engine.specs.Outcome.{AnswersAs, IsNextIndex, MayGoOn, MayNote, deliver_outcome, finish_outcome, mark_outcome, note_outcome, step_outcome};
     ghost use Rattle.tap_engine.specs.WorldLog.{IsWorldLog};
     ghost use Rattle.tap_engine.specs.World.{HasBegun, node_of, nodes_running};
@@ -79,7 +79,7 @@ impl World {
     ) -> Result<World, NoMemory>
         requires { IsWithinLimits (record { settings = settings.now; frames = frames; members = members.now }) }
         ensures begun { IfOk result (HasBegun (record { settings = settings.now; frames = frames; members = members.now })) }
-        ensures headline { IfOk result (λ w. HasHeadline w.beginning.settings w.log) }
+        ensures headline { IfOk result WorldHasHeadline }
     {
         let overlay = Overlay::at_rest(alloc, settings, members)?;
         let mut ledger = Ledger::new(alloc, settings, frames, members)?;
@@ -115,7 +115,7 @@ impl World {
         ensures answers { AnswersAs (step_outcome self.old index step.now) self.old result self.new }
         ensures unchanged { (refusal : Refusal) → result ≡ Err (Stop.Refused refusal) → self.new.nodes ≡ self.old.nodes }
         ensures ended { result ≡ Err Stop.Ended → self.new ≡ self.old }
-        ensures headline { HasHeadline self.new.beginning.settings self.new.log }
+        ensures headline { WorldHasHeadline self.new }
     {
         if self.stopped {
             return Err(Stop::Ended);
@@ -141,7 +141,7 @@ impl World {
         ensures unchanged { (refusal : Refusal) → result ≡ Err (Stop.Refused refusal) → self.new.nodes ≡ self.old.nodes }
         ensures nodes { self.new.nodes ≡ self.old.nodes }
         ensures ended { result ≡ Err Stop.Ended → self.new ≡ self.old }
-        ensures headline { HasHeadline self.new.beginning.settings self.new.log }
+        ensures headline { WorldHasHeadline self.new }
     {
         if self.stopped {
             return Err(Stop::Ended);
@@ -167,7 +167,7 @@ impl World {
         ensures unchanged { (refusal : Refusal) → result ≡ Err (Stop.Refused refusal) → self.new.nodes ≡ self.old.nodes }
         ensures nodes { self.new.nodes ≡ self.old.nodes }
         ensures ended { result ≡ Err Stop.Ended → self.new ≡ self.old }
-        ensures headline { HasHeadline self.new.beginning.settings self.new.log }
+        ensures headline { WorldHasHeadline self.new }
     {
         if self.stopped {
             return Err(Stop::Ended);
@@ -191,7 +191,7 @@ impl World {
         ensures answers { AnswersAs (deliver_outcome self.old place) self.old result self.new }
         ensures unchanged { (refusal : Refusal) → result ≡ Err (Stop.Refused refusal) → self.new.nodes ≡ self.old.nodes }
         ensures ended { result ≡ Err Stop.Ended → self.new ≡ self.old }
-        ensures headline { HasHeadline self.new.beginning.settings self.new.log }
+        ensures headline { WorldHasHeadline self.new }
         ensures holders { HoldersAreExactAtRest self.new.log }
     {
         if self.stopped {
@@ -214,7 +214,7 @@ impl World {
         ensures answers { AnswersAs (mark_outcome self.old index step.now) self.old result self.new }
         ensures nodes { self.new.nodes ≡ self.old.nodes }
         ensures ended { result ≡ Err Stop.Ended → self.new ≡ self.old }
-        ensures headline { HasHeadline self.new.beginning.settings self.new.log }
+        ensures headline { WorldHasHeadline self.new }
     {
         if self.stopped {
             return Err(Stop::Ended);
@@ -238,7 +238,7 @@ impl World {
         ensures memory { result ≢ Err Stop.NoMemory }
         ensures nodes { self.new.nodes ≡ self.old.nodes }
         ensures ended { result ≡ Err Stop.Ended → self.new ≡ self.old }
-        ensures headline { HasHeadline self.new.beginning.settings self.new.log }
+        ensures headline { WorldHasHeadline self.new }
     {
         if self.stopped {
             return Err(Stop::Ended);
@@ -260,7 +260,7 @@ impl World {
         ensures memory { result ≢ Err Stop.NoMemory }
         ensures nodes { self.new.nodes ≡ self.old.nodes }
         ensures ended { result ≡ Err Stop.Ended → self.new ≡ self.old }
-        ensures headline { HasHeadline self.new.beginning.settings self.new.log }
+        ensures headline { WorldHasHeadline self.new }
     {
         if self.stopped {
             return Err(Stop::Ended);
@@ -290,7 +290,7 @@ impl World {
         ensures named { HaveNames self.now.beginning.settings self.now.log }
         ensures numbered { IsNumbered self.now.log }
         ensures tickets { ticket_count self.now.log ≤ most_index + 1 }
-        ensures headline { HasHeadline self.now.beginning.settings self.now.log }
+        ensures headline { WorldHasHeadline self.now }
     {
         self.engine.ledger.log()
     }

@@ -3,7 +3,7 @@ use Rattle.tap_lawful.specs.Laws.{left_of}
 use Rattle.tap_replay.specs.Player.{GoesOnUnless, IsLeft, MayTurn, PlayerValue, Turns, over_by}
 use Rattle.tap_replay.specs.Run.{GoesOn}
 use Rattle.tap_replay.proofs.Again.{may_turn_again}
-use Rattle.tap_whole_course.specs.Headline.{HasHeadline}
+use Rattle.tap_headline.specs.Headline.{RunHasHeadline}
 use Rattle.tap_replay.proofs.Headline.{run_has_headline}
 use Rattle.tap_replay.proofs.Alike.{left_alike, run_alike}
 use Rattle.tap_replay.proofs.player.Player.turn.Goals as goal
@@ -28,7 +28,7 @@ returns-in-Some-clause-headline c =
     let seen : record { world = run.world; over = c.self.inside.over } ≡ c.args.self.now = c.self.view_is in
     let may = subst (λ (p : PlayerValue). MayTurn s p.world.log) (sym seen) c.requires.script in
     let left = subst (λ o. GoesOnUnless o script run) c.in-Some.is c.self.invariant.run_is in
-    subst (λ (p : PlayerValue). HasHeadline s.settings p.world.log) seen
+    subst (λ (p : PlayerValue). RunHasHeadline s p.world.log) seen
     (run_has_headline s (Some c.in-Some.end) run c.step_count.ensures.valid (left_alike script s c.in-Some.end run.world left may))
 
 pub turn-turned-requires-clause-run : goal.turn-turned-requires-clause-run

@@ -1,9 +1,9 @@
 use Rattle.std.proofs.Common.{slice_get, ap, ◌∙◌, subst}
 use Rattle.tap_history.specs.Moments.{outstanding}
 use Rattle.tap_overlay.specs.Overlay.{OverlayValue}
+use Rattle.tap_engine.specs.Headline.{WorldHasHeadline}
 use Rattle.tap_engine.specs.World.{WorldValue}
 use Rattle.tap_world.proofs.Worlds.{deliver_answers, deliver_keeps, takes_unended}
-use Rattle.tap_whole_course.specs.Headline.{HasHeadline}
 use Rattle.tap_engine.specs.Holders.{HoldersAreExactAtRest}
 use Rattle.tap_engine.specs.Outcome.{stops}
 use Rattle.tap_engine.proofs.HeadlineOfWorld.{kept_headline, kept_holders}
@@ -38,7 +38,7 @@ returns-clause-ended c = λ is.
 pub returns-then-self-clause-headline : goal.returns-then-self-clause-headline
 returns-then-self-clause-headline c =
     let w = c.self.inside in
-    subst (λ (v : WorldValue). HasHeadline v.beginning.settings v.log) c.self.view_is
+    subst WorldHasHeadline c.self.view_is
     (kept_headline w.engine w.refused w.stopped c.self.invariant)
 
 pub returns-then-self-clause-holders : goal.returns-then-self-clause-holders

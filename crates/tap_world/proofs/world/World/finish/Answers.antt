@@ -1,12 +1,12 @@
 use Rattle.std.proofs.Common.{length, sym, ap, ◌∙◌, None, false, subst}
 use Rattle.tap_log.specs.Log.{begun_steps}
+use Rattle.tap_engine.specs.Headline.{WorldHasHeadline}
 use Rattle.tap_engine.specs.World.{WorldValue}
 use Rattle.tap_engine.specs.declared.engine.Engine.{Engine}
 use Rattle.tap_engine.proofs.Addable.{finished_fits}
 use Rattle.tap_engine.proofs.Counting.{few_sent_most, room_left}
 use Rattle.tap_world.proofs.Marks.{finished_kept}
 use Rattle.tap_world.proofs.Worlds.{kept_of, ready_of}
-use Rattle.tap_whole_course.specs.Headline.{HasHeadline}
 use Rattle.tap_engine.proofs.HeadlineOfWorld.{kept_headline}
 use Rattle.tap_world.proofs.world.World.finish.Goals as goal
 
@@ -41,7 +41,7 @@ invariant_of-self c =
 pub returns-then-self-clause-headline : goal.returns-then-self-clause-headline
 returns-then-self-clause-headline c =
     let w = c.self.inside in
-    subst (λ (v : WorldValue). HasHeadline v.beginning.settings v.log) c.self.view_is
+    subst WorldHasHeadline c.self.view_is
     (kept_headline w.engine w.refused w.stopped c.self.invariant)
 
 pub returns-clause-headline : goal.returns-clause-headline

@@ -1,10 +1,10 @@
 use Rattle.std.proofs.Common.{inr, ap, ◌∙◌, subst}
 use Rattle.tap_history.specs.Refusals.{first_refusal}
 use Rattle.tap_overlay.specs.Overlay.{OverlayValue}
+use Rattle.tap_engine.specs.Headline.{WorldHasHeadline}
 use Rattle.tap_engine.specs.World.{WorldValue}
 use Rattle.tap_engine.specs.declared.engine.Engine.{Engine}
 use Rattle.tap_world.proofs.Worlds.{ready_of, step_answers, step_keeps, step_unended, unspent}
-use Rattle.tap_whole_course.specs.Headline.{HasHeadline}
 use Rattle.tap_engine.specs.Outcome.{refusal_in, stops}
 use Rattle.tap_engine.proofs.HeadlineOfWorld.{kept_headline}
 use Rattle.tap_world.proofs.world.World.garble.Goals as goal
@@ -49,7 +49,7 @@ returns-clause-ended c = λ is.
 pub returns-then-self-clause-headline : goal.returns-then-self-clause-headline
 returns-then-self-clause-headline c =
     let w = c.self.inside in
-    subst (λ (v : WorldValue). HasHeadline v.beginning.settings v.log) c.self.view_is
+    subst WorldHasHeadline c.self.view_is
     (kept_headline w.engine w.refused w.stopped c.self.invariant)
 
 pub returns-clause-headline : goal.returns-clause-headline

@@ -1,6 +1,6 @@
 use Rattle.std.proofs.Common.{subst, ◌+◌, ◌≤◌}
 use Rattle.tap_log.specs.Counts.{ticket_count}
-use Rattle.tap_whole_course.specs.Headline.{HasHeadline}
+use Rattle.tap_engine.specs.Headline.{WorldHasHeadline}
 use Rattle.tap_engine.specs.Kept.{world_value}
 use Rattle.tap_engine.specs.Kinds.{most_index}
 use Rattle.tap_engine.specs.World.{WorldValue}
@@ -17,5 +17,5 @@ returns-clause-tickets c =
 pub returns-clause-headline : goal.returns-clause-headline
 returns-clause-headline c =
     let w = c.self.inside in
-    subst (λ (v : WorldValue). HasHeadline v.beginning.settings v.log) c.self.view_is
+    subst WorldHasHeadline c.self.view_is
     (kept_headline w.engine w.refused w.stopped c.self.invariant)

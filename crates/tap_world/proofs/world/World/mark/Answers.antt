@@ -1,13 +1,12 @@
 use Rattle.std.proofs.Common.{true, sym, ap, subst, None, false}
+use Rattle.tap_engine.specs.Headline.{WorldHasHeadline}
 use Rattle.tap_engine.specs.Kept.{AreKept}
-use Rattle.tap_engine.specs.World.{WorldValue}
 use Rattle.tap_engine.specs.declared.engine.Engine.{Engine}
 use Rattle.tap_engine.proofs.Addable.{step_fits}
 use Rattle.tap_engine.proofs.Counting.{few_sent_most}
 use Rattle.tap_engine.proofs.Keeping.{all_still, kept_short}
 use Rattle.tap_world.proofs.Marks.{marked_kept}
 use Rattle.tap_world.proofs.Worlds.{kept_of, next_of, ready_of}
-use Rattle.tap_whole_course.specs.Headline.{HasHeadline}
 use Rattle.tap_engine.proofs.HeadlineOfWorld.{kept_headline}
 use Rattle.tap_world.proofs.world.World.mark.Goals as goal
 
@@ -45,7 +44,7 @@ invariant_of-self c =
 pub returns-then-self-clause-headline : goal.returns-then-self-clause-headline
 returns-then-self-clause-headline c =
     let w = c.self.inside in
-    subst (λ (v : WorldValue). HasHeadline v.beginning.settings v.log) c.self.view_is
+    subst WorldHasHeadline c.self.view_is
     (kept_headline w.engine w.refused w.stopped c.self.invariant)
 
 pub returns-in_default-clause-headline : goal.returns-in_default-clause-headline

@@ -1,10 +1,9 @@
 use Rattle.std.proofs.Common.{None, false, subst, sym, ap, arith}
+use Rattle.tap_engine.specs.Headline.{WorldHasHeadline}
 use Rattle.tap_engine.specs.Kept.{AreKept, world_value}
 use Rattle.tap_engine.specs.Outcome.{MayNote}
 use Rattle.tap_engine.specs.declared.engine.Engine.{Engine}
 use Rattle.tap_world.proofs.Marks.{note_fits, note_room, noted_kept}
-use Rattle.tap_whole_course.specs.Headline.{HasHeadline}
-use Rattle.tap_engine.specs.World.{WorldValue}
 use Rattle.tap_engine.proofs.HeadlineOfWorld.{kept_headline}
 use Rattle.tap_world.proofs.world.World.note.Goals as goal
 
@@ -44,7 +43,7 @@ invariant_of-self c =
 pub returns-then-self-clause-headline : goal.returns-then-self-clause-headline
 returns-then-self-clause-headline c =
     let w = c.self.inside in
-    subst (λ (v : WorldValue). HasHeadline v.beginning.settings v.log) c.self.view_is
+    subst WorldHasHeadline c.self.view_is
     (kept_headline w.engine w.refused w.stopped c.self.invariant)
 
 pub returns-clause-headline : goal.returns-clause-headline

@@ -11,7 +11,7 @@ use Rattle.tap_history.specs.Core.{accepted_in, accepted_step}
 use Rattle.tap_history.specs.Steps.{is_start}
 use Rattle.tap_course.proofs.Nodes.{HasNoStep}
 use Rattle.tap_course.proofs.Within.{is_accepted}
-use Rattle.tap_lookup_course.specs.Alone.{AcceptNoStart}
+use Rattle.tap_safe_course.specs.Starts.{AcceptNoStart}
 
 -- ---- where a list that is parted twice is parted
 

@@ -10,28 +10,26 @@ use Rattle.tap_safety.specs.Move.Move.{Begins, Delivers}
 use Rattle.tap_safety.specs.Moved.{numbered_frame}
 use Rattle.tap_safety.specs.System.{System}
 use Rattle.tap_course.specs.Beginning.{Beginning}
-use Rattle.tap_course.specs.Course.{Follows, MayFollow, is_choice, move_of_group, moved_by, system_of}
+use Rattle.tap_course.specs.Course.{Follows, MayFollow, move_of_group, moved_by, system_of}
 use Rattle.tap_course.specs.Group.{received_records}
 use Rattle.tap_course.specs.Named.{HaveNames}
 use Rattle.tap_course.proofs.Frames.{starting_moves, step_moves, taken_moves}
 use Rattle.tap_course.proofs.Growing.{grown_system}
 use Rattle.tap_course.proofs.Nodes.{HasNoStep, no_steps}
-use Rattle.tap_course.proofs.Within.{IsStarting, step_kind, step_within, taken_within}
+use Rattle.tap_course.proofs.Within.{IsIdle, IsStarting, step_kind, step_within, taken_within}
 use Rattle.tap_safe_course.specs.Safe.{IsRun}
 use Rattle.tap_safe_course.proofs.Possible.{group_may_move}
 use Rattle.tap_safe_course.proofs.Safe.{runs_are_sound}
-use Rattle.tap_pointer_course.proofs.Runs.{idle_starts_none}
-use Rattle.tap_lookup_course.proofs.Unanswered.{IsUnanswered, follow_unanswered}
 
 module _ (p : SettingsValue) (log : List Record) (s : System) (group : List Record) where
-  -- a step that moves nothing: it asks for no lookup, and answers none
+  -- a step that moves nothing, and asks for no lookup
   pub record IsIdleGroup : Type 0 where
     pub index : ℕ
     pub step : Step
     pub items : List Record
     pub is : group ≡ StepRecord index step ∷ items
     pub steps : All HasNoStep items
-    pub none : All IsUnanswered items
+    pub idle : IsIdle log step items
     pub asks : All (λ item. asked_ticket item ≡ None) items
     pub still : move_of_group log group ≡ None
 
@@ -66,19 +64,16 @@ group_kind p log s (StepRecord index step ∷ items) may possible =
     let steps = no_steps items (step_within p log s index step items may) in
     elim (step_kind p log s index step items may) [
       | inl idle ↦
-          elim (follow_unanswered p log s index step items (is_choice step) refl may) [
-            | inl none ↦ inl (record {
-              index = index;
-              step = step;
-              items = items;
-              is = refl;
-              steps = steps;
-              none = none;
-              asks = λ k d within. (idle.quiet k d within).asked;
-              still = step_moves log index step items ∙ idle.still;
-            })
-            | inr starts ↦ absurd (idle_starts_none log step items idle starts)
-          ]
+          inl (record {
+            index = index;
+            step = step;
+            items = items;
+            is = refl;
+            steps = steps;
+            idle = idle;
+            asks = λ k d within. (idle.quiet k d within).asked;
+            still = step_moves log index step items ∙ idle.still;
+          })
       | inr starting ↦
           let moves = starting_moves p log s index step items starting in
           inr (inl (record {
