@@ -45,11 +45,11 @@ use Rattle.tap_invariant.specs.Moves.{after_moves, may_run}
 use Rattle.tap_invariant.specs.Sound.{Sound}
 use Rattle.tap_invariant.proofs.Members.{sound_at_rest}
 use Rattle.tap_invariant.proofs.Moves.{move_keeps}
+use Rattle.tap_invariant.proofs.Delivered.{is_delivery}
 use Rattle.tap_bounds.specs.Acks.{AcksAreFew, AcksAtRest, MoveKeepsAcks, RunAcksFew, is_ack, is_ack_from, is_tell_body, is_tell_to}
 use Rattle.tap_bounds.specs.Moves.{traffic_of}
 use Rattle.tap_bounds.specs.Traffic.{Traffic, no_traffic, sent_by, taken_by, traffic_after}
 use Rattle.tap_bounds.proofs.Counting.{CountsMessages, count-append, count-cons, count-map_none, counted}
-use Rattle.tap_bounds.proofs.Delivered.{is_delivery}
 use Rattle.tap_bounds.proofs.AckRules.{FewAcks, acks_in, below, rule_acks, start_acks}
 use Rattle.tap_bounds.proofs.AckSteps.{ceased_acks, meets_acks, pins_acks, seeks_acks}
 

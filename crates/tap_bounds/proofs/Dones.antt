@@ -33,12 +33,12 @@ use Rattle.tap_invariant.specs.Moves.{after_moves, may_run}
 use Rattle.tap_invariant.specs.Sound.{Sound}
 use Rattle.tap_invariant.proofs.Members.{sound_at_rest}
 use Rattle.tap_invariant.proofs.Moves.{move_keeps}
+use Rattle.tap_invariant.proofs.Delivered.{is_delivery}
 use Rattle.tap_bounds.specs.Dones.{DonesAreFew, DonesAtRest, MoveKeepsDones, RunDonesFew, is_done_body, is_done_to}
 use Rattle.tap_bounds.specs.Moves.{traffic_of}
 use Rattle.tap_bounds.specs.Taken.{AllAreKnown}
 use Rattle.tap_bounds.specs.Traffic.{Traffic, no_traffic, taken_by, traffic_after}
 use Rattle.tap_bounds.proofs.Counting.{count-append, count-cons}
-use Rattle.tap_bounds.proofs.Delivered.{is_delivery}
 use Rattle.tap_bounds.proofs.DoneRules.{done_ends, frame_joins, start_joins}
 use Rattle.tap_bounds.proofs.Taken.{known_at_rest, move_keeps_known}
 
@@ -108,8 +108,8 @@ one_at_most b number low (f ∷ fs) high (least, later) only =
 -- what is said of the Dones that were taken
 record TakenAreFew (s : System) (r : Traffic) : Type 0 where
   once : (b : List ℕ) → count_by (is_done_to b) r.taken ≤ 1
-  joining : (b : List ℕ) (node : NodeState) → s.node b ≡ Some node → node.status ≡ Joining → count_by (is_done_to b) r.taken ≤ 0
-  fresh : (b : List ℕ) → s.node b ≡ None → count_by (is_done_to b) r.taken ≤ 0
+  joining : (b : List ℕ) (node : NodeState) → s.node b ≡ Some node → node.status ≡ Joining → count_by (is_done_to b) r.taken ≡ 0
+  fresh : (b : List ℕ) → s.node b ≡ None → count_by (is_done_to b) r.taken ≡ 0
 
 -- of those that were sent one is under way at most, to a joiner, and then none was taken
 sent_few : (p : SettingsValue) (s : System) (r : Traffic) → Sound p s → AllAreKnown s r → TakenAreFew s r → DonesAreFew s r
@@ -265,7 +265,7 @@ frame_keeps p s r number frame node sound few among at =
 
 module _ (p : SettingsValue) (s : System) (r : Traffic) (x : List ℕ) (start : Start) (node : NodeState)
     (there : starter p s x start ≡ Some node) (few : DonesAreFew s r)
-    (joined_here : node.status ≡ Joining → count_by (is_done_to x) r.taken ≤ 0) where
+    (joined_here : node.status ≡ Joining → count_by (is_done_to x) r.taken ≡ 0) where
   abbrev s'' : System
   s'' = after_start p s x start
 

@@ -45,11 +45,11 @@ use Rattle.tap_invariant.specs.Moves.{after_moves, may_run}
 use Rattle.tap_invariant.specs.Sound.{Sound}
 use Rattle.tap_invariant.proofs.Members.{sound_at_rest}
 use Rattle.tap_invariant.proofs.Moves.{move_keeps}
+use Rattle.tap_invariant.proofs.Delivered.{is_delivery}
 use Rattle.tap_bounds.specs.Hellos.{FewAreOnce, HellosAreFew, HellosAtRest, MoveKeepsHellos, RunHellosFew, if_covered, is_core_hello, is_joining_hello, most_as_core, most_as_joining}
 use Rattle.tap_bounds.specs.Moves.{traffic_of}
 use Rattle.tap_bounds.specs.Traffic.{Traffic, no_traffic, sent_by, traffic_after}
 use Rattle.tap_bounds.proofs.Counting.{count-append, count-map_none, counted}
-use Rattle.tap_bounds.proofs.Delivered.{is_delivery}
 use Rattle.tap_bounds.proofs.HelloRules.{IsUngreeting, Ungreeting, keeps, rule_ungreeting, start_ungreeting}
 use Rattle.tap_bounds.proofs.HelloSteps.{Greets, core_from, core_most, core_tests, joining_from, joining_most, joining_tests, meets_greet, pins_greet, ungreeting_greets}
 
@@ -309,7 +309,8 @@ start_keeps : (p : SettingsValue) (s : System) (r : Traffic) (x : List ℕ) (sta
     → HellosAreFew s r → HellosAreFew (after_start p s x start) (traffic_after p s r (Begins x start))
 start_keeps p s r x (Join via) may sound few =
     starter_keeps p s r (Join via) (joiner p x) refl
-    (λ b. few.fresh_core x may.fresh b) (λ b. few.fresh_joining x may.fresh b) few
+    (λ b. let none = few.fresh_core x may.fresh b in omega (arith, none))
+    (λ b. let none = few.fresh_joining x may.fresh b in omega (arith, none)) few
 start_keeps p s r x Abandon may sound few = here_keeps p s r x Abandon may.state may.is may.is sound few
 start_keeps p s r x Leave may sound few = here_keeps p s r x Leave may.acts.state may.acts.is may.acts.is sound few
 start_keeps p s r x (Publish object) may sound few =

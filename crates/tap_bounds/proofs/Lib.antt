@@ -1,5 +1,4 @@
 pub mod Counting
-pub mod Delivered
 pub mod Rules
 pub mod Sent
 pub mod SeekMoves

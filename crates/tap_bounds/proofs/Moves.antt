@@ -37,11 +37,11 @@ use Rattle.tap_invariant.specs.Moves.{after_moves, may_run}
 use Rattle.tap_invariant.specs.Sound.{Sound}
 use Rattle.tap_invariant.proofs.Members.{sound_at_rest}
 use Rattle.tap_invariant.proofs.Moves.{move_keeps}
+use Rattle.tap_invariant.proofs.Delivered.{is_delivery}
 use Rattle.tap_bounds.specs.Few.{FewAreSent, HeardsAreFew, is_heard_from, is_hello_to}
 use Rattle.tap_bounds.specs.Moves.{FewAtRest, MoveKeepsFew, RunSendsFew, traffic_of}
 use Rattle.tap_bounds.specs.Traffic.{Traffic, no_traffic, sent_by, taken_by, traffic_after}
 use Rattle.tap_bounds.proofs.Counting.{count-append}
-use Rattle.tap_bounds.proofs.Delivered.{is_delivery}
 use Rattle.tap_bounds.proofs.Rules.{IsNoJoin}
 use Rattle.tap_bounds.proofs.SeekMoves.{SendsFew, SendsOn, SendsOne, forward_few, seeks_kept}
 use Rattle.tap_bounds.proofs.Sent.{IsNoSeek, elsewhere_brings, heards_at_frame, heards_at_start, join_brings, no_join_seeks, no_seek_brings, surrogate_brings}

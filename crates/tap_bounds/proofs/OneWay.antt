@@ -19,10 +19,10 @@ use Rattle.tap_moves.proofs.MovesMade.{by_rule, is_found}
 use Rattle.tap_invariant.specs.Moves.{may_run}
 use Rattle.tap_invariant.specs.Sound.{Sound}
 use Rattle.tap_invariant.proofs.Moves.{move_keeps}
+use Rattle.tap_invariant.proofs.Delivered.{is_delivery, is_to_receiver}
 use Rattle.tap_bounds.specs.Lookups.{AreDeliveries}
 use Rattle.tap_bounds.specs.Moves.{traffic_of}
 use Rattle.tap_bounds.specs.Traffic.{Traffic, sent_by, traffic_after}
-use Rattle.tap_bounds.proofs.Delivered.{is_delivery, is_to_receiver}
 
 -- ---- what is sent, and what may follow
 

@@ -45,11 +45,11 @@ use Rattle.tap_invariant.specs.Moves.{after_moves, may_run}
 use Rattle.tap_invariant.specs.Sound.{Sound}
 use Rattle.tap_invariant.proofs.Members.{sound_at_rest}
 use Rattle.tap_invariant.proofs.Moves.{move_keeps}
+use Rattle.tap_invariant.proofs.Delivered.{is_delivery}
 use Rattle.tap_bounds.specs.Moves.{traffic_of}
 use Rattle.tap_bounds.specs.Tells.{MoveKeepsTells, RunTellsFew, TellsAreFew, TellsAtRest, is_tell, most_tells, tells_sent}
 use Rattle.tap_bounds.specs.Traffic.{Traffic, no_traffic, sent_by, traffic_after}
 use Rattle.tap_bounds.proofs.Counting.{count-append, count-map_none, counted}
-use Rattle.tap_bounds.proofs.Delivered.{is_delivery}
 use Rattle.tap_bounds.proofs.TellRules.{IsUntold, Untold, elsewhere_untold, rule_untold, start_untold}
 use Rattle.tap_bounds.proofs.TellSteps.{Grows, most_is_two, pins_grow, tell_from, tell_tests, untold_grows}
 
@@ -246,7 +246,7 @@ module _ (s s' : System) (r r' : Traffic) (node : NodeState) (acted : Acted) (at
       kept : x ≢ own → s.node x ≡ s'.node x
       kept other = elim (others x) [ inl same ↦ absurd (other same) | inr stays ↦ sym stays ]
 
-  fresh : (x : List ℕ) → s'.node x ≡ None → (o b : List ℕ) → tells_sent r' x o b ≤ 0
+  fresh : (x : List ℕ) → s'.node x ≡ None → (o b : List ℕ) → tells_sent r' x o b ≡ 0
   fresh x nobody o b =
       elim (same_name x own) [
         | inl same ↦
@@ -312,7 +312,8 @@ here_keeps p s r x start node at there sound few =
 start_keeps : (p : SettingsValue) (s : System) (r : Traffic) (x : List ℕ) (start : Start) → may_start p s x start → Sound p s
     → TellsAreFew s r → TellsAreFew (after_start p s x start) (traffic_after p s r (Begins x start))
 start_keeps p s r x (Join via) may sound few =
-    starter_keeps p s r (Join via) (joiner p x) refl (λ o b runs. few.fresh x may.fresh o b) few
+    starter_keeps p s r (Join via) (joiner p x) refl (λ o b runs.
+    let none = few.fresh x may.fresh o b in omega (arith, none)) few
 start_keeps p s r x Abandon may sound few = here_keeps p s r x Abandon may.state may.is may.is sound few
 start_keeps p s r x Leave may sound few = here_keeps p s r x Leave may.acts.state may.acts.is may.acts.is sound few
 start_keeps p s r x (Publish object) may sound few =

@@ -46,7 +46,7 @@ is_tell_to x f = is_tell_body f.body && pointwise nat_eq f.to x
 pub record AcksAreFew (s : System) (r : Traffic) : Type 0 where
   pub each : (x : List ℕ) (node : NodeState) → s.node x ≡ Some node
       → count_by (is_ack_from x) r.sent + count_by is_below node.sessions.sessions ≤ count_by (is_tell_to x) r.taken
-  pub fresh : (x : List ℕ) → s.node x ≡ None → count_by (is_ack_from x) r.sent ≤ 0
+  pub fresh : (x : List ℕ) → s.node x ≡ None → count_by (is_ack_from x) r.sent ≡ 0
 
 -- the members with which an overlay begins have sent none
 abbrev pub AcksAtRest : Type 0

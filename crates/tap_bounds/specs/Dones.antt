@@ -29,8 +29,8 @@ is_done_to b f = is_done_body f.body && pointwise nat_eq f.to b
 pub record DonesAreFew (s : System) (r : Traffic) : Type 0 where
   pub within : (b : List ℕ) → count_by (is_done_to b) r.sent ≤ 1
   pub once : (b : List ℕ) → count_by (is_done_to b) r.taken ≤ 1
-  pub joining : (b : List ℕ) (node : NodeState) → s.node b ≡ Some node → node.status ≡ Joining → count_by (is_done_to b) r.taken ≤ 0
-  pub fresh : (b : List ℕ) → s.node b ≡ None → count_by (is_done_to b) r.taken ≤ 0
+  pub joining : (b : List ℕ) (node : NodeState) → s.node b ≡ Some node → node.status ≡ Joining → count_by (is_done_to b) r.taken ≡ 0
+  pub fresh : (b : List ℕ) → s.node b ≡ None → count_by (is_done_to b) r.taken ≡ 0
 
 -- the members with which an overlay begins were sent none
 abbrev pub DonesAtRest : Type 0

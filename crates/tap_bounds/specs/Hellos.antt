@@ -60,8 +60,8 @@ pub record HellosAreFew (s : System) (r : Traffic) : Type 0 where
       → count_by (is_core_hello x b) r.sent ≤ most_as_core node.status node b
   pub joining : (x : List ℕ) (node : NodeState) → s.node x ≡ Some node → (b : List ℕ)
       → count_by (is_joining_hello x b) r.sent ≤ most_as_joining node.status node b
-  pub fresh_core : (x : List ℕ) → s.node x ≡ None → (b : List ℕ) → count_by (is_core_hello x b) r.sent ≤ 0
-  pub fresh_joining : (x : List ℕ) → s.node x ≡ None → (b : List ℕ) → count_by (is_joining_hello x b) r.sent ≤ 0
+  pub fresh_core : (x : List ℕ) → s.node x ≡ None → (b : List ℕ) → count_by (is_core_hello x b) r.sent ≡ 0
+  pub fresh_joining : (x : List ℕ) → s.node x ≡ None → (b : List ℕ) → count_by (is_joining_hello x b) r.sent ≡ 0
 
 -- So a name sends another at most one Hello as a core node, and at most one as a joining one.
 pub record HellosOnce (r : Traffic) : Type 0 where

@@ -74,7 +74,7 @@ pub record OpenedAreFew (p : SettingsValue) (s : System) (opened : List Opening)
   pub all : (x : List ℕ) (node : NodeState) → s.node x ≡ Some node → count_by (is_opened_at x) opened ≡ node.sessions.opened
   pub each : (x b : List ℕ) (node : NodeState) → s.node x ≡ Some node
       → count_by (is_opened_for x b) opened ≤ most_opened p node.status node b
-  pub fresh : (x : List ℕ) → s.node x ≡ None → count_by (is_opened_at x) opened ≤ 0
+  pub fresh : (x : List ℕ) → s.node x ≡ None → count_by (is_opened_at x) opened ≡ 0
 
 -- So a name has opened at most two more of one joiner than names have digits.
 abbrev pub FewAreOpened : Type 0

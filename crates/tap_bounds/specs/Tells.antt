@@ -41,7 +41,7 @@ pub record TellsAreFew (s : System) (r : Traffic) : Type 0 where
   pub within : (x t b : List ℕ) → tells_sent r x t b ≤ 2
   pub running : (x : List ℕ) (node : NodeState) → s.node x ≡ Some node → IsRunning node.status → (t b : List ℕ)
       → tells_sent r x t b ≤ most_tells (level_of node b) (lcp x t)
-  pub fresh : (x : List ℕ) → s.node x ≡ None → (t b : List ℕ) → tells_sent r x t b ≤ 0
+  pub fresh : (x : List ℕ) → s.node x ≡ None → (t b : List ℕ) → tells_sent r x t b ≡ 0
 
 -- the members with which an overlay begins have sent none
 abbrev pub TellsAtRest : Type 0

@@ -13,8 +13,6 @@ use Rattle.tap_rule.specs.Event.{News, Start}
 use Rattle.tap_rule.specs.Event.Event.{Starts, Takes}
 use Rattle.tap_rule.specs.Node.Status.{Core}
 use Rattle.tap_rule.specs.Event.Start.{Join, Abandon, Publish, Withdraw, Find as StartFind, Leave as StartLeave, Cast as StartCast}
-use Rattle.tap_rule.specs.Laws.{frame_to}
-use Rattle.tap_rule.specs.Strange.{is_strange}
 use Rattle.tap_rule.specs.Node.{NodeState, join_session_at, member_at_rest, name_of}
 use Rattle.tap_safety.specs.AtRest.{member_of, system_at_rest}
 use Rattle.tap_safety.specs.Move.{Move, may_start}
@@ -27,7 +25,7 @@ use Rattle.tap_moves.specs.Delivered.{after_delivery}
 use Rattle.tap_moves.specs.InvariantLaws.{IsDelivery}
 use Rattle.tap_invariant.specs.Moves.{after_moves, may_run}
 use Rattle.tap_invariant.specs.Sound.{Sound}
-use Rattle.tap_invariant.proofs.Consequences.{none_is_strange}
+use Rattle.tap_invariant.proofs.Delivered.{is_delivery, is_to_receiver}
 use Rattle.tap_invariant.proofs.Members.{sound_at_rest}
 use Rattle.tap_invariant.proofs.Moves.{move_keeps}
 use Rattle.tap_cast_moves.specs.Audience.{CastsAreSound}
@@ -90,17 +88,11 @@ delivery_keeps : (p : SettingsValue) (s : System) (r : CastMemory) (number : ℕ
     → CastsAreSound p (after_delivery p s number) (recalled p s r (Delivers number))
     × NewsAreTrue s r (recalled p s r (Delivers number)) frame.to (act node (Takes frame)).news
 delivery_keeps p s r number frame node sound casts among at =
-    let name : name_of node ≡ frame.to = (sound.nodes.nodes frame.to node at).name in
-    let same : frame ≡ frame_to node frame.from frame.body =
-    ap (λ to. record { from = frame.from; to = to; body = frame.body }) (sym name) in
-    let both = by_body p s r number node frame.from sound casts frame.body (record {
-      invariant = sound.invariant.basis;
-      nodes = sound.nodes;
-      among = subst (λ f. AmongFrames number f s.frames) same among;
-      at = ap s.node name ∙ at;
-      known = subst (λ f. is_strange node f ≡ false) same (none_is_strange p s number frame node sound among at);
-    }) in
-    (both.0, subst (λ f. NewsAreTrue s r (recalled p s r (Delivers number)) f.to (act node (Takes f)).news) (sym same) both.1)
+    let both = by_body p s r number node frame.from sound casts frame.body (is_delivery p s number frame node sound among at) in (
+      both.0,
+      subst (λ f. NewsAreTrue s r (recalled p s r (Delivers number)) f.to (act node (Takes f)).news)
+          (sym (is_to_receiver p s number frame node sound among at)) both.1,
+    )
 
 -- ---- starts
 

@@ -7,4 +7,5 @@ pub mod Together
 pub mod Ignored
 pub mod Moves
 pub mod Consequences
+pub mod Delivered
 pub mod Walks

@@ -39,6 +39,7 @@ use Rattle.tap_moves.specs.ByRule.{taken_at}
 use Rattle.tap_moves.specs.InvariantLaws.{IsDelivery}
 use Rattle.tap_moves.proofs.InvariantMoves.{hello_names_are, joiner_name, known_name, of_node, seeker_not_core, sender_name, way}
 use Rattle.tap_invariant.specs.Sound.{Sound}
+use Rattle.tap_invariant.proofs.Delivered.{is_delivery}
 use Rattle.tap_bounds.specs.Traffic.{Traffic, traffic_after}
 use Rattle.tap_bounds.proofs.Counting.{count-cons}
 use Rattle.tap_link_bounds.specs.OfJoins.{IsJoinBody}
@@ -46,7 +47,7 @@ use Rattle.tap_link_bounds.proofs.Alone.{IsJoinStep, IsPlainNode, JoinsOrIsCore,
 use Rattle.tap_link_bounds.proofs.Kept.{AreOfJoins, joining_is_new, of_frame, of_joiner}
 use Rattle.tap_link_bounds.proofs.Links.{IsPinning, LinksStep, covers_pins, hello_links, is_naming, meets_pins, names_in, pins_links, releases_links, still}
 use Rattle.tap_link_bounds.proofs.LinkSteps.{ActsOnLinks, LinksAreFew, acts_on_links, ignored_on_links, links_kept, may_become}
-use Rattle.tap_link_bounds.proofs.Made.{delivery_made, delivery_of, join_made}
+use Rattle.tap_link_bounds.proofs.Made.{delivery_made, join_made}
 use Rattle.tap_link_bounds.proofs.OfJoins.{begins, begins_in_join, begins_so, frame_acts}
 
 -- ---- what a rule says of links
@@ -208,7 +209,7 @@ module _ (p : SettingsValue) (members : List (List ℕ)) (s : System) (r : Traff
   pub delivery_links : (number : ℕ) (frame : Frame) (node : NodeState) → AmongFrames number frame s.frames
       → s.node frame.to ≡ Some node → LinksAreFew members (moved p s (Delivers number)) (traffic_after p s r (Delivers number))
   delivery_links number frame node among at =
-      let is = delivery_of p s number frame node sound among at in
+      let is = is_delivery p s number frame node sound among at in
       let plain = are.nodes frame.to node at in
       let of = of_frame frame.body (are.ways number frame among) in
       let made = delivery_made p s r number node frame.from frame.body is in

@@ -1,5 +1,5 @@
 -- What a move makes of a system and of what is remembered of its frames: one node does something, and what it sends is under way.
-use Rattle.std.proofs.Common.{◌≡◌, ◌⊎◌, ℕ, false, List, [], ◌∷◌, ◌++◌, Some, ap, refl, sym, subst, ◌∙◌, inl, inr}
+use Rattle.std.proofs.Common.{◌≡◌, ◌⊎◌, ℕ, List, [], ◌∷◌, ◌++◌, Some, ap, refl, sym, subst, inl, inr}
 use Rattle.tap_name.specs.Settings.{SettingsValue}
 use Rattle.tap_wire.specs.declared.frame.Body.{Body}
 use Rattle.tap_wire.specs.declared.frame.Frame.{Frame}
@@ -10,7 +10,6 @@ use Rattle.tap_rule.specs.Event.Start.{Join}
 use Rattle.tap_rule.specs.Laws.{frame_to}
 use Rattle.tap_rule.specs.Node.{NodeState, joiner, name_of}
 use Rattle.tap_rule.specs.Sent.{IsAmong}
-use Rattle.tap_rule.specs.Strange.{is_strange}
 use Rattle.tap_safety.specs.Move.Move.{Begins, Delivers}
 use Rattle.tap_safety.specs.SessionSteps.{Exchanges}
 use Rattle.tap_safety.specs.Step.{HasSent, numbered_from}
@@ -23,8 +22,6 @@ use Rattle.tap_moves.specs.InvariantLaws.{IsDelivery}
 use Rattle.tap_moves.proofs.Exchanged.{exchanges}
 use Rattle.tap_moves.proofs.InvariantMoves.{due}
 use Rattle.tap_moves.proofs.MovesMade.{by_rule, is_found}
-use Rattle.tap_invariant.specs.Sound.{Sound}
-use Rattle.tap_invariant.proofs.Consequences.{none_is_strange}
 use Rattle.tap_bounds.specs.Traffic.{Traffic, sent_by, taken_by, traffic_after}
 
 -- The node of a name does this, no other changes; these frames are taken, and those that it sends are under way.
@@ -37,20 +34,6 @@ pub record IsMade (s s' : System) (r r' : Traffic) (own : List ℕ) (acted : Act
   pub new : (f : Frame) → IsAmong f acted.sent → (m : ℕ) × AmongFrames m f s'.frames
 
 -- ---- a frame is delivered
-
-pub delivery_of : (p : SettingsValue) (s : System) (number : ℕ) (frame : Frame) (node : NodeState) → Sound p s
-    → AmongFrames number frame s.frames → s.node frame.to ≡ Some node → IsDelivery p s number node frame.from frame.body
-delivery_of p s number frame node sound among at =
-    let name : name_of node ≡ frame.to = (sound.nodes.nodes frame.to node at).name in
-    let same : frame ≡ frame_to node frame.from frame.body =
-    ap (λ to. record { from = frame.from; to = to; body = frame.body }) (sym name) in
-    record {
-      invariant = sound.invariant.basis;
-      nodes = sound.nodes;
-      among = subst (λ f. AmongFrames number f s.frames) same among;
-      at = ap s.node name ∙ at;
-      known = subst (λ f. is_strange node f ≡ false) same (none_is_strange p s number frame node sound among at);
-    }
 
 module _ (p : SettingsValue) (s : System) (r : Traffic) (number : ℕ) (node : NodeState) (from : List ℕ) (body : Body)
     (is : IsDelivery p s number node from body) where

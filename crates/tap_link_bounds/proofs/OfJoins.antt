@@ -27,12 +27,13 @@ use Rattle.tap_invariant.specs.Moves.{after_moves, may_run}
 use Rattle.tap_invariant.specs.Sound.{Sound}
 use Rattle.tap_invariant.proofs.Members.{sound_at_rest}
 use Rattle.tap_invariant.proofs.Moves.{move_keeps}
+use Rattle.tap_invariant.proofs.Delivered.{is_delivery}
 use Rattle.tap_bounds.specs.Moves.{traffic_of}
 use Rattle.tap_bounds.specs.Traffic.{Traffic, no_traffic, traffic_after}
 use Rattle.tap_link_bounds.specs.OfJoins.{IsJoinBody, IsOfJoin, JoinsAlone, RunSentAreOfJoins}
 use Rattle.tap_link_bounds.proofs.Alone.{IsJoinMessage, IsJoinStep, IsPlainNode, IsUnreleasing, rule_joins}
 use Rattle.tap_link_bounds.proofs.Kept.{ActsInJoin, AreOfJoins, are_of_joins, carried_acts, ignored_acts, joins_kept, of_frame}
-use Rattle.tap_link_bounds.proofs.Made.{delivery_made, delivery_of, join_made}
+use Rattle.tap_link_bounds.proofs.Made.{delivery_made, join_made}
 
 -- ---- what a node does
 
@@ -69,7 +70,7 @@ module _ (p : SettingsValue) (members : List (List ℕ)) (s : System) (r : Traff
       → Sound p (moved p s (Delivers number))
       → AreOfJoins members (moved p s (Delivers number)) (traffic_after p s r (Delivers number))
   delivery_keeps number frame node among at after =
-      let is = delivery_of p s number frame node sound among at in
+      let is = is_delivery p s number frame node sound among at in
       let acts = frame_acts node (frame_to node frame.from frame.body) is.known (are.nodes frame.to node at)
       (of_frame frame.body (are.ways number frame among)) in
       joins_kept p members s (moved p s (Delivers number)) r (traffic_after p s r (Delivers number)) node (name_of node)

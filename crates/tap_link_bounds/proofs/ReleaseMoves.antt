@@ -38,6 +38,7 @@ use Rattle.tap_moves.specs.ByRule.{taken_at}
 use Rattle.tap_moves.specs.InvariantLaws.{IsDelivery}
 use Rattle.tap_moves.proofs.Got.{same_name}
 use Rattle.tap_invariant.specs.Sound.{Sound}
+use Rattle.tap_invariant.proofs.Delivered.{is_delivery}
 use Rattle.tap_bounds.specs.Traffic.{Traffic, traffic_after}
 use Rattle.tap_bounds.proofs.Counting.{CountsMessages, count-append, count-cons, count-map_none, counted}
 use Rattle.tap_link_bounds.specs.LinkBounds.{is_link_on, is_release, links_on, releases_pin}
@@ -45,7 +46,7 @@ use Rattle.tap_link_bounds.specs.OfJoins.{IsJoinBody}
 use Rattle.tap_link_bounds.proofs.Alone.{IsJoinStep, IsPlainNode, IsUnreleasing, JoinsOrIsCore, MayRelease, rule_joins}
 use Rattle.tap_link_bounds.proofs.Kept.{AreOfJoins, of_frame}
 use Rattle.tap_link_bounds.proofs.Links.{IsPinning, covers_pins, meets_pins}
-use Rattle.tap_link_bounds.proofs.Made.{IsMade, delivery_made, delivery_of, join_made}
+use Rattle.tap_link_bounds.proofs.Made.{IsMade, delivery_made, join_made}
 use Rattle.tap_link_bounds.proofs.OfJoins.{begins, begins_so}
 use Rattle.tap_link_bounds.proofs.Releases.{ReleasesStep, answers_owed, hears_owed, owed, owed_by, pays_owed, stays_owed}
 use Rattle.tap_link_bounds.proofs.Words.{apart_test, same_test}
@@ -252,7 +253,7 @@ module _ (p : SettingsValue) (members : List (List ℕ)) (s : System) (r : Traff
   pub delivery_releases : (number : ℕ) (frame : Frame) (node : NodeState) → AmongFrames number frame s.frames
       → s.node frame.to ≡ Some node → ReleasesAreFew (moved p s (Delivers number)) (traffic_after p s r (Delivers number))
   delivery_releases number frame node among at =
-      let is = delivery_of p s number frame node sound among at in
+      let is = is_delivery p s number frame node sound among at in
       let of = of_frame frame.body (are.ways number frame among) in
       let acts = frame_releases p s number node frame.from frame.body is (are.nodes frame.to node at) of in
       let here = is.at in
