@@ -176,3 +176,19 @@ fn a_scenario_is_made(rt: HostRuntime) -> Result<(), Fail> {
     );
     Ok(())
 }
+
+// A scenario that is made for twelve joins gives the same summary each time, and none of its steps is refused.
+#[test]
+fn a_scenario_of_twelve_joins_is_made_twice(rt: HostRuntime) -> Result<(), Fail> {
+    let words = ["--make", "12", "--seed", "1"];
+    for _ in 0..2 {
+        let outcome = run_words(rt.alloc(), &words, b"".as_slice(), &[1], &[])?;
+        assert_eq!(rt; outcome.status, Status::Done);
+        assert!(rt; !outcome.refuses);
+        assert_eq!(rt;
+            outcome.written.as_slice(),
+            b"nodes 38\nframes 1443\nhops 2\nanswered 30\n".as_slice()
+        );
+    }
+    Ok(())
+}

@@ -1,6 +1,7 @@
 use std::alloc::{AllocError, Global};
 use std::test::Fail;
 use tap_io::{MemorySink, MemorySource};
+use tap_log::Record;
 use tap_top::{Ended, Status, run};
 
 /// A scenario of one walk over five members, line by line.
@@ -35,12 +36,13 @@ pub(crate) fn with_line(alloc: Global, place: usize, line: &str) -> Result<Strin
 }
 
 /// What a run left: how it ended, with regard to writing and without, how many records the log of its world has, none if no
-/// world is left, and the bytes that it wrote.
+/// world is left, whether one of them says that a step is refused, and the bytes that it wrote.
 #[derive(Drop)]
 pub(crate) struct Outcome {
     pub(crate) status: Status,
     pub(crate) before: Status,
     pub(crate) records: usize,
+    pub(crate) refuses: bool,
     pub(crate) written: Vec<u8>,
 }
 
@@ -65,19 +67,15 @@ pub(crate) fn run_words(
     let mut source = MemorySource::new(alloc, text, 16, read_fails).map_err(|_| "no memory")?;
     let mut sink = MemorySink::new(alloc, 10, 65536, write_fails).map_err(|_| "no memory")?;
     let words = owned(alloc, words)?;
-    let (status, before, records) = seen_of(run(alloc, &words, &mut source, &mut sink));
+    let ended = run(alloc, &words, &mut source, &mut sink);
     let written = Vec::from_slice(alloc, sink.bytes())?;
     Ok(Outcome {
-        status,
-        before,
-        records,
+        status: ended.status,
+        before: ended.before,
+        records: records_of(&ended).len(),
+        refuses: refuses(records_of(&ended)),
         written,
     })
-}
-
-// What is looked at of what a run left.
-fn seen_of(ended: Ended) -> (Status, Status, usize) {
-    (ended.status, ended.before, record_count(&ended))
 }
 
 // These words, as a command line has them.
@@ -89,10 +87,20 @@ fn owned(alloc: Global, words: &[&str]) -> Result<Vec<String>, Fail> {
     Ok(texts)
 }
 
-// How many records the log of the world has that is left; none if no world is.
-fn record_count(ended: &Ended) -> usize {
+// The records of the log of the world that is left; none if no world is.
+fn records_of(ended: &Ended) -> &[Record] {
     match &ended.world {
-        Some(world) => world.log().len(),
-        None => 0,
+        Some(world) => world.log().as_slice(),
+        None => &[],
     }
+}
+
+// Whether one of these records says that a step is refused.
+fn refuses(records: &[Record]) -> bool {
+    for item in records {
+        if let Record::Refused { .. } = item {
+            return true;
+        }
+    }
+    false
 }

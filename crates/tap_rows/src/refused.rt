@@ -6,7 +6,7 @@ use tap_top::Status;
 // A line of the scenario, counted from 0, what stands there in its stead, the fault, and what is printed of it.
 type Refused = (usize, &'static str, Fault, &'static str);
 
-const REFUSED: [Refused; 15] = [
+const REFUSED: [Refused; 17] = [
     (0, "base = 17", Fault::BadValue(Key::Base), "bad value base"),
     (0, "base = 4\nbase = 4", Fault::NotToml, "not TOML"),
     (0, "", Fault::BadKey(Key::Base), "bad key base"),
@@ -30,6 +30,12 @@ const REFUSED: [Refused; 15] = [
     ),
     (
         4,
+        "steps = [\"walk 123 from 000\"]\ncarrier = true",
+        Fault::BadKey(Key::Unknown),
+        "bad key unknown",
+    ),
+    (
+        4,
         "steps = \"settle\"",
         Fault::BadValue(Key::Steps),
         "bad value steps",
@@ -37,13 +43,13 @@ const REFUSED: [Refused; 15] = [
     (0, "[base]", Fault::BadKey(Key::Digits), "bad key digits"),
     (
         3,
-        "members = [\"000\", \"014\", \"230\"]",
+        "members = [\"000\", \"014\", \"230\", \"233\", \"301\"]",
         Fault::BadValue(Key::Members),
         "bad value members",
     ),
     (
         3,
-        "members = [\"000\", \"000\"]",
+        "members = [\"000\", \"000\", \"230\", \"233\", \"301\"]",
         Fault::BadValue(Key::Members),
         "bad value members",
     ),
@@ -61,9 +67,15 @@ const REFUSED: [Refused; 15] = [
     ),
     (
         4,
-        "steps = [\"root 123\", \"deliver 007\"]",
+        "steps = [\"settle\", \"deliver 007\"]",
         Fault::BadStep(2),
         "bad step 2",
+    ),
+    (
+        4,
+        "steps = [\"publish 123 at 301\", \"settle\", \"pointer 233\"]",
+        Fault::BadStep(3),
+        "bad step 3",
     ),
     (
         4,

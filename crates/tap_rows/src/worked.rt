@@ -87,7 +87,7 @@ done 0
 ];
 
 // Joins, also such as overlap, in several orders of delivery.
-const JOINS: [Worked; 8] = [
+const JOINS: [Worked; 9] = [
     Worked {
         shows: "one join every frame",
         words: &[],
@@ -294,6 +294,20 @@ taken 6
 core 000000001
 sent 7 release 000000001 000000000 0207000009000000000000000001000000000000000000
 taken 7
+done 2
+",
+    },
+    Worked {
+        shows: "nine digits in brief",
+        words: &["--brief"],
+        text: "base = 2
+digits = 9
+width = 1
+members = [\"000000000\"]
+steps = [\"join 000000001 via 000000000\", \"settle\"]
+",
+        printed: "begin base 2 digits 9 width 1 frames 100000
+core 000000001
 done 2
 ",
     },
