@@ -19,3 +19,7 @@ pub mod Fit
 pub mod HasRule
 pub mod Said
 pub mod Begins
+pub mod Cases
+pub mod EachRule
+pub mod Named
+pub mod EachAct
