@@ -38,8 +38,8 @@ use Rattle.tap_moves.specs.ByRule.{taken_at}
 use Rattle.tap_moves.specs.Delivered.{after_start}
 use Rattle.tap_moves.specs.InvariantLaws.{IsDelivery}
 use Rattle.tap_moves.proofs.SeekGoesOn.{one_sent}
-use Rattle.tap_invariant.specs.Sound.{Sound}
-use Rattle.tap_invariant.proofs.Moves.{move_keeps}
+use Rattle.tap_safety_moves.specs.Sound.{Sound}
+use Rattle.tap_safety_moves.proofs.Moves.{move_keeps}
 use Rattle.tap_bounds.specs.Lookups.{LookupSendsFew}
 use Rattle.tap_bounds.specs.Traffic.{no_traffic, sent_by, traffic_after}
 use Rattle.tap_bounds.proofs.OneWay.{MoveLeft, SendsLeft, deliveries_left, move_left, sends_none, sends_one}

@@ -16,10 +16,10 @@ use Rattle.tap_moves.specs.Delivered.{after_delivery}
 use Rattle.tap_moves.specs.InvariantLaws.{IsDelivery}
 use Rattle.tap_moves.proofs.InvariantMoves.{due}
 use Rattle.tap_moves.proofs.MovesMade.{by_rule, is_found}
-use Rattle.tap_invariant.specs.Moves.{may_run}
-use Rattle.tap_invariant.specs.Sound.{Sound}
-use Rattle.tap_invariant.proofs.Moves.{move_keeps}
-use Rattle.tap_invariant.proofs.Delivered.{is_delivery, is_to_receiver}
+use Rattle.tap_safety_moves.specs.Moves.{may_run}
+use Rattle.tap_safety_moves.specs.Sound.{Sound}
+use Rattle.tap_safety_moves.proofs.Moves.{move_keeps}
+use Rattle.tap_safety_moves.proofs.Delivered.{is_delivery, is_to_receiver}
 use Rattle.tap_bounds.specs.Lookups.{AreDeliveries}
 use Rattle.tap_bounds.specs.Moves.{traffic_of}
 use Rattle.tap_bounds.specs.Traffic.{Traffic, sent_by, traffic_after}

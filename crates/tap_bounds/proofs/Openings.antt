@@ -27,11 +27,11 @@ use Rattle.tap_moves.specs.InvariantLaws.{IsDelivery}
 use Rattle.tap_moves.proofs.Got.{same_name}
 use Rattle.tap_moves.proofs.InvariantMoves.{due}
 use Rattle.tap_moves.proofs.MovesMade.{by_rule, is_found}
-use Rattle.tap_invariant.specs.Moves.{after_moves, may_run}
-use Rattle.tap_invariant.specs.Sound.{Sound}
-use Rattle.tap_invariant.proofs.Members.{sound_at_rest}
-use Rattle.tap_invariant.proofs.Moves.{move_keeps}
-use Rattle.tap_invariant.proofs.Delivered.{is_delivery}
+use Rattle.tap_safety_moves.specs.Moves.{after_moves, may_run}
+use Rattle.tap_safety_moves.specs.Sound.{Sound}
+use Rattle.tap_safety_moves.proofs.Members.{sound_at_rest}
+use Rattle.tap_safety_moves.proofs.Moves.{move_keeps}
+use Rattle.tap_safety_moves.proofs.Delivered.{is_delivery}
 use Rattle.tap_bounds.specs.Openings.{FewAreOpened, MoveKeepsOpened, OpenedAreFew, OpenedAtRest, Opening, RunOpensFew, is_opened_at, is_opened_for, most_opened, opened_by_move, opened_by_moves}
 use Rattle.tap_bounds.proofs.Counting.{count-append, count-cons}
 use Rattle.tap_bounds.proofs.OpenSteps.{opened_most}

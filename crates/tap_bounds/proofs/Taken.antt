@@ -15,10 +15,10 @@ use Rattle.tap_safety.specs.Moved.{moved, numbered_frame, starter}
 use Rattle.tap_safety.specs.Step.{IsTaken, numbered_from}
 use Rattle.tap_safety.specs.System.{System}
 use Rattle.tap_safety.proofs.Moves.{delivers, found, starts}
-use Rattle.tap_invariant.specs.Moves.{after_moves, may_run}
-use Rattle.tap_invariant.specs.Sound.{Sound}
-use Rattle.tap_invariant.proofs.Members.{sound_at_rest}
-use Rattle.tap_invariant.proofs.Moves.{move_keeps}
+use Rattle.tap_safety_moves.specs.Moves.{after_moves, may_run}
+use Rattle.tap_safety_moves.specs.Sound.{Sound}
+use Rattle.tap_safety_moves.proofs.Members.{sound_at_rest}
+use Rattle.tap_safety_moves.proofs.Moves.{move_keeps}
 use Rattle.tap_bounds.specs.Few.{is_hello_to}
 use Rattle.tap_bounds.specs.Moves.{traffic_of}
 use Rattle.tap_bounds.specs.Taken.{AllAreKnown, HeardsByHellos, KnownAtRest, MoveKeepsKnown, RunKnowsAll}

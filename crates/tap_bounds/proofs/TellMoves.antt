@@ -41,11 +41,11 @@ use Rattle.tap_moves.specs.InvariantLaws.{IsDelivery}
 use Rattle.tap_moves.proofs.Got.{same_name}
 use Rattle.tap_moves.proofs.InvariantMoves.{due, name_at, of_node, seeker_not_core, way}
 use Rattle.tap_moves.proofs.MovesMade.{by_rule, is_found}
-use Rattle.tap_invariant.specs.Moves.{after_moves, may_run}
-use Rattle.tap_invariant.specs.Sound.{Sound}
-use Rattle.tap_invariant.proofs.Members.{sound_at_rest}
-use Rattle.tap_invariant.proofs.Moves.{move_keeps}
-use Rattle.tap_invariant.proofs.Delivered.{is_delivery}
+use Rattle.tap_safety_moves.specs.Moves.{after_moves, may_run}
+use Rattle.tap_safety_moves.specs.Sound.{Sound}
+use Rattle.tap_safety_moves.proofs.Members.{sound_at_rest}
+use Rattle.tap_safety_moves.proofs.Moves.{move_keeps}
+use Rattle.tap_safety_moves.proofs.Delivered.{is_delivery}
 use Rattle.tap_bounds.specs.Moves.{traffic_of}
 use Rattle.tap_bounds.specs.Tells.{MoveKeepsTells, RunTellsFew, TellsAreFew, TellsAtRest, is_tell, most_tells, tells_sent}
 use Rattle.tap_bounds.specs.Traffic.{Traffic, no_traffic, sent_by, traffic_after}

@@ -6,8 +6,8 @@ use Rattle.tap_safety.specs.AtRest.{AreMembers, system_at_rest}
 use Rattle.tap_safety.specs.Move.{Move, may_move}
 use Rattle.tap_safety.specs.Moved.{moved}
 use Rattle.tap_safety.specs.System.{System}
-use Rattle.tap_invariant.specs.Moves.{after_moves, may_run}
-use Rattle.tap_invariant.specs.Sound.{Sound}
+use Rattle.tap_safety_moves.specs.Moves.{after_moves, may_run}
+use Rattle.tap_safety_moves.specs.Sound.{Sound}
 use Rattle.tap_bounds.specs.Few.{FewAreSent}
 use Rattle.tap_bounds.specs.Traffic.{Traffic, no_traffic, traffic_after}
 

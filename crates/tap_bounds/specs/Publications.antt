@@ -5,8 +5,8 @@ use Rattle.tap_rule.specs.Event.Start.{Publish}
 use Rattle.tap_safety.specs.Move.{Move}
 use Rattle.tap_safety.specs.Move.Move.{Begins}
 use Rattle.tap_safety.specs.System.{System}
-use Rattle.tap_invariant.specs.Moves.{may_run}
-use Rattle.tap_invariant.specs.Sound.{Sound}
+use Rattle.tap_safety_moves.specs.Moves.{may_run}
+use Rattle.tap_safety_moves.specs.Sound.{Sound}
 use Rattle.tap_pointer_moves.specs.Told.{PointersStand}
 use Rattle.tap_bounds.specs.Lookups.{AreDeliveries}
 use Rattle.tap_bounds.specs.Moves.{traffic_of}

@@ -23,11 +23,11 @@ use Rattle.tap_moves.specs.ByRule.{taken_at}
 use Rattle.tap_safety.specs.System.{System, AmongFrames}
 use Rattle.tap_moves.specs.Delivered.{after_delivery}
 use Rattle.tap_moves.specs.InvariantLaws.{IsDelivery}
-use Rattle.tap_invariant.specs.Moves.{after_moves, may_run}
-use Rattle.tap_invariant.specs.Sound.{Sound}
-use Rattle.tap_invariant.proofs.Delivered.{is_delivery, is_to_receiver}
-use Rattle.tap_invariant.proofs.Members.{sound_at_rest}
-use Rattle.tap_invariant.proofs.Moves.{move_keeps}
+use Rattle.tap_safety_moves.specs.Moves.{after_moves, may_run}
+use Rattle.tap_safety_moves.specs.Sound.{Sound}
+use Rattle.tap_safety_moves.proofs.Delivered.{is_delivery, is_to_receiver}
+use Rattle.tap_safety_moves.proofs.Members.{sound_at_rest}
+use Rattle.tap_safety_moves.proofs.Moves.{move_keeps}
 use Rattle.tap_cast_moves.specs.Audience.{CastsAreSound}
 use Rattle.tap_cast_moves.specs.Moves.{AreNewCasts, CastsAtRest, CastsQuietly, IsNewCast, MoveKeepsCasts, RestClosesCasts, RunCastsAreSound, recalled_moves}
 use Rattle.tap_cast_moves.specs.News.{MoveNewsAreTrue, NewsAreTrue, news_of_frame}

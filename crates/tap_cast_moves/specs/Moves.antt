@@ -7,8 +7,8 @@ use Rattle.tap_safety.specs.Move.{Move, may_move}
 use Rattle.tap_safety.specs.Move.Move.{Begins}
 use Rattle.tap_safety.specs.Moved.{moved}
 use Rattle.tap_safety.specs.System.{System}
-use Rattle.tap_invariant.specs.Moves.{after_moves, may_run}
-use Rattle.tap_invariant.specs.Sound.{Sound}
+use Rattle.tap_safety_moves.specs.Moves.{after_moves, may_run}
+use Rattle.tap_safety_moves.specs.Sound.{Sound}
 use Rattle.tap_cast_moves.specs.Audience.{CastsAreSound}
 use Rattle.tap_cast_moves.specs.Recalled.{recalled}
 use Rattle.tap_cast_moves.specs.Remembered.{CastMemory, no_casts}

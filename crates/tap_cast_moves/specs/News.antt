@@ -12,7 +12,7 @@ use Rattle.tap_safety.specs.Move.{Move, may_move}
 use Rattle.tap_safety.specs.Move.Move.{Begins, Delivers}
 use Rattle.tap_safety.specs.Moved.{numbered_frame, starter}
 use Rattle.tap_safety.specs.System.{System, IsCoreNode}
-use Rattle.tap_invariant.specs.Sound.{Sound}
+use Rattle.tap_safety_moves.specs.Sound.{Sound}
 use Rattle.tap_cast_moves.specs.Audience.{CastsAreSound}
 use Rattle.tap_cast_moves.specs.Moves.{IsNewCast}
 use Rattle.tap_cast_moves.specs.Recalled.{recalled}

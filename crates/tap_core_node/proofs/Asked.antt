@@ -27,7 +27,7 @@ use Rattle.tap_rule.specs.Strange.{is_no_pin, is_strange}
 use Rattle.tap_rule.proofs.CoverSteps.{seek_fits}
 use Rattle.tap_rule.proofs.Fit.{fit_law}
 use Rattle.tap_rule.proofs.JoinSteps.{IsTellFit}
-use Rattle.tap_step.specs.Sound.{IsParent, MayTake}
+use Rattle.tap_node_common.specs.Sound.{IsParent, MayTake}
 use Rattle.tap_core_node.proofs.Covers.{few_pinned, full_is_few, shared_within, surrogate_may_cover, told_may_cover}
 
 -- a link that is a pin or isn't there

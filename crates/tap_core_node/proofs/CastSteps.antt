@@ -25,20 +25,20 @@ use Rattle.tap_cast.specs.Casts.{CastsValue, level_of_cast, turn_of, with_cast}
 use Rattle.tap_cast.specs.Targets.{cast_targets, primary_or_pins, targets_between, told_at}
 use Rattle.tap_cast.proofs.Casting.{targets_are}
 use Rattle.tap_wire.specs.Spelling.{IsBody, IsLevel}
-use Rattle.tap_turn.specs.declared.cast_fields.CastFields.{CastFields}
-use Rattle.tap_turn.specs.Spelled.{HaveSpellings}
-use Rattle.tap_turn.specs.Targets.{cast_to}
+use Rattle.tap_node_common.specs.declared.cast_fields.CastFields.{CastFields}
+use Rattle.tap_node_common.specs.Spelled.{HaveSpellings}
+use Rattle.tap_node_common.specs.Targets.{cast_to}
 use Rattle.tap_rule.specs.Event.News.{Nothing as RuleNothing}
 use Rattle.tap_rule.specs.Node.{NodeState}
 use Rattle.tap_rule.specs.Reaction.{Message}
 use Rattle.tap_rule.specs.Casts.{Copy, cast_answer, cast_answered, cast_for, cast_news, cast_of, casts, is_root, next_cast_session, with_cast_session}
 use Rattle.tap_rule.specs.Sending.{message_frame}
-use Rattle.tap_step.specs.declared.news.News.TheVariants.{Nothing}
-use Rattle.tap_step.specs.declared.sender.Sender.{Sender}
-use Rattle.tap_step.specs.Sender.{message_bytes, node_sender}
-use Rattle.tap_step.specs.Step.{StepsAs, news_of}
-use Rattle.tap_step.proofs.Sending.{messages_spelled}
-use Rattle.tap_step.proofs.Steps.{messages_step, silent_step}
+use Rattle.tap_node_common.specs.declared.news.News.TheVariants.{Nothing}
+use Rattle.tap_node_common.specs.declared.sender.Sender.{Sender}
+use Rattle.tap_node_common.specs.Sender.{message_bytes, node_sender}
+use Rattle.tap_node_common.specs.Step.{StepsAs, news_of}
+use Rattle.tap_node_common.proofs.Sending.{messages_spelled}
+use Rattle.tap_node_common.proofs.ReactionSteps.{messages_step, silent_step}
 use Rattle.tap_core_node.proofs.Covers.{few_filtered, shared_within}
 
 -- the Casts of a copy keep the rules of their fields

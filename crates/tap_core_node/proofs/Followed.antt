@@ -26,10 +26,10 @@ use Rattle.tap_rule.specs.Casts.{Copy, cast_answered, cast_answered_as, cast_of,
 use Rattle.tap_rule.specs.Covering.{Request, answers_awaited, covers, covers_as, first_request, pins_and_covers, seeks, seeks_as, spreads, with_level}
 use Rattle.tap_rule.specs.JoinSteps.{found_for}
 use Rattle.tap_rule.specs.Pointers.{asks, finds}
-use Rattle.tap_step.specs.declared.news.News.{News}
-use Rattle.tap_step.specs.Sound.{IsSoundNode}
-use Rattle.tap_step.specs.Step.{FollowsAs, StepsAs}
-use Rattle.tap_step.proofs.Followed.{LeavesAlone, asks_alone, finds_alone, follows_quietly}
+use Rattle.tap_node_common.specs.declared.news.News.{News}
+use Rattle.tap_node_common.specs.Sound.{IsSoundNode}
+use Rattle.tap_node_common.specs.Step.{FollowsAs, StepsAs}
+use Rattle.tap_node_common.proofs.Followed.{LeavesAlone, asks_alone, finds_alone, follows_quietly}
 use Rattle.tap_core_node.proofs.Laid.{laid-pinned}
 
 -- a reaction that leaves the node core, without Lays and with each pair laid as wanted

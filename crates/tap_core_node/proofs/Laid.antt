@@ -22,7 +22,7 @@ use Rattle.tap_pointer.specs.Pointers.{PointersValue, level_held}
 use Rattle.tap_pointer.specs.Reconcile.{AreLaid, AreLaidBeside, hop_from, hop_of, wanted_hop}
 use Rattle.tap_pointer.proofs.Beside.{laid_beside}
 use Rattle.tap_depart.specs.Told.{has_settled_near, offered_if, told_leave}
-use Rattle.tap_step.specs.Sound.{AreNamedPairs}
+use Rattle.tap_node_common.specs.Sound.{AreNamedPairs}
 use Rattle.tap_core_node.specs.Primaries.{IsLevelOfLeave, has_other_primary, is_another}
 
 -- tables of one owner and base, with the same primaries

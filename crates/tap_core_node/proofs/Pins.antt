@@ -14,12 +14,12 @@ use Rattle.tap_rule.specs.Event.News.{Nothing as RuleNothing}
 use Rattle.tap_rule.specs.Node.{NodeState, name_of, settings_of}
 use Rattle.tap_rule.specs.Node.Status.{Core}
 use Rattle.tap_rule.specs.Reaction.{message, pin_word, with_pin}
-use Rattle.tap_step.specs.declared.news.News.{News}
-use Rattle.tap_step.specs.declared.news.News.TheVariants.{Nothing}
-use Rattle.tap_step.specs.Sender.{message_bytes, node_sender, word_bytes}
-use Rattle.tap_step.specs.Sound.{IsSoundNode}
-use Rattle.tap_step.specs.Step.{FollowsAs, StepsAs}
-use Rattle.tap_step.proofs.Steps.{messages_step}
+use Rattle.tap_node_common.specs.declared.news.News.{News}
+use Rattle.tap_node_common.specs.declared.news.News.TheVariants.{Nothing}
+use Rattle.tap_node_common.specs.Sender.{message_bytes, node_sender, word_bytes}
+use Rattle.tap_node_common.specs.Sound.{IsSoundNode}
+use Rattle.tap_node_common.specs.Step.{FollowsAs, StepsAs}
+use Rattle.tap_node_common.proofs.ReactionSteps.{messages_step}
 use Rattle.tap_core_node.proofs.Followed.{follows_quiet, pins_and_covers_quiet, seeks_quiet}
 use Rattle.tap_core_node.proofs.Spreads.{covers_no_words, words_first}
 

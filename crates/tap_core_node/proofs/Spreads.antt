@@ -15,21 +15,21 @@ use Rattle.tap_multicast.specs.declared.target.Target.{Target}
 use Rattle.tap_multicast.specs.Covers.{CoversValue, covered, with_cover}
 use Rattle.tap_wire.specs.declared.frame.TellFields.{TellFields}
 use Rattle.tap_wire.specs.Spelling.{AreSlots, IsBody, spelling}
-use Rattle.tap_turn.specs.Spelled.{HaveSpellings, spelled}
-use Rattle.tap_turn.specs.Targets.{tell_to}
+use Rattle.tap_node_common.specs.Spelled.{HaveSpellings, spelled}
+use Rattle.tap_node_common.specs.Targets.{tell_to}
 use Rattle.tap_rule.specs.Event.News.{Nothing as RuleNothing}
 use Rattle.tap_rule.specs.Node.{NodeState}
 use Rattle.tap_rule.specs.Reaction.{Message, Reaction, with_words}
 use Rattle.tap_rule.specs.Answers.{answer_for, next_number, with_session}
 use Rattle.tap_rule.specs.Covering.{Request, answers_awaited, covers, covers_as, greeting, spreads, tell_for, with_level}
 use Rattle.tap_rule.specs.Sending.{message_frame}
-use Rattle.tap_step.specs.declared.news.News.{News}
-use Rattle.tap_step.specs.declared.news.News.TheVariants.{Nothing}
-use Rattle.tap_step.specs.declared.sender.Sender.{Sender}
-use Rattle.tap_step.specs.Sender.{lay_bytes, message_bytes, node_sender, word_bytes}
-use Rattle.tap_step.specs.Step.{StepsAs}
-use Rattle.tap_step.proofs.Sending.{messages_spelled}
-use Rattle.tap_step.proofs.Steps.{messages_step, no_words}
+use Rattle.tap_node_common.specs.declared.news.News.{News}
+use Rattle.tap_node_common.specs.declared.news.News.TheVariants.{Nothing}
+use Rattle.tap_node_common.specs.declared.sender.Sender.{Sender}
+use Rattle.tap_node_common.specs.Sender.{lay_bytes, message_bytes, node_sender, word_bytes}
+use Rattle.tap_node_common.specs.Step.{StepsAs}
+use Rattle.tap_node_common.proofs.Sending.{messages_spelled}
+use Rattle.tap_node_common.proofs.ReactionSteps.{messages_step, no_words}
 use Rattle.tap_core_node.proofs.Covers.{already_same}
 
 -- a number that isn't 0 is tested so

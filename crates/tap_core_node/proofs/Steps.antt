@@ -16,12 +16,12 @@ use Rattle.tap_rule.specs.Node.{IsRunning, NodeState, join_session_at, name_of, 
 use Rattle.tap_rule.specs.Node.Status.{Core}
 use Rattle.tap_rule.specs.Pointers.{is_answered, lays_due, with_reconciled}
 use Rattle.tap_rule.specs.Reaction.{Message, message, stays, with_ties}
-use Rattle.tap_step.specs.declared.news.News.TheVariants.{Answered, Nothing}
-use Rattle.tap_step.specs.Sender.{lay_bytes, message_bytes, node_sender, word_bytes}
-use Rattle.tap_step.specs.Sound.{IsSoundNode}
-use Rattle.tap_step.specs.Step.{FollowsAs, StepsAs}
-use Rattle.tap_step.proofs.Followed.{follows_rule}
-use Rattle.tap_step.proofs.Steps.{messages_step, reconciled_step, silent_step, words_step}
+use Rattle.tap_node_common.specs.declared.news.News.TheVariants.{Answered, Nothing}
+use Rattle.tap_node_common.specs.Sender.{lay_bytes, message_bytes, node_sender, word_bytes}
+use Rattle.tap_node_common.specs.Sound.{IsSoundNode}
+use Rattle.tap_node_common.specs.Step.{FollowsAs, StepsAs}
+use Rattle.tap_node_common.proofs.Followed.{follows_rule}
+use Rattle.tap_node_common.proofs.ReactionSteps.{messages_step, reconciled_step, silent_step, words_step}
 use Rattle.tap_core_node.specs.Primaries.{has_other_primary}
 use Rattle.tap_core_node.proofs.Followed.{follows_quiet}
 use Rattle.tap_core_node.proofs.Laid.{laid-forgotten, laid-released, laid-removed, laid-told_leave}

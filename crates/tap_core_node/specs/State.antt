@@ -2,7 +2,7 @@
 --
 -- Rule: docs/PROTOCOL.md, "Nodes".
 use Rattle.tap_rule.specs.Node.{NodeState}
-use Rattle.tap_step.specs.States.{core_state_of}
+use Rattle.tap_node_common.specs.States.{core_state_of}
 use Rattle.tap_core_node.specs.declared.core_node.CoreNode.{CoreNode}
 
 -- a core node

@@ -5,18 +5,17 @@ ghost use Rattle.tap_name.specs.Word.{IsWord};
 ghost use Rattle.tap_session.specs.Session.{most_sessions};
 ghost use Rattle.tap_rule.specs.Casts.{cast_answered, cast_for, cast_news, casts, is_root, next_cast_session, with_cast_session};
 ghost use Rattle.tap_wire.specs.Spelling.{IsLevel};
-ghost use Rattle.tap_step.specs.Sender.{message_bytes, sender_of};
-ghost use Rattle.tap_step.specs.Sound.{IsParent, IsSoundNode, has_numbers_left};
-ghost use Rattle.tap_step.specs.Step.{FollowsAs, news_of};
+ghost use Rattle.tap_node_common.specs.Sender.{message_bytes, sender_of};
+ghost use Rattle.tap_node_common.specs.Sound.{IsParent, IsSoundNode, has_numbers_left};
+ghost use Rattle.tap_node_common.specs.Step.{FollowsAs, news_of};
 ghost use Rattle.tap_core_node.specs.Requests.{copied_with};
 ghost use Rattle.tap_core_node.specs.State.{core_state};
 
 use crate::core_node::CoreNode;
 use tap_cast::{CastTarget, CastTurn};
 use tap_name::List;
+use tap_node_common::{CastFields, FrameList, News, NoMemory};
 use tap_session::{Answered, Parent};
-use tap_step::{News, NoMemory};
-use tap_turn::{CastFields, FrameList};
 use tap_wire::Bytes;
 
 /// A copy of a cast but its word.

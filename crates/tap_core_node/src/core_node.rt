@@ -11,10 +11,10 @@ ghost use Rattle.tap_rule.specs.Links.{forgets, hears_and_releases, releases};
 ghost use Rattle.tap_rule.specs.Node.{member_at_rest};
 ghost use Rattle.tap_rule.specs.Pointers.{asks, finds, lays_due, starts_publishing, takes_lay, with_reconciled, withdraws};
 ghost use Rattle.tap_wire.specs.Spelling.{IsLevel};
-ghost use Rattle.tap_step.specs.Sender.{lay_bytes, sender_of};
-ghost use Rattle.tap_step.specs.Sound.{AreNamedHops, AreNamedPairs, IsSoundNode, MayTake, has_numbers_left};
-ghost use Rattle.tap_step.specs.States.{newly_core};
-ghost use Rattle.tap_step.specs.Step.{FollowsAs};
+ghost use Rattle.tap_node_common.specs.Sender.{lay_bytes, sender_of};
+ghost use Rattle.tap_node_common.specs.Sound.{AreNamedHops, AreNamedPairs, IsSoundNode, MayTake, has_numbers_left};
+ghost use Rattle.tap_node_common.specs.States.{newly_core};
+ghost use Rattle.tap_node_common.specs.Step.{FollowsAs};
 ghost use Rattle.tap_core_node.specs.Primaries.{IsLevelOfLeave, has_other_primary};
 ghost use Rattle.tap_core_node.specs.State.{core_state};
 
@@ -25,15 +25,14 @@ use tap_depart::told_leave;
 use tap_join::Core;
 use tap_link::{Forget, Release};
 use tap_name::{List, Name, Settings};
+use tap_node_common::{
+    FrameList, News, NoMemory, NodeParts, Sender, TakenFind, TakenLay, ask, hear_and_release,
+    reconcile, reconcile_at, reconcile_pair, take_answer, take_find, take_lay,
+};
 use tap_pointer::Pointers;
 use tap_register::Stamp;
 use tap_session::{Parent, Sessions};
-use tap_step::{
-    News, NoMemory, NodeParts, Sender, TakenFind, TakenLay, ask, hear_and_release, reconcile,
-    reconcile_at, reconcile_pair, take_answer, take_find, take_lay,
-};
 use tap_table::{Table, Ties};
-use tap_turn::FrameList;
 use tap_wire::{Body, Frame};
 
 /// A node that takes full part.

@@ -9,9 +9,9 @@ ghost use Rattle.tap_rule.specs.FrameRules.{frame_at_core};
 ghost use Rattle.tap_rule.specs.Reaction.{message};
 ghost use Rattle.tap_wire.specs.Layout.{most_links, most_slots};
 ghost use Rattle.tap_wire.specs.Spelling.{AreLinks, AreSlots};
-ghost use Rattle.tap_step.specs.Sender.{message_bytes};
-ghost use Rattle.tap_step.specs.Sound.{IsParent, IsSoundNode, MayTake, has_numbers_left};
-ghost use Rattle.tap_step.specs.Step.{FollowsAs, StepsAs};
+ghost use Rattle.tap_node_common.specs.Sender.{message_bytes};
+ghost use Rattle.tap_node_common.specs.Sound.{IsParent, IsSoundNode, MayTake, has_numbers_left};
+ghost use Rattle.tap_node_common.specs.Step.{FollowsAs, StepsAs};
 ghost use Rattle.tap_core_node.specs.Requests.{asked_with};
 ghost use Rattle.tap_core_node.specs.State.{core_state};
 
@@ -19,9 +19,8 @@ use crate::core_node::CoreNode;
 use tap_join::Sought;
 use tap_multicast::{Covered, Target};
 use tap_name::{List, Name, Offered};
+use tap_node_common::{FrameList, News, NoMemory, Sender};
 use tap_session::Parent;
-use tap_step::{News, NoMemory, Sender};
-use tap_turn::FrameList;
 use tap_watch::Watch;
 use tap_wire::{Body, Frame, TellFields};
 

@@ -31,14 +31,14 @@ use Rattle.tap_rule.specs.Event.News.{Nothing, Core as IsCore, Gone as IsGone, A
 use Rattle.tap_rule.specs.Node.{NodeState}
 use Rattle.tap_safety.specs.Moved.{numbered_frame, starter}
 use Rattle.tap_safety.specs.System.{System}
-use Rattle.tap_course.specs.Acts.{acted_records, if_so, news_after, news_before, sent_records}
-use Rattle.tap_course.specs.Beginning.{Beginning, IsWithinLimits}
-use Rattle.tap_course.specs.Course.{FollowStep, Follows, IsCourse, IsRefused, MayFollow, is_choice, move_of_group, moved_by, system_of}
-use Rattle.tap_course.specs.Damage.{copied_number, fault_of_copy, garbled}
-use Rattle.tap_course.specs.Group.{accepted_records, received_records, records_of_act, records_unless, start_at, started_records}
-use Rattle.tap_course.specs.Observed.{link_line, observed, pointers_record, table_record, word_of_status}
-use Rattle.tap_course.specs.Starts.{announced}
-use Rattle.tap_course.proofs.Frames.{Exchanges, exchange, frames_kept}
+use Rattle.tap_runs.specs.Acts.{acted_records, if_so, news_after, news_before, sent_records}
+use Rattle.tap_runs.specs.Beginning.{Beginning, IsWithinLimits}
+use Rattle.tap_runs.specs.Course.{FollowStep, Follows, IsCourse, IsRefused, MayFollow, is_choice, move_of_group, moved_by, system_of}
+use Rattle.tap_runs.specs.Damage.{copied_number, fault_of_copy, garbled}
+use Rattle.tap_runs.specs.Group.{accepted_records, received_records, records_of_act, records_unless, start_at, started_records}
+use Rattle.tap_runs.specs.Observed.{link_line, observed, pointers_record, table_record, word_of_status}
+use Rattle.tap_runs.specs.Starts.{announced}
+use Rattle.tap_runs.proofs.Frames.{Exchanges, exchange, frames_kept}
 use Rattle.tap_history.specs.Core.{core_of}
 use Rattle.tap_ledger.specs.Added.{CanAdd, is_plain, most_frames}
 

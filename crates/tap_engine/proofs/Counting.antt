@@ -10,18 +10,18 @@ use Rattle.tap_log.specs.declared.record.Record.TheVariants.{Closed, Reached, Se
 use Rattle.tap_log.specs.Counts.{sent_count}
 use Rattle.tap_log.specs.Kinds.{sent_number}
 use Rattle.tap_log.proofs.Growing.{sent_count-append}
-use Rattle.tap_step.specs.declared.news.News.{News}
-use Rattle.tap_step.specs.declared.news.News.TheVariants as seen_news
+use Rattle.tap_node_common.specs.declared.news.News.{News}
+use Rattle.tap_node_common.specs.declared.news.News.TheVariants as seen_news
 use Rattle.tap_node.specs.declared.turn.Turn.{Turn}
-use Rattle.tap_course.specs.Acts.{if_so, news_after, news_before}
-use Rattle.tap_course.specs.Course.{MayFollow, system_of}
-use Rattle.tap_course.specs.Starts.{announced}
+use Rattle.tap_runs.specs.Acts.{if_so, news_after, news_before}
+use Rattle.tap_runs.specs.Course.{MayFollow, system_of}
+use Rattle.tap_runs.specs.Starts.{announced}
 use Rattle.tap_ledger.specs.Added.{CanAdd, most_frames}
 use Rattle.tap_ledger.proofs.Adding.{can_rest}
 use Rattle.tap_log.specs.Log.{last_of}
 use Rattle.tap_engine.specs.Kept.{AreReady, room_kept, room_of_record}
 use Rattle.tap_engine.specs.Outcome.{adds, adds_within, is_within, spends}
-use Rattle.tap_records.specs.Seen.{bytes_records, seen_after, seen_before, turn_records}
+use Rattle.tap_engine.specs.Seen.{bytes_records, seen_after, seen_before, turn_records}
 use Rattle.tap_engine.specs.Working.{CanAddTurn, LogsAs}
 use Rattle.tap_engine.specs.declared.stop.Stop.{Stop}
 use Rattle.tap_engine.specs.declared.stop.Stop.TheVariants.{NoMemory, Spent as IsSpent}

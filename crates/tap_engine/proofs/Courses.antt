@@ -12,12 +12,12 @@ use Rattle.tap_log.specs.Log.{last_of}
 use Rattle.tap_history.specs.Core.{members_of}
 use Rattle.tap_history.specs.Groups.{beginning_of, is_ended}
 use Rattle.tap_history.specs.Refusals.{begin_settings}
-use Rattle.tap_course.specs.Beginning.{Beginning, begin_record}
-use Rattle.tap_course.specs.Course.{Follows, IsCourse, MayFollow, system_of}
+use Rattle.tap_runs.specs.Beginning.{Beginning, begin_record}
+use Rattle.tap_runs.specs.Course.{Follows, IsCourse, MayFollow, system_of}
 use Rattle.tap_safety.specs.System.{System}
-use Rattle.tap_course.proofs.Growing.{by_groups, starts_begun, starts_uncarried}
-use Rattle.tap_course.proofs.Nodes.{no_steps}
-use Rattle.tap_course.proofs.Within.{step_within, taken_within}
+use Rattle.tap_runs.proofs.Growing.{by_groups, starts_begun, starts_uncarried}
+use Rattle.tap_runs.proofs.Nodes.{no_steps}
+use Rattle.tap_runs.proofs.Within.{step_within, taken_within}
 
 -- ---- the beginning
 

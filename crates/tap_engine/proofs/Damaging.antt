@@ -21,16 +21,16 @@ use Rattle.tap_node.specs.Node.{running}
 use Rattle.tap_node.specs.Outcome.{AnswersAs, MayWant, at_read, refused_by, take_outcome}
 use Rattle.tap_node.specs.declared.fault.NodeFault.TheVariants.{NoMemory as OutOfMemory, Wire}
 use Rattle.tap_node.specs.declared.turn.Turn.{Turn}
-use Rattle.tap_course.specs.Course.{system_of}
-use Rattle.tap_course.specs.Damage.{copied_number, damage_record, fault_in, fault_of_copy, garbled}
-use Rattle.tap_course.proofs.Nodes.{cause_fails}
+use Rattle.tap_runs.specs.Course.{system_of}
+use Rattle.tap_runs.specs.Damage.{copied_number, damage_record, fault_in, fault_of_copy, garbled}
+use Rattle.tap_runs.proofs.Nodes.{cause_fails}
 use Rattle.tap_overlay.specs.Overlay.{OverlayValue, node_at}
 use Rattle.tap_overlay.specs.Step.{HasAnswered, HasStepped, StepsAt, answer_given}
 use Rattle.tap_overlay.specs.declared.fault.OverlayFault.{OverlayFault}
 use Rattle.tap_overlay.specs.declared.fault.OverlayFault.TheVariants.{NoNode, Node as NodeRefuses}
-use Rattle.tap_records.specs.Damaged.{copy_damaged}
-use Rattle.tap_records.specs.declared.damage.Damage.{Damage}
-use Rattle.tap_records.specs.declared.damage.Damage.TheVariants.{Byte, Cut as Shorter}
+use Rattle.tap_engine.specs.Damaged.{copy_damaged}
+use Rattle.tap_engine.specs.declared.damage.Damage.{Damage}
+use Rattle.tap_engine.specs.declared.damage.Damage.TheVariants.{Byte, Cut as Shorter}
 use Rattle.tap_engine.specs.Kept.{AreReady}
 use Rattle.tap_engine.specs.Working.{CopiesAt}
 use Rattle.tap_engine.specs.declared.engine.Engine.{Engine}

@@ -9,8 +9,8 @@ use Rattle.tap_log.specs.Counts.{ticket_count}
 use Rattle.tap_log.specs.Kinds.{asked_ticket, step_of}
 use Rattle.tap_log.specs.Log.{begun_steps}
 use Rattle.tap_log.proofs.Growing.{ticket_count-append}
-use Rattle.tap_course.specs.Beginning.{Beginning}
-use Rattle.tap_ranges.proofs.Courses.{numbers_in_range_holds}
+use Rattle.tap_runs.specs.Beginning.{Beginning}
+use Rattle.tap_readable.proofs.RangeCourses.{numbers_in_range_holds}
 use Rattle.tap_engine.specs.Kinds.{most_index}
 use Rattle.tap_engine.specs.World.{WorldValue}
 use Rattle.tap_engine.specs.WorldLog.{HasGoneTo, IsPending, IsWorldLog, StartsTooMany, TakesTooMany}

@@ -31,15 +31,15 @@ use Rattle.tap_rule.proofs.StartSteps.{seek_start_law}
 use Rattle.tap_safety.specs.AtRest.{system_at_rest}
 use Rattle.tap_safety.specs.System.{System}
 use Rattle.tap_log.specs.Counts.{sent_count}
-use Rattle.tap_course.specs.Acts.{acted_records}
-use Rattle.tap_course.specs.Beginning.{Beginning, begin_record}
-use Rattle.tap_course.specs.Course.{IsCourse, MayFollow, is_choice, move_of_group, move_of_start, moved_by, system_after, system_from, system_of}
-use Rattle.tap_course.specs.Group.{accepted_records, records_unless, start_at}
-use Rattle.tap_course.specs.Starts.{announced, start_of_step}
-use Rattle.tap_course.proofs.Frames.{step_moves}
-use Rattle.tap_course.proofs.Growing.{log_is}
-use Rattle.tap_course.proofs.Nodes.{acted_accepted}
-use Rattle.tap_course.proofs.Within.{is_accepted, is_group}
+use Rattle.tap_runs.specs.Acts.{acted_records}
+use Rattle.tap_runs.specs.Beginning.{Beginning, begin_record}
+use Rattle.tap_runs.specs.Course.{IsCourse, MayFollow, is_choice, move_of_group, move_of_start, moved_by, system_after, system_from, system_of}
+use Rattle.tap_runs.specs.Group.{accepted_records, records_unless, start_at}
+use Rattle.tap_runs.specs.Starts.{announced, start_of_step}
+use Rattle.tap_runs.proofs.Frames.{step_moves}
+use Rattle.tap_runs.proofs.Growing.{log_is}
+use Rattle.tap_runs.proofs.Nodes.{acted_accepted}
+use Rattle.tap_runs.proofs.Within.{is_accepted, is_group}
 use Rattle.tap_engine.proofs.Courses.{course_begun, course_uncarried, last_step}
 
 -- ---- the system after a group, whether or not it may follow

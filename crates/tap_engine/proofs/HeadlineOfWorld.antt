@@ -4,12 +4,12 @@ use Rattle.tap_log.specs.declared.record.Record.{Record}
 use Rattle.tap_log.specs.declared.record.Record.TheVariants.{Finished, Spent, Step as StepRecord}
 use Rattle.tap_log.specs.declared.record.Refusal.{Refusal}
 use Rattle.tap_log.specs.Log.{begun_steps}
-use Rattle.tap_course.specs.Named.{HaveNames}
-use Rattle.tap_safe_course.specs.Safe.{IsRun}
-use Rattle.tap_safe_course.proofs.Safe.{steps_before}
-use Rattle.tap_whole_course.specs.Headline.{HasHeadline}
-use Rattle.tap_whole_course.proofs.Ended.{may_cut, may_finish, may_refuse, may_spend}
-use Rattle.tap_whole_course.proofs.Headline.{ended_logs_have_headline}
+use Rattle.tap_runs.specs.Named.{HaveNames}
+use Rattle.tap_safe_runs.specs.Safe.{IsRun}
+use Rattle.tap_safe_runs.proofs.Safe.{steps_before}
+use Rattle.tap_headline.specs.Headline.{HasHeadline}
+use Rattle.tap_headline.proofs.Ended.{may_cut, may_finish, may_refuse, may_spend}
+use Rattle.tap_headline.proofs.Headline.{ended_logs_have_headline}
 use Rattle.tap_engine.specs.Headline.{WorldHasHeadline}
 use Rattle.tap_engine.specs.Holders.{HoldersAreExactAtRest}
 use Rattle.tap_engine.specs.Kept.{AreKept, world_value}

@@ -8,7 +8,7 @@ use Rattle.tap_log.specs.declared.record.Record.{Record}
 use Rattle.tap_log.specs.declared.record.Record.TheVariants.{Step as StepRecord}
 use Rattle.tap_log.specs.Kinds.{step_of}
 use Rattle.tap_log.specs.Log.{begun_steps}
-use Rattle.tap_course.proofs.Frames.{none_of}
+use Rattle.tap_runs.proofs.Frames.{none_of}
 use Rattle.tap_engine.specs.Kinds.{begun_index, begun_indices, last_index, most_index}
 use Rattle.tap_engine.specs.WorldLog.{HasIndices, indices_to}
 

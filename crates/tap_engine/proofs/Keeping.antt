@@ -15,15 +15,15 @@ use Rattle.tap_history.specs.Names.{names_of}
 use Rattle.tap_history.specs.Refusals.{first_refusal}
 use Rattle.tap_rule.specs.Node.{NodeState}
 use Rattle.tap_node.specs.Node.{running}
-use Rattle.tap_course.specs.Beginning.{Beginning}
-use Rattle.tap_course.specs.Course.{IsCourse, is_choice, system_of}
-use Rattle.tap_course.proofs.Departing.{course_nodes_holds}
+use Rattle.tap_runs.specs.Beginning.{Beginning}
+use Rattle.tap_runs.specs.Course.{IsCourse, is_choice, system_of}
+use Rattle.tap_runs.proofs.Departing.{course_nodes_holds}
 use Rattle.tap_overlay.specs.Law.{HasNodesOf}
 use Rattle.tap_overlay.specs.Overlay.{OverlayValue, node_at}
 use Rattle.tap_engine.specs.Kept.{AreKept, AreReady, GoesOn, LeadsTo, room_kept, room_of_record, world_value}
-use Rattle.tap_course.specs.Named.{HasNames, HaveNames}
+use Rattle.tap_runs.specs.Named.{HasNames, HaveNames}
 use Rattle.tap_engine.specs.Kinds.{is_finished}
-use Rattle.tap_engine.specs.Laws.{left_by}
+use Rattle.tap_engine.specs.Growth.{left_by}
 use Rattle.tap_engine.specs.Outcome.{IsNextIndex, Outcome, adds, refuses}
 use Rattle.tap_engine.specs.Working.{StillHas}
 use Rattle.tap_engine.specs.World.{WorldValue}

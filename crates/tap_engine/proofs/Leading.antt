@@ -31,27 +31,27 @@ use Rattle.tap_safety.specs.Move.Move.{Begins, Delivers}
 use Rattle.tap_safety.specs.Moved.{moved, numbered_frame, starter}
 use Rattle.tap_safety.specs.Step.{with_at}
 use Rattle.tap_safety.specs.System.{System}
-use Rattle.tap_course.specs.Acts.{acted_records}
-use Rattle.tap_course.specs.Beginning.{Beginning}
-use Rattle.tap_course.specs.Course.{FollowStep, Follows, IsCourse, MayFollow, is_choice, move_of_group, move_of_start, moved_by, system_of}
-use Rattle.tap_course.specs.Damage.{damage_record}
-use Rattle.tap_course.specs.Group.{accepted_records, received_records, records_of_act, records_unless, start_at, step_records, taken_records}
-use Rattle.tap_course.specs.Observed.{observed}
-use Rattle.tap_course.specs.Starts.{announced, start_of_step}
-use Rattle.tap_course.proofs.Frames.{step_moves, taken_moves}
-use Rattle.tap_course.proofs.Growing.{grown, grown_going, grown_system}
-use Rattle.tap_course.proofs.Nodes.{name_at, no_steps, start_in}
-use Rattle.tap_course.proofs.Within.{IsStarting, Within, step_kind, step_within, taken_within}
+use Rattle.tap_runs.specs.Acts.{acted_records}
+use Rattle.tap_runs.specs.Beginning.{Beginning}
+use Rattle.tap_runs.specs.Course.{FollowStep, Follows, IsCourse, MayFollow, is_choice, move_of_group, move_of_start, moved_by, system_of}
+use Rattle.tap_runs.specs.Damage.{damage_record}
+use Rattle.tap_runs.specs.Group.{accepted_records, received_records, records_of_act, records_unless, start_at, step_records, taken_records}
+use Rattle.tap_runs.specs.Observed.{observed}
+use Rattle.tap_runs.specs.Starts.{announced, start_of_step}
+use Rattle.tap_runs.proofs.Frames.{step_moves, taken_moves}
+use Rattle.tap_runs.proofs.Growing.{grown, grown_going, grown_system}
+use Rattle.tap_runs.proofs.Nodes.{name_at, no_steps, start_in}
+use Rattle.tap_runs.proofs.Within.{IsStarting, Within, step_kind, step_within, taken_within}
 use Rattle.tap_overlay.specs.Law.{HasNodesOf}
 use Rattle.tap_overlay.specs.Overlay.{ChangesOnly, OverlayValue}
 use Rattle.tap_overlay.proofs.Systems.{same_changes}
 use Rattle.tap_engine.specs.Kept.{AreKept, AreReady, LeadsTo}
-use Rattle.tap_course.specs.Named.{HasNames, HaveNames}
+use Rattle.tap_runs.specs.Named.{HasNames, HaveNames}
 use Rattle.tap_engine.specs.Kinds.{damages, is_finished, last_index, observes}
-use Rattle.tap_engine.specs.Laws.{left_by}
+use Rattle.tap_engine.specs.Growth.{left_by}
 use Rattle.tap_engine.specs.Outcome.{IsNextIndex, Outcome, adds, adds_within, is_within, spends, takes_number, unless_refused}
-use Rattle.tap_course.specs.Groups.{step_group, taken_group}
-use Rattle.tap_records.specs.Seen.{turn_records}
+use Rattle.tap_runs.specs.Groups.{step_group, taken_group}
+use Rattle.tap_engine.specs.Seen.{turn_records}
 use Rattle.tap_engine.specs.Working.{HasActed, HasBegunAt, HasHeeded, HasTakenAt, LogsAs, StillHas}
 use Rattle.tap_engine.specs.World.{WorldValue}
 use Rattle.tap_engine.specs.WorldLog.{IsWorldLog}
@@ -62,11 +62,11 @@ use Rattle.tap_engine.specs.declared.stop.Stop.TheVariants.{NoMemory, Refused}
 use Rattle.tap_engine.proofs.Grown.{spent_names, step_names}
 use Rattle.tap_engine.proofs.Keeping.{HasGrown, as_log, begun, course_goes_on, done, grown_log, grown_named, kept_same, kept_short, kept_stopped, on, room_two, same_beginning, seen, there}
 use Rattle.tap_engine.proofs.Indices.{indices_stay}
-use Rattle.tap_course.proofs.Named.{step_has_names}
+use Rattle.tap_runs.proofs.Named.{step_has_names}
 use Rattle.tap_engine.proofs.Named.{nothing_named, spent_named, step_named, unbegun_named}
 use Rattle.tap_engine.proofs.Steps.{at_none, follows_within, no_choice, number_there, quiet_within, step_may, taken_may}
 use Rattle.tap_engine.proofs.Taking.{sound}
-use Rattle.tap_records.proofs.TurnRecords.{turns_are_told}
+use Rattle.tap_engine.proofs.TurnRecords.{turns_are_told}
 use Rattle.tap_engine.proofs.WorldLogs.{adds_log, over_log, takes_over, within_log}
 
 -- ---- a whole group

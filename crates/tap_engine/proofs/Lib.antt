@@ -17,3 +17,5 @@ pub mod Counting
 pub mod Quiet
 pub mod Seeing
 pub mod Damaging
+pub mod Mapped
+pub mod TurnRecords

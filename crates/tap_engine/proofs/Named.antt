@@ -15,9 +15,9 @@ use Rattle.tap_log.specs.Log.{begun_steps}
 use Rattle.tap_history.specs.Core.{accepted_in, accepted_step, accepted_steps, joins_of, members_of}
 use Rattle.tap_history.specs.Names.{names_of, with_name}
 use Rattle.tap_history.specs.Steps.{join_name}
-use Rattle.tap_course.proofs.Frames.{none_of}
+use Rattle.tap_runs.proofs.Frames.{none_of}
 use Rattle.tap_engine.specs.Kinds.{damages}
-use Rattle.tap_course.specs.Named.{HasNames, HaveNames}
+use Rattle.tap_runs.specs.Named.{HasNames, HaveNames}
 
 -- ---- one more group
 

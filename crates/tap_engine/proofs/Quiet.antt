@@ -6,15 +6,15 @@ use Rattle.tap_log.specs.declared.record.Record.TheVariants.{Step as StepRecord}
 use Rattle.tap_log.specs.declared.record.Refusal.{Refusal}
 use Rattle.tap_log.specs.Laws.{at_most_one}
 use Rattle.tap_history.specs.Refusals.{first_refusal}
-use Rattle.tap_course.specs.Course.{system_of}
-use Rattle.tap_course.specs.Damage.{damage_record}
-use Rattle.tap_course.specs.Named.{HasNames}
-use Rattle.tap_course.specs.Observed.{observed}
+use Rattle.tap_runs.specs.Course.{system_of}
+use Rattle.tap_runs.specs.Damage.{damage_record}
+use Rattle.tap_runs.specs.Named.{HasNames}
+use Rattle.tap_runs.specs.Observed.{observed}
 use Rattle.tap_ledger.specs.Added.{CanAdd}
 use Rattle.tap_engine.specs.Kept.{AreReady, LeadsTo}
 use Rattle.tap_engine.specs.Kinds.{damages, observes}
 use Rattle.tap_engine.specs.Outcome.{IsNextIndex, unless_refused}
-use Rattle.tap_course.specs.Groups.{step_group}
+use Rattle.tap_runs.specs.Groups.{step_group}
 use Rattle.tap_engine.specs.declared.engine.Engine.{Engine}
 use Rattle.tap_engine.specs.declared.stop.Stop.{Stop}
 use Rattle.tap_engine.specs.declared.stop.Stop.TheVariants.{NoMemory, Refused}

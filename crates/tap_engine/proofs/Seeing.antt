@@ -22,10 +22,10 @@ use Rattle.tap_surrogate.specs.Nodes.{IsCore, core_links}
 use Rattle.tap_surrogate.specs.Walk.{walk}
 use Rattle.tap_node.specs.Node.{NodeValue, is_linked, running}
 use Rattle.tap_safety.specs.System.{System}
-use Rattle.tap_course.specs.Course.{system_of}
-use Rattle.tap_course.specs.Laws.{is_present_node}
-use Rattle.tap_course.specs.Observed.{has_ended, is_core_node, observed, pointers_record, table_record}
-use Rattle.tap_course.proofs.Nodes.{asked_is_present, cause_fails, first_none}
+use Rattle.tap_runs.specs.Course.{system_of}
+use Rattle.tap_runs.specs.Laws.{is_present_node}
+use Rattle.tap_runs.specs.Observed.{has_ended, is_core_node, observed, pointers_record, table_record}
+use Rattle.tap_runs.proofs.Nodes.{asked_is_present, cause_fails, first_none}
 use Rattle.tap_overlay.specs.Overlay.{node_at, nodes_lent}
 use Rattle.tap_overlay.proofs.Systems.{same_walks}
 use Rattle.tap_engine.specs.Kept.{AreReady}

@@ -8,15 +8,15 @@ use Rattle.tap_log.specs.Counts.{cast_count, ticket_count}
 use Rattle.tap_log.specs.Log.{begun_steps}
 use Rattle.tap_history.specs.Groups.{is_ended}
 use Rattle.tap_rule.specs.Node.{NodeState, name_of, settings_of}
-use Rattle.tap_step.specs.Sound.{has_numbers_left}
-use Rattle.tap_course.specs.Beginning.{Beginning}
-use Rattle.tap_course.specs.Course.{IsCourse, system_of}
-use Rattle.tap_course.specs.Starts.{next_cast}
-use Rattle.tap_ranges.specs.Range.{HasNotMetNext, HasNumbersLeft, steps_with_room}
-use Rattle.tap_ranges.proofs.Courses.{numbers_in_range_holds}
+use Rattle.tap_node_common.specs.Sound.{has_numbers_left}
+use Rattle.tap_runs.specs.Beginning.{Beginning}
+use Rattle.tap_runs.specs.Course.{IsCourse, system_of}
+use Rattle.tap_runs.specs.Starts.{next_cast}
+use Rattle.tap_readable.specs.Range.{HasNotMetNext, HasNumbersLeft, steps_with_room}
+use Rattle.tap_readable.proofs.RangeCourses.{numbers_in_range_holds}
 use Rattle.tap_readable.proofs.Courses.{courses_are_readable}
-use Rattle.tap_course.specs.Named.{HaveNames}
-use Rattle.tap_readable.specs.Laws.{IsOwn}
+use Rattle.tap_runs.specs.Named.{HaveNames}
+use Rattle.tap_readable.specs.Readable.{IsOwn}
 use Rattle.tap_engine.specs.Kinds.{most_index}
 
 -- this node of the system has numbers left for one more step, hasn't met the cast that begins next, and has its name and the settings

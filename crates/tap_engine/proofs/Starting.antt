@@ -23,14 +23,14 @@ use Rattle.tap_node.specs.Outcome.{AnswersAs, acted_as, start_outcome, turn_made
 use Rattle.tap_node.specs.declared.fault.NodeFault.{NodeFault}
 use Rattle.tap_node.specs.declared.fault.NodeFault.TheVariants.{NoMemory as OutOfMemory}
 use Rattle.tap_node.specs.declared.turn.Turn.{Turn}
-use Rattle.tap_step.specs.Step.{news_of}
-use Rattle.tap_turn.specs.Spelled.{spelled}
+use Rattle.tap_node_common.specs.Step.{news_of}
+use Rattle.tap_node_common.specs.Spelled.{spelled}
 use Rattle.tap_wire.specs.declared.frame.Frame.{Frame}
-use Rattle.tap_course.specs.Course.{system_of}
-use Rattle.tap_course.specs.Group.{start_at}
-use Rattle.tap_course.specs.Starts.{start_of_step}
-use Rattle.tap_course.proofs.Departing.{course_nodes_holds}
-use Rattle.tap_course.proofs.Nodes.{Agree, IsThere, joiner_is_new, starts_of}
+use Rattle.tap_runs.specs.Course.{system_of}
+use Rattle.tap_runs.specs.Group.{start_at}
+use Rattle.tap_runs.specs.Starts.{start_of_step}
+use Rattle.tap_runs.proofs.Departing.{course_nodes_holds}
+use Rattle.tap_runs.proofs.Nodes.{Agree, IsThere, joiner_is_new, starts_of}
 use Rattle.tap_overlay.specs.Overlay.{ChangesOnly, OverlayValue, node_at}
 use Rattle.tap_overlay.specs.Start.{MayStart, begun}
 use Rattle.tap_overlay.specs.Step.{HasAnswered, HasJoined, HasStepped, StepsAt, answer_given}

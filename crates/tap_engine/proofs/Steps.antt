@@ -14,15 +14,15 @@ use Rattle.tap_history.specs.Groups.{is_ended}
 use Rattle.tap_history.specs.Moments.{has_number, outstanding}
 use Rattle.tap_history.specs.Steps.{actor_of, is_start}
 use Rattle.tap_rule.specs.Event.{Start}
-use Rattle.tap_course.specs.Beginning.{Beginning}
-use Rattle.tap_course.specs.Course.{FollowStep, Follows, IsCourse, MayFollow, is_choice, system_of}
-use Rattle.tap_course.specs.Group.{step_records}
-use Rattle.tap_course.specs.Starts.{start_of_step}
-use Rattle.tap_course.proofs.Frames.{none_of}
-use Rattle.tap_course.proofs.Within.{step_kind}
+use Rattle.tap_runs.specs.Beginning.{Beginning}
+use Rattle.tap_runs.specs.Course.{FollowStep, Follows, IsCourse, MayFollow, is_choice, system_of}
+use Rattle.tap_runs.specs.Group.{step_records}
+use Rattle.tap_runs.specs.Starts.{start_of_step}
+use Rattle.tap_runs.proofs.Frames.{none_of}
+use Rattle.tap_runs.proofs.Within.{step_kind}
 use Rattle.tap_engine.specs.Kinds.{damages, may_be_refused, observes}
 use Rattle.tap_engine.specs.Outcome.{is_within}
-use Rattle.tap_course.specs.Groups.{step_group, taken_group}
+use Rattle.tap_runs.specs.Groups.{step_group, taken_group}
 use Rattle.tap_engine.proofs.Courses.{sent_within}
 
 -- ---- kinds of steps

@@ -25,11 +25,11 @@ use Rattle.tap_node.specs.declared.turn.Turn.{Turn}
 use Rattle.tap_safety.specs.Moved.{numbered_frame}
 use Rattle.tap_safety.specs.System.{AmongFrames, System}
 use Rattle.tap_safety.proofs.Moves.{found}
-use Rattle.tap_course.specs.Course.{system_of}
-use Rattle.tap_course.specs.Laws.{HasBytes, frame_numbers}
-use Rattle.tap_course.proofs.Frames.{frames_kept}
-use Rattle.tap_invariant.proofs.Consequences.{none_is_strange}
-use Rattle.tap_safe_course.proofs.Safe.{runs_are_sound}
+use Rattle.tap_runs.specs.Course.{system_of}
+use Rattle.tap_runs.specs.Laws.{HasBytes, frame_numbers}
+use Rattle.tap_runs.proofs.Frames.{frames_kept}
+use Rattle.tap_safety_moves.proofs.Consequences.{none_is_strange}
+use Rattle.tap_safe_runs.proofs.Safe.{runs_are_sound}
 use Rattle.tap_overlay.specs.Overlay.{ChangesOnly, OverlayValue, node_among, node_at}
 use Rattle.tap_overlay.specs.Step.{HasAnswered, HasStepped, StepsAt, answer_given}
 use Rattle.tap_overlay.specs.declared.fault.OverlayFault.{OverlayFault}

@@ -16,16 +16,16 @@ use Rattle.tap_history.specs.Moments.{has_number, outstanding}
 use Rattle.tap_history.specs.Refusals.{first_refusal}
 use Rattle.tap_history.specs.Steps.{is_start}
 use Rattle.tap_node.specs.Node.{NodeValue}
-use Rattle.tap_course.specs.Beginning.{Beginning, IsWithinLimits, begin_record}
-use Rattle.tap_course.specs.Course.{FollowStep, Follows, IsCourse, MayFollow, is_choice, system_of}
-use Rattle.tap_course.specs.Group.{records_unless, step_records, taken_records}
-use Rattle.tap_course.proofs.Growing.{grown, grown_going, start_course}
-use Rattle.tap_course.proofs.Nodes.{no_steps}
-use Rattle.tap_course.proofs.Within.{step_within, taken_within}
+use Rattle.tap_runs.specs.Beginning.{Beginning, IsWithinLimits, begin_record}
+use Rattle.tap_runs.specs.Course.{FollowStep, Follows, IsCourse, MayFollow, is_choice, system_of}
+use Rattle.tap_runs.specs.Group.{records_unless, step_records, taken_records}
+use Rattle.tap_runs.proofs.Growing.{grown, grown_going, start_course}
+use Rattle.tap_runs.proofs.Nodes.{no_steps}
+use Rattle.tap_runs.proofs.Within.{step_within, taken_within}
 use Rattle.tap_engine.specs.Kinds.{begun_index, finishes, is_finished}
-use Rattle.tap_engine.specs.Laws.{WorldLogGrows, left_by}
+use Rattle.tap_engine.specs.Growth.{WorldLogGrows, left_by}
 use Rattle.tap_engine.specs.Outcome.{IsNextIndex, MayGoOn, MayNote, Outcome, adds, adds_within, is_within, refuses, spends, stays, takes_number, unless_refused, unless_stopped}
-use Rattle.tap_course.specs.Groups.{step_group, taken_group}
+use Rattle.tap_runs.specs.Groups.{step_group, taken_group}
 use Rattle.tap_engine.specs.World.{HasBegun, WorldValue}
 use Rattle.tap_engine.specs.WorldLog.{HasCome, HasGoneTo, HasIndices, HasStopped, IsCourseOrFinished, IsPending, IsWorldLog}
 use Rattle.tap_engine.specs.declared.stop.Stop.{Stop}

@@ -11,10 +11,10 @@ use Rattle.tap_history.specs.Core.{members_of}
 use Rattle.tap_history.specs.Names.{names_of}
 use Rattle.tap_surrogate.specs.Nodes.{Nodes}
 use Rattle.tap_node.specs.Node.{table_lent}
-use Rattle.tap_course.specs.Course.{system_of}
+use Rattle.tap_runs.specs.Course.{system_of}
 use Rattle.tap_overlay.specs.Law.{HasNodesOf}
 use Rattle.tap_overlay.specs.Overlay.{is_core_node, node_at}
-use Rattle.tap_course.specs.Named.{HaveNames}
+use Rattle.tap_runs.specs.Named.{HaveNames}
 use Rattle.tap_engine.specs.Kinds.{is_finished}
 use Rattle.tap_engine.specs.Outcome.{Outcome}
 use Rattle.tap_engine.specs.World.{WorldValue, node_of}

@@ -7,4 +7,7 @@ pub mod WorldLog
 pub mod Places
 pub mod Kept
 pub mod Working
-pub mod Laws
+pub mod Growth
+pub mod Seen
+pub mod Damaged
+pub mod TurnRecords

@@ -11,8 +11,8 @@ use Rattle.tap_log.specs.Counts.{sent_count}
 use Rattle.tap_log.specs.Log.{last_of}
 use Rattle.tap_history.specs.Moments.{outstanding}
 use Rattle.tap_history.specs.Refusals.{first_refusal}
-use Rattle.tap_course.specs.Beginning.{Beginning}
-use Rattle.tap_course.specs.Groups.{step_group, taken_group}
+use Rattle.tap_runs.specs.Beginning.{Beginning}
+use Rattle.tap_runs.specs.Groups.{step_group, taken_group}
 use Rattle.tap_engine.specs.Kinds.{is_finished, last_index, may_be_refused, most_index}
 use Rattle.tap_engine.specs.World.{WorldValue}
 use Rattle.tap_engine.specs.declared.stop.Stop.{Stop}

@@ -24,12 +24,12 @@ use Rattle.tap_node.specs.declared.status.NodeStatus.{NodeStatus}
 use Rattle.tap_node.specs.declared.status.NodeStatus.TheVariants as status
 use Rattle.tap_node.specs.Node.{has_room_left, node_status, running}
 use Rattle.tap_node.specs.declared.turn.Turn.{Turn}
-use Rattle.tap_step.specs.declared.news.News.TheVariants.{Nothing}
+use Rattle.tap_node_common.specs.declared.news.News.TheVariants.{Nothing}
 use Rattle.tap_node.specs.Outcome.{turn_made}
 use Rattle.tap_safety.specs.Moved.{numbered_frame, starter}
-use Rattle.tap_course.specs.Course.{system_of}
-use Rattle.tap_course.specs.Group.{start_at}
-use Rattle.tap_course.specs.Starts.{next_cast}
+use Rattle.tap_runs.specs.Course.{system_of}
+use Rattle.tap_runs.specs.Group.{start_at}
+use Rattle.tap_runs.specs.Starts.{next_cast}
 use Rattle.tap_ledger.specs.Added.{CanAdd, most_frames}
 use Rattle.tap_overlay.specs.declared.fault.OverlayFault.{OverlayFault}
 use Rattle.tap_overlay.specs.declared.start.Start.{Start}
@@ -41,9 +41,9 @@ use Rattle.tap_engine.specs.declared.stop.Stop.TheVariants.{NoMemory}
 use Rattle.tap_engine.specs.declared.engine.Acted.{Acted}
 use Rattle.tap_engine.specs.declared.engine.Engine.{Engine}
 use Rattle.tap_engine.specs.Outcome.{Outcome}
-use Rattle.tap_records.specs.Damaged.{copy_damaged}
-use Rattle.tap_records.specs.Seen.{turn_records}
-use Rattle.tap_records.specs.declared.damage.Damage.{Damage}
+use Rattle.tap_engine.specs.Damaged.{copy_damaged}
+use Rattle.tap_engine.specs.Seen.{turn_records}
+use Rattle.tap_engine.specs.declared.damage.Damage.{Damage}
 
 -- The node of this name has acted by its rule, and its turn says so; every other node is as it was.
 pub record HasActed (before after : OverlayValue) (name : List ℕ) (node : NodeState) (event : Event) (acted : Acted) : Type 0 where

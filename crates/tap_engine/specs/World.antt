@@ -11,7 +11,7 @@ use Rattle.tap_node.specs.Node.{NodeValue, running}
 use Rattle.tap_overlay.specs.Overlay.{node_among}
 use Rattle.tap_safety.specs.AtRest.{system_at_rest}
 use Rattle.tap_safety.specs.System.{System}
-use Rattle.tap_course.specs.Beginning.{Beginning, begin_record}
+use Rattle.tap_runs.specs.Beginning.{Beginning, begin_record}
 
 -- With what its log begins; the log; the refusal that isn't noted yet; whether it was stopped, by want of memory or since more
 -- frames would have been sent than may be; and the nodes, each under its name, ascending.

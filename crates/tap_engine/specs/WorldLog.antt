@@ -11,11 +11,11 @@ use Rattle.tap_history.specs.Groups.{is_ended}
 use Rattle.tap_history.specs.Moments.{has_number, outstanding}
 use Rattle.tap_history.specs.Refusals.{first_refusal}
 use Rattle.tap_history.specs.Steps.{is_start}
-use Rattle.tap_course.specs.Beginning.{Beginning}
-use Rattle.tap_course.specs.Course.{IsCourse, is_choice}
+use Rattle.tap_runs.specs.Beginning.{Beginning}
+use Rattle.tap_runs.specs.Course.{IsCourse, is_choice}
 use Rattle.tap_engine.specs.Kinds.{begun_indices, last_index, most_index}
 use Rattle.tap_engine.specs.Outcome.{is_within}
-use Rattle.tap_course.specs.Groups.{step_group, taken_group}
+use Rattle.tap_runs.specs.Groups.{step_group, taken_group}
 use Rattle.tap_engine.specs.World.{WorldValue}
 
 -- after the course the step stands alone that is refused so, and its refusal isn't noted yet

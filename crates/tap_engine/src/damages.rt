@@ -1,17 +1,17 @@
 ghost use Rattle.std.specs.Prelude.{◌≡◌, true, false, None, Some, IfOk, IsErr, MatchOption};
 ghost use Rattle.tap_wire.specs.Reading.{frame_of};
 ghost use Rattle.tap_history.specs.Refusals.{first_refusal};
-ghost use Rattle.tap_course.specs.Damage.{damage_record, fault_in, garbled};
+ghost use Rattle.tap_runs.specs.Damage.{damage_record, fault_in, garbled};
 ghost use Rattle.tap_engine.specs.Kinds.{damages};
 ghost use Rattle.tap_engine.specs.Working.{CopiesAt};
 
+use crate::damage::{Damage, damaged};
 use crate::engine::Engine;
 use crate::stop::{NoMemory, Stop};
 use tap_log::Record;
 use tap_name::Name;
 use tap_node::NodeFault;
 use tap_overlay::OverlayFault;
-use tap_records::{Damage, damaged};
 use tap_scenario::Step;
 use tap_wire::{WireFault, decode, decode_head};
 

@@ -11,9 +11,9 @@ use tap_ledger::Ledger;
 use tap_log::{Record, Refusal};
 use tap_name::{Name, Settings};
 use tap_node::{NodeFault, Turn};
+use tap_node_common::FrameList;
 use tap_overlay::{Overlay, OverlayFault};
 use tap_scenario::Step;
-use tap_turn::FrameList;
 
 // The room for a step and one record after it, with room for a refusal and the last record after these.
 const ROOM_FOR_STEP: usize = 4;

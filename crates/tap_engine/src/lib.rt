@@ -4,15 +4,21 @@
 //! The fields are public, since the crate above states what it keeps by them; only it works with an engine.
 #![tactic(auto)]
 
+mod damage;
 mod damages;
 mod engine;
 mod law;
+mod lines;
+mod observed;
 mod observes;
 mod pushes;
 mod starts;
 mod stop;
 mod takes;
+#[cfg(test)]
+mod tests;
+mod turns;
 
 pub use engine::Engine;
-pub use law::{delivery_law, world_log_law};
+pub use law::{delivery_law, turn_law, world_log_law};
 pub use stop::{NoMemory, Stop};

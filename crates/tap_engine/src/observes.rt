@@ -6,15 +6,15 @@ ghost use Rattle.tap_scenario.specs.Step.{IsStep};
 ghost use Rattle.tap_log.specs.declared.record.Record.TheVariants.{RootOf};
 ghost use Rattle.tap_history.specs.Core.{core_of};
 ghost use Rattle.tap_history.specs.Refusals.{first_refusal};
-ghost use Rattle.tap_course.specs.Course.{system_of};
-ghost use Rattle.tap_course.specs.Observed.{observed};
+ghost use Rattle.tap_runs.specs.Course.{system_of};
+ghost use Rattle.tap_runs.specs.Observed.{observed};
 ghost use Rattle.tap_engine.specs.Kinds.{observes};
 
 use crate::engine::Engine;
+use crate::observed::{pointers_record, table_record};
 use crate::stop::{NoMemory, Stop};
 use tap_log::Record;
 use tap_name::{List, Name};
-use tap_records::{pointers_record, table_record};
 use tap_scenario::Step;
 use tap_surrogate::{root_of, walk_path};
 
@@ -51,7 +51,7 @@ impl Engine {
     }
 
     // What a step sees that observes, and isn't refused.
-    #[tactic(auto, unfolding(tap_course::specs::Observed::observed))]
+    #[tactic(auto, unfolding(tap_runs::specs::Observed::observed))]
     fn observed(&self, step: &Step) -> Result<Option<Record>, NoMemory>
         requires ready { AreReady self.now }
         requires accepted { first_refusal self.now.ledger.records step.now ≡ None }

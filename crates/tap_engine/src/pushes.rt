@@ -2,14 +2,14 @@ ghost use Rattle.std.specs.Prelude.{◌≡◌, ◌+◌, ◌≤◌, ◌++◌, len
 ghost use Rattle.tap_log.specs.Counts.{sent_count};
 ghost use Rattle.tap_log.specs.Laws.{at_most_one};
 ghost use Rattle.tap_ledger.specs.Added.{CanAdd};
-ghost use Rattle.tap_records.specs.Seen.{bytes_records, seen_after, seen_before, turn_records};
+ghost use Rattle.tap_engine.specs.Seen.{bytes_records, seen_after, seen_before, turn_records};
 
+use crate::turns::{record_after, record_before};
 use tap_ledger::Ledger;
 use tap_log::Record;
 use tap_name::Name;
 use tap_node::News;
-use tap_records::{record_after, record_before};
-use tap_turn::FrameList;
+use tap_node_common::FrameList;
 use tap_wire::Bytes;
 
 // Adds the records of the turn of a node of this name, its frames and its news, for which there is room.

@@ -8,9 +8,9 @@ ghost use Rattle.tap_history.specs.Steps.{is_start};
 ghost use Rattle.tap_node.specs.Node.{node_status};
 ghost use Rattle.tap_overlay.specs.Overlay.{node_at};
 ghost use Rattle.tap_overlay.specs.Start.{begun};
-ghost use Rattle.tap_course.specs.Starts.{announced, next_cast, next_ticket};
-ghost use Rattle.tap_course.specs.Group.{start_at};
-ghost use Rattle.tap_records.specs.Seen.{turn_records};
+ghost use Rattle.tap_runs.specs.Starts.{announced, next_cast, next_ticket};
+ghost use Rattle.tap_runs.specs.Group.{start_at};
+ghost use Rattle.tap_engine.specs.Seen.{turn_records};
 ghost use Rattle.tap_engine.specs.Working.{CanBegin, HasBegunOf, IsNamed, nothing_by, suits};
 
 use crate::engine::{Acted, Engine, acted_by};
@@ -19,9 +19,9 @@ use crate::stop::{NoMemory, Stop};
 use tap_log::Record;
 use tap_name::Name;
 use tap_node::{News, NodeStatus, Turn};
+use tap_node_common::FrameList;
 use tap_overlay::Start;
 use tap_scenario::{Prefix, Step, Word};
-use tap_turn::FrameList;
 use tap_wire::Bytes;
 
 // The room for a group beside that for its frames, with room for a refusal and the last record after it: the record of the step, one of what
@@ -93,7 +93,7 @@ impl Engine {
     }
 
     // What the log says of an accepted start before it says what the node did.
-    #[tactic(auto, unfolding(tap_course::specs::Starts::announced))]
+    #[tactic(auto, unfolding(tap_runs::specs::Starts::announced))]
     fn announced(&self, step: &Step) -> Result<Option<Record>, NoMemory>
         requires ready { AreReady self.now }
         requires names { IsStep self.now.settings false step.now }
@@ -165,7 +165,7 @@ impl Engine {
     }
 
     // What a step has a node start that is there; nothing of a join, and of a step that is no start.
-    #[tactic(auto, unfolding(tap_course::specs::Starts::start_of_step, tap_history::specs::Steps::actor_of))]
+    #[tactic(auto, unfolding(tap_runs::specs::Starts::start_of_step, tap_history::specs::Steps::actor_of))]
     fn begun_by<'a>(&self, step: &'a Step) -> Option<Begun<'a>>
         requires ready { AreReady self.now }
         requires names { IsStep self.now.settings false step.now }
@@ -206,7 +206,7 @@ impl Engine {
     }
 
     // The next cast: a node sends this word to all names that begin so.
-    #[tactic(auto, unfolding(tap_course::specs::Starts::start_of_step, tap_history::specs::Steps::actor_of))]
+    #[tactic(auto, unfolding(tap_runs::specs::Starts::start_of_step, tap_history::specs::Steps::actor_of))]
     fn cast_by<'a>(&self, word: &'a Word, prefix: &Prefix, asker: &Name) -> Begun<'a>
         requires ready { AreReady self.now }
         requires names { IsStep self.now.settings false (Step.Cast word.now prefix.now asker.now) }

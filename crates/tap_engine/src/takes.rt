@@ -1,7 +1,7 @@
 ghost use Rattle.std.specs.Prelude.{◌<◌, ◌≤◌, ◌∷◌, [], false, slice_get, None};
 ghost use Rattle.tap_log.specs.Counts.{sent_count};
 ghost use Rattle.tap_history.specs.Moments.{outstanding};
-ghost use Rattle.tap_records.specs.Seen.{turn_records};
+ghost use Rattle.tap_engine.specs.Seen.{turn_records};
 
 use crate::engine::Engine;
 use crate::pushes::push_turn;
@@ -9,7 +9,7 @@ use crate::stop::Stop;
 use tap_log::{Record, Refusal};
 use tap_name::Name;
 use tap_node::News;
-use tap_turn::FrameList;
+use tap_node_common::FrameList;
 use tap_wire::decode_head;
 
 // The room for a group beside that for its frames, with room for a refusal and the last record after it: the record of the frame that is

@@ -22,16 +22,16 @@ use Rattle.tap_safety.specs.Moved.{delivered, has_begun, moved, numbered_frame, 
 use Rattle.tap_safety.specs.Spelled.{AreSpelled}
 use Rattle.tap_safety.specs.Step.{numbered_from}
 use Rattle.tap_safety.specs.System.{AmongFrames, System}
-use Rattle.tap_course.specs.Beginning.{Beginning}
-use Rattle.tap_course.specs.Course.{FollowStep, FollowTaken, Follows, MayFollow, is_choice, move_of_group, move_of_start, moved_by, system_of}
-use Rattle.tap_course.specs.Group.{accepted_records, received_records, records_of_act, records_unless, start_at, started_records}
-use Rattle.tap_course.specs.Observed.{nodes_of, observed}
-use Rattle.tap_course.specs.Starts.{announced}
-use Rattle.tap_course.proofs.Frames.{step_moves, taken_moves}
-use Rattle.tap_course.proofs.Growing.{grown_system}
-use Rattle.tap_course.specs.Named.{HaveNames}
-use Rattle.tap_safe_course.specs.Safe.{IsRun}
-use Rattle.tap_safe_course.proofs.Safe.{run_more, runs_are_sound}
+use Rattle.tap_runs.specs.Beginning.{Beginning}
+use Rattle.tap_runs.specs.Course.{FollowStep, FollowTaken, Follows, MayFollow, is_choice, move_of_group, move_of_start, moved_by, system_of}
+use Rattle.tap_runs.specs.Group.{accepted_records, received_records, records_of_act, records_unless, start_at, started_records}
+use Rattle.tap_runs.specs.Observed.{nodes_of, observed}
+use Rattle.tap_runs.specs.Starts.{announced}
+use Rattle.tap_runs.proofs.Frames.{step_moves, taken_moves}
+use Rattle.tap_runs.proofs.Growing.{grown_system}
+use Rattle.tap_runs.specs.Named.{HaveNames}
+use Rattle.tap_safe_runs.specs.Safe.{IsRun}
+use Rattle.tap_safe_runs.proofs.Safe.{run_more, runs_are_sound}
 use Rattle.tap_headline.proofs.Told.{AreTold, act_told, announced_told, both_told, damage_told, more_told, none_told, one_told, pointers_told, root_told, same_told, table_told, walked_told}
 
 -- ---- the frames that a move sends have spellings

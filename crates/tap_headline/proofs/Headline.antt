@@ -1,139 +1,88 @@
--- Each log of a run begins as its scenario does, with the scenario's first steps, and has the headline, also if the run is over.
-use Rattle.std.proofs.Common.{◌≡◌, inl, inr, ℕ, zero, suc, ◌+◌, List, [], ◌∷◌, ◌++◌, length, take, Some, refl, ap, sym, subst, ◌∙◌, arith, append-nil, length-append}
-use Rattle.std.specs.Prelude.{slice_get}
-use Rattle.std.proofs.lemmas.List.Elements.{filter_map-append}
-use Rattle.tap_scenario.specs.declared.step.Step.{Step}
-use Rattle.tap_scenario.specs.Scenario.{ScenarioValue}
+-- Each log of a run has the headline, and so it has with its ending.
+use Rattle.std.proofs.Common.{List, [], ◌∷◌, ◌++◌}
 use Rattle.tap_log.specs.declared.record.Record.{Record}
-use Rattle.tap_log.specs.declared.record.Record.TheVariants.{Step as StepRecord, Spent, Finished}
-use Rattle.tap_log.specs.Kinds.{step_of}
-use Rattle.tap_log.specs.Log.{begun_steps}
-use Rattle.tap_history.specs.Groups.{groups_of, records_of}
-use Rattle.tap_history.proofs.Parts.{log_is_groups}
-use Rattle.tap_course.specs.Beginning.{begin_record}
-use Rattle.tap_lawful.specs.Next.{beginning_in, begun_count}
-use Rattle.tap_course.specs.Groups.{step_group, taken_group}
-use Rattle.tap_lawful.specs.Lawful.{IsFinished, IsPlayed, IsSpent, step_alone}
-use Rattle.tap_lawful.proofs.Coming.{coming}
-use Rattle.tap_lawful.proofs.Steps.{played_steps}
-use Rattle.tap_safe_course.specs.Safe.{IsRun}
-use Rattle.tap_safe_course.proofs.Lawful.{lawful_logs_are_safe}
-use Rattle.tap_whole_course.specs.Headline.{HasHeadline}
-use Rattle.tap_whole_course.proofs.Ended.{may_cut, may_finish, may_spend}
-use Rattle.tap_whole_course.proofs.Headline.{ended_logs_have_headline}
-use Rattle.tap_headline.specs.Headline.{FollowsScript, LogsFollowScripts, LogsHaveHeadline}
+use Rattle.tap_log.specs.declared.record.Record.TheVariants.{Finished, Spent, Step as StepRecord}
+use Rattle.tap_runs.specs.Beginning.{Beginning}
+use Rattle.tap_safe_runs.specs.Headline.{IsSafeThroughout}
+use Rattle.tap_safe_runs.specs.Safe.{IsRun}
+use Rattle.tap_safe_runs.proofs.Headline.{ended_logs_are_safe}
+use Rattle.tap_pointer_runs.specs.Paths.{PointersOnTheirPaths}
+use Rattle.tap_pointer_runs.proofs.Runs.{on_paths_at}
+use Rattle.tap_lookup_runs.specs.Alone.{LookupsAloneAreExact}
+use Rattle.tap_lookup_runs.specs.Answers.{AnswersWerePublished}
+use Rattle.tap_lookup_runs.proofs.Alone.{alone_at}
+use Rattle.tap_lookup_runs.proofs.Runs.{answers_at}
+use Rattle.tap_lookup_runs.specs.NoServer.{AnsweredNoneWereDisturbed, LookupsEndWithoutServer}
+use Rattle.tap_lookup_runs.proofs.NoServer.{disturbed_at_moments, ends_at_moments}
+use Rattle.tap_cast_runs.specs.ReachAll.{CastsReachAll}
+use Rattle.tap_cast_runs.proofs.ReachAll.{reach_all_at}
+use Rattle.tap_cast_runs.specs.Sessions.{AnswersAreAwaited, RestHasNoCastSessions}
+use Rattle.tap_cast_runs.proofs.Sessions.{answers_awaited_at, rest_sessions_at}
+use Rattle.tap_watch_runs.specs.Clause.{WatchClauseHolds}
+use Rattle.tap_watch_runs.proofs.Clause.{clause_at}
+use Rattle.tap_bounds_runs.specs.AtRest.{LookupsAtRestSendFew, PublicationsAtRestSendFew}
+use Rattle.tap_bounds_runs.proofs.AtRest.{lookups_at, publications_at}
+use Rattle.tap_bounds_runs.specs.Joins.{JoinsSendFew}
+use Rattle.tap_bounds_runs.proofs.JoinLogs.{joins_at}
+use Rattle.tap_headline.specs.Endings.{MayEnd}
+use Rattle.tap_headline.specs.Headline.{EndedLogsHaveHeadline, HasHeadline}
+use Rattle.tap_headline.specs.Sound.{FramesAreReceivedIn, HasInvariant}
+use Rattle.tap_headline.proofs.Ended.{IsEnded, run_ended}
+use Rattle.tap_headline.proofs.Kept.{at_ended, at_run}
+use Rattle.tap_headline.proofs.Frames.{joins_stay, lookup_frames_stay, publication_frames_stay}
+use Rattle.tap_headline.proofs.Sound.{invariant_at, invariant_stays, received_at, received_stay}
+use Rattle.tap_headline.proofs.Stays.{answers_stay, awaited_stay, cast_sessions_stay, casts_stay, disturbed_lookups_stay, lookup_ends_stay, lookups_stay, pointers_stay, watches_stay}
 
--- ---- a run that isn't over
+-- by how it has ended it is safe throughout
+safe_with : (b : Beginning) (log ending : List Record) → IsRun b log → MayEnd log ending → IsSafeThroughout b.settings (log ++ ending)
+unfolding MayEnd
+safe_with b log (Finished steps ∷ []) run may = ended_logs_are_safe.finished b log steps run
+safe_with b log (Spent limit ∷ []) run may = ended_logs_are_safe.spent b log limit run
+safe_with b log (StepRecord index step ∷ Spent limit ∷ []) run may = ended_logs_are_safe.cut b log index step limit run
+safe_with b log (StepRecord index step ∷ []) run may = ended_logs_are_safe.refused b log index step may.refusal run may.is
+safe_with b log ending run may = absurd may
 
--- the log is its beginning and its groups
-pub played_is : (s : ScenarioValue) (log : List Record) → IsPlayed s log → log ≡ begin_record (beginning_in s) ∷ records_of (groups_of log)
-played_is s log played = sym (log_is_groups log played.going) ∙ ap (λ l. l ++ records_of (groups_of log)) played.begins
+run_has_headline : (b : Beginning) (log : List Record) → IsRun b log → HasHeadline b.settings log
+run_has_headline b log run = record {
+  invariant = at_run HasInvariant invariant_at b log run;
+  received = at_run FramesAreReceivedIn received_at b log run;
+  safe = ended_logs_are_safe.going b log run;
+  pointers = at_run PointersOnTheirPaths on_paths_at b log run;
+  lookups = at_run LookupsAloneAreExact alone_at b log run;
+  answers = at_run AnswersWerePublished answers_at b log run;
+  lookup_ends = at_run LookupsEndWithoutServer ends_at_moments b log run;
+  disturbed_lookups = at_run AnsweredNoneWereDisturbed disturbed_at_moments b log run;
+  casts = at_run CastsReachAll reach_all_at b log run;
+  awaited = at_run AnswersAreAwaited answers_awaited_at b log run;
+  cast_sessions = at_run RestHasNoCastSessions rest_sessions_at b log run;
+  watches = at_run WatchClauseHolds clause_at b log run;
+  join_frames = at_run JoinsSendFew joins_at b log run;
+  lookup_frames = at_run LookupsAtRestSendFew lookups_at b log run;
+  publication_frames = at_run PublicationsAtRestSendFew publications_at b log run;
+}
 
-played_follows : (s : ScenarioValue) (log : List Record) → IsPlayed s log → FollowsScript s log
-played_follows s log played = record { begins = (records_of (groups_of log), played_is s log played); steps = played_steps s log played }
+ended_has_headline : (b : Beginning) (log ending : List Record) → MayEnd log ending → IsEnded b log ending
+    → HasHeadline b.settings (log ++ ending)
+ended_has_headline b log ending may ended = record {
+  invariant = at_ended HasInvariant invariant_at invariant_stays b log ending ended;
+  received = at_ended FramesAreReceivedIn received_at received_stay b log ending ended;
+  safe = safe_with b log ending ended.run may;
+  pointers = at_ended PointersOnTheirPaths on_paths_at pointers_stay b log ending ended;
+  lookups = at_ended LookupsAloneAreExact alone_at lookups_stay b log ending ended;
+  answers = at_ended AnswersWerePublished answers_at answers_stay b log ending ended;
+  lookup_ends = at_ended LookupsEndWithoutServer ends_at_moments lookup_ends_stay b log ending ended;
+  disturbed_lookups = at_ended AnsweredNoneWereDisturbed disturbed_at_moments disturbed_lookups_stay b log ending ended;
+  casts = at_ended CastsReachAll reach_all_at casts_stay b log ending ended;
+  awaited = at_ended AnswersAreAwaited answers_awaited_at awaited_stay b log ending ended;
+  cast_sessions = at_ended RestHasNoCastSessions rest_sessions_at cast_sessions_stay b log ending ended;
+  watches = at_ended WatchClauseHolds clause_at watches_stay b log ending ended;
+  join_frames = at_ended JoinsSendFew joins_at joins_stay b log ending ended;
+  lookup_frames = at_ended LookupsAtRestSendFew lookups_at lookup_frames_stay b log ending ended;
+  publication_frames = at_ended PublicationsAtRestSendFew publications_at publication_frames_stay b log ending ended;
+}
 
--- ---- what ends a run
-
--- these records begin these steps
-with_end : (s : ScenarioValue) (played end : List Record) (steps : List Step) → FollowsScript s played → begun_steps end ≡ steps
-    → begun_steps played ++ steps ≡ take (length (begun_steps played ++ steps)) s.steps → FollowsScript s (played ++ end)
-with_end s played end steps follows ends taken =
-    let all : begun_steps (played ++ end) ≡ begun_steps played ++ steps =
-    filter_map-append step_of played end ∙ ap (λ l. begun_steps played ++ l) ends in
-    record {
-      begins = (follows.begins.0 ++ end, ap (λ l. l ++ end) follows.begins.1);
-      steps = all ∙ taken ∙ sym (ap (λ l. take (length l) s.steps) all);
-    }
-
-no_more : (s : ScenarioValue) (played end : List Record) → FollowsScript s played → begun_steps end ≡ [] → FollowsScript s (played ++ end)
-no_more s played end follows none =
-    let same = append-nil (begun_steps played) in
-    with_end s played end [] follows none (same ∙ follows.steps ∙ sym (ap (λ l. take (length l) s.steps) same))
-
--- one more element of the first ones
-take_next : {X : Type 0} (n : ℕ) (xs : List X) (x : X) → slice_get xs n ≡ Some x → take (suc n) xs ≡ take n xs ++ x ∷ []
-take_next zero [] x at = absurd (cc)
-take_next zero (first ∷ xs) x at = let same : first ≡ x = cc in ap (λ y. y ∷ []) same
-take_next (suc n) [] x at = absurd (cc)
-take_next (suc n) (first ∷ xs) x at = ap (λ l. first ∷ l) (take_next n xs x at)
-
-one_more : (s : ScenarioValue) (played end : List Record) (step : Step) → FollowsScript s played → begun_steps end ≡ step ∷ []
-    → slice_get s.steps (begun_count played) ≡ Some step → FollowsScript s (played ++ end)
-one_more s played end step follows begins next =
-    with_end s played end (step ∷ []) follows begins
-    (ap (λ l. l ++ step ∷ []) follows.steps ∙ sym (take_next (begun_count played) s.steps step next)
-    ∙ ap (λ n. take n s.steps) (let size = length-append (begun_steps played) (step ∷ []) in
-    let e : suc (begun_count played) ≡ length (begun_steps played ++ step ∷ []) = omega (arith, size) in e))
-
-finished_follows : (s : ScenarioValue) (played log : List Record) → FollowsScript s played → IsFinished s played log → FollowsScript s log
-finished_follows s played log follows over =
-    subst (FollowsScript s) (sym over.log_is) (no_more s played (Finished (length s.steps) ∷ []) follows refl)
-
--- what stands of the group that would send too many frames
-pub taken_alone : (s : ScenarioValue) (played : List Record) (number : ℕ) → step_alone (taken_group s.settings played number) ≡ []
-unfolding step_alone
-taken_alone s played number = refl
-
-pub begun_alone : (s : ScenarioValue) (played : List Record) (index : ℕ) (step : Step)
-    → step_alone (step_group s.settings played index step) ≡ StepRecord index step ∷ []
-unfolding step_alone
-begun_alone s played index step = refl
-
-spent_follows : (s : ScenarioValue) (played log : List Record) → FollowsScript s played → IsSpent s played log → FollowsScript s log
-spent_follows s played log follows over =
-    let Ends : List Record → Type 0 = λ alone. FollowsScript s (played ++ (alone ++ Spent s.frames ∷ [])) in
-    subst (FollowsScript s) (sym over.log_is) (
-    elim (coming s played over.group over.next) [
-      | inl takes ↦
-          subst Ends (sym (taken_alone s played takes.number) ∙ ap step_alone takes.is)
-          (no_more s played (Spent s.frames ∷ []) follows refl)
-      | inr begins ↦
-          let index = begun_count played + 1 in
-          subst Ends (sym (begun_alone s played index begins.step) ∙ ap step_alone begins.is)
-          (one_more s played (StepRecord index begins.step ∷ Spent s.frames ∷ []) begins.step follows refl begins.next)
-    ]
-    )
-
-pub logs_follow_scripts : LogsFollowScripts
-logs_follow_scripts s log run =
-    let follows = played_follows s run.played run.is_played in
-    elim run.ending [
-      | inl same ↦ subst (FollowsScript s) (sym same) follows
-      | inr over ↦ elim over [
-        | inl finished ↦ finished_follows s run.played log follows finished
-        | inr spent ↦ spent_follows s run.played log follows spent
-      ]
-    ]
-
--- ---- the headline
-
--- what stands alone of the group that would send too many frames, and then `Spent`, keeps it
-spent_has : (s : ScenarioValue) (played log : List Record) → IsRun (beginning_in s) played → IsSpent s played log → HasHeadline s.settings log
-spent_has s played log run over =
-    let Ends : List Record → Type 0 = λ alone. HasHeadline s.settings (played ++ (alone ++ Spent s.frames ∷ [])) in
-    subst (HasHeadline s.settings) (sym over.log_is) (
-    elim (coming s played over.group over.next) [
-      | inl takes ↦
-          subst Ends (sym (taken_alone s played takes.number) ∙ ap step_alone takes.is)
-          (ended_logs_have_headline.ended (beginning_in s) played (Spent s.frames ∷ []) run (may_spend played s.frames))
-      | inr begins ↦
-          let index = begun_count played + 1 in
-          subst Ends (sym (begun_alone s played index begins.step) ∙ ap step_alone begins.is)
-          (ended_logs_have_headline.ended (beginning_in s) played (StepRecord index begins.step ∷ Spent s.frames ∷ []) run
-          (may_cut played index begins.step s.frames))
-    ]
-    )
-
-pub logs_have_headline : LogsHaveHeadline
-logs_have_headline s log valid of =
-    let run = lawful_logs_are_safe.runs s of.played valid of.is_played in
-    elim of.ending [
-      | inl same ↦ subst (HasHeadline s.settings) (sym same) (ended_logs_have_headline.going (beginning_in s) of.played run)
-      | inr over ↦ elim over [
-        | inl finished ↦
-            subst (HasHeadline s.settings) (sym finished.log_is)
-            (ended_logs_have_headline.ended (beginning_in s) of.played (Finished (length s.steps) ∷ []) run
-            (may_finish of.played (length s.steps)))
-        | inr spent ↦ spent_has s of.played log run spent
-      ]
-    ]
+pub ended_logs_have_headline : EndedLogsHaveHeadline
+ended_logs_have_headline = record {
+  going = run_has_headline;
+  ended = λ b log ending run may. ended_has_headline b log ending may (run_ended b log run ending may);
+}

@@ -1,5 +1,13 @@
-pub mod Endings
-pub mod Headline
+pub mod LastRecord
+pub mod Scripts
 pub mod Told
 pub mod Groups
 pub mod Printable
+pub mod Starts
+pub mod Ended
+pub mod Memory
+pub mod Kept
+pub mod Stays
+pub mod Frames
+pub mod Headline
+pub mod Sound

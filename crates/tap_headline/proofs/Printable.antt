@@ -12,23 +12,23 @@ use Rattle.tap_log.specs.Kinds.{sent_number, taken_number}
 use Rattle.tap_history.specs.Groups.{EachGroupFrom, groups_of, records_of}
 use Rattle.tap_report.specs.Text.{ArePrintable}
 use Rattle.tap_report.proofs.TextLemmas.{same_settings}
-use Rattle.tap_course.specs.Beginning.{Beginning, begin_record}
-use Rattle.tap_course.specs.Course.{Follows}
-use Rattle.tap_course.proofs.Growing.{log_is}
+use Rattle.tap_runs.specs.Beginning.{Beginning, begin_record}
+use Rattle.tap_runs.specs.Course.{Follows}
+use Rattle.tap_runs.proofs.Growing.{log_is}
 use Rattle.tap_lawful.specs.Next.{begun_count, beginning_in}
 use Rattle.tap_lawful.specs.Lawful.{ComesNext, IsPlayed, IsSpent, step_alone}
 use Rattle.tap_lawful.specs.Laws.{left_of}
 use Rattle.tap_lawful.proofs.Coming.{coming}
 use Rattle.tap_lawful.proofs.Less.{less_left}
 use Rattle.tap_lawful.proofs.Played.{sent_count-append, sent_no_fewer}
-use Rattle.tap_course.specs.Named.{HaveNames}
-use Rattle.tap_safe_course.specs.Safe.{IsRun}
-use Rattle.tap_safe_course.proofs.Lawful.{lawful_logs_are_safe}
-use Rattle.tap_safe_course.proofs.Safe.{run_begins, run_more, steps_after, steps_before}
+use Rattle.tap_runs.specs.Named.{HaveNames}
+use Rattle.tap_safe_runs.specs.Safe.{IsRun}
+use Rattle.tap_safe_runs.proofs.Lawful.{lawful_logs_are_safe}
+use Rattle.tap_safe_runs.proofs.Safe.{run_begins, run_more, steps_after, steps_before}
 use Rattle.tap_headline.specs.Printable.{CanBePrinted, LogsCanBePrinted}
 use Rattle.tap_headline.proofs.Told.{AreTold, CanPrint, both_told, more_told, none_told}
 use Rattle.tap_headline.proofs.Groups.{group_told}
-use Rattle.tap_headline.proofs.Headline.{begun_alone, taken_alone}
+use Rattle.tap_headline.proofs.Scripts.{begun_alone, taken_alone}
 
 -- ---- the records of all groups
 

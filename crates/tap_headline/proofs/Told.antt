@@ -35,11 +35,11 @@ use Rattle.tap_rule.specs.Node.{NodeState, settings_of}
 use Rattle.tap_rule.specs.Event.{Acted, Event, News}
 use Rattle.tap_rule.specs.Event.News.{Nothing, Core as IsCore, Gone as IsGone, Answered as IsAnswered, Cast as IsCast}
 use Rattle.tap_rule.specs.Act.{act}
-use Rattle.tap_course.specs.Acts.{acted_records, if_so, news_after, news_before, sent_records}
-use Rattle.tap_course.specs.Damage.{copied_number, damage_record, fault_in, fault_of_copy, garbled}
-use Rattle.tap_course.specs.Group.{records_of_act}
-use Rattle.tap_course.specs.Observed.{link_line, pointers_record, table_record, word_of_status}
-use Rattle.tap_course.specs.Starts.{announced}
+use Rattle.tap_runs.specs.Acts.{acted_records, if_so, news_after, news_before, sent_records}
+use Rattle.tap_runs.specs.Damage.{copied_number, damage_record, fault_in, fault_of_copy, garbled}
+use Rattle.tap_runs.specs.Group.{records_of_act}
+use Rattle.tap_runs.specs.Observed.{link_line, pointers_record, table_record, word_of_status}
+use Rattle.tap_runs.specs.Starts.{announced}
 use Rattle.tap_history.specs.Refusals.{damaged}
 use Rattle.tap_lawful.proofs.Played.{sent_count-append}
 

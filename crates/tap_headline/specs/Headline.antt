@@ -1,27 +1,49 @@
--- What holds of each log of a run, however far the run has come or however it has ended.
+-- The headline, which holds of each log of a run, however far the run has come and however it has ended.
 --
--- Rule: docs/FORMATS.md, "What comes next" and "The course of a run".
-use Rattle.std.specs.Prelude.{◌≡◌, List, ◌∷◌, take}
-use Rattle.tap_scenario.specs.Scenario.{IsScript, ScenarioValue}
+-- Rule: docs/FORMATS.md, "The course of a run" and "The ways a run ends".
+use Rattle.std.specs.Prelude.{List, ◌++◌}
+use Rattle.tap_name.specs.Settings.{SettingsValue}
 use Rattle.tap_log.specs.declared.record.Record.{Record}
-use Rattle.tap_log.specs.Log.{begun_steps}
-use Rattle.tap_course.specs.Beginning.{begin_record}
-use Rattle.tap_lawful.specs.Next.{beginning_in, begun_count}
-use Rattle.tap_lawful.specs.Lawful.{IsLogOf}
-use Rattle.tap_whole_course.specs.Headline.{HasHeadline}
+use Rattle.tap_runs.specs.Beginning.{Beginning}
+use Rattle.tap_safe_runs.specs.Headline.{AtMomentsOf, IsSafeThroughout}
+use Rattle.tap_safe_runs.specs.Safe.{IsRun}
+use Rattle.tap_pointer_runs.specs.Paths.{PointersOnTheirPaths}
+use Rattle.tap_lookup_runs.specs.Alone.{LookupsAloneAreExact}
+use Rattle.tap_lookup_runs.specs.Answers.{AnswersWerePublished}
+use Rattle.tap_lookup_runs.specs.NoServer.{AnsweredNoneWereDisturbed, LookupsEndWithoutServer}
+use Rattle.tap_cast_runs.specs.ReachAll.{CastsReachAll}
+use Rattle.tap_cast_runs.specs.Sessions.{AnswersAreAwaited, RestHasNoCastSessions}
+use Rattle.tap_watch_runs.specs.Clause.{WatchClauseHolds}
+use Rattle.tap_bounds_runs.specs.AtRest.{LookupsAtRestSendFew, PublicationsAtRestSendFew}
+use Rattle.tap_bounds_runs.specs.Joins.{JoinsSendFew}
+use Rattle.tap_headline.specs.Endings.{MayEnd}
+use Rattle.tap_headline.specs.Sound.{FramesAreReceivedIn, HasInvariant}
 
--- The log has the headline, by the settings of the scenario: docs/PROOFS.md, "The headline, sentence by sentence".
-abbrev pub RunHasHeadline : ScenarioValue → List Record → Type 0
-RunHasHeadline s log = HasHeadline s.settings log
+-- The headline, at each moment of the log. The whole invariant holds of its nodes, and each frame that was taken was received by a node to
+-- which it wasn't strange. It is safe: there is a core node, no table has a hole, walks lead to the one root, and at rest who is
+-- present is core. At rest pointers stand exactly on their paths. A lookup made alone from a rest is answered exactly. However lookups overlap,
+-- each answer names a server that was published; one without a server comes from a node that held no pair of the object and had no next hop,
+-- and at some moment of the lookup no such pair was published, or a frame was outstanding that is of no lookup. Casts reach all whom they are
+-- for. Each answer that is outstanding comes to an open session, and at rest no session of casts is open. The watch clause holds. Few frames were
+-- sent if nothing but joins was accepted; and few by a lookup or a publication that is accepted at a rest, until another start is accepted.
+pub record HasHeadline (p : SettingsValue) (log : List Record) : Type 0 where
+  pub invariant : AtMomentsOf log (HasInvariant p)
+  pub received : AtMomentsOf log (FramesAreReceivedIn p)
+  pub safe : IsSafeThroughout p log
+  pub pointers : AtMomentsOf log (PointersOnTheirPaths p)
+  pub lookups : AtMomentsOf log (LookupsAloneAreExact p)
+  pub answers : AtMomentsOf log (AnswersWerePublished p)
+  pub lookup_ends : AtMomentsOf log (LookupsEndWithoutServer p)
+  pub disturbed_lookups : AtMomentsOf log (AnsweredNoneWereDisturbed p)
+  pub casts : AtMomentsOf log (CastsReachAll p)
+  pub awaited : AtMomentsOf log (AnswersAreAwaited p)
+  pub cast_sessions : AtMomentsOf log (RestHasNoCastSessions p)
+  pub watches : AtMomentsOf log (WatchClauseHolds p)
+  pub join_frames : AtMomentsOf log (JoinsSendFew p)
+  pub lookup_frames : AtMomentsOf log (LookupsAtRestSendFew p)
+  pub publication_frames : AtMomentsOf log (PublicationsAtRestSendFew p)
 
--- each log of a run has it: that of one which isn't over, or which ended early for want of memory, and that of one which is over
-abbrev pub LogsHaveHeadline : Type 0
-LogsHaveHeadline = (s : ScenarioValue) (log : List Record) → IsScript s → IsLogOf s log → RunHasHeadline s log
-
--- the log begins as the scenario does, and its steps are the scenario's first ones
-pub record FollowsScript (s : ScenarioValue) (log : List Record) : Type 0 where
-  pub begins : (rest : List Record) × (log ≡ begin_record (beginning_in s) ∷ rest)
-  pub steps : begun_steps log ≡ take (begun_count log) s.steps
-
-abbrev pub LogsFollowScripts : Type 0
-LogsFollowScripts = (s : ScenarioValue) (log : List Record) → IsLogOf s log → FollowsScript s log
+-- the log of a run has it, and it has it still if how the run has ended stands after it, or a step that is refused
+pub record EndedLogsHaveHeadline : Type 0 where
+  pub going : (b : Beginning) (log : List Record) → IsRun b log → HasHeadline b.settings log
+  pub ended : (b : Beginning) (log ending : List Record) → IsRun b log → MayEnd log ending → HasHeadline b.settings (log ++ ending)

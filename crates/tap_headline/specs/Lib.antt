@@ -1,3 +1,6 @@
-pub mod Headline
-pub mod Endings
+pub mod Scripts
+pub mod LastRecord
 pub mod Printable
+pub mod Endings
+pub mod Headline
+pub mod Sound

@@ -1,6 +1,8 @@
-ghost use Rattle.tap_headline.specs.Endings.{LogsEndSo};
-ghost use Rattle.tap_headline.specs.Headline.{LogsFollowScripts, LogsHaveHeadline};
+ghost use Rattle.tap_headline.specs.LastRecord.{LogsEndSo};
+ghost use Rattle.tap_headline.specs.Scripts.{LogsFollowScripts, LogsHaveHeadline};
 ghost use Rattle.tap_headline.specs.Printable.{LogsCanBePrinted};
+ghost use Rattle.tap_headline.specs.Endings.{EndingsChangeNothing};
+ghost use Rattle.tap_headline.specs.Headline.{EndedLogsHaveHeadline};
 
 /// The log of a run begins as its scenario does, and its steps are the scenario's first ones. It has the headline, at each of its moments,
 /// also once it says how the run has ended: of nodes and tables, pointers, lookups, casts, sessions, watch lists and the frames of joins.
@@ -19,7 +21,7 @@ pub fn headline_law()
 /// It does nothing: its contract is the law.
 ///
 /// Rule: docs/FORMATS.md, "The ways a run ends".
-pub fn endings_law()
+pub fn last_record_law()
     ensures { LogsEndSo }
 {}
 
@@ -32,4 +34,25 @@ pub fn endings_law()
 /// Rule: docs/FORMATS.md, "The printed text".
 pub fn printable_law()
     ensures { LogsCanBePrinted }
+{}
+
+/// What stands at the end of the log of a run changes nothing, be it how many steps were run, how many frames may be sent, alone or after the
+/// step that would send more, or a step that is refused and whose refusal doesn't stand there yet: the log has come to the same system, says
+/// the same of who takes part, of the pairs that are published and of the frames that are outstanding, and accepts the same starts.
+///
+/// It does nothing: its contract is the law.
+///
+/// Rule: docs/FORMATS.md, "The ways a run ends".
+pub fn endings_law()
+    ensures { EndingsChangeNothing }
+{}
+
+/// The log of a run has the headline, at each of its moments, also once how the run has ended stands after it, or a step that is refused and
+/// whose refusal doesn't stand there yet.
+///
+/// It does nothing: its contract is the law.
+///
+/// Rule: docs/FORMATS.md, "The course of a run" and "The ways a run ends".
+pub fn ended_headline_law()
+    ensures { EndedLogsHaveHeadline }
 {}

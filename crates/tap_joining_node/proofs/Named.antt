@@ -8,8 +8,8 @@ use Rattle.tap_name.specs.Name.{IsName}
 use Rattle.tap_name.specs.Settings.{SettingsValue}
 use Rattle.tap_table.specs.Ties.{TiesValue, stamp_after}
 use Rattle.tap_join.specs.Hello.{hello_names, hello_tells, is_own, links_tell, offered_tells, with_offered, words_of}
-use Rattle.tap_step.proofs.Ending.{IsToName, told_named}
-use Rattle.tap_step.proofs.Sending.{all_words_of}
+use Rattle.tap_node_common.proofs.Ending.{IsToName, told_named}
+use Rattle.tap_node_common.proofs.Sending.{all_words_of}
 
 module _ (p : SettingsValue) where
   offered_named : (ties : TiesValue) (last : ℕ) (link : Offered) → IsName p link.name → IfSome (offered_tells ties last link) (IsToName p)

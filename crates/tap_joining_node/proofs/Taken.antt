@@ -20,10 +20,10 @@ use Rattle.tap_rule.specs.Node.{IsRunning, NodeState, name_of}
 use Rattle.tap_rule.specs.Node.Status.{Joining}
 use Rattle.tap_rule.specs.Reaction.{Reaction}
 use Rattle.tap_rule.proofs.JoinSteps.{tell_fits}
-use Rattle.tap_step.specs.declared.news.News.{News}
-use Rattle.tap_step.specs.Sound.{MayTake}
-use Rattle.tap_step.specs.Step.{FollowsAs, StepsAs}
-use Rattle.tap_step.proofs.Followed.{follows_quietly}
+use Rattle.tap_node_common.specs.declared.news.News.{News}
+use Rattle.tap_node_common.specs.Sound.{MayTake}
+use Rattle.tap_node_common.specs.Step.{FollowsAs, StepsAs}
+use Rattle.tap_node_common.proofs.Followed.{follows_quietly}
 
 -- a Tell that a node may take is of another node
 pub tells_other : (node : NodeState) (frame : Frame) → MayTake node frame → (tell : TellFields) (watch : List Slot)

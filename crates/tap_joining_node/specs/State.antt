@@ -2,7 +2,7 @@
 --
 -- Rule: docs/PROTOCOL.md, "Nodes".
 use Rattle.tap_rule.specs.Node.{NodeState, joiner}
-use Rattle.tap_step.specs.States.{newly_core}
+use Rattle.tap_node_common.specs.States.{newly_core}
 use Rattle.tap_joining_node.specs.declared.joining_node.Joined.{Joined}
 use Rattle.tap_joining_node.specs.declared.joining_node.JoiningNode.{JoiningNode}
 

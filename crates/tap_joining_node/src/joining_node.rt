@@ -15,21 +15,20 @@ ghost use Rattle.tap_rule.specs.Node.Status.{Ceased as ceased};
 ghost use Rattle.tap_rule.specs.Reaction.{message};
 ghost use Rattle.tap_wire.specs.Spelling.{AreLinks};
 ghost use Rattle.tap_wire.specs.declared.frame.Body.TheVariants as bodies;
-ghost use Rattle.tap_step.specs.Sender.{message_bytes, sender_of};
-ghost use Rattle.tap_step.specs.Sound.{HaveParents, MayTake};
-ghost use Rattle.tap_step.specs.States.{ended_state};
+ghost use Rattle.tap_node_common.specs.Sender.{message_bytes, sender_of};
+ghost use Rattle.tap_node_common.specs.Sound.{HaveParents, MayTake};
+ghost use Rattle.tap_node_common.specs.States.{ended_state};
 ghost use Rattle.tap_joining_node.specs.State.{core_joined, joining_state};
-ghost use Rattle.tap_step.specs.Step.{FollowsAs, StepsAs};
+ghost use Rattle.tap_node_common.specs.Step.{FollowsAs, StepsAs};
 
 use std::alloc::Global;
 use tap_join::{Core, Joining};
 use tap_link::{Cease, Forget, Release};
 use tap_name::{List, Name, Offered, Settings};
+use tap_node_common::{FrameList, News, NoMemory, Sender, take_answer};
 use tap_pointer::Pointers;
 use tap_register::Stamp;
 use tap_session::{Parent, Sessions};
-use tap_step::{News, NoMemory, Sender, take_answer};
-use tap_turn::FrameList;
 use tap_wire::{Body, Frame};
 
 /// A node that joins.

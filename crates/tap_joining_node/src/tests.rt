@@ -1,7 +1,7 @@
 use crate::JoiningNode;
 use std::test::Fail;
 use tap_name::{Settings, read_name};
-use tap_turn::FrameList;
+use tap_node_common::FrameList;
 
 // 01 seeks its place by 00, and once it is core it has no holder to release.
 #[test]

@@ -10,11 +10,11 @@ use Rattle.tap_log.specs.Kinds.{step_of}
 use Rattle.tap_log.specs.Log.{begun_steps}
 use Rattle.tap_history.specs.Groups.{EachGroupFrom, beginning_of, groups_of, records_of}
 use Rattle.tap_history.proofs.Parts.{log_is_groups}
-use Rattle.tap_course.specs.Beginning.{begin_record}
-use Rattle.tap_course.specs.Course.{system_of}
-use Rattle.tap_course.specs.Group.{step_records}
+use Rattle.tap_runs.specs.Beginning.{begin_record}
+use Rattle.tap_runs.specs.Course.{system_of}
+use Rattle.tap_runs.specs.Group.{step_records}
 use Rattle.tap_lawful.specs.Next.{begun_count, group_after, next_step}
-use Rattle.tap_course.specs.Groups.{step_group, taken_group}
+use Rattle.tap_runs.specs.Groups.{step_group, taken_group}
 use Rattle.tap_lawful.specs.Lawful.{ComesNext, IsPlayed}
 use Rattle.tap_lawful.specs.Laws.{BeginsAlike}
 use Rattle.tap_lawful.proofs.Coming.{BeginsNext, TakesDue, coming}

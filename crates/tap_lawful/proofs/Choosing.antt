@@ -8,10 +8,10 @@ use Rattle.tap_scenario.specs.declared.step.Step.{Step}
 use Rattle.tap_log.specs.declared.record.Record.{Record}
 use Rattle.tap_log.specs.declared.record.Record.TheVariants.{Step as StepRecord, Taken}
 use Rattle.tap_log.specs.Kinds.{begins_group}
-use Rattle.tap_course.specs.Course.{MayFollow, system_of}
-use Rattle.tap_course.proofs.Within.{Within, step_within, taken_within}
+use Rattle.tap_runs.specs.Course.{MayFollow, system_of}
+use Rattle.tap_runs.proofs.Within.{Within, step_within, taken_within}
 use Rattle.tap_lawful.specs.Due.{Chosen, chosen_after, chosen_in, nothing_chosen}
-use Rattle.tap_course.specs.Groups.{step_group, taken_group}
+use Rattle.tap_runs.specs.Groups.{step_group, taken_group}
 
 -- a record within a group chooses nothing
 within_same : (chosen : Chosen) (item : Record) → begins_group false item ≡ false → chosen_after chosen item ≡ chosen

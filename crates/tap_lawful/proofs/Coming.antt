@@ -15,12 +15,12 @@ use Rattle.tap_history.specs.Moments.{has_number, outstanding}
 use Rattle.tap_history.specs.Refusals.{first_refusal}
 use Rattle.tap_history.specs.Steps.{actor_of}
 use Rattle.tap_safety.specs.System.{System}
-use Rattle.tap_course.specs.Starts.{start_of_step}
-use Rattle.tap_course.specs.Group.{accepted_records, records_unless, step_records}
-use Rattle.tap_course.specs.Course.{FollowStep, Follows, IsRefused, MayFollow, is_choice, system_of}
+use Rattle.tap_runs.specs.Starts.{start_of_step}
+use Rattle.tap_runs.specs.Group.{accepted_records, records_unless, step_records}
+use Rattle.tap_runs.specs.Course.{FollowStep, Follows, IsRefused, MayFollow, is_choice, system_of}
 use Rattle.tap_lawful.specs.Due.{number_due, place_due}
 use Rattle.tap_lawful.specs.Next.{beginning_in, begun_count, group_after, next_step}
-use Rattle.tap_course.specs.Groups.{step_group, taken_group}
+use Rattle.tap_runs.specs.Groups.{step_group, taken_group}
 use Rattle.tap_lawful.specs.Lawful.{ComesNext}
 
 -- ---- what comes next

@@ -15,7 +15,7 @@ use Rattle.tap_log.specs.Log.{begun_steps}
 use Rattle.tap_history.specs.Moments.{has_number, numbers_less, outstanding}
 use Rattle.tap_history.proofs.Less.{filter_within, less_by-more}
 use Rattle.tap_lawful.specs.Next.{begun_count}
-use Rattle.tap_course.specs.Groups.{step_group, taken_group}
+use Rattle.tap_runs.specs.Groups.{step_group, taken_group}
 use Rattle.tap_lawful.specs.Lawful.{ComesNext}
 use Rattle.tap_lawful.specs.Laws.{left_of}
 use Rattle.tap_lawful.proofs.Coming.{coming, due_waits}

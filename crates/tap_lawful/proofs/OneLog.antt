@@ -7,7 +7,7 @@ use Rattle.tap_log.specs.declared.record.Record.TheVariants.{Finished, Spent}
 use Rattle.tap_log.specs.Counts.{sent_count}
 use Rattle.tap_history.specs.Groups.{EachGroupFrom, groups_of, records_of}
 use Rattle.tap_history.proofs.Parts.{log_is_groups}
-use Rattle.tap_course.specs.Beginning.{begin_record}
+use Rattle.tap_runs.specs.Beginning.{begin_record}
 use Rattle.tap_lawful.specs.Next.{beginning_in}
 use Rattle.tap_lawful.specs.Lawful.{ComesNext, IsLogOf, IsOver, IsPlayed, IsWholeLogOf, step_alone}
 use Rattle.tap_lawful.specs.Laws.{BeginsWith, OneLog}

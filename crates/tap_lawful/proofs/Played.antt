@@ -11,10 +11,10 @@ use Rattle.tap_log.proofs.Growing.{carried_alone}
 use Rattle.tap_history.specs.Groups.{EachGroupFrom, beginning_of, ends_log, groups_of, records_of}
 use Rattle.tap_history.proofs.Ends.{log_in_groups_holds}
 use Rattle.tap_history.proofs.Parts.{EachGroup-push, beginning_of-group, is_ended-append, log_is_groups}
-use Rattle.tap_course.specs.Beginning.{IsWithinLimits, begin_record}
-use Rattle.tap_course.specs.Course.{Follows, IsCourse, system_of}
-use Rattle.tap_course.proofs.Growing.{starts_begun, starts_uncarried}
-use Rattle.tap_course.proofs.Within.{IsWhole, whole_group}
+use Rattle.tap_runs.specs.Beginning.{IsWithinLimits, begin_record}
+use Rattle.tap_runs.specs.Course.{Follows, IsCourse, system_of}
+use Rattle.tap_runs.proofs.Growing.{starts_begun, starts_uncarried}
+use Rattle.tap_runs.proofs.Within.{IsWhole, whole_group}
 use Rattle.tap_lawful.specs.Next.{beginning_in}
 use Rattle.tap_lawful.specs.Lawful.{ComesNext, IsPlayed}
 use Rattle.tap_lawful.proofs.Coming.{comes_follows, comes_may}

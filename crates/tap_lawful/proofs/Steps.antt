@@ -12,13 +12,13 @@ use Rattle.tap_log.specs.declared.record.Record.TheVariants.{Step as StepRecord,
 use Rattle.tap_log.specs.Kinds.{begins_group, step_of}
 use Rattle.tap_log.specs.Log.{begun_steps}
 use Rattle.tap_history.proofs.Numbering.{range-append}
-use Rattle.tap_course.specs.Beginning.{begin_record}
-use Rattle.tap_course.specs.Course.{MayFollow, system_of}
-use Rattle.tap_course.proofs.Frames.{none_of}
-use Rattle.tap_course.proofs.Within.{Within, step_within, taken_within}
+use Rattle.tap_runs.specs.Beginning.{begin_record}
+use Rattle.tap_runs.specs.Course.{MayFollow, system_of}
+use Rattle.tap_runs.proofs.Frames.{none_of}
+use Rattle.tap_runs.proofs.Within.{Within, step_within, taken_within}
 use Rattle.tap_lawful.specs.Due.{number_due}
 use Rattle.tap_lawful.specs.Next.{beginning_in, begun_count, group_after, next_group, next_step}
-use Rattle.tap_course.specs.Groups.{step_group, taken_group}
+use Rattle.tap_runs.specs.Groups.{step_group, taken_group}
 use Rattle.tap_lawful.specs.Lawful.{ComesNext, IsPlayed}
 use Rattle.tap_lawful.specs.Laws.{index_of}
 use Rattle.tap_lawful.proofs.Coming.{coming, comes_may}

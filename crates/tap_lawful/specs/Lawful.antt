@@ -7,7 +7,7 @@ use Rattle.tap_log.specs.declared.record.Record.{Record}
 use Rattle.tap_log.specs.declared.record.Record.TheVariants.{Step as StepRecord, Spent, Finished}
 use Rattle.tap_log.specs.Counts.{sent_count}
 use Rattle.tap_history.specs.Groups.{EachGroup, beginning_of, is_ended}
-use Rattle.tap_course.specs.Beginning.{begin_record}
+use Rattle.tap_runs.specs.Beginning.{begin_record}
 use Rattle.tap_lawful.specs.Next.{beginning_in, next_group}
 
 -- the group is the one that comes next

@@ -7,8 +7,8 @@ use Rattle.tap_log.specs.declared.record.Record.TheVariants.{Step as StepRecord}
 use Rattle.tap_log.specs.Counts.{sent_count}
 use Rattle.tap_log.specs.Log.{begun_steps}
 use Rattle.tap_history.specs.Moments.{outstanding}
-use Rattle.tap_course.specs.Beginning.{begin_record}
-use Rattle.tap_course.specs.Course.{IsCourse}
+use Rattle.tap_runs.specs.Beginning.{begin_record}
+use Rattle.tap_runs.specs.Course.{IsCourse}
 use Rattle.tap_lawful.specs.Next.{beginning_in, begun_count, next_group}
 use Rattle.tap_lawful.specs.Lawful.{IsLogOf, IsPlayed, IsWholeLogOf}
 

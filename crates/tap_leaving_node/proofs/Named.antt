@@ -10,7 +10,7 @@ use Rattle.tap_depart.specs.declared.notice.Notice.{Notice}
 use Rattle.tap_depart.specs.Leaving.{notice_for, started_leaving}
 use Rattle.tap_depart.specs.Replacement.{replacement_for}
 use Rattle.tap_depart.proofs.Replacements.{replacement_fits}
-use Rattle.tap_step.proofs.Ending.{holders_named}
+use Rattle.tap_node_common.proofs.Ending.{holders_named}
 
 module _ (t : TableValue) (valid : IsTable t) where
   -- the replacement for a holder is a name

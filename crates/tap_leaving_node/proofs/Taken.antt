@@ -11,11 +11,11 @@ use Rattle.tap_rule.specs.Links.{hears_and_releases}
 use Rattle.tap_rule.specs.Node.{IsRunning, NodeState}
 use Rattle.tap_rule.specs.Pointers.{finds, is_answered, reconciles, takes_lay}
 use Rattle.tap_rule.specs.Reaction.{Reaction}
-use Rattle.tap_step.specs.declared.news.News.{News}
-use Rattle.tap_step.specs.declared.news.News.TheVariants.{Answered}
-use Rattle.tap_step.specs.Step.{FollowsAs, StepsAs}
-use Rattle.tap_step.proofs.Followed.{finds_alone, follows_alone, follows_quietly, follows_rule}
-use Rattle.tap_step.proofs.Steps.{silent_step}
+use Rattle.tap_node_common.specs.declared.news.News.{News}
+use Rattle.tap_node_common.specs.declared.news.News.TheVariants.{Answered}
+use Rattle.tap_node_common.specs.Step.{FollowsAs, StepsAs}
+use Rattle.tap_node_common.proofs.Followed.{finds_alone, follows_alone, follows_quietly, follows_rule}
+use Rattle.tap_node_common.proofs.ReactionSteps.{silent_step}
 
 module _ (node : NodeState) (runs : IsRunning node.status) (frame : Frame) where
   module _ (after : NodeState) (before sent : List (List ℕ)) (news : News) where

@@ -2,7 +2,7 @@
 --
 -- Rule: docs/PROTOCOL.md, "Nodes".
 use Rattle.tap_rule.specs.Node.{NodeState}
-use Rattle.tap_step.specs.States.{leaving_state_of}
+use Rattle.tap_node_common.specs.States.{leaving_state_of}
 use Rattle.tap_leaving_node.specs.declared.leaving_node.LeavingNode.{LeavingNode}
 
 -- a node that leaves

@@ -12,23 +12,22 @@ ghost use Rattle.tap_rule.specs.Pointers.{finds, reconciles, takes_lay};
 ghost use Rattle.tap_rule.specs.Reaction.{sends};
 ghost use Rattle.tap_wire.specs.declared.frame.Body.TheVariants as bodies;
 ghost use Rattle.tap_wire.specs.Spelling.{IsLevel};
-ghost use Rattle.tap_step.specs.Pointing.{IsFindBody, IsLayBody};
-ghost use Rattle.tap_step.specs.Sender.{message_bytes, sender_of};
-ghost use Rattle.tap_step.specs.Sound.{AreNamedHops, AreNamedPairs, IsSoundNode, MayTake, has_numbers_left};
-ghost use Rattle.tap_step.specs.States.{core_state_of, ended_state};
-ghost use Rattle.tap_step.specs.Step.{FollowsAs, StepsAs};
+ghost use Rattle.tap_node_common.specs.Pointing.{IsFindBody, IsLayBody};
+ghost use Rattle.tap_node_common.specs.Sender.{message_bytes, sender_of};
+ghost use Rattle.tap_node_common.specs.Sound.{AreNamedHops, AreNamedPairs, IsSoundNode, MayTake, has_numbers_left};
+ghost use Rattle.tap_node_common.specs.States.{core_state_of, ended_state};
+ghost use Rattle.tap_node_common.specs.Step.{FollowsAs, StepsAs};
 ghost use Rattle.tap_leaving_node.specs.State.{leaving_state};
 
 use std::alloc::Global;
 use tap_depart::Leaving;
 use tap_join::Core;
 use tap_name::Name;
-use tap_session::Sessions;
-use tap_step::{
-    News, NoMemory, NodeParts, Sender, TakenFind, TakenLay, hear_and_release, reconcile, take_find,
-    take_lay,
+use tap_node_common::{
+    FrameList, News, NoMemory, NodeParts, Sender, TakenFind, TakenLay, hear_and_release, reconcile,
+    take_find, take_lay,
 };
-use tap_turn::FrameList;
+use tap_session::Sessions;
 use tap_wire::{Body, Frame};
 
 /// A node that has told its holders that it will go.

@@ -24,7 +24,7 @@ use Rattle.tap_safety.proofs.Moves.{delivers, found, starts}
 use Rattle.tap_moves.specs.Delivered.{after_delivery, after_start}
 use Rattle.tap_moves.proofs.Exchanged.{exchanges, in_either, sent_numbered}
 use Rattle.tap_moves.proofs.Got.{among_all}
-use Rattle.tap_invariant.specs.Sound.{Sound}
+use Rattle.tap_safety_moves.specs.Sound.{Sound}
 use Rattle.tap_lookup_moves.proofs.Rules.{AskNotes, AskRule, AskSays, FoundNotes, FoundRule, FoundSays, IsAside, IsLookupRule, IsNoLeave, ask_free, found_free, frame_rule, start_rule}
 
 -- ---- one node acts

@@ -36,8 +36,8 @@ use Rattle.tap_safety.proofs.Moves.{delivers, found, starts}
 use Rattle.tap_moves.specs.Delivered.{after_delivery, after_start}
 use Rattle.tap_moves.proofs.Exchanged.{exchanges, in_either, sent_numbered}
 use Rattle.tap_moves.proofs.Got.{among_all}
-use Rattle.tap_invariant.specs.Sound.{Sound}
-use Rattle.tap_invariant.proofs.Consequences.{none_is_strange}
+use Rattle.tap_safety_moves.specs.Sound.{Sound}
+use Rattle.tap_safety_moves.proofs.Consequences.{none_is_strange}
 use Rattle.tap_pointer_moves.specs.Told.{PointersStand}
 use Rattle.tap_lookup_moves.specs.Alone.{GoesAlone, IsAlike, IsExact, IsOfLookup, IsOnWalk, LookupBeginsAlone, LookupGoesOnAlone, WasAlike}
 use Rattle.tap_lookup_moves.specs.Answers.{news_of_frame}

@@ -18,7 +18,7 @@ use Rattle.tap_safety.specs.Moved.{starter}
 use Rattle.tap_safety.specs.System.{System, AmongFrames, IsUnderWay}
 use Rattle.tap_safety.proofs.Moves.{found}
 use Rattle.tap_moves.specs.Delivered.{after_delivery, after_start}
-use Rattle.tap_invariant.specs.Sound.{Sound}
+use Rattle.tap_safety_moves.specs.Sound.{Sound}
 use Rattle.tap_pointer_moves.specs.Ever.{AreOfPublished}
 use Rattle.tap_pointer_moves.specs.Told.{PointersStand}
 use Rattle.tap_pointer_moves.proofs.Ever.{held_was_published}

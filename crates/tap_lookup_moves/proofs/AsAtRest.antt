@@ -14,7 +14,7 @@ use Rattle.tap_safety.specs.System.{System, IsJoiner, IsUnderWay}
 use Rattle.tap_safety.specs.Ties.{status_of}
 use Rattle.tap_safety.proofs.LinkKeeps.{status_seen}
 use Rattle.tap_safety.proofs.Rest.{rest_holds}
-use Rattle.tap_invariant.specs.Sound.{Sound}
+use Rattle.tap_safety_moves.specs.Sound.{Sound}
 use Rattle.tap_pointer_moves.specs.Said.{IsLastLay, IsLaySaid, LayWord, laid_of, pointer_register_of}
 use Rattle.tap_pointer_moves.specs.Told.{AreLaysStamped, AreTold, PointersStand}
 use Rattle.tap_pointer_moves.proofs.Paths.{pointers_on_paths}

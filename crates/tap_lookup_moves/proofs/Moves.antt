@@ -22,8 +22,8 @@ use Rattle.tap_safety.specs.Moved.{starter}
 use Rattle.tap_safety.specs.Remembered.{Leaver}
 use Rattle.tap_safety.specs.System.{System, AmongFrames, IsCoreNode, IsUnderWay}
 use Rattle.tap_moves.specs.Delivered.{after_delivery, after_start}
-use Rattle.tap_invariant.specs.Sound.{Sound}
-use Rattle.tap_invariant.proofs.Moves.{move_keeps}
+use Rattle.tap_safety_moves.specs.Sound.{Sound}
+use Rattle.tap_safety_moves.proofs.Moves.{move_keeps}
 use Rattle.tap_pointer_moves.proofs.Publications.{starter_of}
 use Rattle.tap_lookup_moves.specs.Lookups.{LookupsAtRest, LookupsGoToCore, LookupsKept, NeverComesBack}
 use Rattle.tap_lookup_moves.proofs.Acts.{LookupStep, frame_step, new_step, start_step}

@@ -7,7 +7,7 @@ use Rattle.tap_table.specs.declared.next.Next.TheVariants.{Hop as HopTo, Root}
 use Rattle.tap_pointer.specs.Pointers.{is_held, least_server, pair_of, state_of}
 use Rattle.tap_wire.specs.declared.frame.Body.TheVariants.{Answer, Find}
 use Rattle.tap_wire.specs.declared.frame.Frame.{Frame}
-use Rattle.tap_course.specs.Observed.{nodes_of}
+use Rattle.tap_runs.specs.Observed.{nodes_of}
 use Rattle.tap_rule.specs.Act.{act}
 use Rattle.tap_rule.specs.Event.{Start}
 use Rattle.tap_rule.specs.Event.Event.{Starts}
@@ -22,7 +22,7 @@ use Rattle.tap_safety.specs.Move.Move.{Begins, Delivers}
 use Rattle.tap_safety.specs.Moved.{starter}
 use Rattle.tap_safety.specs.System.{System, AmongFrames, IsCoreNode, IsUnderWay}
 use Rattle.tap_moves.specs.Delivered.{after_delivery, after_start}
-use Rattle.tap_invariant.specs.Sound.{Sound}
+use Rattle.tap_safety_moves.specs.Sound.{Sound}
 use Rattle.tap_pointer_moves.specs.Paths.{IsPublished}
 use Rattle.tap_pointer_moves.specs.Told.{PointersStand}
 use Rattle.tap_pointer_moves.proofs.Chains.{entry_at}

@@ -17,14 +17,14 @@ use Rattle.tap_surrogate.specs.Nodes.{core_links}
 use Rattle.tap_surrogate.specs.Walk.{walk, walk_end}
 use Rattle.tap_surrogate.proofs.Chains.{chain_law_holds}
 use Rattle.tap_surrogate.proofs.Entering.{entered_begins, entered_law_holds}
-use Rattle.tap_course.specs.Observed.{nodes_of}
+use Rattle.tap_runs.specs.Observed.{nodes_of}
 use Rattle.tap_rule.specs.Node.{NodeState}
 use Rattle.tap_rule.specs.Node.Status.{Core}
 use Rattle.tap_rule.specs.Pointers.{next_hop}
 use Rattle.tap_rule.specs.Sent.{IsAmong}
 use Rattle.tap_safety.specs.System.{System, IsCoreNode}
-use Rattle.tap_invariant.specs.Sound.{Sound}
-use Rattle.tap_invariant.proofs.Walks.{core_listed, read_core, tables_hole_free, walks_lead}
+use Rattle.tap_safety_moves.specs.Sound.{Sound}
+use Rattle.tap_safety_moves.proofs.Walks.{core_listed, read_core, tables_hole_free, walks_lead}
 use Rattle.tap_pointer_moves.specs.Paths.{HoldsPair, IsPublished, path_of}
 use Rattle.tap_pointer_moves.specs.Told.{PointersStand}
 use Rattle.tap_pointer_moves.proofs.Chains.{chain_next, entry_at}

@@ -24,9 +24,9 @@ use Rattle.tap_safety.specs.Step.{numbered_from}
 use Rattle.tap_safety.specs.System.{System, AmongFrames, IsUnderWay}
 use Rattle.tap_safety.proofs.Moves.{delivers, found, starts}
 use Rattle.tap_safety.proofs.Told.{among_left, among_numbered, among_right}
-use Rattle.tap_course.specs.Observed.{nodes_of, is_core_node, counts_as_core, table_of_node, word_of_status}
+use Rattle.tap_runs.specs.Observed.{nodes_of, is_core_node, counts_as_core, table_of_node, word_of_status}
 use Rattle.tap_moves.specs.Delivered.{after_delivery, after_start}
-use Rattle.tap_invariant.specs.Sound.{Sound}
+use Rattle.tap_safety_moves.specs.Sound.{Sound}
 use Rattle.tap_lookup_moves.specs.NoServer.{AreLookups, IsLookup}
 use Rattle.tap_lookup_moves.proofs.Rules.{IsNoLeave}
 

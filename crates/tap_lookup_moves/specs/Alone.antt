@@ -13,9 +13,9 @@ use Rattle.tap_rule.specs.Sent.{IsAmong}
 use Rattle.tap_safety.specs.Move.{MayArrive, may_start}
 use Rattle.tap_safety.specs.Move.Move.{Begins, Delivers}
 use Rattle.tap_safety.specs.System.{System, IsUnderWay}
-use Rattle.tap_course.specs.Observed.{nodes_of}
+use Rattle.tap_runs.specs.Observed.{nodes_of}
 use Rattle.tap_moves.specs.Delivered.{after_delivery, after_start}
-use Rattle.tap_invariant.specs.Sound.{Sound}
+use Rattle.tap_safety_moves.specs.Sound.{Sound}
 use Rattle.tap_pointer_moves.specs.Paths.{IsPublished}
 use Rattle.tap_pointer_moves.specs.Told.{PointersStand}
 use Rattle.tap_lookup_moves.specs.Answers.{news_of}

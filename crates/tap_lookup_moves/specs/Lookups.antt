@@ -7,7 +7,7 @@ use Rattle.tap_safety.specs.AtRest.{AreMembers, system_at_rest}
 use Rattle.tap_safety.specs.Move.{Move, may_move}
 use Rattle.tap_safety.specs.Moved.{moved}
 use Rattle.tap_safety.specs.System.{System, IsCoreNode, IsUnderWay}
-use Rattle.tap_invariant.specs.Sound.{Sound}
+use Rattle.tap_safety_moves.specs.Sound.{Sound}
 
 -- a Find of this asker goes to a core node, which shares fewer digits with the asker than the level to which the Find has come; and the
 -- asker is core

@@ -17,7 +17,7 @@ use Rattle.tap_safety.specs.Move.Move.{Begins}
 use Rattle.tap_safety.specs.Moved.{moved}
 use Rattle.tap_safety.specs.System.{System, AmongFrames, IsCoreNode, IsUnderWay}
 use Rattle.tap_moves.specs.Delivered.{after_delivery}
-use Rattle.tap_invariant.specs.Sound.{Sound}
+use Rattle.tap_safety_moves.specs.Sound.{Sound}
 use Rattle.tap_pointer_moves.specs.Paths.{HoldsPair, IsPublished, path_of}
 use Rattle.tap_pointer_moves.specs.Told.{PointersStand}
 use Rattle.tap_lookup_moves.specs.Alone.{IsOnWalk}

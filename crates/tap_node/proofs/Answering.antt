@@ -7,9 +7,9 @@ use Rattle.tap_name.specs.Settings.{SettingsValue}
 use Rattle.tap_rule.specs.Node.{NodeState, name_of, settings_of}
 use Rattle.tap_rule.specs.Event.{Acted}
 use Rattle.tap_rule.specs.Kept.{KeepsNode}
-use Rattle.tap_step.specs.declared.memory.NoMemory.{NoMemory}
-use Rattle.tap_step.specs.declared.news.News.{News}
-use Rattle.tap_step.specs.Sound.{IsSoundNode}
+use Rattle.tap_node_common.specs.declared.memory.NoMemory.{NoMemory}
+use Rattle.tap_node_common.specs.declared.news.News.{News}
+use Rattle.tap_node_common.specs.Sound.{IsSoundNode}
 use Rattle.tap_node.specs.declared.fault.NodeFault.{NodeFault}
 use Rattle.tap_node.specs.declared.fault.NodeFault.TheVariants as fault
 use Rattle.tap_node.specs.declared.state.State.{State}

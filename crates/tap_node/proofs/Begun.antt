@@ -4,11 +4,11 @@ use Rattle.std.specs.Prelude.{IfOk}
 use Rattle.tap_name.specs.Settings.{SettingsValue}
 use Rattle.tap_rule.specs.Node.{name_of, settings_of}
 use Rattle.tap_rule.specs.Event.{Start}
-use Rattle.tap_step.specs.declared.memory.NoMemory.{NoMemory}
-use Rattle.tap_step.specs.declared.news.News.{News}
-use Rattle.tap_step.specs.declared.sender.Sender.{Sender}
-use Rattle.tap_step.specs.Sender.{node_sender}
-use Rattle.tap_step.specs.Sound.{IsSoundNode}
+use Rattle.tap_node_common.specs.declared.memory.NoMemory.{NoMemory}
+use Rattle.tap_node_common.specs.declared.news.News.{News}
+use Rattle.tap_node_common.specs.declared.sender.Sender.{Sender}
+use Rattle.tap_node_common.specs.Sender.{node_sender}
+use Rattle.tap_node_common.specs.Sound.{IsSoundNode}
 use Rattle.tap_node.specs.declared.fault.NodeFault.{NodeFault}
 use Rattle.tap_node.specs.declared.state.State.{State}
 use Rattle.tap_node.specs.declared.turn.Turn.{Turn}

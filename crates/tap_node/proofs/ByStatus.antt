@@ -11,10 +11,10 @@ use Rattle.tap_rule.specs.Event.{Start}
 use Rattle.tap_rule.specs.FrameRules.{frame_at_ceased, frame_at_core, frame_at_joining, frame_at_leaving}
 use Rattle.tap_rule.specs.Leaving.{is_left}
 use Rattle.tap_rule.specs.StartRules.{start_at_core, start_at_joining}
-use Rattle.tap_step.specs.declared.news.News.{News}
-use Rattle.tap_step.specs.declared.news.News.TheVariants.{Nothing}
-use Rattle.tap_step.specs.States.{ended_state}
-use Rattle.tap_step.specs.Step.{FollowsAs}
+use Rattle.tap_node_common.specs.declared.news.News.{News}
+use Rattle.tap_node_common.specs.declared.news.News.TheVariants.{Nothing}
+use Rattle.tap_node_common.specs.States.{ended_state}
+use Rattle.tap_node_common.specs.Step.{FollowsAs}
 use Rattle.tap_joining_node.specs.declared.joining_node.JoiningNode.{JoiningNode}
 use Rattle.tap_joining_node.specs.State.{joining_state}
 use Rattle.tap_core_node.specs.declared.core_node.CoreNode.{CoreNode}

@@ -13,9 +13,9 @@ use Rattle.tap_rule.specs.Strange.{is_own_name, is_strange}
 use Rattle.tap_rule.specs.Act.{act}
 use Rattle.tap_rule.specs.Kept.{KeepsNode}
 use Rattle.tap_rule.proofs.Kept.{kept_law, start_kept_law}
-use Rattle.tap_step.specs.declared.memory.NoMemory.{NoMemory}
-use Rattle.tap_step.specs.declared.news.News.{News}
-use Rattle.tap_step.specs.Sound.{IsSoundNode}
+use Rattle.tap_node_common.specs.declared.memory.NoMemory.{NoMemory}
+use Rattle.tap_node_common.specs.declared.news.News.{News}
+use Rattle.tap_node_common.specs.Sound.{IsSoundNode}
 use Rattle.tap_node.specs.declared.fault.NodeFault.{NodeFault}
 use Rattle.tap_node.specs.declared.fault.NodeFault.TheVariants as fault
 use Rattle.tap_node.specs.declared.state.State.{State}

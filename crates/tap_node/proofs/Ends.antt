@@ -12,12 +12,12 @@ use Rattle.tap_rule.specs.Joining.{becomes_core}
 use Rattle.tap_rule.specs.Leaving.{finishes, is_left, leave_for, leaves, with_departure}
 use Rattle.tap_rule.specs.Pointers.{reconciles}
 use Rattle.tap_rule.specs.Reaction.{Message, Reaction, sends}
-use Rattle.tap_step.specs.declared.news.News.{News}
-use Rattle.tap_step.specs.declared.news.News.TheVariants.{Nothing}
-use Rattle.tap_step.specs.States.{ended_state}
-use Rattle.tap_step.specs.Step.{FollowsAs, StepsAs}
-use Rattle.tap_step.proofs.Followed.{follows_quietly}
-use Rattle.tap_step.proofs.Steps.{silent_step}
+use Rattle.tap_node_common.specs.declared.news.News.{News}
+use Rattle.tap_node_common.specs.declared.news.News.TheVariants.{Nothing}
+use Rattle.tap_node_common.specs.States.{ended_state}
+use Rattle.tap_node_common.specs.Step.{FollowsAs, StepsAs}
+use Rattle.tap_node_common.proofs.Followed.{follows_quietly}
+use Rattle.tap_node_common.proofs.ReactionSteps.{silent_step}
 
 -- a step that ends a node of these settings and this name
 pub ends_as : (status : Status) (p q : SettingsValue) (name own : List ℕ) (sessions : SessionsValue) (node : NodeState) (r : Reaction)

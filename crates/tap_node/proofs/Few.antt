@@ -19,7 +19,7 @@ use Rattle.tap_table.proofs.Targets.{linked_is_target, target_is_linked, targets
 use Rattle.tap_depart.specs.Leaving.{names_but}
 use Rattle.tap_rule.specs.Node.{NodeState, name_of}
 use Rattle.tap_rule.specs.Strange.{is_too_many, with_names}
-use Rattle.tap_strange.proofs.Rows.{rows_by_name}
+use Rattle.tap_node_common.proofs.Rows.{rows_by_name}
 
 -- known names, and further ones, are among them together
 among_known : (names known : List (List ℕ)) (x : List ℕ) → Among x known → Among x (with_names known names)

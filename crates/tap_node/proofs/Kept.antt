@@ -22,8 +22,8 @@ use Rattle.tap_rule.specs.Reaction.{Reaction}
 use Rattle.tap_rule.specs.Pointers.{with_reconciled}
 use Rattle.tap_rule.specs.Act.{act, carried_out, completed, follows, ignores}
 use Rattle.tap_rule.specs.Kept.{IsNode, KeepsNode}
-use Rattle.tap_step.proofs.Pairs.{named-reconciled}
-use Rattle.tap_step.specs.Sound.{AreNamedPairs, HaveParents, IsParent, IsSoundNode, knows_pairs}
+use Rattle.tap_node_common.proofs.Pairs.{named-reconciled}
+use Rattle.tap_node_common.specs.Sound.{AreNamedPairs, HaveParents, IsParent, IsSoundNode, knows_pairs}
 
 -- what a node keeps beside being one, with each pair laid as wanted
 pub record KeepsSound (node after : NodeState) : Type 0 where

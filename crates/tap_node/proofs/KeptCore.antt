@@ -59,12 +59,12 @@ use Rattle.tap_rule.specs.Laws.{frame_to}
 use Rattle.tap_rule.proofs.CoverSteps.{seek_fits}
 use Rattle.tap_rule.proofs.JoinSteps.{tell_fits}
 use Rattle.tap_rule.proofs.OneName.{not_own}
-use Rattle.tap_step.specs.Sound.{AreNamedPairs, IsParent, IsSoundNode, knows_pairs}
+use Rattle.tap_node_common.specs.Sound.{AreNamedPairs, IsParent, IsSoundNode, knows_pairs}
 use Rattle.tap_node.proofs.Few.{few-pinned, few_after}
 use Rattle.tap_node.proofs.Kept.{KeepsSound, keeps, keeps_all, keeps_ended, keeps_links, keeps_pointers}
 use Rattle.tap_node.proofs.KeptFrames.{enough}
-use Rattle.tap_step.proofs.Pairs.{named-all_withdrawn, named-put}
-use Rattle.tap_step.proofs.Parents.{parents-answered, parents-opened}
+use Rattle.tap_node_common.proofs.Pairs.{named-all_withdrawn, named-put}
+use Rattle.tap_node_common.proofs.Parents.{parents-answered, parents-opened}
 
 -- a replacement that is given is a name
 given_name : (p : SettingsValue) (replacement : Option (List ℕ)) → IfSome replacement (IsName p) → (name : List ℕ)

@@ -32,10 +32,10 @@ use Rattle.tap_rule.specs.FrameRules.{frame_at_ceased, frame_at_joining}
 use Rattle.tap_rule.specs.Laws.{frame_to}
 use Rattle.tap_rule.proofs.JoinSteps.{tell_fits}
 use Rattle.tap_rule.proofs.OneName.{not_own}
-use Rattle.tap_step.specs.Sound.{HaveParents, IsSoundNode}
+use Rattle.tap_node_common.specs.Sound.{HaveParents, IsSoundNode}
 use Rattle.tap_node.proofs.Few.{few-pinned, few_after}
 use Rattle.tap_node.proofs.Kept.{KeepsSound, keeps, keeps_all, keeps_ended, keeps_links}
-use Rattle.tap_step.proofs.Parents.{parents-answered, parents-opened}
+use Rattle.tap_node_common.proofs.Parents.{parents-answered, parents-opened}
 
 -- the names that a frame could link are few if it isn't strange
 pub enough : (node : NodeState) (frame : Frame) → is_strange node frame ≡ false

@@ -25,10 +25,10 @@ use Rattle.tap_rule.specs.Kept.{IsStart}
 use Rattle.tap_rule.specs.Laws.{frame_to}
 use Rattle.tap_rule.proofs.Kept.{kept_law, start_kept_law}
 use Rattle.tap_rule.proofs.Laid.{laid_law}
-use Rattle.tap_step.specs.Sound.{IsSoundNode}
+use Rattle.tap_node_common.specs.Sound.{IsSoundNode}
 use Rattle.tap_node.proofs.Kept.{KeepsSound, completed_sound, keeps_all, keeps_pointers, sound_from}
 use Rattle.tap_node.proofs.KeptCore.{asked_sound, cast_sound, core_sound, leaves_sound, leaving_sound}
-use Rattle.tap_step.proofs.Pairs.{named-put}
+use Rattle.tap_node_common.proofs.Pairs.{named-put}
 use Rattle.tap_node.proofs.KeptFrames.{ceased_sound, joining_sound}
 
 module _ (node : NodeState) (sound : IsSoundNode node) where

@@ -7,9 +7,9 @@ use Rattle.tap_pointer.specs.Pointers.{all_withdrawn, held_or_laid_count, is_hel
 use Rattle.tap_table.specs.Table.{rows}
 use Rattle.tap_rule.specs.Leaving.{with_departure}
 use Rattle.tap_rule.specs.Node.{NodeState, settings_of}
-use Rattle.tap_step.specs.Sound.{AreNamedHops, AreNamedPairs, IsSoundNode, has_numbers_left}
-use Rattle.tap_step.proofs.Pairs.{hops-all_withdrawn, named-all_withdrawn}
-use Rattle.tap_step.proofs.Sound.{hops-sound, numbers_left}
+use Rattle.tap_node_common.specs.Sound.{AreNamedHops, AreNamedPairs, IsSoundNode, has_numbers_left}
+use Rattle.tap_node_common.proofs.Pairs.{hops-all_withdrawn, named-all_withdrawn}
+use Rattle.tap_node_common.proofs.Sound.{hops-sound, numbers_left}
 
 -- a pair that isn't published any more, and held or laid, was so
 still_held : (state : PairState) → is_held_or_laid (with_published state false) ≡ true → is_held_or_laid state ≡ true

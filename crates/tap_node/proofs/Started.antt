@@ -8,11 +8,11 @@ use Rattle.tap_rule.specs.Ceasing.{gives_up}
 use Rattle.tap_rule.specs.Event.News.{Nothing as RuleNothing}
 use Rattle.tap_rule.specs.Joining.{starts_join}
 use Rattle.tap_rule.specs.Casts.{Copy, casts, starts_cast}
-use Rattle.tap_step.specs.declared.news.News.{News}
-use Rattle.tap_step.specs.declared.news.News.TheVariants.{Nothing}
-use Rattle.tap_step.specs.Step.{FollowsAs, StepsAs}
-use Rattle.tap_step.proofs.Followed.{follows_quietly}
-use Rattle.tap_step.proofs.Steps.{silent_step}
+use Rattle.tap_node_common.specs.declared.news.News.{News}
+use Rattle.tap_node_common.specs.declared.news.News.TheVariants.{Nothing}
+use Rattle.tap_node_common.specs.Step.{FollowsAs, StepsAs}
+use Rattle.tap_node_common.proofs.Followed.{follows_quietly}
+use Rattle.tap_node_common.proofs.ReactionSteps.{silent_step}
 
 -- the start of a cast is that of a copy whose root is the node
 pub cast_starts : (node after : NodeState) (copy : Copy) (before sent : List (List ℕ)) (news : News)

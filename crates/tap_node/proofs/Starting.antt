@@ -31,12 +31,12 @@ use Rattle.tap_depart.specs.Leaving.{names_but}
 use Rattle.tap_pointer.specs.Reconcile.{wanted_hop}
 use Rattle.tap_rule.specs.Node.{NodeState, joiner, member_at_rest}
 use Rattle.tap_rule.proofs.Kept.{joiner_law, member_law}
-use Rattle.tap_step.specs.Sound.{IsParent, IsSoundNode}
+use Rattle.tap_node_common.specs.Sound.{IsParent, IsSoundNode}
 use Rattle.tap_node.specs.Node.{running}
 use Rattle.tap_node.specs.Seen.{IsKeptFor}
 use Rattle.tap_node.proofs.Few.{among_but}
 use Rattle.tap_node.proofs.Kept.{no_rows}
-use Rattle.tap_strange.proofs.Rows.{rows_by_name}
+use Rattle.tap_node_common.proofs.Rows.{rows_by_name}
 
 pub joiner_sound : (p : SettingsValue) (name : List ℕ) → AreWithinLimits p → IsName p name → IsSoundNode (joiner p name)
 joiner_sound p name limits is_name = record {

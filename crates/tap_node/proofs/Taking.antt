@@ -12,11 +12,11 @@ use Rattle.tap_rule.specs.Answers.{answer_sends}
 use Rattle.tap_rule.specs.Event.News.{Nothing as RuleNothing}
 use Rattle.tap_rule.specs.FrameRules.{frame_at_ceased}
 use Rattle.tap_rule.specs.Reaction.{Message, message, sends}
-use Rattle.tap_step.specs.declared.news.News.TheVariants.{Nothing}
-use Rattle.tap_step.specs.Sender.{message_bytes, node_sender}
-use Rattle.tap_step.specs.States.{ended_state}
-use Rattle.tap_step.specs.Step.{FollowsAs}
-use Rattle.tap_step.proofs.Steps.{messages_step}
+use Rattle.tap_node_common.specs.declared.news.News.TheVariants.{Nothing}
+use Rattle.tap_node_common.specs.Sender.{message_bytes, node_sender}
+use Rattle.tap_node_common.specs.States.{ended_state}
+use Rattle.tap_node_common.specs.Step.{FollowsAs}
+use Rattle.tap_node_common.proofs.ReactionSteps.{messages_step}
 
 -- a frame at a node that has ceased, whose sessions are left so, and these frames are sent
 module _ (p : SettingsValue) (name : List ℕ) (sessions left : SessionsValue) (from : List ℕ) (body : Body)

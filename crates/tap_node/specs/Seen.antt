@@ -14,11 +14,11 @@ use Rattle.tap_rule.specs.Node.Status.{Gone as gone, Ceased as ceased}
 use Rattle.tap_node.specs.declared.state.State.{State}
 use Rattle.tap_node.specs.declared.state.State.TheVariants.{Joining, Core, Leaving, Gone, Ceased, Ended}
 use Rattle.tap_node.specs.Node.{NodeValue, running, stopped}
-use Rattle.tap_step.specs.Sound.{IsSoundNode}
-use Rattle.tap_step.specs.Step.{FollowsAs}
-use Rattle.tap_step.specs.declared.news.News.{News}
+use Rattle.tap_node_common.specs.Sound.{IsSoundNode}
+use Rattle.tap_node_common.specs.Step.{FollowsAs}
+use Rattle.tap_node_common.specs.declared.news.News.{News}
 use Rattle.tap_core_node.specs.State.{core_state}
-use Rattle.tap_step.specs.States.{ended_state}
+use Rattle.tap_node_common.specs.States.{ended_state}
 use Rattle.tap_joining_node.specs.State.{joining_state}
 use Rattle.tap_leaving_node.specs.State.{leaving_state}
 

@@ -12,6 +12,5 @@ mod turn;
 pub use fault::NodeFault;
 pub use node::Node;
 pub use status::NodeStatus;
-pub use tap_step::{News, NoMemory};
-pub use tap_turn::FrameList;
+pub use tap_node_common::{FrameList, News, NoMemory};
 pub use turn::Turn;

@@ -16,12 +16,10 @@ use tap_core_node::CoreNode;
 use tap_joining_node::JoiningNode;
 use tap_multicast::Covers;
 use tap_name::{List, Name, Settings};
+use tap_node_common::{FrameList, News, NoMemory, Sender, is_strange, is_strange_to_ended};
 use tap_pointer::Pointers;
 use tap_session::Sessions;
-use tap_step::{News, NoMemory, Sender};
-use tap_strange::{is_strange, is_strange_to_ended};
 use tap_table::Table;
-use tap_turn::FrameList;
 use tap_wire::{Frame, WireFault, decode};
 
 /// A node: one step after another, it takes frames as bytes, or starts something, and gives the frames that are then to be
@@ -55,7 +53,7 @@ impl Model for Node {
 impl Node {
     ghost use Rattle.tap_name.specs.Distinct.{AreDistinct};
     ghost use Rattle.tap_node.specs.Outcome.{AnswersAs, MayWant, at_frame, take_outcome};
-    ghost use Rattle.tap_step.specs.Sender.{node_sender};
+    ghost use Rattle.tap_node_common.specs.Sender.{node_sender};
 
     /// One of the members with which an overlay begins: a core node, with its ties at rest.
     ///

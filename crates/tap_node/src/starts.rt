@@ -14,8 +14,8 @@ use crate::state::turned;
 use crate::turn::Turn;
 use tap_core_node::CastCopy;
 use tap_name::Name;
+use tap_node_common::FrameList;
 use tap_session::Parent;
-use tap_turn::FrameList;
 
 // Each start does as the rule of a node says, and gives the frames that it sends, and the news.
 impl Node {

@@ -9,9 +9,9 @@ ghost use Rattle.tap_wire.specs.declared.frame.Body.TheVariants as bodies;
 ghost use Rattle.tap_core_node.specs.State.{core_state};
 ghost use Rattle.tap_joining_node.specs.State.{core_joined};
 ghost use Rattle.tap_node.specs.Seen.{FollowsFrom, IsEnded, IsHeldBy, StartsFrom, state_held};
-ghost use Rattle.tap_step.specs.Sound.{HaveParents, IsSoundNode, MayTake, has_numbers_left};
-ghost use Rattle.tap_step.specs.States.{ended_state};
-ghost use Rattle.tap_step.specs.Step.{FollowsAs};
+ghost use Rattle.tap_node_common.specs.Sound.{HaveParents, IsSoundNode, MayTake, has_numbers_left};
+ghost use Rattle.tap_node_common.specs.States.{ended_state};
+ghost use Rattle.tap_node_common.specs.Step.{FollowsAs};
 
 use crate::fault::NodeFault;
 use crate::turn::Turn;
@@ -22,9 +22,8 @@ use tap_joining_node::{Joined, JoiningNode};
 use tap_leaving_node::LeavingNode;
 use tap_link::Cease;
 use tap_name::Name;
+use tap_node_common::{FrameList, News, NoMemory, Sender, take_answer};
 use tap_session::{Parent, Sessions};
-use tap_step::{News, NoMemory, Sender, take_answer};
-use tap_turn::FrameList;
 use tap_wire::{Body, Frame};
 
 // What a node keeps by its status; one that is gone or has ceased keeps its sessions.

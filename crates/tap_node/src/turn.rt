@@ -1,5 +1,4 @@
-use tap_step::News;
-use tap_turn::FrameList;
+use tap_node_common::{FrameList, News};
 
 /// What a step of a node gives.
 ///

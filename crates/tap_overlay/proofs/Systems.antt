@@ -16,7 +16,7 @@ use Rattle.tap_node.specs.Node.{is_linked, running, status_seen, table_lent}
 use Rattle.tap_safety.specs.AtRest.{system_at_rest}
 use Rattle.tap_safety.specs.Step.{with_at}
 use Rattle.tap_safety.specs.System.{System}
-use Rattle.tap_course.specs.Observed.{counts_as_core, is_core_node as is_core_state, nodes_of, table_of_node, word_of_status}
+use Rattle.tap_runs.specs.Observed.{counts_as_core, is_core_node as is_core_state, nodes_of, table_of_node, word_of_status}
 use Rattle.tap_overlay.specs.Overlay.{ChangesOnly, IsAtRest, OverlayValue, is_core_node, is_core_status, node_among, node_at, nodes_lent}
 use Rattle.tap_overlay.specs.Law.{HasNodesOf}
 

@@ -9,7 +9,7 @@ use Rattle.tap_node.specs.Node.{running}
 use Rattle.tap_safety.specs.AtRest.{system_at_rest}
 use Rattle.tap_safety.specs.Step.{with_at}
 use Rattle.tap_safety.specs.System.{System}
-use Rattle.tap_course.specs.Observed.{nodes_of}
+use Rattle.tap_runs.specs.Observed.{nodes_of}
 use Rattle.tap_overlay.specs.Overlay.{ChangesOnly, IsAtRest, OverlayValue, node_at, nodes_lent}
 
 -- each node of the system is there, takes steps and is in the state that the system has, and nobody else is there

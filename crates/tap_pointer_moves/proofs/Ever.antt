@@ -22,8 +22,8 @@ use Rattle.tap_safety.specs.Move.Move.{Begins, Delivers}
 use Rattle.tap_safety.specs.System.{System}
 use Rattle.tap_safety.specs.Ties.{IsOnWay}
 use Rattle.tap_moves.specs.Delivered.{after_delivery, after_start}
-use Rattle.tap_invariant.specs.Sound.{Sound}
-use Rattle.tap_invariant.proofs.Moves.{move_keeps}
+use Rattle.tap_safety_moves.specs.Sound.{Sound}
+use Rattle.tap_safety_moves.proofs.Moves.{move_keeps}
 use Rattle.tap_pointer_moves.specs.Ever.{AreOfPublished, EverAtRest, EverKept, HeldWasPublished, LaidWasPublished}
 use Rattle.tap_pointer_moves.specs.Paths.{HoldsPair}
 use Rattle.tap_pointer_moves.specs.Said.{LayWord, laid_in, laid_of, lay_word_frame, pointer_register_of, word_in_entry, word_kept, word_kept_in}

@@ -41,11 +41,11 @@ use Rattle.tap_safety.proofs.Moves.{delivers, found, starts}
 use Rattle.tap_moves.specs.Delivered.{after_delivery, after_start}
 use Rattle.tap_moves.specs.Spelled.{IsNodeOf}
 use Rattle.tap_moves.proofs.Exchanged.{exchanges, in_either, in_first, sent_numbered}
-use Rattle.tap_invariant.specs.Moves.{after_moves, may_run}
-use Rattle.tap_invariant.specs.Sound.{Sound}
-use Rattle.tap_invariant.proofs.Consequences.{none_is_strange}
-use Rattle.tap_invariant.proofs.Members.{node_is_member, sound_at_rest}
-use Rattle.tap_invariant.proofs.Moves.{move_keeps}
+use Rattle.tap_safety_moves.specs.Moves.{after_moves, may_run}
+use Rattle.tap_safety_moves.specs.Sound.{Sound}
+use Rattle.tap_safety_moves.proofs.Consequences.{none_is_strange}
+use Rattle.tap_safety_moves.proofs.Members.{node_is_member, sound_at_rest}
+use Rattle.tap_safety_moves.proofs.Moves.{move_keeps}
 use Rattle.tap_pointer_moves.specs.Moves.{PointersAtRest, PointersKept, PointersStandInRuns}
 use Rattle.tap_pointer_moves.specs.Said.{IsLastLay, IsLaySaid, LayWord, laid_in, laid_of, lay_word_frame, pointer_register_of, word_kept_in}
 use Rattle.tap_pointer_moves.specs.Told.{HasNoPointers, IsSeasoned, PointersStand, hop_at}

@@ -27,7 +27,7 @@ use Rattle.tap_surrogate.specs.Entered.{AreEntered, Entered, IsChain, next_of, w
 use Rattle.tap_surrogate.specs.Nodes.{HasSettledCoreLinks, IsSettledTable, core_links}
 use Rattle.tap_surrogate.proofs.Chains.{chain_law_holds}
 use Rattle.tap_surrogate.proofs.Entering.{entered_begins, entered_law_holds}
-use Rattle.tap_course.specs.Observed.{nodes_of}
+use Rattle.tap_runs.specs.Observed.{nodes_of}
 use Rattle.tap_rule.specs.Node.{IsRunning, NodeState, Status, settings_of}
 use Rattle.tap_rule.specs.Node.Status.{Ceased, Core, Gone, Joining, Leaving}
 use Rattle.tap_rule.specs.Sent.{IsAmong}
@@ -36,9 +36,9 @@ use Rattle.tap_safety.specs.System.{System, IsCoreNode}
 use Rattle.tap_safety.specs.Ties.{hears_words, status_in, status_of}
 use Rattle.tap_moves.proofs.Got.{among_all, same_name}
 use Rattle.tap_moves.proofs.InvariantMoves.{core_name}
-use Rattle.tap_invariant.specs.Sound.{Sound}
-use Rattle.tap_invariant.proofs.Consequences.{nothing_is_left}
-use Rattle.tap_invariant.proofs.Walks.{core_listed, core_read, read_core, tables_hole_free, walks_lead}
+use Rattle.tap_safety_moves.specs.Sound.{Sound}
+use Rattle.tap_safety_moves.proofs.Consequences.{nothing_is_left}
+use Rattle.tap_safety_moves.proofs.Walks.{core_listed, core_read, read_core, tables_hole_free, walks_lead}
 use Rattle.tap_pointer_moves.specs.Paths.{IsPublished, PointersOnPaths, path_of}
 use Rattle.tap_pointer_moves.specs.Said.{IsLaySaid, LayWord, laid_in, laid_of, pointer_register_of, word_in_entry, word_kept, word_kept_in}
 use Rattle.tap_pointer_moves.specs.Told.{HasNoPointers, PointersStand, hop_at}

@@ -25,7 +25,7 @@ use Rattle.tap_safety.specs.System.{System}
 use Rattle.tap_safety.proofs.Moves.{starts}
 use Rattle.tap_moves.specs.Delivered.{after_delivery, after_start}
 use Rattle.tap_moves.proofs.Got.{same_name}
-use Rattle.tap_invariant.specs.Sound.{Sound}
+use Rattle.tap_safety_moves.specs.Sound.{Sound}
 use Rattle.tap_pointer_moves.specs.Publications.{FrameServes, IsLeaver, LeaversStay, LeavesOnce, StartServes, has_left, is_pair, is_served, publishes_in, served_after}
 use Rattle.tap_pointer_moves.specs.Said.{LayWord}
 use Rattle.tap_pointer_moves.specs.Told.{PointersStand}

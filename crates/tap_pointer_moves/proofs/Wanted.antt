@@ -23,7 +23,7 @@ use Rattle.tap_pointer.proofs.Levels.{level_most}
 use Rattle.tap_rule.specs.Node.{IsRunning, NodeState}
 use Rattle.tap_rule.proofs.Completed.{runs_or_ended}
 use Rattle.tap_safety.specs.System.{System}
-use Rattle.tap_invariant.specs.Sound.{Sound}
+use Rattle.tap_safety_moves.specs.Sound.{Sound}
 use Rattle.tap_pointer_moves.specs.Said.{laid_in, laid_of}
 use Rattle.tap_pointer_moves.specs.Told.{IsSeasoned, IsSeasonedNode, KnowNothing}
 use Rattle.tap_pointer_moves.specs.Wanted.{IsCoreHop, LaidAtCore, WantedHolds}

@@ -12,7 +12,7 @@ use Rattle.tap_safety.specs.Move.Move.{Begins}
 use Rattle.tap_safety.specs.Moved.{moved}
 use Rattle.tap_safety.specs.System.{System}
 use Rattle.tap_safety.specs.Ties.{IsOnWay}
-use Rattle.tap_invariant.specs.Sound.{Sound}
+use Rattle.tap_safety_moves.specs.Sound.{Sound}
 use Rattle.tap_pointer_moves.specs.Paths.{HoldsPair}
 use Rattle.tap_pointer_moves.specs.Said.{LayWord, laid_of, lay_word_frame, pointer_register_of}
 use Rattle.tap_pointer_moves.specs.Told.{PointersStand}

@@ -7,7 +7,7 @@ use Rattle.tap_pointer.specs.declared.pair.Pair.{Pair}
 use Rattle.tap_pointer.specs.Due.{laid_at, wanted_at}
 use Rattle.tap_rule.specs.Node.{IsRunning, NodeState}
 use Rattle.tap_safety.specs.System.{System, IsCoreNode}
-use Rattle.tap_invariant.specs.Sound.{Sound}
+use Rattle.tap_safety_moves.specs.Sound.{Sound}
 use Rattle.tap_pointer_moves.specs.Said.{laid_of}
 use Rattle.tap_pointer_moves.specs.Told.{KnowNothing}
 

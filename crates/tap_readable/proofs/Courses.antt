@@ -25,18 +25,18 @@ use Rattle.tap_safety.specs.Move.Move.{Begins, Delivers}
 use Rattle.tap_safety.specs.Moved.{moved, numbered_frame, starter}
 use Rattle.tap_safety.specs.System.{System}
 use Rattle.tap_safety.proofs.Moves.{delivers, starts}
-use Rattle.tap_course.specs.Named.{HasNames, HaveNames}
-use Rattle.tap_course.specs.Beginning.{Beginning}
-use Rattle.tap_course.specs.Course.{Follows, IsCourse, MayFollow, move_of_group, moved_by, system_of}
-use Rattle.tap_course.specs.Group.{start_at}
-use Rattle.tap_course.specs.Starts.{next_cast, next_ticket, start_of_step}
-use Rattle.tap_course.proofs.Frames.{course_frames_holds, starting_moves, step_moves, taken_moves}
-use Rattle.tap_course.proofs.Growing.{by_groups, course_grows_holds, grown_system, start_system}
-use Rattle.tap_course.proofs.Within.{IsStarting, step_kind}
-use Rattle.tap_ranges.specs.Range.{IsInRange}
-use Rattle.tap_ranges.proofs.Courses.{numbers_in_range_holds}
-use Rattle.tap_ranges.proofs.Records.{one_step, told_more}
-use Rattle.tap_readable.specs.Laws.{CoursesAreReadable, IsReadBack}
+use Rattle.tap_runs.specs.Named.{HasNames, HaveNames}
+use Rattle.tap_runs.specs.Beginning.{Beginning}
+use Rattle.tap_runs.specs.Course.{Follows, IsCourse, MayFollow, move_of_group, moved_by, system_of}
+use Rattle.tap_runs.specs.Group.{start_at}
+use Rattle.tap_runs.specs.Starts.{next_cast, next_ticket, start_of_step}
+use Rattle.tap_runs.proofs.Frames.{course_frames_holds, starting_moves, step_moves, taken_moves}
+use Rattle.tap_runs.proofs.Growing.{by_groups, course_grows_holds, grown_system, start_system}
+use Rattle.tap_runs.proofs.Within.{IsStarting, step_kind}
+use Rattle.tap_readable.specs.Range.{IsInRange}
+use Rattle.tap_readable.proofs.RangeCourses.{numbers_in_range_holds}
+use Rattle.tap_readable.proofs.RangeRecords.{one_step, told_more}
+use Rattle.tap_readable.specs.Readable.{CoursesAreReadable, IsReadBack}
 use Rattle.tap_readable.proofs.Rules.{IsTypedStart}
 use Rattle.tap_readable.proofs.Members.{members_read}
 use Rattle.tap_readable.proofs.Own.{course_own}

@@ -5,3 +5,8 @@ pub mod Moves
 pub mod Members
 pub mod Own
 pub mod Courses
+pub mod RangeRules
+pub mod RangeActs
+pub mod RangeMoves
+pub mod RangeRecords
+pub mod RangeCourses

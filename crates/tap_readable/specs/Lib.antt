@@ -1,1 +1,3 @@
-pub mod Laws
+pub mod Readable
+pub mod Range
+pub mod Ranges

@@ -11,11 +11,11 @@ use Rattle.tap_log.specs.Kinds.{step_of}
 use Rattle.tap_log.specs.Log.{begun_steps}
 use Rattle.tap_log.proofs.Growing.{is_carried-push, last_of-push}
 use Rattle.tap_history.specs.Groups.{beginning_of}
-use Rattle.tap_course.specs.Beginning.{begin_record}
-use Rattle.tap_course.proofs.Growing.{starts_begun, starts_uncarried}
+use Rattle.tap_runs.specs.Beginning.{begin_record}
+use Rattle.tap_runs.proofs.Growing.{starts_begun, starts_uncarried}
 use Rattle.tap_engine.specs.Kinds.{finishes, is_finished}
 use Rattle.tap_lawful.specs.Next.{beginning_in, begun_count}
-use Rattle.tap_course.specs.Groups.{step_group, taken_group}
+use Rattle.tap_runs.specs.Groups.{step_group, taken_group}
 use Rattle.tap_lawful.specs.Lawful.{IsFinished, IsPlayed, IsSpent, step_alone}
 use Rattle.tap_lawful.proofs.Coming.{coming}
 use Rattle.tap_lawful.proofs.Steps.{played_all, played_steps}

@@ -12,14 +12,14 @@ use Rattle.tap_log.specs.Kinds.{is_carried, step_of}
 use Rattle.tap_log.specs.Log.{begun_steps}
 use Rattle.tap_log.proofs.Growing.{filter_map-same, last_of-push}
 use Rattle.tap_history.specs.Groups.{beginning_of}
-use Rattle.tap_course.specs.Beginning.{Beginning, begin_record}
-use Rattle.tap_course.specs.Course.{system_of}
-use Rattle.tap_course.specs.Group.{step_records}
-use Rattle.tap_course.proofs.Growing.{starts_begun}
+use Rattle.tap_runs.specs.Beginning.{Beginning, begin_record}
+use Rattle.tap_runs.specs.Course.{system_of}
+use Rattle.tap_runs.specs.Group.{step_records}
+use Rattle.tap_runs.proofs.Growing.{starts_begun}
 use Rattle.tap_engine.specs.Kinds.{finishes, is_finished}
 use Rattle.tap_engine.specs.World.{WorldValue}
 use Rattle.tap_lawful.specs.Next.{beginning_in, begun_count, group_after, next_group}
-use Rattle.tap_course.specs.Groups.{step_group, taken_group}
+use Rattle.tap_runs.specs.Groups.{step_group, taken_group}
 use Rattle.tap_lawful.specs.Lawful.{IsFinished, IsPlayed, IsSpent, step_alone}
 use Rattle.tap_lawful.specs.Laws.{BeginsAlike}
 use Rattle.tap_lawful.proofs.Alike.{played_alike}

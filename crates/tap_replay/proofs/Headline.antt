@@ -2,8 +2,8 @@
 use Rattle.std.proofs.Common.{inl, refl, Option, None, Some}
 use Rattle.tap_scenario.specs.Scenario.{IsScript, ScenarioValue}
 use Rattle.tap_lawful.specs.Lawful.{IsLogOf}
-use Rattle.tap_headline.specs.Headline.{RunHasHeadline}
-use Rattle.tap_headline.proofs.Headline.{logs_have_headline}
+use Rattle.tap_headline.specs.Scripts.{RunHasHeadline}
+use Rattle.tap_headline.proofs.Scripts.{logs_have_headline}
 use Rattle.tap_replay.specs.Player.{GoesOnUnless}
 use Rattle.tap_replay.specs.declared.end.End.{End}
 use Rattle.tap_replay.specs.declared.run.Run.{Run}

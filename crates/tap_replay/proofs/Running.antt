@@ -18,12 +18,12 @@ use Rattle.tap_log.specs.Log.{begun_steps}
 use Rattle.tap_history.specs.Groups.{ends_log, is_ended}
 use Rattle.tap_history.specs.Moments.{outstanding}
 use Rattle.tap_history.proofs.Numbering.{range-append}
-use Rattle.tap_course.specs.Beginning.{Beginning, begin_record}
-use Rattle.tap_course.specs.Course.{MayFollow, system_of}
-use Rattle.tap_course.proofs.Frames.{none_of}
-use Rattle.tap_course.proofs.Growing.{starts_uncarried}
-use Rattle.tap_course.proofs.Nodes.{no_steps}
-use Rattle.tap_course.proofs.Within.{Within, step_within, taken_within}
+use Rattle.tap_runs.specs.Beginning.{Beginning, begin_record}
+use Rattle.tap_runs.specs.Course.{MayFollow, system_of}
+use Rattle.tap_runs.proofs.Frames.{none_of}
+use Rattle.tap_runs.proofs.Growing.{starts_uncarried}
+use Rattle.tap_runs.proofs.Nodes.{no_steps}
+use Rattle.tap_runs.proofs.Within.{Within, step_within, taken_within}
 use Rattle.tap_engine.specs.Kinds.{begun_index, finishes, is_finished}
 use Rattle.tap_engine.specs.Outcome.{AnswersAs, IsNextIndex, MayGoOn, Outcome, adds, adds_within, deliver_outcome, is_within, spends, takes_number}
 use Rattle.tap_engine.specs.World.{HasBegun, WorldValue}
@@ -31,7 +31,7 @@ use Rattle.tap_engine.specs.declared.stop.Stop.{Stop}
 use Rattle.tap_engine.specs.declared.stop.Stop.TheVariants.{Ended, NoMemory, Refused, Spent}
 use Rattle.tap_lawful.specs.Due.{chosen_after, chosen_in, number_due, place_by, place_chosen, place_of}
 use Rattle.tap_lawful.specs.Next.{beginning_in, begun_count, group_after, next_group, next_step}
-use Rattle.tap_course.specs.Groups.{step_group, taken_group}
+use Rattle.tap_runs.specs.Groups.{step_group, taken_group}
 use Rattle.tap_lawful.specs.Lawful.{IsPlayed, step_alone}
 use Rattle.tap_lawful.specs.Laws.{index_of}
 use Rattle.tap_lawful.proofs.Choosing.{chosen_by_frame, chosen_by_step}

@@ -16,11 +16,11 @@ use Rattle.tap_log.proofs.Growing.{filter_map-same, last_of-push, sent_count-app
 use Rattle.tap_history.specs.Moments.{numbers_less, outstanding}
 use Rattle.tap_history.specs.Refusals.{first_refusal, refused_if}
 use Rattle.std.specs.List.{filter_map}
-use Rattle.tap_course.specs.Course.{is_choice, system_of}
-use Rattle.tap_course.specs.Group.{records_unless, step_records}
+use Rattle.tap_runs.specs.Course.{is_choice, system_of}
+use Rattle.tap_runs.specs.Group.{records_unless, step_records}
 use Rattle.tap_engine.specs.Kinds.{may_be_refused}
 use Rattle.tap_engine.specs.Outcome.{AnswersAs, Outcome, adds, adds_within, mark_outcome, note_outcome, spends, stays, step_outcome, unless_refused, unless_stopped}
-use Rattle.tap_course.specs.Groups.{step_group}
+use Rattle.tap_runs.specs.Groups.{step_group}
 use Rattle.tap_engine.specs.World.{WorldValue}
 use Rattle.tap_engine.specs.declared.stop.Stop.{Stop}
 use Rattle.tap_engine.specs.declared.stop.Stop.TheVariants.{Ended, NoMemory, Refused, Spent}

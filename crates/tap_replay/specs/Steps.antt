@@ -7,8 +7,8 @@ use Rattle.tap_log.specs.declared.record.Record.TheVariants.{Step as StepRecord}
 use Rattle.tap_log.specs.Counts.{sent_count}
 use Rattle.tap_log.specs.Kinds.{is_carried}
 use Rattle.tap_history.specs.Steps.{is_start}
-use Rattle.tap_course.specs.Course.{is_choice}
-use Rattle.tap_course.specs.Groups.{step_group}
+use Rattle.tap_runs.specs.Course.{is_choice}
+use Rattle.tap_runs.specs.Groups.{step_group}
 use Rattle.tap_engine.specs.Kinds.{damages, observes}
 use Rattle.tap_engine.specs.Outcome.{MayGoOn, Outcome, adds_within, unless_stopped}
 use Rattle.tap_engine.specs.World.{WorldValue}

@@ -2,7 +2,7 @@ ghost use Rattle.std.specs.Prelude.{◌≡◌, ◌<◌, IfOk};
 ghost use Rattle.tap_lawful.specs.Laws.{left_of};
 ghost use Rattle.tap_lawful.specs.Next.{beginning_in};
 ghost use Rattle.tap_replay.specs.Player.{HasPlayed, MayTurn, Turns, over_by};
-ghost use Rattle.tap_headline.specs.Headline.{RunHasHeadline};
+ghost use Rattle.tap_headline.specs.Scripts.{RunHasHeadline};
 ghost use Rattle.tap_scenario.specs.Scenario.{EachStepIsPlayed};
 
 use crate::choice::Choice;

@@ -1,5 +1,5 @@
 ghost use Rattle.std.specs.Prelude.{IfSome};
-ghost use Rattle.tap_headline.specs.Headline.{RunHasHeadline};
+ghost use Rattle.tap_headline.specs.Scripts.{RunHasHeadline};
 ghost use Rattle.tap_scenario.specs.Scenario.{EachStepIsPlayed};
 ghost use Rattle.tap_replay.specs.Whole.{IsReplay};
 

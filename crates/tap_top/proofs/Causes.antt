@@ -13,8 +13,8 @@ use Rattle.tap_make.specs.Made.{made}
 use Rattle.tap_engine.specs.Kinds.{finishes, is_finished}
 use Rattle.tap_engine.specs.World.{WorldValue}
 use Rattle.tap_lawful.specs.Lawful.{IsLogOf}
-use Rattle.tap_headline.proofs.Endings.{finished_says, spent_says}
-use Rattle.tap_headline.proofs.Headline.{logs_follow_scripts, logs_have_headline}
+use Rattle.tap_headline.proofs.LastRecord.{finished_says, spent_says}
+use Rattle.tap_headline.proofs.Scripts.{logs_follow_scripts, logs_have_headline}
 use Rattle.tap_headline.proofs.Printable.{logs_can_be_printed}
 use Rattle.tap_replay.specs.Player.{IsLeft}
 use Rattle.tap_replay.specs.declared.end.End.{End}
@@ -25,7 +25,7 @@ use Rattle.tap_top.specs.declared.status.Status.{Status}
 use Rattle.tap_top.specs.declared.status.Status.TheVariants.{Done, Usage, TooLong, NotScenario, ReadFault, WriteFault, Spent, NoMemory}
 use Rattle.tap_top.specs.Ending.{HasCause, HasCauseOf, HasRun, HasRunAs, HasRunOf, LeavesWorld, log_of}
 use Rattle.tap_top.specs.Headline.{HasRunAll, HasRunShort, IsLogAsked, ends_spent}
-use Rattle.tap_bounds_course.proofs.Enough.{never_spent}
+use Rattle.tap_bounds_runs.proofs.Enough.{never_spent}
 use Rattle.tap_top.specs.Reading.{HasReadFault, HasReadScript, HasReadTooMany}
 use Rattle.tap_top.specs.Status.{status_of}
 use Rattle.tap_top.specs.Wanted.{IsNotHad, IsUnread, IsWanted}

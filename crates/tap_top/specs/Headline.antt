@@ -8,9 +8,9 @@ use Rattle.tap_log.specs.Log.{last_of}
 use Rattle.tap_history.specs.Groups.{is_spent}
 use Rattle.tap_engine.specs.World.{WorldValue}
 use Rattle.tap_lawful.specs.Lawful.{IsLogOf}
-use Rattle.tap_headline.specs.Endings.{HasAllSteps}
-use Rattle.tap_headline.specs.Headline.{FollowsScript, RunHasHeadline}
-use Rattle.tap_bounds_course.specs.Enough.{AsksForJoinsAlone, HasEnoughFrames}
+use Rattle.tap_headline.specs.LastRecord.{HasAllSteps}
+use Rattle.tap_headline.specs.Scripts.{FollowsScript, RunHasHeadline}
+use Rattle.tap_bounds_runs.specs.Enough.{AsksForJoinsAlone, HasEnoughFrames}
 use Rattle.tap_replay.specs.Player.{IsLeft}
 use Rattle.tap_replay.specs.declared.end.End.TheVariants.{Done, Spent}
 use Rattle.tap_words.specs.declared.asked.Asked.{Asked}

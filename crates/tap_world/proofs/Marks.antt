@@ -19,19 +19,19 @@ use Rattle.tap_history.specs.Names.{names_of}
 use Rattle.tap_history.specs.Refusals.{first_refusal}
 use Rattle.tap_history.specs.Steps.{actor_of}
 use Rattle.tap_node.specs.Node.{running}
-use Rattle.tap_course.specs.Beginning.{Beginning}
-use Rattle.tap_course.specs.Course.{Follows, IsCourse, is_choice, move_of_group, move_of_start, moved_by, system_of}
-use Rattle.tap_course.specs.Group.{start_at}
-use Rattle.tap_course.specs.Starts.{start_of_step}
-use Rattle.tap_course.proofs.Frames.{step_moves}
-use Rattle.tap_course.proofs.Growing.{grown_system}
-use Rattle.tap_course.proofs.Within.{is_group}
+use Rattle.tap_runs.specs.Beginning.{Beginning}
+use Rattle.tap_runs.specs.Course.{Follows, IsCourse, is_choice, move_of_group, move_of_start, moved_by, system_of}
+use Rattle.tap_runs.specs.Group.{start_at}
+use Rattle.tap_runs.specs.Starts.{start_of_step}
+use Rattle.tap_runs.proofs.Frames.{step_moves}
+use Rattle.tap_runs.proofs.Growing.{grown_system}
+use Rattle.tap_runs.proofs.Within.{is_group}
 use Rattle.tap_ledger.specs.Added.{CanAdd, most_frames}
 use Rattle.tap_overlay.specs.Law.{HasNodesOf}
 use Rattle.tap_overlay.specs.Overlay.{node_at}
 use Rattle.tap_engine.specs.Kept.{AreKept, AreReady, room_kept, room_of_record, world_value}
 use Rattle.tap_engine.specs.Kinds.{finishes, is_finished}
-use Rattle.tap_engine.specs.Laws.{left_by}
+use Rattle.tap_engine.specs.Growth.{left_by}
 use Rattle.tap_engine.specs.Outcome.{IsNextIndex, MayNote, adds}
 use Rattle.tap_engine.specs.WorldLog.{IsWorldLog}
 use Rattle.tap_engine.specs.declared.engine.Engine.{Engine}
@@ -39,7 +39,7 @@ use Rattle.tap_engine.proofs.Addable.{limit_fits, refused_fits}
 use Rattle.tap_engine.proofs.Courses.{course_begun, course_uncarried}
 use Rattle.tap_engine.proofs.Grown.{refused_names, system_group}
 use Rattle.tap_engine.proofs.Keeping.{HasGrown, as_log, end_same, grown_log, grown_named, kept_same, on, same_beginning, seen}
-use Rattle.tap_course.proofs.Named.{choice_has_names}
+use Rattle.tap_runs.proofs.Named.{choice_has_names}
 use Rattle.tap_engine.proofs.Leading.{kept_group}
 use Rattle.tap_engine.proofs.Named.{step_named, unbegun_named}
 use Rattle.tap_engine.proofs.Steps.{choice_may, clash, follows_within, silent_within}

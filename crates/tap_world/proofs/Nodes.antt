@@ -15,18 +15,18 @@ use Rattle.tap_history.specs.Groups.{ends_log, is_ended}
 use Rattle.tap_history.specs.Names.{names_of}
 use Rattle.tap_rule.specs.Node.{NodeState}
 use Rattle.tap_node.specs.Node.{NodeValue, has_room_left, running}
-use Rattle.tap_step.specs.Sound.{has_numbers_left}
+use Rattle.tap_node_common.specs.Sound.{has_numbers_left}
 use Rattle.tap_safety.specs.AtRest.{system_at_rest}
-use Rattle.tap_course.specs.Beginning.{Beginning, IsWithinLimits, begin_record}
-use Rattle.tap_course.specs.Course.{IsCourse, system_of}
-use Rattle.tap_course.proofs.Departing.{course_nodes_holds}
-use Rattle.tap_course.proofs.Growing.{start_course, start_system}
-use Rattle.tap_ranges.specs.Range.{HasNumbersLeft, IsInRange, steps_with_room}
-use Rattle.tap_ranges.proofs.Courses.{numbers_in_range_holds}
+use Rattle.tap_runs.specs.Beginning.{Beginning, IsWithinLimits, begin_record}
+use Rattle.tap_runs.specs.Course.{IsCourse, system_of}
+use Rattle.tap_runs.proofs.Departing.{course_nodes_holds}
+use Rattle.tap_runs.proofs.Growing.{start_course, start_system}
+use Rattle.tap_readable.specs.Range.{HasNumbersLeft, IsInRange, steps_with_room}
+use Rattle.tap_readable.proofs.RangeCourses.{numbers_in_range_holds}
 use Rattle.tap_overlay.specs.Law.{HasNodesOf}
 use Rattle.tap_overlay.specs.Overlay.{IsAtRest, node_at}
 use Rattle.tap_overlay.proofs.Systems.{rest_nodes}
-use Rattle.tap_course.specs.Named.{HasNames, HaveNames}
+use Rattle.tap_runs.specs.Named.{HasNames, HaveNames}
 use Rattle.tap_engine.specs.Kept.{AreKept, GoesOn, room_kept, room_of_record, world_value}
 use Rattle.tap_engine.specs.World.{HasBegun, WorldValue, node_of, nodes_running}
 use Rattle.tap_engine.specs.WorldLog.{HasCome, HasGoneTo, IsCourseOrFinished, IsWorldLog}

@@ -5,7 +5,7 @@ use Rattle.std.proofs.lemmas.List.Elements.{All-cons, All-nil}
 use Rattle.tap_name.specs.Name.{IsName}
 use Rattle.tap_name.specs.Settings.{AreWithinLimits, SettingsValue}
 use Rattle.tap_scenario.specs.Scenario.{most_frames}
-use Rattle.tap_course.specs.Beginning.{IsWithinLimits}
+use Rattle.tap_runs.specs.Beginning.{IsWithinLimits}
 
 few_frames : (frames digits : ℕ) → frames ≤ 100 → frames ≤ most_frames digits
 few_frames frames digits few = by_long (nat_le digits 8)

@@ -11,7 +11,7 @@ use Rattle.tap_history.specs.Refusals.{first_refusal}
 use Rattle.tap_engine.specs.Kept.{AreKept, AreReady, LeadsTo, world_value}
 use Rattle.tap_engine.specs.Kinds.{damages, observes}
 use Rattle.tap_engine.specs.Outcome.{AnswersAs, IsNextIndex, MayGoOn, Outcome, adds, deliver_outcome, is_within, refusal_in, spends, stays, step_outcome, stops, takes_number, unless_refused, unless_stopped}
-use Rattle.tap_course.specs.Groups.{step_group}
+use Rattle.tap_runs.specs.Groups.{step_group}
 use Rattle.tap_engine.specs.World.{WorldValue}
 use Rattle.tap_engine.specs.declared.engine.Engine.{Engine}
 use Rattle.tap_engine.specs.declared.stop.Stop.{Stop}

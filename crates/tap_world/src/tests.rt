@@ -230,7 +230,7 @@ fn deliver(rt: &impl Abort, world: &mut World) -> Result<(), Stop> {
 }
 
 // Takes frames, the oldest first, until none is outstanding.
-#[tactic(auto, unfolding(tap_course::specs::Course::is_choice))]
+#[tactic(auto, unfolding(tap_runs::specs::Course::is_choice))]
 fn settle(rt: &impl Abort, world: &mut World, index: u32) -> Result<(), Fail> {
     assert!(rt; may_go_on(world));
     assert!(rt; is_next(world, index));

@@ -8,8 +8,8 @@ ghost use Rattle.tap_history.specs.Moments.{is_still, outstanding};
 ghost use Rattle.tap_history.specs.Names.{names_of};
 ghost use Rattle.tap_history.specs.Steps.{is_start};
 ghost use Rattle.tap_node.specs.Node.{has_room_left};
-ghost use Rattle.tap_course.specs.Course.{is_choice, system_of};
-ghost use Rattle.tap_ranges.specs.Range.{IsInRange};
+ghost use Rattle.tap_runs.specs.Course.{is_choice, system_of};
+ghost use Rattle.tap_readable.specs.Range.{IsInRange};
 ghost use Rattle.tap_overlay.specs.Overlay.{IsNodeOf};
 ghost use Rattle.tap_engine.specs.Headline.{WorldHasHeadline};
 ghost use Rattle.tap_engine.specs.Holders.{HoldersAreExactAtRest};
@@ -58,8 +58,8 @@ impl Model for World {
 }
 
 impl World {
-    ghost use Rattle.tap_course.specs.Named.{HaveNames};
-    ghost use Rattle.tap_course.specs.Beginning.{IsWithinLimits};
+    ghost use Rattle.tap_runs.specs.Named.{HaveNames};
+    ghost use Rattle.tap_runs.specs.Beginning.{IsWithinLimits};
     ghost use Rattle.tap_engine.specs.Outcome.{AnswersAs, IsNextIndex, MayGoOn, MayNote, deliver_outcome, finish_outcome, mark_outcome, note_outcome, step_outcome};
     ghost use Rattle.tap_engine.specs.WorldLog.{IsWorldLog};
     ghost use Rattle.tap_engine.specs.World.{HasBegun, node_of, nodes_running};

@@ -1,5 +1,5 @@
 use Rattle.std.proofs.Common.{sym, subst}
-use Rattle.tap_records.specs.declared.damage.Damage.TheVariants.{Byte, Cut}
+use Rattle.tap_engine.specs.declared.damage.Damage.TheVariants.{Byte, Cut}
 use Rattle.tap_engine.specs.Working.{CopiesAt}
 use Rattle.tap_engine.proofs.Damaging.{cut_copies, garble_copies}
 use Rattle.tap_engine.proofs.damages.damage_of.Goals as goal

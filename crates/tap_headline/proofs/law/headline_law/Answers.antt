@@ -1,4 +1,4 @@
-use Rattle.tap_headline.proofs.Headline.{logs_follow_scripts, logs_have_headline}
+use Rattle.tap_headline.proofs.Scripts.{logs_follow_scripts, logs_have_headline}
 use Rattle.tap_headline.proofs.law.headline_law.Goals as goal
 
 pub returns-clause-follows : goal.returns-clause-follows

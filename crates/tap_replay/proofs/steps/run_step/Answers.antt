@@ -1,5 +1,5 @@
 use Rattle.std.proofs.Common.{◌≡◌, inl, true, Err, ap, subst, ◌∙◌}
-use Rattle.tap_course.specs.Course.{is_choice}
+use Rattle.tap_runs.specs.Course.{is_choice}
 use Rattle.tap_engine.specs.Outcome.{AnswersAs, step_outcome}
 use Rattle.tap_replay.specs.Steps.{IsCallOf}
 use Rattle.tap_replay.proofs.Stepping.{begun_last, has_refused, mark_runs, noted_answers, settle_goes}

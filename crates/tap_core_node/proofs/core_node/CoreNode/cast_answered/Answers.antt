@@ -1,9 +1,9 @@
 use Rattle.std.proofs.Common.{◌≡◌, false, refl, sym, ◌∙◌, inl, inr}
 use Rattle.tap_rule.specs.Casts.{cast_answered, cast_news, cast_of, is_root}
 use Rattle.tap_rule.specs.Node.{NodeState, settings_of}
-use Rattle.tap_step.specs.declared.news.News.TheVariants.{Nothing}
-use Rattle.tap_step.specs.Step.{news_of}
-use Rattle.tap_step.proofs.Parents.{closed_parent}
+use Rattle.tap_node_common.specs.declared.news.News.TheVariants.{Nothing}
+use Rattle.tap_node_common.specs.Step.{news_of}
+use Rattle.tap_node_common.proofs.Parents.{closed_parent}
 use Rattle.tap_core_node.specs.State.{core_state}
 use Rattle.tap_core_node.proofs.CastSteps.{cast_closed, cast_open, cast_unknown}
 use Rattle.tap_core_node.proofs.Followed.{cast_answered_quiet, follows_quiet}

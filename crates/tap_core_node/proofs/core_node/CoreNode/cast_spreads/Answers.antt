@@ -1,6 +1,6 @@
 use Rattle.std.proofs.Common.{◌+◌, arith}
-use Rattle.tap_turn.specs.declared.cast_fields.CastFields.{CastFields}
-use Rattle.tap_step.specs.Sender.{sender_of}
+use Rattle.tap_node_common.specs.declared.cast_fields.CastFields.{CastFields}
+use Rattle.tap_node_common.specs.Sender.{sender_of}
 use Rattle.tap_core_node.proofs.CastSteps.{casts_spelled}
 use Rattle.tap_core_node.proofs.core_node.CoreNode.cast_spreads.Goals as goal
 

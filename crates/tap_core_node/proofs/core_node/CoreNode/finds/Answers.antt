@@ -1,7 +1,7 @@
 use Rattle.std.proofs.Common.{refl}
 use Rattle.tap_rule.specs.Node.{NodeState}
 use Rattle.tap_rule.specs.Pointers.{finds}
-use Rattle.tap_step.specs.declared.news.News.TheVariants.{Nothing}
+use Rattle.tap_node_common.specs.declared.news.News.TheVariants.{Nothing}
 use Rattle.tap_core_node.specs.State.{core_state}
 use Rattle.tap_core_node.proofs.Followed.{finds_quiet, follows_quiet}
 use Rattle.tap_core_node.proofs.core_node.CoreNode.finds.Goals as goal

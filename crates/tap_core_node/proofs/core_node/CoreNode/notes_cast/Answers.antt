@@ -1,8 +1,8 @@
 use Rattle.std.proofs.Common.{◌≡◌, refl, sym, ◌∙◌}
 use Rattle.tap_rule.specs.Casts.{cast_news, casts, is_root}
 use Rattle.tap_rule.specs.Node.{NodeState}
-use Rattle.tap_step.specs.declared.news.News.TheVariants.{Nothing}
-use Rattle.tap_step.specs.Step.{news_of}
+use Rattle.tap_node_common.specs.declared.news.News.TheVariants.{Nothing}
+use Rattle.tap_node_common.specs.Step.{news_of}
 use Rattle.tap_core_node.specs.Requests.{copied_with}
 use Rattle.tap_core_node.specs.State.{core_state}
 use Rattle.tap_core_node.proofs.CastSteps.{cast_again, cast_alone, cast_few, cast_goes_on, cast_levels, cast_names}

@@ -3,8 +3,8 @@ use Rattle.tap_pointer.specs.Pointers.{PointersValue, pair_of, published}
 use Rattle.tap_pointer.specs.Reconcile.{AreLaidBut}
 use Rattle.tap_pointer.proofs.Laws.{published_lays_others}
 use Rattle.tap_rule.specs.Node.{NodeState, settings_of}
-use Rattle.tap_step.proofs.Pairs.{hops-published, named-published}
-use Rattle.tap_step.proofs.Sound.{hops-sound}
+use Rattle.tap_node_common.proofs.Pairs.{hops-published, named-published}
+use Rattle.tap_node_common.proofs.Sound.{hops-sound}
 use Rattle.tap_core_node.specs.State.{core_state}
 use Rattle.tap_core_node.proofs.Steps.{silent_and_laid}
 use Rattle.tap_core_node.proofs.core_node.CoreNode.publishes.Goals as goal

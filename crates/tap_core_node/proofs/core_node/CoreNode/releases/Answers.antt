@@ -5,7 +5,7 @@ use Rattle.tap_table.specs.Table.{TableValue, place_of, released as table_releas
 use Rattle.tap_table.specs.Ties.{TiesValue, released}
 use Rattle.tap_pointer.specs.Reconcile.{AreLaidBeside}
 use Rattle.tap_table.proofs.Primaries.{primary_near}
-use Rattle.tap_step.proofs.Sound.{hops-sound}
+use Rattle.tap_node_common.proofs.Sound.{hops-sound}
 use Rattle.tap_core_node.specs.State.{core_state}
 use Rattle.tap_core_node.proofs.Laid.{laid-released_beside, same_primary}
 use Rattle.tap_core_node.proofs.Steps.{released_and_laid, released_quietly}

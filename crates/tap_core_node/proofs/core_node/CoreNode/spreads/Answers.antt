@@ -2,7 +2,7 @@ use Rattle.std.proofs.Common.{◌≡◌, ◌==◌, ◌+◌, length, arith, sym, 
 use Rattle.std.proofs.lemmas.Result.{on_ok_weaker}
 use Rattle.tap_rule.specs.Covering.{answers_awaited}
 use Rattle.tap_rule.specs.Node.{NodeState}
-use Rattle.tap_step.specs.Sender.{sender_of}
+use Rattle.tap_node_common.specs.Sender.{sender_of}
 use Rattle.tap_wire.specs.declared.frame.TellFields.{TellFields}
 use Rattle.tap_core_node.specs.Requests.{asked_with}
 use Rattle.tap_core_node.specs.State.{core_state}

@@ -2,7 +2,7 @@ use Rattle.std.proofs.Common.{refl, sym, ◌∙◌}
 use Rattle.std.proofs.lemmas.Result.{IfOk-weaker}
 use Rattle.tap_rule.specs.FrameRules.{frame_at_core}
 use Rattle.tap_rule.specs.Node.{NodeState}
-use Rattle.tap_step.specs.declared.news.News.TheVariants.{Nothing}
+use Rattle.tap_node_common.specs.declared.news.News.TheVariants.{Nothing}
 use Rattle.tap_core_node.specs.State.{core_state}
 use Rattle.tap_core_node.proofs.Asked.{MayBeCovered, next_named, seeker_apart, seeker_may, seeker_name, surrogate_within}
 use Rattle.tap_core_node.proofs.Pins.{at_surrogate, sent_on}

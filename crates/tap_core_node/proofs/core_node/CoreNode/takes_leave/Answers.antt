@@ -1,7 +1,7 @@
 use Rattle.std.proofs.Common.{◌≡◌, true, IfSome, refl, sym, ◌∙◌}
 use Rattle.tap_rule.specs.Node.{NodeState}
 use Rattle.tap_depart.specs.Told.{told_leave}
-use Rattle.tap_step.proofs.Sound.{hops-sound}
+use Rattle.tap_node_common.proofs.Sound.{hops-sound}
 use Rattle.tap_core_node.specs.Primaries.{IsLevelOfLeave, has_other_primary}
 use Rattle.tap_core_node.specs.State.{core_state}
 use Rattle.tap_core_node.proofs.Laid.{laid-leave_at}

@@ -3,7 +3,7 @@ use Rattle.std.proofs.Math.Nat.{le-max_right}
 use Rattle.tap_log.specs.declared.record.Record.{Record}
 use Rattle.tap_log.specs.declared.record.Record.TheVariants.{Spent, Step as StepRecord}
 use Rattle.tap_log.specs.Counts.{sent_count}
-use Rattle.tap_records.specs.Seen.{turn_records}
+use Rattle.tap_engine.specs.Seen.{turn_records}
 use Rattle.tap_engine.specs.declared.engine.Engine.{Engine}
 use Rattle.tap_log.specs.Laws.{at_most_one}
 use Rattle.tap_ledger.specs.Added.{CanAdd}

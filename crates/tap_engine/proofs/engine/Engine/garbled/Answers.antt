@@ -1,6 +1,6 @@
 use Rattle.std.proofs.Common.{◌≡◌, Ok, Err, IsErr, ap, sym, subst, ◌∙◌}
 use Rattle.tap_wire.specs.Reading.{frame_of, head_of_frame}
-use Rattle.tap_course.specs.Damage.{fault_in}
+use Rattle.tap_runs.specs.Damage.{fault_in}
 use Rattle.tap_engine.proofs.Damaging.{copy_told, copy_unread}
 use Rattle.tap_engine.proofs.Taking.{is_outstanding, read_at}
 use Rattle.tap_engine.proofs.engine.Engine.garbled.Goals as goal

@@ -6,7 +6,7 @@ use Rattle.tap_log.specs.Laws.{at_most_one}
 use Rattle.tap_history.specs.Refusals.{first_refusal}
 use Rattle.tap_engine.specs.declared.engine.Engine.{Engine}
 use Rattle.tap_engine.proofs.Leading.{reserved_ready}
-use Rattle.tap_course.proofs.Named.{step_has_names}
+use Rattle.tap_runs.proofs.Named.{step_has_names}
 use Rattle.tap_engine.proofs.Quiet.{alone_fits, seen_group, log_alone, quiet_fits, quiet_refused, short_leads, quiet_whole}
 use Rattle.tap_engine.proofs.engine.Engine.observe.Goals as goal
 

@@ -5,8 +5,8 @@ use Rattle.tap_log.specs.declared.record.Record.{Record}
 use Rattle.tap_log.specs.declared.record.Record.TheVariants.{RootOf}
 use Rattle.tap_history.specs.Core.{core_of}
 use Rattle.tap_history.specs.Refusals.{first_refusal}
-use Rattle.tap_course.specs.Course.{system_of}
-use Rattle.tap_course.specs.Observed.{observed}
+use Rattle.tap_runs.specs.Course.{system_of}
+use Rattle.tap_runs.specs.Observed.{observed}
 use Rattle.tap_engine.proofs.Seeing.{asked_linked, core_named, held_so, rooted_so, tabled_so, unheld_so, untabled_so, walked_so, walks_from}
 use Rattle.tap_engine.proofs.Taking.{if_ok}
 use Rattle.tap_engine.proofs.engine.Engine.observed.Goals as goal

@@ -18,7 +18,7 @@ use Rattle.tap_engine.proofs.Addable.{spent_fits, step_fits, step_sent}
 use Rattle.tap_engine.proofs.Counting.{can_add_turn, few_sent, few_sent_most, started_sent}
 use Rattle.tap_engine.proofs.Keeping.{refused_leads, seen, wanting}
 use Rattle.tap_engine.proofs.Leading.{lead_from, next_still, reserved_ready, start_leads, start_may}
-use Rattle.tap_course.proofs.Named.{step_has_names}
+use Rattle.tap_runs.proofs.Named.{step_has_names}
 use Rattle.tap_engine.proofs.Quiet.{short_leads}
 use Rattle.tap_engine.proofs.Steps.{no_choice}
 use Rattle.tap_engine.proofs.engine.Engine.start.Goals as goal

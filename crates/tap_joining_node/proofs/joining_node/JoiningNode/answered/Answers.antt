@@ -1,7 +1,7 @@
 use Rattle.tap_session.specs.Sessions.{answer_to, answered_at, session_of}
 use Rattle.tap_rule.specs.Answers.{answer_sends}
 use Rattle.tap_rule.specs.Event.News.{Nothing as RuleNothing}
-use Rattle.tap_step.proofs.Steps.{messages_step}
+use Rattle.tap_node_common.proofs.ReactionSteps.{messages_step}
 use Rattle.tap_joining_node.specs.State.{joining_state}
 use Rattle.tap_joining_node.proofs.joining_node.JoiningNode.answered.Goals as goal
 

@@ -2,7 +2,7 @@ use Rattle.std.proofs.Common.{[], ◌∷◌}
 use Rattle.tap_wire.specs.declared.frame.Body.TheVariants.{CastAck}
 use Rattle.tap_rule.specs.Event.News.{Nothing as RuleNothing}
 use Rattle.tap_rule.specs.Reaction.{message}
-use Rattle.tap_step.proofs.Steps.{messages_step}
+use Rattle.tap_node_common.proofs.ReactionSteps.{messages_step}
 use Rattle.tap_joining_node.specs.State.{joining_state}
 use Rattle.tap_joining_node.proofs.joining_node.JoiningNode.answers_cast.Goals as goal
 

@@ -5,8 +5,8 @@ use Rattle.tap_rule.specs.Event.News.{Core as RuleCore}
 use Rattle.tap_rule.specs.Joining.{becomes_core}
 use Rattle.tap_rule.specs.Node.{NodeState}
 use Rattle.tap_rule.specs.Reaction.{to_each}
-use Rattle.tap_step.proofs.Steps.{messages_step}
-use Rattle.tap_step.proofs.Ending.{holders_named}
+use Rattle.tap_node_common.proofs.ReactionSteps.{messages_step}
+use Rattle.tap_node_common.proofs.Ending.{holders_named}
 use Rattle.tap_joining_node.specs.State.{joining_state}
 use Rattle.tap_joining_node.proofs.joining_node.JoiningNode.becomes_core.Goals as goal
 

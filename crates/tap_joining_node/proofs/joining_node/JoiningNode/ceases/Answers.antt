@@ -1,4 +1,4 @@
-use Rattle.tap_step.proofs.Ending.{ended_named, holders_named}
+use Rattle.tap_node_common.proofs.Ending.{ended_named, holders_named}
 use Rattle.tap_joining_node.proofs.joining_node.JoiningNode.ceases.Goals as goal
 
 pub send_words-requires-clause-to : goal.send_words-requires-clause-to

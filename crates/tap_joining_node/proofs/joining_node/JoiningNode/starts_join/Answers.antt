@@ -3,7 +3,7 @@ use Rattle.tap_wire.specs.declared.frame.Body.TheVariants.{Seek}
 use Rattle.tap_rule.specs.Event.News.{Nothing as RuleNothing}
 use Rattle.tap_rule.specs.Node.{name_of}
 use Rattle.tap_rule.specs.Reaction.{message}
-use Rattle.tap_step.proofs.Steps.{messages_step}
+use Rattle.tap_node_common.proofs.ReactionSteps.{messages_step}
 use Rattle.tap_joining_node.specs.State.{joining_state}
 use Rattle.tap_joining_node.proofs.joining_node.JoiningNode.starts_join.Goals as goal
 

@@ -3,8 +3,8 @@ use Rattle.std.proofs.lemmas.Result.{IfOk-weaker}
 use Rattle.tap_rule.specs.Event.News.{Nothing as RuleNothing}
 use Rattle.tap_rule.specs.FrameRules.{frame_at_joining}
 use Rattle.tap_rule.specs.Links.{forgets, hears}
-use Rattle.tap_step.specs.declared.news.News.TheVariants.{Nothing}
-use Rattle.tap_step.proofs.Steps.{silent_step}
+use Rattle.tap_node_common.specs.declared.news.News.TheVariants.{Nothing}
+use Rattle.tap_node_common.proofs.ReactionSteps.{silent_step}
 use Rattle.tap_joining_node.specs.State.{joining_state}
 use Rattle.tap_joining_node.proofs.Taken.{answer_follows, cast_follows, forget_follows, hello_follows, link_follows, release_follows, tell_follows, tells_other}
 use Rattle.tap_joining_node.proofs.joining_node.JoiningNode.take.Goals as goal

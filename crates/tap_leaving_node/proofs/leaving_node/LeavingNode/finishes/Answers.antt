@@ -1,7 +1,7 @@
 use Rattle.std.proofs.Common.{arith}
 use Rattle.tap_table.proofs.Targets.{few_by_name}
-use Rattle.tap_step.proofs.Ending.{ended_named, holders_named}
-use Rattle.tap_step.proofs.Lays.{lays-cleared}
+use Rattle.tap_node_common.proofs.Ending.{ended_named, holders_named}
+use Rattle.tap_node_common.proofs.Lays.{lays-cleared}
 use Rattle.tap_leaving_node.specs.State.{leaving_state}
 use Rattle.tap_leaving_node.proofs.Ends.{finished_step}
 use Rattle.tap_leaving_node.proofs.leaving_node.LeavingNode.finishes.Goals as goal

@@ -1,6 +1,6 @@
 use Rattle.tap_rule.specs.Event.News.{Nothing as RuleNothing}
 use Rattle.tap_rule.specs.Links.{release_answer, with_word}
-use Rattle.tap_step.proofs.Steps.{messages_step}
+use Rattle.tap_node_common.proofs.ReactionSteps.{messages_step}
 use Rattle.tap_leaving_node.specs.State.{leaving_state}
 use Rattle.tap_leaving_node.proofs.leaving_node.LeavingNode.hears_and_releases.Goals as goal
 

@@ -1,6 +1,6 @@
 use Rattle.std.proofs.Common.{◌≡◌, ◌++◌, drop, map}
 use Rattle.tap_rule.specs.Leaving.{leave_for}
-use Rattle.tap_step.specs.Sender.{message_bytes, sender_of}
+use Rattle.tap_node_common.specs.Sender.{message_bytes, sender_of}
 use Rattle.tap_leaving_node.proofs.leaving_node.LeavingNode.sends_leaves.Given as goal
 
 abbrev pub invariant-loop-i : goal.invariant-loop-i

@@ -1,5 +1,5 @@
 use Rattle.std.proofs.lemmas.Result.{IfOk-weaker}
-use Rattle.tap_step.specs.declared.news.News.TheVariants.{Nothing}
+use Rattle.tap_node_common.specs.declared.news.News.TheVariants.{Nothing}
 use Rattle.tap_leaving_node.specs.State.{leaving_state}
 use Rattle.tap_leaving_node.proofs.Taken.{find_follows}
 use Rattle.tap_leaving_node.proofs.leaving_node.LeavingNode.take_find.Goals as goal

@@ -1,5 +1,5 @@
-use Rattle.tap_step.proofs.Sound.{hops-sound}
-use Rattle.tap_step.proofs.Steps.{lay_step}
+use Rattle.tap_node_common.proofs.Sound.{hops-sound}
+use Rattle.tap_node_common.proofs.ReactionSteps.{lay_step}
 use Rattle.tap_leaving_node.specs.State.{leaving_state}
 use Rattle.tap_leaving_node.proofs.leaving_node.LeavingNode.takes_lay.Goals as goal
 

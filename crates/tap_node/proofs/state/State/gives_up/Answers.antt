@@ -1,6 +1,6 @@
 use Rattle.std.proofs.Common.{◌≡◌, refl}
 use Rattle.tap_rule.specs.Event.Start.{Abandon}
-use Rattle.tap_step.specs.declared.news.News.TheVariants.{Nothing}
+use Rattle.tap_node_common.specs.declared.news.News.TheVariants.{Nothing}
 use Rattle.tap_joining_node.specs.State.{joining_state}
 use Rattle.tap_node.proofs.ByStatus.{is_joining, joining_starts}
 use Rattle.tap_node.proofs.Started.{gives_up_follows}

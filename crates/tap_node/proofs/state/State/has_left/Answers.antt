@@ -1,6 +1,6 @@
 use Rattle.std.proofs.Common.{◌∙◌, ap}
 use Rattle.tap_rule.specs.Leaving.{with_departure}
-use Rattle.tap_step.specs.States.{core_state_of}
+use Rattle.tap_node_common.specs.States.{core_state_of}
 use Rattle.tap_core_node.specs.State.{core_state}
 use Rattle.tap_leaving_node.specs.State.{leaving_state}
 use Rattle.tap_node.proofs.Numbers.{departs}

@@ -1,13 +1,13 @@
 use Rattle.std.proofs.Common.{◌≡◌, true, false, Some, rules, refl, sym, subst}
 use Rattle.tap_rule.specs.Ceasing.{ceases, is_done}
 use Rattle.tap_rule.specs.Node.Status.{Ceased as CeasedStatus}
-use Rattle.tap_step.specs.declared.news.News.TheVariants.{Core as CoreNews, Gone as GoneNews}
-use Rattle.tap_step.specs.Step.{FollowsAs}
+use Rattle.tap_node_common.specs.declared.news.News.TheVariants.{Core as CoreNews, Gone as GoneNews}
+use Rattle.tap_node_common.specs.Step.{FollowsAs}
 use Rattle.tap_joining_node.specs.State.{core_joined, joining_state}
 use Rattle.tap_node.specs.declared.state.State.TheVariants.{Core, Ceased}
 use Rattle.tap_node.proofs.ByStatus.{done_elsewhere, done_from}
 use Rattle.tap_node.proofs.Ends.{done_ceases, done_joins, ends_as}
-use Rattle.tap_step.specs.States.{ended_state}
+use Rattle.tap_node_common.specs.States.{ended_state}
 use Rattle.tap_node.proofs.state.State.is_done.Goals as goal
 
 pub returns-in_default : goal.returns-in_default

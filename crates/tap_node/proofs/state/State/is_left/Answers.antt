@@ -2,9 +2,9 @@ use Rattle.std.proofs.Common.{◌≡◌, ◌==◌, ◌∙◌, true, false, lengt
 use Rattle.tap_depart.specs.Leaving.{names_but}
 use Rattle.tap_rule.specs.Leaving.{finishes}
 use Rattle.tap_rule.specs.Node.Status.{Gone as GoneStatus}
-use Rattle.tap_step.specs.declared.news.News.TheVariants.{Gone as GoneNews, Nothing}
-use Rattle.tap_step.specs.States.{ended_state}
-use Rattle.tap_step.proofs.Sound.{hops-sound}
+use Rattle.tap_node_common.specs.declared.news.News.TheVariants.{Gone as GoneNews, Nothing}
+use Rattle.tap_node_common.specs.States.{ended_state}
+use Rattle.tap_node_common.proofs.Sound.{hops-sound}
 use Rattle.tap_leaving_node.specs.State.{leaving_state}
 use Rattle.tap_node.specs.declared.state.State.TheVariants.{Gone, Leaving}
 use Rattle.tap_node.proofs.ByStatus.{left_elsewhere, left_from}

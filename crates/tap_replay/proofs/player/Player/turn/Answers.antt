@@ -3,7 +3,7 @@ use Rattle.tap_lawful.specs.Laws.{left_of}
 use Rattle.tap_replay.specs.Player.{GoesOnUnless, IsLeft, MayTurn, PlayerValue, Turns, over_by}
 use Rattle.tap_replay.specs.Run.{GoesOn}
 use Rattle.tap_replay.proofs.Again.{may_turn_again}
-use Rattle.tap_headline.specs.Headline.{RunHasHeadline}
+use Rattle.tap_headline.specs.Scripts.{RunHasHeadline}
 use Rattle.tap_replay.proofs.Headline.{run_has_headline}
 use Rattle.tap_replay.proofs.Alike.{left_alike, run_alike}
 use Rattle.tap_replay.proofs.player.Player.turn.Goals as goal

@@ -1,5 +1,5 @@
 use Rattle.std.proofs.Common.{◌∙◌, ap, refl, arith, None, false}
-use Rattle.tap_course.specs.Beginning.{Beginning}
+use Rattle.tap_runs.specs.Beginning.{Beginning}
 use Rattle.tap_ledger.specs.Ledger.{LedgerValue}
 use Rattle.tap_engine.specs.declared.engine.Engine.{Engine}
 use Rattle.tap_world.proofs.Nodes.{begun_kept, has_begun}

@@ -1,4 +1,0 @@
-pub mod Takers
-pub mod Named
-pub mod NotStrange
-pub mod Arrivals

@@ -1,8 +1,0 @@
-use Rattle.tap_arrivals.proofs.Arrivals.{ack_answers, heard_answers}
-use Rattle.tap_arrivals.proofs.law.answers_from_invariant.Goals as goal
-
-pub returns-clause-heard : goal.returns-clause-heard
-returns-clause-heard c = heard_answers
-
-pub returns-clause-ack : goal.returns-clause-ack
-returns-clause-ack c = ack_answers

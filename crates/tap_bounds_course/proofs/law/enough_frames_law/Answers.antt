@@ -1,8 +1,0 @@
-use Rattle.tap_bounds_course.proofs.Enough.{ends_finished, never_spent}
-use Rattle.tap_bounds_course.proofs.law.enough_frames_law.Goals as goal
-
-pub returns-clause-spent : goal.returns-clause-spent
-returns-clause-spent c = never_spent
-
-pub returns-clause-finished : goal.returns-clause-finished
-returns-clause-finished c = ends_finished

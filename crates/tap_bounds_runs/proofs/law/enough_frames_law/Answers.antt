@@ -1,0 +1,8 @@
+use Rattle.tap_bounds_runs.proofs.Enough.{ends_finished, never_spent}
+use Rattle.tap_bounds_runs.proofs.law.enough_frames_law.Goals as goal
+
+pub returns-clause-spent : goal.returns-clause-spent
+returns-clause-spent c = never_spent
+
+pub returns-clause-finished : goal.returns-clause-finished
+returns-clause-finished c = ends_finished

@@ -1,5 +1,0 @@
-use Rattle.tap_course.proofs.Frames.{course_frames_holds}
-use Rattle.tap_course.proofs.law.frames_law.Goals as goal
-
-pub returns : goal.returns
-returns c = course_frames_holds

@@ -1,0 +1,27 @@
+-- What holds of each log of a run, however far the run has come or however it has ended.
+--
+-- Rule: docs/FORMATS.md, "What comes next" and "The course of a run".
+use Rattle.std.specs.Prelude.{◌≡◌, List, ◌∷◌, take}
+use Rattle.tap_scenario.specs.Scenario.{IsScript, ScenarioValue}
+use Rattle.tap_log.specs.declared.record.Record.{Record}
+use Rattle.tap_log.specs.Log.{begun_steps}
+use Rattle.tap_runs.specs.Beginning.{begin_record}
+use Rattle.tap_lawful.specs.Next.{beginning_in, begun_count}
+use Rattle.tap_lawful.specs.Lawful.{IsLogOf}
+use Rattle.tap_headline.specs.Headline.{HasHeadline}
+
+-- The log has the headline, by the settings of the scenario: docs/PROOFS.md, "The headline, sentence by sentence".
+abbrev pub RunHasHeadline : ScenarioValue → List Record → Type 0
+RunHasHeadline s log = HasHeadline s.settings log
+
+-- each log of a run has it: that of one which isn't over, or which ended early for want of memory, and that of one which is over
+abbrev pub LogsHaveHeadline : Type 0
+LogsHaveHeadline = (s : ScenarioValue) (log : List Record) → IsScript s → IsLogOf s log → RunHasHeadline s log
+
+-- the log begins as the scenario does, and its steps are the scenario's first ones
+pub record FollowsScript (s : ScenarioValue) (log : List Record) : Type 0 where
+  pub begins : (rest : List Record) × (log ≡ begin_record (beginning_in s) ∷ rest)
+  pub steps : begun_steps log ≡ take (begun_count log) s.steps
+
+abbrev pub LogsFollowScripts : Type 0
+LogsFollowScripts = (s : ScenarioValue) (log : List Record) → IsLogOf s log → FollowsScript s log

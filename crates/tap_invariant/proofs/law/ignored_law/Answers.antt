@@ -1,9 +1,0 @@
-use Rattle.tap_invariant.proofs.Ignored.{ignored_keeps}
-use Rattle.tap_invariant.proofs.Lost.{ignored_is_lost}
-use Rattle.tap_invariant.proofs.law.ignored_law.Goals as goal
-
-pub returns-clause-lost : goal.returns-clause-lost
-returns-clause-lost c = ignored_is_lost
-
-pub returns-clause-keeps : goal.returns-clause-keeps
-returns-clause-keeps c = ignored_keeps

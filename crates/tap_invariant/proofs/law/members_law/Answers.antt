@@ -1,5 +1,0 @@
-use Rattle.tap_invariant.proofs.Members.{sound_at_rest}
-use Rattle.tap_invariant.proofs.law.members_law.Goals as goal
-
-pub returns : goal.returns
-returns c = sound_at_rest

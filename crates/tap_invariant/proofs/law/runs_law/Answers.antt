@@ -1,5 +1,0 @@
-use Rattle.tap_invariant.proofs.Moves.{run_is_sound}
-use Rattle.tap_invariant.proofs.law.runs_law.Goals as goal
-
-pub returns : goal.returns
-returns c = run_is_sound

@@ -1,0 +1,280 @@
+-- Each move of a run of joins alone keeps how few Releases are sent.
+use Rattle.std.proofs.Common.{◌≡◌, ◌≢◌, ◌⊎◌, ℕ, nat_eq, ◌+◌, ◌≤◌, Bool, true, false, cond, List, [], ◌∷◌, Option, None, Some, arith, ap, refl, sym, subst, ◌∙◌, inl, inr}
+use Rattle.std.specs.Prelude.{IfSome, count_by, if◌then◌else◌, ◌&&◌}
+use Rattle.std.specs.Cmp.Lexicographic.{pointwise}
+use Rattle.std.proofs.Math.Bool.{and-false}
+use Rattle.std.proofs.lemmas.List.Elements.{All-cons, All-nil}
+use Rattle.tap_name.specs.Settings.{SettingsValue}
+use Rattle.tap_table.specs.Ties.{TiesValue}
+use Rattle.tap_join.specs.Hello.{hello_names}
+use Rattle.tap_join.specs.Seek.{sought}
+use Rattle.tap_join.specs.declared.sought.Sought.{Sought}
+use Rattle.tap_join.specs.declared.sought.Sought.TheVariants.{Forward, Surrogate}
+use Rattle.tap_join.proofs.Hellos.{holders_stay}
+use Rattle.tap_wire.specs.declared.frame.Body.{Body}
+use Rattle.tap_wire.specs.declared.frame.Body.TheVariants.{Ack, Done, Heard, Hello, Link, Release, Seek, Tell}
+use Rattle.tap_wire.specs.declared.frame.Frame.{Frame}
+use Rattle.tap_wire.specs.declared.frame.TellFields.{TellFields}
+use Rattle.tap_rule.specs.Act.{act}
+use Rattle.tap_rule.specs.Ceasing.{ceases}
+use Rattle.tap_rule.specs.Covering.{first_request, pins_and_covers, request_of, seeks_as}
+use Rattle.tap_rule.specs.Event.{Acted}
+use Rattle.tap_rule.specs.Event.Event.{Starts}
+use Rattle.tap_rule.specs.Event.Start.{Join}
+use Rattle.tap_rule.specs.FrameRules.{frame_at_core, frame_at_joining, rule_of_frame}
+use Rattle.tap_rule.specs.Joining.{becomes_core, meets}
+use Rattle.tap_rule.specs.Kept.{IsNode}
+use Rattle.tap_rule.specs.Laws.{IsCarriedOut, IsIgnored, frame_to}
+use Rattle.tap_rule.specs.Node.{NodeState, Status, joiner, name_of}
+use Rattle.tap_rule.specs.Node.Status.{Ceased, Core, Gone, Joining, Leaving}
+use Rattle.tap_rule.specs.Reaction.{Message, Reaction, message}
+use Rattle.tap_rule.specs.Sending.{message_frame}
+use Rattle.tap_rule.proofs.CarriedOut.{frame_law, unruled_law}
+use Rattle.tap_safety.specs.Move.{MayJoin}
+use Rattle.tap_safety.specs.Move.Move.{Begins, Delivers}
+use Rattle.tap_safety.specs.Moved.{moved}
+use Rattle.tap_safety.specs.System.{System, AmongFrames}
+use Rattle.tap_moves.specs.ByRule.{taken_at}
+use Rattle.tap_moves.specs.InvariantLaws.{IsDelivery}
+use Rattle.tap_moves.proofs.Got.{same_name}
+use Rattle.tap_safety_moves.specs.Sound.{Sound}
+use Rattle.tap_safety_moves.proofs.Delivered.{is_delivery}
+use Rattle.tap_bounds.specs.Traffic.{Traffic, traffic_after}
+use Rattle.tap_bounds.proofs.Counting.{CountsMessages, count-append, count-cons, count-map_none, counted}
+use Rattle.tap_join_bounds.specs.LinkBounds.{is_link_on, is_release, links_on, releases_pin}
+use Rattle.tap_join_bounds.specs.OfJoins.{IsJoinBody}
+use Rattle.tap_join_bounds.proofs.Alone.{IsJoinStep, IsPlainNode, IsUnreleasing, JoinsOrIsCore, MayRelease, rule_joins}
+use Rattle.tap_join_bounds.proofs.Kept.{AreOfJoins, of_frame}
+use Rattle.tap_join_bounds.proofs.Links.{IsPinning, covers_pins, meets_pins}
+use Rattle.tap_join_bounds.proofs.Made.{IsMade, delivery_made, join_made}
+use Rattle.tap_join_bounds.proofs.OfJoins.{begins, begins_so}
+use Rattle.tap_join_bounds.proofs.Releases.{ReleasesStep, answers_owed, hears_owed, owed, owed_by, pays_owed, stays_owed}
+use Rattle.tap_join_bounds.proofs.Words.{apart_test, same_test}
+
+-- ---- what a rule sends
+
+-- one for a Link that says that there is a link
+abbrev said : List ℕ → Body → List ℕ → ℕ
+said from body x = cond (links_on body && pointwise nat_eq from x) 1 0
+
+module _ (node : NodeState) (is : IsNode node) (plain : IsPlainNode node) (from : List ℕ) where
+  -- status and holders stay, at a frame at which no Release is sent; or as few Releases are sent as are owed
+  abbrev Owes : Body → Reaction → Type 0
+  Owes body r =
+      ((r.state.status ≡ node.status) × (r.state.ties.holders ≡ node.ties.holders) × (MayRelease body → ⊥))
+      ⊎ ReleasesStep node (said from body) r
+
+  pinning : (body : Body) (b : List ℕ) (r : Reaction) → IsPinning node b r → (MayRelease body → ⊥) → Owes body r
+  pinning body b r pins never = inl (pins.status, ap (λ (ties : TiesValue). ties.holders) pins.ties, never)
+
+  seek_owes : (b : List ℕ) (found : Sought) → Owes (Seek b) (seeks_as node b found)
+  seek_owes b (Forward next) = inl (refl, refl, λ no. no)
+  seek_owes b (Surrogate prefix) =
+      pinning (Seek b) b (pins_and_covers node (first_request node b prefix)) (covers_pins node (first_request node b prefix)) (λ no. no)
+
+  done_owes : (given_up : Bool) → node.abandoned ≡ given_up → node.status ≡ Joining
+      → Owes Done (if given_up then ceases node else becomes_core node)
+  done_owes true was at = let wrong : false ≡ true = sym plain.goes_on ∙ was in absurd (cc)
+  done_owes false was at = inr (pays_owed node (said from Done) is at)
+
+  at_joining : node.status ≡ Joining → (body : Body) → IsJoinBody body → IfSome (frame_at_joining node from body) (Owes body)
+  unfolding frame_at_joining
+  at_joining at (Seek b) of = tt
+  at_joining at (Tell b prefix level session depth watch) of =
+      let tell : TellFields = record { joiner = b; prefix = prefix; level = level; session = session; depth = depth } in
+      pinning (Tell b prefix level session depth watch) b (meets node from tell) (meets_pins node from tell) (λ no. no)
+  at_joining at (Hello session core links) of = inl (refl, holders_stay (hello_names from core links) node.ties, λ no. no)
+  at_joining at (Heard session) of = inl (refl, refl, λ no. no)
+  at_joining at (Ack session) of = inl (refl, refl, λ no. no)
+  at_joining at Done of = done_owes node.abandoned refl at
+  at_joining at Release of = inl (refl, refl, λ no. no)
+  at_joining at (Link version on) of = inr (hears_owed node from version on at)
+  at_joining at _ of = absurd of
+
+  at_core : node.status ≡ Core → (body : Body) → IsJoinBody body → IfSome (frame_at_core node from body) (Owes body)
+  unfolding frame_at_core
+  at_core at (Seek b) of = seek_owes b (sought node.ties.table b)
+  at_core at (Tell b prefix level session depth watch) of =
+      let tell : TellFields = record { joiner = b; prefix = prefix; level = level; session = session; depth = depth } in
+      pinning (Tell b prefix level session depth watch) b (pins_and_covers node (request_of from tell watch))
+      (covers_pins node (request_of from tell watch)) (λ no. no)
+  at_core at (Hello session core links) of = tt
+  at_core at (Heard session) of = inl (refl, refl, λ no. no)
+  at_core at (Ack session) of = inl (refl, refl, λ no. no)
+  at_core at Done of = tt
+  at_core at Release of = inl (refl, refl, λ no. no)
+  at_core at (Link version on) of = inr (answers_owed node from version on at)
+  at_core at _ of = absurd of
+
+  by_status : (status : Status) → node.status ≡ status → (body : Body) → IsJoinBody body
+      → IfSome (rule_of_frame status node from body) (Owes body)
+  by_status Joining at body of = at_joining at body of
+  by_status Core at body of = at_core at body of
+  by_status Leaving at body of = absurd (subst JoinsOrIsCore at plain.status)
+  by_status Gone at body of = tt
+  by_status Ceased at body of = absurd (subst JoinsOrIsCore at plain.status)
+
+  pays : (body : Body) (r : Reaction) → IsJoinStep node body r → Owes body r → ReleasesStep node (said from body) r
+  pays body r step (inr sends) = sends
+  pays body r step (inl stays) =
+      elim step.unreleasing [
+        | inl all ↦ stays_owed node (said from body) r all stays.0 stays.1
+        | inr may ↦ absurd (stays.2 may)
+      ]
+
+-- ---- what a node sends
+
+-- Of a step: what it sends of Releases, with what it owes afterwards, is at most what it owed before, and these more; and nobody sends in
+-- another's name.
+record ActsOnReleases (node : NodeState) (acted : Acted) (more : List ℕ → ℕ) : Type 0 where
+  each : (x : List ℕ) → count_by (is_release (name_of node) x) acted.sent + owed acted.state x ≤ owed node x + more x
+  others : (t x : List ℕ) → t ≢ name_of node → count_by (is_release t x) acted.sent ≡ 0
+
+release_tests : (t x : List ℕ) → CountsMessages (is_release t x)
+release_tests t x = record { links = λ own word. refl; lays = λ own l. refl }
+
+-- what a node sends isn't from another name
+release_from : (own t x : List ℕ) → t ≢ own → (m : Message) → is_release t x (message_frame own m) ≡ false
+release_from own t x other m =
+    let apart = apart_test own t (λ same. other (sym same)) in rw apart (and-false (releases_pin m.body))
+
+carried_releases : (node : NodeState) (r : Reaction) (acted : Acted) (more : List ℕ → ℕ) → IsCarriedOut node r acted
+    → ReleasesStep node more r → ActsOnReleases node acted more
+carried_releases node r acted more carried step = record {
+  each = λ x.
+      let all = counted (is_release (name_of node) x) (release_tests (name_of node) x) node r acted carried in
+      let same : owed acted.state x ≡ owed r.state x =
+      ap (λ st. owed_by st acted.state.ties x) carried.status ∙ ap (λ ties. owed_by r.state.status ties x) carried.ties in
+      let few = step.each x in
+      omega (arith, all, same, few);
+  others = λ t x other.
+      counted (is_release t x) (release_tests t x) node r acted carried
+      ∙ count-map_none (is_release t x) (message_frame (name_of node)) (release_from (name_of node) t x other) r.messages;
+}
+
+ignored_releases : (node : NodeState) (acted : Acted) (more : List ℕ → ℕ) → IsIgnored node acted → ActsOnReleases node acted more
+ignored_releases node acted more ignored = record {
+  each = λ x.
+      let none = ap (count_by (is_release (name_of node) x)) ignored.sent in
+      let same = ap (λ (n : NodeState). owed n x) ignored.state in
+      omega (arith, none, same);
+  others = λ t x other. ap (count_by (is_release t x)) ignored.sent;
+}
+
+frame_releases : (p : SettingsValue) (s : System) (number : ℕ) (node : NodeState) (from : List ℕ) (body : Body)
+    → IsDelivery p s number node from body → IsPlainNode node → IsJoinBody body
+    → ActsOnReleases node (taken_at node from body) (said from body)
+frame_releases p s number node from body is plain of =
+    let is_node = (is.nodes.nodes (name_of node) node is.at).is_node in
+    by is_node (rule_of_frame node.status node from body) refl (rule_joins node plain from body of)
+    (by_status node is_node plain from node.status refl body of)
+  where
+    by : (is_node : IsNode node) (rule : Option Reaction) → rule_of_frame node.status node from body ≡ rule
+        → IfSome rule (IsJoinStep node body) → IfSome rule (Owes node is_node plain from body)
+        → ActsOnReleases node (taken_at node from body) (said from body)
+    by is_node None none step owes =
+        ignored_releases node (taken_at node from body) (said from body) (unruled_law node (frame_to node from body) none)
+    by is_node (Some r) some step owes =
+        carried_releases node r (taken_at node from body) (said from body)
+        (frame_law node (frame_to node from body) r is.known some) (pays node is_node plain from body r step owes)
+
+-- ---- a system
+
+abbrev pub owed_in : Option NodeState → List ℕ → ℕ
+owed_in None x = 0
+owed_in (Some node) x = owed node x
+
+-- a name has sent another at most as many Releases, with what it owes it, as it has taken Links with on 1 from it
+pub record ReleasesAreFew (s : System) (r : Traffic) : Type 0 where
+  pub each : (t x : List ℕ) → count_by (is_release t x) r.sent + owed_in (s.node t) x ≤ count_by (is_link_on x t) r.taken
+
+module _ (s s' : System) (r r' : Traffic) (node : NodeState) (acted : Acted) (frames : List Frame)
+    (made : IsMade s s' r r' (name_of node) acted frames) (was : (x : List ℕ) → owed_in (s.node (name_of node)) x ≡ owed node x)
+    (acts : ActsOnReleases node acted (λ x. count_by (is_link_on x (name_of node)) frames)) (few : ReleasesAreFew s r) where
+  abbrev self : List ℕ
+  self = name_of node
+
+  total : (test : Frame → Bool) → count_by test r'.sent ≡ count_by test r.sent + count_by test acted.sent
+  total test = ap (count_by test) made.sent ∙ count-append test r.sent acted.sent
+
+  taken : (test : Frame → Bool) → count_by test r'.taken ≡ count_by test r.taken + count_by test frames
+  taken test = ap (count_by test) made.taken ∙ count-append test r.taken frames
+
+  own_kept : (x : List ℕ) → count_by (is_release self x) r'.sent + owed_in (s'.node self) x ≤ count_by (is_link_on x self) r'.taken
+  own_kept x =
+      let sum = total (is_release self x) in
+      let links = taken (is_link_on x self) in
+      let old = few.each self x in
+      let before = was x in
+      let now = ap (λ n. owed_in n x) made.at in
+      let step = acts.each x in
+      omega (arith, sum, links, old, before, now, step)
+
+  other_kept : (t x : List ℕ) → t ≢ self → s'.node t ≡ s.node t
+      → count_by (is_release t x) r'.sent + owed_in (s'.node t) x ≤ count_by (is_link_on x t) r'.taken
+  other_kept t x other stays =
+      let sum = total (is_release t x) in
+      let none = acts.others t x other in
+      let links = taken (is_link_on x t) in
+      let old = few.each t x in
+      let same = ap (λ n. owed_in n x) stays in
+      omega (arith, sum, none, links, old, same)
+
+  releases_kept : ReleasesAreFew s' r'
+  releases_kept = record {
+    each = λ t x. elim (same_name t self) [
+      | inl same ↦
+          subst (λ y. count_by (is_release y x) r'.sent + owed_in (s'.node y) x ≤ count_by (is_link_on x y) r'.taken) (sym same)
+          (own_kept x)
+      | inr other ↦
+          other_kept t x other (elim (made.others t) [ inl same ↦ absurd (other same) | inr stays ↦ stays ])
+    ];
+  }
+
+-- ---- moves
+
+-- the frame says as much as is counted of it
+says_one : (node : NodeState) (from : List ℕ) (body : Body) (x : List ℕ)
+    → count_by (is_link_on x (name_of node)) (frame_to node from body ∷ []) ≡ said from body x
+says_one node from body x =
+    let own = same_test (name_of node) in
+    let all = count-cons (is_link_on x (name_of node)) (frame_to node from body) [] in
+    let here : cond {A = ℕ} (is_link_on x (name_of node) (frame_to node from body)) 1 0 ≡ said from body x =
+    and_true (links_on body) (pointwise nat_eq from x) own in
+    omega (arith, all, here)
+  where
+    and_true : (c d : Bool) {e : Bool} → e ≡ true → cond {A = ℕ} (c && (d && e)) 1 0 ≡ cond {A = ℕ} (c && d) 1 0
+    and_true true true is = rw is refl
+    and_true true false is = refl
+    and_true false d is = refl
+
+module _ (p : SettingsValue) (members : List (List ℕ)) (s : System) (r : Traffic) (sound : Sound p s) (are : AreOfJoins members s r)
+    (few : ReleasesAreFew s r) where
+  pub delivery_releases : (number : ℕ) (frame : Frame) (node : NodeState) → AmongFrames number frame s.frames
+      → s.node frame.to ≡ Some node → ReleasesAreFew (moved p s (Delivers number)) (traffic_after p s r (Delivers number))
+  delivery_releases number frame node among at =
+      let is = is_delivery p s number frame node sound among at in
+      let of = of_frame frame.body (are.ways number frame among) in
+      let acts = frame_releases p s number node frame.from frame.body is (are.nodes frame.to node at) of in
+      let here = is.at in
+      releases_kept s (moved p s (Delivers number)) r (traffic_after p s r (Delivers number)) node (taken_at node frame.from frame.body)
+      (frame_to node frame.from frame.body ∷ []) (delivery_made p s r number node frame.from frame.body is)
+      (λ x. ap (λ n. owed_in n x) here)
+      (record {
+        each = λ x.
+            let one = acts.each x in
+            let same = says_one node frame.from frame.body x in
+            omega (arith, one, same);
+        others = acts.others;
+      }) few
+
+  pub join_releases : (x via : List ℕ) → MayJoin p s x via
+      → ReleasesAreFew (moved p s (Begins x (Join via))) (traffic_after p s r (Begins x (Join via)))
+  join_releases x via may =
+      let none = may.fresh in
+      let acted = act (joiner p x) (Starts (Join via)) in
+      releases_kept s (moved p s (Begins x (Join via))) r (traffic_after p s r (Begins x (Join via))) (joiner p x) acted []
+      (join_made p s r x via) (λ y. ap (λ n. owed_in n y) none)
+      (carried_releases (joiner p x) (begins p x via) acted (λ y. 0) (begins_so p x via)
+      (stays_owed (joiner p x) (λ y. 0) (begins p x via)
+      (All-cons (λ m. IsUnreleasing m.body) (message via (Seek x)) [] tt (All-nil (λ m. IsUnreleasing m.body))) refl refl)) few

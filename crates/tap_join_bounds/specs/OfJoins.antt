@@ -1,0 +1,73 @@
+-- Runs in which nothing but joins is started, and what is sent in them.
+use Rattle.std.specs.Prelude.{◌≡◌, ℕ, false, List, [], ◌∷◌, Option, None, Some}
+use Rattle.tap_name.specs.Names.{has_name}
+use Rattle.tap_name.specs.Settings.{SettingsValue}
+use Rattle.tap_wire.specs.declared.frame.Body.{Body}
+use Rattle.tap_wire.specs.declared.frame.Body.TheVariants.{Ack, Done, Heard, Hello, Link, Release, Seek, Tell}
+use Rattle.tap_wire.specs.declared.frame.Frame.{Frame}
+use Rattle.tap_rule.specs.Event.{Start}
+use Rattle.tap_rule.specs.Event.Start.{Join}
+use Rattle.tap_rule.specs.Sent.{IsAmong}
+use Rattle.tap_safety.specs.AtRest.{AreMembers, system_at_rest}
+use Rattle.tap_safety.specs.Move.{Move}
+use Rattle.tap_safety.specs.Move.Move.{Begins, Delivers}
+use Rattle.tap_safety.specs.Seeking.{HasNode}
+use Rattle.tap_safety.specs.System.{System}
+use Rattle.tap_safety_moves.specs.Moves.{after_moves, may_run}
+use Rattle.tap_bounds.specs.Moves.{traffic_of}
+use Rattle.tap_bounds.specs.Traffic.{Traffic, no_traffic}
+
+-- ---- runs
+
+abbrev pub IsJoin : Start → Type 0
+IsJoin (Join via) = Unit {0}
+IsJoin other = ⊥
+
+-- the move starts nothing but a join
+abbrev pub IsOfJoin : Move → Type 0
+IsOfJoin (Begins x start) = IsJoin start
+IsOfJoin (Delivers number) = Unit {0}
+
+-- nothing but joins is started, and whichever frames are delivered
+abbrev pub JoinsAlone : List Move → Type 0
+JoinsAlone [] = Unit {0}
+JoinsAlone (move ∷ moves) = IsOfJoin move × JoinsAlone moves
+
+-- ---- frames
+
+-- the kinds of frames that joins bring
+abbrev pub IsJoinBody : Body → Type 0
+IsJoinBody (Seek joiner) = Unit {0}
+IsJoinBody (Tell joiner prefix level session depth watch) = Unit {0}
+IsJoinBody (Hello session core links) = Unit {0}
+IsJoinBody (Heard session) = Unit {0}
+IsJoinBody (Ack session) = Unit {0}
+IsJoinBody Done = Unit {0}
+IsJoinBody Release = Unit {0}
+IsJoinBody (Link version on) = Unit {0}
+IsJoinBody other = ⊥
+
+abbrev pub joiner_named : Body → List ℕ → List ℕ → Option (List ℕ)
+joiner_named (Seek joiner) from to = Some joiner
+joiner_named (Tell joiner prefix level session depth watch) from to = Some joiner
+joiner_named (Hello session core links) from to = Some to
+joiner_named (Heard session) from to = Some from
+joiner_named Done from to = Some to
+joiner_named other from to = None
+
+-- whose join a frame is of, if it says so: the joiner of a Seek and of a Tell, the receiver of a Hello and of a Done, and the sender of a
+-- Heard
+abbrev pub joiner_said : Frame → Option (List ℕ)
+joiner_said f = joiner_named f.body f.from f.to
+
+-- Each frame that was sent is of such a kind, its joiner is no member, and its sender and its receiver are nodes.
+pub record SentAreOfJoins (members : List (List ℕ)) (s : System) (r : Traffic) : Type 0 where
+  pub kinds : (f : Frame) → IsAmong f r.sent → IsJoinBody f.body
+  pub joiners : (f : Frame) (b : List ℕ) → IsAmong f r.sent → joiner_said f ≡ Some b → has_name members b ≡ false
+  pub ends : (f : Frame) → IsAmong f r.sent → HasNode s f.from × HasNode s f.to
+
+-- So it is at each moment of each run from members at rest in which nothing but joins is started.
+abbrev pub RunSentAreOfJoins : Type 0
+RunSentAreOfJoins = (p : SettingsValue) (members : List (List ℕ)) (moves : List Move) → AreMembers p members
+    → may_run p (system_at_rest p members) moves → JoinsAlone moves
+    → SentAreOfJoins members (after_moves p (system_at_rest p members) moves) (traffic_of p (system_at_rest p members) no_traffic moves)

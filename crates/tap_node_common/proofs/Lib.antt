@@ -1,0 +1,17 @@
+pub mod Stable
+pub mod ByReceiver
+pub mod Steps
+pub mod Spellings
+pub mod OfRule
+pub mod Sending
+pub mod Pairs
+pub mod Lays
+pub mod Parents
+pub mod ReactionSteps
+pub mod Sound
+pub mod Finds
+pub mod Quiet
+pub mod Followed
+pub mod Ending
+pub mod Rows
+pub mod Counting

@@ -1,5 +1,0 @@
-use Rattle.tap_pointer_course.proofs.Runs.{known_at}
-use Rattle.tap_pointer_course.proofs.law.known_pairs_law.Goals as goal
-
-pub returns : goal.returns
-returns c = known_at

@@ -1,5 +1,0 @@
-use Rattle.tap_pointer_course.proofs.Runs.{on_paths_at}
-use Rattle.tap_pointer_course.proofs.law.run_paths_law.Goals as goal
-
-pub returns : goal.returns
-returns c = on_paths_at

@@ -1,5 +1,0 @@
-pub mod Rules
-pub mod Acts
-pub mod Moves
-pub mod Records
-pub mod Courses

@@ -1,5 +1,0 @@
-use Rattle.tap_records.proofs.TurnRecords.{turns_are_told}
-use Rattle.tap_records.proofs.law.turn_law.Goals as goal
-
-pub returns : goal.returns
-returns c = turns_are_told

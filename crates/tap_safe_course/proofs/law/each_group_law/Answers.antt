@@ -1,5 +1,0 @@
-use Rattle.tap_safe_course.proofs.Each.{groups_are_right}
-use Rattle.tap_safe_course.proofs.law.each_group_law.Goals as goal
-
-pub returns : goal.returns
-returns c = groups_are_right

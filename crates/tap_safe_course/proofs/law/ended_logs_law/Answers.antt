@@ -1,5 +1,0 @@
-use Rattle.tap_safe_course.proofs.Headline.{ended_logs_are_safe}
-use Rattle.tap_safe_course.proofs.law.ended_logs_law.Goals as goal
-
-pub returns : goal.returns
-returns c = ended_logs_are_safe

@@ -1,5 +1,0 @@
-use Rattle.tap_safe_course.proofs.Possible.{group_may_move}
-use Rattle.tap_safe_course.proofs.law.group_moves_law.Goals as goal
-
-pub returns : goal.returns
-returns c = group_may_move

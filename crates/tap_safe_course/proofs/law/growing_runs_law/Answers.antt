@@ -1,5 +1,0 @@
-use Rattle.tap_safe_course.proofs.Safe.{runs_grow}
-use Rattle.tap_safe_course.proofs.law.growing_runs_law.Goals as goal
-
-pub returns : goal.returns
-returns c = runs_grow

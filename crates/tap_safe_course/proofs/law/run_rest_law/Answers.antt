@@ -1,5 +1,0 @@
-use Rattle.tap_safe_course.proofs.Moments.{all_core_at}
-use Rattle.tap_safe_course.proofs.law.run_rest_law.Goals as goal
-
-pub returns : goal.returns
-returns c = all_core_at

@@ -1,5 +1,0 @@
-use Rattle.tap_safe_course.proofs.Moments.{walks_end_at}
-use Rattle.tap_safe_course.proofs.law.run_walks_law.Goals as goal
-
-pub returns : goal.returns
-returns c = walks_end_at

@@ -1,5 +1,0 @@
-use Rattle.tap_safe_course.proofs.Taken.{frames_are_received}
-use Rattle.tap_safe_course.proofs.law.taken_law.Goals as goal
-
-pub returns : goal.returns
-returns c = frames_are_received

@@ -1,0 +1,5 @@
+use Rattle.tap_safe_runs.proofs.Taken.{frames_are_received}
+use Rattle.tap_safe_runs.proofs.law.taken_law.Goals as goal
+
+pub returns : goal.returns
+returns c = frames_are_received

@@ -1,0 +1,15 @@
+pub mod ShallowRules
+pub mod Shallow
+pub mod Members
+pub mod Lost
+pub mod LostWords
+pub mod Together
+pub mod Ignored
+pub mod Moves
+pub mod Consequences
+pub mod Delivered
+pub mod Walks
+pub mod Takers
+pub mod Named
+pub mod NotStrange
+pub mod Arrivals

@@ -1,0 +1,5 @@
+use Rattle.tap_safety_moves.proofs.Moves.{basis_keeps}
+use Rattle.tap_safety_moves.proofs.law.basis_law.Goals as goal
+
+pub returns : goal.returns
+returns c = basis_keeps

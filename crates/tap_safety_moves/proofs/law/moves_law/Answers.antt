@@ -1,0 +1,5 @@
+use Rattle.tap_safety_moves.proofs.Moves.{move_keeps}
+use Rattle.tap_safety_moves.proofs.law.moves_law.Goals as goal
+
+pub returns : goal.returns
+returns c = move_keeps

@@ -1,0 +1,5 @@
+use Rattle.tap_safety_moves.proofs.Moves.{run_is_sound}
+use Rattle.tap_safety_moves.proofs.law.runs_law.Goals as goal
+
+pub returns : goal.returns
+returns c = run_is_sound

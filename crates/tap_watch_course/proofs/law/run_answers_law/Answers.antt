@@ -1,5 +1,0 @@
-use Rattle.tap_watch_course.proofs.Moves.{run_watches}
-use Rattle.tap_watch_course.proofs.law.run_answers_law.Goals as goal
-
-pub returns : goal.returns
-returns c = run_watches

@@ -1,0 +1,17 @@
+pub mod Aside
+pub mod Spread
+pub mod Asks
+pub mod Grown
+pub mod Moves
+pub mod Chains
+pub mod Runs
+pub mod Full
+pub mod Joining
+pub mod Follow
+pub mod HeldSteps
+pub mod HeldMoves
+pub mod HeldAnew
+pub mod Becomes
+pub mod Told
+pub mod Clause
+pub mod HandedOn

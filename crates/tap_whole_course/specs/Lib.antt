@@ -1,3 +1,0 @@
-pub mod Endings
-pub mod Headline
-pub mod Sound
