@@ -1,219 +1,57 @@
-//! Times single calls: `tap_bench CALL COUNT`, as in `tap_bench decode-hello 100000`. It prints the nanoseconds of a call,
-//! and of a call on frames how many bytes a second it goes through.
+//! Times single calls: `tap_bench CALL COUNT` for a call on a frame or a table, as in `tap_bench decode-hello 100000`, and for a step of a
+//! node, from the bytes of a frame to the bytes of those that are sent, as in `tap_bench release 10000`; `tap_bench CALL SIZE COUNT` for a
+//! call of a part of a node, as in `tap_bench cover 40 1000`. It prints the nanoseconds of a call.
 //!
-//! Without words it makes each call once and prints what it went through, so that the output is always the same.
+//! Without words it makes each call a few times and prints what that gave, so that the output is always the same.
 #![tactic(auto)]
 
-mod frames;
+mod covers;
+mod full_tables;
+mod hellos;
+mod joins;
+mod lists;
 mod members;
-mod tables;
+mod names;
+mod node_calls;
+mod node_frames;
+mod pairs;
+mod part_calls;
+mod part_tables;
+mod scene_calls;
+mod scenes;
+mod steps;
+mod value_calls;
+mod value_frames;
 
-use anyhow::{Context, Result, anyhow, bail};
-use frames::{hello, release, settings};
-use members::{holders_at_rest, members};
-use std::rt::Clock;
-use std::time::Instant;
-use tables::{bytes_of_table, full, lens, next_hops, object, primaries};
-use tap_name::Settings;
-use tap_wire::{decode, encode};
+use anyhow::{Context, Result, bail};
 
-// A call on a frame.
-#[derive(Clone, Copy, Debug, PartialEq, Eq)]
-enum FrameCall {
-    DecodeHello,
-    DecodeRelease,
-    EncodeHello,
-    EncodeRelease,
+// Makes each call a few times.
+fn make_each(rt: &HostRuntime) -> Result<()> {
+    value_calls::make_each(rt)?;
+    part_calls::make_each(rt)?;
+    node_calls::make_each(rt)
 }
 
-// A call on a table.
-#[derive(Clone, Copy, Debug, PartialEq, Eq)]
-enum TableCall {
-    Len,
-    NextHop,
-    Primary,
-}
-
-const FRAME_CALLS: [(&str, FrameCall); 4] = [
-    ("decode-hello", FrameCall::DecodeHello),
-    ("decode-release", FrameCall::DecodeRelease),
-    ("encode-hello", FrameCall::EncodeHello),
-    ("encode-release", FrameCall::EncodeRelease),
-];
-
-impl TableCall {
-    // What the calls find, all together.
-    fn finds(self) -> &'static str {
-        match self {
-            TableCall::Len => "links",
-            TableCall::NextHop => "next hops",
-            TableCall::Primary => "primaries",
-        }
-    }
-}
-
-const TABLE_CALLS: [(&str, TableCall); 3] = [
-    ("len", TableCall::Len),
-    ("next-hop", TableCall::NextHop),
-    ("primary", TableCall::Primary),
-];
-
-// The call that makes the ties of each member at rest.
-const AT_REST: &str = "at-rest";
-
-// The bytes of the frame that a call reads or writes.
-fn bytes_of(rt: &impl AllocGlobal, call: FrameCall) -> Result<Vec<u8>> {
-    match call {
-        FrameCall::DecodeHello | FrameCall::EncodeHello => Ok(hello(rt.alloc())?),
-        FrameCall::DecodeRelease | FrameCall::EncodeRelease => Ok(release(rt.alloc())?),
-    }
-}
-
-// Reads the same bytes again and again, and says how many bytes that were.
-fn decode_all(rt: &impl AllocGlobal, settings: &Settings, bytes: &[u8], count: u32) -> Result<u64> {
-    let mut through = 0u64;
-    for _ in 0..count {
-        decode(rt.alloc(), settings, bytes).map_err(|_| anyhow!("a refused frame"))?;
-        through = through.saturating_add(bytes.len() as u64);
-    }
-    Ok(through)
-}
-
-// Writes the same frame again and again, and says how many bytes that were.
-fn encode_all(rt: &impl AllocGlobal, settings: &Settings, bytes: &[u8], count: u32) -> Result<u64> {
-    let frame = decode(rt.alloc(), settings, bytes).map_err(|_| anyhow!("a refused frame"))?;
-    let mut through = 0u64;
-    for _ in 0..count {
-        let written = encode(rt.alloc(), settings, &frame).map_err(|_| anyhow!("no memory"))?;
-        through = through.saturating_add(written.as_slice().len() as u64);
-    }
-    Ok(through)
-}
-
-// Makes a call so many times, and says how many bytes went through it.
-fn repeat(rt: &impl AllocGlobal, call: FrameCall, bytes: &[u8], count: u32) -> Result<u64> {
-    let settings = settings().context("the settings")?;
-    match call {
-        FrameCall::DecodeHello | FrameCall::DecodeRelease => decode_all(
-            rt, &settings, bytes, count,
-        ),
-        FrameCall::EncodeHello | FrameCall::EncodeRelease => encode_all(
-            rt, &settings, bytes, count,
-        ),
-    }
-}
-
-// Makes a call on a full table so many times, and says how many links, next hops or primaries it found in all.
-fn look_up(rt: &impl AllocGlobal, call: TableCall, count: u32) -> Result<u64> {
-    let table = full(rt.alloc())?;
-    match call {
-        TableCall::Len => Ok(lens(&table, count)),
-        TableCall::NextHop => Ok(next_hops(&table, &object()?, count)),
-        TableCall::Primary => Ok(primaries(&table, count)),
-    }
-}
-
-// Times a call on a frame.
-fn time_frame(
-    rt: &(impl AllocGlobal + Print + Clock),
-    name: &str,
-    call: FrameCall,
-    count: u32,
-) -> Result<()> {
-    let bytes = bytes_of(rt, call)?;
-    let start = Instant::now(rt)?;
-    let through = repeat(rt, call, bytes.as_slice(), count)?;
-    let nanoseconds = start.elapsed(rt)?.as_nanos().max(1);
-    let each = nanoseconds / u128::from(count.max(1));
-    let rate = u128::from(through).saturating_mul(1000) / nanoseconds;
-    println!(rt; "{name}: {each} ns a call, {rate} MB a second")?;
-    Ok(())
-}
-
-// Times a call on a table.
-fn time_table(
-    rt: &(impl AllocGlobal + Print + Clock),
-    name: &str,
-    call: TableCall,
-    count: u32,
-) -> Result<()> {
-    let start = Instant::now(rt)?;
-    let found = look_up(rt, call, count)?;
-    let picoseconds = start.elapsed(rt)?.as_nanos().saturating_mul(1000);
-    let each = picoseconds / u128::from(count.max(1));
-    let finds = call.finds();
-    println!(rt; "{name}: {each} ps a call, {count} calls found {found} {finds}")?;
-    Ok(())
-}
-
-// Times the making of the ties of all members at rest.
-fn time_at_rest(rt: &(impl AllocGlobal + Print + Clock), count: u32) -> Result<()> {
-    let members = members(rt.alloc())?;
-    let mut holders = 0usize;
-    let start = Instant::now(rt)?;
-    for _turn in 0..count {
-        holders = holders_at_rest(rt.alloc(), &members)?;
-    }
-    let each = start.elapsed(rt)?.as_nanos() / u128::from(count.max(1));
-    println!(rt;
-        "{AT_REST}: {each} ns a call, {} members have {holders} holders",
-        members.len()
-    )?;
-    Ok(())
-}
-
-// Makes each call once.
-fn call_each(rt: &(impl AllocGlobal + Print)) -> Result<()> {
-    for (name, call) in FRAME_CALLS {
-        let bytes = bytes_of(rt, call)?;
-        let through = repeat(rt, call, bytes.as_slice(), 1)?;
-        println!(rt; "{name}: {through} bytes")?;
-    }
-    call_each_on_a_table(rt)?;
-    let members = members(rt.alloc())?;
-    let holders = holders_at_rest(rt.alloc(), &members)?;
-    println!(rt;
-        "{AT_REST}: {} members have {holders} holders",
-        members.len()
-    )?;
-    Ok(())
-}
-
-// Makes each call on a table so many times that all slots are asked.
-fn call_each_on_a_table(rt: &(impl AllocGlobal + Print)) -> Result<()> {
-    for (name, call) in TABLE_CALLS {
-        let found = look_up(rt, call, 128)?;
-        let finds = call.finds();
-        println!(rt; "{name}: 128 calls found {found} {finds}")?;
-    }
-    println!(rt; "the link sets of a table: {} bytes", bytes_of_table())?;
-    Ok(())
-}
-
-// Times the call of this name.
-fn time(rt: &(impl AllocGlobal + Print + Clock), wanted: &str, count: u32) -> Result<()> {
-    for (name, call) in FRAME_CALLS {
-        if name == wanted {
-            return time_frame(rt, name, call, count);
-        }
-    }
-    for (name, call) in TABLE_CALLS {
-        if name == wanted {
-            return time_table(rt, name, call, count);
-        }
-    }
-    if wanted == AT_REST {
-        return time_at_rest(rt, count);
-    }
-    bail!("no such call: without words all calls are printed")
+// The number that a word spells.
+fn number(word: &str) -> Result<u32> {
+    word.parse::<u32>()
+        .context("how many times, and which size?")
 }
 
 fn main(rt: HostRuntime) -> Result<()> {
     let mut words = std::env::args(&rt)?.skip(1);
     let Some(wanted) = words.next() else {
-        return call_each(&rt);
+        return make_each(&rt);
     };
-    let count = words.next().context("how many times?")?;
-    let count = count.as_str().parse::<u32>().context("how many times?")?;
-    time(&rt, wanted.as_str(), count)
+    let first = words.next().context("how many times?")?;
+    let first = number(first.as_str())?;
+    let known = match words.next() {
+        Some(count) => part_calls::time(&rt, wanted.as_str(), first, number(count.as_str())?)?,
+        None => value_calls::time(&rt, wanted.as_str(), first)?
+            || node_calls::time(&rt, wanted.as_str(), first as usize)?,
+    };
+    if !known {
+        bail!("no such call with as many numbers: without words all calls are printed");
+    }
+    Ok(())
 }

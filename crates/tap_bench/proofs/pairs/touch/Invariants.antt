@@ -1,0 +1,5 @@
+use Rattle.tap_bench.specs.Settled.{AreSettled}
+use Rattle.tap_bench.proofs.pairs.touch.Given as goal
+
+abbrev pub invariant-loop-turn : goal.invariant-loop-turn
+invariant-loop-turn l = AreSettled l.table l.pointers

@@ -1,5 +1,0 @@
-use Rattle.tap_bench_parts.specs.Settled.{AreSettled}
-use Rattle.tap_bench_parts.proofs.pairs.change.Given as goal
-
-abbrev pub invariant-loop-turn : goal.invariant-loop-turn
-invariant-loop-turn l = AreSettled l.table l.pointers
