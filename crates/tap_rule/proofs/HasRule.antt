@@ -5,6 +5,7 @@ use Rattle.std.specs.Option.{is_some}
 use Rattle.std.specs.Set.{is_member}
 use Rattle.std.proofs.lemmas.Map.Made.{is_member-Decides}
 use Rattle.tap_wire.specs.declared.frame.Body.{Body}
+use Rattle.tap_wire.specs.Kind.{kind_of}
 use Rattle.tap_wire.specs.declared.frame.Body.TheVariants.{Seek}
 use Rattle.tap_rule.specs.Node.{NodeState, Status}
 use Rattle.tap_rule.specs.Node.Status.{Joining, Core, Leaving, Gone, Ceased}
@@ -38,7 +39,7 @@ is_same-Decides _ _ = (λ same. absurd cc, λ is. absurd cc)
 
 -- whether there is a rule, by status and kind
 frame_ruled : (status : Status) (node : NodeState) (from : List ℕ) (body : Body)
-    → is_some (rule_of_frame status node from body) ≡ is_member is_same (taken_by body) status
+    → is_some (rule_of_frame status node from body) ≡ is_member is_same (taken_by (kind_of body)) status
 unfolding taken_by frame_at_joining frame_at_core frame_at_leaving frame_at_ceased
 frame_ruled Joining node from (Seek joiner) = refl
 frame_ruled Joining node from _ = refl
@@ -77,8 +78,8 @@ none_if_not_some (Some r) not_some = absurd (not_some (λ none. absurd cc))
 
 pub has_rule_law : HasRuleLaw
 has_rule_law node from body =
-    some_exactly (rule_of_frame node.status node from body) (is_member is_same (taken_by body) node.status)
-    (frame_ruled node.status node from body) (is_member-Decides is_same-Decides (taken_by body) node.status)
+    some_exactly (rule_of_frame node.status node from body) (is_member is_same (taken_by (kind_of body)) node.status)
+    (frame_ruled node.status node from body) (is_member-Decides is_same-Decides (taken_by (kind_of body)) node.status)
 
 pub has_start_rule_law : HasStartRuleLaw
 has_start_rule_law node start =

@@ -4,31 +4,33 @@
 use Rattle.std.specs.Prelude.{◌≡◌, List, [], ◌∷◌}
 use Rattle.std.specs.List.{Contains}
 use Rattle.tap_wire.specs.declared.frame.Body.{Body}
-use Rattle.tap_wire.specs.declared.frame.Body.TheVariants.{Seek, Tell, Hello, Heard, Ack, Done, Release, Link, Lay, Find, Answer, Leave, Left, Gone, Forget, Cast, CastAck}
+use Rattle.tap_wire.specs.declared.kind.Kind.{Kind}
+use Rattle.tap_wire.specs.declared.kind.Kind.TheVariants.{Seek, Tell, Hello, Heard, Ack, Done, Release, Link, Lay, Find, Answer, Leave, Left, Gone, Forget, Cast, CastAck}
+use Rattle.tap_wire.specs.Kind.{kind_of}
 use Rattle.tap_rule.specs.Node.{Status}
 use Rattle.tap_rule.specs.Node.Status.{Joining, Core, Leaving, Ceased}
 use Rattle.tap_rule.specs.Event.{Start}
 use Rattle.tap_rule.specs.Event.Start.{Join, Abandon, Publish, Withdraw, Find as FindStart, Leave as LeaveStart, Cast as CastStart}
 
 -- who takes a frame of each kind; a node that is gone takes none
-unfoldable pub taken_by : Body → List Status
-taken_by (Seek joiner) = Core ∷ []
-taken_by (Tell joiner prefix level session depth watch) = Joining ∷ Core ∷ Ceased ∷ []
-taken_by (Hello session core links) = Joining ∷ []
-taken_by (Heard session) = Joining ∷ Core ∷ Ceased ∷ []
-taken_by (Ack session) = Joining ∷ Core ∷ Ceased ∷ []
+unfoldable pub taken_by : Kind → List Status
+taken_by Seek = Core ∷ []
+taken_by Tell = Joining ∷ Core ∷ Ceased ∷ []
+taken_by Hello = Joining ∷ []
+taken_by Heard = Joining ∷ Core ∷ Ceased ∷ []
+taken_by Ack = Joining ∷ Core ∷ Ceased ∷ []
 taken_by Done = Joining ∷ []
 taken_by Release = Joining ∷ Core ∷ []
-taken_by (Link version on) = Joining ∷ Core ∷ Leaving ∷ Ceased ∷ []
-taken_by (Lay object server level version on) = Core ∷ Leaving ∷ []
-taken_by (Find ticket object asker level) = Core ∷ Leaving ∷ []
-taken_by (Answer ticket server) = Core ∷ Leaving ∷ []
-taken_by (Leave replacement) = Core ∷ []
+taken_by Link = Joining ∷ Core ∷ Leaving ∷ Ceased ∷ []
+taken_by Lay = Core ∷ Leaving ∷ []
+taken_by Find = Core ∷ Leaving ∷ []
+taken_by Answer = Core ∷ Leaving ∷ []
+taken_by Leave = Core ∷ []
 taken_by Left = Leaving ∷ []
 taken_by Gone = Core ∷ []
 taken_by Forget = Joining ∷ Core ∷ []
-taken_by (Cast cast level session depth word) = Joining ∷ Core ∷ Ceased ∷ []
-taken_by (CastAck session) = Core ∷ []
+taken_by Cast = Joining ∷ Core ∷ Ceased ∷ []
+taken_by CastAck = Core ∷ []
 
 -- who makes each start
 unfoldable pub made_by : Start → Status
@@ -42,7 +44,7 @@ made_by (CastStart cast level word) = Core
 
 -- at a node of this status there is a rule for such a frame, and for such a start
 abbrev pub HasRule : Status → Body → Type 0
-HasRule status body = Contains (taken_by body) status
+HasRule status body = Contains (taken_by (kind_of body)) status
 
 abbrev pub HasStartRule : Status → Start → Type 0
 HasStartRule status start = status ≡ made_by start

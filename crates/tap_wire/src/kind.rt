@@ -7,25 +7,44 @@ use crate::frame::Body;
 use crate::layout::{MOST_LETTERS, MOST_LINKS, SLOT_LEN, link_len, most_slots};
 use tap_name::Settings;
 
-// The kind of a frame.
-#[derive(Clone, Copy, Debug)]
-pub(crate) enum Kind {
+/// The kind of a frame, without what its body says.
+///
+/// Rule: docs/FORMATS.md, "Frames".
+#[derive(Clone, Copy, Debug, PartialEq, Eq)]
+pub enum Kind {
+    /// A joiner looks for its surrogate.
     Seek,
+    /// A joiner is made known.
     Tell,
+    /// A node greets a joiner.
     Hello,
+    /// A joiner has heard a Hello.
     Heard,
+    /// A Tell and all that followed from it is done.
     Ack,
+    /// A join is done.
     Done,
+    /// A pin on the sender may end.
     Release,
+    /// The sender has a link to the receiver, or has it no more.
     Link,
+    /// A pointer is laid or taken away.
     Lay,
+    /// A lookup.
     Find,
+    /// The answer of a lookup.
     Answer,
+    /// A node leaves.
     Leave,
+    /// A Leave is taken note of.
     Left,
+    /// A node has gone.
     Gone,
+    /// A joiner has given up, and a pin on it ends.
     Forget,
+    /// A word to all nodes of a prefix.
     Cast,
+    /// A Cast and all that followed from it is done.
     CastAck,
 }
 
@@ -61,8 +80,8 @@ impl Kind {
         Some(KINDS[code as usize - 1])
     }
 
-    // The kind of a body.
-    pub(crate) fn of(body: &Body) -> Kind
+    /// The kind of a body.
+    pub fn of(body: &Body) -> Kind
         ensures { result ≡ kind_of body.now }
     {
         match body {

@@ -21,6 +21,7 @@ pub use decoding::{decode, decode_head};
 pub use encoding::{encode, encode_tell};
 pub use fault::{HeadFault, WireFault};
 pub use frame::{Body, Frame, Head, TellFields};
+pub use kind::Kind;
 pub use laws::{head_reads_back, reads_back, spelled_so};
 pub use layout::{MOST_LETTERS, MOST_LINKS};
 pub use memory::NoMemory;
