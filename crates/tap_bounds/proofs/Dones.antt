@@ -182,7 +182,7 @@ module _ (p : SettingsValue) (s : System) (r : Traffic) (number : ℕ) (node : N
             let state : (taken_at node from body).state ≡ n = cc in (
               node,
               ap s.node same ∙ is.at,
-              frame_joins node frame is.known (ap (λ (m : NodeState). m.status) state ∙ joins),
+              frame_joins node frame (ap (λ (m : NodeState). m.status) state ∙ joins),
             )
         | inr stays ↦ (n, sym stays ∙ at, joins)
       ]
