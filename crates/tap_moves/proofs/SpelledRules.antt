@@ -1,62 +1,82 @@
--- What each rule leaves and sends, by status: a node that speaks of names, and frames that have spellings.
-use Rattle.std.proofs.Common.{◌≡◌, ℕ, ◌+◌, ◌≤◌, ◌==◌, Bool, cond, List, [], ◌∷◌, length, map, get_or, Option, None, Some, is_none, All, true, false, arith, refl, sym, ap, subst, ◌∙◌}
+-- What each rule leaves and sends: a node that speaks of names, and frames that have spellings.
+use Rattle.std.proofs.Common.{◌≡◌, ℕ, ◌+◌, ◌≤◌, Bool, cond, List, [], ◌∷◌, length, get_or, Option, None, Some, is_none, All, true, false, arith, refl, sym, subst}
 use Rattle.std.specs.Prelude.{IfSome}
 use Rattle.std.proofs.lemmas.List.Elements.{All-cons, All-map, All-nil}
 use Rattle.tap_name.specs.Name.{IsName}
 use Rattle.tap_name.specs.Settings.{SettingsValue}
 use Rattle.tap_name.specs.Word.{IsWord}
 use Rattle.tap_name.proofs.Prefixes.{lcp-is}
-use Rattle.tap_session.specs.declared.parent.Parent.{Parent}
-use Rattle.tap_session.specs.declared.parent.Parent.TheVariants.{Node, Root as RootParent}
-use Rattle.tap_session.specs.declared.sessions.Answered.{Answered}
-use Rattle.tap_session.specs.declared.sessions.Answered.TheVariants.{Closed, Open, Unknown}
-use Rattle.tap_session.specs.Sessions.{answer_to, answered_at, session_of}
+use Rattle.tap_session.specs.declared.parent.Parent.TheVariants.{Node}
 use Rattle.tap_table.specs.ByName.{targets_by_name}
 use Rattle.tap_table.specs.Levels.{is_kept, sent_from}
-use Rattle.tap_table.specs.declared.next.Next.{Next}
-use Rattle.tap_table.specs.declared.next.Next.TheVariants.{Hop, Root}
+use Rattle.tap_table.specs.declared.next.Next.TheVariants.{Hop}
 use Rattle.tap_table.specs.declared.tie.Tie.{Tie}
-use Rattle.tap_table.specs.Ties.{TiesValue, forgotten, holders_on, off_ties, released, removed}
+use Rattle.tap_table.specs.Ties.{holders_on, off_ties}
 use Rattle.tap_table.proofs.Slots.{place_inside}
 use Rattle.tap_join.specs.Hello.{words_of}
 use Rattle.tap_join.specs.Seek.{sought}
 use Rattle.tap_pointer.proofs.Laws.{are-all_withdrawn}
-use Rattle.tap_pointer.specs.Pointers.{IsPointers, PointersValue, all_withdrawn, lay_applied, least_server, pair_of, pointer_at, state_of, with_lay, with_published}
-use Rattle.tap_depart.specs.Leaving.{names_but, notice_for, started_leaving}
+use Rattle.tap_pointer.specs.Pointers.{PointersValue, all_withdrawn, pair_of, pointer_at, state_of, with_lay, with_published}
+use Rattle.tap_depart.specs.Leaving.{notice_for, started_leaving}
 use Rattle.tap_depart.specs.Replacement.{replacement_for}
-use Rattle.tap_depart.specs.Told.{told_leave}
 use Rattle.tap_depart.specs.declared.notice.Notice.{Notice}
 use Rattle.tap_depart.proofs.Notices.{told_is_new}
 use Rattle.tap_depart.proofs.Replacements.{replacement_fits}
-use Rattle.tap_cast.specs.declared.casts.CastTurn.TheVariants.{Already, Now}
+use Rattle.tap_cast.specs.declared.casts.CastTurn.TheVariants.{Already, Now as CastNow}
 use Rattle.tap_cast.specs.declared.target.CastTarget.{CastTarget}
-use Rattle.tap_cast.specs.Casts.{level_of_cast, turn_of, with_cast}
+use Rattle.tap_cast.specs.Casts.{level_of_cast, turn_of}
 use Rattle.tap_cast.specs.Targets.{cast_targets}
 use Rattle.tap_cast.proofs.Casting.{targets_are}
 use Rattle.tap_wire.specs.declared.frame.Body.{Body}
-use Rattle.tap_wire.specs.declared.frame.Body.TheVariants.{Ack, Answer, Cast, CastAck, Done, Find, Forget, Gone, Heard, Hello, Lay, Leave, Left, Link, Release, Seek, Tell}
+use Rattle.tap_wire.specs.declared.frame.Body.TheVariants.{Forget, Gone, Leave, Release, Seek}
 use Rattle.tap_wire.specs.declared.frame.TellFields.{TellFields}
 use Rattle.tap_wire.specs.Spelling.{IsBody, IsLevel}
-use Rattle.tap_rule.specs.Casts.{Copy, cast_answer, cast_answered_as, cast_for, cast_news, cast_of, cast_spreads, casts_as, is_root, next_cast_session, with_cast_session}
-use Rattle.tap_rule.specs.Event.{News, Start}
-use Rattle.tap_rule.specs.Event.News.{Answered as AnsweredNews, Nothing}
-use Rattle.tap_rule.specs.Event.Start.{Abandon, Cast as StartCast, Find as StartFind, Join, Leave as StartLeave, Publish, Withdraw}
-use Rattle.tap_rule.specs.FrameRules.{frame_at_ceased, frame_at_core, frame_at_joining, frame_at_leaving, rule_of_frame}
+use Rattle.tap_rule.specs.Casts.{Copy}
+use Rattle.tap_rule.specs.Event.{Start}
+use Rattle.tap_rule.specs.Event.Start.{Join}
+use Rattle.tap_rule.specs.FrameRules.{rule_of_frame}
 use Rattle.tap_rule.specs.Kept.{IsNode}
 use Rattle.tap_rule.specs.Laws.{frame_to}
-use Rattle.tap_rule.specs.Leaving.{finishes, last_words, leave_for, leave_word, takes_leave, takes_out, with_departure}
-use Rattle.tap_rule.specs.Links.{forgets, hears_and_releases, is_new_link, release_answer, release_word, releases, with_word}
-use Rattle.tap_rule.specs.Node.{NodeState, Status, ended, joiner, name_of, settings_of}
-use Rattle.tap_rule.specs.Node.Status.{Ceased, Core, Gone as GoneStatus, Joining, Leaving}
-use Rattle.tap_rule.specs.Pointers.{asks_on, asks_with, finds_on, finds_with, next_hop}
-use Rattle.tap_rule.specs.Reaction.{Message, message, sends, stays, to_each, with_news, with_ties}
+use Rattle.tap_rule.specs.Leaving.{leave_for, leave_word}
+use Rattle.tap_rule.specs.Node.{NodeState, Status, joiner, name_of, settings_of}
+use Rattle.tap_rule.specs.Node.Status.{Ceased, Gone as GoneStatus}
+use Rattle.tap_rule.specs.Pointers.{next_hop}
+use Rattle.tap_rule.specs.Reaction.{Message}
 use Rattle.tap_rule.specs.StartRules.{rule_of_start}
 use Rattle.tap_rule.specs.Strange.{is_strange}
 use Rattle.tap_rule.proofs.OneName.{not_own}
 use Rattle.tap_moves.specs.Spelled.{AreNamedPairs, IsNamedPair, IsNamedStart, IsParent, KnowsNames}
 use Rattle.tap_moves.proofs.FewLinks.{few-forgotten, few-released, few-removed, few-told, targets_named}
 use Rattle.tap_moves.proofs.Spelled.{cleared_named, closed_parent, laid_among, named-published, named-put, named-withdrawn, next_named, parents-answered, parents-opened, server_named}
-use Rattle.tap_moves.proofs.SpelledJoins.{IsForName, IsSpelled, IsSpelledMessage, answered_spelled, done_spelled, each_message, ended_knows, hello_spelled, holders_named, knows_alike, knows_links, meets_spelled, no_messages, off_named, one_message, seeks_spelled, sends_spelled, told_spelled, word_named, words_spelled}
+use Rattle.std.proofs.Common.{◌-◌, ◌<◌}
+use Rattle.std.proofs.Math.Nat.{mul-le-mul_right}
+use Rattle.tap_moves.proofs.FewLinks.{few-pinned, few-hello}
+use Rattle.tap_table.specs.Table.{TableValue, pinned as table_pinned}
+use Rattle.tap_watch.proofs.Watches.{IsWatch-full, length-full}
+use Rattle.tap_multicast.specs.declared.covers.Covered.{Covered}
+use Rattle.tap_name.specs.declared.slot.Slot.{Slot}
+use Rattle.tap_cast.specs.declared.casts.CastTurn.{CastTurn}
+use Rattle.tap_join.specs.Hello.{hello_names}
+use Rattle.tap_join.specs.declared.sought.Sought.TheVariants.{Surrogate}
+use Rattle.tap_join.proofs.Seeking.{forward_is, surrogate_is}
+use Rattle.tap_wire.specs.Spelling.{AreLinks}
+use Rattle.tap_rule.specs.Covering.{Request, first_request, request_of}
+use Rattle.tap_rule.specs.Laws.{tell_of}
+use Rattle.tap_rule.specs.Reaction.{Reaction, pin_word}
+use Rattle.tap_rule.proofs.CoverSteps.{seek_fits}
+use Rattle.tap_rule.proofs.JoinSteps.{tell_fits}
+use Rattle.tap_rule.proofs.Fit.{fit_law}
+use Rattle.tap_rule.proofs.Cases.{Cause, IsAsked, IsCast, IsNamed, RuleCase, rule_of, turn_for}
+use Rattle.tap_rule.proofs.Cases.Cause.{Takes, Starts}
+use Rattle.tap_rule.proofs.Cases.IsAsked.{BySeek, ByTell}
+use Rattle.tap_rule.proofs.Cases.IsCast.{ByStart, ByCopy}
+use Rattle.tap_rule.proofs.Cases.IsParting.{StartsLeaving, OneLeft}
+use Rattle.tap_rule.proofs.Cases.IsNamed.{FirstSeek, NextSeek, TellOn, CoreHello, JoiningHello, HeardBack, AckBack, DoneBack, ClosingAck, ClosingDone, HolderRelease, LinkRelease, HolderForget, LinkForget, FirstFind, NextFind, AnswerBack, HolderLeave, LeftBack, HolderGone, CastOn, CastAckBack, ClosingCastAck}
+use Rattle.tap_rule.proofs.Cases.RuleCase.{GreetedBefore, Greets, IsGreeted, HasCeased, IsReleased, IsForgottenBy, Counts, Closes, CoveredBefore, CoversAlone, CoversOn, MarksLeaver, DropsLeaver, CastsOn, CountsCast, ClosesCast, Publishes, WithdrawsIt, TakesPointer, TellsHolders, IsGoneNow}
+use Rattle.tap_rule.proofs.Named.{each_case}
+use Rattle.tap_moves.specs.Spelled.{HaveParents}
+use Rattle.tap_moves.proofs.Spelled.{IsNamedLay}
+use Rattle.tap_moves.proofs.SpelledJoins.{IsForName, IsSpelled, IsSpelledMessage, IsSpelledRequest, IsSpelledTurn, ended_knows, hello_named, holders_named, off_named, turn_spelled, word_named}
 
 -- a name that there may be
 given_name : (p : SettingsValue) (replacement : Option (List ℕ)) → IfSome replacement (IsName p) → (name : List ℕ)
@@ -72,71 +92,79 @@ module _ (node : NodeState) (is : IsNode node) (has : KnowsNames (settings_of no
   abbrev p : SettingsValue
   p = settings_of node
 
-  -- the node stays, but for what isn't of links, pairs and sessions, and sends these
-  alike : (after : NodeState) (messages : List Message) (news : News) → after.pointers ≡ node.pointers
-      → after.ties.table ≡ node.ties.table → after.sessions ≡ node.sessions → after.cast_sessions ≡ node.cast_sessions
-      → All (IsSpelledMessage p) messages → IsSpelled p (with_news news (sends after messages))
-  alike after messages news pointers table sessions casts all =
-      sends_spelled p after messages news (knows_alike node is has after pointers table sessions casts) all
+  -- a join is also by a name
+  abbrev pub SaysNames : Start → Type 0
+  SaysNames (Join via) = IsName p via
+  SaysNames begun = IsNamedStart p begun
 
-  -- only its pairs change
-  with_pairs : (pointers : PointersValue) → AreNamedPairs p pointers → KnowsNames p (record node { pointers = pointers })
-  with_pairs pointers named = record { parents = has.parents; cast_parents = has.cast_parents; pairs = named; few = has.few }
+  -- a frame is from a name, its fields keep their rules, and it isn't strange
+  abbrev IsSaid : Cause → Type 0
+  IsSaid (Takes from body) = IsName p from × IsBody p body × (is_strange node (frame_to node from body) ≡ false)
+  IsSaid (Starts begun) = SaysNames begun
 
-  -- the owner of its pairs is a name
-  owner_named : IsName p node.pointers.owner
-  owner_named = subst (IsName p) (sym is.owner) is.ties.table.owner
+  -- ---- requests and casts
 
-  -- ---- pointers and lookups
+  surrogate_request : (from joiner : List ℕ) (prefix : ℕ) → IsName p joiner → is_strange node (frame_to node from (Seek joiner)) ≡ false
+      → sought node.ties.table joiner ≡ Surrogate prefix → IsSpelledRequest node (first_request node joiner prefix)
+  surrogate_request from joiner prefix name taken found =
+      let fit = seek_fits node from joiner prefix taken found in
+      let near = (surrogate_is node.ties.table is.ties.table joiner name fit.apart prefix found).0 in
+      let inside = (place_inside p (name_of node) joiner is.ties.table.owner name fit.apart).0 in
+      let below : prefix < p.digits = omega (arith, near, lcp-is (name_of node) joiner, inside) in
+      let watch = IsWatch-full p joiner prefix in
+      let len = length-full p joiner prefix name below in
+      let least : prefix + 1 ≤ p.digits = omega (arith, below) in
+      record {
+        is_name = name;
+        apart = fit.apart;
+        pin = fit.pin;
+        parent = name;
+        few = few-pinned node (frame_to node from (Seek joiner)) is.ties taken joiner name fit.apart refl;
+        within = omega arith;
+        shared = omega (arith, near);
+        most = omega (arith, below);
+        slots = record {
+          levels = λ k d inside. (watch.watched k d inside).level;
+          digits = λ k d inside. (watch.watched k d inside).digit;
+          few = omega (arith, len, mul-le-mul_right (p.base - 1) least);
+        };
+      }
 
-  finds_spelled : (ticket : ℕ) (object asker : List ℕ) (level : ℕ) → IsName p object → IsName p asker → level ≤ p.digits
-      → (next : Next) → next_hop node object level ≡ next → IsSpelled p (finds_on node ticket object asker next)
-  finds_spelled ticket object asker level name by most Root found =
-      alike node (message asker (Answer ticket None) ∷ []) Nothing refl refl refl refl (one_message p asker (Answer ticket None) by tt)
-  finds_spelled ticket object asker level name by most (Hop to next) found =
-      let len = name.len in
-      let hop = next_named node.ties.table is.ties.table object name level (omega (arith, len, most)) to next found in
-      alike node (message to (Find ticket object asker next) ∷ []) Nothing refl refl refl refl
-      (one_message p to (Find ticket object asker next) hop.0 (name, by, hop.1))
+  told_request : (from : List ℕ) (tell : TellFields) (watch : List Slot) → IsSaid (Takes from (tell_of tell watch))
+      → IsSpelledRequest node (request_of from tell watch)
+  told_request from tell watch said =
+      let fit = (fit_law node (frame_to node from (tell_of tell watch)) is.ties).0 said.2 in
+      let above = said.1.level_above in
+      record {
+        is_name = said.1.joiner_is;
+        apart = fit.body.apart;
+        pin = (tell_fits node from tell watch said.2).pin;
+        parent = (said.0, said.1.session_least);
+        few = few-pinned node (frame_to node from (tell_of tell watch)) is.ties said.2 tell.joiner said.1.joiner_is fit.body.apart refl;
+        within = omega (arith, above);
+        shared = fit.body.shared;
+        most = said.1.level_most;
+        slots = said.1.slots;
+      }
 
-  found_spelled : (ticket : ℕ) (object asker : List ℕ) (level : ℕ) → IsName p object → IsName p asker → level ≤ p.digits
-      → (server : Option (List ℕ)) → IfSome server (IsName p) → IsSpelled p (finds_with node ticket object asker level server)
-  found_spelled ticket object asker level name by most None served =
-      finds_spelled ticket object asker level name by most (next_hop node object level) refl
-  found_spelled ticket object asker level name by most (Some server) served =
-      alike node (message asker (Answer ticket (Some server)) ∷ []) Nothing refl refl refl refl
-      (one_message p asker (Answer ticket (Some server)) by served)
+  asked_request : {cause : Cause} {request : Request} → IsAsked node cause request → IsSaid cause → IsSpelledRequest node request
+  asked_request (BySeek {from = from} {joiner = joiner} {prefix = prefix} found) said = surrogate_request from joiner prefix said.1 said.2 found
+  asked_request (ByTell {from = from} {watch = watch}) said = told_request from _ watch said
 
-  asks_spelled : (ticket : ℕ) (object : List ℕ) → IsName p object → (next : Next) → next_hop node object 0 ≡ next
-      → IsSpelled p (asks_on node ticket object next)
-  asks_spelled ticket object name Root found =
-      alike node [] (AnsweredNews ticket None) refl refl refl refl (no_messages p)
-  asks_spelled ticket object name (Hop to next) found =
-      let hop = next_named node.ties.table is.ties.table object name 0 (omega arith) to next found in
-      alike node (message to (Find ticket object (name_of node) next) ∷ []) Nothing refl refl refl refl
-      (one_message p to (Find ticket object (name_of node) next) hop.0 (name, is.ties.table.owner, hop.1))
+  asked_turn : {cause : Cause} {request : Request} {turn : Covered} (asked : IsAsked node cause request) (said : IsSaid cause)
+      → turn_for node request ≡ turn → IsSpelledTurn node is request (asked_request asked said) turn
+  asked_turn {request = request} asked said now =
+      subst (IsSpelledTurn node is request (asked_request asked said)) now (turn_spelled node is request (asked_request asked said))
 
-  asked_spelled : (ticket : ℕ) (object : List ℕ) → IsName p object → (server : Option (List ℕ))
-      → IsSpelled p (asks_with node ticket object server)
-  asked_spelled ticket object name None = asks_spelled ticket object name (next_hop node object 0) refl
-  asked_spelled ticket object name (Some server) =
-      alike node [] (AnsweredNews ticket (Some server)) refl refl refl refl (no_messages p)
-
-  lay_spelled : (from object server : List ℕ) (level version : ℕ) (on : Bool) → IsName p server
-      → KnowsNames p (record node { pointers = lay_applied node.pointers (pair_of object server) from version (pointer_at level on) })
-  lay_spelled from object server level version on name =
-      let pair = pair_of object server in
-      with_pairs (lay_applied node.pointers pair from version (pointer_at level on))
-      (named-put p node.pointers pair (with_lay (state_of node.pointers pair) from version (pointer_at level on)) name
-      (laid_among p node.pointers.pairs pair has.pairs) has.pairs)
-
-  -- ---- casts
-
-  cast_answer_spelled : (parent : Parent) → IsParent p parent → All (IsSpelledMessage p) (cast_answer parent)
-  cast_answer_spelled (RootParent name) asked = no_messages p
-  cast_answer_spelled (Node name session) asked = one_message p name (CastAck session) asked.0 asked.1
+  cast_copy : {cause : Cause} {copy : Copy} → IsCast node cause copy → IsSaid cause → IsParent p copy.parent × IsWord copy.word
+  cast_copy ByStart said = (is.ties.table.owner, said)
+  cast_copy ByCopy said = ((said.0, said.1.1), said.1.2)
 
   -- a target of a cast is a name, at a level
+  abbrev AreNamedTargets : CastTurn → Type 0
+  AreNamedTargets Already = Unit {0}
+  AreNamedTargets (CastNow first targets) = All (λ target. IsName p target.to × IsLevel p target.level) targets
+
   target_named : (from to : ℕ) → All (λ (target : CastTarget). IsName p target.to × IsLevel p target.level)
       (cast_targets node.ties.table from to)
   target_named from to k d inside =
@@ -146,90 +174,138 @@ module _ (node : NodeState) (is : IsNode node) (has : KnowsNames (settings_of no
         (omega (arith, target.above), omega (arith, target.level, shared, lcp-is (name_of node) (get_or (cast_targets node.ties.table from to) k d).to)),
       )
 
-  cast_spelled : (after : NodeState) (copy : Copy) (first : Bool) (targets : List CastTarget) → after.pointers ≡ node.pointers
-      → after.ties.table ≡ node.ties.table → after.sessions ≡ node.sessions → after.cast_sessions ≡ node.cast_sessions
-      → IsParent p copy.parent → IsWord copy.word → All (λ (target : CastTarget). IsName p target.to × IsLevel p target.level) targets
-      → IsSpelled p (cast_spreads after copy first targets)
-  cast_spelled after copy first [] pointers table sessions casts asked word named =
-      alike after (cast_answer copy.parent) (cast_news copy.cast first (is_root copy.parent)) pointers table sessions casts
-      (cast_answer_spelled copy.parent asked)
-  cast_spelled after copy first (target ∷ targets) pointers table sessions casts asked word named =
-      let before = knows_alike node is has after pointers table sessions casts in
-      let all : List CastTarget = target ∷ targets in
-      sends_spelled p (with_cast_session after copy (length all)) (map (cast_for copy (next_cast_session after)) all)
-      (cast_news copy.cast first false)
-      (record {
-        parents = before.parents;
-        cast_parents = parents-opened p after.cast_sessions copy.parent copy.depth (length all) before.cast_parents asked;
-        pairs = before.pairs;
-        few = before.few;
-      })
-      (All-map (IsSpelledMessage p) (cast_for copy (next_cast_session after)) all (λ k d inside.
-      let one = named k d inside in
-      record { to = one.0; body = (one.1, omega arith, word) }))
-
-  turn_spelled : (copy : Copy) → IsParent p copy.parent → IsWord copy.word → (kept : Option ℕ) (already : Bool)
-      → IsSpelled p (casts_as node copy
-      (cond already Already (Now (is_none kept) (cast_targets node.ties.table copy.level (sent_from node.ties.table.settings.digits kept)))))
-  turn_spelled copy asked word kept true =
-      alike node (cast_answer copy.parent) Nothing refl refl refl refl (cast_answer_spelled copy.parent asked)
-  turn_spelled copy asked word kept false =
-      cast_spelled (record node { casts = with_cast node.casts copy.cast copy.level }) copy (is_none kept)
-      (cast_targets node.ties.table copy.level (sent_from node.ties.table.settings.digits kept)) refl refl refl refl asked word
-      (target_named copy.level (sent_from node.ties.table.settings.digits kept))
-
-  casts_spelled : (copy : Copy) → IsParent p copy.parent → IsWord copy.word
-      → IsSpelled p (casts_as node copy (turn_of node.casts node.ties.table copy.cast copy.level))
-  casts_spelled copy asked word =
-      let kept = level_of_cast node.casts copy.cast in turn_spelled copy asked word kept (is_kept kept copy.level)
-
-  cast_answered_spelled : (session cast : ℕ) (answer : Answered) → answer_to (session_of node.cast_sessions.sessions session) ≡ answer
-      → IsSpelled p (cast_answered_as (record node { cast_sessions = answered_at node.cast_sessions session }) cast answer)
-  cast_answered_spelled session cast answer same = by_answer answer same
+  cast_turn : (copy : Copy) → AreNamedTargets (turn_of node.casts node.ties.table copy.cast copy.level)
+  cast_turn copy = by_kept (level_of_cast node.casts copy.cast) (is_kept (level_of_cast node.casts copy.cast) copy.level)
     where
-      after : NodeState
-      after = record node { cast_sessions = answered_at node.cast_sessions session }
+      by_kept : (kept : Option ℕ) (already : Bool) → AreNamedTargets
+          (cond already Already (CastNow (is_none kept) (cast_targets node.ties.table copy.level (sent_from node.ties.table.settings.digits kept))))
+      by_kept kept true = tt
+      by_kept kept false = target_named copy.level (sent_from node.ties.table.settings.digits kept)
 
-      knows : KnowsNames p after
-      knows = record {
-        parents = has.parents;
-        cast_parents = parents-answered p node.cast_sessions session has.cast_parents;
-        pairs = has.pairs;
-        few = has.few;
-      }
+  -- ---- messages
 
-      by_answer : (answer : Answered) → answer_to (session_of node.cast_sessions.sessions session) ≡ answer
-          → IsSpelled p (cast_answered_as after cast answer)
-      by_answer Open same = sends_spelled p after [] Nothing knows (no_messages p)
-      by_answer (Closed parent) same =
-          sends_spelled p after (cast_answer parent) (cast_news cast false (is_root parent)) knows
-          (cast_answer_spelled parent (closed_parent p node.cast_sessions session parent has.cast_parents same))
-      by_answer Unknown same = sends_spelled p after [] Nothing knows (no_messages p)
-
-  -- ---- departures
-
-  -- a node that finishes, with these pairs
-  finishes_spelled : (after : NodeState) → after.ties ≡ node.ties → after.sessions ≡ node.sessions → IsPointers after.pointers
-      → AreNamedPairs p after.pointers
-      → All (λ e. IsName p e.0.object) after.pointers.pairs → IsSpelled p (finishes after)
-  finishes_spelled after ties sessions are pairs objects = record {
-    knows = subst (KnowsNames p) (sym same_end) (ended_knows node GoneStatus is has);
-    words = subst (λ (u : TiesValue). All (IsForName p) (off_ties after.stamp (targets_by_name u.table))) (sym ties)
-        (off_named p after.stamp (targets_by_name node.ties.table) (targets_named node.ties.table is.ties.table));
-    messages = subst (λ (u : TiesValue). All (IsSpelledMessage p) (to_each Gone (holders_on u))) (sym ties)
-        (each_message p Gone (holders_on node.ties) tt (holders_named node.ties is.ties));
-    lays = cleared_named p (after.stamp + length (last_words after)) after.pointers are pairs objects;
+  no_links : AreLinks p []
+  no_links = record {
+    names = λ k d inside. absurd (omega arith);
+    ascending = λ i j d before inside. absurd (omega arith);
+    few = omega arith;
   }
-    where
-      same_end : ended GoneStatus after ≡ ended GoneStatus node
-      same_end =
-          ap (λ (u : TiesValue). record (joiner u.table.settings u.table.owner) { status = GoneStatus; sessions = after.sessions }) ties
-          ∙ ap (λ s. record (joiner (settings_of node) (name_of node)) { status = GoneStatus; sessions = s }) sessions
 
-  left_spelled : (awaited : List (List ℕ)) (last : Bool) → IsSpelled p
-      (cond last (finishes (record node { awaited = awaited })) (sends (record node { awaited = awaited }) []))
-  left_spelled awaited true = finishes_spelled (record node { awaited = awaited }) refl refl is.pointers has.pairs is.objects
-  left_spelled awaited false = alike (record node { awaited = awaited }) [] Nothing refl refl refl refl (no_messages p)
+  notice_spelled : All (λ (n : Notice). IsSpelledMessage p (leave_for n)) (started_leaving node.ties).notices
+  notice_spelled =
+      All-map (λ (n : Notice). IsSpelledMessage p (leave_for n)) (notice_for node.ties.table) (holders_on node.ties) (λ k d inside.
+      record {
+        to = holders_named node.ties is.ties k d inside;
+        body = some_named p (replacement_for node.ties.table (get_or (holders_on node.ties) k d)) (λ name given.
+            (replacement_fits node.ties.table is.ties.table (get_or (holders_on node.ties) k d) (holders_named node.ties is.ties k d inside)
+            name given).is_name);
+      })
+
+  -- where a lookup goes next
+  hop_named : (object : List ℕ) (level : ℕ) → IsName p object → level ≤ p.digits → (to : List ℕ) (next : ℕ)
+      → next_hop node object level ≡ Hop to next → IsName p to × IsLevel p next
+  hop_named object level name most to next goes =
+      let len = name.len in next_named node.ties.table is.ties.table object name level (omega (arith, len, most)) to next goes
+
+  named_spelled : {status : Status} {cause : Cause} → IsSaid cause → (m : Message) → IsNamed node status cause m → IsSpelledMessage p m
+  named_spelled said m FirstSeek = record { to = said; body = is.ties.table.owner }
+  named_spelled said m (NextSeek {from = from} {joiner = joiner} {next = next} found) =
+      let fit = (fit_law node (frame_to node from (Seek joiner)) is.ties).0 said.2 in
+      record { to = (forward_is node.ties.table is.ties.table joiner said.1 fit.body.apart next found).is_name; body = said.1 }
+  named_spelled said m (TellOn k default asked now within) =
+      let tell = (asked_turn asked said now).1 k default within in record { to = tell.0; body = tell.1 }
+  named_spelled said m (CoreHello asked now) =
+      record { to = (asked_request asked said).is_name; body = (omega arith, (asked_turn asked said now).0 refl) }
+  named_spelled said m JoiningHello = record { to = said.1.joiner_is; body = (omega arith, no_links) }
+  named_spelled said m HeardBack = record { to = said.0; body = said.1.0 }
+  named_spelled said m AckBack = record { to = said.0; body = said.1.session_least }
+  named_spelled said m DoneBack = record { to = said.1; body = tt }
+  named_spelled said m (ClosingAck {session = session} kind closed) =
+      let parent = closed_parent p node.sessions session _ has.parents closed in record { to = parent.0; body = parent.1 }
+  named_spelled said m (ClosingDone {session = session} kind closed) =
+      record { to = closed_parent p node.sessions session _ has.parents closed; body = tt }
+  named_spelled said m (HolderRelease k default within) = record { to = holders_named node.ties is.ties k default within; body = tt }
+  named_spelled said m LinkRelease = record { to = said.0; body = tt }
+  named_spelled said m (HolderForget k default within) = record { to = holders_named node.ties is.ties k default within; body = tt }
+  named_spelled said m LinkForget = record { to = said.0; body = tt }
+  named_spelled said m (FirstFind {object = object} none goes) =
+      let hop = hop_named object 0 said (omega arith) _ _ goes in record { to = hop.0; body = (said, is.ties.table.owner, hop.1) }
+  named_spelled said m (NextFind {object = object} none goes) =
+      let hop = hop_named object _ said.1.0 said.1.2.1 _ _ goes in record { to = hop.0; body = (said.1.0, said.1.1, hop.1) }
+  named_spelled said m (AnswerBack {object = object} found ends) = record {
+    to = said.1.1;
+    body = subst (λ server. IfSome server (IsName p)) found (server_named p object node.pointers.pairs has.pairs);
+  }
+  named_spelled said m (HolderLeave k default within) = notice_spelled k default within
+  named_spelled said m LeftBack = record { to = said.0; body = tt }
+  named_spelled said m (HolderGone k default StartsLeaving within) = record { to = holders_named node.ties is.ties k default within; body = tt }
+  named_spelled said m (HolderGone k default OneLeft within) = record { to = holders_named node.ties is.ties k default within; body = tt }
+  named_spelled said m (CastOn {copy = copy} k default of now within) =
+      let target = subst AreNamedTargets now (cast_turn copy) k default within in
+      record { to = target.0; body = (target.1, omega arith, (cast_copy of said).1) }
+  named_spelled said m CastAckBack = record { to = said.0; body = said.1.1 }
+  named_spelled said m (ClosingCastAck {session = session} closed) =
+      let parent = closed_parent p node.cast_sessions session _ has.cast_parents closed in record { to = parent.0; body = parent.1 }
+
+  -- ---- rules
+
+  -- these are no Lays
+  spelled : (r : Reaction) → KnowsNames p r.state → All (IsForName p) r.words → r.lays ≡ [] → All (IsSpelledMessage p) r.messages
+      → IsSpelled p r
+  spelled r knows words none sent =
+      record { knows = knows; words = words; messages = sent; lays = subst (All (IsNamedLay p)) (sym none) (All-nil (IsNamedLay p)) }
+
+  -- nor words
+  quiet : (r : Reaction) → KnowsNames p r.state → r.words ≡ [] → r.lays ≡ [] → All (IsSpelledMessage p) r.messages → IsSpelled p r
+  quiet r knows none lays sent = spelled r knows (subst (All (IsForName p)) (sym none) (All-nil (IsForName p))) lays sent
+
+  -- the pairs stay
+  knows : (after : NodeState) → after.pointers ≡ node.pointers → length (targets_by_name after.ties.table) ≤ 255
+      → HaveParents p after.sessions → HaveParents p after.cast_sessions → KnowsNames p after
+  knows after pointers few parents casts = record {
+    parents = parents;
+    cast_parents = casts;
+    pairs = subst (AreNamedPairs p) (sym pointers) has.pairs;
+    few = few;
+  }
+
+  -- all that it knows stays
+  keeps : (r : Reaction) → r.state.pointers ≡ node.pointers → r.state.ties.table ≡ node.ties.table → r.state.sessions ≡ node.sessions
+      → r.state.cast_sessions ≡ node.cast_sessions → r.words ≡ [] → r.lays ≡ [] → All (IsSpelledMessage p) r.messages → IsSpelled p r
+  keeps r pointers table sessions casts words lays sent =
+      quiet r (knows r.state pointers (subst (λ (u : TableValue). length (targets_by_name u) ≤ 255) (sym table) has.few)
+      (subst (HaveParents p) (sym sessions) has.parents) (subst (HaveParents p) (sym casts) has.cast_parents)) words lays sent
+
+  -- only its pairs change
+  with_pairs : (pointers : PointersValue) → AreNamedPairs p pointers → KnowsNames p (record node { pointers = pointers })
+  with_pairs pointers named = record { parents = has.parents; cast_parents = has.cast_parents; pairs = named; few = has.few }
+
+  -- the owner of its pairs is a name
+  owner_named : IsName p node.pointers.owner
+  owner_named = subst (IsName p) (sym is.owner) is.ties.table.owner
+
+  -- it has pinned the joiner of a request, and has these sessions
+  pinned_spelled : (request : Request) → IsSpelledRequest node request → (r : Reaction) → r.state.pointers ≡ node.pointers
+      → r.state.ties.table ≡ table_pinned node.ties.table request.joiner → HaveParents p r.state.sessions
+      → r.state.cast_sessions ≡ node.cast_sessions → r.words ≡ words_of (pin_word node request.joiner) → r.lays ≡ []
+      → All (IsSpelledMessage p) r.messages → IsSpelled p r
+  pinned_spelled request fits r pointers table parents casts words lays sent =
+      spelled r (knows r.state pointers (subst (λ (u : TableValue). length (targets_by_name u) ≤ 255) (sym table) fits.few) parents
+      (subst (HaveParents p) (sym casts) has.cast_parents))
+      (subst (All (IsForName p)) (sym words) (word_named p _ request.joiner (node.stamp + 1) true fits.is_name)) lays sent
+
+  -- the word about a replacement
+  leave_named : (from : List ℕ) (replacement : Option (List ℕ)) → IsSaid (Takes from (Leave replacement)) → (word : Option Tie)
+      → leave_word node from replacement ≡ word → All (IsForName p) (words_of word)
+  leave_named from replacement said None same = All-nil (IsForName p)
+  leave_named from replacement said (Some tie) same =
+      let other = not_own node (frame_to node from (Leave replacement)) said.2 in
+      let given = given_name p replacement said.1 in
+      let new = told_is_new node.ties from replacement is.ties said.0 other given node.stamp tie same in
+      All-cons (IsForName p) tie [] (given tie.to new.given) (All-nil (IsForName p))
+
+  last_named : All (IsForName p) (off_ties node.stamp (targets_by_name node.ties.table))
+  last_named = off_named p node.stamp (targets_by_name node.ties.table) (targets_named node.ties.table is.ties.table)
 
   withdrawn_pairs : AreNamedPairs p (all_withdrawn node.pointers)
   withdrawn_pairs =
@@ -240,193 +316,82 @@ module _ (node : NodeState) (is : IsNode node) (has : KnowsNames (settings_of no
   withdrawn_objects =
       All-map (λ e. IsName p e.0.object) (λ e. (e.0, with_published e.1 false)) node.pointers.pairs is.objects
 
-  notices_spelled : All (IsSpelledMessage p) (map leave_for (started_leaving node.ties).notices)
-  notices_spelled =
-      All-map (IsSpelledMessage p) leave_for (started_leaving node.ties).notices
-      (All-map (λ (n : Notice). IsSpelledMessage p (leave_for n)) (notice_for node.ties.table) (holders_on node.ties) (λ k d inside.
-      record {
-        to = holders_named node.ties is.ties k d inside;
-        body = some_named p (replacement_for node.ties.table (get_or (holders_on node.ties) k d)) (λ name given.
-            (replacement_fits node.ties.table is.ties.table (get_or (holders_on node.ties) k d) (holders_named node.ties is.ties k d inside)
-            name given).is_name);
-      }))
+  case_spelled : {status : Status} {cause : Cause} {r : Reaction} → RuleCase node status cause r → IsSaid cause
+      → All (IsSpelledMessage p) r.messages → IsSpelled p r
+  case_spelled {cause = cause} (GreetedBefore before) said sent =
+      pinned_spelled _ (asked_request {cause = cause} ByTell said) _ refl refl has.parents refl refl refl sent
+  case_spelled {cause = cause} (Greets {from = from} {session = session} {depth = depth} before) said sent =
+      pinned_spelled _ (asked_request {cause = cause} ByTell said) _ refl refl
+      (parents-opened p node.sessions (Node from session) depth 1 has.parents (said.0, said.1.session_least)) refl refl refl sent
+  case_spelled (IsGreeted {from = from} {session = session} {core = core} {links = links}) said sent =
+      spelled _ (knows _ refl (few-hello node from session core links is.ties said.2 said.0 said.1.1.names) has.parents has.cast_parents)
+      (hello_named p (hello_names from core links) node.ties node.stamp
+      (All-cons (λ link. IsName p link.name) (record { name = from; settled = core }) links said.0 said.1.1.names)) refl sent
+  case_spelled (HasCeased given_up) said sent = spelled _ (ended_knows node Ceased is has) last_named refl sent
+  case_spelled (IsReleased {from = from} early) said sent =
+      let other = not_own node (frame_to node from Release) said.2 in
+      spelled _ (knows _ refl (few-released node (frame_to node from Release) is.ties said.2 from said.0 other) has.parents has.cast_parents)
+      (word_named p _ from (node.stamp + 1) false said.0) refl sent
+  case_spelled (IsForgottenBy {from = from} early) said sent =
+      let other = not_own node (frame_to node from Forget) said.2 in
+      quiet _ (knows _ refl (few-forgotten node (frame_to node from Forget) is.ties said.2 from said.0 other) has.parents has.cast_parents) refl refl sent
+  case_spelled (Counts {session = session} at kind others) said sent =
+      quiet _ (knows _ refl has.few (parents-answered p node.sessions session has.parents) has.cast_parents) refl refl sent
+  case_spelled (Closes {session = session} at kind closed) said sent =
+      quiet _ (knows _ refl has.few (parents-answered p node.sessions session has.parents) has.cast_parents) refl refl sent
+  case_spelled (CoveredBefore {request = request} asked now) said sent =
+      pinned_spelled request (asked_request asked said) _ refl refl has.parents refl refl refl sent
+  case_spelled (CoversAlone {request = request} asked now zero) said sent =
+      pinned_spelled request (asked_request asked said) _ refl refl has.parents refl refl refl sent
+  case_spelled (CoversOn {request = request} asked now some) said sent =
+      let fits = asked_request asked said in
+      pinned_spelled request fits _ refl refl (parents-opened p node.sessions request.parent request.depth _ has.parents fits.parent) refl refl refl
+      sent
+  case_spelled (MarksLeaver {from = from} {replacement = replacement}) said sent =
+      let frame = frame_to node from (Leave replacement) in
+      let few = few-told node frame is.ties said.2 from said.0 (not_own node frame said.2) replacement (given_name p replacement said.1)
+          (λ name given. given) in
+      spelled _ (knows _ refl few has.parents has.cast_parents) (leave_named from replacement said _ refl) refl sent
+  case_spelled (DropsLeaver {from = from}) said sent =
+      let other = not_own node (frame_to node from Gone) said.2 in
+      quiet _ (knows _ refl (few-removed node (frame_to node from Gone) is.ties said.2 from said.0 other) has.parents has.cast_parents) refl refl sent
+  case_spelled (CastsOn {copy = copy} {target = target} {targets = targets} of now) said sent =
+      quiet _ (knows _ refl has.few has.parents (parents-opened p node.cast_sessions copy.parent copy.depth (length (target ∷ targets)) has.cast_parents
+      (cast_copy of said).0)) refl refl sent
+  case_spelled (CountsCast {session = session} others) said sent =
+      quiet _ (knows _ refl has.few has.parents (parents-answered p node.cast_sessions session has.cast_parents)) refl refl sent
+  case_spelled (ClosesCast {session = session} closed) said sent =
+      quiet _ (knows _ refl has.few has.parents (parents-answered p node.cast_sessions session has.cast_parents)) refl refl sent
+  case_spelled (Publishes {object = object}) said sent =
+      quiet _ (with_pairs _ (named-published p node.pointers object owner_named has.pairs)) refl refl sent
+  case_spelled (WithdrawsIt {object = object}) said sent =
+      quiet _ (with_pairs _ (named-withdrawn p node.pointers object owner_named has.pairs)) refl refl sent
+  case_spelled (TakesPointer {from = from} {object = object} {server = server} {level = level} {version = version} {on = on} late) said sent =
+      let pair = pair_of object server in
+      quiet _ (with_pairs _ (named-put p node.pointers pair (with_lay (state_of node.pointers pair) from version (pointer_at level on)) said.1.1
+      (laid_among p node.pointers.pairs pair has.pairs) has.pairs)) refl refl sent
+  case_spelled (TellsHolders some) said sent =
+      quiet _ (record { parents = has.parents; cast_parents = has.cast_parents; pairs = withdrawn_pairs; few = has.few }) refl refl sent
+  case_spelled (IsGoneNow StartsLeaving last) said sent = record {
+    knows = ended_knows node GoneStatus is has;
+    words = last_named;
+    messages = sent;
+    lays = cleared_named p _ (all_withdrawn node.pointers) (are-all_withdrawn node.pointers is.pointers) withdrawn_pairs withdrawn_objects;
+  }
+  case_spelled (IsGoneNow OneLeft last) said sent = record {
+    knows = ended_knows node GoneStatus is has;
+    words = last_named;
+    messages = sent;
+    lays = cleared_named p _ node.pointers is.pointers has.pairs is.objects;
+  }
+  case_spelled _ said sent = keeps _ refl refl refl refl refl refl sent
 
-  leaves_spelled : (last : Bool) → IsSpelled p (cond last (finishes (with_departure node))
-      (sends (with_departure node) (map leave_for (started_leaving node.ties).notices)))
-  leaves_spelled true = finishes_spelled (with_departure node) refl refl
-      (are-all_withdrawn node.pointers is.pointers) withdrawn_pairs withdrawn_objects
-  leaves_spelled false =
-      sends_spelled p (with_departure node) (map leave_for (started_leaving node.ties).notices) Nothing
-      (record { parents = has.parents; cast_parents = has.cast_parents; pairs = withdrawn_pairs; few = has.few })
-      notices_spelled
+  spells : (status : Status) (cause : Cause) → IsSaid cause → IfSome (rule_of status node cause) (IsSpelled p)
+  spells status cause said = each_case node _ (IsSpelled p) status cause (named_spelled said) (λ r case. case_spelled case said)
 
-  -- ---- by status, from another node
-
-  module _ (from : List ℕ) (is_from : IsName p from) where
-    -- a Release, a Forget, a Gone
-    released_spelled : is_strange node (frame_to node from Release) ≡ false → IsSpelled p (releases node from)
-    released_spelled taken =
-        let other = not_own node (frame_to node from Release) taken in
-        words_spelled p (words_of (release_word node from)) (stays (with_ties (released node.ties from) (release_word node from) node))
-        (word_named p _ from (node.stamp + 1) false is_from)
-        (sends_spelled p (with_ties (released node.ties from) (release_word node from) node) [] Nothing
-        (knows_links node is has (with_ties (released node.ties from) (release_word node from) node) refl
-        (few-released node (frame_to node from Release) is.ties taken from is_from other) refl refl)
-        (no_messages p))
-
-    forgotten_spelled : is_strange node (frame_to node from Forget) ≡ false → IsSpelled p (forgets node from)
-    forgotten_spelled taken =
-        let other = not_own node (frame_to node from Forget) taken in
-        sends_spelled p (record node { ties = forgotten node.ties from }) [] Nothing
-        (knows_links node is has (record node { ties = forgotten node.ties from }) refl
-        (few-forgotten node (frame_to node from Forget) is.ties taken from is_from other) refl refl)
-        (no_messages p)
-
-    gone_spelled : is_strange node (frame_to node from Gone) ≡ false → IsSpelled p (takes_out node from)
-    gone_spelled taken =
-        let other = not_own node (frame_to node from Gone) taken in
-        sends_spelled p (record node { ties = removed node.ties from }) [] Nothing
-        (knows_links node is has (record node { ties = removed node.ties from }) refl
-        (few-removed node (frame_to node from Gone) is.ties taken from is_from other) refl refl)
-        (no_messages p)
-
-    -- a Link at a core or leaving node
-    heard_spelled : (version : ℕ) (on : Bool) → IsSpelled p (hears_and_releases node from version on)
-    heard_spelled version on =
-        alike (with_word node from version on) (release_answer node from version on) Nothing refl refl refl refl
-        (by_new (is_new_link node from version on))
-      where
-        by_new : (new : Bool) → All (IsSpelledMessage p) (cond new (message from Release ∷ []) [])
-        by_new true = one_message p from Release is_from tt
-        by_new false = no_messages p
-
-    -- a Leave
-    leave_spelled : (replacement : Option (List ℕ)) → IfSome replacement (IsName p)
-        → is_strange node (frame_to node from (Leave replacement)) ≡ false → IsSpelled p (takes_leave node from replacement)
-    leave_spelled replacement named taken =
-        let other = not_own node (frame_to node from (Leave replacement)) taken in
-        let given = given_name p replacement named in
-        let word = leave_word node from replacement in
-        let after = with_ties (told_leave node.ties from replacement) word node in
-        words_spelled p (words_of word) (sends after (message from Left ∷ []))
-        (by_word word refl)
-        (sends_spelled p after (message from Left ∷ []) Nothing
-        (knows_links node is has after refl
-        (few-told node (frame_to node from (Leave replacement)) is.ties taken from is_from other replacement given
-        (λ name is_given. is_given)) refl refl)
-        (one_message p from Left is_from tt))
-      where
-        by_word : (word : Option Tie) → leave_word node from replacement ≡ word → All (IsForName p) (words_of word)
-        by_word None same = All-nil (IsForName p)
-        by_word (Some tie) same =
-            let other = not_own node (frame_to node from (Leave replacement)) taken in
-            let given = given_name p replacement named in
-            let new = told_is_new node.ties from replacement is.ties is_from other given node.stamp tie same in
-            All-cons (IsForName p) tie [] (given tie.to new.given) (All-nil (IsForName p))
-
-    joining_spelled : (body : Body) → IsBody p body → is_strange node (frame_to node from body) ≡ false
-        → IfSome (frame_at_joining node from body) (IsSpelled p)
-    unfolding frame_at_joining
-    joining_spelled (Tell joiner prefix level session depth watch) keeps taken =
-        let tell : TellFields = record { joiner = joiner; prefix = prefix; level = level; session = session; depth = depth } in
-        meets_spelled node is has from is_from tell watch keeps taken
-    joining_spelled (Hello session core links) keeps taken = hello_spelled node is has from is_from session core links keeps taken
-    joining_spelled (Heard session) keeps taken = answered_spelled node is has session
-    joining_spelled (Ack session) keeps taken = answered_spelled node is has session
-    joining_spelled Done keeps taken = done_spelled node is has from is_from node.abandoned
-    joining_spelled Release keeps taken = released_spelled taken
-    joining_spelled (Link version on) keeps taken = alike (with_word node from version on) [] Nothing refl refl refl refl (no_messages p)
-    joining_spelled Forget keeps taken = forgotten_spelled taken
-    joining_spelled (Cast cast level session depth word) keeps taken =
-        alike node (message from (CastAck session) ∷ []) Nothing refl refl refl refl (one_message p from (CastAck session) is_from keeps.1)
-    joining_spelled _ keeps taken = tt
-
-    core_spelled : (body : Body) → IsBody p body → is_strange node (frame_to node from body) ≡ false
-        → IfSome (frame_at_core node from body) (IsSpelled p)
-    unfolding frame_at_core
-    core_spelled (Seek joiner) keeps taken =
-        seeks_spelled node is has from is_from joiner keeps taken (sought node.ties.table joiner) refl
-    core_spelled (Tell joiner prefix level session depth watch) keeps taken =
-        let tell : TellFields = record { joiner = joiner; prefix = prefix; level = level; session = session; depth = depth } in
-        told_spelled node is has from is_from tell watch keeps taken
-    core_spelled (Heard session) keeps taken = answered_spelled node is has session
-    core_spelled (Ack session) keeps taken = answered_spelled node is has session
-    core_spelled Release keeps taken = released_spelled taken
-    core_spelled (Link version on) keeps taken = heard_spelled version on
-    core_spelled (Lay object server level version on) keeps taken =
-        sends_spelled p _ [] Nothing (lay_spelled from object server level version on keeps.1) (no_messages p)
-    core_spelled (Find ticket object asker level) keeps taken =
-        found_spelled ticket object asker level keeps.0 keeps.1 keeps.2.1 (least_server node.pointers object)
-        (server_named p object node.pointers.pairs has.pairs)
-    core_spelled (Answer ticket server) keeps taken = alike node [] (AnsweredNews ticket server) refl refl refl refl (no_messages p)
-    core_spelled (Leave replacement) keeps taken = leave_spelled replacement keeps taken
-    core_spelled Gone keeps taken = gone_spelled taken
-    core_spelled Forget keeps taken = forgotten_spelled taken
-    core_spelled (Cast cast level session depth word) keeps taken =
-        casts_spelled (record { cast = cast; level = level; parent = Node from session; depth = depth; word = word }) (is_from, keeps.1)
-        keeps.2
-    core_spelled (CastAck session) keeps taken =
-        cast_answered_spelled session (cast_of node session) (answer_to (session_of node.cast_sessions.sessions session)) refl
-    core_spelled _ keeps taken = tt
-
-    leaving_spelled : (body : Body) → IsBody p body → IfSome (frame_at_leaving node from body) (IsSpelled p)
-    unfolding frame_at_leaving
-    leaving_spelled (Link version on) keeps = heard_spelled version on
-    leaving_spelled (Lay object server level version on) keeps =
-        sends_spelled p _ [] Nothing (lay_spelled from object server level version on keeps.1) (no_messages p)
-    leaving_spelled (Find ticket object asker level) keeps =
-        found_spelled ticket object asker level keeps.0 keeps.1 keeps.2.1 (least_server node.pointers object)
-        (server_named p object node.pointers.pairs has.pairs)
-    leaving_spelled (Answer ticket server) keeps = alike node [] (AnsweredNews ticket server) refl refl refl refl (no_messages p)
-    leaving_spelled Left keeps = left_spelled (names_but node.awaited from) (length (names_but node.awaited from) == 0)
-    leaving_spelled _ keeps = tt
-
-    ceased_spelled : (body : Body) → IsBody p body → IfSome (frame_at_ceased node from body) (IsSpelled p)
-    unfolding frame_at_ceased
-    ceased_spelled (Tell joiner prefix level session depth watch) keeps =
-        alike node (message from (Ack session) ∷ []) Nothing refl refl refl refl (one_message p from (Ack session) is_from keeps.session_least)
-    ceased_spelled (Heard session) keeps = answered_spelled node is has session
-    ceased_spelled (Ack session) keeps = answered_spelled node is has session
-    ceased_spelled (Link version on) keeps = alike node _ Nothing refl refl refl refl (by_on on)
-      where
-        by_on : (on : Bool) → All (IsSpelledMessage p) (cond on (message from Forget ∷ []) [])
-        by_on true = one_message p from Forget is_from tt
-        by_on false = no_messages p
-    ceased_spelled (Cast cast level session depth word) keeps =
-        alike node (message from (CastAck session) ∷ []) Nothing refl refl refl refl (one_message p from (CastAck session) is_from keeps.1)
-    ceased_spelled _ keeps = tt
-
-    pub frame_spelled : (status : Status) (body : Body) → IsBody p body → is_strange node (frame_to node from body) ≡ false
-        → IfSome (rule_of_frame status node from body) (IsSpelled p)
-    frame_spelled Joining body keeps taken = joining_spelled body keeps taken
-    frame_spelled Core body keeps taken = core_spelled body keeps taken
-    frame_spelled Leaving body keeps taken = leaving_spelled body keeps
-    frame_spelled GoneStatus body keeps taken = tt
-    frame_spelled Ceased body keeps taken = ceased_spelled body keeps
-
-  -- ---- starts
-
-  -- a join is also by a name
-  abbrev pub SaysNames : Start → Type 0
-  SaysNames (Join via) = IsName p via
-  SaysNames begun = IsNamedStart p begun
+  pub frame_spelled : (from : List ℕ) → IsName p from → (status : Status) (body : Body) → IsBody p body
+      → is_strange node (frame_to node from body) ≡ false → IfSome (rule_of_frame status node from body) (IsSpelled p)
+  frame_spelled from is_from status body keeps taken = spells status (Takes from body) (is_from, keeps, taken)
 
   pub start_spelled : (status : Status) (begun : Start) → SaysNames begun → IfSome (rule_of_start status node begun) (IsSpelled p)
-  start_spelled Joining (Join via) named =
-      alike node (message via (Seek (name_of node)) ∷ []) Nothing refl refl refl refl
-      (one_message p via (Seek (name_of node)) named is.ties.table.owner)
-  start_spelled Joining Abandon named = alike (record node { abandoned = true }) [] Nothing refl refl refl refl (no_messages p)
-  start_spelled Joining _ named = tt
-  start_spelled Core (Publish object) named =
-      sends_spelled p _ [] Nothing (with_pairs _ (named-published p node.pointers object owner_named has.pairs)) (no_messages p)
-  start_spelled Core (Withdraw object) named =
-      sends_spelled p _ [] Nothing (with_pairs _ (named-withdrawn p node.pointers object owner_named has.pairs)) (no_messages p)
-  start_spelled Core (StartFind ticket object) named = asked_spelled ticket object named (least_server node.pointers object)
-  start_spelled Core StartLeave named = leaves_spelled (length (started_leaving node.ties).awaited == 0)
-  start_spelled Core (StartCast cast level word) named =
-      casts_spelled (record { cast = cast; level = level; parent = RootParent (name_of node); depth = 0; word = word })
-      is.ties.table.owner named
-  start_spelled Core _ named = tt
-  start_spelled Leaving begun named = tt
-  start_spelled GoneStatus begun named = tt
-  start_spelled Ceased begun named = tt
+  start_spelled status begun named = spells status (Starts begun) named
