@@ -17,7 +17,7 @@ use Rattle.tap_node.specs.Outcome.{AnswersAs, start_outcome}
 use Rattle.tap_node.specs.Seen.{IsKeptFor, StartsFrom, node_value, state_held}
 use Rattle.tap_node.proofs.Answering.{IsTurned}
 use Rattle.tap_node.proofs.Calls.{start_answers, start_keeps}
-use Rattle.tap_node.proofs.KeptSteps.{StartsNamed}
+use Rattle.tap_node.proofs.KeptRules.{StartsNamed}
 
 module _ (p : SettingsValue) (name : List ℕ) (before : State) (kept : IsKeptFor p name (node_value p name before)) (node : NodeValue)
     (is : node_value p name before ≡ node) (runs : node.ended ≡ false) where

@@ -1,8 +1,7 @@
 -- A frame and a start at a node: what the call answers, and that the node stays sound.
-use Rattle.std.proofs.Common.{◌≡◌, ◌≢◌, ℕ, Bool, true, false, if◌then◌else◌, List, [], Result, Ok, Err, refl, sym, subst, ◌∙◌}
+use Rattle.std.proofs.Common.{◌≡◌, ℕ, true, false, if◌then◌else◌, List, [], Result, Err, refl, sym, subst}
 use Rattle.std.specs.Prelude.{IfOk}
 use Rattle.std.proofs.lemmas.Result.{IfOk-weaker}
-use Rattle.tap_name.specs.Name.{IsName}
 use Rattle.tap_name.specs.Settings.{SettingsValue}
 use Rattle.tap_wire.specs.declared.frame.Frame.{Frame}
 use Rattle.tap_wire.specs.Spelling.{IsFrame}
@@ -25,7 +24,8 @@ use Rattle.tap_node.specs.Outcome.{AnswersAs, acted_as, at_frame, refused_by, st
 use Rattle.tap_node.specs.Seen.{FollowsFrom, IsHeldBy, IsKeptFor, StartsFrom, node_value, state_held}
 use Rattle.tap_node.proofs.Answering.{HasActed, IsTurned, refuses_as, step_answers, step_keeps}
 use Rattle.tap_node.proofs.Followed.{followed_frame, followed_start}
-use Rattle.tap_node.proofs.KeptSteps.{StartsNamed, is_start, sound_frame, sound_start}
+use Rattle.tap_node.proofs.KeptRules.{StartsNamed}
+use Rattle.tap_node.proofs.KeptSteps.{is_start, sound_frame, sound_start}
 
 -- a node that takes no steps refuses each start
 pub start_refused : (node : NodeValue) (begun : Start) → node.ended ≡ true

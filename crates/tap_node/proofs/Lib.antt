@@ -1,8 +1,7 @@
 pub mod Followed
 pub mod Few
 pub mod Kept
-pub mod KeptFrames
-pub mod KeptCore
+pub mod KeptRules
 pub mod KeptSteps
 pub mod Starting
 pub mod Ends
