@@ -1,4 +1,5 @@
 -- What stands at a place of a list is among it: targets, offered links, and frames that are sent; and names are the same or not.
+pub use Rattle.tap_rule.proofs.Among.{all_among, among_all}
 use Rattle.std.proofs.Common.{◌≡◌, ◌≢◌, ◌⊎◌, ℕ, zero, suc, nat_eq, Bool, List, [], ◌∷◌, All, Some, slice_get, ap, refl, subst, sym, ◌∙◌, inl, inr}
 use Rattle.std.specs.Cmp.Lexicographic.{pointwise}
 use Rattle.std.proofs.lemmas.Bool.{cases_Bool, true≢false}
@@ -34,14 +35,3 @@ same_name a b = elim (cases_Bool (pointwise nat_eq a b)) [
   | inl same ↦ inl ((bytes_eq-Decides a b).0 same)
   | inr apart ↦ inr (λ is. true≢false (sym ((bytes_eq-Decides a b).1 is) ∙ apart))
 ]
-
--- what holds of each that is among a list holds of all of it, and the other way round
-module _ {A : Type 0} (P : A → Type 0) where
-  pub all_among : (xs : List A) → ((x : A) → IsAmong x xs → P x) → All P xs
-  all_among [] each = All-nil P
-  all_among (x ∷ xs) each = All-cons P x xs (each x (inl refl)) (all_among xs (λ y among. each y (inr among)))
-
-  pub among_all : (xs : List A) → All P xs → (x : A) → IsAmong x xs → P x
-  among_all [] all x among = absurd among
-  among_all (y ∷ xs) all x (inl is) = subst P (sym is) (All-head P y xs all)
-  among_all (y ∷ xs) all x (inr later) = among_all xs (All-tail P y xs all) x later

@@ -224,9 +224,9 @@ module _ (node : NodeState) (is : IsNode node) (has : KnowsNames (settings_of no
       let parent = closed_parent p node.sessions session _ has.parents closed in record { to = parent.0; body = parent.1 }
   named_spelled said m (ClosingDone {session = session} kind closed) =
       record { to = closed_parent p node.sessions session _ has.parents closed; body = tt }
-  named_spelled said m (HolderRelease k default within) = record { to = holders_named node.ties is.ties k default within; body = tt }
+  named_spelled said m (HolderRelease k default keeps_on within) = record { to = holders_named node.ties is.ties k default within; body = tt }
   named_spelled said m LinkRelease = record { to = said.0; body = tt }
-  named_spelled said m (HolderForget k default within) = record { to = holders_named node.ties is.ties k default within; body = tt }
+  named_spelled said m (HolderForget k default given_up within) = record { to = holders_named node.ties is.ties k default within; body = tt }
   named_spelled said m LinkForget = record { to = said.0; body = tt }
   named_spelled said m (FirstFind {object = object} none goes) =
       let hop = hop_named object 0 said (omega arith) _ _ goes in record { to = hop.0; body = (said, is.ties.table.owner, hop.1) }

@@ -1,5 +1,6 @@
 -- What is among the elements of a list: of two lists, of a mapped one, and of words in order.
-use Rattle.std.proofs.Common.{◌≡◌, ◌⊎◌, List, [], ◌∷◌, ◌++◌, map, Bool, true, false, cond, ap, inl, inr, refl}
+use Rattle.std.proofs.Common.{◌≡◌, ◌⊎◌, List, [], ◌∷◌, ◌++◌, map, All, Bool, true, false, cond, ap, inl, inr, refl, subst, sym}
+use Rattle.std.proofs.lemmas.List.Elements.{All-cons, All-head, All-nil, All-tail}
 use Rattle.std.specs.Ordering.{is_gt}
 use Rattle.tap_name.specs.Order.{name_cmp}
 use Rattle.tap_table.specs.declared.tie.Tie.{Tie}
@@ -23,6 +24,17 @@ module _ {A : Type 0} where
   among-either x (z ∷ zs) ys (inl is) = inl (inl is)
   among-either x (z ∷ zs) ys (inr later) =
       elim (among-either x zs ys later) [ inl first ↦ inl (inr first) | inr second ↦ inr second ]
+
+-- what holds of each that is among a list holds of all of it, and the other way round
+module _ {A : Type 0} (P : A → Type 0) where
+  pub all_among : (xs : List A) → ((x : A) → IsAmong x xs → P x) → All P xs
+  all_among [] each = All-nil P
+  all_among (x ∷ xs) each = All-cons P x xs (each x (inl refl)) (all_among xs (λ y among. each y (inr among)))
+
+  pub among_all : (xs : List A) → All P xs → (x : A) → IsAmong x xs → P x
+  among_all [] all x among = absurd among
+  among_all (y ∷ xs) all x (inl is) = subst P (sym is) (All-head P y xs all)
+  among_all (y ∷ xs) all x (inr later) = among_all xs (All-tail P y xs all) x later
 
 module _ {A B : Type 0} (f : A → B) where
   -- what comes of one of these is among what comes of all, and back

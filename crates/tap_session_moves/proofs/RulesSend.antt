@@ -294,8 +294,8 @@ module _ (P Q : List ℕ → Type 0) where
         (closed_by JoinParent (join_session_at node session) _ (λ a found. parents session a found) closed, tt)
     named_goes said m (ClosingDone {session = session} kind closed) =
         (closed_by JoinParent (join_session_at node session) _ (λ a found. parents session a found) closed, tt)
-    named_goes said m (HolderRelease k d within) = (holders k d within, tt)
-    named_goes said m (HolderForget k d within) = (holders k d within, tt)
+    named_goes said m (HolderRelease k d keeps_on within) = (holders k d within, tt)
+    named_goes said m (HolderForget k d given_up within) = (holders k d within, tt)
     named_goes said m (FirstFind {object = object} {to = to} {level = level} none goes) =
         let hop = hop_asked object (name_of node) 0 said.1 (omega arith) to level goes in
         let shared = hop.shared in
