@@ -1,11 +1,14 @@
 -- a name and its text
-use Rattle.std.proofs.Common.{◌≡◌, ◌↔◌, ◌==◌, ℕ, ◌<◌, ◌≤◌, nat_lt, nat_le, arith, List, [], ◌∷◌, length, get_or, map, false, All, Some, Result, Ok, Err, refl, ap, sym, ◌∙◌, inl, inr}
+use Rattle.std.proofs.Common.{◌≡◌, ◌↔◌, ◌==◌, ℕ, ◌<◌, ◌≤◌, nat_lt, nat_le, arith, List, [], ◌∷◌, length, get_or, map, take, set, ◌+◌, false, All, Some, Result, Ok, Err, refl, ap, sym, ◌∙◌, inl, inr}
 use Rattle.std.specs.List.{position_or_len}
 use Rattle.std.specs.Result.{result_ok}
 use Rattle.std.proofs.lemmas.Bool.{cases_Bool, ltb-false, leb-false, eqb-true}
 use Rattle.std.proofs.lemmas.Bool.Decides.{nat_tests}
 use Rattle.std.proofs.lemmas.List.Sums.{fails_before_first}
-use Rattle.std.proofs.lemmas.List.{length-map}
+use Rattle.std.specs.Str.{IsUtf8}
+use Rattle.std.proofs.lemmas.Str.{IsUtf8-from_ascii}
+use Rattle.std.proofs.lemmas.Str.Ascii.{IsAscii-from_all}
+use Rattle.std.proofs.lemmas.List.{length-map, get_or-map, take_all, take_more, take_more_set}
 use Rattle.std.proofs.lemmas.List.Elements.{All-head, All-tail, All-map}
 use Rattle.tap_name.specs.Settings.{SettingsValue}
 use Rattle.tap_name.specs.Digits.{text_of_digit, digit_of_text}
@@ -107,3 +110,29 @@ no_space_digit digit = grind (arith, nat_tests)
 -- the text of a name has no space
 pub text_of_name-no_space : (name : List ℕ) → All (λ byte. (byte == 32) ≡ false) (text_of_name name)
 text_of_name-no_space name = text_of_name-All (λ byte. (byte == 32) ≡ false) no_space_digit name
+
+-- one more digit of a name is printed
+pub text_of_name-more : (name text : List ℕ) (at : ℕ) → at < length name → at < length text
+    → take at text ≡ take at (text_of_name name)
+    → take (at + 1) (set text at (text_of_digit (get_or name at 0))) ≡ take (at + 1) (text_of_name name)
+text_of_name-more name text at more room so_far =
+    let len = text_of_name-length name in
+    let last = take_more (text_of_name name) at 0 (omega (arith, len)) in
+    let digit = get_or-map text_of_digit name at 0 0 more in
+    rw (take_more_set text at (text_of_digit (get_or name at 0)) room, last, so_far, digit) refl
+
+ascii_digit : (digit : ℕ) → digit < 16 → text_of_digit digit < 128
+ascii_digit digit small = grind (arith, nat_tests)
+
+-- the text of a name is ASCII
+pub text_of_name-IsUtf8 : (name : List ℕ) → All (λ d. d < 16) name → IsUtf8 (text_of_name name)
+text_of_name-IsUtf8 name small =
+    IsUtf8-from_ascii (text_of_name name)
+    (IsAscii-from_all (text_of_name name)
+    (All-map (λ byte. byte < 128) text_of_digit name (λ k d h. ascii_digit (get_or name k d) (small k d h))))
+
+-- the printed digits are the text of a name once all are printed
+pub text_of_name-all : (name text : List ℕ) (at : ℕ) → at ≡ length name → take at text ≡ take at (text_of_name name)
+    → take (length name) text ≡ text_of_name name
+text_of_name-all name text at end same =
+    let long = text_of_name-length name in rw (← end) (same ∙ take_all at (text_of_name name) (omega (arith, long, end)))

@@ -1,6 +1,7 @@
 //! Names made of digits, the settings that they have in common, the slots of tables, and lists.
 #![tactic(auto)]
 
+mod display;
 mod list;
 mod name;
 mod settings;

@@ -1,6 +1,6 @@
 use crate::{
-    List, Name, NameFault, Offered, Settings, Slot, are_word_bytes, next_cyclic, read_name,
-    slot_of, text_of_digit,
+    List, Name, NameFault, NoMemory, Offered, Settings, Slot, are_word_bytes, next_cyclic,
+    read_name, slot_of, text_of_digit,
 };
 use std::test::Fail;
 
@@ -104,5 +104,17 @@ fn keeps_a_list(rt: HostRuntime) -> Result<(), Fail> {
     let again = List::from_vec(list.into_vec());
     assert_eq!(rt; again.len(), 1);
     assert_eq!(rt; again.at(0), offered);
+    Ok(())
+}
+
+#[test]
+fn a_name_and_the_faults_are_printed(rt: HostRuntime) -> Result<(), Fail> {
+    let settings = Settings::new(16, 3, 2).ok_or("settings")?;
+    let name = read_name(&settings, b"0af").map_err(|_| "a name")?;
+    let text = format!(in rt.alloc(); "{name} {name:>5}")?;
+    assert_eq!(rt; text.as_str(), "0af   0af");
+    let (length, digit) = (NameFault::BadLength(41), NameFault::BadDigit(2));
+    let text = format!(in rt.alloc(); "{length}, {digit}, {NoMemory}")?;
+    assert_eq!(rt; text.as_str(), "bad length 41, bad digit 2, no memory");
     Ok(())
 }
