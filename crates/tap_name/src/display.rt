@@ -36,7 +36,7 @@ impl Error for NameFault {}
 
 impl fmt::Display for NoMemory {
     fn fmt<W: fmt::Write>(&self, f: &mut fmt::Formatter<W>) -> fmt::Result {
-        write!(f, "no memory")
+        f.write_str("no memory")
     }
 }
 
