@@ -4,6 +4,8 @@ ghost use Rattle.tap_wire.specs.declared.fault.WireFault.TheVariants.{NoMemory};
 ghost use Rattle.tap_wire.specs.Fault.{fault_of_head, fault_of_body};
 
 use std::alloc::{AllocError, AllocFailed};
+use std::error::Error;
+use std::fmt;
 
 /// Why bytes are no frame, by its head and its two names alone: the first refusal, in the order of the variants but for
 /// `Short`, which also comes after `BadCount`.
@@ -53,6 +55,34 @@ pub enum WireFault {
     /// Memory was refused.
     NoMemory,
 }
+
+// The words of the same fault of a whole frame.
+impl fmt::Display for HeadFault {
+    fn fmt<W: fmt::Write>(&self, f: &mut fmt::Formatter<W>) -> fmt::Result {
+        WireFault::from(*self).fmt(f)
+    }
+}
+
+impl Error for HeadFault {}
+
+// The words of docs/FORMATS.md, "The printed text", of a damaged copy.
+impl fmt::Display for WireFault {
+    fn fmt<W: fmt::Write>(&self, f: &mut fmt::Formatter<W>) -> fmt::Result {
+        match self {
+            WireFault::Short(missing) => write!(f, "short {missing}"),
+            WireFault::BadVersion(version) => write!(f, "bad version {version}"),
+            WireFault::BadKind(kind) => write!(f, "bad kind {kind}"),
+            WireFault::BadLength(len) => write!(f, "bad length {len}"),
+            WireFault::BadCount(count) => write!(f, "bad count {count}"),
+            WireFault::Trailing(more) => write!(f, "trailing {more}"),
+            WireFault::BadDigit(at) => write!(f, "bad digit {at}"),
+            WireFault::BadBody(at) => write!(f, "bad body {at}"),
+            WireFault::NoMemory => f.write_str("no memory"),
+        }
+    }
+}
+
+impl Error for WireFault {}
 
 // A field of a body breaks its rule.
 #[derive(Clone, Copy, Debug, PartialEq, Eq)]

@@ -1,7 +1,7 @@
 use crate::bytes::MOST_IN_PLACE;
 use crate::{
-    Body, Bytes, MOST_LETTERS, MOST_LINKS, TellFields, WireFault, decode, decode_head, encode,
-    encode_tell,
+    Body, Bytes, HeadFault, MOST_LETTERS, MOST_LINKS, TellFields, WireFault, decode, decode_head,
+    encode, encode_tell,
 };
 use std::alloc::{AllocError, Global};
 use std::process::Abort;
@@ -190,5 +190,28 @@ fn copies_any_number_of_bytes(rt: HostRuntime) -> Result<(), Fail> {
         let copy = Bytes::copy_of(rt.alloc(), bytes.as_slice()).map_err(|_| "memory")?;
         assert_eq!(rt; copy.as_slice(), bytes.as_slice());
     }
+    Ok(())
+}
+
+#[test]
+fn faults_are_printed(rt: HostRuntime) -> Result<(), Fail> {
+    let heads = [
+        (HeadFault::Short(3), "short 3"),
+        (HeadFault::BadVersion(9), "bad version 9"),
+        (HeadFault::BadKind(30), "bad kind 30"),
+        (HeadFault::BadLength(773), "bad length 773"),
+        (HeadFault::BadCount(8), "bad count 8"),
+        (HeadFault::Trailing(1), "trailing 1"),
+        (HeadFault::BadDigit(5), "bad digit 5"),
+    ];
+    for (fault, text) in heads.iter() {
+        assert_eq!(rt; fault.to_string(rt.alloc())?.as_str(), *text);
+        let fault = WireFault::from(*fault);
+        assert_eq!(rt; fault.to_string(rt.alloc())?.as_str(), *text);
+    }
+    let body = WireFault::BadBody(16).to_string(rt.alloc())?;
+    assert_eq!(rt; body.as_str(), "bad body 16");
+    let memory = WireFault::NoMemory.to_string(rt.alloc())?;
+    assert_eq!(rt; memory.as_str(), "no memory");
     Ok(())
 }
