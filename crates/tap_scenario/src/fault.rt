@@ -1,7 +1,10 @@
-ghost use Rattle.std.specs.Prelude.{◌≡◌};
+ghost use Rattle.std.specs.Prelude.{◌≡◌, Some};
+ghost use Rattle.std.specs.Fmt.{styled_text};
 ghost use Rattle.tap_scenario.specs.Key.{text_of_key};
 
 use std::alloc::{AllocError, AllocFailed};
+use std::error::Error;
+use std::fmt;
 
 /// A key of a scenario's text.
 ///
@@ -41,6 +44,16 @@ impl Key {
     }
 }
 
+impl fmt::Display for Key {
+    ghost output = { λ key. Some (text_of_key key) };
+
+    ghost styled_output = { λ key spec. Some (styled_text spec (text_of_key key)) };
+
+    fn fmt<W: fmt::Write>(&self, f: &mut fmt::Formatter<W>) -> fmt::Result {
+        f.pad(self.text())
+    }
+}
+
 /// The first thing that is wrong with a scenario's text, in the order of the variants.
 ///
 /// Rule: docs/FORMATS.md, "The scenario".
@@ -58,6 +71,21 @@ pub enum Fault {
     BadStep(u32),
 }
 
+// The words of docs/FORMATS.md, "The fault line and the exit status".
+impl fmt::Display for Fault {
+    fn fmt<W: fmt::Write>(&self, f: &mut fmt::Formatter<W>) -> fmt::Result {
+        match self {
+            Fault::NotUtf8 => f.write_str("not UTF-8"),
+            Fault::NotToml => f.write_str("not TOML"),
+            Fault::BadKey(key) => write!(f, "bad key {key}"),
+            Fault::BadValue(key) => write!(f, "bad value {key}"),
+            Fault::BadStep(index) => write!(f, "bad step {index}"),
+        }
+    }
+}
+
+impl Error for Fault {}
+
 /// Why no scenario was read.
 ///
 /// Rule: docs/FORMATS.md, "Why a text is refused".
@@ -68,6 +96,18 @@ pub enum ReadRefusal {
     /// Memory was refused.
     NoMemory,
 }
+
+// The words of docs/FORMATS.md, "The fault line and the exit status".
+impl fmt::Display for ReadRefusal {
+    fn fmt<W: fmt::Write>(&self, f: &mut fmt::Formatter<W>) -> fmt::Result {
+        match self {
+            ReadRefusal::Fault(fault) => write!(f, "not a scenario: {fault}"),
+            ReadRefusal::NoMemory => f.write_str("no memory"),
+        }
+    }
+}
+
+impl Error for ReadRefusal {}
 
 impl From<Fault> for ReadRefusal {
     ghost use Rattle.tap_scenario.specs.declared.fault.ReadRefusal.TheVariants.{Fault as Refused};

@@ -668,3 +668,41 @@ fn tells_the_words_of_steps_and_keys(rt: HostRuntime) -> Result<(), Fail> {
     assert_eq!(rt; Key::Frames.text(), "frames");
     Ok(())
 }
+
+#[test]
+fn faults_are_printed(rt: HostRuntime) -> Result<(), Fail> {
+    let rows = [
+        (Fault::NotUtf8, "not a scenario: not UTF-8"),
+        (Fault::NotToml, "not a scenario: not TOML"),
+        (Fault::BadKey(Key::Base), "not a scenario: bad key base"),
+        (Fault::BadKey(Key::Digits), "not a scenario: bad key digits"),
+        (
+            Fault::BadKey(Key::Unknown),
+            "not a scenario: bad key unknown",
+        ),
+        (
+            Fault::BadValue(Key::Width),
+            "not a scenario: bad value width",
+        ),
+        (
+            Fault::BadValue(Key::Frames),
+            "not a scenario: bad value frames",
+        ),
+        (
+            Fault::BadValue(Key::Members),
+            "not a scenario: bad value members",
+        ),
+        (
+            Fault::BadValue(Key::Steps),
+            "not a scenario: bad value steps",
+        ),
+        (Fault::BadStep(12), "not a scenario: bad step 12"),
+    ];
+    for (fault, text) in rows.iter() {
+        let refusal = ReadRefusal::Fault(*fault);
+        assert_eq!(rt; refusal.to_string(rt.alloc())?.as_str(), *text);
+    }
+    let memory = ReadRefusal::NoMemory.to_string(rt.alloc())?;
+    assert_eq!(rt; memory.as_str(), "no memory");
+    Ok(())
+}
