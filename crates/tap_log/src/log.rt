@@ -3,6 +3,8 @@ ghost use Rattle.tap_log.specs.Log.{LogValue};
 
 use crate::record::Record;
 use std::alloc::{AllocError, AllocFailed, Global};
+use std::error::Error;
+use std::fmt;
 use std::marker::Model;
 
 /// Memory was refused.
@@ -10,6 +12,14 @@ use std::marker::Model;
 /// Rule: docs/DECISIONS.md, "The logs of a run".
 #[derive(Clone, Copy, Debug, PartialEq, Eq)]
 pub struct NoMemory;
+
+impl fmt::Display for NoMemory {
+    fn fmt<W: fmt::Write>(&self, f: &mut fmt::Formatter<W>) -> fmt::Result {
+        f.write_str("no memory")
+    }
+}
+
+impl Error for NoMemory {}
 
 impl From<AllocError> for NoMemory {
     fn from(_: AllocError) -> NoMemory {

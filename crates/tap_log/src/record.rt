@@ -1,5 +1,7 @@
 ghost use Rattle.std.specs.Prelude.{◌≡◌, true};
 
+use std::error::Error;
+use std::fmt;
 use tap_name::{List, Name, Settings, Slot};
 use tap_scenario::Step;
 use tap_wire::{Bytes, WireFault};
@@ -43,6 +45,32 @@ pub enum Refusal {
     /// The node's name doesn't begin with the prefix.
     NotInPrefix,
 }
+
+// The words that the line of a refusal ends with.
+impl fmt::Display for Refusal {
+    fn fmt<W: fmt::Write>(&self, f: &mut fmt::Formatter<W>) -> fmt::Result {
+        match self {
+            Refusal::NoSuchNode => f.write_str("no such node"),
+            Refusal::NotCore => f.write_str("not core"),
+            Refusal::Departing(leaver) => write!(f, "departing {leaver}"),
+            Refusal::NotAtRest(count) => write!(f, "not at rest {count}"),
+            Refusal::NameTaken => f.write_str("name taken"),
+            Refusal::TooManyNodes => f.write_str("too many nodes"),
+            Refusal::LastNode => f.write_str("last node"),
+            Refusal::AlreadyPublished => f.write_str("already published"),
+            Refusal::NotPublished => f.write_str("not published"),
+            Refusal::NoSuchFlight(count) => write!(f, "no such flight {count}"),
+            Refusal::NoSuchByte(len) => write!(f, "no such byte {len}"),
+            Refusal::Readable => f.write_str("readable"),
+            Refusal::NotJoining => f.write_str("not joining"),
+            Refusal::AlreadyAbandoned => f.write_str("already abandoned"),
+            Refusal::TooManyPackets(made) => write!(f, "too many packets {made}"),
+            Refusal::NotInPrefix => f.write_str("not in prefix"),
+        }
+    }
+}
+
+impl Error for Refusal {}
 
 /// What a node is, as its table is printed.
 ///

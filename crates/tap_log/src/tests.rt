@@ -143,3 +143,30 @@ fn single_records_tell_numbers_names_and_pairs(rt: HostRuntime) -> Result<(), Fa
     assert!(rt; is_added(&Record::Ticked));
     Ok(())
 }
+
+#[test]
+fn refusals_are_printed(rt: HostRuntime) -> Result<(), Fail> {
+    let rows = [
+        (Refusal::NoSuchNode, "no such node"),
+        (Refusal::NotCore, "not core"),
+        (Refusal::Departing(name_at(0, 1)?), "departing 01"),
+        (Refusal::NotAtRest(3), "not at rest 3"),
+        (Refusal::NameTaken, "name taken"),
+        (Refusal::TooManyNodes, "too many nodes"),
+        (Refusal::LastNode, "last node"),
+        (Refusal::AlreadyPublished, "already published"),
+        (Refusal::NotPublished, "not published"),
+        (Refusal::NoSuchFlight(4), "no such flight 4"),
+        (Refusal::NoSuchByte(13), "no such byte 13"),
+        (Refusal::Readable, "readable"),
+        (Refusal::NotJoining, "not joining"),
+        (Refusal::AlreadyAbandoned, "already abandoned"),
+        (Refusal::TooManyPackets(300_000), "too many packets 300000"),
+        (Refusal::NotInPrefix, "not in prefix"),
+    ];
+    for (refusal, text) in rows.iter() {
+        assert_eq!(rt; refusal.to_string(rt.alloc())?.as_str(), *text);
+    }
+    assert_eq!(rt; NoMemory.to_string(rt.alloc())?.as_str(), "no memory");
+    Ok(())
+}
