@@ -1,2 +1,3 @@
+pub mod Kinds
 pub mod Targets
 pub mod Casts

@@ -1,3 +1,4 @@
+pub mod Kinds
 pub mod Due
 pub mod Pair
 pub mod Pointers

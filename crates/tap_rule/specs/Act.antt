@@ -1,7 +1,11 @@
 -- What a node does at an event.
 --
+-- An event: `act`. A frame then passes `is_strange`, and `rule_of_frame` if it isn't; a start passes `rule_of_start`. Both go on
+-- with `follows`, `completed` and `carried_out`.
+--
 -- Rule: docs/PROTOCOL.md, "Steps of a node".
-use Rattle.std.specs.Prelude.{List, ℕ, [], true, false, if◌then◌else◌, Option, None, Some}
+use Rattle.std.specs.Prelude.{[], true, false, if◌then◌else◌, Option, None, Some}
+use Rattle.tap_name.specs.Kinds.{Name}
 use Rattle.tap_rule.specs.Node.{NodeState, Status, name_of}
 use Rattle.tap_rule.specs.Node.Status.{Joining, Core, Leaving, Gone, Ceased}
 use Rattle.tap_rule.specs.Event.{Acted, Event}
@@ -31,7 +35,7 @@ completed Gone reaction = reaction
 completed Ceased reaction = reaction
 
 -- what comes of it
-abbrev pub carried_out : List ℕ → Reaction → Acted
+abbrev pub carried_out : Name → Reaction → Acted
 carried_out from reaction =
     record { state = reaction.state; sent = frames_of from reaction; news = reaction.news; strange = false }
 

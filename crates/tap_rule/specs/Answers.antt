@@ -1,7 +1,10 @@
 -- Answers to the sessions of joins: Heard and Ack, at a joining, core or ceased node.
 --
+-- A Heard or an Ack: `answered`, then `answer_sends`, then `answer_for`.
+--
 -- Rule: docs/PROTOCOL.md, "Heard and Ack".
 use Rattle.std.specs.Prelude.{ℕ, ◌+◌, List, [], ◌∷◌}
+use Rattle.tap_session.specs.Kinds.{Depth, SessionNumber}
 use Rattle.tap_session.specs.declared.parent.Parent.{Parent}
 use Rattle.tap_session.specs.declared.parent.Parent.TheVariants.{Root, Node}
 use Rattle.tap_session.specs.declared.sessions.Answered.{Answered}
@@ -23,14 +26,14 @@ answer_sends (Closed parent) = answer_for parent ∷ []
 answer_sends Unknown = []
 
 -- Heard or Ack: the session of this number has one answer more
-abbrev pub answered : NodeState → ℕ → Reaction
+abbrev pub answered : NodeState → SessionNumber → Reaction
 answered node session =
     sends (record node { sessions = answered_at node.sessions session })
     (answer_sends (answer_to (join_session_at node session)))
 
 -- the number of the session that is opened next, and the node once it is open
-abbrev pub next_number : NodeState → ℕ
+abbrev pub next_number : NodeState → SessionNumber
 next_number node = node.sessions.opened + 1
 
-abbrev pub with_session : NodeState → Parent → ℕ → ℕ → NodeState
+abbrev pub with_session : NodeState → Parent → Depth → ℕ → NodeState
 with_session node parent depth waiting = record node { sessions = opened_with node.sessions parent depth waiting }

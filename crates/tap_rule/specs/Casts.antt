@@ -1,13 +1,19 @@
 -- Casts: the start, Cast and CastAck.
 --
+-- The start: `starts_cast`, then `casts`. A Cast: `takes_cast`, then `casts`. Both go on with `casts_as` and `cast_spreads`. A Cast at a
+-- joining or ceased node: `answers_cast`. A CastAck: `cast_answered`, then `cast_answered_as`.
+--
 -- Rule: docs/PROTOCOL.md, "Cast" and "CastAck".
 use Rattle.std.specs.Prelude.{ℕ, ◌+◌, ◌-◌, ◌||◌, Bool, true, false, if◌then◌else◌, List, [], ◌∷◌, ◌++◌, length, map}
 use Rattle.std.specs.List.{slice_index_or}
+use Rattle.tap_name.specs.Kinds.{Level, Name}
+use Rattle.tap_session.specs.Kinds.{Depth, SessionNumber}
 use Rattle.tap_session.specs.declared.parent.Parent.{Parent}
 use Rattle.tap_session.specs.declared.parent.Parent.TheVariants.{Root, Node}
 use Rattle.tap_session.specs.declared.sessions.Answered.{Answered}
 use Rattle.tap_session.specs.declared.sessions.Answered.TheVariants.{Open, Closed, Unknown}
 use Rattle.tap_session.specs.Sessions.{answer_to, answered_at, opened_with, session_of}
+use Rattle.tap_cast.specs.Kinds.{CastNumber}
 use Rattle.tap_cast.specs.declared.casts.CastTurn.{CastTurn}
 use Rattle.tap_cast.specs.declared.casts.CastTurn.TheVariants.{Already, Now}
 use Rattle.tap_cast.specs.declared.target.CastTarget.{CastTarget}
@@ -20,10 +26,10 @@ use Rattle.tap_rule.specs.Reaction.{Message, Reaction, message, sends, with_news
 
 -- a copy of a cast: its number, the level, who is answered in the end, the depth, and the word
 pub record Copy : Type 0 where
-  pub cast : ℕ
-  pub level : ℕ
+  pub cast : CastNumber
+  pub level : Level
   pub parent : Parent
-  pub depth : ℕ
+  pub depth : Depth
   pub word : List ℕ
 
 -- whether a parent is the root: then the cast is closed, and nobody is answered
@@ -36,11 +42,11 @@ cast_answer (Root name) = []
 cast_answer (Node name session) = message name (CastAck session) ∷ []
 
 -- the news of a cast, if it has reached the node or is closed
-abbrev pub cast_news : ℕ → Bool → Bool → News
+abbrev pub cast_news : CastNumber → Bool → Bool → News
 cast_news cast reached closed = if reached || closed then CastNews cast reached closed else Nothing
 
 -- the number of the session that is opened next, and the node once it is open
-abbrev pub next_cast_session : NodeState → ℕ
+abbrev pub next_cast_session : NodeState → SessionNumber
 next_cast_session node = node.cast_sessions.opened + 1
 
 abbrev pub with_cast_session : NodeState → Copy → ℕ → NodeState
@@ -50,7 +56,7 @@ with_cast_session node copy waiting = record node {
 }
 
 -- the Cast for a target
-abbrev pub cast_for : Copy → ℕ → CastTarget → Message
+abbrev pub cast_for : Copy → SessionNumber → CastTarget → Message
 cast_for copy session target = message target.to (Cast copy.cast target.level session (copy.depth + 1) copy.word)
 
 -- the targets are sent the cast, in a session that waits for them; without targets the parent is answered at once
@@ -72,32 +78,32 @@ abbrev pub casts : NodeState → Copy → Reaction
 casts node copy = casts_as node copy (turn_of node.casts node.ties.table copy.cast copy.level)
 
 -- the start of a cast, at a core node, which is the root of its sessions
-abbrev pub starts_cast : NodeState → ℕ → ℕ → List ℕ → Reaction
+abbrev pub starts_cast : NodeState → CastNumber → Level → List ℕ → Reaction
 starts_cast node cast level word =
     casts node (record { cast = cast; level = level; parent = Root (name_of node); depth = 0; word = word })
 
 -- Cast, at a core node
-abbrev pub takes_cast : NodeState → List ℕ → ℕ → ℕ → ℕ → ℕ → List ℕ → Reaction
+abbrev pub takes_cast : NodeState → Name → CastNumber → Level → SessionNumber → Depth → List ℕ → Reaction
 takes_cast node from cast level session depth word =
     casts node (record { cast = cast; level = level; parent = Node from session; depth = depth; word = word })
 
 -- Cast, at a joining or ceased node: it is answered
-abbrev pub answers_cast : NodeState → List ℕ → ℕ → Reaction
+abbrev pub answers_cast : NodeState → Name → SessionNumber → Reaction
 answers_cast node from session = sends node (message from (CastAck session) ∷ [])
 
 -- the cast of a session
-abbrev pub cast_of : NodeState → ℕ → ℕ
+abbrev pub cast_of : NodeState → SessionNumber → CastNumber
 cast_of node session = slice_index_or node.cast_numbers (session - 1) 0
 
 -- what an answer does in a session of this cast: the last one is passed on, and at the root the cast is closed
-abbrev pub cast_answered_as : NodeState → ℕ → Answered → Reaction
+abbrev pub cast_answered_as : NodeState → CastNumber → Answered → Reaction
 cast_answered_as node cast Open = sends node []
 cast_answered_as node cast (Closed parent) =
     with_news (cast_news cast false (is_root parent)) (sends node (cast_answer parent))
 cast_answered_as node cast Unknown = sends node []
 
 -- CastAck, at a core node: the session of this number has one answer more
-abbrev pub cast_answered : NodeState → ℕ → Reaction
+abbrev pub cast_answered : NodeState → SessionNumber → Reaction
 cast_answered node session =
     cast_answered_as (record node { cast_sessions = answered_at node.cast_sessions session }) (cast_of node session)
     (answer_to (session_of node.cast_sessions.sessions session))

@@ -1,7 +1,12 @@
 -- Joins that are given up, and what a node does that has ceased.
 --
+-- Giving a join up: `gives_up`. A Done: `is_done`, then `becomes_core` or `ceases`. At a node that has ceased, a Tell:
+-- `acknowledges`, and a Link: `is_forgotten`.
+--
 -- Rule: docs/PROTOCOL.md, "Giving a join up" and "Done" and "Tell" and "Link".
-use Rattle.std.specs.Prelude.{ℕ, Bool, true, if◌then◌else◌, List, [], ◌∷◌}
+use Rattle.std.specs.Prelude.{Bool, true, if◌then◌else◌, [], ◌∷◌}
+use Rattle.tap_name.specs.Kinds.{Name}
+use Rattle.tap_session.specs.Kinds.{SessionNumber}
 use Rattle.tap_table.specs.ByName.{targets_by_name}
 use Rattle.tap_table.specs.Ties.{holders_on, off_ties}
 use Rattle.tap_wire.specs.declared.frame.Body.TheVariants.{Ack, Forget}
@@ -28,9 +33,9 @@ abbrev pub is_done : NodeState → Reaction
 is_done node = if node.abandoned then ceases node else becomes_core node
 
 -- Tell, at a node that has ceased: it is answered
-abbrev pub acknowledges : NodeState → List ℕ → ℕ → Reaction
+abbrev pub acknowledges : NodeState → Name → SessionNumber → Reaction
 acknowledges node from session = sends node (message from (Ack session) ∷ [])
 
 -- Link, at a node that has ceased: who says that it has a link is to forget it
-abbrev pub is_forgotten : NodeState → List ℕ → Bool → Reaction
+abbrev pub is_forgotten : NodeState → Name → Bool → Reaction
 is_forgotten node holder on = sends node (if on then message holder Forget ∷ [] else [])

@@ -1,9 +1,14 @@
 -- What a core node does for a joiner: Seek and Tell.
 --
+-- A Seek: `seeks`, then `seeks_as`, and at the surrogate `first_request` and `pins_and_covers`. A Tell: `takes_tell`, then
+-- `request_of` and `pins_and_covers`. Both go on with `covers`, `covers_as` and `spreads`.
+--
 -- Rule: docs/PROTOCOL.md, "Seek" and "Tell" and "Covers of a node".
 use Rattle.std.specs.Prelude.{ℕ, ◌==◌, ◌+◌, Bool, true, if◌then◌else◌, List, [], ◌∷◌, ◌++◌, length, map}
+use Rattle.tap_name.specs.Kinds.{Level, Name}
 use Rattle.tap_name.specs.declared.slot.Offered.{Offered}
 use Rattle.tap_name.specs.declared.slot.Slot.{Slot}
+use Rattle.tap_session.specs.Kinds.{Depth, SessionNumber}
 use Rattle.tap_session.specs.declared.parent.Parent.{Parent}
 use Rattle.tap_session.specs.declared.parent.Parent.TheVariants.{Root, Node}
 use Rattle.tap_watch.specs.Level.{full_slots}
@@ -24,23 +29,23 @@ use Rattle.tap_rule.specs.Answers.{answer_for, next_number, with_session}
 -- what a node is asked to do for a joiner: to cover it, with its prefix, from a level on; the slots that it still watches;
 -- who is answered in the end; and the depth
 pub record Request : Type 0 where
-  pub joiner : List ℕ
-  pub prefix : ℕ
-  pub level : ℕ
+  pub joiner : Name
+  pub prefix : Level
+  pub level : Level
   pub watch : List Slot
   pub parent : Parent
-  pub depth : ℕ
+  pub depth : Depth
 
 -- how many answers a cover waits for: one of each target, and if it is the first, one of the joiner
 abbrev pub answers_awaited : Bool → ℕ → ℕ
 answers_awaited first targets = if first then targets + 1 else targets
 
 -- the Hello of a first cover, with the links that are offered
-abbrev pub greeting : Request → ℕ → Bool → List Offered → List Message
+abbrev pub greeting : Request → SessionNumber → Bool → List Offered → List Message
 greeting request session first offer = if first then message request.joiner (Hello session true offer) ∷ [] else []
 
 -- the Tell for a target, with the watch that is left
-abbrev pub tell_for : Request → ℕ → List Slot → Target → Message
+abbrev pub tell_for : Request → SessionNumber → List Slot → Target → Message
 tell_for request session left target =
     message target.to (Tell request.joiner request.prefix target.level session (request.depth + 1) left)
 
@@ -75,7 +80,7 @@ pins_and_covers node request =
     with_words (words_of (pin_word node request.joiner)) (covers (with_pin node request.joiner) request)
 
 -- the request of a joiner's surrogate, to which it has come with a Seek: it begins with its prefix, and with the full watch
-abbrev pub first_request : NodeState → List ℕ → ℕ → Request
+abbrev pub first_request : NodeState → Name → Level → Request
 first_request node joiner prefix = record {
   joiner = joiner;
   prefix = prefix;
@@ -86,7 +91,7 @@ first_request node joiner prefix = record {
 }
 
 -- the request of a Tell, whose sender is answered in the end
-abbrev pub request_of : List ℕ → TellFields → List Slot → Request
+abbrev pub request_of : Name → TellFields → List Slot → Request
 request_of from tell watch = record {
   joiner = tell.joiner;
   prefix = tell.prefix;
@@ -97,13 +102,13 @@ request_of from tell watch = record {
 }
 
 -- Seek, at a core node: it goes on to the primary of the joiner's slot, or else the node is the joiner's surrogate
-abbrev pub seeks_as : NodeState → List ℕ → Sought → Reaction
+abbrev pub seeks_as : NodeState → Name → Sought → Reaction
 seeks_as node joiner (Forward next) = sends node (message next (Seek joiner) ∷ [])
 seeks_as node joiner (Surrogate prefix) = pins_and_covers node (first_request node joiner prefix)
 
-abbrev pub seeks : NodeState → List ℕ → Reaction
+abbrev pub seeks : NodeState → Name → Reaction
 seeks node joiner = seeks_as node joiner (sought node.ties.table joiner)
 
 -- Tell, at a core node
-abbrev pub takes_tell : NodeState → List ℕ → TellFields → List Slot → Reaction
+abbrev pub takes_tell : NodeState → Name → TellFields → List Slot → Reaction
 takes_tell node from tell watch = pins_and_covers node (request_of from tell watch)

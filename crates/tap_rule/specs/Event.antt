@@ -2,24 +2,27 @@
 --
 -- Rule: docs/PROTOCOL.md, "Steps of a node".
 use Rattle.std.specs.Prelude.{ℕ, Bool, List, Option}
+use Rattle.tap_name.specs.Kinds.{Level, Name}
+use Rattle.tap_pointer.specs.Kinds.{Object, Ticket}
+use Rattle.tap_cast.specs.Kinds.{CastNumber}
 use Rattle.tap_wire.specs.declared.frame.Frame.{Frame}
 use Rattle.tap_rule.specs.Node.{NodeState}
 
 -- what a scenario has a node start
 pub data Start : Type 0 where
   -- a joining node seeks its place, by this node
-  Join : List ℕ → Start
+  Join : Name → Start
   -- its join is given up
   Abandon : Start
   -- a core node publishes an object, and withdraws it
-  Publish : List ℕ → Start
-  Withdraw : List ℕ → Start
+  Publish : Object → Start
+  Withdraw : Object → Start
   -- it looks an object up, under this ticket
-  Find : ℕ → List ℕ → Start
+  Find : Ticket → Object → Start
   -- it leaves
   Leave : Start
   -- it sends a word, as the cast of this number, to the nodes that share so many digits with it
-  Cast : ℕ → ℕ → List ℕ → Start
+  Cast : CastNumber → Level → List ℕ → Start
 
 -- a node starts something, or takes a frame that was sent to it
 pub data Event : Type 0 where
@@ -34,9 +37,9 @@ pub data News : Type 0 where
   -- the node is gone, or has ceased
   Gone : News
   -- the lookup of this ticket is answered, with a server or none
-  Answered : ℕ → Option (List ℕ) → News
+  Answered : Ticket → Option Name → News
   -- the cast of this number has reached the node, and is closed, or one of the two
-  Cast : ℕ → Bool → Bool → News
+  Cast : CastNumber → Bool → Bool → News
 
 -- what a step comes to: the state afterwards, the frames that are sent, in order, the news, and whether the event was a frame
 -- that is strange to the node

@@ -7,6 +7,7 @@ use Rattle.tap_wire.specs.declared.frame.Frame.{Frame}
 use Rattle.tap_wire.specs.declared.frame.Body.{Body}
 use Rattle.tap_wire.specs.declared.frame.Body.TheVariants.{Seek, Tell, Hello, Leave, Cast}
 use Rattle.tap_rule.specs.Node.{NodeState, level_of, link_to, name_of}
+use Rattle.tap_rule.specs.Strange.{most_depth, most_links_kept}
 
 -- a Seek: its joiner is another node, which this one neither covers nor links to as leaving
 pub record IsFitSeek (node : NodeState) (joiner : List ℕ) : Type 0 where
@@ -20,13 +21,13 @@ pub record IsFitTell (node : NodeState) (joiner : List ℕ) (prefix deep : ℕ) 
   pub apart : joiner ≢ name_of node
   pub pin : (link_to node joiner ≡ None) ⊎ (link_to node joiner ≡ Some Pin)
   pub shared : prefix ≤ lcp (name_of node) joiner
-  pub depth : deep ≢ 65535
+  pub depth : deep ≢ most_depth
 
 -- by what it says
 abbrev pub IsFitBody : NodeState → Body → Type 0
 IsFitBody node (Seek joiner) = IsFitSeek node joiner
 IsFitBody node (Tell joiner prefix level session depth watch) = IsFitTell node joiner prefix depth
-IsFitBody node (Cast cast level session depth word) = depth ≢ 65535
+IsFitBody node (Cast cast level session depth word) = depth ≢ most_depth
 IsFitBody node _ = Unit {0}
 
 -- a frame from a node could link a name: the joiner of a Seek or Tell, the sender of a Hello and its links, a Leave's replacement
@@ -42,9 +43,9 @@ pub record MayLink (node : NodeState) (frame : Frame) (name : List ℕ) : Type 0
   pub apart : name ≢ name_of node
   pub linked : (link_to node name ≢ None) ⊎ CouldLink frame.from frame.body name
 
--- it is from another node, what it says is fit, and the nodes that this one would link to are at most 255
+-- it is from another node, what it says is fit, and the nodes that this one would link to are as many as it may at most
 pub record IsFit (node : NodeState) (frame : Frame) : Type 0 where
   pub from : frame.from ≢ name_of node
   pub body : IsFitBody node frame.body
   pub few : (names : List (List ℕ)) → AreDistinct names → ((name : List ℕ) → Among name names → MayLink node frame name)
-      → length names ≤ 255
+      → length names ≤ most_links_kept

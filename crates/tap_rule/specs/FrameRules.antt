@@ -1,7 +1,10 @@
 -- The rule of each kind of frame, by the status of the node; none if there is no rule.
 --
+-- A frame: `rule_of_frame`, then the table of the node's status, as `frame_at_core`, then what stands there for its kind.
+--
 -- Rule: docs/PROTOCOL.md, "Steps of a node".
-use Rattle.std.specs.Prelude.{List, ℕ, Option, None, Some}
+use Rattle.std.specs.Prelude.{Option, None, Some}
+use Rattle.tap_name.specs.Kinds.{Name}
 use Rattle.tap_wire.specs.declared.frame.Body.{Body}
 use Rattle.tap_wire.specs.declared.frame.Body.TheVariants.{Seek, Tell, Hello, Heard, Ack, Done, Release, Link, Lay, Find, Answer, Leave, Left, Gone, Forget, Cast, CastAck}
 use Rattle.tap_pointer.specs.Pointers.{pair_of}
@@ -18,7 +21,7 @@ use Rattle.tap_rule.specs.Leaving.{is_left, takes_leave, takes_out}
 use Rattle.tap_rule.specs.Casts.{answers_cast, cast_answered, takes_cast}
 
 -- a frame at a joining node
-unfoldable pub frame_at_joining : NodeState → List ℕ → Body → Option Reaction
+unfoldable pub frame_at_joining : NodeState → Name → Body → Option Reaction
 frame_at_joining node from (Tell joiner prefix level session depth watch) =
     Some (meets node from (record { joiner = joiner; prefix = prefix; level = level; session = session; depth = depth }))
 frame_at_joining node from (Hello session core links) = Some (takes_hello node from session core links)
@@ -32,7 +35,7 @@ frame_at_joining node from (Cast cast level session depth word) = Some (answers_
 frame_at_joining node from _ = None
 
 -- a frame at a core node
-unfoldable pub frame_at_core : NodeState → List ℕ → Body → Option Reaction
+unfoldable pub frame_at_core : NodeState → Name → Body → Option Reaction
 frame_at_core node from (Seek joiner) = Some (seeks node joiner)
 frame_at_core node from (Tell joiner prefix level session depth watch) =
     Some (takes_tell node from (record { joiner = joiner; prefix = prefix; level = level; session = session; depth = depth }) watch)
@@ -52,7 +55,7 @@ frame_at_core node from (CastAck session) = Some (cast_answered node session)
 frame_at_core node from _ = None
 
 -- a frame at a leaving node
-unfoldable pub frame_at_leaving : NodeState → List ℕ → Body → Option Reaction
+unfoldable pub frame_at_leaving : NodeState → Name → Body → Option Reaction
 frame_at_leaving node from (Link version on) = Some (hears_and_releases node from version on)
 frame_at_leaving node from (Lay object server level version on) =
     Some (takes_lay node from (pair_of object server) level version on)
@@ -62,7 +65,7 @@ frame_at_leaving node from Left = Some (is_left node from)
 frame_at_leaving node from _ = None
 
 -- a frame at a node that has ceased
-unfoldable pub frame_at_ceased : NodeState → List ℕ → Body → Option Reaction
+unfoldable pub frame_at_ceased : NodeState → Name → Body → Option Reaction
 frame_at_ceased node from (Tell joiner prefix level session depth watch) = Some (acknowledges node from session)
 frame_at_ceased node from (Heard session) = Some (answered node session)
 frame_at_ceased node from (Ack session) = Some (answered node session)
@@ -71,7 +74,7 @@ frame_at_ceased node from (Cast cast level session depth word) = Some (answers_c
 frame_at_ceased node from _ = None
 
 -- a frame at a node of this status
-abbrev pub rule_of_frame : Status → NodeState → List ℕ → Body → Option Reaction
+abbrev pub rule_of_frame : Status → NodeState → Name → Body → Option Reaction
 rule_of_frame Joining node from body = frame_at_joining node from body
 rule_of_frame Core node from body = frame_at_core node from body
 rule_of_frame Leaving node from body = frame_at_leaving node from body

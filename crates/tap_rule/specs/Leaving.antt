@@ -1,7 +1,11 @@
 -- Departures: the start, Leave, Left and Gone.
 --
+-- The start: `leaves`, then `with_departure`, then `finishes_or_sends`. A Leave: `takes_leave`, then `leave_word`. A Left: `is_left`,
+-- then `finishes_or_sends`. A Gone: `takes_out`.
+--
 -- Rule: docs/PROTOCOL.md, "The start of a departure" and "Leave" and "Left" and "Gone".
-use Rattle.std.specs.Prelude.{ℕ, ◌==◌, ◌+◌, if◌then◌else◌, List, [], ◌∷◌, length, map, Option}
+use Rattle.std.specs.Prelude.{◌==◌, ◌+◌, if◌then◌else◌, List, [], ◌∷◌, length, map, Option}
+use Rattle.tap_name.specs.Kinds.{Name}
 use Rattle.tap_table.specs.declared.tie.Tie.{Tie}
 use Rattle.tap_table.specs.ByName.{targets_by_name}
 use Rattle.tap_table.specs.Ties.{holders_on, off_ties, removed}
@@ -52,18 +56,18 @@ abbrev pub leaves : NodeState → Reaction
 leaves node = finishes_or_sends (with_departure node) (map leave_for (started_leaving node.ties).notices)
 
 -- Leave, at a core node: it marks the leaver, takes the replacement if its slot wants one, and answers
-abbrev pub leave_word : NodeState → List ℕ → Option (List ℕ) → Option Tie
+abbrev pub leave_word : NodeState → Name → Option Name → Option Tie
 leave_word node from replacement = told_leave_tells node.ties node.stamp from replacement
 
-abbrev pub takes_leave : NodeState → List ℕ → Option (List ℕ) → Reaction
+abbrev pub takes_leave : NodeState → Name → Option Name → Reaction
 takes_leave node from replacement =
     let word = leave_word node from replacement in
     with_words (words_of word) (sends (with_ties (told_leave node.ties from replacement) word node) (message from Left ∷ []))
 
 -- Left, at a leaving node: the sender is awaited no more, and after the last one the node finishes
-abbrev pub is_left : NodeState → List ℕ → Reaction
+abbrev pub is_left : NodeState → Name → Reaction
 is_left node from = finishes_or_sends (record node { awaited = names_but node.awaited from }) []
 
 -- Gone, at a core node: its link to the sender is taken out, without a word
-abbrev pub takes_out : NodeState → List ℕ → Reaction
+abbrev pub takes_out : NodeState → Name → Reaction
 takes_out node from = stays (record node { ties = removed node.ties from })

@@ -2,6 +2,7 @@
 --
 -- Rule: docs/PROTOCOL.md, "Nodes".
 use Rattle.std.specs.Prelude.{ℕ, Bool, false, List, [], Option}
+use Rattle.tap_name.specs.Kinds.{Level, Name}
 use Rattle.tap_name.specs.Order.{name_cmp}
 use Rattle.tap_name.specs.Settings.{SettingsValue}
 use Rattle.tap_register.specs.declared.registers.Entry.{Entry}
@@ -10,11 +11,13 @@ use Rattle.tap_link.specs.declared.kind.Kind.{Kind}
 use Rattle.tap_table.specs.Table.{kind_in}
 use Rattle.tap_table.specs.Ties.{TiesValue}
 use Rattle.tap_table.specs.Members.{ties_at_rest}
+use Rattle.tap_session.specs.Kinds.{SessionNumber}
 use Rattle.tap_session.specs.Session.{Session, SessionsValue}
 use Rattle.tap_session.specs.Sessions.{session_of}
 use Rattle.tap_multicast.specs.Covers.{CoversValue, level_kept}
 use Rattle.tap_join.specs.Joining.{started_joining}
 use Rattle.tap_pointer.specs.Pointers.{PointersValue, no_pointers}
+use Rattle.tap_cast.specs.Kinds.{CastNumber}
 use Rattle.tap_cast.specs.Casts.{CastsValue}
 
 -- what a node is: it joins, takes full part, leaves in order, has left, or has given up its join
@@ -45,20 +48,20 @@ pub record NodeState : Type 0 where
   -- the joiners that it covers, each with its level
   pub covers : CoversValue
   -- while it joins: the joiners that it has greeted, and whether its join was given up
-  pub greeted : List (List ℕ)
+  pub greeted : List Name
   pub abandoned : Bool
   -- its publications, its pointer registers, and where it has laid pointers
   pub pointers : PointersValue
   -- while it leaves: the holders whose answer it awaits
-  pub awaited : List (List ℕ)
+  pub awaited : List Name
   -- the casts that it has met, each with its level
   pub casts : CastsValue
   -- its sessions of casts, and the casts of all that were opened, in the order of their numbers
   pub cast_sessions : SessionsValue
-  pub cast_numbers : List ℕ
+  pub cast_numbers : List CastNumber
 
 -- its name, and the settings
-abbrev pub name_of : NodeState → List ℕ
+abbrev pub name_of : NodeState → Name
 name_of node = node.ties.table.owner
 
 abbrev pub settings_of : NodeState → SettingsValue
@@ -66,16 +69,16 @@ settings_of node = node.ties.table.settings
 
 -- Look-ups: the kind of its link to a name; the level at which it covers a joiner; the newest word of a holder; and the open
 -- session of a number; each if there is one.
-abbrev pub link_to : NodeState → List ℕ → Option Kind
+abbrev pub link_to : NodeState → Name → Option Kind
 link_to node name = kind_in node.ties.table name
 
-abbrev pub level_of : NodeState → List ℕ → Option ℕ
+abbrev pub level_of : NodeState → Name → Option Level
 level_of node joiner = level_kept node.covers joiner
 
-abbrev pub word_of : NodeState → List ℕ → Option (Entry (List ℕ) Bool)
+abbrev pub word_of : NodeState → Name → Option (Entry Name Bool)
 word_of node holder = entry_of name_cmp node.ties.holders holder
 
-abbrev pub join_session_at : NodeState → ℕ → Option Session
+abbrev pub join_session_at : NodeState → SessionNumber → Option Session
 join_session_at node number = session_of node.sessions.sessions number
 
 -- no session was opened
@@ -83,7 +86,7 @@ abbrev pub no_sessions : SessionsValue
 no_sessions = record { sessions = []; opened = 0 }
 
 -- a node of this name that starts to join: it knows nobody
-abbrev pub joiner : SettingsValue → List ℕ → NodeState
+abbrev pub joiner : SettingsValue → Name → NodeState
 joiner p name = record {
   status = Joining;
   ties = (started_joining p name).ties;
@@ -100,7 +103,7 @@ joiner p name = record {
 }
 
 -- a member of this name, one of those with which an overlay begins: a core node with its ties at rest
-abbrev pub member_at_rest : SettingsValue → List (List ℕ) → List ℕ → NodeState
+abbrev pub member_at_rest : SettingsValue → List Name → Name → NodeState
 member_at_rest p members name = record (joiner p name) { status = Core; ties = ties_at_rest p name members }
 
 -- a node that has ended, with this status: of what it kept its name and its sessions are left

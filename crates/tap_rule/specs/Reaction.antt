@@ -1,7 +1,8 @@
 -- What a rule has a node do, before its frames are put in order.
 --
 -- Rule: docs/PROTOCOL.md, "Steps of a node".
-use Rattle.std.specs.Prelude.{ℕ, List, [], map, Option}
+use Rattle.std.specs.Prelude.{List, [], map, Option}
+use Rattle.tap_name.specs.Kinds.{Name}
 use Rattle.tap_table.specs.declared.tie.Tie.{Tie}
 use Rattle.tap_table.specs.Ties.{TiesValue, pin_tells, pinned, stamp_after}
 use Rattle.tap_wire.specs.declared.frame.Body.{Body}
@@ -12,10 +13,10 @@ use Rattle.tap_rule.specs.Event.News.{Nothing}
 
 -- a frame that a rule names: its receiver and its body
 pub record Message : Type 0 where
-  pub to : List ℕ
+  pub to : Name
   pub body : Body
 
-abbrev pub message : List ℕ → Body → Message
+abbrev pub message : Name → Body → Message
 message to body = record { to = to; body = body }
 
 -- The node afterwards; the words of its links, in the order of their numbers; the frames that the rule names, in its order;
@@ -36,7 +37,7 @@ abbrev pub sends : NodeState → List Message → Reaction
 sends node messages = record (stays node) { messages = messages }
 
 -- one message to each of these
-abbrev pub to_each : Body → List (List ℕ) → List Message
+abbrev pub to_each : Body → List Name → List Message
 to_each body names = map (λ name. message name body) names
 
 -- with these words of links, and with this news
@@ -51,8 +52,8 @@ abbrev pub with_ties : TiesValue → Option Tie → NodeState → NodeState
 with_ties ties word node = record node { ties = ties; stamp = stamp_after node.stamp word }
 
 -- the node once it has pinned a name, and the word that this takes
-abbrev pub pin_word : NodeState → List ℕ → Option Tie
+abbrev pub pin_word : NodeState → Name → Option Tie
 pin_word node name = pin_tells node.ties node.stamp name
 
-abbrev pub with_pin : NodeState → List ℕ → NodeState
+abbrev pub with_pin : NodeState → Name → NodeState
 with_pin node name = with_ties (pinned node.ties name) (pin_word node name) node

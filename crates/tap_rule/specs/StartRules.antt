@@ -1,5 +1,7 @@
 -- The rule of each start, by the status of the node; none if there is no rule.
 --
+-- A start: `rule_of_start`, then the table of the node's status, as `start_at_core`, then what stands there for its kind.
+--
 -- Rule: docs/PROTOCOL.md, "Steps of a node".
 use Rattle.std.specs.Prelude.{Option, None, Some}
 use Rattle.tap_rule.specs.Node.{NodeState, Status}
