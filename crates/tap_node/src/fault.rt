@@ -1,3 +1,5 @@
+use std::error::Error;
+use std::fmt;
 use tap_name::Name;
 use tap_wire::WireFault;
 
@@ -18,3 +20,17 @@ pub enum NodeFault {
     /// The node has ended: memory was refused in an earlier step.
     Ended,
 }
+
+impl fmt::Display for NodeFault {
+    fn fmt<W: fmt::Write>(&self, f: &mut fmt::Formatter<W>) -> fmt::Result {
+        match self {
+            NodeFault::Wire(fault) => write!(f, "no frame: {fault}"),
+            NodeFault::NotMine(name) => write!(f, "frame for {name}"),
+            NodeFault::Strange => f.write_str("strange frame"),
+            NodeFault::NoMemory => f.write_str("no memory"),
+            NodeFault::Ended => f.write_str("ended"),
+        }
+    }
+}
+
+impl Error for NodeFault {}

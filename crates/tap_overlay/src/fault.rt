@@ -1,3 +1,5 @@
+use std::error::Error;
+use std::fmt;
 use tap_node::NodeFault;
 
 /// Why no node of an overlay took a step.
@@ -12,3 +14,15 @@ pub enum OverlayFault {
     /// The node answered this.
     Node(NodeFault),
 }
+
+impl fmt::Display for OverlayFault {
+    fn fmt<W: fmt::Write>(&self, f: &mut fmt::Formatter<W>) -> fmt::Result {
+        match self {
+            OverlayFault::NoNode => f.write_str("no such node"),
+            OverlayFault::NoRoom => f.write_str("no room"),
+            OverlayFault::Node(fault) => fault.fmt(f),
+        }
+    }
+}
+
+impl Error for OverlayFault {}
