@@ -2,6 +2,8 @@ ghost use Rattle.std.specs.Prelude.{◌≡◌};
 ghost use Rattle.tap_engine.specs.declared.stop.Stop.TheVariants as stop;
 
 use std::alloc::{AllocError, AllocFailed};
+use std::error::Error;
+use std::fmt;
 use tap_log::Refusal;
 
 /// Why a call added no group to the log of a world.
@@ -19,11 +21,32 @@ pub enum Stop {
     Ended,
 }
 
+impl fmt::Display for Stop {
+    fn fmt<W: fmt::Write>(&self, f: &mut fmt::Formatter<W>) -> fmt::Result {
+        match self {
+            Stop::Refused(refusal) => write!(f, "refused: {refusal}"),
+            Stop::Spent => f.write_str("spent"),
+            Stop::NoMemory => f.write_str("no memory"),
+            Stop::Ended => f.write_str("ended"),
+        }
+    }
+}
+
+impl Error for Stop {}
+
 /// Memory was refused.
 ///
 /// Rule: docs/MAP.md, "How the sources are written".
 #[derive(Clone, Copy, Debug, PartialEq, Eq)]
 pub struct NoMemory;
+
+impl fmt::Display for NoMemory {
+    fn fmt<W: fmt::Write>(&self, f: &mut fmt::Formatter<W>) -> fmt::Result {
+        f.write_str("no memory")
+    }
+}
+
+impl Error for NoMemory {}
 
 impl From<AllocError> for NoMemory {
     fn from(_: AllocError) -> NoMemory {
