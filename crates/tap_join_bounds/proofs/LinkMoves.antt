@@ -1,29 +1,31 @@
 -- Each move of a run of joins alone keeps how few Links are sent.
 use Rattle.std.proofs.Common.{◌≡◌, ℕ, nat_eq, Bool, true, false, cond, List, [], ◌∷◌, Option, None, Some, arith, ap, refl, sym, subst, ◌∙◌, inl, inr}
-use Rattle.std.specs.Prelude.{IfSome, count_by, if◌then◌else◌, ◌&&◌}
+use Rattle.std.specs.Prelude.{IfSome, count_by, ◌&&◌}
 use Rattle.std.proofs.lemmas.Slice.Eq.{bytes_eq-Decides}
 use Rattle.std.specs.Cmp.Lexicographic.{pointwise}
 use Rattle.tap_name.specs.Settings.{SettingsValue}
 use Rattle.tap_name.specs.declared.slot.Slot.{Slot}
 use Rattle.tap_name.specs.declared.slot.Offered.{Offered}
-use Rattle.tap_join.specs.Seek.{sought}
-use Rattle.tap_join.specs.declared.sought.Sought.{Sought}
-use Rattle.tap_join.specs.declared.sought.Sought.TheVariants.{Forward, Surrogate}
 use Rattle.tap_wire.specs.declared.frame.Body.{Body}
-use Rattle.tap_wire.specs.declared.frame.Body.TheVariants.{Ack, Done, Heard, Hello, Link, Release, Seek, Tell}
+use Rattle.tap_wire.specs.declared.frame.Body.TheVariants.{Hello, Release, Seek}
 use Rattle.tap_wire.specs.declared.frame.Frame.{Frame}
 use Rattle.tap_wire.specs.declared.frame.TellFields.{TellFields}
 use Rattle.tap_rule.specs.Act.{act}
-use Rattle.tap_rule.specs.Ceasing.{ceases}
-use Rattle.tap_rule.specs.Covering.{first_request, pins_and_covers, request_of, seeks_as}
+use Rattle.tap_rule.specs.Covering.{Request}
 use Rattle.tap_rule.specs.Event.Event.{Starts}
 use Rattle.tap_rule.specs.Event.Start.{Join}
-use Rattle.tap_rule.specs.FrameRules.{frame_at_core, frame_at_joining, rule_of_frame}
-use Rattle.tap_rule.specs.Joining.{becomes_core, meets, takes_hello}
+use Rattle.tap_rule.specs.FrameRules.{rule_of_frame}
+use Rattle.tap_rule.proofs.Cases.{IsAsked, RuleCase}
+use Rattle.tap_rule.proofs.Cases.Cause.{Takes}
+use Rattle.tap_rule.proofs.Cases.IsAsked.{BySeek, ByTell}
+use Rattle.tap_rule.proofs.Cases.IsParting.{OneLeft}
+use Rattle.tap_rule.proofs.Cases.RuleCase.{CoveredBefore, CoversAlone, CoversOn, DropsLeaver, GreetedBefore, Greets, HasCeased, IsForgottenBy, IsGoneNow, IsGreeted, IsReleased, MarksLeaver}
+use Rattle.tap_rule.proofs.EachRule.{each_rule}
+use Rattle.tap_rule.specs.Joining.{takes_hello}
 use Rattle.tap_rule.specs.Kept.{IsNode}
 use Rattle.tap_rule.specs.Laws.{frame_to}
 use Rattle.tap_rule.specs.Node.{NodeState, Status, joiner, name_of}
-use Rattle.tap_rule.specs.Node.Status.{Ceased, Core, Gone, Joining, Leaving}
+use Rattle.tap_rule.specs.Node.Status.{Core}
 use Rattle.tap_rule.specs.Reaction.{Reaction}
 use Rattle.tap_rule.proofs.CarriedOut.{frame_law, unruled_law}
 use Rattle.tap_rule.proofs.EndSteps.{unlinked}
@@ -45,7 +47,7 @@ use Rattle.tap_bounds.proofs.Counting.{count-cons}
 use Rattle.tap_join_bounds.specs.OfJoins.{IsJoinBody}
 use Rattle.tap_join_bounds.proofs.Alone.{IsJoinStep, IsPlainNode, JoinsOrIsCore, rule_joins}
 use Rattle.tap_join_bounds.proofs.Kept.{AreOfJoins, joining_is_new, of_frame, of_joiner}
-use Rattle.tap_join_bounds.proofs.Links.{IsPinning, LinksStep, covers_pins, hello_links, is_naming, meets_pins, names_in, pins_links, releases_links, still}
+use Rattle.tap_join_bounds.proofs.Links.{IsPinning, LinksStep, hello_links, is_naming, names_in, pins_links, releases_links, still}
 use Rattle.tap_join_bounds.proofs.LinkSteps.{ActsOnLinks, LinksAreFew, acts_on_links, ignored_on_links, links_kept, may_become}
 use Rattle.tap_join_bounds.proofs.Made.{delivery_made, join_made}
 use Rattle.tap_join_bounds.proofs.OfJoins.{begins, begins_in_join, begins_so, frame_acts}
@@ -86,11 +88,6 @@ module _ (p : SettingsValue) (members : List (List ℕ)) (s : System) (r : Traff
         (joining_is_new members s r b are (record { state = seeker.state; is = seeker.is; joining = seeker.joining }))
         (ap status_in seeker.is ∙ ap (λ st. Some st) seeker.joining)
 
-    seek_says : (found : Sought) → Says (Seek b) (seeks_as node b found)
-    seek_says (Forward next) = still members s node (named (Seek b)) (seeks_as node b (Forward next)) refl refl
-    seek_says (Surrogate prefix) =
-        seek_pins (pins_and_covers node (first_request node b prefix)) (covers_pins node (first_request node b prefix))
-
   -- a Release comes from a core node
   module _ (is : IsDelivery p s number node from Release) where
     sender_core : status_in (s.node from) ≡ Some Core
@@ -114,57 +111,32 @@ module _ (p : SettingsValue) (members : List (List ℕ)) (s : System) (r : Traff
       hello_links members s node (is_node (Hello session core links) is) from session core links
       (sender_name p s number node from (Hello session core links) is) (hello_names_are p s number node from fields is)
 
-  done_says : (given_up : Bool) → node.abandoned ≡ given_up → IsPlainNode node
-      → Says Done (if given_up then ceases node else becomes_core node)
-  done_says true was plain = let wrong : false ≡ true = sym plain.goes_on ∙ was in absurd (cc)
-  done_says false was plain = still members s node (named Done) (becomes_core node) refl refl
+  -- a core node pins whose cover it is asked for
+  asked_says : {body : Body} {request : Request} → IsAsked node (Takes from body) request → IsDelivery p s number node from body
+      → node.status ≡ Core → (rule : Reaction) → IsPinning node request.joiner rule → Says body rule
+  asked_says (BySeek found) is at rule pins = seek_pins _ is at rule pins
+  asked_says (ByTell {watch = watch}) is at rule pins = tell_pins _ watch is rule pins
 
-  keeps_links : (body : Body) (rule : Reaction) → rule.words ≡ [] → rule.state.ties.table ≡ node.ties.table → Says body rule
-  keeps_links body rule none same = still members s node (named body) rule none same
-
-  -- ---- by the kind of a frame
-
-  at_joining : (body : Body) → IsJoinBody body → IsPlainNode node → IsDelivery p s number node from body
-      → IfSome (frame_at_joining node from body) (Says body)
-  unfolding frame_at_joining
-  at_joining (Seek b) of plain is = tt
-  at_joining (Tell b prefix level session depth watch) of plain is =
-      let tell : TellFields = record { joiner = b; prefix = prefix; level = level; session = session; depth = depth } in
-      tell_pins tell watch is (meets node from tell) (meets_pins node from tell)
-  at_joining (Hello session core links) of plain is = hello_says session core links is
-  at_joining (Heard session) of plain is = keeps_links (Heard session) _ refl refl
-  at_joining (Ack session) of plain is = keeps_links (Ack session) _ refl refl
-  at_joining Done of plain is = done_says node.abandoned refl plain
-  at_joining Release of plain is = release_says is
-  at_joining (Link version on) of plain is = keeps_links (Link version on) _ refl refl
-  at_joining _ of plain is = absurd of
-
-  at_core : (body : Body) → IsJoinBody body → node.status ≡ Core → IsDelivery p s number node from body
-      → IfSome (frame_at_core node from body) (Says body)
-  unfolding frame_at_core
-  at_core (Seek b) of at is = seek_says b is at (sought node.ties.table b)
-  at_core (Tell b prefix level session depth watch) of at is =
-      let tell : TellFields = record { joiner = b; prefix = prefix; level = level; session = session; depth = depth } in
-      tell_pins tell watch is (pins_and_covers node (request_of from tell watch)) (covers_pins node (request_of from tell watch))
-  at_core (Hello session core links) of at is = tt
-  at_core (Heard session) of at is = keeps_links (Heard session) _ refl refl
-  at_core (Ack session) of at is = keeps_links (Ack session) _ refl refl
-  at_core Done of at is = tt
-  at_core Release of at is = release_says is
-  at_core (Link version on) of at is = keeps_links (Link version on) _ refl refl
-  at_core _ of at is = absurd of
-
-  by_status : (status : Status) → node.status ≡ status → (body : Body) → IsJoinBody body → IsPlainNode node
-      → IsDelivery p s number node from body → IfSome (rule_of_frame status node from body) (Says body)
-  by_status Joining at body of plain is = at_joining body of plain is
-  by_status Core at body of plain is = at_core body of at is
-  by_status Leaving at body of plain is = absurd (subst JoinsOrIsCore at plain.status)
-  by_status Gone at body of plain is = tt
-  by_status Ceased at body of plain is = absurd (subst JoinsOrIsCore at plain.status)
+  case_says : {status : Status} {body : Body} {rule : Reaction} → RuleCase node status (Takes from body) rule → node.status ≡ status
+      → IsJoinBody body → IsPlainNode node → IsDelivery p s number node from body → Says body rule
+  case_says (GreetedBefore {watch = watch} before) at of plain is = tell_pins _ watch is _ (record { words = refl; ties = refl; status = refl })
+  case_says (Greets {watch = watch} before) at of plain is = tell_pins _ watch is _ (record { words = refl; ties = refl; status = refl })
+  case_says (IsGreeted {session = session} {core = core} {links = links}) at of plain is = hello_says session core links is
+  case_says (HasCeased given_up) at of plain is = let wrong : false ≡ true = sym plain.goes_on ∙ given_up in absurd (cc)
+  case_says (IsReleased early) at of plain is = release_says is
+  case_says (IsForgottenBy early) at of plain is = absurd of
+  case_says (CoveredBefore asked turn) at of plain is = asked_says asked is at _ (record { words = refl; ties = refl; status = refl })
+  case_says (CoversAlone asked turn none) at of plain is = asked_says asked is at _ (record { words = refl; ties = refl; status = refl })
+  case_says (CoversOn asked turn some) at of plain is = asked_says asked is at _ (record { words = refl; ties = refl; status = refl })
+  case_says MarksLeaver at of plain is = absurd of
+  case_says DropsLeaver at of plain is = absurd of
+  case_says (IsGoneNow OneLeft last) at of plain is = absurd of
+  case_says {body = body} _ at of plain is = still members s node (named body) _ refl refl
 
   rule_says : (body : Body) → IsJoinBody body → IsPlainNode node → IsDelivery p s number node from body
       → IfSome (rule_of_frame node.status node from body) (Says body)
-  rule_says body of plain is = by_status node.status refl body of plain is
+  rule_says body of plain is =
+      each_rule node (Says body) node.status (Takes from body) (λ rule case. case_says case refl of plain is)
 
   -- what comes of the frame
   pub acts : (body : Body) (of : IsJoinBody body) (plain : IsPlainNode node) → IsDelivery p s number node from body

@@ -1,5 +1,5 @@
 -- What a rule of joins says of links, beside what the links of its node allow.
-use Rattle.std.proofs.Common.{◌≡◌, ◌≢◌, ◌⊎◌, ◌==◌, ℕ, nat_eq, ◌+◌, ◌≤◌, Bool, true, false, cond, List, [], ◌∷◌, ◌++◌, length, map, Option, None, Some, arith, ap, refl, sym, subst, ◌∙◌, inl, inr, is_none}
+use Rattle.std.proofs.Common.{◌≡◌, ◌≢◌, ◌⊎◌, ℕ, nat_eq, ◌+◌, ◌≤◌, Bool, true, false, cond, List, [], Option, None, Some, arith, ap, refl, sym, subst, ◌∙◌, inl, inr, is_none}
 use Rattle.std.specs.Prelude.{All, if◌then◌else◌, ◌&&◌}
 use Rattle.std.specs.Cmp.Lexicographic.{pointwise}
 use Rattle.tap_name.specs.declared.slot.Offered.{Offered}
@@ -8,23 +8,17 @@ use Rattle.tap_name.specs.Names.{has_name}
 use Rattle.tap_link.specs.declared.kind.Kind.{Kind}
 use Rattle.tap_table.specs.Table.{TableValue, kind_in}
 use Rattle.tap_table.specs.Ties.{TiesValue, pinned}
-use Rattle.tap_multicast.specs.declared.covers.Covered.{Covered}
-use Rattle.tap_multicast.specs.declared.covers.Covered.TheVariants.{Already, Now}
-use Rattle.tap_multicast.specs.Covers.{covered}
 use Rattle.tap_join.specs.Hello.{hello_names, words_of}
 use Rattle.tap_join.proofs.Hellos.{AreOf, IsNamed, all_named}
 use Rattle.tap_wire.specs.declared.frame.Body.{Body}
-use Rattle.tap_wire.specs.declared.frame.Body.TheVariants.{Ack, Hello}
+use Rattle.tap_wire.specs.declared.frame.Body.TheVariants.{Hello}
 use Rattle.tap_wire.specs.declared.frame.Frame.{Frame}
-use Rattle.tap_wire.specs.declared.frame.TellFields.{TellFields}
-use Rattle.tap_rule.specs.Answers.{answer_for, with_session}
-use Rattle.tap_rule.specs.Covering.{Request, answers_awaited, covers_as, greeting, pins_and_covers, tell_for, with_level}
-use Rattle.tap_rule.specs.Joining.{meets, takes_hello, welcomes}
+use Rattle.tap_rule.specs.Joining.{takes_hello}
 use Rattle.tap_rule.specs.Links.{releases}
 use Rattle.tap_rule.specs.Node.{NodeState, Status, link_to, name_of, settings_of}
 use Rattle.tap_rule.specs.Node.Status.{Ceased, Core, Gone, Joining, Leaving}
 use Rattle.tap_rule.specs.Kept.{IsNode}
-use Rattle.tap_rule.specs.Reaction.{Message, Reaction, message, pin_word, sends, with_pin, with_words}
+use Rattle.tap_rule.specs.Reaction.{Reaction, pin_word}
 use Rattle.tap_safety.specs.System.{System}
 use Rattle.tap_safety.specs.Ties.{status_in}
 use Rattle.tap_moves.proofs.Got.{same_name}
@@ -201,38 +195,3 @@ module _ (members : List (List ℕ)) (s : System) (node : NodeState) (is : IsNod
         omega (arith, more, few);
     pins = λ t. (hello_adds t).pins;
   }
-
--- ---- rules that pin
-
-module _ (node : NodeState) where
-  -- a Tell at a joining node
-  meeting : (from : List ℕ) (tell : TellFields) (before : Bool) → IsPinning node tell.joiner
-      (with_words (words_of (pin_word node tell.joiner)) (if before
-      then sends (with_pin node tell.joiner) (message from (Ack tell.session) ∷ [])
-      else welcomes (with_pin node tell.joiner) from tell))
-  meeting from tell true = record { words = refl; ties = refl; status = refl }
-  meeting from tell false = record { words = refl; ties = refl; status = refl }
-
-  pub meets_pins : (from : List ℕ) (tell : TellFields) → IsPinning node tell.joiner (meets node from tell)
-  meets_pins from tell = meeting from tell (has_name node.greeted tell.joiner)
-
-  module _ (request : Request) where
-    spreading : (told : List Message) (waiting : ℕ) (at_once : Bool) → IsPinning node request.joiner
-        (with_words (words_of (pin_word node request.joiner)) (cond at_once
-        (sends (with_level (with_pin node request.joiner) request) (answer_for request.parent ∷ []))
-        (sends (with_session (with_level (with_pin node request.joiner) request) request.parent request.depth waiting) told)))
-    spreading told waiting true = record { words = refl; ties = refl; status = refl }
-    spreading told waiting false = record { words = refl; ties = refl; status = refl }
-
-    covering : (found : Covered) → IsPinning node request.joiner
-        (with_words (words_of (pin_word node request.joiner)) (covers_as (with_pin node request.joiner) request found))
-    covering Already = record { words = refl; ties = refl; status = refl }
-    covering (Now first offer targets left) =
-        let session = node.sessions.opened + 1 in
-        spreading (greeting request session first offer ++ map (tell_for request session left) targets)
-        (answers_awaited first (length targets)) (answers_awaited first (length targets) == 0)
-
-    -- a cover
-    pub covers_pins : IsPinning node request.joiner (pins_and_covers node request)
-    covers_pins = covering (covered node.covers (with_pin node request.joiner).ties.table request.watch request.joiner request.prefix
-        request.level)

@@ -1,32 +1,32 @@
 -- Each move of a run of joins alone keeps how few Releases are sent.
 use Rattle.std.proofs.Common.{◌≡◌, ◌≢◌, ◌⊎◌, ℕ, nat_eq, ◌+◌, ◌≤◌, Bool, true, false, cond, List, [], ◌∷◌, Option, None, Some, arith, ap, refl, sym, subst, ◌∙◌, inl, inr}
-use Rattle.std.specs.Prelude.{IfSome, count_by, if◌then◌else◌, ◌&&◌}
+use Rattle.std.specs.Prelude.{IfSome, count_by, ◌&&◌}
 use Rattle.std.specs.Cmp.Lexicographic.{pointwise}
 use Rattle.std.proofs.Math.Bool.{and-false}
 use Rattle.std.proofs.lemmas.List.Elements.{All-cons, All-nil}
 use Rattle.tap_name.specs.Settings.{SettingsValue}
-use Rattle.tap_table.specs.Ties.{TiesValue}
 use Rattle.tap_join.specs.Hello.{hello_names}
-use Rattle.tap_join.specs.Seek.{sought}
-use Rattle.tap_join.specs.declared.sought.Sought.{Sought}
-use Rattle.tap_join.specs.declared.sought.Sought.TheVariants.{Forward, Surrogate}
 use Rattle.tap_join.proofs.Hellos.{holders_stay}
 use Rattle.tap_wire.specs.declared.frame.Body.{Body}
-use Rattle.tap_wire.specs.declared.frame.Body.TheVariants.{Ack, Done, Heard, Hello, Link, Release, Seek, Tell}
+use Rattle.tap_wire.specs.declared.frame.Body.TheVariants.{Done, Seek}
 use Rattle.tap_wire.specs.declared.frame.Frame.{Frame}
-use Rattle.tap_wire.specs.declared.frame.TellFields.{TellFields}
 use Rattle.tap_rule.specs.Act.{act}
-use Rattle.tap_rule.specs.Ceasing.{ceases}
-use Rattle.tap_rule.specs.Covering.{first_request, pins_and_covers, request_of, seeks_as}
+use Rattle.tap_rule.specs.Covering.{Request}
 use Rattle.tap_rule.specs.Event.{Acted}
 use Rattle.tap_rule.specs.Event.Event.{Starts}
 use Rattle.tap_rule.specs.Event.Start.{Join}
-use Rattle.tap_rule.specs.FrameRules.{frame_at_core, frame_at_joining, rule_of_frame}
-use Rattle.tap_rule.specs.Joining.{becomes_core, meets}
+use Rattle.tap_rule.specs.FrameRules.{rule_of_frame}
+use Rattle.tap_rule.proofs.Cases.{IsAnswer, IsAsked, IsLate, RuleCase}
+use Rattle.tap_rule.proofs.Cases.Cause.{Takes}
+use Rattle.tap_rule.proofs.Cases.IsAnswer.{ByAck, ByHeard}
+use Rattle.tap_rule.proofs.Cases.IsAsked.{BySeek, ByTell}
+use Rattle.tap_rule.proofs.Cases.IsCast.{ByCopy}
+use Rattle.tap_rule.proofs.Cases.IsParting.{OneLeft}
+use Rattle.tap_rule.proofs.Cases.RuleCase.{CastBefore, CastsAlone, CastsOn, Closes, Counts, CoveredBefore, CoversAlone, CoversOn, DropsLeaver, HasCeased, HearsAlone, HearsNew, HearsOld, IsCoreNow, IsForgottenBy, IsGoneNow, IsGreeted, IsOff, MarksLeaver, WantsForgotten}
+use Rattle.tap_rule.proofs.EachRule.{each_rule}
 use Rattle.tap_rule.specs.Kept.{IsNode}
 use Rattle.tap_rule.specs.Laws.{IsCarriedOut, IsIgnored, frame_to}
 use Rattle.tap_rule.specs.Node.{NodeState, Status, joiner, name_of}
-use Rattle.tap_rule.specs.Node.Status.{Ceased, Core, Gone, Joining, Leaving}
 use Rattle.tap_rule.specs.Reaction.{Message, Reaction, message}
 use Rattle.tap_rule.specs.Sending.{message_frame}
 use Rattle.tap_rule.proofs.CarriedOut.{frame_law, unruled_law}
@@ -45,7 +45,6 @@ use Rattle.tap_join_bounds.specs.LinkBounds.{is_link_on, is_release, links_on, r
 use Rattle.tap_join_bounds.specs.OfJoins.{IsJoinBody}
 use Rattle.tap_join_bounds.proofs.Alone.{IsJoinStep, IsPlainNode, IsUnreleasing, JoinsOrIsCore, MayRelease, rule_joins}
 use Rattle.tap_join_bounds.proofs.Kept.{AreOfJoins, of_frame}
-use Rattle.tap_join_bounds.proofs.Links.{IsPinning, covers_pins, meets_pins}
 use Rattle.tap_join_bounds.proofs.Made.{IsMade, delivery_made, join_made}
 use Rattle.tap_join_bounds.proofs.OfJoins.{begins, begins_so}
 use Rattle.tap_join_bounds.proofs.Releases.{ReleasesStep, answers_owed, hears_owed, owed, owed_by, pays_owed, stays_owed}
@@ -64,55 +63,42 @@ module _ (node : NodeState) (is : IsNode node) (plain : IsPlainNode node) (from 
       ((r.state.status ≡ node.status) × (r.state.ties.holders ≡ node.ties.holders) × (MayRelease body → ⊥))
       ⊎ ReleasesStep node (said from body) r
 
-  pinning : (body : Body) (b : List ℕ) (r : Reaction) → IsPinning node b r → (MayRelease body → ⊥) → Owes body r
-  pinning body b r pins never = inl (pins.status, ap (λ (ties : TiesValue). ties.holders) pins.ties, never)
+  is_answer : {session : ℕ} {body : Body} → IsAnswer session body → MayRelease body → ⊥
+  is_answer ByHeard may = may
+  is_answer ByAck may = may
 
-  seek_owes : (b : List ℕ) (found : Sought) → Owes (Seek b) (seeks_as node b found)
-  seek_owes b (Forward next) = inl (refl, refl, λ no. no)
-  seek_owes b (Surrogate prefix) =
-      pinning (Seek b) b (pins_and_covers node (first_request node b prefix)) (covers_pins node (first_request node b prefix)) (λ no. no)
+  is_asked : {body : Body} {request : Request} → IsAsked node (Takes from body) request → MayRelease body → ⊥
+  is_asked (BySeek found) may = may
+  is_asked ByTell may = may
 
-  done_owes : (given_up : Bool) → node.abandoned ≡ given_up → node.status ≡ Joining
-      → Owes Done (if given_up then ceases node else becomes_core node)
-  done_owes true was at = let wrong : false ≡ true = sym plain.goes_on ∙ was in absurd (cc)
-  done_owes false was at = inr (pays_owed node (said from Done) is at)
+  case_owes : {status : Status} {body : Body} {r : Reaction} → RuleCase node status (Takes from body) r → node.status ≡ status
+      → IsJoinBody body → Owes body r
+  case_owes (IsGreeted {core = core} {links = links}) at of = inl (refl, holders_stay (hello_names from core links) node.ties, λ may. may)
+  case_owes (IsCoreNow keeps_on) at of = inr (pays_owed node (said from Done) is at)
+  case_owes (HasCeased given_up) at of = let wrong : false ≡ true = sym plain.goes_on ∙ given_up in absurd (cc)
+  case_owes (HearsAlone {version = version} {on = on}) at of = inr (hears_owed node from version on at)
+  case_owes (HearsOld {version = version} {on = on} IsLate.IsCore old) at of = inr (answers_owed node from version on false old at)
+  case_owes (HearsNew {version = version} {on = on} IsLate.IsCore new) at of = inr (answers_owed node from version on true new at)
+  case_owes (HearsOld IsLate.IsLeaving old) at of = absurd (subst JoinsOrIsCore at plain.status)
+  case_owes (HearsNew IsLate.IsLeaving new) at of = absurd (subst JoinsOrIsCore at plain.status)
+  case_owes WantsForgotten at of = absurd (subst JoinsOrIsCore at plain.status)
+  case_owes IsOff at of = absurd (subst JoinsOrIsCore at plain.status)
+  case_owes (IsForgottenBy early) at of = absurd of
+  case_owes (Counts answers kind others) at of = inl (refl, refl, is_answer kind)
+  case_owes (Closes answers kind closed) at of = inl (refl, refl, is_answer kind)
+  case_owes (CoveredBefore asked turn) at of = inl (refl, refl, is_asked asked)
+  case_owes (CoversAlone asked turn none) at of = inl (refl, refl, is_asked asked)
+  case_owes (CoversOn asked turn some) at of = inl (refl, refl, is_asked asked)
+  case_owes MarksLeaver at of = absurd of
+  case_owes DropsLeaver at of = absurd of
+  case_owes (CastBefore ByCopy turn) at of = absurd of
+  case_owes (CastsAlone ByCopy turn) at of = absurd of
+  case_owes (CastsOn ByCopy turn) at of = absurd of
+  case_owes (IsGoneNow OneLeft last) at of = absurd of
+  case_owes _ at of = inl (refl, refl, λ may. may)
 
-  at_joining : node.status ≡ Joining → (body : Body) → IsJoinBody body → IfSome (frame_at_joining node from body) (Owes body)
-  unfolding frame_at_joining
-  at_joining at (Seek b) of = tt
-  at_joining at (Tell b prefix level session depth watch) of =
-      let tell : TellFields = record { joiner = b; prefix = prefix; level = level; session = session; depth = depth } in
-      pinning (Tell b prefix level session depth watch) b (meets node from tell) (meets_pins node from tell) (λ no. no)
-  at_joining at (Hello session core links) of = inl (refl, holders_stay (hello_names from core links) node.ties, λ no. no)
-  at_joining at (Heard session) of = inl (refl, refl, λ no. no)
-  at_joining at (Ack session) of = inl (refl, refl, λ no. no)
-  at_joining at Done of = done_owes node.abandoned refl at
-  at_joining at Release of = inl (refl, refl, λ no. no)
-  at_joining at (Link version on) of = inr (hears_owed node from version on at)
-  at_joining at _ of = absurd of
-
-  at_core : node.status ≡ Core → (body : Body) → IsJoinBody body → IfSome (frame_at_core node from body) (Owes body)
-  unfolding frame_at_core
-  at_core at (Seek b) of = seek_owes b (sought node.ties.table b)
-  at_core at (Tell b prefix level session depth watch) of =
-      let tell : TellFields = record { joiner = b; prefix = prefix; level = level; session = session; depth = depth } in
-      pinning (Tell b prefix level session depth watch) b (pins_and_covers node (request_of from tell watch))
-      (covers_pins node (request_of from tell watch)) (λ no. no)
-  at_core at (Hello session core links) of = tt
-  at_core at (Heard session) of = inl (refl, refl, λ no. no)
-  at_core at (Ack session) of = inl (refl, refl, λ no. no)
-  at_core at Done of = tt
-  at_core at Release of = inl (refl, refl, λ no. no)
-  at_core at (Link version on) of = inr (answers_owed node from version on at)
-  at_core at _ of = absurd of
-
-  by_status : (status : Status) → node.status ≡ status → (body : Body) → IsJoinBody body
-      → IfSome (rule_of_frame status node from body) (Owes body)
-  by_status Joining at body of = at_joining at body of
-  by_status Core at body of = at_core at body of
-  by_status Leaving at body of = absurd (subst JoinsOrIsCore at plain.status)
-  by_status Gone at body of = tt
-  by_status Ceased at body of = absurd (subst JoinsOrIsCore at plain.status)
+  rule_owes : (body : Body) → IsJoinBody body → IfSome (rule_of_frame node.status node from body) (Owes body)
+  rule_owes body of = each_rule node (Owes body) node.status (Takes from body) (λ r case. case_owes case refl of)
 
   pays : (body : Body) (r : Reaction) → IsJoinStep node body r → Owes body r → ReleasesStep node (said from body) r
   pays body r step (inr sends) = sends
@@ -167,7 +153,7 @@ frame_releases : (p : SettingsValue) (s : System) (number : ℕ) (node : NodeSta
 frame_releases p s number node from body is plain of =
     let is_node = (is.nodes.nodes (name_of node) node is.at).is_node in
     by is_node (rule_of_frame node.status node from body) refl (rule_joins node plain from body of)
-    (by_status node is_node plain from node.status refl body of)
+    (rule_owes node is_node plain from body of)
   where
     by : (is_node : IsNode node) (rule : Option Reaction) → rule_of_frame node.status node from body ≡ rule
         → IfSome rule (IsJoinStep node body) → IfSome rule (Owes node is_node plain from body)

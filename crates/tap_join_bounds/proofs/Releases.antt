@@ -19,8 +19,8 @@ use Rattle.tap_rule.specs.Kept.{IsNode}
 use Rattle.tap_rule.specs.Node.{NodeState, Status, name_of}
 use Rattle.tap_rule.specs.Node.Status.{Ceased, Core, Gone, Joining, Leaving}
 use Rattle.tap_rule.specs.Joining.{becomes_core}
-use Rattle.tap_rule.specs.Links.{hears, hears_and_releases, is_new_link}
-use Rattle.tap_rule.specs.Reaction.{Message, Reaction, message, to_each}
+use Rattle.tap_rule.specs.Links.{hears, is_new_link, with_word}
+use Rattle.tap_rule.specs.Reaction.{Message, Reaction, message, sends, to_each}
 use Rattle.tap_rule.specs.Sending.{message_frame}
 use Rattle.tap_moves.proofs.Got.{same_name}
 use Rattle.tap_bounds.proofs.Counting.{count-cons}
@@ -229,13 +229,13 @@ hears_owed node from version on at = record {
 }
 
 -- a core node that hears a word answers it at most once
-pub answers_owed : (node : NodeState) (from : List ℕ) (version : ℕ) (on : Bool) → node.status ≡ Core
-    → ReleasesStep node (said_on from on) (hears_and_releases node from version on)
-answers_owed node from version on at = record {
+pub answers_owed : (node : NodeState) (from : List ℕ) (version : ℕ) (on new : Bool) → is_new_link node from version on ≡ new
+    → node.status ≡ Core
+    → ReleasesStep node (said_on from on) (sends (with_word node from version on) (if new then message from Release ∷ [] else []))
+answers_owed node from version on new is at = record {
   each = λ x.
-      let now : owed (hears_and_releases node from version on).state x ≡ 0 =
-      ap (λ st. owed_by st (held_word node.ties from version on) x) at in
-      let sent = by (is_new_link node from version on) refl x in
+      let now : owed (with_word node from version on) x ≡ 0 = ap (λ st. owed_by st (held_word node.ties from version on) x) at in
+      let sent = by new is x in
       omega (arith, now, sent);
 }
   where
