@@ -350,7 +350,7 @@ module _ (node : NodeState) (is : IsNode node) (has : KnowsNames (settings_of no
   case_spelled (MarksLeaver {from = from} {replacement = replacement}) said sent =
       let frame = frame_to node from (Leave replacement) in
       let few = few-told node frame is.ties said.2 from said.0 (not_own node frame said.2) replacement (given_name p replacement said.1)
-          (λ name given. given) in
+      (λ name given. given) in
       spelled _ (knows _ refl few has.parents has.cast_parents) (leave_named from replacement said _ refl) refl sent
   case_spelled (DropsLeaver {from = from}) said sent =
       let other = not_own node (frame_to node from Gone) said.2 in

@@ -466,13 +466,13 @@ module _ (P Q : List ℕ → Type 0) where
     case_sends (IsReleased {from = from} early) at said sent =
         let apart = not_own node (frame_to node from Release) said.4 in
         let to = of_sender from said.0 said.1 (released node.ties from).table (λ name.
-            others_stay from name (kind_released (has_room_near t0 from)) _ (kind_in t0 name)
-            (kind_in-released t0 from is.ties.table said.0 apart name)) in
+        others_stay from name (kind_released (has_room_near t0 from)) _ (kind_in t0 name)
+        (kind_in-released t0 from is.ties.table said.0 apart name)) in
         unopened _ to laid casts refl (word_to P _ from (node.stamp + 1) false said.1) refl sent
     case_sends (IsForgottenBy {from = from} early) at said sent =
         let apart = not_own node (frame_to node from Forget) said.4 in
         let to = of_sender from said.0 said.1 (forgotten node.ties from).table (λ name.
-            others_stay from name kind_forgotten _ (kind_in t0 name) (kind_in-forgotten t0 from is.ties.table said.0 apart name)) in
+        others_stay from name kind_forgotten _ (kind_in t0 name) (kind_in-forgotten t0 from is.ties.table said.0 apart name)) in
         unopened _ to laid casts refl no_words refl sent
     case_sends (CoveredBefore asked now) at said sent =
         let fits = request_to asked said in unopened _ (links_with fits) laid casts refl (pin_to fits) refl sent
@@ -488,7 +488,7 @@ module _ (P Q : List ℕ → Type 0) where
     case_sends (DropsLeaver {from = from}) at said sent =
         let apart = not_own node (frame_to node from GoneBody) said.4 in
         let to = of_sender from said.0 said.1 (removed node.ties from).table (λ name.
-            others_stay from name kind_removed _ (kind_in t0 name) (kind_in-removed t0 from is.ties.table said.0 apart name)) in
+        others_stay from name kind_removed _ (kind_in t0 name) (kind_in-removed t0 from is.ties.table said.0 apart name)) in
         unopened _ to laid casts refl no_words refl sent
     case_sends (CastsOn {copy = copy} of now) at said sent =
         unopened _ links laid (parents_opened CastParent node.cast_sessions copy.parent copy.depth _ casts (cast_parent of said)) refl no_words refl sent
