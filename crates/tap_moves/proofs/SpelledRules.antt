@@ -1,5 +1,5 @@
 -- What each rule leaves and sends: a node that speaks of names, and frames that have spellings.
-use Rattle.std.proofs.Common.{◌≡◌, ℕ, ◌+◌, ◌≤◌, Bool, cond, List, [], ◌∷◌, length, get_or, Option, None, Some, is_none, All, true, false, arith, refl, sym, subst}
+use Rattle.std.proofs.Common.{◌≡◌, ℕ, ◌+◌, ◌≤◌, Bool, cond, List, [], ◌∷◌, length, get_or, Option, None, Some, is_none, All, true, false, arith, refl, sym, subst, ◌-◌, ◌<◌}
 use Rattle.std.specs.Prelude.{IfSome}
 use Rattle.std.proofs.lemmas.List.Elements.{All-cons, All-map, All-nil}
 use Rattle.tap_name.specs.Name.{IsName}
@@ -13,7 +13,7 @@ use Rattle.tap_table.specs.declared.next.Next.TheVariants.{Hop}
 use Rattle.tap_table.specs.declared.tie.Tie.{Tie}
 use Rattle.tap_table.specs.Ties.{holders_on, off_ties}
 use Rattle.tap_table.proofs.Slots.{place_inside}
-use Rattle.tap_join.specs.Hello.{words_of}
+use Rattle.tap_join.specs.Hello.{words_of, hello_names}
 use Rattle.tap_join.specs.Seek.{sought}
 use Rattle.tap_pointer.proofs.Laws.{are-all_withdrawn}
 use Rattle.tap_pointer.specs.Pointers.{PointersValue, all_withdrawn, pair_of, pointer_at, state_of, with_lay, with_published}
@@ -30,39 +30,33 @@ use Rattle.tap_cast.proofs.Casting.{targets_are}
 use Rattle.tap_wire.specs.declared.frame.Body.{Body}
 use Rattle.tap_wire.specs.declared.frame.Body.TheVariants.{Forget, Gone, Leave, Release, Seek}
 use Rattle.tap_wire.specs.declared.frame.TellFields.{TellFields}
-use Rattle.tap_wire.specs.Spelling.{IsBody, IsLevel}
+use Rattle.tap_wire.specs.Spelling.{IsBody, IsLevel, AreLinks}
 use Rattle.tap_rule.specs.Casts.{Copy}
 use Rattle.tap_rule.specs.Event.{Start}
 use Rattle.tap_rule.specs.Event.Start.{Join}
 use Rattle.tap_rule.specs.FrameRules.{rule_of_frame}
 use Rattle.tap_rule.specs.Kept.{IsNode}
-use Rattle.tap_rule.specs.Laws.{frame_to}
+use Rattle.tap_rule.specs.Laws.{frame_to, tell_of}
 use Rattle.tap_rule.specs.Leaving.{leave_for, leave_word}
 use Rattle.tap_rule.specs.Node.{NodeState, Status, joiner, name_of, settings_of}
 use Rattle.tap_rule.specs.Node.Status.{Ceased, Gone as GoneStatus}
 use Rattle.tap_rule.specs.Pointers.{next_hop}
-use Rattle.tap_rule.specs.Reaction.{Message}
+use Rattle.tap_rule.specs.Reaction.{Message, Reaction, pin_word}
 use Rattle.tap_rule.specs.StartRules.{rule_of_start}
 use Rattle.tap_rule.specs.Strange.{is_strange}
 use Rattle.tap_rule.proofs.OneName.{not_own}
-use Rattle.tap_moves.specs.Spelled.{AreNamedPairs, IsNamedPair, IsNamedStart, IsParent, KnowsNames}
-use Rattle.tap_moves.proofs.FewLinks.{few-forgotten, few-released, few-removed, few-told, targets_named}
-use Rattle.tap_moves.proofs.Spelled.{cleared_named, closed_parent, laid_among, named-published, named-put, named-withdrawn, next_named, parents-answered, parents-opened, server_named}
-use Rattle.std.proofs.Common.{◌-◌, ◌<◌}
+use Rattle.tap_moves.specs.Spelled.{AreNamedPairs, IsNamedPair, IsNamedStart, IsParent, KnowsNames, HaveParents}
+use Rattle.tap_moves.proofs.FewLinks.{few-forgotten, few-released, few-removed, few-told, targets_named, few-pinned, few-hello}
+use Rattle.tap_moves.proofs.Spelled.{cleared_named, closed_parent, laid_among, named-published, named-put, named-withdrawn, next_named, parents-answered, parents-opened, server_named, IsNamedLay}
 use Rattle.std.proofs.Math.Nat.{mul-le-mul_right}
-use Rattle.tap_moves.proofs.FewLinks.{few-pinned, few-hello}
 use Rattle.tap_table.specs.Table.{TableValue, pinned as table_pinned}
 use Rattle.tap_watch.proofs.Watches.{IsWatch-full, length-full}
 use Rattle.tap_multicast.specs.declared.covers.Covered.{Covered}
 use Rattle.tap_name.specs.declared.slot.Slot.{Slot}
 use Rattle.tap_cast.specs.declared.casts.CastTurn.{CastTurn}
-use Rattle.tap_join.specs.Hello.{hello_names}
 use Rattle.tap_join.specs.declared.sought.Sought.TheVariants.{Surrogate}
 use Rattle.tap_join.proofs.Seeking.{forward_is, surrogate_is}
-use Rattle.tap_wire.specs.Spelling.{AreLinks}
 use Rattle.tap_rule.specs.Covering.{Request, first_request, request_of}
-use Rattle.tap_rule.specs.Laws.{tell_of}
-use Rattle.tap_rule.specs.Reaction.{Reaction, pin_word}
 use Rattle.tap_rule.proofs.CoverSteps.{seek_fits}
 use Rattle.tap_rule.proofs.JoinSteps.{tell_fits}
 use Rattle.tap_rule.proofs.Fit.{fit_law}
@@ -74,8 +68,6 @@ use Rattle.tap_rule.proofs.Cases.IsParting.{StartsLeaving, OneLeft}
 use Rattle.tap_rule.proofs.Cases.IsNamed.{FirstSeek, NextSeek, TellOn, CoreHello, JoiningHello, HeardBack, AckBack, DoneBack, ClosingAck, ClosingDone, HolderRelease, LinkRelease, HolderForget, LinkForget, FirstFind, NextFind, AnswerBack, HolderLeave, LeftBack, HolderGone, CastOn, CastAckBack, ClosingCastAck}
 use Rattle.tap_rule.proofs.Cases.RuleCase.{GreetedBefore, Greets, IsGreeted, HasCeased, IsReleased, IsForgottenBy, Counts, Closes, CoveredBefore, CoversAlone, CoversOn, MarksLeaver, DropsLeaver, CastsOn, CountsCast, ClosesCast, Publishes, WithdrawsIt, TakesPointer, TellsHolders, IsGoneNow}
 use Rattle.tap_rule.proofs.Named.{each_case}
-use Rattle.tap_moves.specs.Spelled.{HaveParents}
-use Rattle.tap_moves.proofs.Spelled.{IsNamedLay}
 use Rattle.tap_moves.proofs.SpelledJoins.{IsForName, IsSpelled, IsSpelledMessage, IsSpelledRequest, IsSpelledTurn, ended_knows, hello_named, holders_named, off_named, turn_spelled, word_named}
 
 -- a name that there may be

@@ -73,7 +73,6 @@ use Rattle.tap_table.proofs.Targets.{target_is_linked}
 use Rattle.tap_moves.proofs.SessionsMade.{none_opened, opened_found}
 use Rattle.tap_moves.proofs.Got.{all_among, among_all, among_got}
 use Rattle.tap_session_moves.proofs.Receivers.{AreLaidTo, HaveParents, IsLaidTo, IsToLay, IsToLink, IsToWord, cleared_to, closed_by, hello_to, laid_in, off_to, parent_closed, parents_answered, parents_opened, published_to, put_to, withdrawn_to, word_to}
-use Rattle.std.proofs.Common.{All, []}
 use Rattle.tap_multicast.specs.declared.covers.Covered.{Covered}
 use Rattle.tap_multicast.specs.declared.covers.Covered.TheVariants.{Already, Now}
 use Rattle.tap_cast.specs.declared.casts.CastTurn.{CastTurn}
