@@ -4,9 +4,6 @@ use Rattle.std.specs.Prelude.{◌&&◌, ◌||◌}
 use Rattle.std.specs.List.{cons_option, filter_map, list_any}
 use Rattle.std.proofs.lemmas.List.Elements.{filter-append}
 use Rattle.std.proofs.lemmas.List.Folds.{list_any-append}
-use Rattle.tap_log.specs.declared.record.Record.{Record}
-use Rattle.tap_log.specs.Kinds.{sent_number, taken_number}
-use Rattle.tap_history.specs.Moments.{has_number, outstanding}
 
 twice-step : {X : Type 0} (q : X → Bool) (a b : Bool) (x : X) (ys : List X) → q x ≡ b
     → cond {A = List X} (a && b) (x ∷ filter q ys) (filter q ys) ≡ filter q (cond {A = List X} a (x ∷ ys) ys)
@@ -78,10 +75,3 @@ pub filter_map_within : {X Y : Type 0} (h : X → Option Y) (xs : List X) → le
 filter_map_within h [] = omega arith
 filter_map_within h (x ∷ xs) =
     let within = one_given (h x) (filter_map h xs) (length xs) (filter_map_within h xs) in omega (arith, within)
-
--- no more frames are outstanding than there are records
-pub outstanding_within : (log : List Record) → length (outstanding log) ≤ length log
-outstanding_within log =
-    let frames = filter_within (λ number. not (has_number (filter_map taken_number log) number)) (filter_map sent_number log) in
-    let sent = filter_map_within sent_number log in
-    omega (arith, frames, sent)

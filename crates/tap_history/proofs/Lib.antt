@@ -1,12 +1,10 @@
 pub mod OneMoreGroup
 pub mod Growing
 pub mod Instants
-pub mod Unwithdrawn
 pub mod Less
 pub mod Acknowledging
 pub mod Stepwise
 pub mod Parts
-pub mod Searching
 pub mod Numbering
 pub mod Telling
 pub mod Ends

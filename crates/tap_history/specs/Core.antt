@@ -1,5 +1,5 @@
 -- Which nodes take part at a moment of a log. A set of names is a list of them.
-use Rattle.std.specs.Prelude.{ℕ, Bool, not, if◌then◌else◌, List, [], ◌∷◌, ◌++◌, drop, filter, Option, None}
+use Rattle.std.specs.Prelude.{ℕ, Bool, if◌then◌else◌, List, [], ◌∷◌, ◌++◌, drop, filter, Option, None}
 use Rattle.std.specs.List.{filter_map, zip}
 use Rattle.tap_name.specs.Names.{has_name, names_without}
 use Rattle.tap_scenario.specs.declared.step.Step.{Step}

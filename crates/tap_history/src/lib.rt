@@ -1,29 +1,15 @@
-//! What a log says of its run: its groups and moments, who takes part and what waits at a moment, and why a step is refused.
+//! What a log says of its run, as definitions, and laws over them: its groups and moments, who takes part, what is published and
+//! what waits at a moment, and why a step is refused.
+//!
+//! The definitions stand in `specs/`; laws state what one more record and one more group change. Two small programs are here as
+//! well: whether a step starts something, and which node it has depart. What a run asks of its log, and why a step is refused, is
+//! computed in `tap_ledger`, whose contracts cite these definitions.
 #![tactic(auto)]
 
-mod departing;
-mod flights;
-mod groups;
 mod law;
-mod moments;
-mod names;
-mod nodes;
-mod published;
-#[cfg(test)]
-mod refusal_tests;
-mod refusals;
 mod steps;
 #[cfg(test)]
 mod tests;
-#[cfg(test)]
-mod typed;
 
-pub use departing::departing_at;
-pub use groups::{beginning_of, ending_of, groups_of};
 pub use law::{group_changes, log_in_groups, one_more_group, record_changes};
-pub use moments::{awaiting, is_moment, is_rest, is_still, outstanding, under_way};
-pub use names::{join_count, name_count, names_at};
-pub use nodes::{abandoned_at, ceased_at, core_at, present_at};
-pub use published::published_at;
-pub use refusals::first_refusal;
-pub use steps::{actor_of, depart_name, is_start};
+pub use steps::{depart_name, is_start};

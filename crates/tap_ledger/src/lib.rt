@@ -7,6 +7,8 @@ mod ledger;
 mod names;
 mod pairs;
 mod quiet;
+#[cfg(test)]
+mod refusal_tests;
 mod refusals;
 mod roll;
 mod steps;

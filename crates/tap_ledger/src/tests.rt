@@ -13,14 +13,14 @@ use tap_log::{Bytes, NumberKind, Pair, Record, Refusal, number_in};
 use tap_name::{List, Name, Settings, read_name};
 use tap_scenario::{Step, read_step};
 
-fn name_of(settings: &Settings, text: &str) -> Result<Name, Fail> {
+pub(crate) fn name_of(settings: &Settings, text: &str) -> Result<Name, Fail> {
     match read_name(settings, text.as_bytes()) {
         Ok(name) => Ok(name),
         Err(_) => Err("a name")?,
     }
 }
 
-fn step_of(settings: &Settings, text: &str) -> Result<Step, Fail> {
+pub(crate) fn step_of(settings: &Settings, text: &str) -> Result<Step, Fail> {
     Ok(read_step(settings, false, text.as_bytes()).ok_or("a step")?)
 }
 
@@ -87,7 +87,7 @@ fn can_add(ledger: &Ledger, item: &Record) -> bool
 }
 
 // Adds a record, which may be added.
-fn add(rt: &impl Abort, ledger: &mut Ledger, item: Record) -> Result<(), Fail> {
+pub(crate) fn add(rt: &impl Abort, ledger: &mut Ledger, item: Record) -> Result<(), Fail> {
     ledger.reserve(1)?;
     assert!(rt; can_add(ledger, &item));
     ledger.push_reserved(item);
@@ -95,19 +95,24 @@ fn add(rt: &impl Abort, ledger: &mut Ledger, item: Record) -> Result<(), Fail> {
 }
 
 // Adds the record of a step.
-fn add_step(rt: &impl Abort, ledger: &mut Ledger, text: &str) -> Result<(), Fail> {
+pub(crate) fn add_step(rt: &impl Abort, ledger: &mut Ledger, text: &str) -> Result<(), Fail> {
     let step = step_of(&ledger.settings(), text)?;
     add(rt, ledger, Record::Step { index: 1, step })
 }
 
 // Adds that a frame is sent: that a node is core, from 00 to 10.
-fn add_sent(alloc: Global, rt: &impl Abort, ledger: &mut Ledger, number: u32) -> Result<(), Fail> {
+pub(crate) fn add_sent(
+    alloc: Global,
+    rt: &impl Abort,
+    ledger: &mut Ledger,
+    number: u32,
+) -> Result<(), Fail> {
     let bytes = Bytes::copy_of(alloc, &[1, 6, 0, 0, 0, 0, 1, 0])?;
     add(rt, ledger, Record::Sent { number, bytes })
 }
 
 // A ledger of two members, 00 and 01.
-fn begun(alloc: Global) -> Result<Ledger, Fail> {
+pub(crate) fn begun(alloc: Global) -> Result<Ledger, Fail> {
     let settings = Settings::new(2, 2, 1).ok_or("settings")?;
     let mut members = List::new(alloc);
     members.push(name_of(&settings, "00")?)?;

@@ -1,7 +1,0 @@
-use Rattle.std.proofs.Common.{◌≡◌, [], take}
-use Rattle.std.specs.Prelude.{fold}
-use Rattle.tap_history.specs.Names.{with_name}
-use Rattle.tap_history.proofs.names.each_once.Given as goal
-
-abbrev pub invariant-loop-name : goal.invariant-loop-name
-invariant-loop-name l = l.once.items ≡ fold with_name [] (take l.name-index l.names)
