@@ -46,7 +46,7 @@ pub enum Refusal {
     NotInPrefix,
 }
 
-// The words that the line of a refusal ends with.
+// The words that the line of a refusal ends with (docs/FORMATS.md, "The printed text").
 impl fmt::Display for Refusal {
     fn fmt<W: fmt::Write>(&self, f: &mut fmt::Formatter<W>) -> fmt::Result {
         match self {

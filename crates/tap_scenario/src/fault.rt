@@ -71,7 +71,7 @@ pub enum Fault {
     BadStep(u32),
 }
 
-// The words of docs/FORMATS.md, "The fault line and the exit status".
+// The words that the fault line ends with (docs/FORMATS.md, "The fault line and the exit status").
 impl fmt::Display for Fault {
     fn fmt<W: fmt::Write>(&self, f: &mut fmt::Formatter<W>) -> fmt::Result {
         match self {
@@ -97,7 +97,7 @@ pub enum ReadRefusal {
     NoMemory,
 }
 
-// The words of docs/FORMATS.md, "The fault line and the exit status".
+// The words of the fault line, without the program's name.
 impl fmt::Display for ReadRefusal {
     fn fmt<W: fmt::Write>(&self, f: &mut fmt::Formatter<W>) -> fmt::Result {
         match self {

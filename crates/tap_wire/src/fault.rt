@@ -56,7 +56,7 @@ pub enum WireFault {
     NoMemory,
 }
 
-// The words of the same fault of a whole frame.
+// The words of the same fault of a frame.
 impl fmt::Display for HeadFault {
     fn fmt<W: fmt::Write>(&self, f: &mut fmt::Formatter<W>) -> fmt::Result {
         WireFault::from(*self).fmt(f)
@@ -65,7 +65,7 @@ impl fmt::Display for HeadFault {
 
 impl Error for HeadFault {}
 
-// The words of docs/FORMATS.md, "The printed text", of a damaged copy.
+// The words that the line of a damaged copy ends with (docs/FORMATS.md, "The printed text").
 impl fmt::Display for WireFault {
     fn fmt<W: fmt::Write>(&self, f: &mut fmt::Formatter<W>) -> fmt::Result {
         match self {
