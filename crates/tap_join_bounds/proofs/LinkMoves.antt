@@ -119,15 +119,15 @@ module _ (p : SettingsValue) (members : List (List ℕ)) (s : System) (r : Traff
 
   case_says : {status : Status} {body : Body} {rule : Reaction} → RuleCase node status (Takes from body) rule → node.status ≡ status
       → IsJoinBody body → IsPlainNode node → IsDelivery p s number node from body → Says body rule
-  case_says (GreetedBefore {watch = watch} before) at of plain is = tell_pins _ watch is _ (record { words = refl; ties = refl; status = refl })
-  case_says (Greets {watch = watch} before) at of plain is = tell_pins _ watch is _ (record { words = refl; ties = refl; status = refl })
+  case_says (GreetedBefore {watch = watch} before) at of plain is = tell_pins _ watch is _ (record { words = refl; ties = refl })
+  case_says (Greets {watch = watch} before) at of plain is = tell_pins _ watch is _ (record { words = refl; ties = refl })
   case_says (IsGreeted {session = session} {core = core} {links = links}) at of plain is = hello_says session core links is
   case_says (HasCeased given_up) at of plain is = let wrong : false ≡ true = sym plain.goes_on ∙ given_up in absurd (cc)
   case_says (IsReleased early) at of plain is = release_says is
   case_says (IsForgottenBy early) at of plain is = absurd of
-  case_says (CoveredBefore asked turn) at of plain is = asked_says asked is at _ (record { words = refl; ties = refl; status = refl })
-  case_says (CoversAlone asked turn none) at of plain is = asked_says asked is at _ (record { words = refl; ties = refl; status = refl })
-  case_says (CoversOn asked turn some) at of plain is = asked_says asked is at _ (record { words = refl; ties = refl; status = refl })
+  case_says (CoveredBefore asked turn) at of plain is = asked_says asked is at _ (record { words = refl; ties = refl })
+  case_says (CoversAlone asked turn none) at of plain is = asked_says asked is at _ (record { words = refl; ties = refl })
+  case_says (CoversOn asked turn some) at of plain is = asked_says asked is at _ (record { words = refl; ties = refl })
   case_says MarksLeaver at of plain is = absurd of
   case_says DropsLeaver at of plain is = absurd of
   case_says (IsGoneNow OneLeft last) at of plain is = absurd of

@@ -96,11 +96,10 @@ module _ (members : List (List ℕ)) (s : System) (node : NodeState) (named : Li
         omega (arith, on, off, pin);
   }
 
--- the rule pins a name, and says the word for it; the status stays
+-- the rule pins a name, and says the word for it
 pub record IsPinning (node : NodeState) (b : List ℕ) (r : Reaction) : Type 0 where
   pub words : r.words ≡ words_of (pin_word node b)
   pub ties : r.state.ties ≡ pinned node.ties b
-  pub status : r.state.status ≡ node.status
 
 module _ (members : List (List ℕ)) (s : System) (node : NodeState) (is : IsNode node) (named : List ℕ → ℕ) where
   -- a joiner that is no member is pinned

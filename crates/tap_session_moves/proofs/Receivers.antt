@@ -5,7 +5,7 @@ use Rattle.std.specs.BTreeMap.{is_at}
 use Rattle.std.specs.Map.{lookup}
 use Rattle.std.specs.Option.{unwrap_or}
 use Rattle.std.proofs.lemmas.Bool.{cases_Bool}
-use Rattle.std.proofs.lemmas.List.Elements.{All-append, All-cons, All-head, All-map, All-nil, All-push, All-tail, All-weaker}
+use Rattle.std.proofs.lemmas.List.Elements.{All-append, All-cons, All-head, All-nil, All-push, All-tail, All-weaker}
 use Rattle.tap_name.specs.Name.{IsName}
 use Rattle.tap_name.specs.declared.slot.Offered.{Offered}
 use Rattle.tap_session.specs.declared.parent.Parent.{Parent}
@@ -34,8 +34,6 @@ use Rattle.tap_pointer.proofs.Entries.{All-put}
 use Rattle.tap_pointer.proofs.Known.{All-found}
 use Rattle.tap_pointer.proofs.Levels.{level_most}
 use Rattle.tap_join.specs.Hello.{is_own, links_tell, offered_tells, with_offered, words_of}
-use Rattle.tap_wire.specs.declared.frame.Body.{Body}
-use Rattle.tap_rule.specs.Reaction.{Message, message, to_each}
 
 module _ (P : List ℕ → Type 0) where
   -- ---- words and messages
@@ -43,17 +41,8 @@ module _ (P : List ℕ → Type 0) where
   abbrev pub IsToWord : Tie → Type 0
   IsToWord word = P word.to
 
-  abbrev pub IsToMessage : Message → Type 0
-  IsToMessage m = P m.to
-
   abbrev pub IsToLay : Lay → Type 0
   IsToLay lay = P lay.to
-
-  pub one_to : (to : List ℕ) (body : Body) → P to → All IsToMessage (message to body ∷ [])
-  one_to to body is = All-cons IsToMessage (message to body) [] is (All-nil IsToMessage)
-
-  pub each_to : (body : Body) (names : List (List ℕ)) → All P names → All IsToMessage (to_each body names)
-  each_to body names all = All-map IsToMessage (λ name. message name body) names all
 
   pub word_to : (told : Bool) (to : List ℕ) (version : ℕ) (on : Bool) → P to → All IsToWord (words_of (tie_where told to version on))
   word_to true to version on is = All-cons IsToWord (record { to = to; version = version; on = on }) [] is (All-nil IsToWord)
