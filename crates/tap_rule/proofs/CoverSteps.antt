@@ -25,7 +25,7 @@ use Rattle.tap_join.specs.Hello.{words_of}
 use Rattle.tap_join.specs.declared.sought.Sought.{Sought}
 use Rattle.tap_join.specs.declared.sought.Sought.TheVariants.{Forward, Surrogate}
 use Rattle.tap_join.specs.Seek.{sought, sought_by}
-use Rattle.tap_wire.specs.declared.frame.Body.TheVariants.{Seek, Hello}
+use Rattle.tap_wire.specs.declared.frame.Body.TheVariants.{Seek}
 use Rattle.tap_rule.specs.Node.{IsRunning, NodeState, level_of, link_to, name_of, settings_of}
 use Rattle.tap_rule.specs.Event.{Acted}
 use Rattle.tap_rule.specs.Event.News.{Nothing}
@@ -40,6 +40,7 @@ use Rattle.tap_rule.specs.Completed.{IsCompleted, RestAlike}
 use Rattle.tap_rule.specs.Steps.{IsParentAnswered}
 use Rattle.tap_rule.specs.JoinSteps.{CoverStep, SeekStep, SpreadStep, found_for, pin_words, tells_for}
 use Rattle.tap_rule.specs.Laws.{IsCarriedOut, SeekLaw, TellLaw, frame_to, tell_of}
+use Rattle.tap_rule.specs.Hellos.{core_hello}
 use Rattle.tap_rule.proofs.Among.{among-first, among-map, among-second}
 use Rattle.tap_rule.proofs.CarriedOut.{frame_law}
 use Rattle.tap_rule.proofs.Completed.{alike_by, completed_by, one_word, rest_by}
@@ -77,9 +78,9 @@ module _ (node : NodeState) (request : Request) (acted : Acted) (runs : IsRunnin
         among-second (tell_for request session left target) (greeting request session first offer)
         (map (tell_for request session left) targets) (among-map (tell_for request session left) target targets among)
 
-    greeted_among : first ≡ true → IsAmong (message request.joiner (Hello session true offer)) messages
+    greeted_among : first ≡ true → IsAmong (message request.joiner (core_hello session offer)) messages
     greeted_among is =
-        among-first (message request.joiner (Hello session true offer)) (greeting request session first offer)
+        among-first (message request.joiner (core_hello session offer)) (greeting request session first offer)
         (map (tell_for request session left) targets) (rw is (inl refl))
 
     -- what the step of a cover that is made now changes
@@ -148,11 +149,11 @@ module _ (node : NodeState) (request : Request) (acted : Acted) (runs : IsRunnin
       spreads = record {
         alone = λ zero. absurd (eqb-false (answers_awaited first (length targets)) 0 is zero);
         opens = λ some. carried.sessions;
-        greets = λ yes. carried.sent.named (message request.joiner (Hello session true offer)) (greeted_among yes);
+        greets = λ yes. carried.sent.named (message request.joiner (core_hello session offer)) (greeted_among yes);
         tells = λ target among. carried.sent.named (tell_for request session left target) (told_among target among);
         first_opens = λ yes.
             let number : answers_awaited first (length targets) ≡ length targets + 1 = rw yes refl in
-            let all : messages ≡ message request.joiner (Hello session true offer) ∷ tells_for node request left targets = rw yes refl in
+            let all : messages ≡ message request.joiner (core_hello session offer) ∷ tells_for node request left targets = rw yes refl in
             (carried.sessions ∙ ap (opened_with node.sessions request.parent request.depth) number, exactly carried _ all);
         again_opens = λ no some.
             let number : answers_awaited first (length targets) ≡ length targets = rw no refl in

@@ -27,6 +27,7 @@ use Rattle.tap_rule.specs.Sending.{link_frame}
 use Rattle.tap_rule.specs.Sent.{IsAmong}
 use Rattle.tap_rule.specs.JoinSteps.{MeetStep, PinStep}
 use Rattle.tap_rule.specs.Laws.{DoneLaw, HelloLaw, IsCarriedOut, MeetLaw, frame_to, tell_of}
+use Rattle.tap_rule.specs.Hellos.{joining_hello}
 use Rattle.tap_rule.proofs.CarriedOut.{frame_law}
 use Rattle.tap_rule.proofs.Completed.{completed_by, one_word, rest_by}
 use Rattle.tap_rule.proofs.OneName.{others_stay}
@@ -122,7 +123,7 @@ module _ (node : NodeState) (from : List ℕ) (tell : TellFields) (acted : Acted
     greets = λ new. (
       carried.sessions,
       rw carried.greeted (added node.greeted tell.joiner),
-      carried.sent.named (message tell.joiner (Hello (node.sessions.opened + 1) false [])) (inl refl),
+      carried.sent.named (message tell.joiner (joining_hello (node.sessions.opened + 1))) (inl refl),
     );
     abandoned = carried.abandoned;
     rest = rest_by carried refl refl refl refl;

@@ -4,7 +4,7 @@
 -- `request_of` and `pins_and_covers`. Both go on with `covers`, `covers_as` and `spreads`.
 --
 -- Rule: docs/PROTOCOL.md, "Seek" and "Tell" and "Covers of a node".
-use Rattle.std.specs.Prelude.{ℕ, ◌==◌, ◌+◌, Bool, true, if◌then◌else◌, List, [], ◌∷◌, ◌++◌, length, map}
+use Rattle.std.specs.Prelude.{ℕ, ◌==◌, ◌+◌, Bool, if◌then◌else◌, List, [], ◌∷◌, ◌++◌, length, map}
 use Rattle.tap_name.specs.Kinds.{Level, Name}
 use Rattle.tap_name.specs.declared.slot.Offered.{Offered}
 use Rattle.tap_name.specs.declared.slot.Slot.{Slot}
@@ -13,7 +13,7 @@ use Rattle.tap_session.specs.declared.parent.Parent.{Parent}
 use Rattle.tap_session.specs.declared.parent.Parent.TheVariants.{Root, Node}
 use Rattle.tap_watch.specs.Level.{full_slots}
 use Rattle.tap_wire.specs.declared.frame.TellFields.{TellFields}
-use Rattle.tap_wire.specs.declared.frame.Body.TheVariants.{Seek, Tell, Hello}
+use Rattle.tap_wire.specs.declared.frame.Body.TheVariants.{Seek, Tell}
 use Rattle.tap_multicast.specs.declared.covers.Covered.{Covered}
 use Rattle.tap_multicast.specs.declared.covers.Covered.TheVariants.{Already, Now}
 use Rattle.tap_multicast.specs.declared.target.Target.{Target}
@@ -25,6 +25,7 @@ use Rattle.tap_join.specs.Seek.{sought}
 use Rattle.tap_rule.specs.Node.{NodeState, settings_of}
 use Rattle.tap_rule.specs.Reaction.{Message, Reaction, message, pin_word, sends, with_pin, with_words}
 use Rattle.tap_rule.specs.Answers.{answer_for, next_number, with_session}
+use Rattle.tap_rule.specs.Hellos.{core_hello}
 
 -- what a node is asked to do for a joiner: to cover it, with its prefix, from a level on; the slots that it still watches;
 -- who is answered in the end; and the depth
@@ -42,7 +43,7 @@ answers_awaited first targets = if first then targets + 1 else targets
 
 -- the Hello of a first cover, with the links that are offered
 abbrev pub greeting : Request → SessionNumber → Bool → List Offered → List Message
-greeting request session first offer = if first then message request.joiner (Hello session true offer) ∷ [] else []
+greeting request session first offer = if first then message request.joiner (core_hello session offer) ∷ [] else []
 
 -- the Tell for a target, with the watch that is left
 abbrev pub tell_for : Request → SessionNumber → List Slot → Target → Message

@@ -18,7 +18,7 @@ use Rattle.tap_join.specs.declared.sought.Sought.{Sought}
 use Rattle.tap_join.specs.declared.sought.Sought.TheVariants.{Forward, Surrogate}
 use Rattle.tap_join.specs.Seek.{sought}
 use Rattle.tap_wire.specs.declared.frame.TellFields.{TellFields}
-use Rattle.tap_wire.specs.declared.frame.Body.TheVariants.{Seek, Tell, Hello, Heard, Ack, Release}
+use Rattle.tap_wire.specs.declared.frame.Body.TheVariants.{Seek, Heard, Ack, Release}
 use Rattle.tap_rule.specs.Node.{NodeState, link_to, name_of, settings_of}
 use Rattle.tap_rule.specs.Node.Status.{Core}
 use Rattle.tap_rule.specs.Event.{Acted}
@@ -29,7 +29,8 @@ use Rattle.tap_rule.specs.Joining.{hello_words}
 use Rattle.tap_rule.specs.Sent.{AreSent, IsAmong}
 use Rattle.tap_rule.specs.Completed.{IsCompleted, RestAlike}
 use Rattle.tap_rule.specs.Steps.{AllAlike, IsParentAnswered, IsParentTold, JoinsAlike}
-use Rattle.tap_rule.specs.Covering.{Request, answers_awaited}
+use Rattle.tap_rule.specs.Covering.{Request, answers_awaited, tell_for}
+use Rattle.tap_rule.specs.Hellos.{core_hello, joining_hello}
 
 -- The node pins a joiner to which it has no link, or a pin: it has one then, no other link changes, and a new link has its word.
 pub record PinStep (node : NodeState) (joiner : List ℕ) (acted : Acted) : Type 0 where
@@ -54,7 +55,7 @@ pub record MeetStep (node : NodeState) (from : List ℕ) (tell : TellFields) (ac
   pub greets : has_name node.greeted tell.joiner ≡ false
       → (acted.state.sessions ≡ opened_with node.sessions (Node from tell.session) tell.depth 1)
       × (has_name acted.state.greeted tell.joiner ≡ true)
-      × IsAmong (message_frame (name_of node) (message tell.joiner (Hello (node.sessions.opened + 1) false []))) acted.sent
+      × IsAmong (message_frame (name_of node) (message tell.joiner (joining_hello (node.sessions.opened + 1)))) acted.sent
   pub abandoned : acted.state.abandoned ≡ node.abandoned
   pub rest : RestAlike node acted.state
   pub greeted : (name : List ℕ) → (name ≡ tell.joiner) ⊎ (has_name acted.state.greeted name ≡ has_name node.greeted name)
@@ -62,7 +63,7 @@ pub record MeetStep (node : NodeState) (from : List ℕ) (tell : TellFields) (ac
       → IsCompleted node node.pointers (pin_words node tell.joiner) (message from (Ack tell.session) ∷ []) Nothing acted
   pub welcomes : has_name node.greeted tell.joiner ≡ false
       → IsCompleted node node.pointers (pin_words node tell.joiner)
-      (message tell.joiner (Hello (node.sessions.opened + 1) false []) ∷ []) Nothing acted
+      (message tell.joiner (joining_hello (node.sessions.opened + 1)) ∷ []) Nothing acted
 
 -- Hello, at a joining node: its ties are those after the Hello, each new link has its word, and it answers
 pub record HelloStep (node : NodeState) (from : List ℕ) (session : ℕ) (core : Bool) (links : List Offered) (acted : Acted) : Type 0 where
@@ -94,9 +95,7 @@ found_for node request =
 
 -- the Tells of a joiner for these targets, in a session that is opened now, with the watch that is left
 abbrev pub tells_for : NodeState → Request → List Slot → List Target → List Message
-tells_for node request left targets =
-    map (λ target. message target.to
-    (Tell request.joiner request.prefix target.level (node.sessions.opened + 1) (request.depth + 1) left)) targets
+tells_for node request left targets = map (tell_for request (node.sessions.opened + 1) left) targets
 
 -- A node spreads a joiner that it covers now: it greets it if the cover is the first, tells each target, and opens a session for
 -- all of their answers; if there is none to wait for, it answers at once.
@@ -107,14 +106,13 @@ pub record SpreadStep (node : NodeState) (request : Request) (first : Bool) (off
   pub opens : answers_awaited first (length targets) ≢ 0
       → acted.state.sessions ≡ opened_with node.sessions request.parent request.depth (answers_awaited first (length targets))
   pub greets : first ≡ true
-      → IsAmong (message_frame (name_of node) (message request.joiner (Hello (node.sessions.opened + 1) true offer))) acted.sent
+      → IsAmong (message_frame (name_of node) (message request.joiner (core_hello (node.sessions.opened + 1) offer))) acted.sent
   pub tells : (target : Target) → IsAmong target targets
-      → IsAmong (message_frame (name_of node) (message target.to
-      (Tell request.joiner request.prefix target.level (node.sessions.opened + 1) (request.depth + 1) left))) acted.sent
+      → IsAmong (message_frame (name_of node) (tell_for request (node.sessions.opened + 1) left target)) acted.sent
   pub first_opens : first ≡ true
       → (acted.state.sessions ≡ opened_with node.sessions request.parent request.depth (length targets + 1))
       × IsCompleted node node.pointers (pin_words node request.joiner)
-      (message request.joiner (Hello (node.sessions.opened + 1) true offer) ∷ tells_for node request left targets) Nothing acted
+      (message request.joiner (core_hello (node.sessions.opened + 1) offer) ∷ tells_for node request left targets) Nothing acted
   pub again_opens : first ≡ false → length targets ≢ 0
       → (acted.state.sessions ≡ opened_with node.sessions request.parent request.depth (length targets))
       × IsCompleted node node.pointers (pin_words node request.joiner) (tells_for node request left targets) Nothing acted

@@ -4,7 +4,7 @@
 -- `with_hello`. A Done, if the join isn't given up: `becomes_core`.
 --
 -- Rule: docs/PROTOCOL.md, "The start of a join" and "Tell" and "Hello" and "Done".
-use Rattle.std.specs.Prelude.{◌+◌, Bool, false, if◌then◌else◌, List, [], ◌∷◌, ◌++◌, length}
+use Rattle.std.specs.Prelude.{◌+◌, Bool, if◌then◌else◌, List, [], ◌∷◌, ◌++◌, length}
 use Rattle.tap_name.specs.Kinds.{Name}
 use Rattle.tap_name.specs.declared.slot.Offered.{Offered}
 use Rattle.tap_name.specs.Names.{has_name}
@@ -13,13 +13,14 @@ use Rattle.tap_session.specs.declared.parent.Parent.TheVariants.{Node}
 use Rattle.tap_table.specs.declared.tie.Tie.{Tie}
 use Rattle.tap_table.specs.Ties.{holders_on}
 use Rattle.tap_wire.specs.declared.frame.TellFields.{TellFields}
-use Rattle.tap_wire.specs.declared.frame.Body.TheVariants.{Seek, Hello, Heard, Ack, Release}
+use Rattle.tap_wire.specs.declared.frame.Body.TheVariants.{Seek, Heard, Ack, Release}
 use Rattle.tap_join.specs.Hello.{after_hello, hello_tells, words_of}
 use Rattle.tap_rule.specs.Node.{NodeState, name_of}
 use Rattle.tap_rule.specs.Node.Status.{Core}
 use Rattle.tap_rule.specs.Event.News.{Core as CoreNews}
 use Rattle.tap_rule.specs.Reaction.{Reaction, message, pin_word, sends, to_each, with_news, with_pin, with_words}
 use Rattle.tap_rule.specs.Answers.{next_number, with_session}
+use Rattle.tap_rule.specs.Hellos.{joining_hello}
 
 -- the start of a join: a Seek, to the node that it knows
 abbrev pub starts_join : NodeState → Name → Reaction
@@ -33,7 +34,7 @@ with_greeting node joiner = record node { greeted = node.greeted ++ joiner ∷ [
 abbrev pub welcomes : NodeState → Name → TellFields → Reaction
 welcomes node from tell =
     sends (with_session (with_greeting node tell.joiner) (Node from tell.session) tell.depth 1)
-    (message tell.joiner (Hello (next_number node) false []) ∷ [])
+    (message tell.joiner (joining_hello (next_number node)) ∷ [])
 
 -- it is greeted once; after that the Tell is answered
 abbrev pub welcomes_once : NodeState → Name → TellFields → Reaction

@@ -4,6 +4,7 @@ pub mod Reaction
 pub mod Strange
 pub mod Answers
 pub mod Links
+pub mod Hellos
 pub mod Covering
 pub mod Joining
 pub mod Ceasing

@@ -2,20 +2,25 @@
 use Rattle.std.specs.Prelude.{◌≡◌, ◌≤◌}
 use Rattle.tap_wire.specs.declared.frame.Frame.{Frame}
 use Rattle.tap_wire.specs.declared.frame.Body.{Body}
-use Rattle.tap_wire.specs.declared.frame.Body.TheVariants.{Lay, Find, Answer, Cast, CastAck}
+use Rattle.tap_wire.specs.declared.kind.Kind.{Kind}
+use Rattle.tap_wire.specs.declared.kind.Kind.TheVariants.{Lay, Find, Answer, Cast, CastAck}
+use Rattle.tap_wire.specs.Kind.{kind_of}
 use Rattle.tap_rule.specs.Node.{NodeState}
 use Rattle.tap_rule.specs.Event.{Acted, Start}
 use Rattle.tap_rule.specs.Event.Start.{Publish, Withdraw, Find as StartFind, Cast as StartCast}
 use Rattle.tap_rule.specs.Sent.{IsAmong}
 
 -- a frame about pointers, lookups or casts
+abbrev pub IsQuietKind : Kind → Type 0
+IsQuietKind Lay = Unit {0}
+IsQuietKind Find = Unit {0}
+IsQuietKind Answer = Unit {0}
+IsQuietKind Cast = Unit {0}
+IsQuietKind CastAck = Unit {0}
+IsQuietKind other = ⊥
+
 abbrev pub IsQuiet : Body → Type 0
-IsQuiet (Lay object server level version on) = Unit {0}
-IsQuiet (Find ticket object asker level) = Unit {0}
-IsQuiet (Answer ticket server) = Unit {0}
-IsQuiet (Cast cast level session depth word) = Unit {0}
-IsQuiet (CastAck session) = Unit {0}
-IsQuiet _ = ⊥
+IsQuiet body = IsQuietKind (kind_of body)
 
 -- a start that is
 abbrev pub IsQuietStart : Start → Type 0
