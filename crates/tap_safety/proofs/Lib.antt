@@ -24,6 +24,7 @@ pub mod Quiet
 pub mod Exchange
 pub mod Turns
 pub mod SessionsKept
+pub mod Said
 pub mod SessionLaws
 pub mod Apart
 pub mod AwaitedKept

@@ -7,13 +7,14 @@ use Rattle.tap_link.specs.declared.kind.Kind.{Kind}
 use Rattle.tap_link.specs.declared.kind.Kind.TheVariants.{Pin, Settled}
 use Rattle.tap_table.specs.declared.tie.Tie.{Tie}
 use Rattle.tap_wire.specs.declared.frame.Body.{Body}
-use Rattle.tap_wire.specs.declared.frame.Body.TheVariants.{Ack, Forget, Heard, Hello, Lay, Leave, Link, Release}
+use Rattle.tap_wire.specs.declared.frame.Body.TheVariants.{Ack, Forget, Heard, Lay, Leave, Link, Release}
 use Rattle.tap_wire.specs.declared.frame.Frame.{Frame}
 use Rattle.tap_wire.specs.declared.frame.TellFields.{TellFields}
 use Rattle.tap_rule.specs.Node.{NodeState, link_to}
 use Rattle.tap_rule.specs.Reaction.{Message, message}
 use Rattle.tap_rule.specs.Sending.{lay_frame, link_frame, message_frame}
 use Rattle.tap_rule.specs.Sent.{AreSent, IsAmong}
+use Rattle.tap_rule.specs.Hellos.{joining_hello}
 use Rattle.tap_safety.specs.Frames.{HelloFields, hello_body, tell_body}
 use Rattle.tap_safety.specs.System.{System, HasLink, IsCoreNode, IsJoiner, IsUnderWay}
 use Rattle.tap_safety.specs.Step.{IsSent}
@@ -184,7 +185,7 @@ joining_soft s s' number w x tell watch joining joiner here apart soft =
     on : (y : List ℕ) → IsSoft s y → IsSoft s' y
     on = frame_softs s s' number frame joining.step
 
-    greets : (session : ℕ) → IsSoundBody s' x tell.joiner (Hello session false [])
+    greets : (session : ℕ) → IsSoundBody s' x tell.joiner (joining_hello session)
     greets session o (inl is) =
         let name : o.name ≡ x = ap (λ o. o.name) is in
         let says : o.settled ≡ false = ap (λ o. o.settled) is in
@@ -200,7 +201,7 @@ joining_soft s s' number w x tell watch joining joiner here apart soft =
         elim joining.answers [
           | inl ack ↦ rw ack (one_sound s' x (message w (Ack tell.session)) tt)
           | inr hello ↦
-              rw hello.1 (one_sound s' x (message tell.joiner (Hello hello.0 false [])) (greets hello.0))
+              rw hello.1 (one_sound s' x (message tell.joiner (joining_hello hello.0)) (greets hello.0))
         ]
 
 module _ (s s' : System) (number : ℕ) (w b : List ℕ) (hello : HelloFields) (step : TakesHello s s' number w b hello) (soft : NamesSoft s) where

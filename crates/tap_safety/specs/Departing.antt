@@ -5,7 +5,10 @@ use Rattle.tap_name.specs.Names.{Among}
 use Rattle.tap_link.specs.declared.kind.Kind.{Kind}
 use Rattle.tap_link.specs.declared.kind.Kind.TheVariants.{Pin, Settled, Leaving as Marked}
 use Rattle.tap_wire.specs.declared.frame.Body.{Body}
-use Rattle.tap_wire.specs.declared.frame.Body.TheVariants.{Ack, Answer, Cast, CastAck, Done, Find, Forget, Gone, Heard, Hello, Leave, Left, Link, Release, Seek, Tell}
+use Rattle.tap_wire.specs.declared.frame.Body.TheVariants.{Forget, Gone, Leave, Left, Link, Release}
+use Rattle.tap_wire.specs.declared.kind.Kind.{Kind as FrameKind}
+use Rattle.tap_wire.specs.declared.kind.Kind.TheVariants.{Seek, Tell, Hello, Heard, Ack, Done, Find, Answer, Cast, CastAck}
+use Rattle.tap_wire.specs.Kind.{kind_of}
 use Rattle.tap_rule.specs.Node.{NodeState, link_to}
 use Rattle.tap_rule.specs.Node.Status.{Gone as HasGone, Joining, Leaving}
 use Rattle.tap_safety.specs.Remembered.{Leaver}
@@ -17,18 +20,21 @@ abbrev pub Departs : System → Leaver → Type 0
 Departs s leaver = s.departing ≡ Some leaver
 
 -- what may be under way while a node departs: no frame of a join, of a lookup or of a cast
+abbrev MayBeThen : FrameKind → Type 0
+MayBeThen Seek = ⊥
+MayBeThen Tell = ⊥
+MayBeThen Hello = ⊥
+MayBeThen Heard = ⊥
+MayBeThen Ack = ⊥
+MayBeThen Done = ⊥
+MayBeThen Find = ⊥
+MayBeThen Answer = ⊥
+MayBeThen Cast = ⊥
+MayBeThen CastAck = ⊥
+MayBeThen other = Unit
+
 abbrev pub may_be_then : Body → Type 0
-may_be_then (Seek joiner) = ⊥
-may_be_then (Tell joiner prefix level session depth watch) = ⊥
-may_be_then (Hello session core links) = ⊥
-may_be_then (Heard session) = ⊥
-may_be_then (Ack session) = ⊥
-may_be_then Done = ⊥
-may_be_then (Find ticket object asker level) = ⊥
-may_be_then (Answer ticket server) = ⊥
-may_be_then (Cast cast level session depth word) = ⊥
-may_be_then (CastAck session) = ⊥
-may_be_then other = Unit
+may_be_then body = MayBeThen (kind_of body)
 
 -- a core node other than n is in the slot of n at a
 pub record HasOther (s : System) (a n : List ℕ) : Type 0 where

@@ -7,13 +7,14 @@ use Rattle.tap_link.specs.declared.kind.Kind.{Kind}
 use Rattle.tap_link.specs.declared.kind.Kind.TheVariants.{Pin, Settled}
 use Rattle.tap_multicast.specs.Covers.{level_kept}
 use Rattle.tap_table.specs.declared.tie.Tie.{Tie}
-use Rattle.tap_wire.specs.declared.frame.Body.TheVariants.{Ack, Forget, Heard, Hello, Release}
+use Rattle.tap_wire.specs.declared.frame.Body.TheVariants.{Ack, Forget, Heard, Release}
 use Rattle.tap_wire.specs.declared.frame.Frame.{Frame}
 use Rattle.tap_wire.specs.declared.frame.TellFields.{TellFields}
 use Rattle.tap_rule.specs.Node.{NodeState, link_to}
 use Rattle.tap_rule.specs.Node.Status.{Joining, Ceased}
 use Rattle.tap_rule.specs.Reaction.{Message, message}
 use Rattle.tap_rule.specs.Sent.{AreSent}
+use Rattle.tap_rule.specs.Hellos.{joining_hello}
 use Rattle.tap_safety.specs.Frames.{HelloFields, hello_body, tell_body}
 use Rattle.tap_safety.specs.Soft.{Offers}
 use Rattle.tap_safety.specs.System.{System}
@@ -64,7 +65,7 @@ pub record TakesTellJoining (s s' : System) (number : ℕ) (w x : List ℕ) (tel
   pub pinned : link_to step.after tell.joiner ≡ Some Pin
   pub links : (t : List ℕ) → (t ≡ tell.joiner) ⊎ (link_to step.after t ≡ link_to step.before t)
   pub answers : (step.messages ≡ message w (Ack tell.session) ∷ [])
-      ⊎ ((session : ℕ) × (step.messages ≡ message tell.joiner (Hello session false []) ∷ []))
+      ⊎ ((session : ℕ) × (step.messages ≡ message tell.joiner (joining_hello session) ∷ []))
 
 -- the node has a settled link in the slot of t
 pub record HasSettledNear (node : NodeState) (x t : List ℕ) : Type 0 where

@@ -4,7 +4,10 @@ use Rattle.tap_name.specs.Names.{Among}
 use Rattle.tap_table.specs.declared.tie.Tie.{Tie}
 use Rattle.tap_wire.specs.declared.frame.Body.{Body}
 use Rattle.tap_wire.specs.declared.frame.Body.TheVariants.{Gone, Leave, Left, Link}
+use Rattle.tap_wire.specs.declared.kind.Kind.TheVariants as kind
 use Rattle.tap_wire.specs.declared.frame.Frame.{Frame}
+use Rattle.tap_wire.specs.declared.kind.Kind.{Kind}
+use Rattle.tap_wire.specs.Kind.{kind_of}
 use Rattle.tap_rule.specs.Node.{NodeState}
 use Rattle.tap_rule.specs.Node.Status.{Ceased as HasCeased, Gone as HasGone, Leaving}
 use Rattle.tap_rule.specs.Reaction.{Message}
@@ -16,11 +19,14 @@ use Rattle.tap_safety.specs.FrameSteps.{LinksStay, TakesFrame}
 use Rattle.tap_safety.specs.Ties.{link_of, status_of}
 
 -- a Leave, a Left or a Gone
+abbrev pub IsNoticeKind : Kind → Type 0
+IsNoticeKind kind.Leave = Unit
+IsNoticeKind kind.Left = Unit
+IsNoticeKind kind.Gone = Unit
+IsNoticeKind other = ⊥
+
 abbrev pub IsNotice : Body → Type 0
-IsNotice (Leave replacement) = Unit
-IsNotice Left = Unit
-IsNotice Gone = Unit
-IsNotice other = ⊥
+IsNotice body = IsNoticeKind (kind_of body)
 
 -- x leaves, and awaits the answer of a
 pub record IsAwaiting (s : System) (x a : List ℕ) : Type 0 where

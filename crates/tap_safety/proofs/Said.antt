@@ -1,0 +1,49 @@
+-- What a frame says, for proofs that go by its kind: what a Tell says and what a Hello says are in one record each, so that such a proof
+-- names none of their fields.
+--
+-- Cited from outside: by the laws of one move.
+use Rattle.std.specs.Prelude.{ℕ, Bool, List, Option}
+use Rattle.tap_name.specs.declared.slot.Slot.{Slot}
+use Rattle.tap_wire.specs.declared.frame.Body.{Body}
+use Rattle.tap_wire.specs.declared.frame.Body.TheVariants.{Seek, Tell, Hello, Heard, Ack, Done, Release, Link, Lay, Find, Answer, Leave, Left, Gone, Forget, Cast, CastAck}
+use Rattle.tap_wire.specs.declared.frame.TellFields.{TellFields}
+use Rattle.tap_safety.specs.Frames.{HelloFields, hello_body, tell_body}
+
+pub data Said : Body → Type 0 where
+  IsSeek : (joiner : List ℕ) → Said (Seek joiner)
+  IsTell : (tell : TellFields) (watch : List Slot) → Said (tell_body tell watch)
+  IsHello : (hello : HelloFields) → Said (hello_body hello)
+  IsHeard : (session : ℕ) → Said (Heard session)
+  IsAck : (session : ℕ) → Said (Ack session)
+  IsDone : Said Done
+  IsRelease : Said Release
+  IsLink : (version : ℕ) (on : Bool) → Said (Link version on)
+  IsLay : {object server : List ℕ} {level version : ℕ} {on : Bool} → Said (Lay object server level version on)
+  IsFind : {ticket : ℕ} {object asker : List ℕ} {level : ℕ} → Said (Find ticket object asker level)
+  IsAnswer : {ticket : ℕ} {server : Option (List ℕ)} → Said (Answer ticket server)
+  IsLeave : (replacement : Option (List ℕ)) → Said (Leave replacement)
+  IsLeft : Said Left
+  IsGone : Said Gone
+  IsForget : Said Forget
+  IsCast : {cast level session depth : ℕ} {word : List ℕ} → Said (Cast cast level session depth word)
+  IsCastAck : (session : ℕ) → Said (CastAck session)
+
+pub said : (body : Body) → Said body
+said (Seek joiner) = IsSeek joiner
+said (Tell joiner prefix level session depth watch) =
+    IsTell (record { joiner = joiner; prefix = prefix; level = level; session = session; depth = depth }) watch
+said (Hello session core links) = IsHello (record { session = session; is_core = core; links = links })
+said (Heard session) = IsHeard session
+said (Ack session) = IsAck session
+said Done = IsDone
+said Release = IsRelease
+said (Link version on) = IsLink version on
+said (Lay object server level version on) = IsLay
+said (Find ticket object asker level) = IsFind
+said (Answer ticket server) = IsAnswer
+said (Leave replacement) = IsLeave replacement
+said Left = IsLeft
+said Gone = IsGone
+said Forget = IsForget
+said (Cast cast level session depth word) = IsCast
+said (CastAck session) = IsCastAck session
