@@ -12,9 +12,12 @@ use Rattle.tap_join.specs.Hello.{words_of}
 use Rattle.tap_join.specs.Seek.{sought}
 use Rattle.tap_join.specs.declared.sought.Sought.TheVariants.{Forward}
 use Rattle.tap_wire.specs.declared.frame.Body.{Body}
-use Rattle.tap_wire.specs.declared.frame.Body.TheVariants.{Ack, Done, Forget, Gone as GoneBody, Heard, Hello, Leave, Left, Link, Release, Seek, Tell}
+use Rattle.tap_wire.specs.declared.frame.Body.TheVariants.{Ack, Done, Forget, Heard, Link, Release, Seek}
 use Rattle.tap_wire.specs.declared.frame.Frame.{Frame}
 use Rattle.tap_wire.specs.declared.frame.TellFields.{TellFields}
+use Rattle.tap_wire.specs.declared.kind.Kind.{Kind}
+use Rattle.tap_wire.specs.declared.kind.Kind.TheVariants as kind
+use Rattle.tap_wire.specs.Kind.{kind_of}
 use Rattle.tap_rule.specs.Answers.{answer_sends}
 use Rattle.tap_rule.specs.FrameRules.{frame_at_ceased, frame_at_core, frame_at_joining, frame_at_leaving, rule_of_frame}
 use Rattle.tap_rule.specs.Laws.{frame_to}
@@ -22,18 +25,19 @@ use Rattle.tap_rule.specs.Joining.{hello_words}
 use Rattle.tap_rule.specs.Links.{is_new_link, release_word}
 use Rattle.tap_rule.specs.Node.{NodeState, Status, join_session_at, name_of}
 use Rattle.tap_rule.specs.Node.Status.{Ceased, Core, Gone, Joining, Leaving}
-use Rattle.tap_rule.specs.QuietSteps.{IsQuiet}
+use Rattle.tap_rule.specs.QuietSteps.{IsQuiet, IsQuietKind}
 use Rattle.tap_rule.specs.Reaction.{Message, message, pin_word}
 use Rattle.tap_rule.specs.Sending.{message_frame}
 use Rattle.tap_rule.specs.Sent.{AreSent, IsAmong}
 use Rattle.tap_rule.specs.Strange.{is_strange}
+use Rattle.tap_rule.specs.Hellos.{joining_hello}
 use Rattle.tap_rule.proofs.JoinSteps.{hello_law}
 use Rattle.tap_rule.proofs.LinkSteps.{forget_law, release_law}
 use Rattle.tap_rule.proofs.QuietSteps.{quiet_law}
 use Rattle.tap_safety.specs.Bookkeeping.{SendsDeeper, TellsAreDeeper}
 use Rattle.tap_safety.specs.FrameSteps.{TakesFrame}
 use Rattle.tap_safety.specs.Frames.{HelloFields, hello_body, tell_body}
-use Rattle.tap_safety.specs.Notices.{AreNoNotices, IsNotice}
+use Rattle.tap_safety.specs.Notices.{AreNoNotices, IsNotice, IsNoticeKind}
 use Rattle.tap_safety.specs.Soft.{AddsSoundLinks, IsQuietBody, IsSoft}
 use Rattle.tap_safety.specs.Step.{IsSent, numbered_from}
 use Rattle.tap_safety.specs.System.{System, AmongFrames}
@@ -46,6 +50,8 @@ use Rattle.tap_safety.proofs.FrameSeeking.{frame_joiners}
 use Rattle.tap_safety.proofs.SeekingKept.{tells_kept}
 use Rattle.tap_safety.specs.StepLaws.{KeepsSeekers}
 use Rattle.tap_safety.specs.Tells.{TellsAreSound}
+use Rattle.tap_safety.proofs.Said.{Said, said}
+use Rattle.tap_safety.proofs.Said.Said.{IsAck, IsDone, IsForget, IsHeard, IsHello, IsLink, IsRelease, IsSeek, IsTell}
 use Rattle.tap_moves.specs.CalmMoves.{FramePeaceful, FrameSeeks, IsCalmThere}
 use Rattle.tap_moves.specs.ByRule.{taken_at}
 use Rattle.tap_moves.specs.Delivered.{after_delivery}
@@ -64,34 +70,37 @@ use Rattle.tap_moves.proofs.SessionMoves.{frame_steps, kind_turns, left_deeper}
 -- ---- what is sent
 
 -- it sends nobody on, and is no notice
-abbrev IsSpare : Body → Type 0
-IsSpare (Heard session) = Unit {0}
-IsSpare (Ack session) = Unit {0}
-IsSpare Done = Unit {0}
-IsSpare Release = Unit {0}
-IsSpare Forget = Unit {0}
-IsSpare (Link version on) = Unit {0}
-IsSpare other = IsQuiet other
+abbrev IsSpareKind : Kind → Type 0
+IsSpareKind kind.Heard = Unit {0}
+IsSpareKind kind.Ack = Unit {0}
+IsSpareKind kind.Done = Unit {0}
+IsSpareKind kind.Release = Unit {0}
+IsSpareKind kind.Forget = Unit {0}
+IsSpareKind kind.Link = Unit {0}
+IsSpareKind other = IsQuietKind other
 
-spare_quiet : (s : System) (from to : List ℕ) (body : Body) → IsSpare body → IsQuietBody s from to body
-spare_quiet s from to (Seek joiner) spare = absurd spare
-spare_quiet s from to (Tell joiner prefix level session depth watch) spare = absurd spare
-spare_quiet s from to (Hello session core links) spare = absurd spare
+abbrev IsSpare : Body → Type 0
+IsSpare body = IsSpareKind (kind_of body)
+
+spare_quiet : (s : System) (from to : List ℕ) {body : Body} → Said body → IsSpare body → IsQuietBody s from to body
+spare_quiet s from to (IsSeek joiner) spare = absurd spare
+spare_quiet s from to (IsTell tell watch) spare = absurd spare
+spare_quiet s from to (IsHello hello) spare = absurd spare
 spare_quiet s from to _ spare = tt
 
-spare_no_notice : (body : Body) → IsSpare body → IsNotice body → ⊥
-spare_no_notice (Leave replacement) spare notice = absurd spare
-spare_no_notice Left spare notice = absurd spare
-spare_no_notice GoneBody spare notice = absurd spare
+spare_no_notice : (kind : Kind) → IsSpareKind kind → IsNoticeKind kind → ⊥
+spare_no_notice kind.Leave spare notice = absurd spare
+spare_no_notice kind.Left spare notice = absurd spare
+spare_no_notice kind.Gone spare notice = absurd spare
 spare_no_notice _ spare notice = absurd notice
 
-quiet_spare : (body : Body) → IsQuiet body → IsSpare body
-quiet_spare (Heard session) quiet = tt
-quiet_spare (Ack session) quiet = tt
-quiet_spare Done quiet = tt
-quiet_spare Release quiet = tt
-quiet_spare Forget quiet = tt
-quiet_spare (Link version on) quiet = tt
+quiet_spare : (kind : Kind) → IsQuietKind kind → IsSpareKind kind
+quiet_spare kind.Heard quiet = tt
+quiet_spare kind.Ack quiet = tt
+quiet_spare kind.Done quiet = tt
+quiet_spare kind.Release quiet = tt
+quiet_spare kind.Forget quiet = tt
+quiet_spare kind.Link quiet = tt
 quiet_spare other quiet = quiet
 
 abbrev AreSpare : List Message → Type 0
@@ -163,36 +172,39 @@ spare_sent x words messages sent are spare =
 
 -- an answer, or a Hello of nobody but its sender to the joiner
 abbrev IsGreeting : List ℕ → Message → Type 0
-IsGreeting joiner m = IsSpare m.body ⊎ ((session : ℕ) × (m ≡ message joiner (Hello session false [])))
+IsGreeting joiner m = IsSpare m.body ⊎ ((session : ℕ) × (m ≡ message joiner (joining_hello session)))
 
 greets_so : (messages : List Message) (from : List ℕ) (tell : TellFields) → (messages ≡ message from (Ack tell.session) ∷ [])
-    ⊎ ((session : ℕ) × (messages ≡ message tell.joiner (Hello session false []) ∷ []))
+    ⊎ ((session : ℕ) × (messages ≡ message tell.joiner (joining_hello session) ∷ []))
     → (m : Message) → IsAmong m messages → IsGreeting tell.joiner m
 greets_so messages from tell (inl ack) m among =
     inl (one_spare from (Ack tell.session) tt m (subst (λ list. IsAmong m list) ack among))
 greets_so messages from tell (inr hello) m among =
-    inr (hello.0, only_message m (message tell.joiner (Hello hello.0 false [])) (subst (λ list. IsAmong m list) hello.1 among))
+    inr (hello.0, only_message m (message tell.joiner (joining_hello hello.0)) (subst (λ list. IsAmong m list) hello.1 among))
 
 greeting_quiet : (s : System) (x joiner : List ℕ) (m : Message) → IsSoft s x → IsSoft s joiner → IsGreeting joiner m
     → IsQuietBody s x m.to m.body
-greeting_quiet s x joiner m own soft (inl spare) = spare_quiet s x m.to m.body spare
+greeting_quiet s x joiner m own soft (inl spare) = spare_quiet s x m.to (said m.body) spare
 greeting_quiet s x joiner m own soft (inr hello) =
     subst (λ (n : Message). IsQuietBody s x n.to n.body) (sym hello.1) (own, soft, λ offered none. absurd none)
 
 greeting_no_notice : (joiner : List ℕ) (m : Message) → IsGreeting joiner m → IsNotice m.body → ⊥
-greeting_no_notice joiner m (inl spare) notice = spare_no_notice m.body spare notice
+greeting_no_notice joiner m (inl spare) notice = spare_no_notice (kind_of m.body) spare notice
 greeting_no_notice joiner m (inr hello) notice = subst (λ (n : Message). IsNotice n.body) hello.1 notice
 
-abbrev IsNoTell : Body → Type 0
-IsNoTell (Tell joiner prefix level session depth watch) = ⊥
-IsNoTell _ = Unit {0}
+abbrev IsNoTellKind : Kind → Type 0
+IsNoTellKind kind.Tell = ⊥
+IsNoTellKind other = Unit {0}
 
-spare_no_tell : (body : Body) → IsSpare body → IsNoTell body
-spare_no_tell (Tell joiner prefix level session depth watch) spare = absurd spare
+abbrev IsNoTell : Body → Type 0
+IsNoTell body = IsNoTellKind (kind_of body)
+
+spare_no_tell : (kind : Kind) → IsSpareKind kind → IsNoTellKind kind
+spare_no_tell kind.Tell spare = absurd spare
 spare_no_tell _ spare = tt
 
 greeting_no_tell : (joiner : List ℕ) (m : Message) → IsGreeting joiner m → IsNoTell m.body
-greeting_no_tell joiner m (inl spare) = spare_no_tell m.body spare
+greeting_no_tell joiner m (inl spare) = spare_no_tell (kind_of m.body) spare
 greeting_no_tell joiner m (inr hello) = subst (λ (n : Message). IsNoTell n.body) (sym hello.1) tt
 
 -- ---- such a frame, when it is delivered
@@ -256,11 +268,11 @@ module _ (p : SettingsValue) (s : System) (number : ℕ) (node : NodeState) (fro
       → AreSpare step.messages → SendsSpare (taken_at node from body).sent → ((x : List ℕ) → body ≡ Seek x → ⊥)
       → TakesCalmly p s after number (frame_to node from body) (taken_at node from body).sent
   spare_calm body step links spare sends no_seek =
-      let quiet = λ (m : Message) (among : IsAmong m step.messages). spare_quiet after (name_of node) m.to m.body (spare m among) in
+      let quiet = λ (m : Message) (among : IsAmong m step.messages). spare_quiet after (name_of node) m.to (said m.body) (spare m among) in
       record {
         step = step;
         links = links;
-        notices = λ m among notice. spare_no_notice m.body (spare m among) notice;
+        notices = λ m among notice. spare_no_notice (kind_of m.body) (spare m among) notice;
         no_tell = λ w t fields watch sent. sends w t (tell_body fields watch) sent;
         seekers = seeking_frame_law s after number (frame_to node from body) step quiet no_seek links;
         tells = tells_frame_law p s after number (frame_to node from body) step quiet;
@@ -382,29 +394,31 @@ module _ (p : SettingsValue) (s : System) (number : ℕ) (node : NodeState) (fro
       let step = quiet_law node (frame_to node from body) quiet in
       let sent = rule_sends node from body is.known in
       plain_calm body is plain
-      (λ m among. quiet_spare m.body (step.sent (message_frame (name_of node) m) (sent.named m among))) no_seek
+      (λ m among. quiet_spare (kind_of m.body) (step.sent (message_frame (name_of node) m) (sent.named m among))) no_seek
 
 frame_calm : (p : SettingsValue) (s : System) (number : ℕ) (node : NodeState) (from : List ℕ) (body : Body)
     → IsDelivery p s number node from body → IsCalmThere node body
     → TakesCalmly p s (after_delivery p s number) number (frame_to node from body) (taken_at node from body).sent
-frame_calm p s number node from (Tell joiner prefix level session depth watch) is there =
-    let tell : TellFields = record { joiner = joiner; prefix = prefix; level = level; session = session; depth = depth } in
-    elim there [
-      | inl joins ↦ joining_calm p s number node from tell watch is joins
-      | inr ceased ↦ ceased_calm p s number node from tell watch is ceased
-    ]
-frame_calm p s number node from (Hello session core links) is there =
-    hello_calm p s number node from (record { session = session; is_core = core; links = links }) is there
-frame_calm p s number node from Release is there = release_calm p s number node from is there
-frame_calm p s number node from Forget is there = forget_calm p s number node from is there
-frame_calm p s number node from (Heard session) is there =
-    plain_calm p s number node from (Heard session) is tt (heard_spare node.status node from session) (λ x same. cc)
-frame_calm p s number node from (Ack session) is there =
-    plain_calm p s number node from (Ack session) is tt (ack_spare node.status node from session) (λ x same. cc)
-frame_calm p s number node from (Link version on) is there =
-    plain_calm p s number node from (Link version on) is tt (link_spare node.status node from version on) (λ x same. cc)
-frame_calm p s number node from (Seek joiner) is there = seek_calm p s number node from joiner there.1.0 is there.0 there.1.1
-frame_calm p s number node from body is there = quiet_calm p s number node from body is there there (λ x same. cc)
+frame_calm p s number node from body is there = by_said body (said body) is there
+  where
+    by_said : (body : Body) → Said body → IsDelivery p s number node from body → IsCalmThere node body
+        → TakesCalmly p s (after_delivery p s number) number (frame_to node from body) (taken_at node from body).sent
+    by_said _ (IsTell tell watch) is there =
+        elim there [
+          | inl joins ↦ joining_calm p s number node from tell watch is joins
+          | inr ceased ↦ ceased_calm p s number node from tell watch is ceased
+        ]
+    by_said _ (IsHello hello) is there = hello_calm p s number node from hello is there
+    by_said _ IsRelease is there = release_calm p s number node from is there
+    by_said _ IsForget is there = forget_calm p s number node from is there
+    by_said _ (IsHeard session) is there =
+        plain_calm p s number node from (Heard session) is tt (heard_spare node.status node from session) (λ x same. cc)
+    by_said _ (IsAck session) is there =
+        plain_calm p s number node from (Ack session) is tt (ack_spare node.status node from session) (λ x same. cc)
+    by_said _ (IsLink version on) is there =
+        plain_calm p s number node from (Link version on) is tt (link_spare node.status node from version on) (λ x same. cc)
+    by_said _ (IsSeek joiner) is there = seek_calm p s number node from joiner there.1.0 is there.0 there.1.1
+    by_said body _ is there = quiet_calm p s number node from body is there there (λ x same. cc)
 
 pub frame_seeks : FrameSeeks
 frame_seeks p s number node from body is there =
@@ -442,17 +456,17 @@ none_deeper s s' sent never = record {
         (sent_numbered m (record { from = from; to = to; body = tell_body fields watch }) s.next sent among)
 
 -- a rule takes such a frame, or it is of no session
-calm_taken : (node : NodeState) (body : Body) → IsCalmThere node body → IsTakenThere node body
-calm_taken node (Tell joiner prefix level session depth watch) there = inr there
-calm_taken node (Hello session core links) there = there
-calm_taken node (Heard session) there = tt
-calm_taken node (Ack session) there = tt
-calm_taken node (Seek joiner) there = there.0
-calm_taken node Done there = tt
-calm_taken node Release there = tt
-calm_taken node Forget there = tt
-calm_taken node (Link version on) there = tt
-calm_taken node body there = there
+calm_taken : (node : NodeState) {body : Body} → Said body → IsCalmThere node body → IsTakenThere node body
+calm_taken node (IsTell tell watch) there = inr there
+calm_taken node (IsHello hello) there = there
+calm_taken node (IsHeard session) there = tt
+calm_taken node (IsAck session) there = tt
+calm_taken node (IsSeek joiner) there = there.0
+calm_taken node IsDone there = tt
+calm_taken node IsRelease there = tt
+calm_taken node IsForget there = tt
+calm_taken node (IsLink version on) there = tt
+calm_taken node _ there = there
 
 pub calm_deeper : (p : SettingsValue) (s : System) (number : ℕ) (node : NodeState) (from : List ℕ) (body : Body)
     → IsDelivery p s number node from body → IsCalmThere node body → TellsAreDeeper (after_delivery p s number)
@@ -462,7 +476,7 @@ calm_deeper p s number node from body is there =
     let acted = taken_at node from body in
     let sent = sent_at s node from body in
     let calm = frame_calm p s number node from body is there in
-    let step = frame_steps p s number node from body is (calm_taken node body there) in
+    let step = frame_steps p s number node from body is (calm_taken node (said body) there) in
     elim (kind_turns s s' number frame sent step.kind step.is is.invariant.exact) [
       | inl turns ↦
           depths_law s s' sent turns is.invariant.exact (none_deeper s s' acted.sent calm.no_tell) is.invariant.deeper

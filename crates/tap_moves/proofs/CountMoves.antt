@@ -12,7 +12,7 @@ use Rattle.tap_join.specs.Seek.{sought}
 use Rattle.tap_join.specs.declared.sought.Sought.{Sought}
 use Rattle.tap_join.specs.declared.sought.Sought.TheVariants.{Forward, Surrogate}
 use Rattle.tap_wire.specs.declared.frame.Body.{Body}
-use Rattle.tap_wire.specs.declared.frame.Body.TheVariants.{Ack, Heard, Hello, Seek, Tell}
+use Rattle.tap_wire.specs.declared.frame.Body.TheVariants.{Ack, Heard, Seek}
 use Rattle.tap_wire.specs.declared.frame.Frame.{Frame}
 use Rattle.tap_wire.specs.declared.frame.TellFields.{TellFields}
 use Rattle.tap_rule.specs.Event.{Acted}
@@ -38,10 +38,12 @@ use Rattle.tap_safety.proofs.Apart.{ways_of-child}
 use Rattle.tap_safety.proofs.CountedKept.{counted_answer, counted_answering, counted_closing, counted_last, counted_opening, counted_root, for_way-length}
 use Rattle.tap_safety.proofs.SessionsKept.{ways_of-has}
 use Rattle.tap_safety.proofs.StepLaws.{await_closing_law, await_handing_on_law, await_last_law, await_opening_law, await_root_law}
+use Rattle.tap_safety.proofs.Said.{Said, said}
+use Rattle.tap_safety.proofs.Said.Said.{IsAck, IsHeard, IsHello, IsSeek, IsTell}
 use Rattle.tap_moves.specs.ByRule.{taken_at}
 use Rattle.tap_moves.specs.Delivered.{after_delivery}
 use Rattle.tap_moves.specs.InSession.{OpensOrAnswers}
-use Rattle.tap_moves.specs.InvariantLaws.{IsDelivery}
+use Rattle.tap_moves.specs.InvariantLaws.{IsDelivery, IsTakenThere}
 use Rattle.tap_moves.specs.SessionMoves.{AwaitsAsMany, FrameCounts}
 use Rattle.tap_moves.specs.SessionsLaws.{IsOutside, sent_at}
 use Rattle.tap_moves.proofs.AnswersMade.{AnswerIsTaken, IsAnswered, ack_is_taken, heard_is_taken}
@@ -339,14 +341,13 @@ module _ (p : SettingsValue) (s : System) (number : ℕ) (node : NodeState) (fro
   tells_count tell watch is (inr (inr at)) = tell_counts tell watch is (inr (ceased_answers node from tell watch at is.known))
 
 pub frame_counts : FrameCounts
-frame_counts p s number node from (Tell joiner prefix level session depth watch) is there =
-    tells_count p s number node from
-    (record { joiner = joiner; prefix = prefix; level = level; session = session; depth = depth }) watch is there
-frame_counts p s number node from (Hello session core links) is there =
-    hello_counts p s number node from (record { session = session; is_core = core; links = links }) is there
-frame_counts p s number node from (Heard session) is there =
-    answer_counts p s number node from Heard heard_law heard_is_taken session is
-frame_counts p s number node from (Ack session) is there = answer_counts p s number node from Ack ack_law ack_is_taken session is
-frame_counts p s number node from (Seek joiner) is there =
-    seek_counts p s number node from joiner is there (sought node.ties.table joiner) refl
-frame_counts p s number node from body is there = outside_counts p s number node from body is there
+frame_counts p s number node from body is there = by_said body (said body) is there
+  where
+    by_said : (body : Body) → Said body → IsDelivery p s number node from body → IsTakenThere node body
+        → AwaitsAsMany (after_delivery p s number)
+    by_said _ (IsTell tell watch) is there = tells_count p s number node from tell watch is there
+    by_said _ (IsHello hello) is there = hello_counts p s number node from hello is there
+    by_said _ (IsHeard session) is there = answer_counts p s number node from Heard heard_law heard_is_taken session is
+    by_said _ (IsAck session) is there = answer_counts p s number node from Ack ack_law ack_is_taken session is
+    by_said _ (IsSeek joiner) is there = seek_counts p s number node from joiner is there (sought node.ties.table joiner) refl
+    by_said body _ is there = outside_counts p s number node from body is there

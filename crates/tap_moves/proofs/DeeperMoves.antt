@@ -24,7 +24,7 @@ use Rattle.tap_join.specs.declared.sought.Sought.{Sought}
 use Rattle.tap_join.specs.declared.sought.Sought.TheVariants.{Forward, Surrogate}
 use Rattle.tap_join.proofs.Seeking.{surrogate_is}
 use Rattle.tap_wire.specs.declared.frame.Body.{Body}
-use Rattle.tap_wire.specs.declared.frame.Body.TheVariants.{Ack, Done, Heard, Hello, Seek, Tell}
+use Rattle.tap_wire.specs.declared.frame.Body.TheVariants.{Ack, Done, Heard, Seek, Tell}
 use Rattle.tap_wire.specs.declared.frame.Frame.{Frame}
 use Rattle.tap_wire.specs.declared.frame.TellFields.{TellFields}
 use Rattle.tap_rule.specs.Answers.{answer_for, with_session}
@@ -38,24 +38,27 @@ use Rattle.tap_rule.specs.Node.Status.{Core}
 use Rattle.tap_rule.specs.Reaction.{Message, Reaction, pin_word, sends, with_pin, with_words}
 use Rattle.tap_rule.specs.Sending.{lay_frame, link_frame}
 use Rattle.tap_rule.specs.Sent.{AreSent, IsAmong}
+use Rattle.tap_rule.specs.Hellos.{core_hello}
 use Rattle.tap_rule.proofs.Among.{among-either, among-map_from}
 use Rattle.tap_rule.proofs.CarriedOut.{frame_law}
 use Rattle.tap_rule.proofs.CoverSteps.{seek_fits}
 use Rattle.tap_rule.proofs.JoinSteps.{IsTellFit, tell_fits}
 use Rattle.tap_rule.proofs.OneName.{not_own}
 use Rattle.tap_safety.specs.Bookkeeping.{SendsDeeper, TellsAreDeeper}
-use Rattle.tap_safety.specs.Frames.{tell_body}
+use Rattle.tap_safety.specs.Frames.{tell_body, hello_body}
 use Rattle.tap_safety.specs.Remembered.{OpenSession}
 use Rattle.tap_safety.specs.Sessions.{IsOpen, ways_of}
 use Rattle.tap_safety.specs.SessionSteps.{child_of}
 use Rattle.tap_safety.specs.Step.{IsSent}
 use Rattle.tap_safety.specs.System.{System, AmongFrames}
 use Rattle.tap_safety.proofs.StepLaws.{depths_law, handing_on_turns_law, opening_turns_law, root_turns_law}
+use Rattle.tap_safety.proofs.Said.{Said, said}
+use Rattle.tap_safety.proofs.Said.Said.{IsAck, IsHeard, IsHello, IsSeek, IsTell}
 use Rattle.tap_moves.specs.ByRule.{taken_at}
 use Rattle.tap_moves.specs.CalmMoves.{FrameDeeper}
 use Rattle.tap_moves.specs.Delivered.{after_delivery}
 use Rattle.tap_moves.specs.InSession.{OpensOrAnswers}
-use Rattle.tap_moves.specs.InvariantLaws.{IsDelivery}
+use Rattle.tap_moves.specs.InvariantLaws.{IsDelivery, IsTakenThere}
 use Rattle.tap_moves.specs.SessionsLaws.{sent_at}
 use Rattle.tap_moves.proofs.CalmMoves.{calm_deeper, none_deeper}
 use Rattle.tap_moves.proofs.CoverMade.{joiner_link, told_targets, with_joiner, with_joiner_is}
@@ -102,7 +105,7 @@ answer_no_tell (Node name session) fields watch is = let wrong : Ack session ≡
 greeting_no_tell : (request : Request) (session : ℕ) (first : Bool) (offer : List Offered) (m : Message) (fields : TellFields)
     (watch : List Slot) → IsAmong m (greeting request session first offer) → m.body ≡ tell_body fields watch → ⊥
 greeting_no_tell request session true offer m fields watch (inl is) body =
-    let wrong : Hello session true offer ≡ tell_body fields watch = ap (λ (n : Message). n.body) (sym is) ∙ body in cc
+    let wrong : core_hello session offer ≡ tell_body fields watch = ap (λ (n : Message). n.body) (sym is) ∙ body in cc
 greeting_no_tell request session true offer m fields watch (inr none) body = none
 greeting_no_tell request session false offer m fields watch none body = none
 
@@ -324,16 +327,17 @@ module _ (p : SettingsValue) (s : System) (number : ℕ) (node : NodeState) (fro
       seat_deeper joiner prefix is at found carried
 
 pub frame_deeper : FrameDeeper
-frame_deeper p s number node from (Tell joiner prefix level session depth watch) is there =
-    let tell : TellFields = record { joiner = joiner; prefix = prefix; level = level; session = session; depth = depth } in
-    elim there [
-      | inl core ↦ tell_goes p s number node from tell watch is core
-      | inr calm ↦ calm_deeper p s number node from (tell_body tell watch) is calm
-    ]
-frame_deeper p s number node from (Hello session core links) is there =
-    calm_deeper p s number node from (Hello session core links) is there
-frame_deeper p s number node from (Heard session) is there = calm_deeper p s number node from (Heard session) is there
-frame_deeper p s number node from (Ack session) is there = calm_deeper p s number node from (Ack session) is there
-frame_deeper p s number node from (Seek joiner) is there =
-    seek_goes p s number node from joiner is there (sought node.ties.table joiner) refl
-frame_deeper p s number node from body is there = (outside_books p s number node from body is there).deeper
+frame_deeper p s number node from body is there = by_said body (said body) is there
+  where
+    by_said : (body : Body) → Said body → IsDelivery p s number node from body → IsTakenThere node body
+        → TellsAreDeeper (after_delivery p s number)
+    by_said _ (IsTell tell watch) is there =
+        elim there [
+          | inl core ↦ tell_goes p s number node from tell watch is core
+          | inr calm ↦ calm_deeper p s number node from (tell_body tell watch) is calm
+        ]
+    by_said _ (IsHello hello) is there = calm_deeper p s number node from (hello_body hello) is there
+    by_said _ (IsHeard session) is there = calm_deeper p s number node from (Heard session) is there
+    by_said _ (IsAck session) is there = calm_deeper p s number node from (Ack session) is there
+    by_said _ (IsSeek joiner) is there = seek_goes p s number node from joiner is there (sought node.ties.table joiner) refl
+    by_said body _ is there = (outside_books p s number node from body is there).deeper

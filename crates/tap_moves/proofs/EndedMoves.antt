@@ -9,7 +9,7 @@ use Rattle.tap_join.specs.Seek.{sought}
 use Rattle.tap_join.specs.declared.sought.Sought.{Sought}
 use Rattle.tap_join.specs.declared.sought.Sought.TheVariants.{Forward, Surrogate}
 use Rattle.tap_wire.specs.declared.frame.Body.{Body}
-use Rattle.tap_wire.specs.declared.frame.Body.TheVariants.{Ack, Done, Forget, Heard, Hello, Link, Release, Seek, Tell}
+use Rattle.tap_wire.specs.declared.frame.Body.TheVariants.{Ack, Done, Forget, Heard, Link, Release, Seek}
 use Rattle.tap_wire.specs.declared.frame.TellFields.{TellFields}
 use Rattle.tap_rule.specs.Ceasing.{acknowledges}
 use Rattle.tap_rule.specs.Event.{Acted}
@@ -23,15 +23,17 @@ use Rattle.tap_rule.proofs.CoverSteps.{seek_law, tell_law}
 use Rattle.tap_rule.proofs.JoinSteps.{done_law, hello_law, meet_law}
 use Rattle.tap_rule.proofs.LinkSteps.{forget_law, release_law}
 use Rattle.tap_safety.specs.Bookkeeping.{EndedHaveNoLinks}
-use Rattle.tap_safety.specs.Frames.{tell_body}
+use Rattle.tap_safety.specs.Frames.{tell_body, hello_body}
 use Rattle.tap_safety.specs.System.{System}
 use Rattle.tap_safety.specs.Ties.{status_of}
 use Rattle.tap_safety.proofs.Known.{ended_kept}
 use Rattle.tap_safety.proofs.Moves.{delivers, found}
+use Rattle.tap_safety.proofs.Said.{Said, said}
+use Rattle.tap_safety.proofs.Said.Said.{IsAck, IsDone, IsForget, IsHeard, IsHello, IsLink, IsRelease, IsSeek, IsTell}
 use Rattle.tap_moves.specs.ByRule.{taken_at}
 use Rattle.tap_moves.specs.Delivered.{after_delivery}
 use Rattle.tap_moves.specs.FrameLaws.{IsPlain}
-use Rattle.tap_moves.specs.InvariantLaws.{FrameEnded, IsDelivery}
+use Rattle.tap_moves.specs.InvariantLaws.{FrameEnded, IsDelivery, IsFilledThere}
 use Rattle.tap_moves.proofs.InvariantMoves.{due, joins_here, name_at, of_node, sender_name, told_name, way}
 use Rattle.tap_moves.proofs.Plain.{plain_alike}
 
@@ -114,27 +116,28 @@ module _ (p : SettingsValue) (s : System) (number : ℕ) (node : NodeState) (fro
       goes_on (Seek joiner) is (seated_status joiner acted prefix step) (inr at)
 
 pub frame_ended : FrameEnded
-frame_ended p s number node from (Tell joiner prefix level session depth watch) is there =
-    tell_ended p s number node from
-    (record { joiner = joiner; prefix = prefix; level = level; session = session; depth = depth }) watch is there
-frame_ended p s number node from (Hello session core links) is there =
-    goes_on p s number node from (Hello session core links) is (hello_law node from session core links there is.known).joins.status
-    (inl there)
-frame_ended p s number node from (Seek joiner) is there =
-    seek_ended p s number node from joiner is there (sought node.ties.table joiner) refl
-frame_ended p s number node from Release is there =
-    let here = due p s number node from Release is in
-    goes_on p s number node from Release is
-    (release_law node from here.is_node.ties (sender_name p s number node from Release is) there is.known).joins.status there
-frame_ended p s number node from Forget is there =
-    let here = due p s number node from Forget is in
-    goes_on p s number node from Forget is
-    (forget_law node from here.is_node.ties (sender_name p s number node from Forget is) there is.known).joins.status there
-frame_ended p s number node from (Heard session) is there = plain_ended p s number node from (Heard session) is tt
-frame_ended p s number node from (Ack session) is there = plain_ended p s number node from (Ack session) is tt
-frame_ended p s number node from (Link version on) is there = plain_ended p s number node from (Link version on) is tt
-frame_ended p s number node from Done is there =
-    let joiner = is.invariant.of_joiners.dones from (name_of node) (way p s number node from Done is) in
-    let step = done_law node from (joins_here s node joiner is.at) there is.known in
-    ends_bare p s number node from Done is (λ t kind link. lives_on (taken_at node from Done).state.status Core step.status (inr refl))
-frame_ended p s number node from body is there = plain_ended p s number node from body is there
+frame_ended p s number node from body is there = by_said body (said body) is there
+  where
+    by_said : (body : Body) → Said body → IsDelivery p s number node from body → IsFilledThere node body
+        → EndedHaveNoLinks (after_delivery p s number)
+    by_said _ (IsTell tell watch) is there = tell_ended p s number node from tell watch is there
+    by_said _ (IsHello hello) is there =
+        goes_on p s number node from (hello_body hello) is (hello_law node from hello.session hello.is_core hello.links there is.known).joins.status
+        (inl there)
+    by_said _ (IsSeek joiner) is there = seek_ended p s number node from joiner is there (sought node.ties.table joiner) refl
+    by_said _ IsRelease is there =
+        let here = due p s number node from Release is in
+        goes_on p s number node from Release is
+        (release_law node from here.is_node.ties (sender_name p s number node from Release is) there is.known).joins.status there
+    by_said _ IsForget is there =
+        let here = due p s number node from Forget is in
+        goes_on p s number node from Forget is
+        (forget_law node from here.is_node.ties (sender_name p s number node from Forget is) there is.known).joins.status there
+    by_said _ (IsHeard session) is there = plain_ended p s number node from (Heard session) is tt
+    by_said _ (IsAck session) is there = plain_ended p s number node from (Ack session) is tt
+    by_said _ (IsLink version on) is there = plain_ended p s number node from (Link version on) is tt
+    by_said _ IsDone is there =
+        let joiner = is.invariant.of_joiners.dones from (name_of node) (way p s number node from Done is) in
+        let step = done_law node from (joins_here s node joiner is.at) there is.known in
+        ends_bare p s number node from Done is (λ t kind link. lives_on (taken_at node from Done).state.status Core step.status (inr refl))
+    by_said body _ is there = plain_ended p s number node from body is there

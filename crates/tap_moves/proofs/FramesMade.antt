@@ -15,7 +15,7 @@ use Rattle.tap_table.proofs.Primaries.{full_has_primary}
 use Rattle.tap_name.specs.Names.{has_name}
 use Rattle.tap_join.specs.Hello.{after_hello, hello_names, words_of}
 use Rattle.tap_join.proofs.Hellos.{AreTies-after_hello, IsServed, all_named, hello_links_stay, hello_new_links, hello_serves, owner_stays, settings_stay}
-use Rattle.tap_wire.specs.declared.frame.Body.TheVariants.{Ack, Forget, Heard, Hello, Release}
+use Rattle.tap_wire.specs.declared.frame.Body.TheVariants.{Ack, Forget, Heard, Release}
 use Rattle.tap_wire.specs.declared.frame.Frame.{Frame}
 use Rattle.tap_wire.specs.declared.frame.TellFields.{TellFields}
 use Rattle.tap_rule.specs.Event.{Acted}
@@ -33,6 +33,7 @@ use Rattle.tap_rule.specs.Ceasing.{acknowledges}
 use Rattle.tap_rule.specs.Node.Status.{Joining}
 use Rattle.tap_rule.specs.Strange.{is_strange}
 use Rattle.tap_rule.specs.FrameRules.{frame_at_ceased, frame_at_joining}
+use Rattle.tap_rule.specs.Hellos.{joining_hello}
 use Rattle.tap_safety.specs.Frames.{HelloFields, hello_body, tell_body}
 use Rattle.tap_safety.specs.FrameSteps.{ComesFrom, HasSettledNear}
 use Rattle.tap_moves.specs.ByRule.{taken_at}
@@ -61,7 +62,7 @@ pub record MeetsSo (node : NodeState) (from : List ℕ) (tell : TellFields) (sen
   pub messages : List Message
   pub are : AreSent (name_of node) (words_of (pin_word node tell.joiner)) messages sent
   pub answers : (messages ≡ message from (Ack tell.session) ∷ [])
-      ⊎ ((session : ℕ) × (messages ≡ message tell.joiner (Hello session false []) ∷ []))
+      ⊎ ((session : ℕ) × (messages ≡ message tell.joiner (joining_hello session) ∷ []))
 
 meets_so : (node : NodeState) (from : List ℕ) (tell : TellFields) (acted : Acted) (before : Bool)
     → IsCarriedOut node (with_words (words_of (pin_word node tell.joiner)) (cond before
@@ -70,7 +71,7 @@ meets_so : (node : NodeState) (from : List ℕ) (tell : TellFields) (acted : Act
 meets_so node from tell acted true carried =
     record { messages = message from (Ack tell.session) ∷ []; are = carried.sent; answers = inl refl }
 meets_so node from tell acted false carried = record {
-  messages = message tell.joiner (Hello (node.sessions.opened + 1) false []) ∷ [];
+  messages = message tell.joiner (joining_hello (node.sessions.opened + 1)) ∷ [];
   are = carried.sent;
   answers = inr (node.sessions.opened + 1, refl);
 }

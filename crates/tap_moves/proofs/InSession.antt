@@ -8,7 +8,7 @@ use Rattle.tap_session.specs.declared.parent.Parent.{Parent}
 use Rattle.tap_session.specs.declared.parent.Parent.TheVariants.{Node, Root}
 use Rattle.tap_table.specs.declared.tie.Tie.{Tie}
 use Rattle.tap_wire.specs.declared.frame.Frame.{Frame}
-use Rattle.tap_wire.specs.declared.frame.Body.TheVariants.{Seek, Hello, Ack}
+use Rattle.tap_wire.specs.declared.frame.Body.TheVariants.{Seek, Ack}
 use Rattle.tap_wire.specs.declared.frame.TellFields.{TellFields}
 use Rattle.tap_name.specs.Names.{has_name}
 use Rattle.tap_join.specs.Hello.{words_of}
@@ -27,6 +27,7 @@ use Rattle.tap_rule.specs.Node.{NodeState, name_of}
 use Rattle.tap_rule.specs.Reaction.{Message, Reaction, message, pin_word, sends, with_pin, with_words}
 use Rattle.tap_rule.specs.Sending.{link_frame, lay_frame, message_frame}
 use Rattle.tap_rule.specs.Sent.{AreSent, IsAmong}
+use Rattle.tap_rule.specs.Hellos.{core_hello, joining_hello}
 use Rattle.tap_rule.proofs.Among.{among-either, among-map_from}
 use Rattle.tap_rule.proofs.CarriedOut.{frame_law}
 use Rattle.tap_rule.proofs.OneName.{parent_told}
@@ -85,7 +86,7 @@ told_in_next own request session left target y k belongs =
 greeted_in_next : (own : List ℕ) (request : Request) (session : ℕ) (first : Bool) (offer : List Offered) (m : Message) (y : List ℕ) (k : ℕ)
     → IsAmong m (greeting request session first offer) → MessageIn own m y k → (y ≡ own) × (k ≡ session)
 greeted_in_next own request session true offer m y k (inl is) belongs =
-    let hello : MessageIn own (message request.joiner (Hello session true offer)) y k = rw is at belongs in
+    let hello : MessageIn own (message request.joiner (core_hello session offer)) y k = rw is at belongs in
     let same = one_place own y session k hello in
     (sym same.0, sym same.1)
 greeted_in_next own request session true offer m y k (inr none) belongs = absurd none
@@ -237,7 +238,7 @@ meets_in_session node from tell acted true carried = inr (record {
       carried (answer_within (name_of node) (Node from tell.session) y k is);
 })
 meets_in_session node from tell acted false carried =
-    let hello = message tell.joiner (Hello (node.sessions.opened + 1) false []) in
+    let hello = message tell.joiner (joining_hello (node.sessions.opened + 1)) in
     inl (record {
       waiting = 1;
       some = omega arith;

@@ -9,7 +9,7 @@ use Rattle.tap_name.specs.declared.slot.Slot.{Slot}
 use Rattle.tap_link.specs.declared.kind.Kind.{Kind}
 use Rattle.tap_link.specs.declared.kind.Kind.TheVariants.{Leaving as Marked, Pin, Settled}
 use Rattle.tap_wire.specs.declared.frame.Body.{Body}
-use Rattle.tap_wire.specs.declared.frame.Body.TheVariants.{Ack, Done, Forget, Heard, Hello, Link, Release, Seek, Tell}
+use Rattle.tap_wire.specs.declared.frame.Body.TheVariants.{Ack, Done, Forget, Heard, Link, Release, Seek}
 use Rattle.tap_wire.specs.declared.frame.TellFields.{TellFields}
 use Rattle.tap_rule.specs.Laws.{frame_to}
 use Rattle.tap_rule.specs.Node.{IsRunning, NodeState, Status, level_of, link_to, name_of, settings_of}
@@ -32,13 +32,15 @@ use Rattle.tap_safety.specs.Words.{Pins}
 use Rattle.tap_safety.proofs.CoverKept.{core_or_joiner}
 use Rattle.tap_safety.proofs.SeekLaws.{low_law}
 use Rattle.tap_safety.proofs.SessionLaws.{quiet_law}
+use Rattle.tap_safety.proofs.Said.{Said, said}
+use Rattle.tap_safety.proofs.Said.Said.{IsAck, IsDone, IsForget, IsHeard, IsHello, IsLink, IsRelease, IsSeek, IsTell}
 use Rattle.tap_name.proofs.Prefixes.{lcp-whole}
 use Rattle.tap_join.specs.Seek.{sought}
 use Rattle.tap_join.specs.declared.sought.Sought.{Sought}
 use Rattle.tap_join.specs.declared.sought.Sought.TheVariants.{Forward, Surrogate}
 use Rattle.tap_moves.specs.Delivered.{IsArriving, after_delivery}
 use Rattle.tap_moves.specs.SessionsLaws.{BeforeTaking}
-use Rattle.tap_moves.specs.InvariantLaws.{FrameExact, FrameFills, FrameSays, FrameSoft, IsDelivery, LinkTies, SeekGives}
+use Rattle.tap_moves.specs.InvariantLaws.{FrameExact, FrameFills, FrameSays, FrameSoft, IsDelivery, LinkTies, SeekGives, IsFilledThere, IsSaidThere, IsSoftThere, IsTakenThere}
 use Rattle.tap_moves.specs.FrameLaws.{IsPlain}
 use Rattle.tap_moves.specs.Laws.{IsAnew}
 use Rattle.tap_moves.specs.Spelled.{AreNodes}
@@ -293,24 +295,24 @@ module _ (p : SettingsValue) (s : System) (number : ℕ) (node : NodeState) (fro
       plain_keeps p s number node from body (due p s number node from body is) plain filled
 
 pub frame_fills : FrameFills
-frame_fills p s number node from (Tell joiner prefix level session depth watch) is filled there =
-    let tell : TellFields = record { joiner = joiner; prefix = prefix; level = level; session = session; depth = depth } in
-    tell_fills p s number node from tell watch is filled there
-frame_fills p s number node from (Hello session core links) is filled there =
-    hello_fills p s number node from (record { session = session; is_core = core; links = links }) is filled there
-frame_fills p s number node from (Seek joiner) is filled there =
-    seek_fills p s number node from joiner is there filled (sought node.ties.table joiner) refl
-frame_fills p s number node from Done is filled there = done_fills p s number node from is filled there
-frame_fills p s number node from Release is filled there =
-    release_keeps p s number node from (due p s number node from Release is) there (sender_name p s number node from Release is)
-    is.invariant.soft filled
-frame_fills p s number node from Forget is filled there =
-    forget_keeps p s number node from (due p s number node from Forget is) there (sender_name p s number node from Forget is)
-    is.invariant.ceased filled
-frame_fills p s number node from (Heard session) is filled there = plain_fills p s number node from (Heard session) is filled tt
-frame_fills p s number node from (Ack session) is filled there = plain_fills p s number node from (Ack session) is filled tt
-frame_fills p s number node from (Link version on) is filled there = plain_fills p s number node from (Link version on) is filled tt
-frame_fills p s number node from body is filled there = plain_fills p s number node from body is filled there
+frame_fills p s number node from body is filled there = by_said body (said body) is filled there
+  where
+    by_said : (body : Body) → Said body → IsDelivery p s number node from body → AreFilled p s → IsFilledThere node body
+        → AreFilled p (after_delivery p s number)
+    by_said _ (IsTell tell watch) is filled there = tell_fills p s number node from tell watch is filled there
+    by_said _ (IsHello hello) is filled there = hello_fills p s number node from hello is filled there
+    by_said _ (IsSeek joiner) is filled there = seek_fills p s number node from joiner is there filled (sought node.ties.table joiner) refl
+    by_said _ IsDone is filled there = done_fills p s number node from is filled there
+    by_said _ IsRelease is filled there =
+        release_keeps p s number node from (due p s number node from Release is) there (sender_name p s number node from Release is)
+        is.invariant.soft filled
+    by_said _ IsForget is filled there =
+        forget_keeps p s number node from (due p s number node from Forget is) there (sender_name p s number node from Forget is)
+        is.invariant.ceased filled
+    by_said _ (IsHeard session) is filled there = plain_fills p s number node from (Heard session) is filled tt
+    by_said _ (IsAck session) is filled there = plain_fills p s number node from (Ack session) is filled tt
+    by_said _ (IsLink version on) is filled there = plain_fills p s number node from (Link version on) is filled tt
+    by_said body _ is filled there = plain_fills p s number node from body is filled there
 
 -- ---- Link
 
@@ -345,26 +347,27 @@ tell_says p s number node from tell watch is (inr known) =
     is.invariant.stamped (stand_of p s is.invariant)
 
 pub frame_says : FrameSays
-frame_says p s number node from (Tell joiner prefix level session depth watch) is there =
-    let tell : TellFields = record { joiner = joiner; prefix = prefix; level = level; session = session; depth = depth } in
-    tell_says p s number node from tell watch is there
-frame_says p s number node from (Hello session core links) is there =
-    let hello : HelloFields = record { session = session; is_core = core; links = links } in
-    hello_words_kept p s number node from hello (due p s number node from (hello_body hello) is) there
-    (sender_name p s number node from (hello_body hello) is) (hello_names_are p s number node from hello is) is.invariant.stamped
-    (stand_of p s is.invariant)
-frame_says p s number node from (Heard session) is there =
-    answer_words_kept p s number node from Heard session tt heard_law (due p s number node from (Heard session) is) there
-    is.invariant.stamped (stand_of p s is.invariant)
-frame_says p s number node from (Ack session) is there =
-    answer_words_kept p s number node from Ack session tt ack_law (due p s number node from (Ack session) is) there
-    is.invariant.stamped (stand_of p s is.invariant)
-frame_says p s number node from (Seek joiner) is there =
-    seek_words_kept p s number node from joiner there.1.0 (due p s number node from (Seek joiner) is) there.0 there.1.1
-    is.invariant.stamped (stand_of p s is.invariant)
-frame_says p s number node from body is there =
-    quiet_words_kept p s number node from body there.0 (due p s number node from body is) there.1 is.invariant.stamped
-    (stand_of p s is.invariant)
+frame_says p s number node from body is there = by_said body (said body) is there
+  where
+    by_said : (body : Body) → Said body → IsDelivery p s number node from body → IsSaidThere node body
+        → WordsStand (after_delivery p s number)
+    by_said _ (IsTell tell watch) is there = tell_says p s number node from tell watch is there
+    by_said _ (IsHello hello) is there =
+        hello_words_kept p s number node from hello (due p s number node from (hello_body hello) is) there
+        (sender_name p s number node from (hello_body hello) is) (hello_names_are p s number node from hello is) is.invariant.stamped
+        (stand_of p s is.invariant)
+    by_said _ (IsHeard session) is there =
+        answer_words_kept p s number node from Heard session tt heard_law (due p s number node from (Heard session) is) there
+        is.invariant.stamped (stand_of p s is.invariant)
+    by_said _ (IsAck session) is there =
+        answer_words_kept p s number node from Ack session tt ack_law (due p s number node from (Ack session) is) there
+        is.invariant.stamped (stand_of p s is.invariant)
+    by_said _ (IsSeek joiner) is there =
+        seek_words_kept p s number node from joiner there.1.0 (due p s number node from (Seek joiner) is) there.0 there.1.1
+        is.invariant.stamped (stand_of p s is.invariant)
+    by_said body _ is there =
+        quiet_words_kept p s number node from body there.0 (due p s number node from body is) there.1 is.invariant.stamped
+        (stand_of p s is.invariant)
 
 -- ---- soft names
 
@@ -396,29 +399,28 @@ tell_soft p s number node from tell watch is (inr at) =
     ceased_soft p s number node from tell watch (due p s number node from (tell_body tell watch) is) at is.invariant.soft
 
 pub frame_soft : FrameSoft
-frame_soft p s number node from (Tell joiner prefix level session depth watch) is there =
-    let tell : TellFields = record { joiner = joiner; prefix = prefix; level = level; session = session; depth = depth } in
-    tell_soft p s number node from tell watch is there
-frame_soft p s number node from (Hello session core links) is there =
-    let hello : HelloFields = record { session = session; is_core = core; links = links } in
-    hello_soft p s number node from hello (due p s number node from (hello_body hello) is) there
-    (sender_name p s number node from (hello_body hello) is) (hello_names_are p s number node from hello is) is.invariant.soft
-frame_soft p s number node from (Seek joiner) is there =
-    seek_soft p s number node from joiner there.0 (due p s number node from (Seek joiner) is) there.1 is.invariant.soft
-frame_soft p s number node from Release is there =
-    release_soft p s number node from (due p s number node from Release is) there (sender_name p s number node from Release is)
-    is.invariant.soft
-frame_soft p s number node from Forget is there =
-    forget_soft p s number node from (due p s number node from Forget is) there (sender_name p s number node from Forget is)
-    is.invariant.soft
-frame_soft p s number node from (Heard session) is there =
-    heard_soft p s number node from session (due p s number node from (Heard session) is) is.invariant.soft
-frame_soft p s number node from (Ack session) is there =
-    ack_soft p s number node from session (due p s number node from (Ack session) is) is.invariant.soft
-frame_soft p s number node from (Link version on) is there =
-    link_soft p s number node from version on (due p s number node from (Link version on) is) is.invariant.soft
-frame_soft p s number node from body is there =
-    quiet_soft p s number node from body there there (due p s number node from body is) is.invariant.soft
+frame_soft p s number node from body is there = by_said body (said body) is there
+  where
+    by_said : (body : Body) → Said body → IsDelivery p s number node from body → IsSoftThere node body
+        → NamesSoft (after_delivery p s number)
+    by_said _ (IsTell tell watch) is there = tell_soft p s number node from tell watch is there
+    by_said _ (IsHello hello) is there =
+        hello_soft p s number node from hello (due p s number node from (hello_body hello) is) there
+        (sender_name p s number node from (hello_body hello) is) (hello_names_are p s number node from hello is) is.invariant.soft
+    by_said _ (IsSeek joiner) is there =
+        seek_soft p s number node from joiner there.0 (due p s number node from (Seek joiner) is) there.1 is.invariant.soft
+    by_said _ IsRelease is there =
+        release_soft p s number node from (due p s number node from Release is) there (sender_name p s number node from Release is)
+        is.invariant.soft
+    by_said _ IsForget is there =
+        forget_soft p s number node from (due p s number node from Forget is) there (sender_name p s number node from Forget is)
+        is.invariant.soft
+    by_said _ (IsHeard session) is there =
+        heard_soft p s number node from session (due p s number node from (Heard session) is) is.invariant.soft
+    by_said _ (IsAck session) is there = ack_soft p s number node from session (due p s number node from (Ack session) is) is.invariant.soft
+    by_said _ (IsLink version on) is there =
+        link_soft p s number node from version on (due p s number node from (Link version on) is) is.invariant.soft
+    by_said body _ is there = quiet_soft p s number node from body there there (due p s number node from body is) is.invariant.soft
 
 -- ---- Seek, and sessions
 
@@ -473,20 +475,21 @@ seek_exact p s number node from joiner is at (Surrogate prefix) found =
     (is.invariant.seekers.seeks from (name_of node) joiner (way p s number node from (Seek joiner) is)) (before_taking p s is.invariant)
 
 pub frame_exact : FrameExact
-frame_exact p s number node from (Tell joiner prefix level session depth watch) is there =
-    let tell : TellFields = record { joiner = joiner; prefix = prefix; level = level; session = session; depth = depth } in
-    tell_keeps_sessions p s number node from tell watch (due p s number node from (tell_body tell watch) is) there
-    (before_taking p s is.invariant)
-frame_exact p s number node from (Hello session core links) is there =
-    let hello : HelloFields = record { session = session; is_core = core; links = links } in
-    hello_keeps_sessions p s number node from hello (due p s number node from (hello_body hello) is) there (before_taking p s is.invariant)
-frame_exact p s number node from (Heard session) is there =
-    heard_keeps_sessions p s number node from session (due p s number node from (Heard session) is) (before_taking p s is.invariant)
-    is.invariant.counted
-frame_exact p s number node from (Ack session) is there =
-    ack_keeps_sessions p s number node from session (due p s number node from (Ack session) is) (before_taking p s is.invariant)
-    is.invariant.counted
-frame_exact p s number node from (Seek joiner) is there =
-    seek_exact p s number node from joiner is there (sought node.ties.table joiner) refl
-frame_exact p s number node from body is there =
-    outside_keeps_sessions p s number node from body (due p s number node from body is) there (before_taking p s is.invariant)
+frame_exact p s number node from body is there = by_said body (said body) is there
+  where
+    by_said : (body : Body) → Said body → IsDelivery p s number node from body → IsTakenThere node body
+        → AreExact (after_delivery p s number)
+    by_said _ (IsTell tell watch) is there =
+        tell_keeps_sessions p s number node from tell watch (due p s number node from (tell_body tell watch) is) there
+        (before_taking p s is.invariant)
+    by_said _ (IsHello hello) is there =
+        hello_keeps_sessions p s number node from hello (due p s number node from (hello_body hello) is) there (before_taking p s is.invariant)
+    by_said _ (IsHeard session) is there =
+        heard_keeps_sessions p s number node from session (due p s number node from (Heard session) is) (before_taking p s is.invariant)
+        is.invariant.counted
+    by_said _ (IsAck session) is there =
+        ack_keeps_sessions p s number node from session (due p s number node from (Ack session) is) (before_taking p s is.invariant)
+        is.invariant.counted
+    by_said _ (IsSeek joiner) is there = seek_exact p s number node from joiner is there (sought node.ties.table joiner) refl
+    by_said body _ is there =
+        outside_keeps_sessions p s number node from body (due p s number node from body is) there (before_taking p s is.invariant)

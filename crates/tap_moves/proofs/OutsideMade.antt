@@ -5,7 +5,7 @@ use Rattle.tap_table.specs.Ties.{holders_on}
 use Rattle.tap_join.specs.Seek.{sought}
 use Rattle.tap_join.specs.declared.sought.Sought.TheVariants.{Forward}
 use Rattle.tap_wire.specs.declared.frame.Body.{Body}
-use Rattle.tap_wire.specs.declared.frame.Body.TheVariants.{Ack, Done, Forget, Heard, Hello, Link, Release, Seek, Tell}
+use Rattle.tap_wire.specs.declared.frame.Body.TheVariants.{Done, Forget, Heard, Link, Release, Seek}
 use Rattle.tap_wire.specs.declared.frame.Frame.{Frame}
 use Rattle.tap_rule.specs.Ceasing.{ceases}
 use Rattle.tap_rule.specs.FrameRules.{frame_at_ceased, frame_at_core, frame_at_joining, frame_at_leaving, rule_of_frame}
@@ -26,6 +26,8 @@ use Rattle.tap_rule.proofs.QuietSteps.{quiet_law}
 use Rattle.tap_safety.specs.Frames.{hello_body}
 use Rattle.tap_safety.specs.Sessions.{Belongs, session_named}
 use Rattle.tap_safety.specs.Turned.{closed_by}
+use Rattle.tap_safety.proofs.Said.{Said, said}
+use Rattle.tap_safety.proofs.Said.Said.{IsAck, IsHeard, IsHello, IsTell}
 use Rattle.tap_moves.specs.ByRule.{taken_at}
 use Rattle.tap_moves.specs.SessionsLaws.{HandsOnByHello, IsOutside, OutsideLeavesSessions}
 use Rattle.tap_moves.proofs.InSession.{one_place, only_one, sent_in}
@@ -139,13 +141,13 @@ seek_rule Gone node from joiner next is = tt
 seek_rule Ceased node from joiner next is = tt
 
 -- frames of pointers and casts belong to no session of a join
-pub quiet_none : (body : Body) (from to y : List ℕ) (k : ℕ) → IsQuiet body
+pub quiet_none : {body : Body} → Said body → (from to y : List ℕ) (k : ℕ) → IsQuiet body
     → ◌≡◌ {A = Option (List ℕ × ℕ)} (session_named body from to) (Some (y, k)) → ⊥
-quiet_none (Tell joiner prefix level session depth watch) from to y k quiet belongs = absurd quiet
-quiet_none (Hello session core links) from to y k quiet belongs = absurd quiet
-quiet_none (Heard session) from to y k quiet belongs = absurd quiet
-quiet_none (Ack session) from to y k quiet belongs = absurd quiet
-quiet_none other from to y k quiet belongs = absurd (cc)
+quiet_none (IsTell tell watch) from to y k quiet belongs = absurd quiet
+quiet_none (IsHello hello) from to y k quiet belongs = absurd quiet
+quiet_none (IsHeard session) from to y k quiet belongs = absurd quiet
+quiet_none (IsAck session) from to y k quiet belongs = absurd quiet
+quiet_none _ from to y k quiet belongs = absurd (cc)
 
 quiet_aside : (node : NodeState) (from : List ℕ) (body : Body) → IsQuiet body
     → IsAside node (taken_at node from body).state.sessions.opened (taken_at node from body).sent
@@ -153,7 +155,7 @@ quiet_aside node from body quiet =
     let step = quiet_law node (frame_to node from body) quiet in
     record {
       opened_same = ap (λ (o : SessionsValue). o.opened) step.sessions;
-      sent_none = λ f y k among belongs. quiet_none f.body f.from f.to y k (step.sent f among) belongs;
+      sent_none = λ f y k among belongs. quiet_none (said f.body) f.from f.to y k (step.sent f among) belongs;
     }
 
 pub outside_aside : (node : NodeState) (from : List ℕ) (body : Body) → is_strange node (frame_to node from body) ≡ false → IsOutside node body
@@ -168,18 +170,18 @@ outside_aside node from (Seek joiner) known outside =
 outside_aside node from body known outside = quiet_aside node from body outside
 
 -- such a frame names no session, and closes none
-outside_named : (node : NodeState) (body : Body) (from to : List ℕ) → IsOutside node body
+outside_named : (node : NodeState) {body : Body} → Said body → (from to : List ℕ) → IsOutside node body
     → (◌≡◌ {A = Option (List ℕ × ℕ)} (session_named body from to) None) × ((after : NodeState) → closed_by body after ≡ None)
-outside_named node (Tell joiner prefix level session depth watch) from to outside = absurd outside
-outside_named node (Hello session core links) from to outside = absurd outside
-outside_named node (Heard session) from to outside = absurd outside
-outside_named node (Ack session) from to outside = absurd outside
-outside_named node other from to outside = (refl, λ after. refl)
+outside_named node (IsTell tell watch) from to outside = absurd outside
+outside_named node (IsHello hello) from to outside = absurd outside
+outside_named node (IsHeard session) from to outside = absurd outside
+outside_named node (IsAck session) from to outside = absurd outside
+outside_named node _ from to outside = (refl, λ after. refl)
 
 pub outside_leaves : OutsideLeavesSessions
 outside_leaves s s' number node from body before taken remembers outside =
     let aside = outside_aside node from body taken.known outside in
-    let named = outside_named node body from (name_of node) outside in
+    let named = outside_named node (said body) from (name_of node) outside in
     leaves_sessions s s' number node from body before taken remembers aside.opened_same named.0
     (named.1 (taken_at node from body).state) aside.sent_none
 

@@ -9,7 +9,6 @@ use Rattle.tap_table.specs.declared.tie.Tie.{Tie}
 use Rattle.tap_table.specs.Table.{TableValue}
 use Rattle.tap_pointer.specs.Reconcile.{AreLaid, reconcile_lays, reconciled, wanted_hop}
 use Rattle.tap_wire.specs.declared.frame.Body.{Body}
-use Rattle.tap_wire.specs.declared.frame.Body.TheVariants.{Ack, Cast, Heard, Link, Tell}
 use Rattle.tap_wire.specs.declared.frame.Frame.{Frame}
 use Rattle.tap_wire.specs.Spelling.{IsFrame}
 use Rattle.tap_rule.specs.Act.{act, carried_out, completed, follows, ignores}
@@ -36,6 +35,8 @@ use Rattle.tap_safety.specs.Spelled.{AreSpelled}
 use Rattle.tap_safety.specs.Step.{numbered_from}
 use Rattle.tap_safety.specs.System.{System, AmongFrames}
 use Rattle.tap_safety.proofs.Moves.{delivers, found, starts}
+use Rattle.tap_safety.proofs.Said.{Said, said}
+use Rattle.tap_safety.proofs.Said.Said.{IsAck, IsCast, IsHeard, IsLink, IsTell}
 use Rattle.tap_moves.specs.Delivered.{after_delivery, after_start}
 use Rattle.tap_moves.specs.InvariantLaws.{MoveKeepsParts, PartsKept, StartKeepsParts}
 use Rattle.tap_moves.specs.Spelled.{AreNamedPairs, AreNodes, IsNamedPair, IsNodeOf, IsParent, KnowsNames}
@@ -154,15 +155,15 @@ rule_stays node from body Joining over = absurd (over tt)
 rule_stays node from body Core over = absurd (over tt)
 rule_stays node from body Leaving over = absurd (over tt)
 rule_stays node from body Gone over = tt
-rule_stays node from body Ceased over = by_body body
+rule_stays node from body Ceased over = by_said (said body)
   where
-    by_body : (body : Body) → IfSome (frame_at_ceased node from body) (λ r. r.state.status ≡ node.status)
-    by_body (Tell joiner prefix level session depth watch) = refl
-    by_body (Heard session) = refl
-    by_body (Ack session) = refl
-    by_body (Link version on) = refl
-    by_body (Cast cast level session depth word) = refl
-    by_body _ = tt
+    by_said : {body : Body} → Said body → IfSome (frame_at_ceased node from body) (λ r. r.state.status ≡ node.status)
+    by_said (IsTell tell watch) = refl
+    by_said (IsHeard session) = refl
+    by_said (IsAck session) = refl
+    by_said (IsLink version on) = refl
+    by_said IsCast = refl
+    by_said _ = tt
 
 no_rule : (node : NodeState) (start : Start) (status : Status) → (IsRunning status → ⊥) → rule_of_start status node start ≡ None
 no_rule node start Joining over = absurd (over tt)

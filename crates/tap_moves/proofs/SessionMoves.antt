@@ -9,7 +9,7 @@ use Rattle.tap_join.specs.Seek.{sought}
 use Rattle.tap_join.specs.declared.sought.Sought.{Sought}
 use Rattle.tap_join.specs.declared.sought.Sought.TheVariants.{Forward, Surrogate}
 use Rattle.tap_wire.specs.declared.frame.Body.{Body}
-use Rattle.tap_wire.specs.declared.frame.Body.TheVariants.{Ack, Done, Forget, Heard, Hello, Link, Release, Seek, Tell}
+use Rattle.tap_wire.specs.declared.frame.Body.TheVariants.{Ack, Done, Forget, Heard, Link, Release, Seek}
 use Rattle.tap_wire.specs.declared.frame.Frame.{Frame}
 use Rattle.tap_wire.specs.declared.frame.TellFields.{TellFields}
 use Rattle.tap_rule.specs.Ceasing.{acknowledges, ceases}
@@ -49,10 +49,12 @@ use Rattle.tap_safety.proofs.CountedKept.{counted_others}
 use Rattle.tap_safety.proofs.Known.{core_kept, few_join, few_kept, names_kept}
 use Rattle.tap_safety.proofs.Moves.{delivers, found, numbers_sent, numbers_taken, starts}
 use Rattle.tap_safety.proofs.StepLaws.{await_others_law, awaited_closing_law, awaited_handing_on_law, awaited_last_law, awaited_opening_law, awaited_others_law, awaited_root_law, closing_turns_law, handing_on_turns_law, last_turns_law, numbers_new_law, opening_turns_law, places_law, root_turns_law}
+use Rattle.tap_safety.proofs.Said.{Said, said}
+use Rattle.tap_safety.proofs.Said.Said.{IsAck, IsHeard, IsHello, IsSeek, IsTell}
 use Rattle.tap_moves.specs.ByRule.{taken_at}
 use Rattle.tap_moves.specs.Delivered.{after_delivery, after_start}
 use Rattle.tap_moves.specs.InSession.{OpensOrAnswers}
-use Rattle.tap_moves.specs.InvariantLaws.{IsDelivery}
+use Rattle.tap_moves.specs.InvariantLaws.{IsDelivery, IsTakenThere}
 use Rattle.tap_moves.specs.SessionMoves.{AreNamed, FrameAwaits, FrameCore, FrameNames, FramePlaces, FrameSteps, GoesOnAs, IsLastOpened, IsOfAnother, IsOfKind, OutsideBooks, SessionStep, StartNames, StepsSessions}
 use Rattle.tap_moves.specs.SessionMoves.SessionStep.{ClosesBelow, ClosesTop, Hands, LeavesAll, OpensBelow, OpensTop}
 use Rattle.tap_moves.specs.SessionsLaws.{IsOutside, sent_at}
@@ -341,17 +343,16 @@ module _ (p : SettingsValue) (s : System) (number : ℕ) (node : NodeState) (fro
       }
 
 pub frame_steps : FrameSteps
-frame_steps p s number node from (Tell joiner prefix level session depth watch) is there =
-    let tell : TellFields = record { joiner = joiner; prefix = prefix; level = level; session = session; depth = depth } in
-    tell_steps p s number node from tell watch is there
-frame_steps p s number node from (Hello session core links) is there =
-    hello_steps p s number node from (record { session = session; is_core = core; links = links }) is there
-frame_steps p s number node from (Heard session) is there =
-    answer_steps p s number node from Heard heard_law heard_is_taken session is
-frame_steps p s number node from (Ack session) is there = answer_steps p s number node from Ack ack_law ack_is_taken session is
-frame_steps p s number node from (Seek joiner) is there =
-    seek_steps p s number node from joiner is there (sought node.ties.table joiner) refl
-frame_steps p s number node from body is there = outside_steps p s number node from body is there
+frame_steps p s number node from body is there = by_said body (said body) is there
+  where
+    by_said : (body : Body) → Said body → IsDelivery p s number node from body → IsTakenThere node body
+        → StepsSessions s (after_delivery p s number) number (frame_to node from body) node (taken_at node from body).state (sent_at s node from body)
+    by_said _ (IsTell tell watch) is there = tell_steps p s number node from tell watch is there
+    by_said _ (IsHello hello) is there = hello_steps p s number node from hello is there
+    by_said _ (IsHeard session) is there = answer_steps p s number node from Heard heard_law heard_is_taken session is
+    by_said _ (IsAck session) is there = answer_steps p s number node from Ack ack_law ack_is_taken session is
+    by_said _ (IsSeek joiner) is there = seek_steps p s number node from joiner is there (sought node.ties.table joiner) refl
+    by_said body _ is there = outside_steps p s number node from body is there
 
 -- ---- each answer once
 

@@ -11,15 +11,18 @@ use Rattle.tap_session.specs.Sessions.{answer_to}
 use Rattle.tap_join.specs.Seek.{sought}
 use Rattle.tap_join.specs.declared.sought.Sought.TheVariants.{Forward}
 use Rattle.tap_wire.specs.declared.frame.Body.{Body}
-use Rattle.tap_wire.specs.declared.frame.Body.TheVariants.{Ack, Done, Forget, Heard, Hello, Leave, Link, Release, Seek}
+use Rattle.tap_wire.specs.declared.frame.Body.TheVariants.{Ack, Done, Forget, Heard, Link, Release, Seek}
 use Rattle.tap_wire.specs.declared.frame.TellFields.{TellFields}
+use Rattle.tap_wire.specs.declared.kind.Kind.{Kind}
+use Rattle.tap_wire.specs.declared.kind.Kind.TheVariants as kind
+use Rattle.tap_wire.specs.Kind.{kind_of}
 use Rattle.tap_rule.specs.Answers.{answer_sends}
 use Rattle.tap_rule.specs.FrameRules.{frame_at_ceased, frame_at_core, frame_at_joining, frame_at_leaving, rule_of_frame}
 use Rattle.tap_rule.specs.Laws.{frame_to}
 use Rattle.tap_rule.specs.Links.{is_new_link}
 use Rattle.tap_rule.specs.Node.{NodeState, Status, join_session_at, name_of, settings_of}
 use Rattle.tap_rule.specs.Node.Status.{Ceased, Core, Gone, Joining, Leaving}
-use Rattle.tap_rule.specs.QuietSteps.{IsQuiet}
+use Rattle.tap_rule.specs.QuietSteps.{IsQuiet, IsQuietKind}
 use Rattle.tap_rule.specs.Reaction.{Message, message}
 use Rattle.tap_rule.specs.Sending.{message_frame}
 use Rattle.tap_rule.specs.Sent.{IsAmong}
@@ -30,6 +33,8 @@ use Rattle.tap_safety.specs.Frames.{HelloFields, hello_body, tell_body}
 use Rattle.tap_safety.specs.Soft.{AreSound, IsSoundBody, NamesSoft}
 use Rattle.tap_safety.specs.System.{System, IsCoreNode, IsJoiner}
 use Rattle.tap_safety.proofs.StepLaws.{soft_ceased_law, soft_forget_law, soft_hello_law, soft_joining_law, soft_plain_law, soft_release_law}
+use Rattle.tap_safety.proofs.Said.{Said, said}
+use Rattle.tap_safety.proofs.Said.Said.{IsHello, IsLeave, IsRelease}
 use Rattle.tap_moves.specs.ByRule.{taken_at}
 use Rattle.tap_moves.specs.Delivered.{IsArriving, after_delivery}
 use Rattle.tap_moves.specs.FrameLaws.{AreOfferedNames, IsPlain, messages_by}
@@ -41,16 +46,19 @@ use Rattle.tap_moves.proofs.Plain.{plain_alike, plain_is_made, rule_sends}
 -- ---- what a plain frame makes a node send
 
 -- nothing is said to be core by it
-abbrev IsMild : Body → Type 0
-IsMild (Hello session core links) = ⊥
-IsMild Release = ⊥
-IsMild (Leave replacement) = ⊥
-IsMild _ = Unit {0}
+abbrev IsMildKind : Kind → Type 0
+IsMildKind kind.Hello = ⊥
+IsMildKind kind.Release = ⊥
+IsMildKind kind.Leave = ⊥
+IsMildKind other = Unit {0}
 
-mild_sound : (s : System) (from to : List ℕ) (body : Body) → IsMild body → IsSoundBody s from to body
-mild_sound s from to (Hello session core links) mild = absurd mild
-mild_sound s from to Release mild = absurd mild
-mild_sound s from to (Leave replacement) mild = absurd mild
+abbrev IsMild : Body → Type 0
+IsMild body = IsMildKind (kind_of body)
+
+mild_sound : (s : System) (from to : List ℕ) {body : Body} → Said body → IsMild body → IsSoundBody s from to body
+mild_sound s from to (IsHello hello) mild = absurd mild
+mild_sound s from to IsRelease mild = absurd mild
+mild_sound s from to (IsLeave replacement) mild = absurd mild
 mild_sound s from to _ mild = tt
 
 abbrev AreMild : List Message → Type 0
@@ -110,7 +118,7 @@ link_sound s status node from version on core = by_status status core
     releases false is m among = absurd among
 
     forgets : (said : Bool) → AreSound s (name_of node) (if said then message from Forget ∷ [] else [])
-    forgets true m among = mild_sound s (name_of node) m.to m.body (one_mild from Forget tt m among)
+    forgets true m among = mild_sound s (name_of node) m.to (said m.body) (one_mild from Forget tt m among)
     forgets false m among = absurd among
 
     by_status : (status : Status) → ((status ≡ Core) ⊎ (status ≡ Leaving) → IsCoreNode s (name_of node))
@@ -121,10 +129,10 @@ link_sound s status node from version on core = by_status status core
     by_status Gone core = λ m among. absurd among
     by_status Ceased core = forgets on
 
-quiet_mild : (body : Body) → IsQuiet body → IsMild body
-quiet_mild (Hello session core links) quiet = absurd quiet
-quiet_mild Release quiet = absurd quiet
-quiet_mild (Leave replacement) quiet = absurd quiet
+quiet_mild : (kind : Kind) → IsQuietKind kind → IsMildKind kind
+quiet_mild kind.Hello quiet = absurd quiet
+quiet_mild kind.Release quiet = absurd quiet
+quiet_mild kind.Leave quiet = absurd quiet
 quiet_mild _ quiet = tt
 
 -- ---- by the kind of a frame
@@ -143,7 +151,7 @@ module _ (p : SettingsValue) (s : System) (number : ℕ) (node : NodeState) (fro
   mild_soft : (body : Body) (due : IsArriving s number node from body) → IsPlain node body
       → AreMild (messages_by (rule_of_frame node.status node from body)) → NamesSoft s → NamesSoft after
   mild_soft body due plain mild soft =
-      plain_soft body due plain (λ m among. mild_sound after (name_of node) m.to m.body (mild m among)) soft
+      plain_soft body due plain (λ m among. mild_sound after (name_of node) m.to (said m.body) (mild m among)) soft
 
   pub heard_soft : (session : ℕ) → IsArriving s number node from (Heard session) → NamesSoft s → NamesSoft after
   heard_soft session due soft = mild_soft (Heard session) due tt (heard_mild node.status node from session) soft
@@ -170,7 +178,7 @@ module _ (p : SettingsValue) (s : System) (number : ℕ) (node : NodeState) (fro
   quiet_soft body quiet plain due soft =
       let step = quiet_law node (frame_to node from body) quiet in
       let sent = rule_sends node from body due.known in
-      mild_soft body due plain (λ m among. quiet_mild m.body (step.sent (message_frame (name_of node) m) (sent.named m among))) soft
+      mild_soft body due plain (λ m among. quiet_mild (kind_of m.body) (step.sent (message_frame (name_of node) m) (sent.named m among))) soft
 
   pub joining_soft : (tell : TellFields) (watch : List Slot) → IsArriving s number node from (tell_body tell watch) → node.status ≡ Joining
       → IsName (settings_of node) tell.joiner → IsJoiner s tell.joiner → IsJoiner s (name_of node) → (name_of node ≡ tell.joiner → ⊥)

@@ -1,5 +1,5 @@
 -- A frame whose taker says of each link that it changes: what is said stands, once it is delivered.
-use Rattle.std.proofs.Common.{◌≡◌, ◌⊎◌, ℕ, zero, suc, ◌+◌, true, false, List, [], ◌∷◌, Option, None, Some, is_none, slice_get, All, arith, ap, refl, sym, subst, ◌∙◌, inl, inr}
+use Rattle.std.proofs.Common.{◌≡◌, ◌⊎◌, ℕ, zero, suc, ◌+◌, true, List, [], ◌∷◌, Option, None, Some, is_none, slice_get, All, arith, ap, refl, sym, subst, ◌∙◌, inl, inr}
 use Rattle.std.proofs.lemmas.Bool.{cases_lt}
 use Rattle.tap_name.specs.Name.{IsName}
 use Rattle.tap_name.specs.Order.{name_cmp}
@@ -23,18 +23,22 @@ use Rattle.tap_join.proofs.Told.{TellsNew, hello_tells_new}
 use Rattle.tap_join.specs.Seek.{sought}
 use Rattle.tap_join.specs.declared.sought.Sought.TheVariants.{Forward}
 use Rattle.tap_wire.specs.declared.frame.Body.{Body}
-use Rattle.tap_wire.specs.declared.frame.Body.TheVariants.{Ack, Answer, Cast, CastAck, Done, Find, Forget, Heard, Hello, Lay, Link, Release, Seek}
+use Rattle.tap_wire.specs.declared.frame.Body.TheVariants.{Ack, Done, Forget, Heard, Link, Release, Seek}
 use Rattle.tap_wire.specs.declared.frame.Frame.{Frame}
 use Rattle.tap_wire.specs.declared.frame.TellFields.{TellFields}
+use Rattle.tap_wire.specs.declared.kind.Kind.{Kind as FrameKind}
+use Rattle.tap_wire.specs.declared.kind.Kind.TheVariants as kind
+use Rattle.tap_wire.specs.Kind.{kind_of}
 use Rattle.tap_rule.specs.Answers.{answer_sends}
 use Rattle.tap_rule.specs.FrameRules.{frame_at_core, rule_of_frame}
 use Rattle.tap_rule.specs.Laws.{AnswerLaw, frame_to}
 use Rattle.tap_rule.specs.Node.{NodeState, Status, join_session_at, level_of, link_to, name_of, settings_of}
 use Rattle.tap_rule.specs.Node.Status.{Ceased as HasCeased, Core, Joining}
-use Rattle.tap_rule.specs.QuietSteps.{IsQuiet}
+use Rattle.tap_rule.specs.QuietSteps.{IsQuiet, IsQuietKind}
 use Rattle.tap_rule.specs.Reaction.{Message, message, pin_word, sends, with_pin, with_words}
 use Rattle.tap_rule.specs.Sending.{link_frame, message_frame}
 use Rattle.tap_rule.specs.Sent.{AreSent, IsAmong}
+use Rattle.tap_rule.specs.Hellos.{joining_hello}
 use Rattle.tap_rule.proofs.CarriedOut.{frame_law}
 use Rattle.tap_rule.proofs.CoverSteps.{tell_law}
 use Rattle.tap_rule.proofs.JoinSteps.{hello_law, meet_law, tell_fits}
@@ -176,11 +180,14 @@ hello_said before after from hello ties sender names is =
 -- ---- what isn't sent
 
 -- a body that is no Link, Release or Forget
+abbrev pub IsAsideKind : FrameKind → Type 0
+IsAsideKind kind.Link = ⊥
+IsAsideKind kind.Release = ⊥
+IsAsideKind kind.Forget = ⊥
+IsAsideKind other = Unit {0}
+
 abbrev pub IsAside : Body → Type 0
-IsAside (Link version on) = ⊥
-IsAside Release = ⊥
-IsAside Forget = ⊥
-IsAside _ = Unit {0}
+IsAside body = IsAsideKind (kind_of body)
 
 says_no_more : (frame : Frame) (after : NodeState) (messages : List Message) → IsAside frame.body
     → ((m : Message) → IsAmong m messages → IsAside m.body) → SaysNoMore frame after messages
@@ -192,15 +199,10 @@ says_no_more frame after messages aside each = record {
   no_forget = λ m among is. let never : IsAside Forget = subst IsAside is (each m among) in never;
 }
 
-quiet_aside : (body : Body) → IsQuiet body → IsAside body
-quiet_aside (Lay object server level version on) quiet = tt
-quiet_aside (Find ticket object asker level) quiet = tt
-quiet_aside (Answer ticket server) quiet = tt
-quiet_aside (Cast cast level session depth word) quiet = tt
-quiet_aside (CastAck session) quiet = tt
-quiet_aside (Link version on) quiet = absurd quiet
-quiet_aside Release quiet = absurd quiet
-quiet_aside Forget quiet = absurd quiet
+quiet_aside : (kind : FrameKind) → IsQuietKind kind → IsAsideKind kind
+quiet_aside kind.Link quiet = absurd quiet
+quiet_aside kind.Release quiet = absurd quiet
+quiet_aside kind.Forget quiet = absurd quiet
 quiet_aside _ quiet = tt
 
 one_aside : (m one : Message) → IsAside one.body → IsAmong m (one ∷ []) → IsAside m.body
@@ -298,8 +300,8 @@ module _ (p : SettingsValue) (s : System) (number : ℕ) (node : NodeState) (fro
         once = λ one two among. absurd (silent one among);
         register = λ holder. ap (λ (u : TiesValue). entry_of name_cmp u.holders holder) step.ties;
       })
-      (says_no_more (frame_to node from body) acted.state messages (quiet_aside body quiet) (λ m among.
-      quiet_aside m.body (step.sent (message_frame (name_of node) m) (sent.named m among))))
+      (says_no_more (frame_to node from body) acted.state messages (quiet_aside (kind_of body) quiet) (λ m among.
+      quiet_aside (kind_of m.body) (step.sent (message_frame (name_of node) m) (sent.named m among))))
       table stamped stand
 
   pub seek_words_kept : (joiner next : List ℕ) → IsArriving s number node from (Seek joiner) → node.status ≡ Core
@@ -328,7 +330,7 @@ module _ (p : SettingsValue) (s : System) (number : ℕ) (node : NodeState) (fro
       (says_no_more (frame_to node from (tell_body tell watch)) state sent.messages tt (λ m among.
       elim sent.answers [
         | inl acks ↦ one_aside m (message from (Ack tell.session)) tt (subst (IsAmong m) acks among)
-        | inr greets ↦ one_aside m (message tell.joiner (Hello greets.0 false [])) tt (subst (IsAmong m) greets.1 among)
+        | inr greets ↦ one_aside m (message tell.joiner (joining_hello greets.0)) tt (subst (IsAmong m) greets.1 among)
       ]))
       (rw at tt) stamped stand
 

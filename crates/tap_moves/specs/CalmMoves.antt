@@ -4,10 +4,13 @@ use Rattle.tap_name.specs.Settings.{SettingsValue}
 use Rattle.tap_join.specs.Seek.{sought}
 use Rattle.tap_join.specs.declared.sought.Sought.TheVariants.{Forward}
 use Rattle.tap_wire.specs.declared.frame.Body.{Body}
-use Rattle.tap_wire.specs.declared.frame.Body.TheVariants.{Ack, Forget, Heard, Hello, Link, Release, Seek, Tell}
-use Rattle.tap_rule.specs.Node.{NodeState}
+use Rattle.tap_wire.specs.declared.frame.Body.TheVariants.{Seek}
+use Rattle.tap_wire.specs.declared.kind.Kind.{Kind}
+use Rattle.tap_wire.specs.declared.kind.Kind.TheVariants.{Ack, Forget, Heard, Hello, Link, Release, Tell}
+use Rattle.tap_wire.specs.Kind.{kind_of}
+use Rattle.tap_rule.specs.Node.{NodeState, Status}
 use Rattle.tap_rule.specs.Node.Status.{Ceased, Core, Joining}
-use Rattle.tap_rule.specs.QuietSteps.{IsQuiet}
+use Rattle.tap_rule.specs.QuietSteps.{IsQuietKind}
 use Rattle.tap_safety.specs.Bookkeeping.{TellsAreDeeper}
 use Rattle.tap_safety.specs.Departing.{Departure}
 use Rattle.tap_safety.specs.Notices.{Notices}
@@ -19,16 +22,19 @@ use Rattle.tap_moves.specs.InvariantLaws.{IsDelivery, IsTakenThere}
 
 -- a Tell at a joining node or one that has ceased, a Hello, a Seek that goes on, a Release, a Forget, an answer, a Link, and those of
 -- pointers and casts
+abbrev IsCalmKind : Status → Kind → Type 0
+IsCalmKind status Tell = (status ≡ Joining) ⊎ (status ≡ Ceased)
+IsCalmKind status Hello = status ≡ Joining
+IsCalmKind status Release = (status ≡ Joining) ⊎ (status ≡ Core)
+IsCalmKind status Forget = (status ≡ Joining) ⊎ (status ≡ Core)
+IsCalmKind status Heard = Unit {0}
+IsCalmKind status Ack = Unit {0}
+IsCalmKind status Link = Unit {0}
+IsCalmKind status other = IsQuietKind other
+
 abbrev pub IsCalmThere : NodeState → Body → Type 0
-IsCalmThere node (Tell joiner prefix level session depth watch) = (node.status ≡ Joining) ⊎ (node.status ≡ Ceased)
-IsCalmThere node (Hello session core links) = node.status ≡ Joining
 IsCalmThere node (Seek joiner) = (node.status ≡ Core) × ((next : List ℕ) × (sought node.ties.table joiner ≡ Forward next))
-IsCalmThere node Release = (node.status ≡ Joining) ⊎ (node.status ≡ Core)
-IsCalmThere node Forget = (node.status ≡ Joining) ⊎ (node.status ≡ Core)
-IsCalmThere node (Heard session) = Unit {0}
-IsCalmThere node (Ack session) = Unit {0}
-IsCalmThere node (Link version on) = Unit {0}
-IsCalmThere node other = IsQuiet other
+IsCalmThere node other = IsCalmKind node.status (kind_of other)
 
 -- who isn't started is known to nobody but its one Seek, and Tells are sound
 pub record AreSought (p : SettingsValue) (s : System) : Type 0 where

@@ -3,16 +3,19 @@ use Rattle.std.specs.Prelude.{◌≡◌, ◌⊎◌, ℕ, ◌≤◌, false, List,
 use Rattle.tap_name.specs.Prefix.{lcp}
 use Rattle.tap_name.specs.Settings.{SettingsValue}
 use Rattle.tap_wire.specs.declared.frame.Body.{Body}
-use Rattle.tap_wire.specs.declared.frame.Body.TheVariants.{Ack, Done, Forget, Heard, Hello, Link, Release, Seek, Tell}
+use Rattle.tap_wire.specs.declared.frame.Body.TheVariants.{Link, Seek, Tell}
 use Rattle.tap_wire.specs.declared.frame.Frame.{Frame}
+use Rattle.tap_wire.specs.declared.kind.Kind.{Kind}
+use Rattle.tap_wire.specs.declared.kind.Kind.TheVariants as kind
+use Rattle.tap_wire.specs.Kind.{kind_of}
 use Rattle.tap_join.specs.Seek.{sought}
 use Rattle.tap_join.specs.declared.sought.Sought.TheVariants.{Forward, Surrogate}
 use Rattle.tap_rule.specs.Event.{Start}
 use Rattle.tap_rule.specs.Event.Start.{Join, Leave}
 use Rattle.tap_rule.specs.Laws.{frame_to}
-use Rattle.tap_rule.specs.Node.{NodeState, level_of, name_of}
+use Rattle.tap_rule.specs.Node.{NodeState, Status, level_of, name_of}
 use Rattle.tap_rule.specs.Node.Status.{Ceased as HasCeased, Core, Joining}
-use Rattle.tap_rule.specs.QuietSteps.{IsQuiet}
+use Rattle.tap_rule.specs.QuietSteps.{IsQuietKind}
 use Rattle.tap_rule.specs.Strange.{is_strange}
 use Rattle.tap_safety.specs.Bookkeeping.{EndedHaveNoLinks, has_table}
 use Rattle.tap_safety.specs.Filled.{AreFilled}
@@ -29,7 +32,6 @@ use Rattle.tap_safety.specs.System.{System, AmongFrames, IsCoreNode}
 use Rattle.tap_safety.specs.Ties.{Ties, Versions, hears_words}
 use Rattle.tap_safety.specs.Words.{IsGiven}
 use Rattle.tap_moves.specs.Delivered.{after_delivery, after_start}
-use Rattle.tap_moves.specs.SessionsLaws.{IsOutside}
 use Rattle.tap_moves.specs.Spelled.{AreNodes, IsNamedStart}
 use Rattle.tap_moves.specs.TiesLaws.{WordsStand}
 
@@ -43,18 +45,20 @@ pub record IsDelivery (p : SettingsValue) (s : System) (number : ℕ) (node : No
   pub known : is_strange node (frame_to node from body) ≡ false
 
 -- a frame of a join where a rule takes it, but the Done of a join that was given up; and those of pointers and casts
+abbrev IsFilledKind : NodeState → Kind → Type 0
+IsFilledKind node kind.Tell = (node.status ≡ Core) ⊎ ((node.status ≡ Joining) ⊎ (node.status ≡ HasCeased))
+IsFilledKind node kind.Hello = node.status ≡ Joining
+IsFilledKind node kind.Seek = node.status ≡ Core
+IsFilledKind node kind.Done = node.abandoned ≡ false
+IsFilledKind node kind.Release = (node.status ≡ Joining) ⊎ (node.status ≡ Core)
+IsFilledKind node kind.Forget = (node.status ≡ Joining) ⊎ (node.status ≡ Core)
+IsFilledKind node kind.Heard = Unit {0}
+IsFilledKind node kind.Ack = Unit {0}
+IsFilledKind node kind.Link = Unit {0}
+IsFilledKind node other = IsQuietKind other
+
 abbrev pub IsFilledThere : NodeState → Body → Type 0
-IsFilledThere node (Tell joiner prefix level session depth watch) =
-    (node.status ≡ Core) ⊎ ((node.status ≡ Joining) ⊎ (node.status ≡ HasCeased))
-IsFilledThere node (Hello session core links) = node.status ≡ Joining
-IsFilledThere node (Seek joiner) = node.status ≡ Core
-IsFilledThere node Done = node.abandoned ≡ false
-IsFilledThere node Release = (node.status ≡ Joining) ⊎ (node.status ≡ Core)
-IsFilledThere node Forget = (node.status ≡ Joining) ⊎ (node.status ≡ Core)
-IsFilledThere node (Heard session) = Unit {0}
-IsFilledThere node (Ack session) = Unit {0}
-IsFilledThere node (Link version on) = Unit {0}
-IsFilledThere node other = IsQuiet other
+IsFilledThere node body = IsFilledKind node (kind_of body)
 
 -- what leads to tables without holes holds after it
 abbrev pub FrameFills : Type 0
@@ -74,14 +78,17 @@ LinkTies = (p : SettingsValue) (s : System) (number : ℕ) (node : NodeState) (f
 
 -- another frame that changes no link, or whose taker says so of each link that it changes: at a node that has a table, an answer, a Hello,
 -- a Seek that goes on, a Tell at a joining node or of a joiner that is covered so already, and those of pointers and casts
+abbrev IsSaidKind : Status → Kind → Type 0
+IsSaidKind status kind.Hello = status ≡ Joining
+IsSaidKind status kind.Heard = (status ≡ Joining) ⊎ (status ≡ Core)
+IsSaidKind status kind.Ack = (status ≡ Joining) ⊎ (status ≡ Core)
+IsSaidKind status other = IsQuietKind other × has_table status
+
 abbrev pub IsSaidThere : NodeState → Body → Type 0
 IsSaidThere node (Tell joiner prefix level session depth watch) =
     (node.status ≡ Joining) ⊎ ((node.status ≡ Core) × ((kept : ℕ) × (level_of node joiner ≡ Some kept) × (kept ≤ level)))
-IsSaidThere node (Hello session core links) = node.status ≡ Joining
-IsSaidThere node (Heard session) = (node.status ≡ Joining) ⊎ (node.status ≡ Core)
-IsSaidThere node (Ack session) = (node.status ≡ Joining) ⊎ (node.status ≡ Core)
 IsSaidThere node (Seek joiner) = (node.status ≡ Core) × ((next : List ℕ) × (sought node.ties.table joiner ≡ Forward next))
-IsSaidThere node other = IsQuiet other × has_table node.status
+IsSaidThere node other = IsSaidKind node.status (kind_of other)
 
 -- the words of links stand after it
 abbrev pub FrameSays : Type 0
@@ -90,16 +97,19 @@ FrameSays = (p : SettingsValue) (s : System) (number : ℕ) (node : NodeState) (
 
 -- another frame whose taker says of nobody that it is core, but by a Release: a Tell at a joining node or one that has ceased, a Hello, a
 -- Release, a Forget, an answer, a Link, a Seek that goes on, and those of pointers and casts
+abbrev IsSoftKind : Status → Kind → Type 0
+IsSoftKind status kind.Tell = (status ≡ Joining) ⊎ (status ≡ HasCeased)
+IsSoftKind status kind.Hello = status ≡ Joining
+IsSoftKind status kind.Release = (status ≡ Joining) ⊎ (status ≡ Core)
+IsSoftKind status kind.Forget = (status ≡ Joining) ⊎ (status ≡ Core)
+IsSoftKind status kind.Heard = Unit {0}
+IsSoftKind status kind.Ack = Unit {0}
+IsSoftKind status kind.Link = Unit {0}
+IsSoftKind status other = IsQuietKind other
+
 abbrev pub IsSoftThere : NodeState → Body → Type 0
-IsSoftThere node (Tell joiner prefix level session depth watch) = (node.status ≡ Joining) ⊎ (node.status ≡ HasCeased)
-IsSoftThere node (Hello session core links) = node.status ≡ Joining
 IsSoftThere node (Seek joiner) = (next : List ℕ) × (sought node.ties.table joiner ≡ Forward next)
-IsSoftThere node Release = (node.status ≡ Joining) ⊎ (node.status ≡ Core)
-IsSoftThere node Forget = (node.status ≡ Joining) ⊎ (node.status ≡ Core)
-IsSoftThere node (Heard session) = Unit {0}
-IsSoftThere node (Ack session) = Unit {0}
-IsSoftThere node (Link version on) = Unit {0}
-IsSoftThere node other = IsQuiet other
+IsSoftThere node other = IsSoftKind node.status (kind_of other)
 
 -- settled links are to core nodes after it, and pins to soft ones
 abbrev pub FrameSoft : Type 0
@@ -113,14 +123,20 @@ SeekGives = (p : SettingsValue) (s : System) (number : ℕ) (node : NodeState) (
     → (e : List ℕ) → IsCoreNode s e → lcp joiner e ≤ lcp (name_of node) joiner → IsGiven (after_delivery p s number) joiner e
 
 -- a frame of a join where a rule takes it, or one of no session
+abbrev IsTakenKind : Status → Kind → Type 0
+IsTakenKind status kind.Tell = (status ≡ Core) ⊎ ((status ≡ Joining) ⊎ (status ≡ HasCeased))
+IsTakenKind status kind.Hello = status ≡ Joining
+IsTakenKind status kind.Heard = Unit {0}
+IsTakenKind status kind.Ack = Unit {0}
+IsTakenKind status kind.Seek = status ≡ Core
+IsTakenKind status kind.Done = Unit {0}
+IsTakenKind status kind.Release = Unit {0}
+IsTakenKind status kind.Forget = Unit {0}
+IsTakenKind status kind.Link = Unit {0}
+IsTakenKind status other = IsQuietKind other
+
 abbrev pub IsTakenThere : NodeState → Body → Type 0
-IsTakenThere node (Tell joiner prefix level session depth watch) =
-    (node.status ≡ Core) ⊎ ((node.status ≡ Joining) ⊎ (node.status ≡ HasCeased))
-IsTakenThere node (Hello session core links) = node.status ≡ Joining
-IsTakenThere node (Heard session) = Unit {0}
-IsTakenThere node (Ack session) = Unit {0}
-IsTakenThere node (Seek joiner) = node.status ≡ Core
-IsTakenThere node other = IsOutside node other
+IsTakenThere node body = IsTakenKind node.status (kind_of body)
 
 -- the sessions are exact after it
 abbrev pub FrameExact : Type 0
