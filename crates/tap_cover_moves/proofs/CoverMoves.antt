@@ -20,7 +20,7 @@ use Rattle.tap_join.specs.declared.sought.Sought.{Sought}
 use Rattle.tap_join.specs.declared.sought.Sought.TheVariants.{Forward, Surrogate}
 use Rattle.tap_join.proofs.Seeking.{surrogate_is}
 use Rattle.tap_wire.specs.declared.frame.Body.{Body}
-use Rattle.tap_wire.specs.declared.frame.Body.TheVariants.{Ack, Done, Forget, Heard, Hello, Lay, Link, Release, Seek, Tell}
+use Rattle.tap_wire.specs.declared.frame.Body.TheVariants.{Done, Lay, Link, Release, Seek}
 use Rattle.tap_wire.specs.declared.frame.Frame.{Frame}
 use Rattle.tap_wire.specs.declared.frame.TellFields.{TellFields}
 use Rattle.tap_rule.specs.Covering.{first_request, pins_and_covers, request_of, seeks, takes_tell}
@@ -62,10 +62,12 @@ use Rattle.tap_safety.proofs.SoftSteps.{links_sound, softs_same}
 use Rattle.tap_safety.proofs.StepLaws.{gives_quiet_law, seeking_done_law, seeking_seat_law, seeking_tell_law, soft_done_law, soft_seat_law, soft_tell_law}
 use Rattle.tap_safety.proofs.TellKeeps.{core_kept, joiner_after}
 use Rattle.tap_safety.proofs.Told.{was_under_way}
+use Rattle.tap_safety.proofs.Said.{Said, said}
+use Rattle.tap_safety.proofs.Said.Said.{IsDone, IsSeek, IsTell}
 use Rattle.tap_moves.specs.ByRule.{StartsNone, TakesByRule, taken_at}
 use Rattle.tap_moves.specs.CalmMoves.{AreSought, IsPeaceful}
 use Rattle.tap_moves.specs.Delivered.{after_delivery}
-use Rattle.tap_moves.specs.InvariantLaws.{IsDelivery}
+use Rattle.tap_moves.specs.InvariantLaws.{IsDelivery, IsFilledThere}
 use Rattle.tap_moves.proofs.CalmMoves.{frame_peaceful, frame_seeks}
 use Rattle.tap_moves.proofs.CoverMade.{covers_anew}
 use Rattle.tap_moves.proofs.InSession.{seek_opens, tell_in_session}
@@ -514,22 +516,18 @@ seek_soft p s number node from joiner is at (Surrogate prefix) found =
     (seek_keeps p s number node from joiner is at prefix found).soft
 
 pub taken_soft : TakenSoft
-taken_soft p s number node from (Tell joiner prefix level session depth watch) is there =
-    let tell : TellFields = record { joiner = joiner; prefix = prefix; level = level; session = session; depth = depth } in
-    elim there [
-      | inl core ↦ (tell_keeps p s number node from tell watch is core).soft
-      | inr other ↦ frame_soft p s number node from (tell_body tell watch) is other
-    ]
-taken_soft p s number node from (Hello session core links) is there = frame_soft p s number node from (Hello session core links) is there
-taken_soft p s number node from (Seek joiner) is there =
-    seek_soft p s number node from joiner is there (sought node.ties.table joiner) refl
-taken_soft p s number node from Done is there = (done_keeps p s number node from is there).soft
-taken_soft p s number node from Release is there = frame_soft p s number node from Release is there
-taken_soft p s number node from Forget is there = frame_soft p s number node from Forget is there
-taken_soft p s number node from (Heard session) is there = frame_soft p s number node from (Heard session) is there
-taken_soft p s number node from (Ack session) is there = frame_soft p s number node from (Ack session) is there
-taken_soft p s number node from (Link version on) is there = frame_soft p s number node from (Link version on) is there
-taken_soft p s number node from body is there = frame_soft p s number node from body is there
+taken_soft p s number node from body is there = by_said body (said body) is there
+  where
+    by_said : (body : Body) → Said body → IsDelivery p s number node from body → IsFilledThere node body
+        → NamesSoft (after_delivery p s number)
+    by_said _ (IsTell tell watch) is there =
+        elim there [
+          | inl core ↦ (tell_keeps p s number node from tell watch is core).soft
+          | inr other ↦ frame_soft p s number node from (tell_body tell watch) is other
+        ]
+    by_said _ (IsSeek joiner) is there = seek_soft p s number node from joiner is there (sought node.ties.table joiner) refl
+    by_said _ IsDone is there = (done_keeps p s number node from is there).soft
+    by_said body _ is there = frame_soft p s number node from body is there
 
 seek_seeks : (p : SettingsValue) (s : System) (number : ℕ) (node : NodeState) (from joiner : List ℕ)
     → IsDelivery p s number node from (Seek joiner) → node.status ≡ Core → (found : Sought) → sought node.ties.table joiner ≡ found
@@ -540,22 +538,18 @@ seek_seeks p s number node from joiner is at (Surrogate prefix) found =
     (seek_keeps p s number node from joiner is at prefix found).sought
 
 pub taken_seeks : TakenSeeks
-taken_seeks p s number node from (Tell joiner prefix level session depth watch) is there =
-    let tell : TellFields = record { joiner = joiner; prefix = prefix; level = level; session = session; depth = depth } in
-    elim there [
-      | inl core ↦ (tell_keeps p s number node from tell watch is core).sought
-      | inr other ↦ frame_seeks p s number node from (tell_body tell watch) is other
-    ]
-taken_seeks p s number node from (Hello session core links) is there = frame_seeks p s number node from (Hello session core links) is there
-taken_seeks p s number node from (Seek joiner) is there =
-    seek_seeks p s number node from joiner is there (sought node.ties.table joiner) refl
-taken_seeks p s number node from Done is there = (done_keeps p s number node from is there).sought
-taken_seeks p s number node from Release is there = frame_seeks p s number node from Release is there
-taken_seeks p s number node from Forget is there = frame_seeks p s number node from Forget is there
-taken_seeks p s number node from (Heard session) is there = frame_seeks p s number node from (Heard session) is there
-taken_seeks p s number node from (Ack session) is there = frame_seeks p s number node from (Ack session) is there
-taken_seeks p s number node from (Link version on) is there = frame_seeks p s number node from (Link version on) is there
-taken_seeks p s number node from body is there = frame_seeks p s number node from body is there
+taken_seeks p s number node from body is there = by_said body (said body) is there
+  where
+    by_said : (body : Body) → Said body → IsDelivery p s number node from body → IsFilledThere node body
+        → AreSought p (after_delivery p s number)
+    by_said _ (IsTell tell watch) is there =
+        elim there [
+          | inl core ↦ (tell_keeps p s number node from tell watch is core).sought
+          | inr other ↦ frame_seeks p s number node from (tell_body tell watch) is other
+        ]
+    by_said _ (IsSeek joiner) is there = seek_seeks p s number node from joiner is there (sought node.ties.table joiner) refl
+    by_said _ IsDone is there = (done_keeps p s number node from is there).sought
+    by_said body _ is there = frame_seeks p s number node from body is there
 
 seek_at_peace : (p : SettingsValue) (s : System) (number : ℕ) (node : NodeState) (from joiner : List ℕ)
     → IsDelivery p s number node from (Seek joiner) → node.status ≡ Core → (found : Sought) → sought node.ties.table joiner ≡ found
@@ -566,20 +560,15 @@ seek_at_peace p s number node from joiner is at (Surrogate prefix) found none =
     (seek_keeps p s number node from joiner is at prefix found).peaceful
 
 pub taken_peaceful : TakenPeaceful
-taken_peaceful p s number node from (Tell joiner prefix level session depth watch) is there none =
-    let tell : TellFields = record { joiner = joiner; prefix = prefix; level = level; session = session; depth = depth } in
-    elim there [
-      | inl core ↦ (tell_keeps p s number node from tell watch is core).peaceful
-      | inr other ↦ frame_peaceful p s number node from (tell_body tell watch) is other none
-    ]
-taken_peaceful p s number node from (Hello session core links) is there none =
-    frame_peaceful p s number node from (Hello session core links) is there none
-taken_peaceful p s number node from (Seek joiner) is there none =
-    seek_at_peace p s number node from joiner is there (sought node.ties.table joiner) refl none
-taken_peaceful p s number node from Done is there none = (done_keeps p s number node from is there).peaceful
-taken_peaceful p s number node from Release is there none = frame_peaceful p s number node from Release is there none
-taken_peaceful p s number node from Forget is there none = frame_peaceful p s number node from Forget is there none
-taken_peaceful p s number node from (Heard session) is there none = frame_peaceful p s number node from (Heard session) is there none
-taken_peaceful p s number node from (Ack session) is there none = frame_peaceful p s number node from (Ack session) is there none
-taken_peaceful p s number node from (Link version on) is there none = frame_peaceful p s number node from (Link version on) is there none
-taken_peaceful p s number node from body is there none = frame_peaceful p s number node from body is there none
+taken_peaceful p s number node from body is there none = by_said body (said body) is there none
+  where
+    by_said : (body : Body) → Said body → IsDelivery p s number node from body → IsFilledThere node body → s.departing ≡ None
+        → IsPeaceful (after_delivery p s number)
+    by_said _ (IsTell tell watch) is there none =
+        elim there [
+          | inl core ↦ (tell_keeps p s number node from tell watch is core).peaceful
+          | inr other ↦ frame_peaceful p s number node from (tell_body tell watch) is other none
+        ]
+    by_said _ (IsSeek joiner) is there none = seek_at_peace p s number node from joiner is there (sought node.ties.table joiner) refl none
+    by_said _ IsDone is there none = (done_keeps p s number node from is there).peaceful
+    by_said body _ is there none = frame_peaceful p s number node from body is there none

@@ -12,7 +12,7 @@ use Rattle.tap_multicast.specs.Covers.{cover_of}
 use Rattle.tap_multicast.specs.Offer.{left}
 use Rattle.tap_join.specs.Hello.{words_of}
 use Rattle.tap_wire.specs.declared.frame.Body.{Body}
-use Rattle.tap_wire.specs.declared.frame.Body.TheVariants.{Hello, Lay, Link}
+use Rattle.tap_wire.specs.declared.frame.Body.TheVariants.{Lay, Link}
 use Rattle.tap_rule.specs.Answers.{answer_for, with_session}
 use Rattle.tap_rule.specs.Covering.{Request, answers_awaited, covers_as, greeting, pins_and_covers, tell_for, with_level}
 use Rattle.tap_rule.specs.Event.{Acted}
@@ -21,6 +21,7 @@ use Rattle.tap_rule.specs.Laws.{IsCarriedOut}
 use Rattle.tap_rule.specs.Node.{NodeState, level_of, name_of}
 use Rattle.tap_rule.specs.Reaction.{Message, Reaction, message, pin_word, sends, with_pin}
 use Rattle.tap_rule.specs.Sent.{IsAmong}
+use Rattle.tap_rule.specs.Hellos.{core_hello}
 use Rattle.tap_rule.proofs.Among.{among-either, among-map_from}
 use Rattle.tap_safety.specs.Step.{IsSent}
 use Rattle.tap_safety.proofs.SoftKept.{only_message, sent_each}
@@ -30,7 +31,7 @@ use Rattle.tap_moves.proofs.CoverMade.{hello_made, told_targets}
 
 -- what holds of the Hello to a joiner holds of what greets it
 greeting_so : (Q : Message → Type 0) (request : Request) (session : ℕ) (first : Bool) (offer : List Offered)
-    → (first ≡ true → Q (message request.joiner (Hello session true offer))) → (m : Message)
+    → (first ≡ true → Q (message request.joiner (core_hello session offer))) → (m : Message)
     → IsAmong m (greeting request session first offer) → Q m
 greeting_so Q request session true offer hello m (inl is) = subst Q (sym is) (hello refl)
 greeting_so Q request session true offer hello m (inr none) = absurd none
@@ -38,7 +39,7 @@ greeting_so Q request session false offer hello m none = absurd none
 
 -- and what holds of each Tell of these targets, too, of all that spreads a joiner
 spread_so : (Q : Message → Type 0) (request : Request) (session : ℕ) (first : Bool) (offer : List Offered) (left : List Slot)
-    (told : List Target) → (first ≡ true → Q (message request.joiner (Hello session true offer)))
+    (told : List Target) → (first ≡ true → Q (message request.joiner (core_hello session offer)))
     → ((target : Target) → IsAmong target told → Q (tell_for request session left target)) → (m : Message)
     → IsAmong m (greeting request session first offer ++ map (tell_for request session left) told) → Q m
 spread_so Q request session first offer left told hello tells m among =
@@ -57,7 +58,7 @@ module _ (Q : Message → Type 0) (node : NodeState) (request : Request) (answer
   abbrev IsSoFor : Covered → Type 0
   IsSoFor Already = Unit {0}
   IsSoFor (Now first offer told left) =
-      (first ≡ true → Q (message request.joiner (Hello session true offer)))
+      (first ≡ true → Q (message request.joiner (core_hello session offer)))
       × ((target : Target) → IsAmong target told → Q (tell_for request session left target))
 
   -- who answers at once sends nothing else
@@ -97,7 +98,7 @@ left_after node request =
 -- what holds of the answer, the Hello and each Tell holds of all messages
 pub covers_say : (Q : Message → Type 0) (node : NodeState) (request : Request) → Q (answer_for request.parent)
     → (is_none (level_of node request.joiner) ≡ true
-    → Q (message request.joiner (Hello (node.sessions.opened + 1) true (hello_made node request).links)))
+    → Q (message request.joiner (core_hello (node.sessions.opened + 1) (hello_made node request).links)))
     → ((left : List Slot) (target : Target) → IsAmong target (told_targets node request)
     → Q (tell_for request (node.sessions.opened + 1) left target))
     → (m : Message) → IsAmong m (pins_and_covers node request).messages → Q m
@@ -115,7 +116,7 @@ pub covers_send : (P : List ℕ → List ℕ → Body → Type 0) (node : NodeSt
     → ((to object server : List ℕ) (level version : ℕ) (on : Bool) → P (name_of node) to (Lay object server level version on))
     → P (name_of node) (answer_for request.parent).to (answer_for request.parent).body
     → (is_none (level_of node request.joiner) ≡ true
-    → P (name_of node) request.joiner (Hello (node.sessions.opened + 1) true (hello_made node request).links))
+    → P (name_of node) request.joiner (core_hello (node.sessions.opened + 1) (hello_made node request).links))
     → ((left : List Slot) (target : Target) → IsAmong target (told_targets node request)
     → P (name_of node) target.to (tell_for request (node.sessions.opened + 1) left target).body)
     → (from to : List ℕ) (body : Body) → IsSent acted.sent from to body → P from to body

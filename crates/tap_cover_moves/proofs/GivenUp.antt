@@ -11,9 +11,12 @@ use Rattle.tap_table.specs.Ties.{holders_on, off_ties}
 use Rattle.tap_table.specs.declared.tie.Tie.{Tie}
 use Rattle.tap_multicast.specs.Covers.{level_kept}
 use Rattle.tap_wire.specs.declared.frame.Body.{Body}
-use Rattle.tap_wire.specs.declared.frame.Body.TheVariants.{Done, Forget, Gone as GoneBody, Hello, Lay, Leave, Left, Link, Release, Seek}
+use Rattle.tap_wire.specs.declared.frame.Body.TheVariants.{Done, Forget, Gone as GoneBody, Link, Seek}
 use Rattle.tap_wire.specs.declared.frame.Frame.{Frame}
 use Rattle.tap_wire.specs.declared.frame.TellFields.{TellFields}
+use Rattle.tap_wire.specs.declared.kind.Kind.{Kind as FrameKind}
+use Rattle.tap_wire.specs.declared.kind.Kind.TheVariants as kind
+use Rattle.tap_wire.specs.Kind.{kind_of}
 use Rattle.tap_rule.specs.EndSteps.{EndStep, lays_at_end, words_at_end}
 use Rattle.tap_rule.specs.Event.{Acted}
 use Rattle.tap_rule.specs.Laws.{frame_to}
@@ -27,7 +30,7 @@ use Rattle.tap_safety.specs.Bookkeeping.{AreStamped, EndedHaveNoLinks, has_table
 use Rattle.tap_safety.specs.Filled.{AreFilled}
 use Rattle.tap_safety.specs.Frames.{hello_body, tell_body}
 use Rattle.tap_safety.specs.KnownLaws.{Stamps}
-use Rattle.tap_safety.specs.Notices.{IsNotice}
+use Rattle.tap_safety.specs.Notices.{IsNotice, IsNoticeKind}
 use Rattle.tap_safety.specs.SeekerSteps.{AmongSeeks, LeavesSeekers}
 use Rattle.tap_safety.specs.Seeking.{HasNode, IsSeeker}
 use Rattle.tap_safety.specs.SessionSteps.{Exchanges}
@@ -45,6 +48,8 @@ use Rattle.tap_safety.proofs.Peace.{peace_kept}
 use Rattle.tap_safety.proofs.SoftKept.{sent_each, soft_kept}
 use Rattle.tap_safety.proofs.StepLaws.{exchanged_law, gives_quiet_law, seeking_law}
 use Rattle.tap_safety.proofs.Told.{among_sent, still_under_way, told_by, was_under_way}
+use Rattle.tap_safety.proofs.Said.{Said, said}
+use Rattle.tap_safety.proofs.Said.Said.{IsHello, IsLeave, IsRelease}
 use Rattle.tap_moves.specs.ByRule.{StartsNone, TakesByRule, taken_at}
 use Rattle.tap_moves.specs.Delivered.{after_delivery}
 use Rattle.tap_moves.specs.InvariantLaws.{IsDelivery}
@@ -60,22 +65,25 @@ use Rattle.tap_cover_moves.proofs.WordsAnew.{changes_at, has_done, is_taken}
 -- ---- what is sent
 
 -- a word of a link, a Forget or a Lay
-abbrev IsFarewell : Body → Type 0
-IsFarewell (Link version on) = Unit {0}
-IsFarewell Forget = Unit {0}
-IsFarewell (Lay object server level version on) = Unit {0}
-IsFarewell _ = ⊥
+abbrev IsFarewellKind : FrameKind → Type 0
+IsFarewellKind kind.Link = Unit {0}
+IsFarewellKind kind.Forget = Unit {0}
+IsFarewellKind kind.Lay = Unit {0}
+IsFarewellKind other = ⊥
 
-farewell_sound : (s : System) (from to : List ℕ) (body : Body) → IsFarewell body → IsSoundBody s from to body
-farewell_sound s from to (Hello session core links) farewell = absurd farewell
-farewell_sound s from to Release farewell = absurd farewell
-farewell_sound s from to (Leave replacement) farewell = absurd farewell
+abbrev IsFarewell : Body → Type 0
+IsFarewell body = IsFarewellKind (kind_of body)
+
+farewell_sound : (s : System) (from to : List ℕ) {body : Body} → Said body → IsFarewell body → IsSoundBody s from to body
+farewell_sound s from to (IsHello hello) farewell = absurd farewell
+farewell_sound s from to IsRelease farewell = absurd farewell
+farewell_sound s from to (IsLeave replacement) farewell = absurd farewell
 farewell_sound s from to _ farewell = tt
 
-farewell_no_notice : (body : Body) → IsFarewell body → IsNotice body → ⊥
-farewell_no_notice (Leave replacement) farewell notice = absurd farewell
-farewell_no_notice Left farewell notice = absurd farewell
-farewell_no_notice GoneBody farewell notice = absurd farewell
+farewell_no_notice : (kind : FrameKind) → IsFarewellKind kind → IsNoticeKind kind → ⊥
+farewell_no_notice kind.Leave farewell notice = absurd farewell
+farewell_no_notice kind.Left farewell notice = absurd farewell
+farewell_no_notice kind.Gone farewell notice = absurd farewell
 farewell_no_notice _ farewell notice = absurd notice
 
 -- the words for the links that are let go have the numbers after the last one, in order
@@ -311,7 +319,7 @@ module _ (p : SettingsValue) (s : System) (number : ℕ) (node : NodeState) (fro
   names_soft : NamesSoft after
   names_soft =
       soft_kept s after cores softs (λ y t kind link. inl (link_was y t kind link)) (λ w t body under.
-      elim (was w t body under) [ inl old ↦ inl old | inr farewell ↦ inr (farewell_sound after w t body farewell) ]) is.invariant.soft
+      elim (was w t body under) [ inl old ↦ inl old | inr farewell ↦ inr (farewell_sound after w t (said body) farewell) ]) is.invariant.soft
 
   -- ---- seekers and Tells
 
@@ -490,7 +498,7 @@ given_up_peaceful p s number node from ends =
     let none = none_departs p s number node from Done is (λ never. never) in
     is_peaceful s after number (frame_to node from Done) acted.sent (is_taken p s number node from Done is) (name_of node) node acted.state
     (changes_at p s number node from Done is)
-    (λ w t body sends. farewell_no_notice body (farewells p s number node from is ends.given_up w t body sends))
+    (λ w t body sends. farewell_no_notice (kind_of body) (farewells p s number node from is ends.given_up w t body sends))
     (λ leaves. let wrong : HasCeased ≡ Leaving = sym end.status ∙ leaves in absurd (cc))
     (λ t kind link. let wrong : None ≡ Some kind = sym (end.unlinked t) ∙ link in absurd (cc)) none (peace_kept p s number none)
     is.invariant.departure is.invariant.notices

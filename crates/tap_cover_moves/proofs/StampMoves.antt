@@ -19,7 +19,7 @@ use Rattle.tap_join.specs.Seek.{sought}
 use Rattle.tap_join.specs.declared.sought.Sought.{Sought}
 use Rattle.tap_join.specs.declared.sought.Sought.TheVariants.{Forward, Surrogate}
 use Rattle.tap_wire.specs.declared.frame.Body.{Body}
-use Rattle.tap_wire.specs.declared.frame.Body.TheVariants.{Ack, Done, Forget, Heard, Hello, Link, Release, Seek, Tell}
+use Rattle.tap_wire.specs.declared.frame.Body.TheVariants.{Ack, Done, Forget, Heard, Link, Release, Seek}
 use Rattle.tap_wire.specs.declared.frame.TellFields.{TellFields}
 use Rattle.tap_rule.specs.Answers.{answer_for, answer_sends, answered, with_session}
 use Rattle.tap_rule.specs.Ceasing.{acknowledges, is_forgotten}
@@ -35,6 +35,7 @@ use Rattle.tap_rule.specs.QuietSteps.{IsQuiet}
 use Rattle.tap_rule.specs.Reaction.{Message, Reaction, message, sends, to_each, with_pin}
 use Rattle.tap_rule.specs.Sent.{IsAmong}
 use Rattle.tap_rule.specs.Strange.{is_strange}
+use Rattle.tap_rule.specs.Hellos.{joining_hello}
 use Rattle.tap_rule.proofs.Among.{among-map_from}
 use Rattle.tap_rule.proofs.CarriedOut.{frame_law, unruled_law}
 use Rattle.tap_rule.proofs.QuietSteps.{quiet_law}
@@ -45,9 +46,11 @@ use Rattle.tap_safety.specs.Frames.{HelloFields, hello_body, tell_body}
 use Rattle.tap_safety.specs.KnownLaws.{Stamps}
 use Rattle.tap_safety.specs.System.{System}
 use Rattle.tap_safety.proofs.Known.{stamps_frame}
+use Rattle.tap_safety.proofs.Said.{Said, said}
+use Rattle.tap_safety.proofs.Said.Said.{IsAck, IsDone, IsForget, IsHeard, IsHello, IsLink, IsRelease, IsSeek, IsTell}
 use Rattle.tap_moves.specs.ByRule.{taken_at}
 use Rattle.tap_moves.specs.Delivered.{after_delivery}
-use Rattle.tap_moves.specs.InvariantLaws.{IsDelivery}
+use Rattle.tap_moves.specs.InvariantLaws.{IsDelivery, IsFilledThere}
 use Rattle.tap_moves.proofs.InvariantMoves.{due, hello_names_are, joins_here, sender_name}
 use Rattle.tap_cover_moves.specs.WordMoves.{TakenStamped}
 use Rattle.tap_cover_moves.proofs.CoverMoves.{done_joiner}
@@ -209,7 +212,7 @@ meets_keeps : (node : NodeState) (from : List ℕ) (tell : TellFields) (greeted 
     × ((m : Message) → IsAmong m (cond greeted (sends (with_pin node tell.joiner) (message from (Ack tell.session) ∷ []))
     (welcomes (with_pin node tell.joiner) from tell)).messages → IsNoLink m.body)
 meets_keeps node from tell true = (refl, one_no_link from (Ack tell.session) tt)
-meets_keeps node from tell false = (refl, one_no_link tell.joiner (Hello (node.sessions.opened + 1) false []) tt)
+meets_keeps node from tell false = (refl, one_no_link tell.joiner (joining_hello (node.sessions.opened + 1)) tt)
 
 meets_stamped : (node : NodeState) (from : List ℕ) (tell : TellFields) → has_table node.status → IsStampedRule node (meets node from tell)
 meets_stamped node from tell table =
@@ -321,28 +324,26 @@ module _ (p : SettingsValue) (s : System) (number : ℕ) (node : NodeState) (fro
       let never : IsQuiet (Link version on) = subst IsQuiet same (step.sent frame among) in never))
 
 pub taken_stamped : TakenStamped
-taken_stamped p s number node from (Tell joiner prefix level session depth watch) is there =
-    let tell : TellFields = record { joiner = joiner; prefix = prefix; level = level; session = session; depth = depth } in
-    rule_after p s number node from (tell_body tell watch) is (tell_stamped node.status node from tell watch refl)
-taken_stamped p s number node from (Hello session core links) is there =
-    let hello : HelloFields = record { session = session; is_core = core; links = links } in
-    let ties = (due p s number node from (hello_body hello) is).is_node.ties in
-    rule_after p s number node from (hello_body hello) is
-    (hello_stamped node.status node from hello there there
-    (hello_tells_new (settings_of node) (name_of node) node.ties node.stamp from core links (ties, refl, refl)
-    (sender_name p s number node from (hello_body hello) is) (hello_names_are p s number node from hello is)))
-taken_stamped p s number node from (Seek joiner) is there =
-    rule_after p s number node from (Seek joiner) is (seek_stamped node.status node from joiner refl)
-taken_stamped p s number node from Done is there =
-    let joins = joins_here s node (done_joiner p s number node from is there) is.at in
-    rule_after p s number node from Done is (done_stamped node.status node from joins joins there)
-taken_stamped p s number node from Release is there =
-    rule_after p s number node from Release is (release_stamped node.status node from refl)
-taken_stamped p s number node from Forget is there = rule_after p s number node from Forget is (forget_stamped node.status node from)
-taken_stamped p s number node from (Heard session) is there =
-    rule_after p s number node from (Heard session) is (heard_stamped node.status node from session)
-taken_stamped p s number node from (Ack session) is there =
-    rule_after p s number node from (Ack session) is (ack_stamped node.status node from session)
-taken_stamped p s number node from (Link version on) is there =
-    rule_after p s number node from (Link version on) is (link_stamped node.status node from version on)
-taken_stamped p s number node from body is there = quiet_after p s number node from body is there
+taken_stamped p s number node from body is there = by_said body (said body) is there
+  where
+    by_said : (body : Body) → Said body → IsDelivery p s number node from body → IsFilledThere node body
+        → AreStamped (after_delivery p s number)
+    by_said _ (IsTell tell watch) is there =
+        rule_after p s number node from (tell_body tell watch) is (tell_stamped node.status node from tell watch refl)
+    by_said _ (IsHello hello) is there =
+        let ties = (due p s number node from (hello_body hello) is).is_node.ties in
+        rule_after p s number node from (hello_body hello) is
+        (hello_stamped node.status node from hello there there
+        (hello_tells_new (settings_of node) (name_of node) node.ties node.stamp from hello.is_core hello.links (ties, refl, refl)
+        (sender_name p s number node from (hello_body hello) is) (hello_names_are p s number node from hello is)))
+    by_said _ (IsSeek joiner) is there = rule_after p s number node from (Seek joiner) is (seek_stamped node.status node from joiner refl)
+    by_said _ IsDone is there =
+        let joins = joins_here s node (done_joiner p s number node from is there) is.at in
+        rule_after p s number node from Done is (done_stamped node.status node from joins joins there)
+    by_said _ IsRelease is there = rule_after p s number node from Release is (release_stamped node.status node from refl)
+    by_said _ IsForget is there = rule_after p s number node from Forget is (forget_stamped node.status node from)
+    by_said _ (IsHeard session) is there = rule_after p s number node from (Heard session) is (heard_stamped node.status node from session)
+    by_said _ (IsAck session) is there = rule_after p s number node from (Ack session) is (ack_stamped node.status node from session)
+    by_said _ (IsLink version on) is there =
+        rule_after p s number node from (Link version on) is (link_stamped node.status node from version on)
+    by_said body _ is there = quiet_after p s number node from body is there

@@ -20,9 +20,10 @@ use Rattle.tap_join.specs.Seek.{sought}
 use Rattle.tap_join.specs.declared.sought.Sought.{Sought}
 use Rattle.tap_join.specs.declared.sought.Sought.TheVariants.{Forward, Surrogate}
 use Rattle.tap_wire.specs.declared.frame.Body.{Body}
-use Rattle.tap_wire.specs.declared.frame.Body.TheVariants.{Ack, Done, Forget, Heard, Hello, Link, Release, Seek, Tell}
+use Rattle.tap_wire.specs.declared.frame.Body.TheVariants.{Ack, Done, Forget, Heard, Link, Release, Seek}
 use Rattle.tap_wire.specs.declared.frame.Frame.{Frame}
 use Rattle.tap_wire.specs.declared.frame.TellFields.{TellFields}
+use Rattle.tap_wire.specs.Kind.{kind_of}
 use Rattle.tap_rule.specs.Answers.{answer_sends, answered}
 use Rattle.tap_rule.specs.Ceasing.{is_forgotten}
 use Rattle.tap_rule.specs.Covering.{first_request, request_of}
@@ -44,20 +45,22 @@ use Rattle.tap_rule.proofs.JoinSteps.{tell_fits}
 use Rattle.tap_rule.proofs.LinkSteps.{forget_law, release_law}
 use Rattle.tap_rule.proofs.QuietSteps.{quiet_law}
 use Rattle.tap_safety.specs.Bookkeeping.{has_table}
-use Rattle.tap_safety.specs.Frames.{tell_body}
+use Rattle.tap_safety.specs.Frames.{tell_body, hello_body}
 use Rattle.tap_safety.specs.Remembered.{Word}
 use Rattle.tap_safety.specs.Step.{IsSent}
 use Rattle.tap_safety.specs.System.{System}
 use Rattle.tap_safety.specs.Ties.{hears_words}
 use Rattle.tap_safety.proofs.LinkKeeps.{status_at}
+use Rattle.tap_safety.proofs.Said.{Said, said}
+use Rattle.tap_safety.proofs.Said.Said.{IsAck, IsDone, IsForget, IsHeard, IsHello, IsLink, IsRelease, IsSeek, IsTell}
 use Rattle.tap_moves.specs.ByRule.{taken_at}
 use Rattle.tap_moves.specs.Delivered.{after_delivery}
-use Rattle.tap_moves.specs.InvariantLaws.{IsDelivery}
+use Rattle.tap_moves.specs.InvariantLaws.{IsDelivery, IsFilledThere}
 use Rattle.tap_moves.specs.TiesLaws.{WordsStand}
 use Rattle.tap_moves.proofs.InvariantMoves.{due, frame_says, joins_here, link_ties, sender_name, way}
 use Rattle.tap_moves.proofs.LinkMade.{link_is_made}
 use Rattle.tap_moves.proofs.MovesMade.{by_rule}
-use Rattle.tap_moves.proofs.WordsMade.{IsAside}
+use Rattle.tap_moves.proofs.WordsMade.{IsAside, quiet_aside}
 use Rattle.tap_cover_moves.specs.WordMoves.{TakenWords}
 use Rattle.tap_cover_moves.proofs.CoverMoves.{done_joiner, done_step, seek_carried, seek_name, tell_carried, tell_step}
 use Rattle.tap_cover_moves.proofs.Freed.{FreesPin, IsLayBody, freed_stand}
@@ -174,12 +177,6 @@ quiet_no_word : (body : Body) → IsQuiet body → IsNoWord body
 quiet_no_word (Link version on) quiet = absurd quiet
 quiet_no_word Forget quiet = absurd quiet
 quiet_no_word _ quiet = tt
-
-quiet_aside : (body : Body) → IsQuiet body → IsAside body
-quiet_aside (Link version on) quiet = absurd quiet
-quiet_aside Release quiet = absurd quiet
-quiet_aside Forget quiet = absurd quiet
-quiet_aside _ quiet = tt
 
 quiet_silent : (node : NodeState) (from : List ℕ) (body : Body) → IsQuiet body → SaysNothing node (taken_at node from body)
 quiet_silent node from body quiet =
@@ -434,29 +431,29 @@ module _ (p : SettingsValue) (s : System) (number : ℕ) (node : NodeState) (fro
       done_stand p s number node from is (joins_here s node joiner is.at) (done_step p s number node from is joined)
 
 pub taken_words : TakenWords
-taken_words p s number node from (Tell joiner prefix level session depth watch) is there =
-    let tell : TellFields = record { joiner = joiner; prefix = prefix; level = level; session = session; depth = depth } in
-    tell_words p s number node from tell watch is there
-taken_words p s number node from (Hello session core links) is there = frame_says p s number node from (Hello session core links) is there
-taken_words p s number node from (Seek joiner) is there =
-    seek_words p s number node from joiner is there (sought node.ties.table joiner) refl
-taken_words p s number node from Done is there = done_words p s number node from is there
-taken_words p s number node from Release is there =
-    let here = due p s number node from Release is in
-    release_words p s number node from is there
-    (release_law node from here.is_node.ties (sender_name p s number node from Release is) there is.known)
-taken_words p s number node from Forget is there =
-    let here = due p s number node from Forget is in
-    forget_words p s number node from is
-    (forget_law node from here.is_node.ties (sender_name p s number node from Forget is) there is.known)
-taken_words p s number node from (Heard session) is there =
-    silent_words p s number node from (Heard session) is
-    (silent_by node from (Heard session) is.known (heard_silent node.status node from session)) tt
-taken_words p s number node from (Ack session) is there =
-    silent_words p s number node from (Ack session) is
-    (silent_by node from (Ack session) is.known (ack_silent node.status node from session)) tt
-taken_words p s number node from (Link version on) is there =
-    let word : Word = record { version = version; on = on } in
-    link_words p s number node from word is node.status refl
-taken_words p s number node from body is there =
-    silent_words p s number node from body is (quiet_silent node from body there) (quiet_aside body there)
+taken_words p s number node from body is there = by_said body (said body) is there
+  where
+    by_said : (body : Body) → Said body → IsDelivery p s number node from body → IsFilledThere node body
+        → WordsStand (after_delivery p s number)
+    by_said _ (IsTell tell watch) is there = tell_words p s number node from tell watch is there
+    by_said _ (IsHello hello) is there = frame_says p s number node from (hello_body hello) is there
+    by_said _ (IsSeek joiner) is there = seek_words p s number node from joiner is there (sought node.ties.table joiner) refl
+    by_said _ IsDone is there = done_words p s number node from is there
+    by_said _ IsRelease is there =
+        let here = due p s number node from Release is in
+        release_words p s number node from is there
+        (release_law node from here.is_node.ties (sender_name p s number node from Release is) there is.known)
+    by_said _ IsForget is there =
+        let here = due p s number node from Forget is in
+        forget_words p s number node from is
+        (forget_law node from here.is_node.ties (sender_name p s number node from Forget is) there is.known)
+    by_said _ (IsHeard session) is there =
+        silent_words p s number node from (Heard session) is
+        (silent_by node from (Heard session) is.known (heard_silent node.status node from session)) tt
+    by_said _ (IsAck session) is there =
+        silent_words p s number node from (Ack session) is
+        (silent_by node from (Ack session) is.known (ack_silent node.status node from session)) tt
+    by_said _ (IsLink version on) is there =
+        let word : Word = record { version = version; on = on } in
+        link_words p s number node from word is node.status refl
+    by_said body _ is there = silent_words p s number node from body is (quiet_silent node from body there) (quiet_aside (kind_of body) there)

@@ -459,13 +459,10 @@ none_deeper s s' sent never = record {
 calm_taken : (node : NodeState) {body : Body} → Said body → IsCalmThere node body → IsTakenThere node body
 calm_taken node (IsTell tell watch) there = inr there
 calm_taken node (IsHello hello) there = there
-calm_taken node (IsHeard session) there = tt
-calm_taken node (IsAck session) there = tt
 calm_taken node (IsSeek joiner) there = there.0
 calm_taken node IsDone there = tt
 calm_taken node IsRelease there = tt
 calm_taken node IsForget there = tt
-calm_taken node (IsLink version on) there = tt
 calm_taken node _ there = there
 
 pub calm_deeper : (p : SettingsValue) (s : System) (number : ℕ) (node : NodeState) (from : List ℕ) (body : Body)

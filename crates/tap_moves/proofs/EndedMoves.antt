@@ -9,7 +9,7 @@ use Rattle.tap_join.specs.Seek.{sought}
 use Rattle.tap_join.specs.declared.sought.Sought.{Sought}
 use Rattle.tap_join.specs.declared.sought.Sought.TheVariants.{Forward, Surrogate}
 use Rattle.tap_wire.specs.declared.frame.Body.{Body}
-use Rattle.tap_wire.specs.declared.frame.Body.TheVariants.{Ack, Done, Forget, Heard, Link, Release, Seek}
+use Rattle.tap_wire.specs.declared.frame.Body.TheVariants.{Done, Forget, Release, Seek}
 use Rattle.tap_wire.specs.declared.frame.TellFields.{TellFields}
 use Rattle.tap_rule.specs.Ceasing.{acknowledges}
 use Rattle.tap_rule.specs.Event.{Acted}
@@ -29,7 +29,7 @@ use Rattle.tap_safety.specs.Ties.{status_of}
 use Rattle.tap_safety.proofs.Known.{ended_kept}
 use Rattle.tap_safety.proofs.Moves.{delivers, found}
 use Rattle.tap_safety.proofs.Said.{Said, said}
-use Rattle.tap_safety.proofs.Said.Said.{IsAck, IsDone, IsForget, IsHeard, IsHello, IsLink, IsRelease, IsSeek, IsTell}
+use Rattle.tap_safety.proofs.Said.Said.{IsDone, IsForget, IsHello, IsRelease, IsSeek, IsTell}
 use Rattle.tap_moves.specs.ByRule.{taken_at}
 use Rattle.tap_moves.specs.Delivered.{after_delivery}
 use Rattle.tap_moves.specs.FrameLaws.{IsPlain}
@@ -133,9 +133,6 @@ frame_ended p s number node from body is there = by_said body (said body) is the
         let here = due p s number node from Forget is in
         goes_on p s number node from Forget is
         (forget_law node from here.is_node.ties (sender_name p s number node from Forget is) there is.known).joins.status there
-    by_said _ (IsHeard session) is there = plain_ended p s number node from (Heard session) is tt
-    by_said _ (IsAck session) is there = plain_ended p s number node from (Ack session) is tt
-    by_said _ (IsLink version on) is there = plain_ended p s number node from (Link version on) is tt
     by_said _ IsDone is there =
         let joiner = is.invariant.of_joiners.dones from (name_of node) (way p s number node from Done is) in
         let step = done_law node from (joins_here s node joiner is.at) there is.known in

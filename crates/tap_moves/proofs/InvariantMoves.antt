@@ -309,9 +309,6 @@ frame_fills p s number node from body is filled there = by_said body (said body)
     by_said _ IsForget is filled there =
         forget_keeps p s number node from (due p s number node from Forget is) there (sender_name p s number node from Forget is)
         is.invariant.ceased filled
-    by_said _ (IsHeard session) is filled there = plain_fills p s number node from (Heard session) is filled tt
-    by_said _ (IsAck session) is filled there = plain_fills p s number node from (Ack session) is filled tt
-    by_said _ (IsLink version on) is filled there = plain_fills p s number node from (Link version on) is filled tt
     by_said body _ is filled there = plain_fills p s number node from body is filled there
 
 -- ---- Link

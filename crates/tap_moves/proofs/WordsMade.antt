@@ -199,7 +199,7 @@ says_no_more frame after messages aside each = record {
   no_forget = λ m among is. let never : IsAside Forget = subst IsAside is (each m among) in never;
 }
 
-quiet_aside : (kind : FrameKind) → IsQuietKind kind → IsAsideKind kind
+pub quiet_aside : (kind : FrameKind) → IsQuietKind kind → IsAsideKind kind
 quiet_aside kind.Link quiet = absurd quiet
 quiet_aside kind.Release quiet = absurd quiet
 quiet_aside kind.Forget quiet = absurd quiet
