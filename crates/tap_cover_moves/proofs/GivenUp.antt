@@ -11,7 +11,7 @@ use Rattle.tap_table.specs.Ties.{holders_on, off_ties}
 use Rattle.tap_table.specs.declared.tie.Tie.{Tie}
 use Rattle.tap_multicast.specs.Covers.{level_kept}
 use Rattle.tap_wire.specs.declared.frame.Body.{Body}
-use Rattle.tap_wire.specs.declared.frame.Body.TheVariants.{Done, Forget, Gone as GoneBody, Link, Seek}
+use Rattle.tap_wire.specs.declared.frame.Body.TheVariants.{Done, Forget, Link, Seek}
 use Rattle.tap_wire.specs.declared.frame.Frame.{Frame}
 use Rattle.tap_wire.specs.declared.frame.TellFields.{TellFields}
 use Rattle.tap_wire.specs.declared.kind.Kind.{Kind as FrameKind}
@@ -30,7 +30,7 @@ use Rattle.tap_safety.specs.Bookkeeping.{AreStamped, EndedHaveNoLinks, has_table
 use Rattle.tap_safety.specs.Filled.{AreFilled}
 use Rattle.tap_safety.specs.Frames.{hello_body, tell_body}
 use Rattle.tap_safety.specs.KnownLaws.{Stamps}
-use Rattle.tap_safety.specs.Notices.{IsNotice, IsNoticeKind}
+use Rattle.tap_safety.specs.Notices.{IsNoticeKind}
 use Rattle.tap_safety.specs.SeekerSteps.{AmongSeeks, LeavesSeekers}
 use Rattle.tap_safety.specs.Seeking.{HasNode, IsSeeker}
 use Rattle.tap_safety.specs.SessionSteps.{Exchanges}

@@ -19,9 +19,8 @@ use Rattle.tap_table.proofs.Found.{linked_is_other}
 use Rattle.tap_table.proofs.HoldersFound.{on_exactly}
 use Rattle.tap_wire.specs.Spelling.{IsFrame}
 use Rattle.tap_wire.specs.declared.frame.Body.{Body}
-use Rattle.tap_wire.specs.declared.frame.Body.TheVariants.{Find, Hello, Leave, Seek, Tell}
+use Rattle.tap_wire.specs.declared.frame.Body.TheVariants.{Find, Leave, Seek}
 use Rattle.tap_wire.specs.declared.frame.Frame.{Frame}
-use Rattle.tap_wire.specs.declared.frame.TellFields.{TellFields}
 use Rattle.tap_rule.specs.Act.{act}
 use Rattle.tap_rule.specs.Event.{Acted, Start}
 use Rattle.tap_rule.specs.Event.Event.{Starts, Takes}
@@ -53,6 +52,8 @@ use Rattle.tap_safety.specs.Turned.{opened_by, seated, surrogates_with}
 use Rattle.tap_safety.proofs.Known.{ends_frame, ends_start}
 use Rattle.tap_safety.proofs.LinkKeeps.{some_state}
 use Rattle.tap_safety.proofs.Moves.{delivers, found, starts, with_at-others}
+use Rattle.tap_safety.proofs.Said.{Said, said}
+use Rattle.tap_safety.proofs.Said.Said.{IsFind, IsHello, IsLeave, IsSeek, IsTell}
 use Rattle.tap_moves.specs.Delivered.{after_delivery, after_start}
 use Rattle.tap_moves.specs.Spelled.{AreNodes, IsNodeOf}
 use Rattle.tap_moves.proofs.Exchanged.{exchanges, in_either, sent_numbered}
@@ -224,22 +225,20 @@ module _ (p : SettingsValue) (s : System) (inv : Basis p s) (nodes : AreNodes p 
           far,
         )
 
-    names_known : (body : Body) → AmongFrames number (record { from = from; to = x; body = body }) s.frames
+    names_known : {body : Body} → Said body → AmongFrames number (record { from = from; to = x; body = body }) s.frames
         → is_strange node (frame_to node from body) ≡ false → IsFrame p (record { from = from; to = x; body = body })
         → Names P Q node body
-    names_known (Seek b) among known fields =
+    names_known (IsSeek b) among known fields =
         let seeker = inv.seekers.seeks from x b (record { number = number; among = among }) in
         let fit = (fit_law node (frame_to node from (Seek b)) of.is_node.ties).0 known in
         (record { state = seeker.state; is = seeker.is }, fit.body.apart)
-    names_known (Tell b prefix level session depth watch) among known fields =
-        let tell : TellFields = record { joiner = b; prefix = prefix; level = level; session = session; depth = depth } in
+    names_known (IsTell tell watch) among known fields =
         let sound = inv.tells.each from x tell watch (record { number = number; among = among }) in
         let joins = sound.joiner in
         let fit = (fit_law node (frame_to node from (tell_body tell watch)) of.is_node.ties).0 known in
         (record { state = joins.state; is = joins.is }, fit.body.apart)
-    names_known (Hello session core links) among known fields =
-        hello_known (record { session = session; is_core = core; links = links }) among
-    names_known (Leave replacement) among known fields =
+    names_known (IsHello hello) among known fields = hello_known hello among
+    names_known (IsLeave replacement) among known fields =
         λ name given apart. (
           core_node s name (inv.soft.leaves from x name (record {
             number = number;
@@ -248,7 +247,7 @@ module _ (p : SettingsValue) (s : System) (inv : Basis p s) (nodes : AreNodes p 
           })),
           apart,
         )
-    names_known (Find ticket object asker level) among known fields =
+    names_known (IsFind {ticket = ticket} {object = object} {asker = asker} {level = level}) among known fields =
         find_known ticket object asker level among fields.body.2.1
     names_known _ among known fields = tt
 
@@ -264,7 +263,7 @@ module _ (p : SettingsValue) (s : System) (inv : Basis p s) (nodes : AreNodes p 
       taken_sends P Q node of.is_node casts_known frame here (λ known.
       let there : is_strange node (frame_to node from body) ≡ false = known in
       frame_sends P Q node of.is_node links_known holders_known parents_known casts_known laid_known from here.sender sender node.status
-      refl body here.body (names_known number from sender body among there fields) there)
+      refl body here.body (names_known number from sender (said body) among there fields) there)
 
   pub start_step : (start : Start) → IsStart (settings_of node) start → StartNames P Q node start
       → StepSends P Q node of.is_node (act node (Starts start))

@@ -15,7 +15,7 @@ use Rattle.tap_join.specs.declared.sought.Sought.{Sought}
 use Rattle.tap_join.specs.declared.sought.Sought.TheVariants.{Forward, Surrogate}
 use Rattle.tap_join.proofs.Seeking.{surrogate_is}
 use Rattle.tap_wire.specs.declared.frame.Body.{Body}
-use Rattle.tap_wire.specs.declared.frame.Body.TheVariants.{Ack, Done, Forget, Heard, Hello, Link, Release, Seek, Tell}
+use Rattle.tap_wire.specs.declared.frame.Body.TheVariants.{Ack, Done, Forget, Heard, Link, Release, Seek}
 use Rattle.tap_wire.specs.declared.frame.Frame.{Frame}
 use Rattle.tap_wire.specs.declared.frame.TellFields.{TellFields}
 use Rattle.tap_rule.specs.Act.{act}
@@ -53,10 +53,12 @@ use Rattle.tap_safety.proofs.JoinsKept.{one_session}
 use Rattle.tap_safety.proofs.Moves.{starts}
 use Rattle.tap_safety.proofs.Rest.{rest_holds}
 use Rattle.tap_safety.proofs.StepLaws.{closing_turns_law, handing_on_turns_law, last_turns_law}
+use Rattle.tap_safety.proofs.Said.{Said, said}
+use Rattle.tap_safety.proofs.Said.Said.{IsAck, IsDone, IsForget, IsHeard, IsHello, IsLink, IsRelease, IsSeek, IsTell}
 use Rattle.tap_moves.specs.ByRule.{taken_at}
 use Rattle.tap_moves.specs.Delivered.{after_delivery, after_start}
 use Rattle.tap_moves.specs.InSession.{OpensOrAnswers}
-use Rattle.tap_moves.specs.InvariantLaws.{IsDelivery}
+use Rattle.tap_moves.specs.InvariantLaws.{IsDelivery, IsTakenThere}
 use Rattle.tap_moves.specs.Laws.{IsAnew}
 use Rattle.tap_moves.specs.SessionsLaws.{IsOutside, sent_at}
 use Rattle.tap_moves.proofs.AnswersMade.{AnswerIsTaken, IsAnswered, ack_is_taken, heard_is_taken}
@@ -509,21 +511,20 @@ module _ (p : SettingsValue) (s : System) (number : ℕ) (node : NodeState) (fro
   seek_few b is at (Surrogate prefix) found few = seat_few b prefix is at found few
 
 pub frame_few : FrameFew
-frame_few p s number node from (Tell joiner prefix level session depth watch) is there few =
-    let tell : TellFields = record { joiner = joiner; prefix = prefix; level = level; session = session; depth = depth } in
-    tell_keeps p s number node from tell watch is there few
-frame_few p s number node from (Hello session core links) is there few =
-    hello_few p s number node from (record { session = session; is_core = core; links = links }) is there few
-frame_few p s number node from (Heard session) is there few =
-    answer_few p s number node from Heard heard_law heard_is_taken session is few
-frame_few p s number node from (Ack session) is there few = answer_few p s number node from Ack ack_law ack_is_taken session is few
-frame_few p s number node from (Seek joiner) is there few =
-    seek_few p s number node from joiner is there (sought node.ties.table joiner) refl few
-frame_few p s number node from Done is there few = done_few p s number node from is few
-frame_few p s number node from Release is there few = outside_few p s number node from Release is there tt few
-frame_few p s number node from Forget is there few = outside_few p s number node from Forget is there tt few
-frame_few p s number node from (Link version on) is there few = outside_few p s number node from (Link version on) is there tt few
-frame_few p s number node from body is there few = outside_few p s number node from body is there (quiet_no_done body there) few
+frame_few p s number node from body is there few = by_said body (said body) is there few
+  where
+    by_said : (body : Body) → Said body → IsDelivery p s number node from body → IsTakenThere node body → SessionsAreFew p s
+        → SessionsAreFew p (after_delivery p s number)
+    by_said _ (IsTell tell watch) is there few = tell_keeps p s number node from tell watch is there few
+    by_said _ (IsHello hello) is there few = hello_few p s number node from hello is there few
+    by_said _ (IsHeard session) is there few = answer_few p s number node from Heard heard_law heard_is_taken session is few
+    by_said _ (IsAck session) is there few = answer_few p s number node from Ack ack_law ack_is_taken session is few
+    by_said _ (IsSeek joiner) is there few = seek_few p s number node from joiner is there (sought node.ties.table joiner) refl few
+    by_said _ IsDone is there few = done_few p s number node from is few
+    by_said _ IsRelease is there few = outside_few p s number node from Release is there tt few
+    by_said _ IsForget is there few = outside_few p s number node from Forget is there tt few
+    by_said _ (IsLink version on) is there few = outside_few p s number node from (Link version on) is there tt few
+    by_said body _ is there few = outside_few p s number node from body is there (quiet_no_done body there) few
 
 -- ---- starts
 

@@ -11,7 +11,7 @@ use Rattle.tap_join.specs.Seek.{sought}
 use Rattle.tap_join.specs.declared.sought.Sought.{Sought}
 use Rattle.tap_join.specs.declared.sought.Sought.TheVariants.{Forward, Surrogate}
 use Rattle.tap_wire.specs.declared.frame.Body.{Body}
-use Rattle.tap_wire.specs.declared.frame.Body.TheVariants.{Ack, Done, Forget, Heard, Hello, Link, Release, Seek, Tell}
+use Rattle.tap_wire.specs.declared.frame.Body.TheVariants.{Ack, Done, Forget, Heard, Link, Release, Seek}
 use Rattle.tap_wire.specs.declared.frame.Frame.{Frame}
 use Rattle.tap_wire.specs.declared.frame.TellFields.{TellFields}
 use Rattle.tap_rule.specs.Ceasing.{acknowledges}
@@ -51,10 +51,12 @@ use Rattle.tap_safety.proofs.Moves.{with_at-here, with_at-others}
 use Rattle.tap_safety.proofs.SoftKept.{sent_each}
 use Rattle.tap_safety.proofs.StepLaws.{joins_closing_law, joins_handing_on_law, joins_last_law, joins_opening_law, joins_root_law}
 use Rattle.tap_safety.proofs.TellKeeps.{joiner_after, joiner_before}
+use Rattle.tap_safety.proofs.Said.{Said, said}
+use Rattle.tap_safety.proofs.Said.Said.{IsAck, IsDone, IsForget, IsHeard, IsHello, IsLink, IsRelease, IsSeek, IsTell}
 use Rattle.tap_moves.specs.ByRule.{StartsNone, taken_at}
 use Rattle.tap_moves.specs.Delivered.{IsArriving, after_delivery}
 use Rattle.tap_moves.specs.InSession.{OpensNext, OpensOrAnswers}
-use Rattle.tap_moves.specs.InvariantLaws.{IsDelivery}
+use Rattle.tap_moves.specs.InvariantLaws.{IsDelivery, IsTakenThere}
 use Rattle.tap_moves.specs.SessionsLaws.{IsOutside, sent_at}
 use Rattle.tap_moves.proofs.AnswersMade.{AnswerIsTaken, IsAnswered, ack_is_taken, heard_is_taken}
 use Rattle.tap_moves.proofs.Exchanged.{exchanges, sent_numbered}
@@ -92,7 +94,7 @@ about_one s s' sent b w k session sends is joiner asks m f y n o c among belongs
     let there : IsOpen s' y n session = rw (place.0, place.1) is in
     let same = one_session s' y n o session held there in
     let for_b = sends f.from f.to f.body (sent_numbered m f s.next sent among) in
-    let mine = about_is b f.from f.to f.body c for_b of in
+    let mine = about_is b f.from f.to (said f.body) c for_b of in
     ap (λ (a : OpenSession). a.joiner) same ∙ joiner ∙ sym mine
 
 -- ---- a session that awaits an answer in place of the frame
@@ -626,28 +628,29 @@ module _ (p : SettingsValue) (s : System) (number : ℕ) (node : NodeState) (fro
       seat_joins p s number node from b prefix is at found (seated_status node b (taken_at node from (Seek b)) prefix step)
 
 pub frame_joins : FrameJoins
-frame_joins p s number node from (Tell joiner prefix level session depth watch) is there =
-    let tell : TellFields = record { joiner = joiner; prefix = prefix; level = level; session = session; depth = depth } in
-    from_keeps p s number node from (tell_body tell watch) is (tell_keeps p s number node from tell watch is there)
-frame_joins p s number node from (Hello session core links) is there =
-    let hello : HelloFields = record { session = session; is_core = core; links = links } in
-    from_keeps p s number node from (hello_body hello) is (hello_keeps p s number node from hello is there)
-frame_joins p s number node from (Heard session) is there =
-    from_keeps p s number node from (Heard session) is (answer_keeps p s number node from Heard heard_law heard_is_taken session is)
-frame_joins p s number node from (Ack session) is there =
-    from_keeps p s number node from (Ack session) is (answer_keeps p s number node from Ack ack_law ack_is_taken session is)
-frame_joins p s number node from (Seek joiner) is there =
-    seek_joins p s number node from joiner is there (sought node.ties.table joiner) refl
-frame_joins p s number node from Done is there = done_keeps p s number node from is
-frame_joins p s number node from Release is there =
-    from_keeps p s number node from Release is
-    (outside_keeps p s number node from Release is there tt (λ done. let wrong : Release ≡ Done = done in cc))
-frame_joins p s number node from Forget is there =
-    from_keeps p s number node from Forget is
-    (outside_keeps p s number node from Forget is there tt (λ done. let wrong : Forget ≡ Done = done in cc))
-frame_joins p s number node from (Link version on) is there =
-    from_keeps p s number node from (Link version on) is
-    (outside_keeps p s number node from (Link version on) is there tt (λ done. let wrong : Link version on ≡ Done = done in cc))
-frame_joins p s number node from body is there =
-    from_keeps p s number node from body is
-    (outside_keeps p s number node from body is there (quiet_no_done body there) (λ done. subst IsQuiet done there))
+frame_joins p s number node from body is there = by_said body (said body) is there
+  where
+    by_said : (body : Body) → Said body → IsDelivery p s number node from body → IsTakenThere node body
+        → HaveJoiners (after_delivery p s number)
+    by_said _ (IsTell tell watch) is there =
+        from_keeps p s number node from (tell_body tell watch) is (tell_keeps p s number node from tell watch is there)
+    by_said _ (IsHello hello) is there =
+        from_keeps p s number node from (hello_body hello) is (hello_keeps p s number node from hello is there)
+    by_said _ (IsHeard session) is there =
+        from_keeps p s number node from (Heard session) is (answer_keeps p s number node from Heard heard_law heard_is_taken session is)
+    by_said _ (IsAck session) is there =
+        from_keeps p s number node from (Ack session) is (answer_keeps p s number node from Ack ack_law ack_is_taken session is)
+    by_said _ (IsSeek joiner) is there = seek_joins p s number node from joiner is there (sought node.ties.table joiner) refl
+    by_said _ IsDone is there = done_keeps p s number node from is
+    by_said _ IsRelease is there =
+        from_keeps p s number node from Release is
+        (outside_keeps p s number node from Release is there tt (λ done. let wrong : Release ≡ Done = done in cc))
+    by_said _ IsForget is there =
+        from_keeps p s number node from Forget is
+        (outside_keeps p s number node from Forget is there tt (λ done. let wrong : Forget ≡ Done = done in cc))
+    by_said _ (IsLink version on) is there =
+        from_keeps p s number node from (Link version on) is
+        (outside_keeps p s number node from (Link version on) is there tt (λ done. let wrong : Link version on ≡ Done = done in cc))
+    by_said body _ is there =
+        from_keeps p s number node from body is
+        (outside_keeps p s number node from body is there (quiet_no_done body there) (λ done. subst IsQuiet done there))

@@ -1,11 +1,11 @@
 -- What the notices of a departure keep of the sessions of joins: they belong to none, and end no join.
-use Rattle.std.proofs.Common.{◌≡◌, ◌⊎◌, ◌==◌, ℕ, Bool, true, false, cond, List, [], ◌∷◌, length, Option, None, Some, arith, ap, refl, sym, subst, ◌∙◌, inl, inr}
+use Rattle.std.proofs.Common.{◌≡◌, ◌⊎◌, ◌==◌, ℕ, Bool, true, false, cond, List, [], length, Option, None, Some, arith, ap, refl, sym, subst, ◌∙◌, inl, inr}
 use Rattle.tap_name.specs.Settings.{SettingsValue}
 use Rattle.tap_session.specs.Session.{SessionsValue}
 use Rattle.tap_depart.specs.Leaving.{names_but}
 use Rattle.tap_table.specs.Ties.{holders_on}
 use Rattle.tap_wire.specs.declared.frame.Body.{Body}
-use Rattle.tap_wire.specs.declared.frame.Body.TheVariants.{Ack, Done, Gone as GoneBody, Heard, Hello, Leave, Left, Tell}
+use Rattle.tap_wire.specs.declared.frame.Body.TheVariants.{Ack, Done, Gone as GoneBody, Heard, Leave, Left}
 use Rattle.tap_wire.specs.declared.frame.Frame.{Frame}
 use Rattle.tap_rule.specs.FrameRules.{frame_at_ceased, frame_at_core, frame_at_joining, frame_at_leaving, rule_of_frame}
 use Rattle.tap_rule.specs.Laws.{frame_to}
@@ -14,21 +14,22 @@ use Rattle.tap_rule.specs.Event.{Acted}
 use Rattle.tap_rule.specs.Node.{NodeState, Status, name_of}
 use Rattle.tap_rule.specs.Node.Status.{Ceased, Core, Gone, Joining, Leaving}
 use Rattle.tap_rule.specs.Reaction.{Message, Reaction, message, sends, to_each}
-use Rattle.tap_rule.specs.Sending.{message_frame}
 use Rattle.tap_rule.specs.Sent.{IsAmong}
 use Rattle.tap_rule.specs.Strange.{is_strange}
 use Rattle.tap_rule.proofs.Among.{among-map_from}
 use Rattle.tap_rule.proofs.CarriedOut.{frame_law, unruled_law}
 use Rattle.tap_safety.specs.Bookkeeping.{holds_sessions}
-use Rattle.tap_safety.specs.FewSessions.{IsOpenOf, SessionsAreFew}
+use Rattle.tap_safety.specs.FewSessions.{SessionsAreFew}
 use Rattle.tap_safety.specs.Joins.{JoinersStay}
 use Rattle.tap_safety.specs.Notices.{IsNotice}
 use Rattle.tap_safety.specs.SessionSteps.{LeavesSessions}
 use Rattle.tap_safety.specs.Sessions.{Belongs, session_named}
 use Rattle.tap_safety.specs.Step.{IsSent}
-use Rattle.tap_safety.specs.System.{System, IsJoiner}
+use Rattle.tap_safety.specs.System.{System}
 use Rattle.tap_safety.specs.Turned.{closed_by}
 use Rattle.tap_safety.proofs.FewSessions.{few_sessions_kept}
+use Rattle.tap_safety.proofs.Said.{Said, said}
+use Rattle.tap_safety.proofs.Said.Said.{IsAck, IsHeard, IsHello, IsTell}
 use Rattle.tap_moves.specs.ByRule.{taken_at}
 use Rattle.tap_moves.specs.Delivered.{after_delivery}
 use Rattle.tap_moves.specs.InvariantLaws.{IsDelivery}
@@ -43,12 +44,12 @@ use Rattle.tap_session_moves.proofs.JoinMoves.{IsNoDone, dones_stay, joiners_sta
 use Rattle.tap_session_moves.proofs.LeavesJoins.{joins_others_law}
 
 -- a notice is of no session, closes none, and is no Done
-notice_named : (body : Body) (from to : List ℕ) → IsNotice body → ◌≡◌ {A = Option (List ℕ × ℕ)} (session_named body from to) None
-notice_named (Tell joiner prefix level session depth watch) from to is = absurd is
-notice_named (Hello session core links) from to is = absurd is
-notice_named (Heard session) from to is = absurd is
-notice_named (Ack session) from to is = absurd is
-notice_named other from to is = refl
+notice_named : {body : Body} → Said body → (from to : List ℕ) → IsNotice body → ◌≡◌ {A = Option (List ℕ × ℕ)} (session_named body from to) None
+notice_named (IsTell tell watch) from to is = absurd is
+notice_named (IsHello hello) from to is = absurd is
+notice_named (IsHeard session) from to is = absurd is
+notice_named (IsAck session) from to is = absurd is
+notice_named _ from to is = refl
 
 notice_closes : (body : Body) (after : NodeState) → IsNotice body → closed_by body after ≡ None
 notice_closes (Heard session) after is = absurd is
@@ -153,7 +154,7 @@ takes_notice node from body known is = step (rule_of_frame node.status node from
           };
           aside = λ f y k among belongs.
               let found = sent_in (name_of node) r.words r.messages (taken_at node from body).sent carried.sent f y k among belongs in
-              let none = notice_named found.0.body (name_of node) found.0.to (by.1 found.0 found.1) in
+              let none = notice_named (said found.0.body) (name_of node) found.0.to (by.1 found.0 found.1) in
               let wrong : ◌≡◌ {A = Option (List ℕ × ℕ)} None (Some (y, k)) = sym none ∙ found.2 in
               absurd (cc);
           sent =
@@ -173,7 +174,7 @@ module _ (p : SettingsValue) (s : System) (number : ℕ) (node : NodeState) (fro
   leaves =
       let here = due p s number node from body is in
       leaves_sessions s after number node from body (before_taking p s is.invariant) (by_rule p s number node from body here)
-      (remembers p s number node from body here) taken.state.opened (notice_named body from (name_of node) notice)
+      (remembers p s number node from body here) taken.state.opened (notice_named (said body) from (name_of node) notice)
       (notice_closes body (taken_at node from body).state notice) taken.aside
 
   -- a leaving node, and one that is gone, is no joiner

@@ -15,9 +15,12 @@ use Rattle.tap_join.specs.Hello.{words_of}
 use Rattle.tap_join.specs.Seek.{sought}
 use Rattle.tap_join.specs.declared.sought.Sought.TheVariants.{Surrogate}
 use Rattle.tap_wire.specs.declared.frame.Body.{Body}
-use Rattle.tap_wire.specs.declared.frame.Body.TheVariants.{Ack, Done, Heard, Hello, Seek, Tell}
+use Rattle.tap_wire.specs.declared.frame.Body.TheVariants.{Ack, Done, Heard, Seek, Tell}
 use Rattle.tap_wire.specs.declared.frame.Frame.{Frame}
 use Rattle.tap_wire.specs.declared.frame.TellFields.{TellFields}
+use Rattle.tap_wire.specs.declared.kind.Kind.{Kind}
+use Rattle.tap_wire.specs.declared.kind.Kind.TheVariants as kind
+use Rattle.tap_wire.specs.Kind.{kind_of}
 use Rattle.tap_rule.specs.Answers.{answer_for, answer_sends, with_session}
 use Rattle.tap_rule.specs.Ceasing.{acknowledges}
 use Rattle.tap_rule.specs.Completed.{SendsAt}
@@ -34,6 +37,7 @@ use Rattle.tap_rule.specs.Sending.{by_receiver, lay_frame, message_frame}
 use Rattle.tap_rule.specs.Sent.{AreSent, IsAmong}
 use Rattle.tap_rule.specs.Steps.{AnswerStep}
 use Rattle.tap_rule.specs.Strange.{is_strange}
+use Rattle.tap_rule.specs.Hellos.{core_hello, joining_hello}
 use Rattle.tap_rule.proofs.Among.{among-either, among-map_from}
 use Rattle.tap_rule.proofs.AnswerSteps.{other_number}
 use Rattle.tap_rule.proofs.CarriedOut.{frame_law}
@@ -42,30 +46,35 @@ use Rattle.tap_safety.specs.Frames.{HelloFields, hello_body, tell_body}
 use Rattle.tap_safety.specs.Joins.{NoDoneAmong, SendsDone, about_of}
 use Rattle.tap_safety.specs.Step.{IsSent, numbered_from}
 use Rattle.tap_safety.proofs.SoftKept.{sent_each}
+use Rattle.tap_safety.proofs.Said.{Said, said}
+use Rattle.tap_safety.proofs.Said.Said.{IsDone, IsHeard, IsHello, IsTell}
 use Rattle.tap_moves.specs.ByRule.{taken_at}
 use Rattle.tap_moves.proofs.Exchanged.{sent_numbered}
 use Rattle.tap_moves.proofs.FramesMade.{meets_sent}
 use Rattle.tap_moves.proofs.SeekMade.{uncovered}
 
 -- a frame with these ends is about b, if it is about anybody, and is no Done
+abbrev IsForKind : List ℕ → List ℕ → List ℕ → Kind → Type 0
+IsForKind b from to kind.Hello = to ≡ b
+IsForKind b from to kind.Heard = from ≡ b
+IsForKind b from to kind.Done = ⊥
+IsForKind b from to other = Unit {0}
+
 abbrev pub IsFor : List ℕ → List ℕ → List ℕ → Body → Type 0
 IsFor b from to (Tell joiner prefix level session depth watch) = joiner ≡ b
-IsFor b from to (Hello session core links) = to ≡ b
-IsFor b from to (Heard session) = from ≡ b
-IsFor b from to Done = ⊥
-IsFor b from to other = Unit {0}
+IsFor b from to other = IsForKind b from to (kind_of other)
 
 -- each frame that is sent
 abbrev pub SendsFor : List ℕ → List Frame → Type 0
 SendsFor b sent = (from to : List ℕ) (body : Body) → IsSent sent from to body → IsFor b from to body
 
 -- whom it is about
-pub about_is : (b from to : List ℕ) (body : Body) (c : List ℕ) → IsFor b from to body → about_of body from to ≡ Some c → c ≡ b
-about_is b from to (Tell joiner prefix level session depth watch) c is of = let same : joiner ≡ c = cc in sym same ∙ is
-about_is b from to (Hello session core links) c is of = let same : to ≡ c = cc in sym same ∙ is
-about_is b from to (Heard session) c is of = let same : from ≡ c = cc in sym same ∙ is
-about_is b from to Done c is of = absurd is
-about_is b from to other c is of = absurd (cc)
+pub about_is : (b from to : List ℕ) {body : Body} → Said body → (c : List ℕ) → IsFor b from to body → about_of body from to ≡ Some c → c ≡ b
+about_is b from to (IsTell tell watch) c is of = let same : tell.joiner ≡ c = cc in sym same ∙ is
+about_is b from to (IsHello hello) c is of = let same : to ≡ c = cc in sym same ∙ is
+about_is b from to (IsHeard session) c is of = let same : from ≡ c = cc in sym same ∙ is
+about_is b from to IsDone c is of = absurd is
+about_is b from to _ c is of = absurd (cc)
 
 -- no Done is among them
 pub none_done : (b : List ℕ) (n : ℕ) (sent : List Frame) → SendsFor b sent → NoDoneAmong (numbered_from n sent)
@@ -94,7 +103,7 @@ sent_for b own words messages sent are each =
 
 greeting_for : (own : List ℕ) (request : Request) (session : ℕ) (first : Bool) (offer : List Offered)
     → AreFor request.joiner own (greeting request session first offer)
-greeting_for own request session true offer = one_for request.joiner own request.joiner (Hello session true offer) refl
+greeting_for own request session true offer = one_for request.joiner own request.joiner (core_hello session offer) refl
 greeting_for own request session false offer = none_for request.joiner own
 
 spread_for : (own : List ℕ) (request : Request) (session : ℕ) (first : Bool) (offer : List Offered) (left : List Slot)
@@ -165,10 +174,10 @@ told_core node request acted answers carried =
 
 greets_for : (b own : List ℕ) (messages : List Message) (from : List ℕ) (tell : TellFields) → tell.joiner ≡ b
     → (messages ≡ message from (Ack tell.session) ∷ [])
-    ⊎ ((session : ℕ) × (messages ≡ message tell.joiner (Hello session false []) ∷ [])) → AreFor b own messages
+    ⊎ ((session : ℕ) × (messages ≡ message tell.joiner (joining_hello session) ∷ [])) → AreFor b own messages
 greets_for b own messages from tell is (inl ack) = subst (AreFor b own) (sym ack) (one_for b own from (Ack tell.session) tt)
 greets_for b own messages from tell is (inr hello) =
-    subst (AreFor b own) (sym hello.1) (one_for b own tell.joiner (Hello hello.0 false []) is)
+    subst (AreFor b own) (sym hello.1) (one_for b own tell.joiner (joining_hello hello.0) is)
 
 pub tell_for_joiner : (node : NodeState) (from : List ℕ) (tell : TellFields) (watch : List Slot)
     → is_strange node (frame_to node from (tell_body tell watch)) ≡ false
@@ -232,17 +241,20 @@ answer_for_parent b node k a w m acted step is last parent =
     (one_for b (name_of node) w (Ack m) tt)
 
 -- whatever an answer makes a node send is about nobody
-abbrev IsOfNobody : Body → Type 0
-IsOfNobody (Tell joiner prefix level session depth watch) = ⊥
-IsOfNobody (Hello session core links) = ⊥
-IsOfNobody (Heard session) = ⊥
-IsOfNobody other = Unit {0}
+abbrev IsOfNobodyKind : Kind → Type 0
+IsOfNobodyKind kind.Tell = ⊥
+IsOfNobodyKind kind.Hello = ⊥
+IsOfNobodyKind kind.Heard = ⊥
+IsOfNobodyKind other = Unit {0}
 
-nobody_is : (from to : List ℕ) (body : Body) (c : List ℕ) → IsOfNobody body → about_of body from to ≡ Some c → ⊥
-nobody_is from to (Tell joiner prefix level session depth watch) c is of = is
-nobody_is from to (Hello session core links) c is of = is
-nobody_is from to (Heard session) c is of = is
-nobody_is from to other c is of = absurd (cc)
+abbrev IsOfNobody : Body → Type 0
+IsOfNobody body = IsOfNobodyKind (kind_of body)
+
+nobody_is : (from to : List ℕ) {body : Body} → Said body → (c : List ℕ) → IsOfNobody body → about_of body from to ≡ Some c → ⊥
+nobody_is from to (IsTell tell watch) c is of = is
+nobody_is from to (IsHello hello) c is of = is
+nobody_is from to (IsHeard session) c is of = is
+nobody_is from to _ c is of = absurd (cc)
 
 -- the last answer of a root session: one Done, to the joiner
 ends_once : (own joiner : List ℕ) (lays : List Lay) (n : ℕ)
@@ -278,7 +290,7 @@ done_of_nobody node k a joiner acted step is last parent from to body sent c of 
     let answers : answer_sends (answer_to (join_session_at node k)) ≡ message joiner Done ∷ [] = rw (is, last, parent) refl in
     let are = answers_as (name_of node) (answer_sends (answer_to (join_session_at node k))) (message joiner Done ∷ []) acted.sent answers
     step.sent in
-    nobody_is from to body c
+    nobody_is from to (said body) c
     (sent_each (name_of node) [] (message joiner Done ∷ []) acted.sent are (λ from to body. IsOfNobody body) (λ to version on. tt)
     (λ to object server level version on. tt)
     (λ m among. elim among [
