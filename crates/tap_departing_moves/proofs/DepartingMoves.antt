@@ -5,7 +5,7 @@ use Rattle.tap_name.specs.Settings.{SettingsValue}
 use Rattle.tap_name.specs.declared.slot.Offered.{Offered}
 use Rattle.tap_name.specs.declared.slot.Slot.{Slot}
 use Rattle.tap_wire.specs.declared.frame.Body.{Body}
-use Rattle.tap_wire.specs.declared.frame.Body.TheVariants.{Done, Forget, Gone as GoneBody, Hello, Lay, Leave, Left, Link, Release, Seek, Tell}
+use Rattle.tap_wire.specs.declared.frame.Body.TheVariants.{Done, Forget, Gone as GoneBody, Lay, Leave, Left, Link, Release, Seek}
 use Rattle.tap_wire.specs.declared.frame.TellFields.{TellFields}
 use Rattle.tap_rule.specs.FrameRules.{frame_at_ceased, frame_at_core, frame_at_joining, frame_at_leaving, rule_of_frame}
 use Rattle.tap_rule.specs.Laws.{frame_to}
@@ -19,6 +19,9 @@ use Rattle.tap_safety.specs.Step.{IsSent}
 use Rattle.tap_safety.specs.System.{System}
 use Rattle.tap_safety.proofs.NoticesKept.{until_rest_law}
 use Rattle.tap_safety.proofs.Peace.{peace_kept}
+use Rattle.tap_safety.proofs.Said.{Said, said}
+use Rattle.tap_safety.proofs.Said.Said.{IsDone, IsForget, IsGone, IsHello, IsLeave, IsLeft, IsRelease, IsSeek, IsTell}
+use Rattle.tap_safety.specs.Frames.{HelloFields, hello_body, tell_body}
 use Rattle.tap_moves.specs.ByRule.{taken_at}
 use Rattle.tap_moves.specs.CalmMoves.{IsPeaceful}
 use Rattle.tap_moves.specs.Delivered.{after_delivery}
@@ -84,7 +87,7 @@ HasItsPart node from body =
 -- by the status of the receiver: a Tell, a Seek and a Hello
 tell_part : (status : Status) (node : NodeState) (from : List ℕ) (tell : TellFields) (watch : List Slot)
     → ((status ≡ Core) ⊎ ((status ≡ Joining) ⊎ (status ≡ Ceased)))
-    ⊎ (rule_of_frame status node from (Tell tell.joiner tell.prefix tell.level tell.session tell.depth watch) ≡ None)
+    ⊎ (rule_of_frame status node from (tell_body tell watch) ≡ None)
 unfolding frame_at_joining frame_at_core frame_at_leaving frame_at_ceased
 tell_part Core node from tell watch = inl (inl refl)
 tell_part Joining node from tell watch = inl (inr (inl refl))
@@ -101,14 +104,14 @@ seek_part Ceased node from joiner = inr refl
 seek_part Leaving node from joiner = inr refl
 seek_part Gone node from joiner = inr refl
 
-hello_part : (status : Status) (node : NodeState) (from : List ℕ) (session : ℕ) (core : Bool) (links : List Offered)
-    → (status ≡ Joining) ⊎ (rule_of_frame status node from (Hello session core links) ≡ None)
+hello_part : (status : Status) (node : NodeState) (from : List ℕ) (hello : HelloFields)
+    → (status ≡ Joining) ⊎ (rule_of_frame status node from (hello_body hello) ≡ None)
 unfolding frame_at_joining frame_at_core frame_at_leaving frame_at_ceased
-hello_part Joining node from session core links = inl refl
-hello_part Core node from session core links = inr refl
-hello_part Ceased node from session core links = inr refl
-hello_part Leaving node from session core links = inr refl
-hello_part Gone node from session core links = inr refl
+hello_part Joining node from hello = inl refl
+hello_part Core node from hello = inr refl
+hello_part Ceased node from hello = inr refl
+hello_part Leaving node from hello = inr refl
+hello_part Gone node from hello = inr refl
 
 -- a Release and a Forget alike
 freeing_part : (status : Status) (node : NodeState) (from : List ℕ) → ((status ≡ Joining) ⊎ (status ≡ Core))
@@ -121,27 +124,23 @@ freeing_part Leaving node from = inr (refl, refl)
 freeing_part Gone node from = inr (refl, refl)
 
 -- each frame that is no notice is one of these
-has_part : (node : NodeState) (from : List ℕ) (body : Body) → (IsNotice body → ⊥) → HasItsPart node from body
-has_part node from (Tell joiner prefix level session depth watch) other =
-    elim (tell_part node.status node from
-    (record { joiner = joiner; prefix = prefix; level = level; session = session; depth = depth }) watch) [
-      | inl taken ↦ inl taken
-      | inr lost ↦ inr (inr lost)
-    ]
-has_part node from (Seek joiner) other =
+has_part : (node : NodeState) (from : List ℕ) {body : Body} → Said body → (IsNotice body → ⊥) → HasItsPart node from body
+has_part node from (IsTell tell watch) other =
+    elim (tell_part node.status node from tell watch) [ inl taken ↦ inl taken | inr lost ↦ inr (inr lost) ]
+has_part node from (IsSeek joiner) other =
     elim (seek_part node.status node from joiner) [ inl taken ↦ inl taken | inr lost ↦ inr (inr lost) ]
-has_part node from (Hello session core links) other =
-    elim (hello_part node.status node from session core links) [ inl taken ↦ inl taken | inr lost ↦ inr (inr lost) ]
-has_part node from Done other =
+has_part node from (IsHello hello) other =
+    elim (hello_part node.status node from hello) [ inl taken ↦ inl taken | inr lost ↦ inr (inr lost) ]
+has_part node from IsDone other =
     elim (cases_Bool node.abandoned) [ inl given_up ↦ inr (inl (refl, given_up)) | inr goes_on ↦ inl goes_on ]
-has_part node from Release other =
+has_part node from IsRelease other =
     elim (freeing_part node.status node from) [ inl taken ↦ inl taken | inr lost ↦ inr (inr lost.0) ]
-has_part node from Forget other =
+has_part node from IsForget other =
     elim (freeing_part node.status node from) [ inl taken ↦ inl taken | inr lost ↦ inr (inr lost.1) ]
-has_part node from (Leave replacement) other = absurd (other tt)
-has_part node from Left other = absurd (other tt)
-has_part node from GoneBody other = absurd (other tt)
-has_part node from body other = inl tt
+has_part node from (IsLeave replacement) other = absurd (other tt)
+has_part node from IsLeft other = absurd (other tt)
+has_part node from IsGone other = absurd (other tt)
+has_part node from _ other = inl tt
 
 -- the Done of a join that was given up
 given_up_order : (p : SettingsValue) (s : System) (number : ℕ) (node : NodeState) (from : List ℕ) (body : Body)
@@ -165,6 +164,6 @@ frame_in_order p s number node from body is other = by s.departing refl
   where
     by : (departing : Option Leaver) → s.departing ≡ departing → DepartsInOrder (after_delivery p s number)
     by None none =
-        let still = peaceful p s number node from body is none (has_part node from body other) in
+        let still = peaceful p s number node from body is none (has_part node from (said body) other) in
         record { departure = still.departure; notices = still.notices }
     by (Some leaver) departs = frame_departing p s number node from body is other leaver departs

@@ -4,7 +4,7 @@ use Rattle.tap_name.specs.Settings.{SettingsValue}
 use Rattle.tap_link.specs.declared.kind.Kind.{Kind}
 use Rattle.tap_session.specs.Session.{Session}
 use Rattle.tap_wire.specs.declared.frame.Body.{Body}
-use Rattle.tap_wire.specs.declared.frame.Body.TheVariants.{Ack, Heard, Hello, Seek, Tell}
+use Rattle.tap_wire.specs.declared.frame.Body.TheVariants.{Seek}
 use Rattle.tap_rule.specs.Node.{NodeState, join_session_at}
 use Rattle.tap_rule.specs.Node.Status.{Joining}
 use Rattle.tap_safety.specs.Departing.{WhileDeparting, may_be_then}
@@ -20,17 +20,19 @@ use Rattle.tap_safety.specs.System.{System, Covers, HasLink, IsCoreNode, IsJoine
 use Rattle.tap_safety.specs.Words.{Has}
 use Rattle.tap_safety.proofs.LinkKeeps.{status_seen}
 use Rattle.tap_safety.proofs.Moves.{ascend_one}
+use Rattle.tap_safety.proofs.Said.{Said, said}
+use Rattle.tap_safety.proofs.Said.Said.{IsAck, IsHeard, IsHello, IsTell}
 use Rattle.tap_moves.specs.CalmMoves.{AreSought}
 use Rattle.tap_departing_moves.specs.PartMoves.{HaveSessions}
 
 -- a frame of a session isn't under way then
-belongs_never : (body : Body) (from to : List ℕ) (x : List ℕ) (k : ℕ) → may_be_then body
+belongs_never : {body : Body} → Said body → (from to : List ℕ) (x : List ℕ) (k : ℕ) → may_be_then body
     → ◌≡◌ {A = Option (List ℕ × ℕ)} (session_named body from to) (Some (x, k)) → ⊥
-belongs_never (Tell joiner prefix level session depth watch) from to x k may is = may
-belongs_never (Hello session core links) from to x k may is = may
-belongs_never (Heard session) from to x k may is = may
-belongs_never (Ack session) from to x k may is = may
-belongs_never other from to x k may is = let wrong : ◌≡◌ {A = Option (List ℕ × ℕ)} None (Some (x, k)) = is in cc
+belongs_never (IsTell tell watch) from to x k may is = may
+belongs_never (IsHello hello) from to x k may is = may
+belongs_never (IsHeard session) from to x k may is = may
+belongs_never (IsAck session) from to x k may is = may
+belongs_never _ from to x k may is = let wrong : ◌≡◌ {A = Option (List ℕ × ℕ)} None (Some (x, k)) = is in cc
 
 module _ (p : SettingsValue) (s : System) (leaver : Leaver) (during : WhileDeparting s leaver) where
   pub no_joiner : (b : List ℕ) → IsJoiner s b → ⊥
@@ -80,7 +82,7 @@ module _ (p : SettingsValue) (s : System) (leaver : Leaver) (during : WhileDepar
       exact = record {
         frames = λ number f x k among belongs.
             let may = during.frames f.from f.to f.body (record { number = number; among = among }) in
-            absurd (belongs_never f.body f.from f.to x k may belongs);
+            absurd (belongs_never (said f.body) f.from f.to x k may belongs);
         ways = λ x k number awaits. absurd (no_session x k awaits.session awaits.is);
         parents = λ y l child x k opened above. absurd (no_session y l child opened);
         roots = λ x y k l one two opened other top same mine. absurd (no_session x k one opened);

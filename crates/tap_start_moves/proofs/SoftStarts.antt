@@ -2,7 +2,7 @@
 use Rattle.std.proofs.Common.{ℕ, List, ◌⊎◌, sym, ◌∙◌, inl, inr}
 use Rattle.tap_name.specs.Settings.{SettingsValue}
 use Rattle.tap_wire.specs.declared.frame.Body.{Body}
-use Rattle.tap_wire.specs.declared.frame.Body.TheVariants.{Hello, Leave, Release, Seek}
+use Rattle.tap_wire.specs.declared.frame.Body.TheVariants.{Seek}
 use Rattle.tap_rule.specs.Act.{act}
 use Rattle.tap_rule.specs.Event.{Acted, Start}
 use Rattle.tap_rule.specs.Event.Event.{Starts}
@@ -16,15 +16,17 @@ use Rattle.tap_safety.proofs.SoftKept.{one_sound, soft_kept}
 use Rattle.tap_safety.proofs.SoftSteps.{links_sound, softs_same, start_ways}
 use Rattle.tap_safety.proofs.StepLaws.{soft_join_law}
 use Rattle.tap_safety.proofs.TellKeeps.{core_kept}
+use Rattle.tap_safety.proofs.Said.{Said, said}
+use Rattle.tap_safety.proofs.Said.Said.{IsHello, IsLeave, IsRelease}
 use Rattle.tap_moves.specs.Delivered.{after_start}
 use Rattle.tap_start_moves.specs.Starts.{StartSoft}
 use Rattle.tap_start_moves.proofs.StartKinds.{StartsAlike, StartsAnew, alike_changes, alike_links, anew_start, by_kind}
 
 -- what is about pointers, lookups and casts says nobody to be core
-quiet_sound : (s : System) (from to : List ℕ) (body : Body) → IsQuiet body → IsSoundBody s from to body
-quiet_sound s from to (Hello session core links) quiet = absurd quiet
-quiet_sound s from to Release quiet = absurd quiet
-quiet_sound s from to (Leave replacement) quiet = absurd quiet
+quiet_sound : (s : System) (from to : List ℕ) {body : Body} → Said body → IsQuiet body → IsSoundBody s from to body
+quiet_sound s from to (IsHello hello) quiet = absurd quiet
+quiet_sound s from to IsRelease quiet = absurd quiet
+quiet_sound s from to (IsLeave replacement) quiet = absurd quiet
 quiet_sound s from to _ quiet = tt
 
 module _ (p : SettingsValue) (s : System) (x : List ℕ) (start : Start) (node : NodeState) (is : StartsAlike p s x start node) where
@@ -39,7 +41,7 @@ module _ (p : SettingsValue) (s : System) (x : List ℕ) (start : Start) (node :
   sound_ways from to body way =
       elim (start_ways s after acted.sent is.step.sent from to body way) [
         | inl old ↦ inl old
-        | inr sends ↦ inr (quiet_sound after from to body (is.alike.sent (record { from = from; to = to; body = body }) sends))
+        | inr sends ↦ inr (quiet_sound after from to (said body) (is.alike.sent (record { from = from; to = to; body = body }) sends))
       ]
 
   alike_soft : NamesSoft s → NamesSoft after
