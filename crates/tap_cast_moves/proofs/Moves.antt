@@ -67,21 +67,7 @@ module _ (p : SettingsValue) (s : System) (r : CastMemory) (number : ℕ) (node 
   by_body (Cast cast level session depth word) is =
       cast_delivered p s r number node from cast level session depth word is sound.invariant.filled.hole_free casts
   by_body (CastAck session) is = ack_delivered p s r number node from session is casts
-  by_body (Seek joiner) is = aside (Seek joiner) is tt
-  by_body (Tell joiner prefix level session depth watch) is = aside (Tell joiner prefix level session depth watch) is tt
-  by_body (Hello session core links) is = aside (Hello session core links) is tt
-  by_body (Heard session) is = aside (Heard session) is tt
-  by_body (Ack session) is = aside (Ack session) is tt
-  by_body Done is = aside Done is tt
-  by_body Release is = aside Release is tt
-  by_body (Link version on) is = aside (Link version on) is tt
-  by_body (Lay object server level version on) is = aside (Lay object server level version on) is tt
-  by_body (Find ticket object asker level) is = aside (Find ticket object asker level) is tt
-  by_body (Answer ticket server) is = aside (Answer ticket server) is tt
-  by_body (Leave replacement) is = aside (Leave replacement) is tt
-  by_body Left is = aside Left is tt
-  by_body Gone is = aside Gone is tt
-  by_body Forget is = aside Forget is tt
+  by_body body is = aside body is tt
 
 delivery_keeps : (p : SettingsValue) (s : System) (r : CastMemory) (number : ℕ) (frame : Frame) (node : NodeState) → Sound p s
     → CastsAreSound p s r → AmongFrames number frame s.frames → s.node frame.to ≡ Some node

@@ -2,20 +2,23 @@
 use Rattle.std.proofs.Common.{◌≡◌, ◌⊎◌, ℕ, suc, Bool, List, [], ◌∷◌, Some, true, false, arith, refl, subst, sym, inl, inr}
 use Rattle.std.specs.List.{Contains}
 use Rattle.tap_name.specs.Settings.{SettingsValue}
-use Rattle.tap_wire.specs.declared.frame.Body.TheVariants.{Ack, Done, Forget, Gone as GoneNotice, Heard, Hello, Leave, Left, Link, Release, Seek, Tell}
+use Rattle.tap_wire.specs.declared.frame.Body.TheVariants.{Ack, Gone as GoneNotice, Heard}
 use Rattle.tap_wire.specs.declared.frame.Frame.{Frame}
-use Rattle.tap_wire.specs.declared.frame.TellFields.{TellFields}
-use Rattle.tap_rule.specs.HasRule.{taken_by}
+use Rattle.tap_wire.specs.declared.frame.Body.{Body}
+use Rattle.tap_rule.specs.HasRule.{taken_by, HasRule}
 use Rattle.tap_rule.specs.Node.{NodeState, Status, name_of}
 use Rattle.tap_rule.specs.Node.Status.{Ceased as HasCeased, Core, Gone, Joining, Leaving}
 use Rattle.tap_rule.specs.Sent.{IsAmong}
 use Rattle.tap_safety.specs.FewSessions.{SessionsAreFew}
-use Rattle.tap_safety.specs.Frames.{HelloFields}
 use Rattle.tap_safety.specs.Invariant.{Basis}
 use Rattle.tap_safety.specs.System.{System, AmongFrames}
+use Rattle.tap_safety.proofs.Said.{Said, said}
+use Rattle.tap_safety.proofs.Said.Said.{IsAck, IsDone, IsForget, IsGone, IsHeard, IsHello, IsLeave, IsLeft, IsLink, IsRelease, IsSeek, IsTell}
+use Rattle.tap_safety.specs.Notices.{IsNotice}
 use Rattle.tap_moves.specs.Spelled.{AreNodes}
+use Rattle.tap_moves.specs.InvariantLaws.{IsTakenThere, IsFilledThere}
 use Rattle.tap_session_moves.specs.PinsRule.{IsOver}
-use Rattle.tap_safety_moves.specs.Arrivals.{AnswersOpenSession, Arrives, OthersHaveRules, TakenWhereDue}
+use Rattle.tap_safety_moves.specs.Arrivals.{AnswersOpenSession, Arrives, OthersHaveRules, TakenWhereDue, MayLackRule, IsSetApart}
 use Rattle.tap_safety_moves.proofs.Takers.{done_taker, forget_taker, hello_taker, kept_session, leave_taker, left_taker, release_taker, seek_taker, session_taker, tell_taker}
 
 -- a frame under way arrives at the node of its receiver
@@ -79,25 +82,21 @@ module _ (status : Status) where
 
 pub others_have_rules : OthersHaveRules
 unfolding taken_by
-others_have_rules p s number node from (Seek joiner) is = inl (only node.status Core (seek_taker p s number node from joiner is))
-others_have_rules p s number node from (Tell joiner prefix level session depth watch) is =
-    let tell : TellFields = record { joiner = joiner; prefix = prefix; level = level; session = session; depth = depth } in
-    inl (at_tell node.status (tell_taker p s number node from tell watch is))
-others_have_rules p s number node from (Hello session core links) is =
-    let hello : HelloFields = record { session = session; is_core = core; links = links } in
-    inl (only node.status Joining (hello_taker p s number node from hello is))
-others_have_rules p s number node from (Heard session) is =
-    inl (at_answer node.status (session_taker p s number node from (Heard session) is session refl))
-others_have_rules p s number node from (Ack session) is =
-    inl (at_answer node.status (session_taker p s number node from (Ack session) is session refl))
-others_have_rules p s number node from Done is = inl (only node.status Joining (done_taker p s number node from is))
-others_have_rules p s number node from Release is = at_free node.status (release_taker p s number node from is)
-others_have_rules p s number node from Forget is = at_free node.status (forget_taker p s number node from is)
-others_have_rules p s number node from (Link version on) is = at_link node.status
-others_have_rules p s number node from (Leave replacement) is =
-    inl (only node.status Core (leave_taker p s number node from replacement is))
-others_have_rules p s number node from Left is = inl (only node.status Leaving (left_taker p s number node from is))
-others_have_rules p s number node from _ is = inr tt
+others_have_rules p s number node from body is = by_said body (said body) is
+  where
+    by_said : (body : Body) → Said body → Arrives p s number node from body → HasRule node.status body ⊎ MayLackRule node.status body
+    by_said _ (IsSeek joiner) is = inl (only node.status Core (seek_taker p s number node from joiner is))
+    by_said _ (IsTell tell watch) is = inl (at_tell node.status (tell_taker p s number node from tell watch is))
+    by_said _ (IsHello hello) is = inl (only node.status Joining (hello_taker p s number node from hello is))
+    by_said _ (IsHeard session) is = inl (at_answer node.status (session_taker p s number node from (Heard session) is session refl))
+    by_said _ (IsAck session) is = inl (at_answer node.status (session_taker p s number node from (Ack session) is session refl))
+    by_said _ IsDone is = inl (only node.status Joining (done_taker p s number node from is))
+    by_said _ IsRelease is = at_free node.status (release_taker p s number node from is)
+    by_said _ IsForget is = at_free node.status (forget_taker p s number node from is)
+    by_said _ (IsLink version on) is = at_link node.status
+    by_said _ (IsLeave replacement) is = inl (only node.status Core (leave_taker p s number node from replacement is))
+    by_said _ IsLeft is = inl (only node.status Leaving (left_taker p s number node from is))
+    by_said _ _ is = inr tt
 
 -- a join goes on, or was given up
 goes_on : (abandoned : Bool) → (abandoned ≡ false) ⊎ (abandoned ≡ true)
@@ -105,21 +104,20 @@ goes_on true = inr refl
 goes_on false = inl refl
 
 pub taken_where_due : TakenWhereDue
-taken_where_due p s number node from (Seek joiner) is none =
-    let core = seek_taker p s number node from joiner is in (core, inl core)
-taken_where_due p s number node from (Tell joiner prefix level session depth watch) is none =
-    let tell : TellFields = record { joiner = joiner; prefix = prefix; level = level; session = session; depth = depth } in
-    let there = tell_taker p s number node from tell watch is in (there, inl there)
-taken_where_due p s number node from (Hello session core links) is none =
-    let hello : HelloFields = record { session = session; is_core = core; links = links } in
-    let joins = hello_taker p s number node from hello is in (joins, inl joins)
-taken_where_due p s number node from Done is none = (tt, goes_on node.abandoned)
-taken_where_due p s number node from Release is none = (tt, release_taker p s number node from is)
-taken_where_due p s number node from Forget is none = (tt, forget_taker p s number node from is)
-taken_where_due p s number node from (Leave replacement) is none = absurd (none tt)
-taken_where_due p s number node from Left is none = absurd (none tt)
-taken_where_due p s number node from GoneNotice is none = absurd (none tt)
-taken_where_due p s number node from _ is none = (tt, inl tt)
+taken_where_due p s number node from body is none = by_said body (said body) is none
+  where
+    by_said : (body : Body) → Said body → Arrives p s number node from body → (IsNotice body → ⊥)
+        → IsTakenThere node body × (IsFilledThere node body ⊎ IsSetApart node body)
+    by_said _ (IsSeek joiner) is none = let core = seek_taker p s number node from joiner is in (core, inl core)
+    by_said _ (IsTell tell watch) is none = let there = tell_taker p s number node from tell watch is in (there, inl there)
+    by_said _ (IsHello hello) is none = let joins = hello_taker p s number node from hello is in (joins, inl joins)
+    by_said _ IsDone is none = (tt, goes_on node.abandoned)
+    by_said _ IsRelease is none = (tt, release_taker p s number node from is)
+    by_said _ IsForget is none = (tt, forget_taker p s number node from is)
+    by_said _ (IsLeave replacement) is none = absurd (none tt)
+    by_said _ IsLeft is none = absurd (none tt)
+    by_said _ IsGone is none = absurd (none tt)
+    by_said _ _ is none = (tt, inl tt)
 
 -- ---- answers
 

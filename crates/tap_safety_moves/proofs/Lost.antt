@@ -5,7 +5,7 @@ use Rattle.tap_name.specs.declared.slot.Slot.{Slot}
 use Rattle.tap_link.specs.declared.kind.Kind.{Kind}
 use Rattle.tap_session.specs.Session.{Session}
 use Rattle.tap_wire.specs.declared.frame.Body.{Body}
-use Rattle.tap_wire.specs.declared.frame.Body.TheVariants.{Ack, Done, Heard, Hello, Seek, Tell}
+use Rattle.tap_wire.specs.declared.frame.Body.TheVariants.{Ack, Done, Heard, Seek}
 use Rattle.tap_wire.specs.declared.frame.Frame.{Frame}
 use Rattle.tap_wire.specs.declared.frame.TellFields.{TellFields}
 use Rattle.tap_rule.specs.Act.{act}
@@ -31,6 +31,8 @@ use Rattle.tap_safety.specs.Ties.{link_in, link_of, status_in, status_of, word_f
 use Rattle.tap_safety.specs.Turned.{Taking, closed_by, opened_by, sessions_with, surrogates_with}
 use Rattle.tap_safety.proofs.Moves.{delivers, found}
 use Rattle.tap_safety.proofs.StepLaws.{plain_law, seeking_frame_law, soft_plain_law, tells_frame_law}
+use Rattle.tap_safety.proofs.Said.{Said, said}
+use Rattle.tap_safety.proofs.Said.Said.{IsAck, IsHeard, IsHello, IsTell}
 use Rattle.tap_moves.specs.ByRule.{taken_at}
 use Rattle.tap_moves.specs.Delivered.{after_delivery}
 use Rattle.tap_moves.proofs.Exchanged.{exchanges}
@@ -41,13 +43,13 @@ use Rattle.tap_safety_moves.specs.Ignored.{IgnoredIsLost, IgnoresFrame, MayIgnor
 -- ---- a frame that is ignored
 
 -- such a frame is of no session, and closes none
-ignored_named : (node : NodeState) (body : Body) (from to : List ℕ) → MayIgnore node body
+ignored_named : (node : NodeState) {body : Body} → Said body → (from to : List ℕ) → MayIgnore node body
     → ◌≡◌ {A = Option (List ℕ × ℕ)} (session_named body from to) None
-ignored_named node (Tell joiner prefix level session depth watch) from to may = absurd may
-ignored_named node (Hello session core links) from to may = absurd may
-ignored_named node (Heard session) from to may = absurd may
-ignored_named node (Ack session) from to may = absurd may
-ignored_named node other from to may = refl
+ignored_named node (IsTell tell watch) from to may = absurd may
+ignored_named node (IsHello hello) from to may = absurd may
+ignored_named node (IsHeard session) from to may = absurd may
+ignored_named node (IsAck session) from to may = absurd may
+ignored_named node _ from to may = refl
 
 ignored_closes : (node : NodeState) (body : Body) (after : NodeState) → MayIgnore node body → closed_by body after ≡ None
 ignored_closes node (Heard session) after may = absurd may
@@ -120,7 +122,7 @@ module _ (p : SettingsValue) (s : System) (number : ℕ) (node : NodeState) (fro
         ∙ ap (λ (o : Option Session). surrogates_with s.surrogate own o b) none_opens;
     session = λ y k.
         sessions_after p s number frame node is_found is.at y k
-        ∙ sessions_left s (taking s number frame node (taken_at node from body)) (ignored_named node body from own is.may)
+        ∙ sessions_left s (taking s number frame node (taken_at node from body)) (ignored_named node (said body) from own is.may)
         (ignored_closes node body (taken_at node from body).state is.may) none_opens y k;
   }
 
@@ -240,7 +242,7 @@ module _ (p : SettingsValue) (s : System) (number : ℕ) (node : NodeState) (fro
     still = λ m f y k among belongs. elim (frame_still m f among) [
       | inr on ↦ on
       | inl same ↦
-          absurd (unnamed f (frame_to node from body) y k same (ignored_named node body from (name_of node) is.may) belongs)
+          absurd (unnamed f (frame_to node from body) y k same (ignored_named node (said body) from (name_of node) is.may) belongs)
     ];
     was = λ m f y k among belongs. frame_was m f among;
     is_one = swaps.is_one;

@@ -9,19 +9,20 @@ use Rattle.tap_name.proofs.Membership.{among_at, few_among}
 use Rattle.tap_link.specs.declared.kind.Kind.{Kind}
 use Rattle.tap_link.specs.declared.kind.Kind.TheVariants.{Leaving as Marked, Pin, Settled}
 use Rattle.tap_wire.specs.declared.frame.Body.{Body}
-use Rattle.tap_wire.specs.declared.frame.Body.TheVariants.{Hello, Leave, Seek, Tell}
-use Rattle.tap_wire.specs.declared.frame.TellFields.{TellFields}
+use Rattle.tap_wire.specs.declared.frame.Body.TheVariants.{Leave, Seek}
 use Rattle.tap_rule.specs.Fit.{CouldLink, MayLink}
 use Rattle.tap_rule.specs.Laws.{frame_to}
 use Rattle.tap_rule.specs.Node.{NodeState, link_to, name_of}
 use Rattle.tap_rule.specs.Sent.{IsAmong}
-use Rattle.tap_safety.specs.Frames.{HelloFields, hello_body}
+use Rattle.tap_safety.specs.Frames.{HelloFields, hello_body, tell_body}
 use Rattle.tap_safety.specs.Invariant.{Basis}
 use Rattle.tap_safety.specs.Remembered.{Leaver}
 use Rattle.tap_safety.specs.Seeking.{HasNode}
 use Rattle.tap_safety.specs.Soft.{IsSoft}
 use Rattle.tap_safety.specs.System.{System, HasLink, IsCoreNode, IsUnderWay}
 use Rattle.tap_safety.proofs.LinkKeeps.{some_state}
+use Rattle.tap_safety.proofs.Said.{Said, said}
+use Rattle.tap_safety.proofs.Said.Said.{IsHello, IsLeave, IsSeek, IsTell}
 use Rattle.tap_safety_moves.specs.Arrivals.{Arrives}
 use Rattle.tap_safety_moves.proofs.Takers.{way}
 
@@ -79,17 +80,15 @@ module _ (p : SettingsValue) (s : System) (number : ℕ) (node : NodeState) (fro
       subst (HasNode s) (sym found.2)
       (offered_node p s is.invariant from (name_of node) hello (way p s number node from (hello_body hello) is) found.0 found.1)
 
-  could_node : (body : Body) → Arrives p s number node from body → (name : List ℕ) → CouldLink from body name → HasNode s name
-  could_node (Seek joiner) is name same =
+  could_node : {body : Body} → Said body → Arrives p s number node from body → (name : List ℕ) → CouldLink from body name → HasNode s name
+  could_node (IsSeek joiner) is name same =
       let seeker = is.invariant.seekers.seeks from (name_of node) joiner (way p s number node from (Seek joiner) is) in
       subst (HasNode s) (sym same) (record { state = seeker.state; is = seeker.is })
-  could_node (Tell joiner prefix level session depth watch) is name same =
-      let tell : TellFields = record { joiner = joiner; prefix = prefix; level = level; session = session; depth = depth } in
-      let here = way p s number node from (Tell joiner prefix level session depth watch) is in
-      subst (HasNode s) (sym same) (soft_node s joiner (inl (is.invariant.tells.each from (name_of node) tell watch here).joiner))
-  could_node (Hello session core links) is name could =
-      hello_could (record { session = session; is_core = core; links = links }) is name could
-  could_node (Leave replacement) is name given =
+  could_node (IsTell tell watch) is name same =
+      let here = way p s number node from (tell_body tell watch) is in
+      subst (HasNode s) (sym same) (soft_node s tell.joiner (inl (is.invariant.tells.each from (name_of node) tell watch here).joiner))
+  could_node (IsHello hello) is name could = hello_could hello is name could
+  could_node (IsLeave replacement) is name given =
       let here = way p s number node from (Leave replacement) is in
       core_node s name (is.invariant.soft.leaves from (name_of node) name
       (subst (λ r. IsUnderWay s from (name_of node) (Leave r)) given here))
@@ -104,7 +103,7 @@ module _ (p : SettingsValue) (s : System) (number : ℕ) (node : NodeState) (fro
     linked_or_could : (name : List ℕ) → MayLink node (frame_to node from body) name → HasNode s name
     linked_or_could name may = elim may.linked [
       | inl linked ↦ kind_node name (link_to node name) refl linked
-      | inr could ↦ could_node body is name could
+      | inr could ↦ could_node (said body) is name could
     ]
 
     -- with the node itself they are at most 256

@@ -7,7 +7,7 @@ use Rattle.tap_name.specs.declared.slot.Slot.{Slot}
 use Rattle.tap_link.specs.declared.kind.Kind.{Kind}
 use Rattle.tap_link.specs.declared.kind.Kind.TheVariants.{Leaving as Marked, Pin, Settled}
 use Rattle.tap_wire.specs.declared.frame.Body.{Body}
-use Rattle.tap_wire.specs.declared.frame.Body.TheVariants.{Cast, Seek, Tell}
+use Rattle.tap_wire.specs.declared.frame.Body.TheVariants.{Cast, Seek}
 use Rattle.tap_wire.specs.declared.frame.TellFields.{TellFields}
 use Rattle.tap_rule.specs.Fit.{IsFit, IsFitBody, IsFitSeek, IsFitTell}
 use Rattle.tap_rule.specs.Laws.{frame_to}
@@ -18,6 +18,8 @@ use Rattle.tap_safety.specs.Frames.{tell_body}
 use Rattle.tap_safety.specs.Seeking.{IsSeeker}
 use Rattle.tap_safety.specs.System.{System, HasLink, IsCoreNode, IsJoiner}
 use Rattle.tap_safety.proofs.CoverKept.{core_or_joiner}
+use Rattle.tap_safety.proofs.Said.{Said, said}
+use Rattle.tap_safety.proofs.Said.Said.{IsCast, IsSeek, IsTell}
 use Rattle.tap_moves.proofs.InvariantMoves.{seeker_not_core}
 use Rattle.tap_session_moves.proofs.Depths.{tells_shallow}
 use Rattle.tap_safety_moves.specs.Arrivals.{Arrives, OthersAreDelivered, StrangeExactly, is_deepest_copy}
@@ -82,23 +84,22 @@ module _ (p : SettingsValue) (s : System) (number : ℕ) (node : NodeState) (fro
 
   -- ---- whatever the kind
 
-  body_fits : (body : Body) → Arrives p s number node from body → is_deepest_copy body ≡ false → IsFitBody node body
-  body_fits (Seek joiner) is other = seek_fits joiner is
-  body_fits (Tell joiner prefix level session depth watch) is other =
-      tell_fits (record { joiner = joiner; prefix = prefix; level = level; session = session; depth = depth }) watch is
-  body_fits (Cast cast level session depth word) is other = eqb-false depth 65535 other
+  body_fits : {body : Body} → Said body → Arrives p s number node from body → is_deepest_copy body ≡ false → IsFitBody node body
+  body_fits (IsSeek joiner) is other = seek_fits joiner is
+  body_fits (IsTell tell watch) is other = tell_fits tell watch is
+  body_fits (IsCast {depth = depth}) is other = eqb-false depth 65535 other
   body_fits _ is other = tt
 
   frame_fits : (body : Body) → Arrives p s number node from body → is_deepest_copy body ≡ false → IsFit node (frame_to node from body)
   frame_fits body is other = record {
     from = is.invariant.ends.apart number (frame_to node from body) is.among;
-    body = body_fits body is other;
+    body = body_fits (said body) is other;
     few = few_linked p s number node from body is;
   }
 
 -- a copy of a cast at the greatest depth isn't fit
-deepest_unfit : (node : NodeState) (body : Body) → is_deepest_copy body ≡ true → IsFitBody node body → ⊥
-deepest_unfit node (Cast cast level session depth word) deepest fit = elim (eqb_tells depth 65535) [
+deepest_unfit : (node : NodeState) {body : Body} → Said body → is_deepest_copy body ≡ true → IsFitBody node body → ⊥
+deepest_unfit node (IsCast {depth = depth}) deepest fit = elim (eqb_tells depth 65535) [
   | inl both ↦ fit both.1
   | inr both ↦ true≢false (sym deepest ∙ both.0)
 ]
@@ -111,7 +112,7 @@ strange_exactly p s number node from body is =
     elim (cases_Bool (is_deepest_copy body)) [
       | inl deepest ↦ elim (cases_Bool (is_strange node frame)) [
         | inl strange ↦ strange ∙ sym deepest
-        | inr taken ↦ absurd (deepest_unfit node body deepest (law.0 taken).body)
+        | inr taken ↦ absurd (deepest_unfit node (said body) deepest (law.0 taken).body)
       ]
       | inr other ↦ law.1 (frame_fits p s number node from body is other) ∙ sym other
     ]

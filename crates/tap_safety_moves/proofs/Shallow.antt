@@ -7,7 +7,6 @@ use Rattle.tap_name.specs.Settings.{AreWithinLimits, SettingsValue}
 use Rattle.tap_table.specs.Table.{IsTable}
 use Rattle.tap_wire.specs.Spelling.{IsBody}
 use Rattle.tap_wire.specs.declared.frame.Body.{Body}
-use Rattle.tap_wire.specs.declared.frame.Body.TheVariants.{Cast}
 use Rattle.tap_wire.specs.declared.frame.Frame.{Frame}
 use Rattle.tap_rule.specs.Act.{act, carried_out, completed, follows, refuses}
 use Rattle.tap_rule.specs.Event.{Start}
@@ -28,6 +27,8 @@ use Rattle.tap_safety.specs.Step.{AreNumbered, numbered_from}
 use Rattle.tap_safety.specs.System.{System, AmongFrames}
 use Rattle.tap_safety.proofs.Moves.{delivers, found, starts}
 use Rattle.tap_safety.proofs.Told.{among_sent}
+use Rattle.tap_safety.proofs.Said.{Said, said}
+use Rattle.tap_safety.proofs.Said.Said.{IsCast}
 use Rattle.tap_moves.specs.Delivered.{after_delivery, after_start}
 use Rattle.tap_moves.specs.Spelled.{AreNodes}
 use Rattle.tap_moves.proofs.Exchanged.{exchanges, in_either}
@@ -139,8 +140,8 @@ shallow_started p s x (StartCast cast level word) nodes may shallow =
 -- ---- so no copy comes to the greatest depth
 
 -- levels are of the digits, which are at most 40
-no_deepest : (p : SettingsValue) (body : Body) → p.digits ≤ 40 → IsBody p body → IsShallow body → is_deepest_copy body ≡ false
-no_deepest p (Cast cast level session depth word) digits is shallow =
+no_deepest : (p : SettingsValue) {body : Body} → Said body → p.digits ≤ 40 → IsBody p body → IsShallow body → is_deepest_copy body ≡ false
+no_deepest p (IsCast {level = level} {depth = depth}) digits is shallow =
     elim (cases_Bool (eqb depth 65535)) [
       | inl deepest ↦
           let same = eqb-true depth 65535 deepest in
@@ -158,4 +159,4 @@ pub comes_shallow : (p : SettingsValue) (s : System) (number : ℕ) (frame : Fra
 comes_shallow p s number frame node sound among at =
     let of = sound.nodes.nodes frame.to node at in
     let limits = subst AreWithinLimits of.settings of.is_node.ties.table.limits in
-    no_deepest p frame.body limits.digits_to (sound.basis.spelled.each number frame among).body (sound.shallow.each number frame among)
+    no_deepest p (said frame.body) limits.digits_to (sound.basis.spelled.each number frame among).body (sound.shallow.each number frame among)
