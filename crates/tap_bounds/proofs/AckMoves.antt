@@ -11,7 +11,7 @@ use Rattle.tap_name.specs.Settings.{SettingsValue}
 use Rattle.tap_name.specs.declared.slot.Slot.{Slot}
 use Rattle.tap_join.specs.Seek.{sought}
 use Rattle.tap_wire.specs.declared.frame.Body.{Body}
-use Rattle.tap_wire.specs.declared.frame.Body.TheVariants.{Seek, Tell}
+use Rattle.tap_wire.specs.declared.frame.Body.TheVariants.{Seek}
 use Rattle.tap_wire.specs.declared.frame.Frame.{Frame}
 use Rattle.tap_wire.specs.declared.frame.TellFields.{TellFields}
 use Rattle.tap_rule.specs.Act.{act}
@@ -35,6 +35,8 @@ use Rattle.tap_safety.specs.Move.Move.{Begins, Delivers}
 use Rattle.tap_safety.specs.Moved.{moved, starter}
 use Rattle.tap_safety.specs.System.{System, AmongFrames}
 use Rattle.tap_safety.proofs.Moves.{starts}
+use Rattle.tap_safety.proofs.Said.{Said, said}
+use Rattle.tap_safety.proofs.Said.Said.{IsSeek, IsTell}
 use Rattle.tap_moves.specs.ByRule.{taken_at}
 use Rattle.tap_moves.specs.Delivered.{after_delivery, after_start}
 use Rattle.tap_moves.specs.InvariantLaws.{IsDelivery}
@@ -152,11 +154,10 @@ module _ (node : NodeState) (from : List ℕ) where
   tell_rule tell watch Gone = tt
   tell_rule tell watch Ceased = ceased_acks node from tell
 
-  rule_few : (body : Body) → IfSome (rule_of_frame node.status node from body) (FewAcks node (cond (is_tell_body body) 1 0))
-  rule_few (Seek b) = seek_rule b node.status
-  rule_few (Tell b prefix level session depth watch) =
-      tell_rule (record { joiner = b; prefix = prefix; level = level; session = session; depth = depth }) watch node.status
-  rule_few body = rule_acks node from node.status body tt
+  rule_few : (body : Body) → Said body → IfSome (rule_of_frame node.status node from body) (FewAcks node (cond (is_tell_body body) 1 0))
+  rule_few _ (IsSeek b) = seek_rule b node.status
+  rule_few _ (IsTell tell watch) = tell_rule tell watch node.status
+  rule_few body _ = rule_acks node from node.status body tt
 
 -- ---- what that makes of a system
 
@@ -242,7 +243,7 @@ delivery_keeps p s r number node from body is few =
     acks_kept s (after_delivery p s number) r (traffic_after p s r (Delivers number)) node (cond (is_tell_body body) 1 0)
     (taken_at node from body) step.at.is step.at.others (ap (λ fs. r.sent ++ fs) sent) (frame_to node from body ∷ [])
     (ap (λ fs. r.taken ++ fs) took) (tell_counts (name_of node) from body)
-    (frame_acks node (cond (is_tell_body body) 1 0) (frame_to node from body) is.known (rule_few node from body))
+    (frame_acks node (cond (is_tell_body body) 1 0) (frame_to node from body) is.known (rule_few node from body (said body)))
     (few.each (name_of node) node is.at) few
 
 frame_keeps : (p : SettingsValue) (s : System) (r : Traffic) (number : ℕ) (frame : Frame) (node : NodeState) → Sound p s

@@ -13,7 +13,7 @@ use Rattle.tap_multicast.specs.Covers.{covered}
 use Rattle.tap_join.specs.Hello.{words_of}
 use Rattle.tap_join.specs.declared.sought.Sought.{Sought}
 use Rattle.tap_join.specs.declared.sought.Sought.TheVariants.{Forward, Surrogate}
-use Rattle.tap_wire.specs.declared.frame.Body.TheVariants.{Ack, Hello, Seek}
+use Rattle.tap_wire.specs.declared.frame.Body.TheVariants.{Ack, Seek}
 use Rattle.tap_wire.specs.declared.frame.TellFields.{TellFields}
 use Rattle.tap_rule.specs.Answers.{answer_for, next_number, with_session}
 use Rattle.tap_rule.specs.Ceasing.{acknowledges}
@@ -21,6 +21,7 @@ use Rattle.tap_rule.specs.Covering.{Request, answers_awaited, covers_as, first_r
 use Rattle.tap_rule.specs.Joining.{meets, welcomes}
 use Rattle.tap_rule.specs.Node.{NodeState}
 use Rattle.tap_rule.specs.Reaction.{Message, message, pin_word, sends, with_pin, with_words}
+use Rattle.tap_rule.specs.Hellos.{core_hello, joining_hello}
 use Rattle.tap_bounds.specs.Acks.{is_below, is_below_parent}
 use Rattle.tap_bounds.proofs.Counting.{count-append, count-cons}
 use Rattle.tap_bounds.proofs.AckRules.{AreUnacked, FewAcks, IsUnacked, below, none_acked, one_for, same_acks}
@@ -55,7 +56,7 @@ module _ (node : NodeState) where
   module _ (request : Request) where
     greeting_plain : (session : ℕ) (first : Bool) (offer : List Offered) → AreUnacked (greeting request session first offer)
     greeting_plain session true offer =
-        All-cons (λ m. IsUnacked m.body) (message request.joiner (Hello session true offer)) [] tt (All-nil (λ m. IsUnacked m.body))
+        All-cons (λ m. IsUnacked m.body) (message request.joiner (core_hello session offer)) [] tt (All-nil (λ m. IsUnacked m.body))
     greeting_plain session false offer = All-nil (λ m. IsUnacked m.body)
 
     spreading : (told : List Message) (waiting : ℕ) (at_once : Bool) → AreUnacked told → FewAcks node (acks_due request.parent)
@@ -93,8 +94,8 @@ module _ (node : NodeState) where
     by_before true = alone_acks (with_pin node tell.joiner) (Node from tell.session) _ refl
     by_before false =
         opened_acks (Rattle.tap_rule.specs.Joining.with_greeting (with_pin node tell.joiner) tell.joiner) (Node from tell.session) tell.depth 1 _
-        (message tell.joiner (Hello (next_number (with_pin node tell.joiner)) false []) ∷ []) refl
-        (All-cons (λ m. IsUnacked m.body) (message tell.joiner (Hello (next_number (with_pin node tell.joiner)) false [])) [] tt
+        (message tell.joiner (joining_hello (next_number (with_pin node tell.joiner))) ∷ []) refl
+        (All-cons (λ m. IsUnacked m.body) (message tell.joiner (joining_hello (next_number (with_pin node tell.joiner)))) [] tt
         (All-nil (λ m. IsUnacked m.body)))
 
     pub meets_acks : FewAcks node 1 (meets node from tell)

@@ -10,7 +10,7 @@ use Rattle.tap_join.specs.declared.sought.Sought.{Sought}
 use Rattle.tap_join.specs.declared.sought.Sought.TheVariants.{Forward, Surrogate}
 use Rattle.tap_multicast.specs.Covers.{level_kept}
 use Rattle.tap_wire.specs.declared.frame.Body.{Body}
-use Rattle.tap_wire.specs.declared.frame.Body.TheVariants.{Ack, Seek, Tell}
+use Rattle.tap_wire.specs.declared.frame.Body.TheVariants.{Ack, Seek}
 use Rattle.tap_wire.specs.declared.frame.Frame.{Frame}
 use Rattle.tap_wire.specs.declared.frame.TellFields.{TellFields}
 use Rattle.tap_rule.specs.Act.{act}
@@ -35,6 +35,8 @@ use Rattle.tap_safety.specs.Move.Move.{Begins, Delivers}
 use Rattle.tap_safety.specs.Moved.{moved, starter}
 use Rattle.tap_safety.specs.System.{System, AmongFrames}
 use Rattle.tap_safety.proofs.Moves.{starts}
+use Rattle.tap_safety.proofs.Said.{Said, said}
+use Rattle.tap_safety.proofs.Said.Said.{IsSeek, IsTell}
 use Rattle.tap_moves.specs.ByRule.{taken_at}
 use Rattle.tap_moves.specs.Delivered.{after_delivery, after_start}
 use Rattle.tap_moves.specs.InvariantLaws.{IsDelivery}
@@ -172,11 +174,10 @@ module _ (node : NodeState) (from : List ℕ) where
       ungreeting_greets node (acknowledges node from tell.session) (keeps node (acknowledges node from tell.session) refl refl refl
       (All-cons (λ m. IsUngreeting m.body) (message from (Ack tell.session)) [] tt (All-nil (λ m. IsUngreeting m.body))))
 
-  rule_greets : (body : Body) → IfSome (rule_of_frame node.status node from body) (Greets node)
-  rule_greets (Seek b) = seek_rule b node.status refl
-  rule_greets (Tell b prefix level session depth watch) =
-      tell_rule (record { joiner = b; prefix = prefix; level = level; session = session; depth = depth }) watch node.status refl
-  rule_greets body =
+  rule_greets : (body : Body) → Said body → IfSome (rule_of_frame node.status node from body) (Greets node)
+  rule_greets _ (IsSeek b) = seek_rule b node.status refl
+  rule_greets _ (IsTell tell watch) = tell_rule tell watch node.status refl
+  rule_greets body _ =
       IfSome_then (rule_of_frame node.status node from body) (rule_ungreeting node from node.status refl body tt)
       (ungreeting_greets node)
 
@@ -272,7 +273,7 @@ delivery_keeps p s r number node from body is few =
     let here = is.at in
     let sent : sent_by p s (Delivers number) ≡ (taken_at node from body).sent = rw (is_found p s number node from body comes, here) refl in
     hellos_kept s (after_delivery p s number) r (traffic_after p s r (Delivers number)) node (taken_at node from body) step.at.is
-    step.at.others (ap (λ fs. r.sent ++ fs) sent) (frame_greets node (frame_to node from body) is.known (rule_greets node from body))
+    step.at.others (ap (λ fs. r.sent ++ fs) sent) (frame_greets node (frame_to node from body) is.known (rule_greets node from body (said body)))
     (λ b. few.core (name_of node) node is.at b) (λ b. few.joining (name_of node) node is.at b) few
 
 frame_keeps : (p : SettingsValue) (s : System) (r : Traffic) (number : ℕ) (frame : Frame) (node : NodeState) → Sound p s

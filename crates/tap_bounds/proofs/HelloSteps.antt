@@ -20,7 +20,7 @@ use Rattle.tap_multicast.specs.declared.target.Target.{Target}
 use Rattle.tap_multicast.proofs.KeptLevels.{cover_anew, others_keep}
 use Rattle.tap_join.specs.Hello.{words_of}
 use Rattle.tap_wire.specs.declared.frame.Body.{Body}
-use Rattle.tap_wire.specs.declared.frame.Body.TheVariants.{Ack, Hello}
+use Rattle.tap_wire.specs.declared.frame.Body.TheVariants.{Ack}
 use Rattle.tap_wire.specs.declared.frame.Frame.{Frame}
 use Rattle.tap_wire.specs.declared.frame.TellFields.{TellFields}
 use Rattle.tap_rule.specs.Answers.{answer_for, next_number, with_session}
@@ -30,10 +30,13 @@ use Rattle.tap_rule.specs.Node.{IsRunning, NodeState, Status, level_of, name_of}
 use Rattle.tap_rule.specs.Node.Status.{Ceased, Core, Gone, Joining, Leaving}
 use Rattle.tap_rule.specs.Reaction.{Message, Reaction, message, pin_word, sends, with_pin, with_words}
 use Rattle.tap_rule.specs.Sending.{message_frame}
+use Rattle.tap_rule.specs.Hellos.{core_hello, joining_hello}
 use Rattle.tap_bounds.specs.Hellos.{if_covered, is_core_hello, is_joining_hello, most_as_core, most_as_joining, says_core, says_joining}
 use Rattle.tap_bounds.proofs.Counting.{CountsMessages, count-append, count-cons}
 use Rattle.tap_bounds.proofs.Greeted.{greeted_more}
 use Rattle.tap_bounds.proofs.HelloRules.{AreUngreeting, IsUngreeting, Ungreeting, answer_plain, keeps}
+use Rattle.tap_safety.proofs.Said.{Said, said}
+use Rattle.tap_safety.proofs.Said.Said.{IsHello}
 
 -- ---- tests
 
@@ -62,19 +65,19 @@ joining_from own x b other m =
       | inr apart ↦ rw apart (no_and (says_joining m.body))
     ]
 
-ungreeting_core : (body : Body) → IsUngreeting body → says_core body ≡ false
-ungreeting_core (Hello session core links) is = absurd is
-ungreeting_core other is = refl
+ungreeting_core : {body : Body} → Said body → IsUngreeting body → says_core body ≡ false
+ungreeting_core (IsHello hello) is = absurd is
+ungreeting_core _ is = refl
 
-ungreeting_joining : (body : Body) → IsUngreeting body → says_joining body ≡ false
-ungreeting_joining (Hello session core links) is = absurd is
-ungreeting_joining other is = refl
+ungreeting_joining : {body : Body} → Said body → IsUngreeting body → says_joining body ≡ false
+ungreeting_joining (IsHello hello) is = absurd is
+ungreeting_joining _ is = refl
 
 pub none_core : (own x b : List ℕ) (messages : List Message) → AreUngreeting messages
     → count_by (is_core_hello x b) (map (message_frame own) messages) ≡ 0
 none_core own x b [] all = refl
 none_core own x b (m ∷ messages) all =
-    let here = ungreeting_core m.body (All-head (λ n. IsUngreeting n.body) m messages all) in
+    let here = ungreeting_core (said m.body) (All-head (λ n. IsUngreeting n.body) m messages all) in
     let first : cond {A = ℕ} (is_core_hello x b (message_frame own m)) 1 0 ≡ 0 = rw here refl in
     let others = none_core own x b messages (All-tail (λ n. IsUngreeting n.body) m messages all) in
     let both = count-cons (is_core_hello x b) (message_frame own m) (map (message_frame own) messages) in
@@ -84,7 +87,7 @@ pub none_joining : (own x b : List ℕ) (messages : List Message) → AreUngreet
     → count_by (is_joining_hello x b) (map (message_frame own) messages) ≡ 0
 none_joining own x b [] all = refl
 none_joining own x b (m ∷ messages) all =
-    let here = ungreeting_joining m.body (All-head (λ n. IsUngreeting n.body) m messages all) in
+    let here = ungreeting_joining (said m.body) (All-head (λ n. IsUngreeting n.body) m messages all) in
     let first : cond {A = ℕ} (is_joining_hello x b (message_frame own m)) 1 0 ≡ 0 = rw here refl in
     let others = none_joining own x b messages (All-tail (λ n. IsUngreeting n.body) m messages all) in
     let both = count-cons (is_joining_hello x b) (message_frame own m) (map (message_frame own) messages) in
@@ -325,7 +328,7 @@ module _ (node : NodeState) (request : Request) (at : node.status ≡ Core) wher
         ≤ first_one k (pointwise nat_eq request.joiner b)
     greets_core None b =
         let one = count-cons (is_core_hello own b)
-        (message_frame own (message request.joiner (Hello (next_number pinning) true offered))) [] in
+        (message_frame own (message request.joiner (core_hello (next_number pinning) offered))) [] in
         let less = both_and (pointwise nat_eq own own) (pointwise nat_eq request.joiner b) in
         omega (arith, one, less)
     greets_core (Some before) b = omega arith
@@ -334,7 +337,7 @@ module _ (node : NodeState) (request : Request) (at : node.status ≡ Core) wher
         → count_by (is_joining_hello own b) (map (message_frame own) (greeting request (next_number pinning) (is_none k) offered)) ≤ 0
     greets_joining None b =
         let one = count-cons (is_joining_hello own b)
-        (message_frame own (message request.joiner (Hello (next_number pinning) true offered))) [] in
+        (message_frame own (message request.joiner (core_hello (next_number pinning) offered))) [] in
         omega (arith, one)
     greets_joining (Some before) b = omega arith
 
@@ -388,7 +391,7 @@ module _ (node : NodeState) (from : List ℕ) (tell : TellFields) (at : node.sta
   met = with_words (words_of (pin_word node tell.joiner)) (welcomes (with_pin node tell.joiner) from tell)
 
   abbrev welcome : Frame
-  welcome = message_frame (name_of node) (message tell.joiner (Hello (next_number (with_pin node tell.joiner)) false []))
+  welcome = message_frame (name_of node) (message tell.joiner (joining_hello (next_number (with_pin node tell.joiner))))
 
   welcomed : has_name node.greeted tell.joiner ≡ false → Greets node met
   welcomed new = record {

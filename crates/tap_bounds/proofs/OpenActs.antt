@@ -15,7 +15,7 @@ use Rattle.tap_join.specs.declared.sought.Sought.TheVariants.{Surrogate}
 use Rattle.tap_multicast.specs.Covers.{level_kept}
 use Rattle.tap_wire.specs.Spelling.{IsBody}
 use Rattle.tap_wire.specs.declared.frame.Body.{Body}
-use Rattle.tap_wire.specs.declared.frame.Body.TheVariants.{Ack, Seek, Tell}
+use Rattle.tap_wire.specs.declared.frame.Body.TheVariants.{Ack, Seek}
 use Rattle.tap_wire.specs.declared.frame.Frame.{Frame}
 use Rattle.tap_wire.specs.declared.frame.TellFields.{TellFields}
 use Rattle.tap_rule.specs.Act.{act}
@@ -33,6 +33,8 @@ use Rattle.tap_rule.specs.Strange.{is_strange}
 use Rattle.tap_rule.proofs.CarriedOut.{frame_law, start_law, unruled_law, unruled_start_law}
 use Rattle.tap_safety.specs.Frames.{tell_body}
 use Rattle.tap_safety.specs.Turned.{joiner_of}
+use Rattle.tap_safety.proofs.Said.{Said, said}
+use Rattle.tap_safety.proofs.Said.Said.{IsSeek, IsTell}
 use Rattle.tap_moves.specs.Spelled.{IsNodeOf}
 use Rattle.tap_bounds.specs.Openings.{most_covering, most_opened}
 use Rattle.tap_bounds.proofs.HelloRules.{IsUngreeting, Ungreeting, keeps, rule_ungreeting, start_ungreeting}
@@ -147,11 +149,9 @@ module _ (p : SettingsValue) (node : NodeState) (from : List ℕ) (of : IsNodeOf
       none_opens p node tell.joiner (acknowledges node from tell.session) (keeps node (acknowledges node from tell.session) refl refl refl
       (All-cons (λ m. IsUngreeting m.body) (message from (Ack tell.session)) [] tt (All-nil (λ m. IsUngreeting m.body)))) refl
 
-  pub rule_opens : (body : Body) → IsBody p body → IfSome (rule_of_frame node.status node from body) (Opens p node (joiner_of body))
-  rule_opens (Seek b) spelled = seek_rule b node.status refl
-  rule_opens (Tell b prefix level session depth watch) spelled =
-      tell_rule (record { joiner = b; prefix = prefix; level = level; session = session; depth = depth }) watch spelled.level_most node.status
-      refl
-  rule_opens body spelled =
+  pub rule_opens : (body : Body) → Said body → IsBody p body → IfSome (rule_of_frame node.status node from body) (Opens p node (joiner_of body))
+  rule_opens _ (IsSeek b) spelled = seek_rule b node.status refl
+  rule_opens _ (IsTell tell watch) spelled = tell_rule tell watch spelled.level_most node.status refl
+  rule_opens body _ spelled =
       both_none p node (joiner_of body) (rule_of_frame node.status node from body) (rule_ungreeting node from node.status refl body tt)
       (rule_opens_none node from node.status body tt)

@@ -10,7 +10,7 @@ use Rattle.tap_join.specs.Seek.{sought}
 use Rattle.tap_join.specs.declared.sought.Sought.{Sought}
 use Rattle.tap_join.specs.declared.sought.Sought.TheVariants.{Forward, Surrogate}
 use Rattle.tap_wire.specs.declared.frame.Body.{Body}
-use Rattle.tap_wire.specs.declared.frame.Body.TheVariants.{Seek, Tell}
+use Rattle.tap_wire.specs.declared.frame.Body.TheVariants.{Seek}
 use Rattle.tap_wire.specs.declared.frame.Frame.{Frame}
 use Rattle.tap_wire.specs.declared.frame.TellFields.{TellFields}
 use Rattle.tap_rule.specs.Act.{act}
@@ -35,6 +35,8 @@ use Rattle.tap_safety.specs.Move.Move.{Begins, Delivers}
 use Rattle.tap_safety.specs.Moved.{moved, starter}
 use Rattle.tap_safety.specs.System.{System, AmongFrames}
 use Rattle.tap_safety.proofs.Moves.{starts}
+use Rattle.tap_safety.proofs.Said.{Said, said}
+use Rattle.tap_safety.proofs.Said.Said.{IsSeek, IsTell}
 use Rattle.tap_moves.specs.ByRule.{taken_at}
 use Rattle.tap_moves.specs.Delivered.{after_delivery, after_start}
 use Rattle.tap_moves.specs.InvariantLaws.{IsDelivery}
@@ -163,16 +165,14 @@ module _ (p : SettingsValue) (s : System) (number : ℕ) (node : NodeState) (fro
   by_status body core Gone at = elsewhere body (λ is. let wrong : Gone ≡ Core = sym at ∙ is in absurd (cc))
   by_status body core Ceased at = elsewhere body (λ is. let wrong : Ceased ≡ Core = sym at ∙ is in absurd (cc))
 
-  rule_grows : (body : Body) → IsDelivery p s number node from body → IfSome (rule_of_frame node.status node from body) (Grows node)
-  rule_grows (Seek b) is = by_status (Seek b) (core_seek b is) node.status refl
-  rule_grows (Tell b prefix level session depth watch) is =
-      by_status (Tell b prefix level session depth watch)
-      (core_tell (record { joiner = b; prefix = prefix; level = level; session = session; depth = depth }) watch is) node.status refl
-  rule_grows body is =
+  rule_grows : (body : Body) → Said body → IsDelivery p s number node from body → IfSome (rule_of_frame node.status node from body) (Grows node)
+  rule_grows _ (IsSeek b) is = by_status (Seek b) (core_seek b is) node.status refl
+  rule_grows _ (IsTell tell watch) is = by_status (tell_body tell watch) (core_tell tell watch is) node.status refl
+  rule_grows body _ is =
       IfSome_then (rule_of_frame node.status node from body) (rule_untold node from node.status refl body tt) (untold_grows node)
 
   pub taken_grows : (body : Body) → IsDelivery p s number node from body → ActedGrows node (taken_at node from body)
-  taken_grows body is = frame_grows node (frame_to node from body) is.known (rule_grows body is)
+  taken_grows body is = frame_grows node (frame_to node from body) is.known (rule_grows body (said body) is)
 
 -- ---- what that makes of a system
 

@@ -25,7 +25,6 @@ use Rattle.tap_multicast.proofs.Telling.{IsTarget, targets_are, targets_distinct
 use Rattle.tap_join.specs.Hello.{words_of}
 use Rattle.tap_table.specs.declared.tie.Tie.{Tie}
 use Rattle.tap_wire.specs.declared.frame.Body.{Body}
-use Rattle.tap_wire.specs.declared.frame.Body.TheVariants.{Tell}
 use Rattle.tap_rule.specs.Answers.{answer_for, next_number, with_session}
 use Rattle.tap_rule.specs.Covering.{Request, answers_awaited, covers_as, greeting, pins_and_covers, tell_for, with_level}
 use Rattle.tap_rule.specs.Kept.{IsNode}
@@ -38,6 +37,8 @@ use Rattle.tap_moves.proofs.Got.{among_all}
 use Rattle.tap_bounds.specs.Tells.{is_tell, most_tells, tells_of}
 use Rattle.tap_bounds.proofs.Counting.{CountsMessages, count-append, count-cons, count-none}
 use Rattle.tap_bounds.proofs.TellRules.{AreUntold, IsUntold, Untold, answer_plain}
+use Rattle.tap_safety.proofs.Said.{Said, said}
+use Rattle.tap_safety.proofs.Said.Said.{IsTell}
 
 -- ---- the test
 
@@ -64,16 +65,16 @@ tell_from own x o b other m =
       | inr apart ↦ rw apart (no_and (tells_of b m.body))
     ]
 
-untold : (own x o b : List ℕ) (to : List ℕ) (body : Body) → IsUntold body → is_tell x o b (message_frame own (message to body)) ≡ false
-untold own x o b to (Tell joiner prefix level session depth watch) is = absurd is
-untold own x o b to other is = refl
+untold : (own x o b : List ℕ) (to : List ℕ) {body : Body} → Said body → IsUntold body → is_tell x o b (message_frame own (message to body)) ≡ false
+untold own x o b to (IsTell tell watch) is = absurd is
+untold own x o b to _ is = refl
 
 pub none_told : (own x o b : List ℕ) (messages : List Message) → AreUntold messages
     → count_by (is_tell x o b) (map (message_frame own) messages) ≡ 0
 none_told own x o b [] all = refl
 none_told own x o b (m ∷ messages) all =
     let here : is_tell x o b (message_frame own m) ≡ false =
-    untold own x o b m.to m.body (All-head (λ n. IsUntold n.body) m messages all) in
+    untold own x o b m.to (said m.body) (All-head (λ n. IsUntold n.body) m messages all) in
     let first : cond {A = ℕ} (is_tell x o b (message_frame own m)) 1 0 ≡ 0 = rw here refl in
     let others = none_told own x o b messages (All-tail (λ n. IsUntold n.body) m messages all) in
     let both = count-cons (is_tell x o b) (message_frame own m) (map (message_frame own) messages) in

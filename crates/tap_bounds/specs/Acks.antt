@@ -6,8 +6,10 @@ use Rattle.tap_session.specs.Session.{Session}
 use Rattle.tap_session.specs.declared.parent.Parent.{Parent}
 use Rattle.tap_session.specs.declared.parent.Parent.TheVariants.{Node, Root}
 use Rattle.tap_wire.specs.declared.frame.Body.{Body}
-use Rattle.tap_wire.specs.declared.frame.Body.TheVariants.{Ack, Tell}
 use Rattle.tap_wire.specs.declared.frame.Frame.{Frame}
+use Rattle.tap_wire.specs.declared.kind.Kind.{Kind}
+use Rattle.tap_wire.specs.declared.kind.Kind.TheVariants.{Ack, Tell}
+use Rattle.tap_wire.specs.Kind.{kind_of}
 use Rattle.tap_rule.specs.Node.{NodeState}
 use Rattle.tap_safety.specs.Move.{Move, may_move}
 use Rattle.tap_safety.specs.Moved.{moved}
@@ -18,9 +20,12 @@ use Rattle.tap_safety_moves.specs.Sound.{Sound}
 use Rattle.tap_bounds.specs.Moves.{traffic_of}
 use Rattle.tap_bounds.specs.Traffic.{Traffic, no_traffic, traffic_after}
 
+abbrev is_ack_kind : Kind → Bool
+is_ack_kind Ack = true
+is_ack_kind other = false
+
 abbrev pub is_ack : Body → Bool
-is_ack (Ack session) = true
-is_ack other = false
+is_ack body = is_ack_kind (kind_of body)
 
 -- whether the parent of a session is another node's
 abbrev pub is_below_parent : Parent → Bool
@@ -30,9 +35,12 @@ is_below_parent (Node name session) = true
 abbrev pub is_below : Session → Bool
 is_below s = is_below_parent s.parent
 
+abbrev is_tell_kind : Kind → Bool
+is_tell_kind Tell = true
+is_tell_kind other = false
+
 abbrev pub is_tell_body : Body → Bool
-is_tell_body (Tell joiner prefix level session depth watch) = true
-is_tell_body other = false
+is_tell_body body = is_tell_kind (kind_of body)
 
 -- whether a frame is an Ack from this name, and a Tell to it
 abbrev pub is_ack_from : List ℕ → Frame → Bool

@@ -3,8 +3,10 @@ use Rattle.std.specs.Prelude.{◌≡◌, ℕ, nat_eq, ◌≤◌, Bool, true, fal
 use Rattle.std.specs.Cmp.Lexicographic.{pointwise}
 use Rattle.tap_name.specs.Settings.{SettingsValue}
 use Rattle.tap_wire.specs.declared.frame.Body.{Body}
-use Rattle.tap_wire.specs.declared.frame.Body.TheVariants.{Done}
 use Rattle.tap_wire.specs.declared.frame.Frame.{Frame}
+use Rattle.tap_wire.specs.declared.kind.Kind.{Kind}
+use Rattle.tap_wire.specs.declared.kind.Kind.TheVariants.{Done}
+use Rattle.tap_wire.specs.Kind.{kind_of}
 use Rattle.tap_rule.specs.Node.{NodeState}
 use Rattle.tap_rule.specs.Node.Status.{Joining}
 use Rattle.tap_safety.specs.Move.{Move, may_move}
@@ -17,9 +19,12 @@ use Rattle.tap_bounds.specs.Moves.{traffic_of}
 use Rattle.tap_bounds.specs.Taken.{AllAreKnown}
 use Rattle.tap_bounds.specs.Traffic.{Traffic, no_traffic, traffic_after}
 
+abbrev is_done_kind : Kind → Bool
+is_done_kind Done = true
+is_done_kind other = false
+
 abbrev pub is_done_body : Body → Bool
-is_done_body Done = true
-is_done_body other = false
+is_done_body body = is_done_kind (kind_of body)
 
 -- whether a frame is a Done to this name
 abbrev pub is_done_to : List ℕ → Frame → Bool

@@ -4,8 +4,11 @@ use Rattle.std.specs.Cmp.Lexicographic.{pointwise}
 use Rattle.tap_name.specs.Prefix.{lcp}
 use Rattle.tap_name.specs.Settings.{SettingsValue}
 use Rattle.tap_wire.specs.declared.frame.Body.{Body}
-use Rattle.tap_wire.specs.declared.frame.Body.TheVariants.{Heard, Hello, Seek}
+use Rattle.tap_wire.specs.declared.frame.Body.TheVariants.{Seek}
 use Rattle.tap_wire.specs.declared.frame.Frame.{Frame}
+use Rattle.tap_wire.specs.declared.kind.Kind.{Kind}
+use Rattle.tap_wire.specs.declared.kind.Kind.TheVariants.{Heard, Hello}
+use Rattle.tap_wire.specs.Kind.{kind_of}
 use Rattle.tap_safety.specs.System.{System, AmongFrames}
 use Rattle.tap_bounds.specs.Traffic.{Traffic}
 
@@ -16,13 +19,19 @@ abbrev pub seeks_for : List ℕ → Body → Bool
 seeks_for b (Seek joiner) = pointwise nat_eq joiner b
 seeks_for b other = false
 
+abbrev is_heard_kind : Kind → Bool
+is_heard_kind Heard = true
+is_heard_kind other = false
+
 abbrev pub is_heard : Body → Bool
-is_heard (Heard session) = true
-is_heard other = false
+is_heard body = is_heard_kind (kind_of body)
+
+abbrev is_hello_kind : Kind → Bool
+is_hello_kind Hello = true
+is_hello_kind other = false
 
 abbrev pub is_hello : Body → Bool
-is_hello (Hello session core links) = true
-is_hello other = false
+is_hello body = is_hello_kind (kind_of body)
 
 -- whether a frame is the Seek of this joiner, a Heard from this one, and a Hello to it
 abbrev pub is_seek_of : List ℕ → Frame → Bool
