@@ -7,9 +7,8 @@ use Rattle.tap_name.specs.Settings.{SettingsValue}
 use Rattle.tap_pointer.specs.Pointers.{PointersValue}
 use Rattle.tap_pointer.specs.Reconcile.{lays_numbered, layings_to_wanted, with_wanted}
 use Rattle.tap_wire.specs.declared.frame.Body.{Body}
-use Rattle.tap_wire.specs.declared.frame.Body.TheVariants.{Ack, Done, Heard, Hello, Link, Release, Seek, Tell}
+use Rattle.tap_wire.specs.declared.frame.Body.TheVariants.{Heard, Hello}
 use Rattle.tap_wire.specs.declared.frame.Frame.{Frame}
-use Rattle.tap_wire.specs.declared.frame.TellFields.{TellFields}
 use Rattle.tap_rule.specs.Event.{Acted}
 use Rattle.tap_rule.specs.Laws.{IsCarriedOut, IsIgnored, lays_for}
 use Rattle.tap_rule.specs.Node.{IsRunning, NodeState, Status, name_of}
@@ -22,6 +21,9 @@ use Rattle.tap_safety.specs.Seeking.{HasNode}
 use Rattle.tap_safety.specs.System.{System, AmongFrames, IsJoiner}
 use Rattle.tap_safety.specs.Sessions.{Belongs}
 use Rattle.tap_safety.specs.Joins.{about}
+use Rattle.tap_safety.proofs.Said.{Said, said}
+use Rattle.tap_safety.proofs.Said.Said.{IsDone, IsHeard, IsHello, IsLink, IsSeek, IsTell}
+use Rattle.tap_safety.specs.Frames.{hello_body}
 use Rattle.tap_safety_moves.specs.Sound.{Sound}
 use Rattle.tap_bounds.specs.Traffic.{Traffic}
 use Rattle.tap_join_bounds.specs.OfJoins.{IsJoinBody, SentAreOfJoins, joiner_named, joiner_said}
@@ -35,27 +37,13 @@ abbrev pub IsJoinFrame : Body → Type 0
 IsJoinFrame (Hello session core links) = core ≡ false → links ≡ []
 IsJoinFrame other = IsJoinBody other
 
-pub of_message : (body : Body) → IsJoinMessage body → IsJoinFrame body
-of_message (Seek joiner) is = tt
-of_message (Tell joiner prefix level session depth watch) is = tt
-of_message (Hello session core links) is = is
-of_message (Heard session) is = tt
-of_message (Ack session) is = tt
-of_message Done is = tt
-of_message Release is = tt
-of_message (Link version on) is = tt
-of_message _ is = absurd is
+pub of_message : {body : Body} → Said body → IsJoinMessage body → IsJoinFrame body
+of_message (IsLink version on) is = tt
+of_message _ is = is
 
-pub of_frame : (body : Body) → IsJoinFrame body → IsJoinBody body
-of_frame (Seek joiner) is = tt
-of_frame (Tell joiner prefix level session depth watch) is = tt
-of_frame (Hello session core links) is = tt
-of_frame (Heard session) is = tt
-of_frame (Ack session) is = tt
-of_frame Done is = tt
-of_frame Release is = tt
-of_frame (Link version on) is = tt
-of_frame _ is = absurd is
+pub of_frame : {body : Body} → Said body → IsJoinFrame body → IsJoinBody body
+of_frame (IsHello hello) is = tt
+of_frame _ is = is
 
 -- ---- what a node does
 
@@ -101,7 +89,7 @@ module _ (node : NodeState) (r : Reaction) (acted : Acted) (carried : IsCarriedO
         | inr later ↦ elim (among-either f named laid later) [
           | inl message ↦
               let (m, of, is) = among-map_from (message_frame own) f r.messages message in
-              subst (λ (g : Frame). IsJoinFrame g.body) (sym is) (of_message m.body (among_messages r.messages m step.messages of))
+              subst (λ (g : Frame). IsJoinFrame g.body) (sym is) (of_message (said m.body) (among_messages r.messages m step.messages of))
           | inr lay ↦
               let no : IsAmong f [] = subst (λ lays. IsAmong f (map (lay_frame own) lays)) none_laid lay in
               absurd no
@@ -153,26 +141,25 @@ module _ (p : SettingsValue) (s : System) (sound : Sound p s) (m : ℕ) (from to
       of_joiner s b (subst (IsJoiner s) same (basis.of_joiners.opened x k awaits.session awaits.is))
 
   -- whose join a frame under way is of, it still joins
-  body_joins : (body : Body) (b : List ℕ) → AmongFrames m (frame_of body) s.frames → joiner_named body from to ≡ Some b → IsJoining s b
-  body_joins (Seek joiner) b among is =
+  body_joins : {body : Body} → Said body → (b : List ℕ) → AmongFrames m (frame_of body) s.frames → joiner_named body from to ≡ Some b → IsJoining s b
+  body_joins (IsSeek joiner) b among is =
       let seeker = sound.invariant.basis.seekers.seeks from to joiner (record { number = m; among = among }) in
       let same : joiner ≡ b = cc in
       subst (IsJoining s) same (record { state = seeker.state; is = seeker.is; joining = seeker.joining })
-  body_joins (Tell joiner prefix level session depth watch) b among is =
-      let fields : TellFields = record { joiner = joiner; prefix = prefix; level = level; session = session; depth = depth } in
-      let told = sound.invariant.basis.tells.each from to fields watch (record { number = m; among = among }) in
-      let same : joiner ≡ b = cc in
-      subst (IsJoining s) same (of_joiner s joiner told.joiner)
-  body_joins (Hello session core links) b among is = in_session (Hello session core links) from session b among refl is
-  body_joins (Heard session) b among is = in_session (Heard session) to session b among refl is
-  body_joins Done b among is =
+  body_joins (IsTell tell watch) b among is =
+      let told = sound.invariant.basis.tells.each from to tell watch (record { number = m; among = among }) in
+      let same : tell.joiner ≡ b = cc in
+      subst (IsJoining s) same (of_joiner s tell.joiner told.joiner)
+  body_joins (IsHello hello) b among is = in_session (hello_body hello) from hello.session b among refl is
+  body_joins (IsHeard session) b among is = in_session (Heard session) to session b among refl is
+  body_joins IsDone b among is =
       let same : to ≡ b = cc in
       subst (IsJoining s) same (of_joiner s to (sound.invariant.basis.of_joiners.dones from to (record { number = m; among = among })))
   body_joins _ b among is = cc
 
 pub joiner_joins : (p : SettingsValue) (s : System) (m : ℕ) (f : Frame) (b : List ℕ) → Sound p s → AmongFrames m f s.frames
     → joiner_said f ≡ Some b → IsJoining s b
-joiner_joins p s m f b sound among is = body_joins p s sound m f.from f.to f.body b among is
+joiner_joins p s m f b sound among is = body_joins p s sound m f.from f.to (said f.body) b among is
 
 -- ---- systems
 
@@ -274,7 +261,7 @@ module _ (p : SettingsValue) (members : List (List ℕ)) (s s' : System) (r r' :
 
 pub are_of_joins : (members : List (List ℕ)) (s : System) (r : Traffic) → AreOfJoins members s r → SentAreOfJoins members s r
 are_of_joins members s r are = record {
-  kinds = λ f among. of_frame f.body (are.sent f among);
+  kinds = λ f among. of_frame (said f.body) (are.sent f among);
   joiners = are.joiners;
   ends = are.ends;
 }

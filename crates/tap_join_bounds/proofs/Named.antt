@@ -14,6 +14,8 @@ use Rattle.tap_wire.specs.declared.frame.Frame.{Frame}
 use Rattle.tap_rule.specs.Sent.{IsAmong}
 use Rattle.tap_safety.specs.Seeking.{HasNode}
 use Rattle.tap_safety.specs.System.{System}
+use Rattle.tap_safety.proofs.Said.{Said, said}
+use Rattle.tap_safety.proofs.Said.Said.{IsHello}
 use Rattle.tap_bounds.specs.Hellos.{HellosOnce, is_core_hello, is_joining_hello, says_core}
 use Rattle.tap_bounds.specs.Traffic.{Traffic}
 use Rattle.tap_bounds.proofs.Counting.{count-cons, count-none}
@@ -130,10 +132,10 @@ which_hello x t from to (Hello session false links) of is =
 which_hello x t from to _ of is = cc
 
 -- a Hello goes to a joiner
-names_joiner : (x t from to : List ℕ) (body : Body) → is_naming x t (record { from = from; to = to; body = body }) ≡ true
+names_joiner : (x t from to : List ℕ) {body : Body} → Said body → is_naming x t (record { from = from; to = to; body = body }) ≡ true
     → joiner_said (record { from = from; to = to; body = body }) ≡ Some x
-names_joiner x t from to (Hello session core links) is =
-    ap (λ y. Some y) ((bytes_eq-Decides to x).0 (and_parts (is_named_in t (hello_names from core links)) (pointwise nat_eq to x) is).1)
+names_joiner x t from to (IsHello hello) is =
+    ap (λ y. Some y) ((bytes_eq-Decides to x).0 (and_parts (is_named_in t (hello_names from hello.is_core hello.links)) (pointwise nat_eq to x) is).1)
 names_joiner x t from to _ is = cc
 
 module _ (members names : List (List ℕ)) (s : System) (r : Traffic) (are : AreOfJoins members s r) (once : HellosOnce r)
@@ -143,7 +145,7 @@ module _ (members names : List (List ℕ)) (s : System) (r : Traffic) (are : Are
   none_to_member member =
       count-none (is_naming x t) r.sent (λ f among. elim (cases_Bool (is_naming x t f)) [
         | inl is ↦
-            let new = are.joiners f x among (names_joiner x t f.from f.to f.body is) in
+            let new = are.joiners f x among (names_joiner x t f.from f.to (said f.body) is) in
             let wrong : true ≡ false = sym member ∙ new in
             absurd (true≢false wrong)
         | inr isnt ↦ isnt

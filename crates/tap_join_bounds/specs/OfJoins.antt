@@ -3,8 +3,11 @@ use Rattle.std.specs.Prelude.{◌≡◌, ℕ, false, List, [], ◌∷◌, Option
 use Rattle.tap_name.specs.Names.{has_name}
 use Rattle.tap_name.specs.Settings.{SettingsValue}
 use Rattle.tap_wire.specs.declared.frame.Body.{Body}
-use Rattle.tap_wire.specs.declared.frame.Body.TheVariants.{Ack, Done, Heard, Hello, Link, Release, Seek, Tell}
+use Rattle.tap_wire.specs.declared.frame.Body.TheVariants.{Done, Heard, Hello, Seek, Tell}
+use Rattle.tap_wire.specs.declared.kind.Kind.TheVariants as kind
 use Rattle.tap_wire.specs.declared.frame.Frame.{Frame}
+use Rattle.tap_wire.specs.declared.kind.Kind.{Kind}
+use Rattle.tap_wire.specs.Kind.{kind_of}
 use Rattle.tap_rule.specs.Event.{Start}
 use Rattle.tap_rule.specs.Event.Start.{Join}
 use Rattle.tap_rule.specs.Sent.{IsAmong}
@@ -36,16 +39,19 @@ JoinsAlone (move ∷ moves) = IsOfJoin move × JoinsAlone moves
 -- ---- frames
 
 -- the kinds of frames that joins bring
+abbrev pub IsJoinKind : Kind → Type 0
+IsJoinKind kind.Seek = Unit {0}
+IsJoinKind kind.Tell = Unit {0}
+IsJoinKind kind.Hello = Unit {0}
+IsJoinKind kind.Heard = Unit {0}
+IsJoinKind kind.Ack = Unit {0}
+IsJoinKind kind.Done = Unit {0}
+IsJoinKind kind.Release = Unit {0}
+IsJoinKind kind.Link = Unit {0}
+IsJoinKind other = ⊥
+
 abbrev pub IsJoinBody : Body → Type 0
-IsJoinBody (Seek joiner) = Unit {0}
-IsJoinBody (Tell joiner prefix level session depth watch) = Unit {0}
-IsJoinBody (Hello session core links) = Unit {0}
-IsJoinBody (Heard session) = Unit {0}
-IsJoinBody (Ack session) = Unit {0}
-IsJoinBody Done = Unit {0}
-IsJoinBody Release = Unit {0}
-IsJoinBody (Link version on) = Unit {0}
-IsJoinBody other = ⊥
+IsJoinBody body = IsJoinKind (kind_of body)
 
 abbrev pub joiner_named : Body → List ℕ → List ℕ → Option (List ℕ)
 joiner_named (Seek joiner) from to = Some joiner
