@@ -10,6 +10,10 @@ use Rattle.tap_cast.specs.declared.casts.CastTurn.{CastTurn}
 use Rattle.tap_cast.specs.declared.casts.CastTurn.TheVariants.{Already, Now}
 use Rattle.tap_cast.specs.Targets.{cast_targets}
 
+-- the number of a cast
+abbrev pub CastNumber : Type 0
+CastNumber = ℕ
+
 -- the casts, ascending by number, each with its level
 abbrev pub CastsValue : Type 0
 CastsValue = List (ℕ × ℕ)

@@ -1,4 +1,3 @@
-pub mod Kinds
 pub mod Settings
 pub mod Digits
 pub mod Padded

@@ -6,6 +6,10 @@ use Rattle.tap_name.specs.declared.name.NameFault.TheVariants.{BadLength, BadDig
 use Rattle.tap_name.specs.Settings.{SettingsValue}
 use Rattle.tap_name.specs.Digits.{text_of_digit, digit_of_text}
 
+-- a name: its digits
+abbrev pub Name : Type 0
+Name = List ℕ
+
 -- a name of these settings: it has their number of digits, each below their base
 pub record IsName (p : SettingsValue) (name : List ℕ) : Type 0 where
   pub len : length name ≡ p.digits

@@ -7,8 +7,13 @@ use Rattle.std.specs.declared.cmp.Ordering.{Ordering}
 use Rattle.std.specs.declared.cmp.Ordering.TheVariants.{Less, Equal, Greater}
 use Rattle.std.proofs.Common.{refl}
 use Rattle.std.proofs.lemmas.Cmp.{on_total, then_total}
+use Rattle.tap_name.specs.Name.{Name}
 use Rattle.tap_name.specs.Order.{name_cmp}
 use Rattle.tap_pointer.specs.declared.pair.Pair.{Pair}
+
+-- an object: the name of one
+abbrev pub Object : Type 0
+Object = Name
 
 -- pairs are ordered by object, then server
 abbrev pub pair_cmp : Pair → Pair → Ordering

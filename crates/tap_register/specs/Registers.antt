@@ -6,6 +6,10 @@ use Rattle.std.specs.declared.cmp.Ordering.{Ordering}
 use Rattle.std.specs.declared.cmp.Ordering.TheVariants.{Less}
 use Rattle.tap_register.specs.declared.registers.Entry.{Entry}
 
+-- the version of a word: who says a later one gives it a greater number
+abbrev pub Version : Type 0
+Version = ℕ
+
 -- the key of each entry is below those of the later ones
 abbrev pub IsAscending : {K V : Type 0} → (K → K → Ordering) → List (Entry K V) → Type 0
 IsAscending cmp entries = AllPairs (λ a b. cmp a.key b.key ≡ Less) entries

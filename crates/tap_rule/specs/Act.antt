@@ -5,7 +5,7 @@
 --
 -- Rule: docs/PROTOCOL.md, "Steps of a node".
 use Rattle.std.specs.Prelude.{[], true, false, if◌then◌else◌, Option, None, Some}
-use Rattle.tap_name.specs.Kinds.{Name}
+use Rattle.tap_name.specs.Name.{Name}
 use Rattle.tap_rule.specs.Node.{NodeState, Status, name_of}
 use Rattle.tap_rule.specs.Node.Status.{Joining, Core, Leaving, Gone, Ceased}
 use Rattle.tap_rule.specs.Event.{Acted, Event}

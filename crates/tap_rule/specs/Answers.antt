@@ -4,7 +4,7 @@
 --
 -- Rule: docs/PROTOCOL.md, "Heard and Ack".
 use Rattle.std.specs.Prelude.{ℕ, ◌+◌, List, [], ◌∷◌}
-use Rattle.tap_session.specs.Kinds.{Depth, SessionNumber}
+use Rattle.tap_session.specs.Session.{Depth, SessionNumber}
 use Rattle.tap_session.specs.declared.parent.Parent.{Parent}
 use Rattle.tap_session.specs.declared.parent.Parent.TheVariants.{Root, Node}
 use Rattle.tap_session.specs.declared.sessions.Answered.{Answered}

@@ -6,18 +6,18 @@
 -- Rule: docs/PROTOCOL.md, "Cast" and "CastAck".
 use Rattle.std.specs.Prelude.{ℕ, ◌+◌, ◌-◌, ◌||◌, Bool, true, false, if◌then◌else◌, List, [], ◌∷◌, ◌++◌, length, map}
 use Rattle.std.specs.List.{slice_index_or}
-use Rattle.tap_name.specs.Kinds.{Level, Name}
-use Rattle.tap_session.specs.Kinds.{Depth, SessionNumber}
+use Rattle.tap_name.specs.Name.{Name}
+use Rattle.tap_name.specs.Prefix.{Level}
+use Rattle.tap_session.specs.Session.{Depth, SessionNumber}
 use Rattle.tap_session.specs.declared.parent.Parent.{Parent}
 use Rattle.tap_session.specs.declared.parent.Parent.TheVariants.{Root, Node}
 use Rattle.tap_session.specs.declared.sessions.Answered.{Answered}
 use Rattle.tap_session.specs.declared.sessions.Answered.TheVariants.{Open, Closed, Unknown}
 use Rattle.tap_session.specs.Sessions.{answer_to, answered_at, opened_with, session_of}
-use Rattle.tap_cast.specs.Kinds.{CastNumber}
 use Rattle.tap_cast.specs.declared.casts.CastTurn.{CastTurn}
 use Rattle.tap_cast.specs.declared.casts.CastTurn.TheVariants.{Already, Now}
 use Rattle.tap_cast.specs.declared.target.CastTarget.{CastTarget}
-use Rattle.tap_cast.specs.Casts.{turn_of, with_cast}
+use Rattle.tap_cast.specs.Casts.{CastNumber, turn_of, with_cast}
 use Rattle.tap_wire.specs.declared.frame.Body.TheVariants.{Cast, CastAck}
 use Rattle.tap_rule.specs.Node.{NodeState, name_of}
 use Rattle.tap_rule.specs.Event.{News}

@@ -5,8 +5,8 @@
 --
 -- Rule: docs/PROTOCOL.md, "Giving a join up" and "Done" and "Tell" and "Link".
 use Rattle.std.specs.Prelude.{Bool, true, if◌then◌else◌, [], ◌∷◌}
-use Rattle.tap_name.specs.Kinds.{Name}
-use Rattle.tap_session.specs.Kinds.{SessionNumber}
+use Rattle.tap_name.specs.Name.{Name}
+use Rattle.tap_session.specs.Session.{SessionNumber}
 use Rattle.tap_table.specs.ByName.{targets_by_name}
 use Rattle.tap_table.specs.Ties.{holders_on, off_ties}
 use Rattle.tap_wire.specs.declared.frame.Body.TheVariants.{Ack, Forget}

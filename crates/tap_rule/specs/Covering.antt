@@ -5,10 +5,11 @@
 --
 -- Rule: docs/PROTOCOL.md, "Seek" and "Tell" and "Covers of a node".
 use Rattle.std.specs.Prelude.{ℕ, ◌==◌, ◌+◌, Bool, if◌then◌else◌, List, [], ◌∷◌, ◌++◌, length, map}
-use Rattle.tap_name.specs.Kinds.{Level, Name}
+use Rattle.tap_name.specs.Name.{Name}
+use Rattle.tap_name.specs.Prefix.{Level}
 use Rattle.tap_name.specs.declared.slot.Offered.{Offered}
 use Rattle.tap_name.specs.declared.slot.Slot.{Slot}
-use Rattle.tap_session.specs.Kinds.{Depth, SessionNumber}
+use Rattle.tap_session.specs.Session.{Depth, SessionNumber}
 use Rattle.tap_session.specs.declared.parent.Parent.{Parent}
 use Rattle.tap_session.specs.declared.parent.Parent.TheVariants.{Root, Node}
 use Rattle.tap_watch.specs.Level.{full_slots}

@@ -2,11 +2,16 @@
 --
 -- Rule: docs/PROTOCOL.md, "Steps of a node".
 use Rattle.std.specs.Prelude.{ℕ, Bool, List, Option}
-use Rattle.tap_name.specs.Kinds.{Level, Name}
-use Rattle.tap_pointer.specs.Kinds.{Object, Ticket}
-use Rattle.tap_cast.specs.Kinds.{CastNumber}
+use Rattle.tap_name.specs.Name.{Name}
+use Rattle.tap_name.specs.Prefix.{Level}
+use Rattle.tap_pointer.specs.Pair.{Object}
+use Rattle.tap_cast.specs.Casts.{CastNumber}
 use Rattle.tap_wire.specs.declared.frame.Frame.{Frame}
 use Rattle.tap_rule.specs.Node.{NodeState}
+
+-- the number of a lookup
+abbrev pub Ticket : Type 0
+Ticket = ℕ
 
 -- what a scenario has a node start
 pub data Start : Type 0 where

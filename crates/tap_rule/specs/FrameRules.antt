@@ -4,7 +4,7 @@
 --
 -- Rule: docs/PROTOCOL.md, "Steps of a node".
 use Rattle.std.specs.Prelude.{Option, None, Some}
-use Rattle.tap_name.specs.Kinds.{Name}
+use Rattle.tap_name.specs.Name.{Name}
 use Rattle.tap_wire.specs.declared.frame.Body.{Body}
 use Rattle.tap_wire.specs.declared.frame.Body.TheVariants.{Seek, Tell, Hello, Heard, Ack, Done, Release, Link, Lay, Find, Answer, Leave, Left, Gone, Forget, Cast, CastAck}
 use Rattle.tap_pointer.specs.Pointers.{pair_of}

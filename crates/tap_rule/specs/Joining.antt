@@ -5,10 +5,10 @@
 --
 -- Rule: docs/PROTOCOL.md, "The start of a join" and "Tell" and "Hello" and "Done".
 use Rattle.std.specs.Prelude.{◌+◌, Bool, if◌then◌else◌, List, [], ◌∷◌, ◌++◌, length}
-use Rattle.tap_name.specs.Kinds.{Name}
+use Rattle.tap_name.specs.Name.{Name}
 use Rattle.tap_name.specs.declared.slot.Offered.{Offered}
 use Rattle.tap_name.specs.Names.{has_name}
-use Rattle.tap_session.specs.Kinds.{SessionNumber}
+use Rattle.tap_session.specs.Session.{SessionNumber}
 use Rattle.tap_session.specs.declared.parent.Parent.TheVariants.{Node}
 use Rattle.tap_table.specs.declared.tie.Tie.{Tie}
 use Rattle.tap_table.specs.Ties.{holders_on}

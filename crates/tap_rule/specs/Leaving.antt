@@ -5,7 +5,7 @@
 --
 -- Rule: docs/PROTOCOL.md, "The start of a departure" and "Leave" and "Left" and "Gone".
 use Rattle.std.specs.Prelude.{◌==◌, ◌+◌, if◌then◌else◌, List, [], ◌∷◌, length, map, Option}
-use Rattle.tap_name.specs.Kinds.{Name}
+use Rattle.tap_name.specs.Name.{Name}
 use Rattle.tap_table.specs.declared.tie.Tie.{Tie}
 use Rattle.tap_table.specs.ByName.{targets_by_name}
 use Rattle.tap_table.specs.Ties.{holders_on, off_ties, removed}

@@ -5,10 +5,9 @@
 --
 -- Rule: docs/PROTOCOL.md, "Release" and "Link" and "Forget".
 use Rattle.std.specs.Prelude.{◌&&◌, Bool, if◌then◌else◌, List, [], ◌∷◌, Option}
-use Rattle.tap_name.specs.Kinds.{Name}
+use Rattle.tap_name.specs.Name.{Name}
 use Rattle.tap_name.specs.Order.{name_cmp}
-use Rattle.tap_register.specs.Kinds.{Version}
-use Rattle.tap_register.specs.Registers.{is_newer}
+use Rattle.tap_register.specs.Registers.{Version, is_newer}
 use Rattle.tap_table.specs.declared.tie.Tie.{Tie}
 use Rattle.tap_table.specs.Ties.{forgotten, held_word, release_tells, released}
 use Rattle.tap_join.specs.Hello.{words_of}

@@ -2,7 +2,8 @@
 --
 -- Rule: docs/PROTOCOL.md, "Nodes".
 use Rattle.std.specs.Prelude.{ℕ, Bool, false, List, [], Option}
-use Rattle.tap_name.specs.Kinds.{Level, Name}
+use Rattle.tap_name.specs.Name.{Name}
+use Rattle.tap_name.specs.Prefix.{Level}
 use Rattle.tap_name.specs.Order.{name_cmp}
 use Rattle.tap_name.specs.Settings.{SettingsValue}
 use Rattle.tap_register.specs.declared.registers.Entry.{Entry}
@@ -11,14 +12,12 @@ use Rattle.tap_link.specs.declared.kind.Kind.{Kind}
 use Rattle.tap_table.specs.Table.{kind_in}
 use Rattle.tap_table.specs.Ties.{TiesValue}
 use Rattle.tap_table.specs.Members.{ties_at_rest}
-use Rattle.tap_session.specs.Kinds.{SessionNumber}
-use Rattle.tap_session.specs.Session.{Session, SessionsValue}
+use Rattle.tap_session.specs.Session.{Session, SessionNumber, SessionsValue}
 use Rattle.tap_session.specs.Sessions.{session_of}
 use Rattle.tap_multicast.specs.Covers.{CoversValue, level_kept}
 use Rattle.tap_join.specs.Joining.{started_joining}
 use Rattle.tap_pointer.specs.Pointers.{PointersValue, no_pointers}
-use Rattle.tap_cast.specs.Kinds.{CastNumber}
-use Rattle.tap_cast.specs.Casts.{CastsValue}
+use Rattle.tap_cast.specs.Casts.{CastNumber, CastsValue}
 
 -- what a node is: it joins, takes full part, leaves in order, has left, or has given up its join
 pub data Status : Type 0 where

@@ -6,18 +6,20 @@
 --
 -- Rule: docs/PROTOCOL.md, "Publication and withdrawal" and "Lay" and "Find" and "Answer".
 use Rattle.std.specs.Prelude.{◌+◌, Bool, List, [], ◌∷◌, drop, length, Option, None, Some}
-use Rattle.tap_name.specs.Kinds.{Level, Name}
-use Rattle.tap_register.specs.Kinds.{Version}
+use Rattle.tap_name.specs.Name.{Name}
+use Rattle.tap_name.specs.Prefix.{Level}
+use Rattle.tap_register.specs.Registers.{Version}
 use Rattle.tap_table.specs.declared.next.Next.{Next}
 use Rattle.tap_table.specs.declared.next.Next.TheVariants.{Root, Hop}
 use Rattle.tap_table.specs.Next.{next_from}
-use Rattle.tap_pointer.specs.Kinds.{Object, Ticket}
+use Rattle.tap_pointer.specs.Pair.{Object}
 use Rattle.tap_pointer.specs.declared.lay.Lay.{Lay}
 use Rattle.tap_pointer.specs.declared.pair.Pair.{Pair}
 use Rattle.tap_pointer.specs.Pointers.{lay_applied, least_server, pointer_at, published, withdrawn}
 use Rattle.tap_pointer.specs.Reconcile.{reconcile_lays, reconciled}
 use Rattle.tap_wire.specs.declared.frame.Body.TheVariants.{Find, Answer}
 use Rattle.tap_rule.specs.Node.{NodeState, name_of}
+use Rattle.tap_rule.specs.Event.{Ticket}
 use Rattle.tap_rule.specs.Event.News.{Answered}
 use Rattle.tap_rule.specs.Reaction.{Reaction, message, sends, stays, with_news}
 

@@ -2,7 +2,7 @@
 --
 -- Rule: docs/PROTOCOL.md, "Steps of a node".
 use Rattle.std.specs.Prelude.{List, [], map, Option}
-use Rattle.tap_name.specs.Kinds.{Name}
+use Rattle.tap_name.specs.Name.{Name}
 use Rattle.tap_table.specs.declared.tie.Tie.{Tie}
 use Rattle.tap_table.specs.Ties.{TiesValue, pin_tells, pinned, stamp_after}
 use Rattle.tap_wire.specs.declared.frame.Body.{Body}

@@ -5,7 +5,7 @@
 -- Rule: docs/PROTOCOL.md, "Steps of a node".
 use Rattle.std.specs.Prelude.{if◌then◌else◌, List, [], ◌∷◌, ◌++◌, map}
 use Rattle.std.specs.Ordering.{is_gt}
-use Rattle.tap_name.specs.Kinds.{Name}
+use Rattle.tap_name.specs.Name.{Name}
 use Rattle.tap_name.specs.Order.{name_cmp}
 use Rattle.tap_table.specs.declared.tie.Tie.{Tie}
 use Rattle.tap_pointer.specs.declared.lay.Lay as lay

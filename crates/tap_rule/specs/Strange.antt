@@ -5,12 +5,12 @@
 -- Rule: docs/PROTOCOL.md, "Strange frames".
 use Rattle.std.specs.Prelude.{ℕ, ◌==◌, ◌||◌, nat_eq, nat_lt, Bool, false, true, if◌then◌else◌, List, [], ◌∷◌, length, map, Option, None, Some, is_some}
 use Rattle.std.specs.Cmp.Lexicographic.{pointwise}
-use Rattle.tap_name.specs.Kinds.{Level, Name}
+use Rattle.tap_name.specs.Name.{Name}
 use Rattle.tap_name.specs.Names.{has_name}
-use Rattle.tap_name.specs.Prefix.{lcp}
+use Rattle.tap_name.specs.Prefix.{Level, lcp}
 use Rattle.tap_link.specs.declared.kind.Kind.{Kind}
 use Rattle.tap_link.specs.declared.kind.Kind.TheVariants.{Pin, Settled, Leaving}
-use Rattle.tap_session.specs.Kinds.{Depth}
+use Rattle.tap_session.specs.Session.{Depth}
 use Rattle.tap_wire.specs.declared.frame.Frame.{Frame}
 use Rattle.tap_wire.specs.declared.frame.Body.{Body}
 use Rattle.tap_wire.specs.declared.frame.Body.TheVariants.{Seek, Tell, Hello, Leave, Cast}

@@ -1,4 +1,3 @@
-pub mod Kinds
 pub mod Session
 pub mod Awaited
 pub mod Sessions

@@ -2,6 +2,14 @@
 use Rattle.std.specs.Prelude.{ℕ, List}
 use Rattle.tap_session.specs.declared.parent.Parent.{Parent}
 
+-- the number of a session, of joins or of casts, at its node
+abbrev pub SessionNumber : Type 0
+SessionNumber = ℕ
+
+-- the depth of a session: how many others there are from it to the root
+abbrev pub Depth : Type 0
+Depth = ℕ
+
 -- an open session: its number, who is told when it closes, its depth, and how many answers it waits for
 pub record Session : Type 0 where
   pub id : ℕ
