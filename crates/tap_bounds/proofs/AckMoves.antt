@@ -35,7 +35,7 @@ use Rattle.tap_safety.specs.Move.Move.{Begins, Delivers}
 use Rattle.tap_safety.specs.Moved.{moved, starter}
 use Rattle.tap_safety.specs.System.{System, AmongFrames}
 use Rattle.tap_safety.proofs.Moves.{starts}
-use Rattle.tap_safety.proofs.Said.{Said, said}
+use Rattle.tap_safety.proofs.Said.{Said, said_of}
 use Rattle.tap_safety.proofs.Said.Said.{IsSeek, IsTell}
 use Rattle.tap_moves.specs.ByRule.{taken_at}
 use Rattle.tap_moves.specs.Delivered.{after_delivery, after_start}
@@ -243,7 +243,7 @@ delivery_keeps p s r number node from body is few =
     acks_kept s (after_delivery p s number) r (traffic_after p s r (Delivers number)) node (cond (is_tell_body body) 1 0)
     (taken_at node from body) step.at.is step.at.others (ap (λ fs. r.sent ++ fs) sent) (frame_to node from body ∷ [])
     (ap (λ fs. r.taken ++ fs) took) (tell_counts (name_of node) from body)
-    (frame_acks node (cond (is_tell_body body) 1 0) (frame_to node from body) is.known (rule_few node from body (said body)))
+    (frame_acks node (cond (is_tell_body body) 1 0) (frame_to node from body) is.known (rule_few node from body (said_of body)))
     (few.each (name_of node) node is.at) few
 
 frame_keeps : (p : SettingsValue) (s : System) (r : Traffic) (number : ℕ) (frame : Frame) (node : NodeState) → Sound p s

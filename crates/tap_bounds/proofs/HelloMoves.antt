@@ -35,7 +35,7 @@ use Rattle.tap_safety.specs.Move.Move.{Begins, Delivers}
 use Rattle.tap_safety.specs.Moved.{moved, starter}
 use Rattle.tap_safety.specs.System.{System, AmongFrames}
 use Rattle.tap_safety.proofs.Moves.{starts}
-use Rattle.tap_safety.proofs.Said.{Said, said}
+use Rattle.tap_safety.proofs.Said.{Said, said_of}
 use Rattle.tap_safety.proofs.Said.Said.{IsSeek, IsTell}
 use Rattle.tap_moves.specs.ByRule.{taken_at}
 use Rattle.tap_moves.specs.Delivered.{after_delivery, after_start}
@@ -273,7 +273,7 @@ delivery_keeps p s r number node from body is few =
     let here = is.at in
     let sent : sent_by p s (Delivers number) ≡ (taken_at node from body).sent = rw (is_found p s number node from body comes, here) refl in
     hellos_kept s (after_delivery p s number) r (traffic_after p s r (Delivers number)) node (taken_at node from body) step.at.is
-    step.at.others (ap (λ fs. r.sent ++ fs) sent) (frame_greets node (frame_to node from body) is.known (rule_greets node from body (said body)))
+    step.at.others (ap (λ fs. r.sent ++ fs) sent) (frame_greets node (frame_to node from body) is.known (rule_greets node from body (said_of body)))
     (λ b. few.core (name_of node) node is.at b) (λ b. few.joining (name_of node) node is.at b) few
 
 frame_keeps : (p : SettingsValue) (s : System) (r : Traffic) (number : ℕ) (frame : Frame) (node : NodeState) → Sound p s

@@ -35,7 +35,7 @@ use Rattle.tap_bounds.specs.Hellos.{if_covered, is_core_hello, is_joining_hello,
 use Rattle.tap_bounds.proofs.Counting.{CountsMessages, count-append, count-cons}
 use Rattle.tap_bounds.proofs.Greeted.{greeted_more}
 use Rattle.tap_bounds.proofs.HelloRules.{AreUngreeting, IsUngreeting, Ungreeting, answer_plain, keeps}
-use Rattle.tap_safety.proofs.Said.{Said, said}
+use Rattle.tap_safety.proofs.Said.{Said, said_of}
 use Rattle.tap_safety.proofs.Said.Said.{IsHello}
 
 -- ---- tests
@@ -77,7 +77,7 @@ pub none_core : (own x b : List ℕ) (messages : List Message) → AreUngreeting
     → count_by (is_core_hello x b) (map (message_frame own) messages) ≡ 0
 none_core own x b [] all = refl
 none_core own x b (m ∷ messages) all =
-    let here = ungreeting_core (said m.body) (All-head (λ n. IsUngreeting n.body) m messages all) in
+    let here = ungreeting_core (said_of m.body) (All-head (λ n. IsUngreeting n.body) m messages all) in
     let first : cond {A = ℕ} (is_core_hello x b (message_frame own m)) 1 0 ≡ 0 = rw here refl in
     let others = none_core own x b messages (All-tail (λ n. IsUngreeting n.body) m messages all) in
     let both = count-cons (is_core_hello x b) (message_frame own m) (map (message_frame own) messages) in
@@ -87,7 +87,7 @@ pub none_joining : (own x b : List ℕ) (messages : List Message) → AreUngreet
     → count_by (is_joining_hello x b) (map (message_frame own) messages) ≡ 0
 none_joining own x b [] all = refl
 none_joining own x b (m ∷ messages) all =
-    let here = ungreeting_joining (said m.body) (All-head (λ n. IsUngreeting n.body) m messages all) in
+    let here = ungreeting_joining (said_of m.body) (All-head (λ n. IsUngreeting n.body) m messages all) in
     let first : cond {A = ℕ} (is_joining_hello x b (message_frame own m)) 1 0 ≡ 0 = rw here refl in
     let others = none_joining own x b messages (All-tail (λ n. IsUngreeting n.body) m messages all) in
     let both = count-cons (is_joining_hello x b) (message_frame own m) (map (message_frame own) messages) in

@@ -21,7 +21,7 @@ use Rattle.tap_safety.specs.Moved.{moved, starter}
 use Rattle.tap_safety.specs.System.{System, AmongFrames}
 use Rattle.tap_safety.specs.Turned.{joiner_of}
 use Rattle.tap_safety.proofs.Moves.{starts}
-use Rattle.tap_safety.proofs.Said.{said}
+use Rattle.tap_safety.proofs.Said.{said_of}
 use Rattle.tap_moves.specs.ByRule.{taken_at}
 use Rattle.tap_moves.specs.Delivered.{after_delivery, after_start}
 use Rattle.tap_moves.specs.InvariantLaws.{IsDelivery}
@@ -190,7 +190,7 @@ delivery_keeps p s opened number node from body is few =
     let step = by_rule p s number node from body comes in
     let here = is.at in
     let found = frame_opens p node (joiner_of body) (frame_to node from body) is.known
-    (rule_opens p node from (is.nodes.nodes (name_of node) node is.at) body (said body)
+    (rule_opens p node from (is.nodes.nodes (name_of node) node is.at) body (said_of body)
     (is.invariant.spelled.each number (frame_to node from body) is.among).body) in
     let acted = taken_at node from body in
     let new : opened_by_move s (Delivers number)

@@ -35,7 +35,7 @@ use Rattle.tap_safety.specs.Move.Move.{Begins, Delivers}
 use Rattle.tap_safety.specs.Moved.{moved, starter}
 use Rattle.tap_safety.specs.System.{System, AmongFrames}
 use Rattle.tap_safety.proofs.Moves.{starts}
-use Rattle.tap_safety.proofs.Said.{Said, said}
+use Rattle.tap_safety.proofs.Said.{Said, said_of}
 use Rattle.tap_safety.proofs.Said.Said.{IsSeek, IsTell}
 use Rattle.tap_moves.specs.ByRule.{taken_at}
 use Rattle.tap_moves.specs.Delivered.{after_delivery, after_start}
@@ -172,7 +172,7 @@ module _ (p : SettingsValue) (s : System) (number : ℕ) (node : NodeState) (fro
       IfSome_then (rule_of_frame node.status node from body) (rule_untold node from node.status refl body tt) (untold_grows node)
 
   pub taken_grows : (body : Body) → IsDelivery p s number node from body → ActedGrows node (taken_at node from body)
-  taken_grows body is = frame_grows node (frame_to node from body) is.known (rule_grows body (said body) is)
+  taken_grows body is = frame_grows node (frame_to node from body) is.known (rule_grows body (said_of body) is)
 
 -- ---- what that makes of a system
 

@@ -37,7 +37,7 @@ use Rattle.tap_moves.proofs.Got.{among_all}
 use Rattle.tap_bounds.specs.Tells.{is_tell, most_tells, tells_of}
 use Rattle.tap_bounds.proofs.Counting.{CountsMessages, count-append, count-cons, count-none}
 use Rattle.tap_bounds.proofs.TellRules.{AreUntold, IsUntold, Untold, answer_plain}
-use Rattle.tap_safety.proofs.Said.{Said, said}
+use Rattle.tap_safety.proofs.Said.{Said, said_of}
 use Rattle.tap_safety.proofs.Said.Said.{IsTell}
 
 -- ---- the test
@@ -74,7 +74,7 @@ pub none_told : (own x o b : List ℕ) (messages : List Message) → AreUntold m
 none_told own x o b [] all = refl
 none_told own x o b (m ∷ messages) all =
     let here : is_tell x o b (message_frame own m) ≡ false =
-    untold own x o b m.to (said m.body) (All-head (λ n. IsUntold n.body) m messages all) in
+    untold own x o b m.to (said_of m.body) (All-head (λ n. IsUntold n.body) m messages all) in
     let first : cond {A = ℕ} (is_tell x o b (message_frame own m)) 1 0 ≡ 0 = rw here refl in
     let others = none_told own x o b messages (All-tail (λ n. IsUntold n.body) m messages all) in
     let both = count-cons (is_tell x o b) (message_frame own m) (map (message_frame own) messages) in

@@ -62,7 +62,7 @@ use Rattle.tap_safety.proofs.SoftSteps.{links_sound, softs_same}
 use Rattle.tap_safety.proofs.StepLaws.{gives_quiet_law, seeking_done_law, seeking_seat_law, seeking_tell_law, soft_done_law, soft_seat_law, soft_tell_law}
 use Rattle.tap_safety.proofs.TellKeeps.{core_kept, joiner_after}
 use Rattle.tap_safety.proofs.Told.{was_under_way}
-use Rattle.tap_safety.proofs.Said.{Said, said}
+use Rattle.tap_safety.proofs.Said.{Said, said_of}
 use Rattle.tap_safety.proofs.Said.Said.{IsDone, IsSeek, IsTell}
 use Rattle.tap_moves.specs.ByRule.{StartsNone, TakesByRule, taken_at}
 use Rattle.tap_moves.specs.CalmMoves.{AreSought, IsPeaceful}
@@ -516,7 +516,7 @@ seek_soft p s number node from joiner is at (Surrogate prefix) found =
     (seek_keeps p s number node from joiner is at prefix found).soft
 
 pub taken_soft : TakenSoft
-taken_soft p s number node from body is there = by_said body (said body) is there
+taken_soft p s number node from body is there = by_said body (said_of body) is there
   where
     by_said : (body : Body) → Said body → IsDelivery p s number node from body → IsFilledThere node body
         → NamesSoft (after_delivery p s number)
@@ -538,7 +538,7 @@ seek_seeks p s number node from joiner is at (Surrogate prefix) found =
     (seek_keeps p s number node from joiner is at prefix found).sought
 
 pub taken_seeks : TakenSeeks
-taken_seeks p s number node from body is there = by_said body (said body) is there
+taken_seeks p s number node from body is there = by_said body (said_of body) is there
   where
     by_said : (body : Body) → Said body → IsDelivery p s number node from body → IsFilledThere node body
         → AreSought p (after_delivery p s number)
@@ -560,7 +560,7 @@ seek_at_peace p s number node from joiner is at (Surrogate prefix) found none =
     (seek_keeps p s number node from joiner is at prefix found).peaceful
 
 pub taken_peaceful : TakenPeaceful
-taken_peaceful p s number node from body is there none = by_said body (said body) is there none
+taken_peaceful p s number node from body is there none = by_said body (said_of body) is there none
   where
     by_said : (body : Body) → Said body → IsDelivery p s number node from body → IsFilledThere node body → s.departing ≡ None
         → IsPeaceful (after_delivery p s number)

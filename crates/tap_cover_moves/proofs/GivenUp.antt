@@ -48,7 +48,7 @@ use Rattle.tap_safety.proofs.Peace.{peace_kept}
 use Rattle.tap_safety.proofs.SoftKept.{sent_each, soft_kept}
 use Rattle.tap_safety.proofs.StepLaws.{exchanged_law, gives_quiet_law, seeking_law}
 use Rattle.tap_safety.proofs.Told.{among_sent, still_under_way, told_by, was_under_way}
-use Rattle.tap_safety.proofs.Said.{Said, said}
+use Rattle.tap_safety.proofs.Said.{Said, said_of}
 use Rattle.tap_safety.proofs.Said.Said.{IsHello, IsLeave, IsRelease}
 use Rattle.tap_moves.specs.ByRule.{StartsNone, TakesByRule, taken_at}
 use Rattle.tap_moves.specs.Delivered.{after_delivery}
@@ -319,7 +319,7 @@ module _ (p : SettingsValue) (s : System) (number : ℕ) (node : NodeState) (fro
   names_soft : NamesSoft after
   names_soft =
       soft_kept s after cores softs (λ y t kind link. inl (link_was y t kind link)) (λ w t body under.
-      elim (was w t body under) [ inl old ↦ inl old | inr farewell ↦ inr (farewell_sound after w t (said body) farewell) ]) is.invariant.soft
+      elim (was w t body under) [ inl old ↦ inl old | inr farewell ↦ inr (farewell_sound after w t (said_of body) farewell) ]) is.invariant.soft
 
   -- ---- seekers and Tells
 

@@ -46,7 +46,7 @@ use Rattle.tap_safety.specs.Frames.{HelloFields, hello_body, tell_body}
 use Rattle.tap_safety.specs.KnownLaws.{Stamps}
 use Rattle.tap_safety.specs.System.{System}
 use Rattle.tap_safety.proofs.Known.{stamps_frame}
-use Rattle.tap_safety.proofs.Said.{Said, said}
+use Rattle.tap_safety.proofs.Said.{Said, said_of}
 use Rattle.tap_safety.proofs.Said.Said.{IsAck, IsDone, IsForget, IsHeard, IsHello, IsLink, IsRelease, IsSeek, IsTell}
 use Rattle.tap_moves.specs.ByRule.{taken_at}
 use Rattle.tap_moves.specs.Delivered.{after_delivery}
@@ -324,7 +324,7 @@ module _ (p : SettingsValue) (s : System) (number : ℕ) (node : NodeState) (fro
       let never : IsQuiet (Link version on) = subst IsQuiet same (step.sent frame among) in never))
 
 pub taken_stamped : TakenStamped
-taken_stamped p s number node from body is there = by_said body (said body) is there
+taken_stamped p s number node from body is there = by_said body (said_of body) is there
   where
     by_said : (body : Body) → Said body → IsDelivery p s number node from body → IsFilledThere node body
         → AreStamped (after_delivery p s number)

@@ -51,7 +51,7 @@ use Rattle.tap_safety.specs.Step.{IsSent}
 use Rattle.tap_safety.specs.System.{System}
 use Rattle.tap_safety.specs.Ties.{hears_words}
 use Rattle.tap_safety.proofs.LinkKeeps.{status_at}
-use Rattle.tap_safety.proofs.Said.{Said, said}
+use Rattle.tap_safety.proofs.Said.{Said, said_of}
 use Rattle.tap_safety.proofs.Said.Said.{IsAck, IsDone, IsForget, IsHeard, IsHello, IsLink, IsRelease, IsSeek, IsTell}
 use Rattle.tap_moves.specs.ByRule.{taken_at}
 use Rattle.tap_moves.specs.Delivered.{after_delivery}
@@ -431,7 +431,7 @@ module _ (p : SettingsValue) (s : System) (number : ℕ) (node : NodeState) (fro
       done_stand p s number node from is (joins_here s node joiner is.at) (done_step p s number node from is joined)
 
 pub taken_words : TakenWords
-taken_words p s number node from body is there = by_said body (said body) is there
+taken_words p s number node from body is there = by_said body (said_of body) is there
   where
     by_said : (body : Body) → Said body → IsDelivery p s number node from body → IsFilledThere node body
         → WordsStand (after_delivery p s number)

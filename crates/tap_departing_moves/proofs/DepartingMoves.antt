@@ -19,7 +19,7 @@ use Rattle.tap_safety.specs.Step.{IsSent}
 use Rattle.tap_safety.specs.System.{System}
 use Rattle.tap_safety.proofs.NoticesKept.{until_rest_law}
 use Rattle.tap_safety.proofs.Peace.{peace_kept}
-use Rattle.tap_safety.proofs.Said.{Said, said}
+use Rattle.tap_safety.proofs.Said.{Said, said_of}
 use Rattle.tap_safety.proofs.Said.Said.{IsDone, IsForget, IsGone, IsHello, IsLeave, IsLeft, IsRelease, IsSeek, IsTell}
 use Rattle.tap_safety.specs.Frames.{HelloFields, hello_body, tell_body}
 use Rattle.tap_moves.specs.ByRule.{taken_at}
@@ -164,6 +164,6 @@ frame_in_order p s number node from body is other = by s.departing refl
   where
     by : (departing : Option Leaver) → s.departing ≡ departing → DepartsInOrder (after_delivery p s number)
     by None none =
-        let still = peaceful p s number node from body is none (has_part node from (said body) other) in
+        let still = peaceful p s number node from body is none (has_part node from (said_of body) other) in
         record { departure = still.departure; notices = still.notices }
     by (Some leaver) departs = frame_departing p s number node from body is other leaver departs

@@ -20,7 +20,7 @@ use Rattle.tap_safety.specs.System.{System, Covers, HasLink, IsCoreNode, IsJoine
 use Rattle.tap_safety.specs.Words.{Has}
 use Rattle.tap_safety.proofs.LinkKeeps.{status_seen}
 use Rattle.tap_safety.proofs.Moves.{ascend_one}
-use Rattle.tap_safety.proofs.Said.{Said, said}
+use Rattle.tap_safety.proofs.Said.{Said, said_of}
 use Rattle.tap_safety.proofs.Said.Said.{IsAck, IsHeard, IsHello, IsTell}
 use Rattle.tap_moves.specs.CalmMoves.{AreSought}
 use Rattle.tap_departing_moves.specs.PartMoves.{HaveSessions}
@@ -82,7 +82,7 @@ module _ (p : SettingsValue) (s : System) (leaver : Leaver) (during : WhileDepar
       exact = record {
         frames = λ number f x k among belongs.
             let may = during.frames f.from f.to f.body (record { number = number; among = among }) in
-            absurd (belongs_never (said f.body) f.from f.to x k may belongs);
+            absurd (belongs_never (said_of f.body) f.from f.to x k may belongs);
         ways = λ x k number awaits. absurd (no_session x k awaits.session awaits.is);
         parents = λ y l child x k opened above. absurd (no_session y l child opened);
         roots = λ x y k l one two opened other top same mine. absurd (no_session x k one opened);

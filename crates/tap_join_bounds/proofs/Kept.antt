@@ -21,7 +21,7 @@ use Rattle.tap_safety.specs.Seeking.{HasNode}
 use Rattle.tap_safety.specs.System.{System, AmongFrames, IsJoiner}
 use Rattle.tap_safety.specs.Sessions.{Belongs}
 use Rattle.tap_safety.specs.Joins.{about}
-use Rattle.tap_safety.proofs.Said.{Said, said}
+use Rattle.tap_safety.proofs.Said.{Said, said_of}
 use Rattle.tap_safety.proofs.Said.Said.{IsDone, IsHeard, IsHello, IsLink, IsSeek, IsTell}
 use Rattle.tap_safety.specs.Frames.{hello_body}
 use Rattle.tap_safety_moves.specs.Sound.{Sound}
@@ -89,7 +89,7 @@ module _ (node : NodeState) (r : Reaction) (acted : Acted) (carried : IsCarriedO
         | inr later ↦ elim (among-either f named laid later) [
           | inl message ↦
               let (m, of, is) = among-map_from (message_frame own) f r.messages message in
-              subst (λ (g : Frame). IsJoinFrame g.body) (sym is) (of_message (said m.body) (among_messages r.messages m step.messages of))
+              subst (λ (g : Frame). IsJoinFrame g.body) (sym is) (of_message (said_of m.body) (among_messages r.messages m step.messages of))
           | inr lay ↦
               let no : IsAmong f [] = subst (λ lays. IsAmong f (map (lay_frame own) lays)) none_laid lay in
               absurd no
@@ -159,7 +159,7 @@ module _ (p : SettingsValue) (s : System) (sound : Sound p s) (m : ℕ) (from to
 
 pub joiner_joins : (p : SettingsValue) (s : System) (m : ℕ) (f : Frame) (b : List ℕ) → Sound p s → AmongFrames m f s.frames
     → joiner_said f ≡ Some b → IsJoining s b
-joiner_joins p s m f b sound among is = body_joins p s sound m f.from f.to (said f.body) b among is
+joiner_joins p s m f b sound among is = body_joins p s sound m f.from f.to (said_of f.body) b among is
 
 -- ---- systems
 
@@ -261,7 +261,7 @@ module _ (p : SettingsValue) (members : List (List ℕ)) (s s' : System) (r r' :
 
 pub are_of_joins : (members : List (List ℕ)) (s : System) (r : Traffic) → AreOfJoins members s r → SentAreOfJoins members s r
 are_of_joins members s r are = record {
-  kinds = λ f among. of_frame (said f.body) (are.sent f among);
+  kinds = λ f among. of_frame (said_of f.body) (are.sent f among);
   joiners = are.joiners;
   ends = are.ends;
 }

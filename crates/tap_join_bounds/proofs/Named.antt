@@ -14,7 +14,7 @@ use Rattle.tap_wire.specs.declared.frame.Frame.{Frame}
 use Rattle.tap_rule.specs.Sent.{IsAmong}
 use Rattle.tap_safety.specs.Seeking.{HasNode}
 use Rattle.tap_safety.specs.System.{System}
-use Rattle.tap_safety.proofs.Said.{Said, said}
+use Rattle.tap_safety.proofs.Said.{Said, said_of}
 use Rattle.tap_safety.proofs.Said.Said.{IsHello}
 use Rattle.tap_bounds.specs.Hellos.{HellosOnce, is_core_hello, is_joining_hello, says_core}
 use Rattle.tap_bounds.specs.Traffic.{Traffic}
@@ -145,7 +145,7 @@ module _ (members names : List (List ℕ)) (s : System) (r : Traffic) (are : Are
   none_to_member member =
       count-none (is_naming x t) r.sent (λ f among. elim (cases_Bool (is_naming x t f)) [
         | inl is ↦
-            let new = are.joiners f x among (names_joiner x t f.from f.to (said f.body) is) in
+            let new = are.joiners f x among (names_joiner x t f.from f.to (said_of f.body) is) in
             let wrong : true ≡ false = sym member ∙ new in
             absurd (true≢false wrong)
         | inr isnt ↦ isnt

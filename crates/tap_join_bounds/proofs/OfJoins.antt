@@ -22,7 +22,7 @@ use Rattle.tap_safety.specs.Move.{MayJoin, Move, may_move}
 use Rattle.tap_safety.specs.Move.Move.{Begins, Delivers}
 use Rattle.tap_safety.specs.Moved.{moved}
 use Rattle.tap_safety.specs.System.{System, AmongFrames}
-use Rattle.tap_safety.proofs.Said.{said}
+use Rattle.tap_safety.proofs.Said.{said_of}
 use Rattle.tap_moves.specs.ByRule.{taken_at}
 use Rattle.tap_safety_moves.specs.Moves.{after_moves, may_run}
 use Rattle.tap_safety_moves.specs.Sound.{Sound}
@@ -73,7 +73,7 @@ module _ (p : SettingsValue) (members : List (List ℕ)) (s : System) (r : Traff
   delivery_keeps number frame node among at after =
       let is = is_delivery p s number frame node sound among at in
       let acts = frame_acts node (frame_to node frame.from frame.body) is.known (are.nodes frame.to node at)
-      (of_frame (said frame.body) (are.ways number frame among)) in
+      (of_frame (said_of frame.body) (are.ways number frame among)) in
       joins_kept p members s (moved p s (Delivers number)) r (traffic_after p s r (Delivers number)) node (name_of node)
       (taken_at node frame.from frame.body) _ (delivery_made p s r number node frame.from frame.body is) (inl is.at) acts after are
 

@@ -50,7 +50,7 @@ use Rattle.tap_safety.proofs.FrameSeeking.{frame_joiners}
 use Rattle.tap_safety.proofs.SeekingKept.{tells_kept}
 use Rattle.tap_safety.specs.StepLaws.{KeepsSeekers}
 use Rattle.tap_safety.specs.Tells.{TellsAreSound}
-use Rattle.tap_safety.proofs.Said.{Said, said}
+use Rattle.tap_safety.proofs.Said.{Said, said_of}
 use Rattle.tap_safety.proofs.Said.Said.{IsAck, IsDone, IsForget, IsHeard, IsHello, IsLink, IsRelease, IsSeek, IsTell}
 use Rattle.tap_moves.specs.CalmMoves.{FramePeaceful, FrameSeeks, IsCalmThere}
 use Rattle.tap_moves.specs.ByRule.{taken_at}
@@ -184,7 +184,7 @@ greets_so messages from tell (inr hello) m among =
 
 greeting_quiet : (s : System) (x joiner : List ℕ) (m : Message) → IsSoft s x → IsSoft s joiner → IsGreeting joiner m
     → IsQuietBody s x m.to m.body
-greeting_quiet s x joiner m own soft (inl spare) = spare_quiet s x m.to (said m.body) spare
+greeting_quiet s x joiner m own soft (inl spare) = spare_quiet s x m.to (said_of m.body) spare
 greeting_quiet s x joiner m own soft (inr hello) =
     subst (λ (n : Message). IsQuietBody s x n.to n.body) (sym hello.1) (own, soft, λ offered none. absurd none)
 
@@ -268,7 +268,7 @@ module _ (p : SettingsValue) (s : System) (number : ℕ) (node : NodeState) (fro
       → AreSpare step.messages → SendsSpare (taken_at node from body).sent → ((x : List ℕ) → body ≡ Seek x → ⊥)
       → TakesCalmly p s after number (frame_to node from body) (taken_at node from body).sent
   spare_calm body step links spare sends no_seek =
-      let quiet = λ (m : Message) (among : IsAmong m step.messages). spare_quiet after (name_of node) m.to (said m.body) (spare m among) in
+      let quiet = λ (m : Message) (among : IsAmong m step.messages). spare_quiet after (name_of node) m.to (said_of m.body) (spare m among) in
       record {
         step = step;
         links = links;
@@ -399,7 +399,7 @@ module _ (p : SettingsValue) (s : System) (number : ℕ) (node : NodeState) (fro
 frame_calm : (p : SettingsValue) (s : System) (number : ℕ) (node : NodeState) (from : List ℕ) (body : Body)
     → IsDelivery p s number node from body → IsCalmThere node body
     → TakesCalmly p s (after_delivery p s number) number (frame_to node from body) (taken_at node from body).sent
-frame_calm p s number node from body is there = by_said body (said body) is there
+frame_calm p s number node from body is there = by_said body (said_of body) is there
   where
     by_said : (body : Body) → Said body → IsDelivery p s number node from body → IsCalmThere node body
         → TakesCalmly p s (after_delivery p s number) number (frame_to node from body) (taken_at node from body).sent
@@ -473,7 +473,7 @@ calm_deeper p s number node from body is there =
     let acted = taken_at node from body in
     let sent = sent_at s node from body in
     let calm = frame_calm p s number node from body is there in
-    let step = frame_steps p s number node from body is (calm_taken node (said body) there) in
+    let step = frame_steps p s number node from body is (calm_taken node (said_of body) there) in
     elim (kind_turns s s' number frame sent step.kind step.is is.invariant.exact) [
       | inl turns ↦
           depths_law s s' sent turns is.invariant.exact (none_deeper s s' acted.sent calm.no_tell) is.invariant.deeper

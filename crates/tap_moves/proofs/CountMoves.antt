@@ -38,7 +38,7 @@ use Rattle.tap_safety.proofs.Apart.{ways_of-child}
 use Rattle.tap_safety.proofs.CountedKept.{counted_answer, counted_answering, counted_closing, counted_last, counted_opening, counted_root, for_way-length}
 use Rattle.tap_safety.proofs.SessionsKept.{ways_of-has}
 use Rattle.tap_safety.proofs.StepLaws.{await_closing_law, await_handing_on_law, await_last_law, await_opening_law, await_root_law}
-use Rattle.tap_safety.proofs.Said.{Said, said}
+use Rattle.tap_safety.proofs.Said.{Said, said_of}
 use Rattle.tap_safety.proofs.Said.Said.{IsAck, IsHeard, IsHello, IsSeek, IsTell}
 use Rattle.tap_moves.specs.ByRule.{taken_at}
 use Rattle.tap_moves.specs.Delivered.{after_delivery}
@@ -341,7 +341,7 @@ module _ (p : SettingsValue) (s : System) (number : ℕ) (node : NodeState) (fro
   tells_count tell watch is (inr (inr at)) = tell_counts tell watch is (inr (ceased_answers node from tell watch at is.known))
 
 pub frame_counts : FrameCounts
-frame_counts p s number node from body is there = by_said body (said body) is there
+frame_counts p s number node from body is there = by_said body (said_of body) is there
   where
     by_said : (body : Body) → Said body → IsDelivery p s number node from body → IsTakenThere node body
         → AwaitsAsMany (after_delivery p s number)

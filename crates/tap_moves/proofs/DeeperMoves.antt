@@ -52,7 +52,7 @@ use Rattle.tap_safety.specs.SessionSteps.{child_of}
 use Rattle.tap_safety.specs.Step.{IsSent}
 use Rattle.tap_safety.specs.System.{System, AmongFrames}
 use Rattle.tap_safety.proofs.StepLaws.{depths_law, handing_on_turns_law, opening_turns_law, root_turns_law}
-use Rattle.tap_safety.proofs.Said.{Said, said}
+use Rattle.tap_safety.proofs.Said.{Said, said_of}
 use Rattle.tap_safety.proofs.Said.Said.{IsAck, IsHeard, IsHello, IsSeek, IsTell}
 use Rattle.tap_moves.specs.ByRule.{taken_at}
 use Rattle.tap_moves.specs.CalmMoves.{FrameDeeper}
@@ -327,7 +327,7 @@ module _ (p : SettingsValue) (s : System) (number : ℕ) (node : NodeState) (fro
       seat_deeper joiner prefix is at found carried
 
 pub frame_deeper : FrameDeeper
-frame_deeper p s number node from body is there = by_said body (said body) is there
+frame_deeper p s number node from body is there = by_said body (said_of body) is there
   where
     by_said : (body : Body) → Said body → IsDelivery p s number node from body → IsTakenThere node body
         → TellsAreDeeper (after_delivery p s number)

@@ -28,7 +28,7 @@ use Rattle.tap_safety.specs.System.{System}
 use Rattle.tap_safety.specs.Ties.{status_of}
 use Rattle.tap_safety.proofs.Known.{ended_kept}
 use Rattle.tap_safety.proofs.Moves.{delivers, found}
-use Rattle.tap_safety.proofs.Said.{Said, said}
+use Rattle.tap_safety.proofs.Said.{Said, said_of}
 use Rattle.tap_safety.proofs.Said.Said.{IsDone, IsForget, IsHello, IsRelease, IsSeek, IsTell}
 use Rattle.tap_moves.specs.ByRule.{taken_at}
 use Rattle.tap_moves.specs.Delivered.{after_delivery}
@@ -116,7 +116,7 @@ module _ (p : SettingsValue) (s : System) (number : ℕ) (node : NodeState) (fro
       goes_on (Seek joiner) is (seated_status joiner acted prefix step) (inr at)
 
 pub frame_ended : FrameEnded
-frame_ended p s number node from body is there = by_said body (said body) is there
+frame_ended p s number node from body is there = by_said body (said_of body) is there
   where
     by_said : (body : Body) → Said body → IsDelivery p s number node from body → IsFilledThere node body
         → EndedHaveNoLinks (after_delivery p s number)

@@ -32,7 +32,7 @@ use Rattle.tap_safety.specs.Words.{Pins}
 use Rattle.tap_safety.proofs.CoverKept.{core_or_joiner}
 use Rattle.tap_safety.proofs.SeekLaws.{low_law}
 use Rattle.tap_safety.proofs.SessionLaws.{quiet_law}
-use Rattle.tap_safety.proofs.Said.{Said, said}
+use Rattle.tap_safety.proofs.Said.{Said, said_of}
 use Rattle.tap_safety.proofs.Said.Said.{IsAck, IsDone, IsForget, IsHeard, IsHello, IsLink, IsRelease, IsSeek, IsTell}
 use Rattle.tap_name.proofs.Prefixes.{lcp-whole}
 use Rattle.tap_join.specs.Seek.{sought}
@@ -295,7 +295,7 @@ module _ (p : SettingsValue) (s : System) (number : ℕ) (node : NodeState) (fro
       plain_keeps p s number node from body (due p s number node from body is) plain filled
 
 pub frame_fills : FrameFills
-frame_fills p s number node from body is filled there = by_said body (said body) is filled there
+frame_fills p s number node from body is filled there = by_said body (said_of body) is filled there
   where
     by_said : (body : Body) → Said body → IsDelivery p s number node from body → AreFilled p s → IsFilledThere node body
         → AreFilled p (after_delivery p s number)
@@ -344,7 +344,7 @@ tell_says p s number node from tell watch is (inr known) =
     is.invariant.stamped (stand_of p s is.invariant)
 
 pub frame_says : FrameSays
-frame_says p s number node from body is there = by_said body (said body) is there
+frame_says p s number node from body is there = by_said body (said_of body) is there
   where
     by_said : (body : Body) → Said body → IsDelivery p s number node from body → IsSaidThere node body
         → WordsStand (after_delivery p s number)
@@ -396,7 +396,7 @@ tell_soft p s number node from tell watch is (inr at) =
     ceased_soft p s number node from tell watch (due p s number node from (tell_body tell watch) is) at is.invariant.soft
 
 pub frame_soft : FrameSoft
-frame_soft p s number node from body is there = by_said body (said body) is there
+frame_soft p s number node from body is there = by_said body (said_of body) is there
   where
     by_said : (body : Body) → Said body → IsDelivery p s number node from body → IsSoftThere node body
         → NamesSoft (after_delivery p s number)
@@ -472,7 +472,7 @@ seek_exact p s number node from joiner is at (Surrogate prefix) found =
     (is.invariant.seekers.seeks from (name_of node) joiner (way p s number node from (Seek joiner) is)) (before_taking p s is.invariant)
 
 pub frame_exact : FrameExact
-frame_exact p s number node from body is there = by_said body (said body) is there
+frame_exact p s number node from body is there = by_said body (said_of body) is there
   where
     by_said : (body : Body) → Said body → IsDelivery p s number node from body → IsTakenThere node body
         → AreExact (after_delivery p s number)

@@ -26,7 +26,7 @@ use Rattle.tap_rule.proofs.QuietSteps.{quiet_law}
 use Rattle.tap_safety.specs.Frames.{hello_body}
 use Rattle.tap_safety.specs.Sessions.{Belongs, session_named}
 use Rattle.tap_safety.specs.Turned.{closed_by}
-use Rattle.tap_safety.proofs.Said.{Said, said}
+use Rattle.tap_safety.proofs.Said.{Said, said_of}
 use Rattle.tap_safety.proofs.Said.Said.{IsAck, IsHeard, IsHello, IsTell}
 use Rattle.tap_moves.specs.ByRule.{taken_at}
 use Rattle.tap_moves.specs.SessionsLaws.{HandsOnByHello, IsOutside, OutsideLeavesSessions}
@@ -155,7 +155,7 @@ quiet_aside node from body quiet =
     let step = quiet_law node (frame_to node from body) quiet in
     record {
       opened_same = ap (λ (o : SessionsValue). o.opened) step.sessions;
-      sent_none = λ f y k among belongs. quiet_none (said f.body) f.from f.to y k (step.sent f among) belongs;
+      sent_none = λ f y k among belongs. quiet_none (said_of f.body) f.from f.to y k (step.sent f among) belongs;
     }
 
 pub outside_aside : (node : NodeState) (from : List ℕ) (body : Body) → is_strange node (frame_to node from body) ≡ false → IsOutside node body
@@ -181,7 +181,7 @@ outside_named node _ from to outside = (refl, λ after. refl)
 pub outside_leaves : OutsideLeavesSessions
 outside_leaves s s' number node from body before taken remembers outside =
     let aside = outside_aside node from body taken.known outside in
-    let named = outside_named node (said body) from (name_of node) outside in
+    let named = outside_named node (said_of body) from (name_of node) outside in
     leaves_sessions s s' number node from body before taken remembers aside.opened_same named.0
     (named.1 (taken_at node from body).state) aside.sent_none
 

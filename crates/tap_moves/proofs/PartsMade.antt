@@ -35,7 +35,7 @@ use Rattle.tap_safety.specs.Spelled.{AreSpelled}
 use Rattle.tap_safety.specs.Step.{numbered_from}
 use Rattle.tap_safety.specs.System.{System, AmongFrames}
 use Rattle.tap_safety.proofs.Moves.{delivers, found, starts}
-use Rattle.tap_safety.proofs.Said.{Said, said}
+use Rattle.tap_safety.proofs.Said.{Said, said_of}
 use Rattle.tap_safety.proofs.Said.Said.{IsAck, IsCast, IsHeard, IsLink, IsTell}
 use Rattle.tap_moves.specs.Delivered.{after_delivery, after_start}
 use Rattle.tap_moves.specs.InvariantLaws.{MoveKeepsParts, PartsKept, StartKeepsParts}
@@ -155,7 +155,7 @@ rule_stays node from body Joining over = absurd (over tt)
 rule_stays node from body Core over = absurd (over tt)
 rule_stays node from body Leaving over = absurd (over tt)
 rule_stays node from body Gone over = tt
-rule_stays node from body Ceased over = by_said (said body)
+rule_stays node from body Ceased over = by_said (said_of body)
   where
     by_said : {body : Body} → Said body → IfSome (frame_at_ceased node from body) (λ r. r.state.status ≡ node.status)
     by_said (IsTell tell watch) = refl

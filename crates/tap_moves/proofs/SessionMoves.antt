@@ -49,7 +49,7 @@ use Rattle.tap_safety.proofs.CountedKept.{counted_others}
 use Rattle.tap_safety.proofs.Known.{core_kept, few_join, few_kept, names_kept}
 use Rattle.tap_safety.proofs.Moves.{delivers, found, numbers_sent, numbers_taken, starts}
 use Rattle.tap_safety.proofs.StepLaws.{await_others_law, awaited_closing_law, awaited_handing_on_law, awaited_last_law, awaited_opening_law, awaited_others_law, awaited_root_law, closing_turns_law, handing_on_turns_law, last_turns_law, numbers_new_law, opening_turns_law, places_law, root_turns_law}
-use Rattle.tap_safety.proofs.Said.{Said, said}
+use Rattle.tap_safety.proofs.Said.{Said, said_of}
 use Rattle.tap_safety.proofs.Said.Said.{IsAck, IsHeard, IsHello, IsSeek, IsTell}
 use Rattle.tap_moves.specs.ByRule.{taken_at}
 use Rattle.tap_moves.specs.Delivered.{after_delivery, after_start}
@@ -343,7 +343,7 @@ module _ (p : SettingsValue) (s : System) (number : ℕ) (node : NodeState) (fro
       }
 
 pub frame_steps : FrameSteps
-frame_steps p s number node from body is there = by_said body (said body) is there
+frame_steps p s number node from body is there = by_said body (said_of body) is there
   where
     by_said : (body : Body) → Said body → IsDelivery p s number node from body → IsTakenThere node body
         → StepsSessions s (after_delivery p s number) number (frame_to node from body) node (taken_at node from body).state (sent_at s node from body)

@@ -33,7 +33,7 @@ use Rattle.tap_safety.specs.Frames.{HelloFields, hello_body, tell_body}
 use Rattle.tap_safety.specs.Soft.{AreSound, IsSoundBody, NamesSoft}
 use Rattle.tap_safety.specs.System.{System, IsCoreNode, IsJoiner}
 use Rattle.tap_safety.proofs.StepLaws.{soft_ceased_law, soft_forget_law, soft_hello_law, soft_joining_law, soft_plain_law, soft_release_law}
-use Rattle.tap_safety.proofs.Said.{Said, said}
+use Rattle.tap_safety.proofs.Said.{Said, said_of}
 use Rattle.tap_safety.proofs.Said.Said.{IsHello, IsLeave, IsRelease}
 use Rattle.tap_moves.specs.ByRule.{taken_at}
 use Rattle.tap_moves.specs.Delivered.{IsArriving, after_delivery}
@@ -118,7 +118,7 @@ link_sound s status node from version on core = by_status status core
     releases false is m among = absurd among
 
     forgets : (said : Bool) → AreSound s (name_of node) (if said then message from Forget ∷ [] else [])
-    forgets true m among = mild_sound s (name_of node) m.to (said m.body) (one_mild from Forget tt m among)
+    forgets true m among = mild_sound s (name_of node) m.to (said_of m.body) (one_mild from Forget tt m among)
     forgets false m among = absurd among
 
     by_status : (status : Status) → ((status ≡ Core) ⊎ (status ≡ Leaving) → IsCoreNode s (name_of node))
@@ -151,7 +151,7 @@ module _ (p : SettingsValue) (s : System) (number : ℕ) (node : NodeState) (fro
   mild_soft : (body : Body) (due : IsArriving s number node from body) → IsPlain node body
       → AreMild (messages_by (rule_of_frame node.status node from body)) → NamesSoft s → NamesSoft after
   mild_soft body due plain mild soft =
-      plain_soft body due plain (λ m among. mild_sound after (name_of node) m.to (said m.body) (mild m among)) soft
+      plain_soft body due plain (λ m among. mild_sound after (name_of node) m.to (said_of m.body) (mild m among)) soft
 
   pub heard_soft : (session : ℕ) → IsArriving s number node from (Heard session) → NamesSoft s → NamesSoft after
   heard_soft session due soft = mild_soft (Heard session) due tt (heard_mild node.status node from session) soft

@@ -22,7 +22,7 @@ use Rattle.tap_safety.specs.Step.{AreNumbered, HasSent, numbered_from}
 use Rattle.tap_safety.specs.System.{System}
 use Rattle.tap_safety.proofs.Moves.{ascend_one, numbers_sent, starts}
 use Rattle.tap_safety.proofs.StepLaws.{join_filled_law, others_law, start_filled_law}
-use Rattle.tap_safety.proofs.Said.{said}
+use Rattle.tap_safety.proofs.Said.{said_of}
 use Rattle.tap_moves.specs.ByRule.{BeginsByRule, StartsByRule}
 use Rattle.tap_moves.specs.Delivered.{after_start}
 use Rattle.tap_moves.specs.InvariantLaws.{StartFills}
@@ -74,7 +74,7 @@ quiet_start_keeps p s node start at quiet are =
     let law = quiet_start_law node start quiet in (
       λ filled. start_filled_law p s s' (name_of node) (quiet_start_is_made s s' node start by_rule step.surrogate quiet).0 filled,
       λ exact. others_law s s' (sent_aside s s' (act node (Starts start)).sent step.sent are step.session
-          (λ f y k among belongs. quiet_none (said f.body) f.from f.to y k (law.sent f among) belongs)) exact,
+          (λ f y k among belongs. quiet_none (said_of f.body) f.from f.to y k (law.sent f among) belongs)) exact,
     )
 
 pub giving_up_keeps : GivingUpKeeps

@@ -5,7 +5,9 @@ use Rattle.std.specs.Prelude.{◌≡◌, ℕ, List}
 use Rattle.tap_table.specs.Table.{TableValue}
 use Rattle.tap_pointer.specs.Pointers.{PointersValue, lay_applied, pair_of, pointer_at}
 use Rattle.tap_wire.specs.declared.frame.Body.{Body}
-use Rattle.tap_wire.specs.declared.frame.Body.TheVariants.{Find, Lay}
+use Rattle.tap_wire.specs.declared.kind.Kind.{Kind}
+use Rattle.tap_wire.specs.declared.kind.Kind.TheVariants.{Lay, Find}
+use Rattle.tap_wire.specs.Kind.{kind_of}
 use Rattle.tap_rule.specs.Node.{NodeState}
 use Rattle.tap_rule.specs.Reaction.{Reaction}
 use Rattle.tap_node_common.specs.declared.news.News.{News}
@@ -23,10 +25,16 @@ EachStepsAs t pointers rule before sent news =
     (node : NodeState) → node.ties.table ≡ t → node.pointers ≡ pointers → StepsAs node (rule node) node before sent news
 
 -- a Lay, and a Find
+abbrev IsLayKind : Kind → Type 0
+IsLayKind Lay = Unit {0}
+IsLayKind other = ⊥
+
 abbrev pub IsLayBody : Body → Type 0
-IsLayBody (Lay object server level version on) = Unit {0}
-IsLayBody _ = ⊥
+IsLayBody body = IsLayKind (kind_of body)
+
+abbrev IsFindKind : Kind → Type 0
+IsFindKind Find = Unit {0}
+IsFindKind other = ⊥
 
 abbrev pub IsFindBody : Body → Type 0
-IsFindBody (Find ticket object asker level) = Unit {0}
-IsFindBody _ = ⊥
+IsFindBody body = IsFindKind (kind_of body)

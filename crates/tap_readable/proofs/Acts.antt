@@ -11,7 +11,6 @@ use Rattle.tap_table.specs.Table.{TableValue}
 use Rattle.tap_pointer.specs.Reconcile.{reconcile_lays, reconciled}
 use Rattle.tap_pointer.proofs.Due.{reconcile_lays-versions}
 use Rattle.tap_wire.specs.declared.frame.Body.{Body}
-use Rattle.tap_wire.specs.declared.frame.Body.TheVariants.{Cast, Tell}
 use Rattle.tap_wire.specs.declared.frame.Frame.{Frame}
 use Rattle.tap_wire.specs.Spelling.{IsFrame, IsTyped}
 use Rattle.tap_rule.specs.Act.{act, carried_out, completed, follows, ignores}
@@ -37,6 +36,8 @@ use Rattle.tap_moves.proofs.SpelledJoins.{IsForName, IsSpelled}
 use Rattle.tap_moves.proofs.SpelledRules.{SaysNames, frame_spelled, start_spelled}
 use Rattle.tap_readable.proofs.Typed.{AreLaysTo, AreWordsTo, KnowsTyped, deeper, lays_to}
 use Rattle.tap_readable.proofs.Rules.{AreTyped, IsShallow, IsTypedRule, IsTypedStart, rule_typed, start_typed}
+use Rattle.tap_safety.proofs.Said.{Said, said_of}
+use Rattle.tap_safety.proofs.Said.Said.{IsCast, IsTell}
 
 -- ---- the frames of a reaction
 
@@ -95,17 +96,18 @@ known_tell false true above deepest is = cc
 known_tell false false true deepest is = cc
 known_tell false false false deepest is = is
 
-body_shallow : (node : NodeState) (body : Body) → is_strange_body node body ≡ false → IsTyped body → IsShallow body
+body_shallow : (node : NodeState) {body : Body} → Said body → is_strange_body node body ≡ false → IsTyped body → IsShallow body
 unfolding is_strange_body
-body_shallow node (Tell joiner prefix level session depth watch) is typed =
-    deeper depth typed.1
-    (known_tell (is_own_name node joiner) (is_no_pin (link_to node joiner)) (nat_lt (lcp (name_of node) joiner) prefix) (depth == 65535) is)
-body_shallow node (Cast cast level session depth word) is typed = deeper depth typed.2 is
+body_shallow node (IsTell tell watch) is typed =
+    deeper tell.depth typed.1
+    (known_tell (is_own_name node tell.joiner) (is_no_pin (link_to node tell.joiner)) (nat_lt (lcp (name_of node) tell.joiner) tell.prefix)
+    (tell.depth == 65535) is)
+body_shallow node (IsCast {depth = depth}) is typed = deeper depth typed.2 is
 body_shallow node _ is typed = tt
 
 shallow : (node : NodeState) (frame : Frame) → is_strange node frame ≡ false → IsTyped frame.body → IsShallow frame.body
 shallow node frame known typed =
-    body_shallow node frame.body
+    body_shallow node (said_of frame.body)
     (known_body (is_own_name node frame.from) (is_strange_body node frame.body) (is_too_many node (names_to_link frame.from frame.body)) known)
     typed
 

@@ -7,7 +7,6 @@ use Rattle.std.proofs.lemmas.List.Elements.{All-append, All-cons, All-head, All-
 use Rattle.tap_name.specs.Settings.{SettingsValue}
 use Rattle.tap_cast.specs.Casts.{CastsValue}
 use Rattle.tap_wire.specs.declared.frame.Body.{Body}
-use Rattle.tap_wire.specs.declared.frame.Body.TheVariants.{Cast}
 use Rattle.tap_wire.specs.declared.frame.Frame.{Frame}
 use Rattle.tap_rule.specs.Node.{NodeState, joiner}
 use Rattle.tap_rule.specs.Event.{Acted, Start}
@@ -19,6 +18,8 @@ use Rattle.tap_safety.specs.Moved.{moved, numbered_frame, starter, without_frame
 use Rattle.tap_safety.specs.Step.{numbered_from}
 use Rattle.tap_safety.specs.System.{System}
 use Rattle.tap_safety.proofs.Moves.{delivers, lost, starts}
+use Rattle.tap_safety.proofs.Said.{Said, said_of}
+use Rattle.tap_safety.proofs.Said.Said.{IsCast}
 use Rattle.tap_readable.proofs.RangeRules.{AreMetTo, IsCastTo, StartsCastTo}
 use Rattle.tap_readable.proofs.RangeActs.{AreSentTo, Counts, frame_counts, start_counts, start_opens}
 
@@ -43,11 +44,11 @@ pub record HaveCounted (n steps : ℕ) (s : System) : Type 0 where
 -- of casts of a greater number
 module _ (n n' : ℕ) (more : n ≤ n') where
   cast_to_more : (f : Frame) → IsCastTo n f.body → IsCastTo n' f.body
-  cast_to_more f up = by_body f.body up
+  cast_to_more f up = by_said (said_of f.body) up
     where
-      by_body : (body : Body) → IsCastTo n body → IsCastTo n' body
-      by_body (Cast cast level session depth word) up = omega (arith, up, more)
-      by_body _ up = tt
+      by_said : {body : Body} → Said body → IsCastTo n body → IsCastTo n' body
+      by_said IsCast up = omega (arith, up, more)
+      by_said _ up = tt
 
   met_to_more : (casts : CastsValue) → AreMetTo n casts → AreMetTo n' casts
   met_to_more casts met = λ k d within. let up = met k d within in omega (arith, up, more)

@@ -28,22 +28,22 @@ pub data Said : Body → Type 0 where
   IsCast : {cast level session depth : ℕ} {word : List ℕ} → Said (Cast cast level session depth word)
   IsCastAck : (session : ℕ) → Said (CastAck session)
 
-pub said : (body : Body) → Said body
-said (Seek joiner) = IsSeek joiner
-said (Tell joiner prefix level session depth watch) =
+pub said_of : (body : Body) → Said body
+said_of (Seek joiner) = IsSeek joiner
+said_of (Tell joiner prefix level session depth watch) =
     IsTell (record { joiner = joiner; prefix = prefix; level = level; session = session; depth = depth }) watch
-said (Hello session core links) = IsHello (record { session = session; is_core = core; links = links })
-said (Heard session) = IsHeard session
-said (Ack session) = IsAck session
-said Done = IsDone
-said Release = IsRelease
-said (Link version on) = IsLink version on
-said (Lay object server level version on) = IsLay
-said (Find ticket object asker level) = IsFind
-said (Answer ticket server) = IsAnswer
-said (Leave replacement) = IsLeave replacement
-said Left = IsLeft
-said Gone = IsGone
-said Forget = IsForget
-said (Cast cast level session depth word) = IsCast
-said (CastAck session) = IsCastAck session
+said_of (Hello session core links) = IsHello (record { session = session; is_core = core; links = links })
+said_of (Heard session) = IsHeard session
+said_of (Ack session) = IsAck session
+said_of Done = IsDone
+said_of Release = IsRelease
+said_of (Link version on) = IsLink version on
+said_of (Lay object server level version on) = IsLay
+said_of (Find ticket object asker level) = IsFind
+said_of (Answer ticket server) = IsAnswer
+said_of (Leave replacement) = IsLeave replacement
+said_of Left = IsLeft
+said_of Gone = IsGone
+said_of Forget = IsForget
+said_of (Cast cast level session depth word) = IsCast
+said_of (CastAck session) = IsCastAck session

@@ -12,7 +12,7 @@ use Rattle.tap_rule.specs.Sent.{IsAmong}
 use Rattle.tap_safety.specs.FewSessions.{SessionsAreFew}
 use Rattle.tap_safety.specs.Invariant.{Basis}
 use Rattle.tap_safety.specs.System.{System, AmongFrames}
-use Rattle.tap_safety.proofs.Said.{Said, said}
+use Rattle.tap_safety.proofs.Said.{Said, said_of}
 use Rattle.tap_safety.proofs.Said.Said.{IsAck, IsDone, IsForget, IsGone, IsHeard, IsHello, IsLeave, IsLeft, IsLink, IsRelease, IsSeek, IsTell}
 use Rattle.tap_safety.specs.Notices.{IsNotice}
 use Rattle.tap_moves.specs.Spelled.{AreNodes}
@@ -82,7 +82,7 @@ module _ (status : Status) where
 
 pub others_have_rules : OthersHaveRules
 unfolding taken_by
-others_have_rules p s number node from body is = by_said body (said body) is
+others_have_rules p s number node from body is = by_said body (said_of body) is
   where
     by_said : (body : Body) → Said body → Arrives p s number node from body → HasRule node.status body ⊎ MayLackRule node.status body
     by_said _ (IsSeek joiner) is = inl (only node.status Core (seek_taker p s number node from joiner is))
@@ -104,7 +104,7 @@ goes_on true = inr refl
 goes_on false = inl refl
 
 pub taken_where_due : TakenWhereDue
-taken_where_due p s number node from body is none = by_said body (said body) is none
+taken_where_due p s number node from body is none = by_said body (said_of body) is none
   where
     by_said : (body : Body) → Said body → Arrives p s number node from body → (IsNotice body → ⊥)
         → IsTakenThere node body × (IsFilledThere node body ⊎ IsSetApart node body)

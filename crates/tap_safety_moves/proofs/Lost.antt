@@ -31,7 +31,7 @@ use Rattle.tap_safety.specs.Ties.{link_in, link_of, status_in, status_of, word_f
 use Rattle.tap_safety.specs.Turned.{Taking, closed_by, opened_by, sessions_with, surrogates_with}
 use Rattle.tap_safety.proofs.Moves.{delivers, found}
 use Rattle.tap_safety.proofs.StepLaws.{plain_law, seeking_frame_law, soft_plain_law, tells_frame_law}
-use Rattle.tap_safety.proofs.Said.{Said, said}
+use Rattle.tap_safety.proofs.Said.{Said, said_of}
 use Rattle.tap_safety.proofs.Said.Said.{IsAck, IsHeard, IsHello, IsTell}
 use Rattle.tap_moves.specs.ByRule.{taken_at}
 use Rattle.tap_moves.specs.Delivered.{after_delivery}
@@ -122,7 +122,7 @@ module _ (p : SettingsValue) (s : System) (number : ℕ) (node : NodeState) (fro
         ∙ ap (λ (o : Option Session). surrogates_with s.surrogate own o b) none_opens;
     session = λ y k.
         sessions_after p s number frame node is_found is.at y k
-        ∙ sessions_left s (taking s number frame node (taken_at node from body)) (ignored_named node (said body) from own is.may)
+        ∙ sessions_left s (taking s number frame node (taken_at node from body)) (ignored_named node (said_of body) from own is.may)
         (ignored_closes node body (taken_at node from body).state is.may) none_opens y k;
   }
 
@@ -242,7 +242,7 @@ module _ (p : SettingsValue) (s : System) (number : ℕ) (node : NodeState) (fro
     still = λ m f y k among belongs. elim (frame_still m f among) [
       | inr on ↦ on
       | inl same ↦
-          absurd (unnamed f (frame_to node from body) y k same (ignored_named node (said body) from (name_of node) is.may) belongs)
+          absurd (unnamed f (frame_to node from body) y k same (ignored_named node (said_of body) from (name_of node) is.may) belongs)
     ];
     was = λ m f y k among belongs. frame_was m f among;
     is_one = swaps.is_one;

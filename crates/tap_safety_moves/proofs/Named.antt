@@ -21,7 +21,7 @@ use Rattle.tap_safety.specs.Seeking.{HasNode}
 use Rattle.tap_safety.specs.Soft.{IsSoft}
 use Rattle.tap_safety.specs.System.{System, HasLink, IsCoreNode, IsUnderWay}
 use Rattle.tap_safety.proofs.LinkKeeps.{some_state}
-use Rattle.tap_safety.proofs.Said.{Said, said}
+use Rattle.tap_safety.proofs.Said.{Said, said_of}
 use Rattle.tap_safety.proofs.Said.Said.{IsHello, IsLeave, IsSeek, IsTell}
 use Rattle.tap_safety_moves.specs.Arrivals.{Arrives}
 use Rattle.tap_safety_moves.proofs.Takers.{way}
@@ -103,7 +103,7 @@ module _ (p : SettingsValue) (s : System) (number : ℕ) (node : NodeState) (fro
     linked_or_could : (name : List ℕ) → MayLink node (frame_to node from body) name → HasNode s name
     linked_or_could name may = elim may.linked [
       | inl linked ↦ kind_node name (link_to node name) refl linked
-      | inr could ↦ could_node (said body) is name could
+      | inr could ↦ could_node (said_of body) is name could
     ]
 
     -- with the node itself they are at most 256

@@ -18,7 +18,7 @@ use Rattle.tap_safety.specs.Frames.{tell_body}
 use Rattle.tap_safety.specs.Seeking.{IsSeeker}
 use Rattle.tap_safety.specs.System.{System, HasLink, IsCoreNode, IsJoiner}
 use Rattle.tap_safety.proofs.CoverKept.{core_or_joiner}
-use Rattle.tap_safety.proofs.Said.{Said, said}
+use Rattle.tap_safety.proofs.Said.{Said, said_of}
 use Rattle.tap_safety.proofs.Said.Said.{IsCast, IsSeek, IsTell}
 use Rattle.tap_moves.proofs.InvariantMoves.{seeker_not_core}
 use Rattle.tap_session_moves.proofs.Depths.{tells_shallow}
@@ -93,7 +93,7 @@ module _ (p : SettingsValue) (s : System) (number : ℕ) (node : NodeState) (fro
   frame_fits : (body : Body) → Arrives p s number node from body → is_deepest_copy body ≡ false → IsFit node (frame_to node from body)
   frame_fits body is other = record {
     from = is.invariant.ends.apart number (frame_to node from body) is.among;
-    body = body_fits (said body) is other;
+    body = body_fits (said_of body) is other;
     few = few_linked p s number node from body is;
   }
 
@@ -112,7 +112,7 @@ strange_exactly p s number node from body is =
     elim (cases_Bool (is_deepest_copy body)) [
       | inl deepest ↦ elim (cases_Bool (is_strange node frame)) [
         | inl strange ↦ strange ∙ sym deepest
-        | inr taken ↦ absurd (deepest_unfit node (said body) deepest (law.0 taken).body)
+        | inr taken ↦ absurd (deepest_unfit node (said_of body) deepest (law.0 taken).body)
       ]
       | inr other ↦ law.1 (frame_fits p s number node from body is other) ∙ sym other
     ]

@@ -27,7 +27,7 @@ use Rattle.tap_safety.specs.Step.{AreNumbered, numbered_from}
 use Rattle.tap_safety.specs.System.{System, AmongFrames}
 use Rattle.tap_safety.proofs.Moves.{delivers, found, starts}
 use Rattle.tap_safety.proofs.Told.{among_sent}
-use Rattle.tap_safety.proofs.Said.{Said, said}
+use Rattle.tap_safety.proofs.Said.{Said, said_of}
 use Rattle.tap_safety.proofs.Said.Said.{IsCast}
 use Rattle.tap_moves.specs.Delivered.{after_delivery, after_start}
 use Rattle.tap_moves.specs.Spelled.{AreNodes}
@@ -159,4 +159,4 @@ pub comes_shallow : (p : SettingsValue) (s : System) (number : ℕ) (frame : Fra
 comes_shallow p s number frame node sound among at =
     let of = sound.nodes.nodes frame.to node at in
     let limits = subst AreWithinLimits of.settings of.is_node.ties.table.limits in
-    no_deepest p (said frame.body) limits.digits_to (sound.basis.spelled.each number frame among).body (sound.shallow.each number frame among)
+    no_deepest p (said_of frame.body) limits.digits_to (sound.basis.spelled.each number frame among).body (sound.shallow.each number frame among)

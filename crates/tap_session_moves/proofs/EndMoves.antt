@@ -52,7 +52,7 @@ use Rattle.tap_safety.specs.Turned.{opened_by, seated, surrogates_with}
 use Rattle.tap_safety.proofs.Known.{ends_frame, ends_start}
 use Rattle.tap_safety.proofs.LinkKeeps.{some_state}
 use Rattle.tap_safety.proofs.Moves.{delivers, found, starts, with_at-others}
-use Rattle.tap_safety.proofs.Said.{Said, said}
+use Rattle.tap_safety.proofs.Said.{Said, said_of}
 use Rattle.tap_safety.proofs.Said.Said.{IsFind, IsHello, IsLeave, IsSeek, IsTell}
 use Rattle.tap_moves.specs.Delivered.{after_delivery, after_start}
 use Rattle.tap_moves.specs.Spelled.{AreNodes, IsNodeOf}
@@ -263,7 +263,7 @@ module _ (p : SettingsValue) (s : System) (inv : Basis p s) (nodes : AreNodes p 
       taken_sends P Q node of.is_node casts_known frame here (λ known.
       let there : is_strange node (frame_to node from body) ≡ false = known in
       frame_sends P Q node of.is_node links_known holders_known parents_known casts_known laid_known from here.sender sender node.status
-      refl body here.body (names_known number from sender (said body) among there fields) there)
+      refl body here.body (names_known number from sender (said_of body) among there fields) there)
 
   pub start_step : (start : Start) → IsStart (settings_of node) start → StartNames P Q node start
       → StepSends P Q node of.is_node (act node (Starts start))

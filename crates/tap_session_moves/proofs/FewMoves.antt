@@ -53,7 +53,7 @@ use Rattle.tap_safety.proofs.JoinsKept.{one_session}
 use Rattle.tap_safety.proofs.Moves.{starts}
 use Rattle.tap_safety.proofs.Rest.{rest_holds}
 use Rattle.tap_safety.proofs.StepLaws.{closing_turns_law, handing_on_turns_law, last_turns_law}
-use Rattle.tap_safety.proofs.Said.{Said, said}
+use Rattle.tap_safety.proofs.Said.{Said, said_of}
 use Rattle.tap_safety.proofs.Said.Said.{IsAck, IsDone, IsForget, IsHeard, IsHello, IsLink, IsRelease, IsSeek, IsTell}
 use Rattle.tap_moves.specs.ByRule.{taken_at}
 use Rattle.tap_moves.specs.Delivered.{after_delivery, after_start}
@@ -511,7 +511,7 @@ module _ (p : SettingsValue) (s : System) (number : ℕ) (node : NodeState) (fro
   seek_few b is at (Surrogate prefix) found few = seat_few b prefix is at found few
 
 pub frame_few : FrameFew
-frame_few p s number node from body is there few = by_said body (said body) is there few
+frame_few p s number node from body is there few = by_said body (said_of body) is there few
   where
     by_said : (body : Body) → Said body → IsDelivery p s number node from body → IsTakenThere node body → SessionsAreFew p s
         → SessionsAreFew p (after_delivery p s number)

@@ -51,7 +51,7 @@ use Rattle.tap_safety.proofs.Moves.{with_at-here, with_at-others}
 use Rattle.tap_safety.proofs.SoftKept.{sent_each}
 use Rattle.tap_safety.proofs.StepLaws.{joins_closing_law, joins_handing_on_law, joins_last_law, joins_opening_law, joins_root_law}
 use Rattle.tap_safety.proofs.TellKeeps.{joiner_after, joiner_before}
-use Rattle.tap_safety.proofs.Said.{Said, said}
+use Rattle.tap_safety.proofs.Said.{Said, said_of}
 use Rattle.tap_safety.proofs.Said.Said.{IsAck, IsDone, IsForget, IsHeard, IsHello, IsLink, IsRelease, IsSeek, IsTell}
 use Rattle.tap_moves.specs.ByRule.{StartsNone, taken_at}
 use Rattle.tap_moves.specs.Delivered.{IsArriving, after_delivery}
@@ -94,7 +94,7 @@ about_one s s' sent b w k session sends is joiner asks m f y n o c among belongs
     let there : IsOpen s' y n session = rw (place.0, place.1) is in
     let same = one_session s' y n o session held there in
     let for_b = sends f.from f.to f.body (sent_numbered m f s.next sent among) in
-    let mine = about_is b f.from f.to (said f.body) c for_b of in
+    let mine = about_is b f.from f.to (said_of f.body) c for_b of in
     ap (λ (a : OpenSession). a.joiner) same ∙ joiner ∙ sym mine
 
 -- ---- a session that awaits an answer in place of the frame
@@ -628,7 +628,7 @@ module _ (p : SettingsValue) (s : System) (number : ℕ) (node : NodeState) (fro
       seat_joins p s number node from b prefix is at found (seated_status node b (taken_at node from (Seek b)) prefix step)
 
 pub frame_joins : FrameJoins
-frame_joins p s number node from body is there = by_said body (said body) is there
+frame_joins p s number node from body is there = by_said body (said_of body) is there
   where
     by_said : (body : Body) → Said body → IsDelivery p s number node from body → IsTakenThere node body
         → HaveJoiners (after_delivery p s number)

@@ -28,7 +28,7 @@ use Rattle.tap_safety.specs.Step.{IsSent}
 use Rattle.tap_safety.specs.System.{System}
 use Rattle.tap_safety.specs.Turned.{closed_by}
 use Rattle.tap_safety.proofs.FewSessions.{few_sessions_kept}
-use Rattle.tap_safety.proofs.Said.{Said, said}
+use Rattle.tap_safety.proofs.Said.{Said, said_of}
 use Rattle.tap_safety.proofs.Said.Said.{IsAck, IsHeard, IsHello, IsTell}
 use Rattle.tap_moves.specs.ByRule.{taken_at}
 use Rattle.tap_moves.specs.Delivered.{after_delivery}
@@ -154,7 +154,7 @@ takes_notice node from body known is = step (rule_of_frame node.status node from
           };
           aside = λ f y k among belongs.
               let found = sent_in (name_of node) r.words r.messages (taken_at node from body).sent carried.sent f y k among belongs in
-              let none = notice_named (said found.0.body) (name_of node) found.0.to (by.1 found.0 found.1) in
+              let none = notice_named (said_of found.0.body) (name_of node) found.0.to (by.1 found.0 found.1) in
               let wrong : ◌≡◌ {A = Option (List ℕ × ℕ)} None (Some (y, k)) = sym none ∙ found.2 in
               absurd (cc);
           sent =
@@ -174,7 +174,7 @@ module _ (p : SettingsValue) (s : System) (number : ℕ) (node : NodeState) (fro
   leaves =
       let here = due p s number node from body is in
       leaves_sessions s after number node from body (before_taking p s is.invariant) (by_rule p s number node from body here)
-      (remembers p s number node from body here) taken.state.opened (notice_named (said body) from (name_of node) notice)
+      (remembers p s number node from body here) taken.state.opened (notice_named (said_of body) from (name_of node) notice)
       (notice_closes body (taken_at node from body).state notice) taken.aside
 
   -- a leaving node, and one that is gone, is no joiner

@@ -46,7 +46,7 @@ use Rattle.tap_safety.specs.Frames.{HelloFields, hello_body, tell_body}
 use Rattle.tap_safety.specs.Joins.{NoDoneAmong, SendsDone, about_of}
 use Rattle.tap_safety.specs.Step.{IsSent, numbered_from}
 use Rattle.tap_safety.proofs.SoftKept.{sent_each}
-use Rattle.tap_safety.proofs.Said.{Said, said}
+use Rattle.tap_safety.proofs.Said.{Said, said_of}
 use Rattle.tap_safety.proofs.Said.Said.{IsDone, IsHeard, IsHello, IsTell}
 use Rattle.tap_moves.specs.ByRule.{taken_at}
 use Rattle.tap_moves.proofs.Exchanged.{sent_numbered}
@@ -290,7 +290,7 @@ done_of_nobody node k a joiner acted step is last parent from to body sent c of 
     let answers : answer_sends (answer_to (join_session_at node k)) ≡ message joiner Done ∷ [] = rw (is, last, parent) refl in
     let are = answers_as (name_of node) (answer_sends (answer_to (join_session_at node k))) (message joiner Done ∷ []) acted.sent answers
     step.sent in
-    nobody_is from to (said body) c
+    nobody_is from to (said_of body) c
     (sent_each (name_of node) [] (message joiner Done ∷ []) acted.sent are (λ from to body. IsOfNobody body) (λ to version on. tt)
     (λ to object server level version on. tt)
     (λ m among. elim among [

@@ -31,7 +31,7 @@ use Rattle.tap_safety.specs.SessionSteps.{LeavesSessions}
 use Rattle.tap_safety.specs.Step.{AreNumbered, HasSent, IsSent, numbered_from}
 use Rattle.tap_safety.specs.System.{System}
 use Rattle.tap_safety.proofs.Moves.{ascend_one, numbers_sent, starts}
-use Rattle.tap_safety.proofs.Said.{said}
+use Rattle.tap_safety.proofs.Said.{said_of}
 use Rattle.tap_moves.specs.Delivered.{after_start}
 use Rattle.tap_moves.proofs.Exchanged.{in_either, in_first, sent_numbered}
 use Rattle.tap_moves.proofs.InSession.{sent_in}
@@ -99,7 +99,7 @@ quiet_joins : (p : SettingsValue) (s : System) (x : List ℕ) (start : Start) (n
 quiet_joins p s x start node inv at is quiet =
     let law = quiet_start_law node start quiet in
     there_joins p s x start node inv at is law.status
-    (λ f y k among belongs. quiet_none (said f.body) f.from f.to y k (law.sent f among) belongs)
+    (λ f y k among belongs. quiet_none (said_of f.body) f.from f.to y k (law.sent f among) belongs)
     (λ w to body among. quiet_no_done body (law.sent (record { from = w; to = to; body = body }) among))
 
 abandon_joins : (p : SettingsValue) (s : System) (x : List ℕ) (node : NodeState) → Basis p s → s.node x ≡ Some node

@@ -23,7 +23,7 @@ use Rattle.tap_safety.specs.System.{System}
 use Rattle.tap_safety.proofs.StartKeeps.{node_was}
 use Rattle.tap_safety.proofs.StepLaws.{await_others_law, awaited_others_law}
 use Rattle.tap_safety.proofs.TellKeeps.{node_after, node_before}
-use Rattle.tap_safety.proofs.Said.{said}
+use Rattle.tap_safety.proofs.Said.{said_of}
 use Rattle.tap_moves.specs.Delivered.{after_start}
 use Rattle.tap_moves.specs.SessionMoves.{AreBooked}
 use Rattle.tap_moves.proofs.OutsideMade.{quiet_none}
@@ -134,7 +134,7 @@ alike_sessions p s x start node is inv =
     record {
       leaves =
           sent_aside s s' (act node (Starts start)).sent is.step.sent inv.numbered is.step.session
-          (λ f y k among belongs. quiet_none (said f.body) f.from f.to y k (is.alike.sent f among) belongs);
+          (λ f y k among belongs. quiet_none (said_of f.body) f.from f.to y k (is.alike.sent f among) belongs);
       nodes = λ y state there. elim (node_after s s' x node after at y state there) [
         | inl here ↦ record {
           state = after;

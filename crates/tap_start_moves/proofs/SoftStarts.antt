@@ -16,7 +16,7 @@ use Rattle.tap_safety.proofs.SoftKept.{one_sound, soft_kept}
 use Rattle.tap_safety.proofs.SoftSteps.{links_sound, softs_same, start_ways}
 use Rattle.tap_safety.proofs.StepLaws.{soft_join_law}
 use Rattle.tap_safety.proofs.TellKeeps.{core_kept}
-use Rattle.tap_safety.proofs.Said.{Said, said}
+use Rattle.tap_safety.proofs.Said.{Said, said_of}
 use Rattle.tap_safety.proofs.Said.Said.{IsHello, IsLeave, IsRelease}
 use Rattle.tap_moves.specs.Delivered.{after_start}
 use Rattle.tap_start_moves.specs.Starts.{StartSoft}
@@ -41,7 +41,7 @@ module _ (p : SettingsValue) (s : System) (x : List ℕ) (start : Start) (node :
   sound_ways from to body way =
       elim (start_ways s after acted.sent is.step.sent from to body way) [
         | inl old ↦ inl old
-        | inr sends ↦ inr (quiet_sound after from to (said body) (is.alike.sent (record { from = from; to = to; body = body }) sends))
+        | inr sends ↦ inr (quiet_sound after from to (said_of body) (is.alike.sent (record { from = from; to = to; body = body }) sends))
       ]
 
   alike_soft : NamesSoft s → NamesSoft after
