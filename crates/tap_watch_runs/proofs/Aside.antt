@@ -4,8 +4,10 @@ use Rattle.tap_session.specs.declared.parent.Parent.TheVariants.{Node}
 use Rattle.tap_session.specs.Session.{SessionsValue}
 use Rattle.tap_session.specs.Sessions.{opened_with}
 use Rattle.tap_wire.specs.declared.frame.Body.{Body}
-use Rattle.tap_wire.specs.declared.frame.Body.TheVariants.{Tell}
 use Rattle.tap_wire.specs.declared.frame.Frame.{Frame}
+use Rattle.tap_wire.specs.declared.kind.Kind.{Kind}
+use Rattle.tap_wire.specs.declared.kind.Kind.TheVariants.{Tell}
+use Rattle.tap_wire.specs.Kind.{kind_of}
 use Rattle.tap_rule.specs.Node.{NodeState, Status, name_of}
 use Rattle.tap_rule.specs.Node.Status.{Core}
 use Rattle.tap_rule.specs.Event.{Acted, Start}
@@ -34,9 +36,12 @@ use Rattle.tap_watch_runs.specs.Recalled.{asked, asked_at, asked_by_seek}
 -- ---- what a rule leaves
 
 -- a body that tells nobody of a joiner
+abbrev IsNoTellKind : Kind → Type 0
+IsNoTellKind Tell = ⊥
+IsNoTellKind other = Unit {0}
+
 abbrev IsNoTell : Body → Type 0
-IsNoTell (Tell joiner prefix level session depth watch) = ⊥
-IsNoTell other = Unit {0}
+IsNoTell body = IsNoTellKind (kind_of body)
 
 abbrev TellNobody : List Message → Type 0
 TellNobody messages = All (λ m. IsNoTell m.body) messages

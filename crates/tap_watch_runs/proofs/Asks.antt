@@ -4,7 +4,7 @@ use Rattle.tap_name.specs.Settings.{SettingsValue}
 use Rattle.tap_name.specs.declared.slot.Slot.{Slot}
 use Rattle.tap_table.specs.Table.{IsTable}
 use Rattle.tap_wire.specs.declared.frame.Body.{Body}
-use Rattle.tap_wire.specs.declared.frame.Body.TheVariants.{Seek, Tell}
+use Rattle.tap_wire.specs.declared.frame.Body.TheVariants.{Seek}
 use Rattle.tap_wire.specs.declared.frame.Frame.{Frame}
 use Rattle.tap_wire.specs.declared.frame.TellFields.{TellFields}
 use Rattle.tap_multicast.specs.declared.covers.Covered.{Covered}
@@ -38,6 +38,8 @@ use Rattle.tap_safety.specs.Step.{numbered_from}
 use Rattle.tap_safety.specs.System.{Covers, System, IsUnderWay}
 use Rattle.tap_safety.proofs.Moves.{starts}
 use Rattle.tap_safety.proofs.Told.{among_either, among_sent}
+use Rattle.tap_safety.proofs.Said.{Said, said_of}
+use Rattle.tap_safety.proofs.Said.Said.{IsSeek, IsTell}
 use Rattle.tap_moves.specs.ByRule.{taken_at}
 use Rattle.tap_moves.specs.Delivered.{after_start}
 use Rattle.tap_moves.specs.InvariantLaws.{IsDelivery}
@@ -156,15 +158,14 @@ seek_asks node from joiner (Surrogate prefix) request acted is carried =
     let same : first_request node joiner prefix ≡ request = cc in
     subst (λ q. IsCarriedOut node (pins_and_covers node q) acted) same carried
 
-pub core_asks : (node : NodeState) (from : List ℕ) (body : Body) (request : Request) → node.status ≡ Core
+pub core_asks : (node : NodeState) (from : List ℕ) {body : Body} → Said body → (request : Request) → node.status ≡ Core
     → is_strange node (frame_to node from body) ≡ false → asked_at_core node from body ≡ Some request
     → IsCarriedOut node (pins_and_covers node request) (taken_at node from body)
 unfolding frame_at_core
-core_asks node from (Seek joiner) request at known is =
+core_asks node from (IsSeek joiner) request at known is =
     seek_asks node from joiner (sought node.ties.table joiner) request (taken_at node from (Seek joiner)) is
     (frame_law node (frame_to node from (Seek joiner)) (seeks node joiner) known (rw at refl))
-core_asks node from (Tell joiner prefix level session depth watch) request at known is =
-    let tell : TellFields = record { joiner = joiner; prefix = prefix; level = level; session = session; depth = depth } in
+core_asks node from (IsTell tell watch) request at known is =
     let same : request_of from tell watch ≡ request = cc in
     subst (λ q. IsCarriedOut node (pins_and_covers node q) (taken_at node from (tell_body tell watch))) same
     (frame_law node (frame_to node from (tell_body tell watch)) (takes_tell node from tell watch) known (rw at refl))
@@ -240,11 +241,10 @@ module _ (p : SettingsValue) (s : System) (number : ℕ) (node : NodeState) (fro
       let shared = (surrogate_is node.ties.table ties.table joiner name fits.apart prefix found).0 in
       subst (IsCovering node) same (covering node (first_request node joiner prefix) ties name fits (omega (arith, shared)))
 
-  pub table_stays : (body : Body) (request : Request) → IsDelivery p s number node from body → asked_at_core node from body ≡ Some request
+  pub table_stays : {body : Body} → Said body → (request : Request) → IsDelivery p s number node from body → asked_at_core node from body ≡ Some request
       → IsCovering node request
-  table_stays (Seek joiner) request is asks = seek_table joiner (sought node.ties.table joiner) request is refl asks
-  table_stays (Tell joiner prefix level session depth watch) request is asks =
-      let tell : TellFields = record { joiner = joiner; prefix = prefix; level = level; session = session; depth = depth } in
+  table_stays (IsSeek joiner) request is asks = seek_table joiner (sought node.ties.table joiner) request is refl asks
+  table_stays (IsTell tell watch) request is asks =
       let same : request_of from tell watch ≡ request = cc in
       let ties = (due p s number node from (tell_body tell watch) is).is_node.ties in
       let fit = (fit_law node (frame_to node from (tell_body tell watch)) ties).0 is.known in

@@ -7,7 +7,7 @@ use Rattle.tap_name.specs.Names.{has_name}
 use Rattle.tap_scenario.specs.declared.step.Step.{Step}
 use Rattle.tap_scenario.specs.declared.step.Step.TheVariants.{Abandon as GiveUp, Cast as CastStep, Find, Publish, Withdraw}
 use Rattle.tap_wire.specs.declared.frame.Body.{Body}
-use Rattle.tap_wire.specs.declared.frame.Body.TheVariants.{Ack, Cast, Done, Forget, Heard, Hello, Link, Release, Tell}
+use Rattle.tap_wire.specs.declared.frame.Body.TheVariants.{Done}
 use Rattle.tap_wire.specs.declared.frame.Frame.{Frame}
 use Rattle.tap_wire.specs.declared.frame.TellFields.{TellFields}
 use Rattle.tap_log.specs.Counts.{sent_count}
@@ -30,6 +30,8 @@ use Rattle.tap_rule.specs.Strange.{is_strange}
 use Rattle.tap_rule.proofs.CarriedOut.{frame_law, start_law, unruled_law, unruled_start_law}
 use Rattle.tap_safety.specs.Moved.{starter}
 use Rattle.tap_safety.specs.System.{AmongFrames, System}
+use Rattle.tap_safety.proofs.Said.{Said, said_of}
+use Rattle.tap_safety.proofs.Said.Said.{IsAck, IsCast, IsDone, IsForget, IsHeard, IsHello, IsLink, IsRelease, IsTell}
 use Rattle.tap_runs.specs.Beginning.{Beginning}
 use Rattle.tap_runs.specs.Course.{Follows, MayFollow, system_of}
 use Rattle.tap_runs.specs.Group.{records_of_act}
@@ -56,20 +58,19 @@ told_none : (node : NodeState) (from : List ℕ) (tell : TellFields) → tells_c
 told_none node from tell =
     elim (cases_Bool (has_name node.greeted tell.joiner)) [ inl known ↦ rw known refl | inr new ↦ rw new refl ]
 
-joining_done : (node : NodeState) (from : List ℕ) (body : Body) → IsOfDone body (frame_at_joining node from body)
+joining_done : (node : NodeState) (from : List ℕ) {body : Body} → Said body → IsOfDone body (frame_at_joining node from body)
 unfolding frame_at_joining
-joining_done node from (Tell joiner prefix level session depth watch) = λ core.
-    absurd (true≢false (sym core ∙ told_none (with_pin node joiner) from
-    (record { joiner = joiner; prefix = prefix; level = level; session = session; depth = depth })))
-joining_done node from (Hello session core links) = λ core. absurd (true≢false (sym core))
-joining_done node from (Heard session) = λ core. absurd (true≢false (sym core))
-joining_done node from (Ack session) = λ core. absurd (true≢false (sym core))
-joining_done node from Done = λ core. refl
-joining_done node from Release = λ core. absurd (true≢false (sym core))
-joining_done node from (Link version on) = λ core. absurd (true≢false (sym core))
-joining_done node from Forget = λ core. absurd (true≢false (sym core))
-joining_done node from (Cast cast level session depth word) = λ core. absurd (true≢false (sym core))
-joining_done node from body = tt
+joining_done node from (IsTell tell watch) = λ core.
+    absurd (true≢false (sym core ∙ told_none (with_pin node tell.joiner) from tell))
+joining_done node from (IsHello hello) = λ core. absurd (true≢false (sym core))
+joining_done node from (IsHeard session) = λ core. absurd (true≢false (sym core))
+joining_done node from (IsAck session) = λ core. absurd (true≢false (sym core))
+joining_done node from IsDone = λ core. refl
+joining_done node from IsRelease = λ core. absurd (true≢false (sym core))
+joining_done node from (IsLink version on) = λ core. absurd (true≢false (sym core))
+joining_done node from IsForget = λ core. absurd (true≢false (sym core))
+joining_done node from IsCast = λ core. absurd (true≢false (sym core))
+joining_done node from _ = tt
 
 frame_done : (node : NodeState) (frame : Frame) → node.status ≡ Joining → is_strange node frame ≡ false
     → tells_core (act node (Takes frame)).news ≡ true → frame.body ≡ Done
@@ -80,7 +81,7 @@ frame_done node frame joins known core = by (rule_of_frame node.status node fram
     by (Some rule) is =
         let same : frame_at_joining node frame.from frame.body ≡ Some rule =
         ap (λ status. rule_of_frame status node frame.from frame.body) (sym joins) ∙ is in
-        subst (IsOfDone frame.body) same (joining_done node frame.from frame.body)
+        subst (IsOfDone frame.body) same (joining_done node frame.from (said_of frame.body))
         (sym (ap tells_core (frame_law node frame rule known is).news) ∙ core)
 
 -- ---- no start makes a node core

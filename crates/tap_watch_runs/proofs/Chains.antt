@@ -13,7 +13,7 @@ use Rattle.tap_join.specs.Seek.{sought}
 use Rattle.tap_join.specs.declared.sought.Sought.{Sought}
 use Rattle.tap_join.specs.declared.sought.Sought.TheVariants.{Forward, Surrogate}
 use Rattle.tap_wire.specs.declared.frame.Body.{Body}
-use Rattle.tap_wire.specs.declared.frame.Body.TheVariants.{Seek, Tell}
+use Rattle.tap_wire.specs.declared.frame.Body.TheVariants.{Seek}
 use Rattle.tap_wire.specs.declared.frame.Frame.{Frame}
 use Rattle.tap_wire.specs.declared.frame.TellFields.{TellFields}
 use Rattle.tap_rule.specs.Act.{act}
@@ -33,6 +33,8 @@ use Rattle.tap_safety.specs.System.{AmongFrames, IsUnderWay, System}
 use Rattle.tap_safety.specs.Turned.{opened_by, surrogates_with}
 use Rattle.tap_safety.proofs.Moves.{starts, with_at-here, with_at-others}
 use Rattle.tap_safety.proofs.Told.{was_under_way}
+use Rattle.tap_safety.proofs.Said.{Said, said_of}
+use Rattle.tap_safety.proofs.Said.Said.{IsSeek, IsTell}
 use Rattle.tap_moves.specs.ByRule.{taken_at}
 use Rattle.tap_moves.specs.Delivered.{after_delivery, after_start}
 use Rattle.tap_moves.specs.InvariantLaws.{IsDelivery}
@@ -238,11 +240,10 @@ module _ (p : SettingsValue) (s : System) (r : WatchMemory) (number : ℕ) (node
         };
       })
 
-  body_led : (body : Body) (request : Request) → IsDelivery p s number node from body → asked_at_core node from body ≡ Some request
+  body_led : {body : Body} → Said body → (request : Request) → IsDelivery p s number node from body → asked_at_core node from body ≡ Some request
       → IsLed p s r number node request
-  body_led (Seek joiner) request is asks = seek_led joiner (sought node.ties.table joiner) request is refl asks
-  body_led (Tell joiner prefix level session depth watch) request is asks =
-      let tell : TellFields = record { joiner = joiner; prefix = prefix; level = level; session = session; depth = depth } in
+  body_led (IsSeek joiner) request is asks = seek_led joiner (sought node.ties.table joiner) request is refl asks
+  body_led (IsTell tell watch) request is asks =
       let same : request_of from tell watch ≡ request = cc in
       let s' = after_delivery p s number in
       let stays : SurrogatesStay s s' = λ b x seated.
@@ -252,8 +253,8 @@ module _ (p : SettingsValue) (s : System) (r : WatchMemory) (number : ℕ) (node
       subst (IsLed p s r number node) same (record {
         stays = stays;
         leads =
-            led_longer s' (r.chain from session) from (name_of node) joiner prefix
-            (led_on s s' (r.chain from session) from joiner prefix stays above);
+            led_longer s' (r.chain from tell.session) from (name_of node) tell.joiner tell.prefix
+            (led_on s s' (r.chain from tell.session) from tell.joiner tell.prefix stays above);
       })
   body_led _ request is asks = absurd (cc)
 
@@ -282,10 +283,10 @@ module _ (p : SettingsValue) (s : System) (r : WatchMemory) (number : ℕ) (node
           (λ chain x b prefix led. led_on s then chain x b prefix stay led) chains none
       by (Some request) asks =
           let core = core_only node.status node from body request asks in
-          let led = body_led p s r number node from chains core.0 body request is core.1 in
+          let led = body_led p s r number node from chains core.0 (said_of body) request is core.1 in
           cover_chains p s r number node from body is (LeadsTo s) (LeadsTo then)
           (λ chain x b prefix before. led_on s then chain x b prefix led.stays before) chains request
-          (core_asks node from body request core.0 is.known core.1) led.leads
+          (core_asks node from (said_of body) request core.0 is.known core.1) led.leads
 
 -- ---- each move
 

@@ -1,7 +1,6 @@
 -- What becomes of a node's status: who has been core joins no more and doesn't cease, and who joins has joined before.
 use Rattle.std.proofs.Common.{◌≡◌, ◌⊎◌, ℕ, false, List, refl, sym, subst, inl, inr}
 use Rattle.tap_wire.specs.declared.frame.Body.{Body}
-use Rattle.tap_wire.specs.declared.frame.Body.TheVariants.{Cast, CastAck}
 use Rattle.tap_rule.specs.Act.{act}
 use Rattle.tap_rule.specs.Event.{Start}
 use Rattle.tap_rule.specs.Event.Event.{Starts}
@@ -15,6 +14,8 @@ use Rattle.tap_moves.specs.ByRule.{taken_at}
 use Rattle.tap_cast_moves.proofs.AsideRules.{IsAside, IsAsideState}
 use Rattle.tap_cast_moves.proofs.AsideMade.{aside_frame, aside_start, leave_start}
 use Rattle.tap_watch_runs.specs.Had.{was_core}
+use Rattle.tap_safety.proofs.Said.{Said, said_of}
+use Rattle.tap_safety.proofs.Said.Said.{IsCast, IsCastAck}
 
 pub record FollowsOn (before after : Status) : Type 0 where
   pub stays : was_core before → was_core after
@@ -55,17 +56,16 @@ of_state before after (inr ends) =
       | inr leaves ↦ from_to before.status after.status Leaving Gone leaves.0 leaves.1 leaving_gone
     ]
 
-cast_or_not : (body : Body) → IsAside body ⊎ ((node : NodeState) (from : List ℕ)
-    → (taken_at node from body).state.status ≡ node.status)
-cast_or_not (Cast cast level session depth word) =
-    inr (λ node from. (quiet_law node (frame_to node from (Cast cast level session depth word)) tt).status)
-cast_or_not (CastAck session) = inr (λ node from. (quiet_law node (frame_to node from (CastAck session)) tt).status)
-cast_or_not _ = inl tt
+cast_or_not : (body : Body) → Said body
+    → IsAside body ⊎ ((node : NodeState) (from : List ℕ) → (taken_at node from body).state.status ≡ node.status)
+cast_or_not body IsCast = inr (λ node from. (quiet_law node (frame_to node from body) tt).status)
+cast_or_not body (IsCastAck session) = inr (λ node from. (quiet_law node (frame_to node from body) tt).status)
+cast_or_not _ _ = inl tt
 
 pub frame_follows : (node : NodeState) (from : List ℕ) (body : Body) → is_strange node (frame_to node from body) ≡ false
     → FollowsOn node.status (taken_at node from body).state.status
 frame_follows node from body known =
-    elim (cast_or_not body) [
+    elim (cast_or_not body (said_of body)) [
       | inl aside ↦ of_state node (taken_at node from body).state (aside_frame node from body known aside).1
       | inr stays ↦ same node.status (taken_at node from body).state.status (stays node from)
     ]

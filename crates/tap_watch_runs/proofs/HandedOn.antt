@@ -31,7 +31,7 @@ use Rattle.tap_multicast.proofs.Regions.{primary_fits}
 use Rattle.tap_join.specs.Seek.{sought}
 use Rattle.tap_join.specs.declared.sought.Sought.TheVariants.{Surrogate}
 use Rattle.tap_join.proofs.Seeking.{surrogate_is}
-use Rattle.tap_wire.specs.declared.frame.Body.TheVariants.{Ack, Done, Hello, Seek, Tell}
+use Rattle.tap_wire.specs.declared.frame.Body.TheVariants.{Ack, Done, Seek, Tell}
 use Rattle.tap_wire.specs.declared.frame.Frame.{Frame}
 use Rattle.tap_wire.specs.declared.frame.TellFields.{TellFields}
 use Rattle.tap_rule.specs.Covering.{Request, first_request, request_of}
@@ -43,6 +43,7 @@ use Rattle.tap_rule.specs.Reaction.{Message, message}
 use Rattle.tap_rule.specs.Sending.{by_receiver, lay_frame, link_frame, message_frame}
 use Rattle.tap_rule.specs.Sent.{AreSentInOrder, IsAmong}
 use Rattle.tap_rule.specs.Steps.{IsParentAnswered}
+use Rattle.tap_rule.specs.Hellos.{core_hello}
 use Rattle.tap_rule.proofs.Among.{among-either, among-map_from}
 use Rattle.tap_rule.proofs.CoverSteps.{seek_fits, seek_law, tell_law}
 use Rattle.tap_rule.proofs.Fit.{fit_law}
@@ -202,7 +203,7 @@ module _ (node : NodeState) (request : Request) (acted : Acted) (ties : AreTies 
         let greeted = sent_among own request.joiner (hello_body (hello_made node request)) acted.sent (spread.greets first) in
         elim found.1 [
           | inl hello ↦
-              let wrong : Hello (node.sessions.opened + 1) true offered ≡ tell_body tell kept =
+              let wrong : core_hello (node.sessions.opened + 1) offered ≡ tell_body tell kept =
               ap (λ (m : Message). m.body) (sym hello) ∙ found.2 in absurd (cc)
           | inr tells ↦
               left_or_given first slot watched there greeted kept

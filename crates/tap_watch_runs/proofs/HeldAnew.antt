@@ -21,8 +21,7 @@ use Rattle.tap_multicast.specs.Offer.{answers, left, offer}
 use Rattle.tap_multicast.proofs.Linked.{primary_stands}
 use Rattle.tap_multicast.proofs.Offers.{primary_offered}
 use Rattle.tap_wire.specs.declared.frame.Body.{Body}
-use Rattle.tap_wire.specs.declared.frame.Body.TheVariants.{Done, Seek, Tell}
-use Rattle.tap_wire.specs.declared.frame.TellFields.{TellFields}
+use Rattle.tap_wire.specs.declared.frame.Body.TheVariants.{Done, Seek}
 use Rattle.tap_rule.specs.Covering.{Request, first_request, request_of}
 use Rattle.tap_rule.specs.Event.{Acted}
 use Rattle.tap_rule.specs.JoinSteps.{CoverStep, SeekStep, SpreadStep}
@@ -57,6 +56,8 @@ use Rattle.tap_safety.specs.AtRest.{system_at_rest}
 use Rattle.tap_safety.specs.Move.{Move, may_start}
 use Rattle.tap_safety.specs.Move.Move.{Begins, Delivers}
 use Rattle.tap_safety.specs.Moved.{moved, starter}
+use Rattle.tap_safety.proofs.Said.{Said, said_of}
+use Rattle.tap_safety.proofs.Said.Said.{IsSeek, IsTell}
 use Rattle.tap_wire.specs.declared.frame.Frame.{Frame}
 use Rattle.tap_rule.specs.Act.{act}
 use Rattle.tap_rule.specs.Event.{Start}
@@ -120,11 +121,10 @@ module _ (p : SettingsValue) (s : System) (number : ℕ) (node : NodeState) (fro
             (seek_law node from joiner ties name at is.known);
       })
 
-  body_asked : (body : Body) (request : Request) → IsDelivery p s number node from body → node.status ≡ Core
+  body_asked : {body : Body} → Said body → (request : Request) → IsDelivery p s number node from body → node.status ≡ Core
       → asked_at_core node from body ≡ Some request → IsAskedSo p s node request (taken_at node from body)
-  body_asked (Seek joiner) request is at asks = seek_asked joiner (sought node.ties.table joiner) request is at refl asks
-  body_asked (Tell joiner prefix level session depth watch) request is at asks =
-      let tell : TellFields = record { joiner = joiner; prefix = prefix; level = level; session = session; depth = depth } in
+  body_asked (IsSeek joiner) request is at asks = seek_asked joiner (sought node.ties.table joiner) request is at refl asks
+  body_asked (IsTell tell watch) request is at asks =
       let same : request_of from tell watch ≡ request = cc in
       let ties = (due p s number node from (tell_body tell watch) is).is_node.ties in
       let name = told_name p s number node from tell watch is in
@@ -286,7 +286,7 @@ module _ (p : SettingsValue) (s : System) (r : WatchMemory) (number : ℕ) (node
       (delivery_step p s number node from body is) r held
   by_asked (Some request) asks =
       let core = core_only node.status node from body request asks in
-      cover_held p s r number node from body is held request (body_asked p s number node from body request is core.0 core.1)
+      cover_held p s r number node from body is held request (body_asked p s number node from (said_of body) request is core.0 core.1)
 
   delivery_holds : AnswersAreHeld p (after_delivery p s number) (recalled s r (Delivers number))
   delivery_holds =

@@ -26,6 +26,7 @@ use Rattle.tap_safety.specs.System.{AmongOffered, HelloNames, System}
 use Rattle.tap_safety.specs.Ties.{status_of}
 use Rattle.tap_safety.proofs.Moves.{starts}
 use Rattle.tap_safety.proofs.Told.{among_left, still_under_way}
+use Rattle.tap_safety.proofs.Said.{said_of}
 use Rattle.tap_moves.specs.ByRule.{taken_at}
 use Rattle.tap_moves.specs.Delivered.{after_delivery, after_start}
 use Rattle.tap_moves.specs.InvariantLaws.{IsDelivery}
@@ -88,7 +89,7 @@ module _ (p : SettingsValue) (s : System) (number : ℕ) (node : NodeState) (fro
   links_kept : node.status ≡ Joining → acted.state.status ≡ Joining → (t : List ℕ) → WasCore s t → IsHad p own node t
       → IsHad p own acted.state t
   links_kept was joins t core had =
-      let keeps = joining_keeps p s number node from body is was joins in
+      let keeps = joining_keeps p s number node from body (said_of body) is was joins in
       by keeps had
     where
       by : KeepsLinks node acted.state (Forgotten from body) → IsHad p own node t → IsHad p own acted.state t

@@ -11,7 +11,7 @@ use Rattle.tap_table.specs.Ties.{TiesValue}
 use Rattle.tap_join.proofs.Hellos.{AreTies-after_hello, IsServed, hello_links_stay, hello_serves, owner_stays, settings_stay}
 use Rattle.tap_join.specs.Hello.{after_hello, hello_names}
 use Rattle.tap_wire.specs.declared.frame.Body.{Body}
-use Rattle.tap_wire.specs.declared.frame.Body.TheVariants.{Seek, Tell, Hello, Heard, Ack, Done, Release, Link, Lay, Find, Answer, Leave, Left, Gone, Forget, Cast, CastAck}
+use Rattle.tap_wire.specs.declared.frame.Body.TheVariants.{Seek, Done, Release, Leave, Left, Gone, Forget}
 use Rattle.tap_wire.specs.declared.frame.TellFields.{TellFields}
 use Rattle.tap_rule.specs.FrameRules.{frame_at_joining, rule_of_frame}
 use Rattle.tap_rule.specs.Laws.{frame_to}
@@ -24,6 +24,8 @@ use Rattle.tap_rule.proofs.JoinSteps.{done_law, hello_law, meet_law, tell_fits}
 use Rattle.tap_rule.proofs.LinkSteps.{forget_law, release_law}
 use Rattle.tap_safety.specs.Frames.{HelloFields, hello_body, tell_body}
 use Rattle.tap_safety.specs.System.{System}
+use Rattle.tap_safety.proofs.Said.{Said, said_of}
+use Rattle.tap_safety.proofs.Said.Said.{IsDone, IsForget, IsGone, IsHello, IsLeave, IsLeft, IsRelease, IsSeek, IsTell}
 use Rattle.tap_moves.specs.ByRule.{taken_at}
 use Rattle.tap_moves.specs.FrameLaws.{IsPlain}
 use Rattle.tap_moves.specs.InvariantLaws.{IsDelivery}
@@ -213,33 +215,17 @@ abbrev pub Forgotten : List ℕ → Body → List ℕ → Type 0
 Forgotten from Forget t = t ≡ from
 Forgotten from other t = ⊥
 
-pub joining_keeps : (p : SettingsValue) (s : System) (number : ℕ) (node : NodeState) (from : List ℕ) (body : Body)
+pub joining_keeps : (p : SettingsValue) (s : System) (number : ℕ) (node : NodeState) (from : List ℕ) (body : Body) → Said body
     → IsDelivery p s number node from body → node.status ≡ Joining → (taken_at node from body).state.status ≡ Joining
     → KeepsLinks node (taken_at node from body).state (Forgotten from body)
 unfolding frame_at_joining
-joining_keeps p s number node from (Seek joiner) is at joins = unruled_keeps p s number node from (Seek joiner) (rw at refl)
-joining_keeps p s number node from (Tell joiner prefix level session depth watch) is at joins =
-    tell_keeps p s number node from
-    (record { joiner = joiner; prefix = prefix; level = level; session = session; depth = depth }) watch is at
-joining_keeps p s number node from (Hello session core links) is at joins =
-    hello_keeps p s number node from (record { session = session; is_core = core; links = links }) is at
-joining_keeps p s number node from (Heard session) is at joins = plain_keeps p s number node from (Heard session) is tt
-joining_keeps p s number node from (Ack session) is at joins = plain_keeps p s number node from (Ack session) is tt
-joining_keeps p s number node from Done is at joins = absurd (done_ends p s number node from is at joins)
-joining_keeps p s number node from Release is at joins = release_keeps p s number node from is at
-joining_keeps p s number node from (Link version on) is at joins = plain_keeps p s number node from (Link version on) is tt
-joining_keeps p s number node from (Lay object server level version on) is at joins =
-    plain_keeps p s number node from (Lay object server level version on) is tt
-joining_keeps p s number node from (Find ticket object asker level) is at joins =
-    plain_keeps p s number node from (Find ticket object asker level) is tt
-joining_keeps p s number node from (Answer ticket server) is at joins =
-    plain_keeps p s number node from (Answer ticket server) is tt
-joining_keeps p s number node from (Leave replacement) is at joins =
-    unruled_keeps p s number node from (Leave replacement) (rw at refl)
-joining_keeps p s number node from Left is at joins = unruled_keeps p s number node from Left (rw at refl)
-joining_keeps p s number node from Gone is at joins = unruled_keeps p s number node from Gone (rw at refl)
-joining_keeps p s number node from Forget is at joins = forget_keeps p s number node from is at
-joining_keeps p s number node from (Cast cast level session depth word) is at joins =
-    plain_keeps p s number node from (Cast cast level session depth word) is tt
-joining_keeps p s number node from (CastAck session) is at joins =
-    plain_keeps p s number node from (CastAck session) is tt
+joining_keeps p s number node from _ (IsSeek joiner) is at joins = unruled_keeps p s number node from (Seek joiner) (rw at refl)
+joining_keeps p s number node from _ (IsTell tell watch) is at joins = tell_keeps p s number node from tell watch is at
+joining_keeps p s number node from _ (IsHello hello) is at joins = hello_keeps p s number node from hello is at
+joining_keeps p s number node from _ IsDone is at joins = absurd (done_ends p s number node from is at joins)
+joining_keeps p s number node from _ IsRelease is at joins = release_keeps p s number node from is at
+joining_keeps p s number node from _ (IsLeave replacement) is at joins = unruled_keeps p s number node from (Leave replacement) (rw at refl)
+joining_keeps p s number node from _ IsLeft is at joins = unruled_keeps p s number node from Left (rw at refl)
+joining_keeps p s number node from _ IsGone is at joins = unruled_keeps p s number node from Gone (rw at refl)
+joining_keeps p s number node from _ IsForget is at joins = forget_keeps p s number node from is at
+joining_keeps p s number node from body _ is at joins = plain_keeps p s number node from body is tt

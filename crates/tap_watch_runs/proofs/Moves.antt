@@ -10,7 +10,6 @@ use Rattle.tap_table.specs.Table.{IsTable}
 use Rattle.tap_watch.specs.Watch.{IsWatched}
 use Rattle.tap_watch.proofs.Watches.{Contains-full}
 use Rattle.tap_wire.specs.declared.frame.Body.{Body}
-use Rattle.tap_wire.specs.declared.frame.Body.TheVariants.{Seek, Tell}
 use Rattle.tap_wire.specs.declared.frame.Frame.{Frame}
 use Rattle.tap_wire.specs.declared.frame.TellFields.{TellFields}
 use Rattle.tap_multicast.specs.Covers.{level_kept}
@@ -32,6 +31,8 @@ use Rattle.tap_safety.specs.Moved.{moved}
 use Rattle.tap_safety.specs.Step.{IsSent}
 use Rattle.tap_safety.specs.System.{AmongFrames, Covers, System, IsUnderWay}
 use Rattle.tap_safety.proofs.Told.{was_under_way}
+use Rattle.tap_safety.proofs.Said.{Said, said_of}
+use Rattle.tap_safety.proofs.Said.Said.{IsSeek, IsTell}
 use Rattle.tap_moves.specs.ByRule.{taken_at}
 use Rattle.tap_moves.specs.Delivered.{after_delivery}
 use Rattle.tap_moves.specs.InvariantLaws.{IsDelivery}
@@ -96,7 +97,7 @@ module _ (p : SettingsValue) (s : System) (r : WatchMemory) (number : ℕ) (node
   reached : (request : Request) → asked node from body ≡ Some request → (slot : Slot)
       → IsWatched p request.joiner request.prefix slot
       → Contains request.watch slot ⊎ IsAnswered r request.joiner slot (chain_above r request.parent)
-  reached request asks = by_body body is (core_only node.status node from body request asks).1
+  reached request asks = by_body (said_of body) is (core_only node.status node from body request asks).1
     where
       by_seek : (joiner : List ℕ) (found : Sought) → asked_by_seek node joiner found ≡ Some request → (slot : Slot)
           → IsWatched p request.joiner request.prefix slot
@@ -110,14 +111,13 @@ module _ (p : SettingsValue) (s : System) (r : WatchMemory) (number : ℕ) (node
           (subst (λ (q : Request). IsWatched p q.joiner q.prefix slot) (sym same) watched) in
           inl (subst (λ (q : Request). Contains q.watch slot) same ((Contains-full (settings_of node) joiner prefix slot).1 here))
 
-      by_body : (b : Body) → IsDelivery p s number node from b → asked_at_core node from b ≡ Some request → (slot : Slot)
+      by_body : {b : Body} → Said b → IsDelivery p s number node from b → asked_at_core node from b ≡ Some request → (slot : Slot)
           → IsWatched p request.joiner request.prefix slot
           → Contains request.watch slot ⊎ IsAnswered r request.joiner slot (chain_above r request.parent)
-      by_body (Seek joiner) comes asks slot watched = by_seek joiner (sought node.ties.table joiner) asks slot watched
-      by_body (Tell joiner prefix level session depth watch) comes asks slot watched =
-          let tell : TellFields = record { joiner = joiner; prefix = prefix; level = level; session = session; depth = depth } in
+      by_body (IsSeek joiner) comes asks slot watched = by_seek joiner (sought node.ties.table joiner) asks slot watched
+      by_body (IsTell tell watch) comes asks slot watched =
           let same : request_of from tell watch ≡ request = cc in
-          let here : IsWatched p joiner prefix slot = subst (λ (q : Request). IsWatched p q.joiner q.prefix slot) (sym same) watched in
+          let here : IsWatched p tell.joiner tell.prefix slot = subst (λ (q : Request). IsWatched p q.joiner q.prefix slot) (sym same) watched in
           subst (λ (q : Request). Contains q.watch slot ⊎ IsAnswered r q.joiner slot (chain_above r q.parent)) same
           (sound.tells from (name_of node) tell watch (record { number = number; among = comes.among }) slot here)
       by_body _ comes asks slot watched = absurd (cc)
@@ -125,7 +125,7 @@ module _ (p : SettingsValue) (s : System) (r : WatchMemory) (number : ℕ) (node
   -- and no other slot is in the watch
   request_waits : (request : Request) → asked node from body ≡ Some request → (slot : Slot) → Contains request.watch slot
       → IsWatched p request.joiner request.prefix slot
-  request_waits request asks = by_body body is (core_only node.status node from body request asks).1
+  request_waits request asks = by_body (said_of body) is (core_only node.status node from body request asks).1
     where
       by_seek : (joiner : List ℕ) (found : Sought) → asked_by_seek node joiner found ≡ Some request → (slot : Slot)
           → Contains request.watch slot → IsWatched p request.joiner request.prefix slot
@@ -138,11 +138,10 @@ module _ (p : SettingsValue) (s : System) (r : WatchMemory) (number : ℕ) (node
           subst (λ (q : Request). IsWatched p q.joiner q.prefix slot) same
           (subst (λ q. IsWatched q joiner prefix slot) settings ((Contains-full (settings_of node) joiner prefix slot).0 here))
 
-      by_body : (b : Body) → IsDelivery p s number node from b → asked_at_core node from b ≡ Some request → (slot : Slot)
+      by_body : {b : Body} → Said b → IsDelivery p s number node from b → asked_at_core node from b ≡ Some request → (slot : Slot)
           → Contains request.watch slot → IsWatched p request.joiner request.prefix slot
-      by_body (Seek joiner) comes asks slot there = by_seek joiner (sought node.ties.table joiner) asks slot there
-      by_body (Tell joiner prefix level session depth watch) comes asks slot there =
-          let tell : TellFields = record { joiner = joiner; prefix = prefix; level = level; session = session; depth = depth } in
+      by_body (IsSeek joiner) comes asks slot there = by_seek joiner (sought node.ties.table joiner) asks slot there
+      by_body (IsTell tell watch) comes asks slot there =
           let same : request_of from tell watch ≡ request = cc in
           let here : Contains watch slot = subst (λ (q : Request). Contains q.watch slot) (sym same) there in
           subst (λ (q : Request). IsWatched p q.joiner q.prefix slot) same
@@ -329,8 +328,8 @@ module _ (p : SettingsValue) (s : System) (r : WatchMemory) (number : ℕ) (node
       by None none = none_asked p s r number node from body is sound none
       by (Some request) asks =
           let core = core_only node.status node from body request asks in
-          cover_kept p s r number node from body is sound request asks (core_asks node from body request core.0 is.known core.1)
-          (table_stays p s number node from body request is core.1)
+          cover_kept p s r number node from body is sound request asks (core_asks node from (said_of body) request core.0 is.known core.1)
+          (table_stays p s number node from (said_of body) request is core.1)
 
 frame_keeps : (p : SettingsValue) (s : System) (r : WatchMemory) (number : ℕ) (frame : Frame) (node : NodeState) → Sound p s
     → WatchesAreSound p s r → AmongFrames number frame s.frames → s.node frame.to ≡ Some node

@@ -20,7 +20,7 @@ use Rattle.tap_multicast.specs.Covers.{cover_of}
 use Rattle.tap_multicast.specs.Offer.{answers, left}
 use Rattle.tap_multicast.proofs.Offers.{all_left, left_exactly}
 use Rattle.tap_join.specs.Hello.{words_of}
-use Rattle.tap_wire.specs.declared.frame.Body.TheVariants.{Ack, Done, Hello, Tell}
+use Rattle.tap_wire.specs.declared.frame.Body.TheVariants.{Ack, Done, Tell}
 use Rattle.tap_wire.specs.declared.frame.Frame.{Frame}
 use Rattle.tap_wire.specs.declared.frame.TellFields.{TellFields}
 use Rattle.tap_rule.specs.Answers.{answer_for, with_session}
@@ -32,6 +32,7 @@ use Rattle.tap_rule.specs.Node.{NodeState, level_of, name_of}
 use Rattle.tap_rule.specs.Reaction.{Message, Reaction, pin_word, sends, with_pin, with_words}
 use Rattle.tap_rule.specs.Sending.{lay_frame, link_frame}
 use Rattle.tap_rule.specs.Sent.{AreSent, IsAmong}
+use Rattle.tap_rule.specs.Hellos.{core_hello}
 use Rattle.tap_rule.proofs.Among.{among-either, among-map_from}
 use Rattle.tap_safety.specs.Frames.{tell_body}
 use Rattle.tap_safety.specs.Step.{IsSent}
@@ -71,7 +72,7 @@ answer_no_tell (Node name session) fields watch is = let wrong : Ack session ≡
 greeting_no_tell : (request : Request) (session : ℕ) (first : Bool) (offer : List Offered) (m : Message) (fields : TellFields)
     (watch : List Slot) → IsAmong m (greeting request session first offer) → m.body ≡ tell_body fields watch → ⊥
 greeting_no_tell request session true offer m fields watch (inl is) body =
-    let wrong : Hello session true offer ≡ tell_body fields watch = ap (λ (n : Message). n.body) (sym is) ∙ body in cc
+    let wrong : core_hello session offer ≡ tell_body fields watch = ap (λ (n : Message). n.body) (sym is) ∙ body in cc
 greeting_no_tell request session true offer m fields watch (inr none) body = none
 greeting_no_tell request session false offer m fields watch none body = none
 

@@ -9,7 +9,6 @@ use Rattle.tap_join.specs.declared.sought.Sought.{Sought}
 use Rattle.tap_join.specs.declared.sought.Sought.TheVariants.{Forward, Surrogate}
 use Rattle.tap_wire.specs.Spelling.{spelling}
 use Rattle.tap_wire.specs.declared.frame.Body.{Body}
-use Rattle.tap_wire.specs.declared.frame.Body.TheVariants.{Seek, Tell}
 use Rattle.tap_wire.specs.declared.frame.Frame.{Frame}
 use Rattle.tap_wire.specs.declared.frame.TellFields.{TellFields}
 use Rattle.tap_log.specs.Frames.{bytes_of, sent_bytes}
@@ -25,6 +24,8 @@ use Rattle.tap_safety.specs.Move.{Move, may_move}
 use Rattle.tap_safety.specs.Move.Move.{Begins, Delivers}
 use Rattle.tap_safety.specs.Moved.{moved}
 use Rattle.tap_safety.specs.System.{AmongFrames, IsUnderWay, System}
+use Rattle.tap_safety.proofs.Said.{Said, said_of}
+use Rattle.tap_safety.proofs.Said.Said.{IsSeek, IsTell}
 use Rattle.tap_moves.specs.InvariantLaws.{IsDelivery}
 use Rattle.tap_runs.specs.Beginning.{Beginning, begin_record}
 use Rattle.tap_runs.specs.Course.{Follows, IsCourse, move_of_group, moved_by, system_of}
@@ -151,16 +152,15 @@ module _ (b : Beginning) (log group : List Record) (run : IsRun b log) (follows 
         subst (λ (q : Request). After (chain_to r node q) (name_of node) q.joiner q.prefix) same
         (record { above = []; first = refl; told = tt })
 
-    body_told : (body : Body) (request : Request) → IsDelivery p s number node from body → asked_at_core node from body ≡ Some request
+    body_told : {body : Body} → Said body → (request : Request) → IsDelivery p s number node from body → asked_at_core node from body ≡ Some request
         → After (chain_to r node request) (name_of node) request.joiner request.prefix
-    body_told (Seek joiner) request is asks = seek_told joiner (sought node.ties.table joiner) request asks
-    body_told (Tell joiner prefix level session depth watch) request is asks =
-        let tell : TellFields = record { joiner = joiner; prefix = prefix; level = level; session = session; depth = depth } in
+    body_told (IsSeek joiner) request is asks = seek_told joiner (sought node.ties.table joiner) request asks
+    body_told (IsTell tell watch) request is asks =
         let same : request_of from tell watch ≡ request = cc in
         let way : IsUnderWay s from (name_of node) (tell_body tell watch) = record { number = number; among = is.among } in
         subst (λ (q : Request). After (chain_to r node q) (name_of node) q.joiner q.prefix) same
-        (told_on p (log ++ group) (r.chain from session) from (name_of node) joiner prefix
-        (stay (r.chain from session) from joiner prefix (chains.tells from (name_of node) tell watch way))
+        (told_on p (log ++ group) (r.chain from tell.session) from (name_of node) tell.joiner tell.prefix
+        (stay (r.chain from tell.session) from tell.joiner tell.prefix (chains.tells from (name_of node) tell watch way))
         (tell_sent from (name_of node) tell watch way))
     body_told _ request is asks = absurd (cc)
 
@@ -175,7 +175,7 @@ module _ (b : Beginning) (log group : List Record) (run : IsRun b log) (follows 
       by (Some request) asks =
           let core = core_only node.status node from body request asks in
           cover_chains p s r number node from body is Before After stay chains request
-          (core_asks node from body request core.0 is.known core.1) (body_told number node from body request is core.1)
+          (core_asks node from (said_of body) request core.0 is.known core.1) (body_told number node from (said_of body) request is core.1)
 
   move_told : (move : Move) → may_move p s move → ChainsAre After (moved p s move) (recalled s r move)
   unfolding recalled
