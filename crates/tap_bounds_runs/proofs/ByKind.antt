@@ -6,7 +6,7 @@ use Rattle.std.specs.List.{sum_by}
 use Rattle.std.proofs.lemmas.Bool.{and_from, and_parts}
 use Rattle.std.proofs.lemmas.Slice.Eq.{bytes_eq-Decides}
 use Rattle.tap_wire.specs.declared.frame.Body.{Body}
-use Rattle.tap_wire.specs.declared.frame.Body.TheVariants.{Ack, Done, Heard, Hello, Link, Release, Seek, Tell}
+use Rattle.tap_wire.specs.declared.frame.Body.TheVariants.{Seek}
 use Rattle.tap_wire.specs.declared.frame.Frame.{Frame}
 use Rattle.tap_rule.specs.Sent.{IsAmong}
 use Rattle.tap_bounds.specs.Acks.{is_ack, is_tell_body}
@@ -16,6 +16,8 @@ use Rattle.tap_bounds.proofs.Counting.{count-cons}
 use Rattle.tap_join_bounds.specs.LinkBounds.{links_off, links_on, releases_pin}
 use Rattle.tap_join_bounds.specs.OfJoins.{IsJoinBody, joiner_said}
 use Rattle.tap_bounds_runs.proofs.Sums.{count-at_one}
+use Rattle.tap_safety.proofs.Said.{Said, said_of}
+use Rattle.tap_safety.proofs.Said.Said.{IsAck, IsDone, IsHeard, IsHello, IsLink, IsRelease, IsSeek, IsTell}
 
 -- ---- kinds
 
@@ -32,18 +34,18 @@ abbrev as_one : (Body → Bool) → Body → ℕ
 as_one t body = cond {A = ℕ} (t body) 1 0
 
 -- each body of a join is of one of these kinds
-one_kind : (body : Body) → IsJoinBody body
+one_kind : {body : Body} → Said body → IsJoinBody body
     → 1 ≤ as_one is_seek body + (as_one is_tell_body body + (as_one is_hello body + (as_one is_heard body + (as_one is_ack body
     + (as_one is_done_body body + (as_one releases_pin body + (as_one links_on body + as_one links_off body)))))))
-one_kind (Seek joiner) is = omega arith
-one_kind (Tell joiner prefix level session depth watch) is = omega arith
-one_kind (Hello session core links) is = omega arith
-one_kind (Heard session) is = omega arith
-one_kind (Ack session) is = omega arith
-one_kind Done is = omega arith
-one_kind Release is = omega arith
-one_kind (Link version true) is = omega arith
-one_kind (Link version false) is = omega arith
+one_kind (IsSeek joiner) is = omega arith
+one_kind (IsTell tell watch) is = omega arith
+one_kind (IsHello hello) is = omega arith
+one_kind (IsHeard session) is = omega arith
+one_kind (IsAck session) is = omega arith
+one_kind IsDone is = omega arith
+one_kind IsRelease is = omega arith
+one_kind (IsLink version true) is = omega arith
+one_kind (IsLink version false) is = omega arith
 one_kind _ is = absurd is
 
 -- so all frames of joins are at most those of these kinds
@@ -56,7 +58,7 @@ of_kinds frames =
 pub all_kinds : (frames : List Frame) → ((f : Frame) → IsAmong f frames → IsJoinBody f.body) → length frames ≤ of_kinds frames
 all_kinds [] of = omega arith
 all_kinds (f ∷ frames) of =
-    let here = one_kind f.body (of f (inl refl)) in
+    let here = one_kind (said_of f.body) (of f (inl refl)) in
     let rest = all_kinds frames (λ g among. of g (inr among)) in
     let one = count-cons (λ (g : Frame). is_seek g.body) f frames in
     let two = count-cons (λ (g : Frame). is_tell_body g.body) f frames in

@@ -9,12 +9,14 @@ use Rattle.tap_name.specs.Names.{Among, has_name}
 use Rattle.tap_name.specs.Settings.{SettingsValue}
 use Rattle.tap_name.proofs.Membership.{among-append, has_name-Decides}
 use Rattle.tap_wire.specs.declared.frame.Body.{Body}
-use Rattle.tap_wire.specs.declared.frame.Body.TheVariants.{Done, Heard, Hello, Seek, Tell}
+use Rattle.tap_wire.specs.declared.frame.Body.TheVariants.{Done, Heard, Hello, Seek}
 use Rattle.tap_wire.specs.declared.frame.Frame.{Frame}
 use Rattle.tap_rule.specs.Node.{NodeState}
 use Rattle.tap_rule.specs.Sent.{IsAmong}
 use Rattle.tap_safety.specs.AtRest.{system_at_rest}
 use Rattle.tap_safety.specs.System.{System}
+use Rattle.tap_safety.proofs.Said.{Said, said_of}
+use Rattle.tap_safety.proofs.Said.Said.{IsTell, IsHello}
 use Rattle.tap_safety_moves.specs.Moves.{after_moves}
 use Rattle.tap_cover_moves.proofs.WordsAnew.{among_names}
 use Rattle.tap_bounds.specs.Acks.{AcksAreFew, is_ack, is_ack_from, is_tell_body, is_tell_to}
@@ -64,13 +66,13 @@ seek_of : (f : Frame) (body : Body) → f.body ≡ body → is_seek body ≡ tru
 seek_of f (Seek joiner) at is = (joiner, rw at refl, rw at (itself joiner))
 seek_of f _ at is = absurd (cc)
 
-tell_of : (f : Frame) (body : Body) → f.body ≡ body → is_tell_body body ≡ true
+tell_of : (f : Frame) {body : Body} → Said body → f.body ≡ body → is_tell_body body ≡ true
     → (b : List ℕ) × (joiner_said f ≡ Some b) × (tells_of b f.body ≡ true)
-tell_of f (Tell joiner prefix level session depth watch) at is = (joiner, rw at refl, rw at (itself joiner))
+tell_of f (IsTell tell watch) at is = (tell.joiner, rw at refl, rw at (itself tell.joiner))
 tell_of f _ at is = absurd (cc)
 
-hello_of : (f : Frame) (body : Body) → f.body ≡ body → is_hello body ≡ true → joiner_said f ≡ Some f.to
-hello_of f (Hello session core links) at is = rw at refl
+hello_of : (f : Frame) {body : Body} → Said body → f.body ≡ body → is_hello body ≡ true → joiner_said f ≡ Some f.to
+hello_of f (IsHello hello) at is = rw at refl
 hello_of f _ at is = absurd (cc)
 
 heard_of : (f : Frame) (body : Body) → f.body ≡ body → is_heard body ≡ true → joiner_said f ≡ Some f.from
@@ -153,7 +155,7 @@ module _ (p : SettingsValue) (members joiners : List (List ℕ)) (s : System) (r
   tells : with_body is_tell_body r.sent ≤ joiner_total * (name_total * (name_total * 2))
   tells =
       let over = by_joiner r.sent joiners joiner_named (λ f. is_tell_body f.body) (λ b f. tells_of b f.body) (λ f is.
-      let of = tell_of f f.body refl is in record { joiner = of.0; is = of.1; passes = of.2 }) in
+      let of = tell_of f (said_of f.body) refl is in record { joiner = of.0; is = of.1; passes = of.2 }) in
       let each = sum-most (λ b. count_by (λ f. tells_of b f.body) r.sent) (name_total * (name_total * 2)) tells_by_ends joiners in
       omega (arith, over, each)
 
@@ -163,7 +165,7 @@ module _ (p : SettingsValue) (members joiners : List (List ℕ)) (s : System) (r
       let u : List ℕ → Frame → Bool = λ b f. tells_of b f.body && pointwise nat_eq f.to x in
       let over = by_joiner r.sent joiners joiner_named (is_tell_to x) u (λ f is.
       let parts = and_parts (is_tell_body f.body) (pointwise nat_eq f.to x) is in
-      let of = tell_of f f.body refl parts.0 in
+      let of = tell_of f (said_of f.body) refl parts.0 in
       record { joiner = of.0; is = of.1; passes = and_from (tells_of of.0 f.body) (pointwise nat_eq f.to x) of.2 parts.1 }) in
       let of_one : (b : List ℕ) → count_by (u b) r.sent ≤ name_total * 2 = λ b.
       let more = by_sender r.sent names from_named to_named (u b) in
@@ -218,7 +220,7 @@ module _ (p : SettingsValue) (members joiners : List (List ℕ)) (s : System) (r
       let over = by_joiner r.sent joiners joiner_named (λ f. is_hello f.body) is_hello_to (λ f is.
       record {
         joiner = f.to;
-        is = hello_of f f.body refl is;
+        is = hello_of f (said_of f.body) refl is;
         passes = and_from (is_hello f.body) (pointwise nat_eq f.to f.to) is (itself f.to);
       }) in
       let each = sum-most (λ b. count_by (is_hello_to b) r.sent) (name_total * 2) hellos_to joiners in
