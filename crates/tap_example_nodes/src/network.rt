@@ -1,12 +1,21 @@
 ghost use Rattle.std.specs.Prelude.{IfOk};
 ghost use Rattle.tap_name.specs.Name.{IsName};
 
-use anyhow::{Result, anyhow, bail};
+use crate::starts;
+use crate::starts::check_room;
+use anyhow::{Context, Result};
 use std::alloc::Global;
 use std::collections::VecDeque;
 use tap_name::{List, Name, Settings, read_name};
-use tap_node::{Node, Turn};
+use tap_node::{News, Node, Turn};
 use tap_wire::{Bytes, Head, decode_head};
+
+/// The news of a step, and the node that took it.
+#[derive(Clone, Copy)]
+pub(crate) struct NodeNews {
+    pub(crate) node: Name,
+    pub(crate) news: News,
+}
 
 /// Nodes, and the frames that are under way between them, the oldest first.
 #[derive(Drop)]
@@ -37,68 +46,69 @@ impl Network {
     pub(crate) fn add_member(&mut self, text: &[u8]) -> Result<()> {
         let name = self.name(text)?;
         let mut members = List::new(self.alloc);
-        let Ok(()) = members.push(name) else {
-            bail!("no memory");
-        };
-        let Ok(node) = Node::member(self.alloc, name, &self.settings, &members) else {
-            bail!("no memory");
-        };
+        members.push(name)?;
+        let node = Node::member(self.alloc, name, &self.settings, &members)?;
         self.nodes.push(node)?;
         Ok(())
     }
 
-    /// Adds a node that joins by another.
-    pub(crate) fn add_joiner(&mut self, text: &[u8], via: &[u8]) -> Result<()> {
+    /// Adds a node that joins by another, and gives the news of its start.
+    pub(crate) fn add_joiner(&mut self, text: &[u8], via: &[u8]) -> Result<NodeNews> {
         let name = self.name(text)?;
         let via = self.name(via)?;
-        let Ok(mut node) = Node::joiner(self.alloc, name, &self.settings) else {
-            bail!("no memory");
-        };
-        if !node.room() {
-            bail!("no room");
-        }
-        let Ok(turn) = node.seek_by(via) else {
-            bail!("no start");
-        };
+        let mut node = Node::joiner(self.alloc, name, &self.settings)?;
+        check_room(&node)?;
+        let turn = node.seek_by(via)?;
         self.nodes.push(node)?;
-        self.send(turn)
+        self.send(name, turn)
     }
 
-    /// Delivers the oldest frame to its receiver, and gives its head; none if none is under way.
-    pub(crate) fn deliver_next(&mut self) -> Result<Option<Head>> {
+    /// Has a node publish an object, and gives the news of that.
+    pub(crate) fn publish(&mut self, server: &[u8], object: &[u8]) -> Result<NodeNews> {
+        let name = self.name(server)?;
+        let turn = starts::publish(self.node(name)?, object)?;
+        self.send(name, turn)
+    }
+
+    /// Has a node look an object up under a ticket, and gives the news of that: the answer, if the node itself knows it.
+    pub(crate) fn find(&mut self, asker: &[u8], ticket: u32, object: &[u8]) -> Result<NodeNews> {
+        let name = self.name(asker)?;
+        let turn = starts::find(self.node(name)?, ticket, object)?;
+        self.send(name, turn)
+    }
+
+    /// Delivers the oldest frame to its receiver, and gives its head and the news of the step; none if none is under way.
+    pub(crate) fn deliver_next(&mut self) -> Result<Option<(Head, NodeNews)>> {
         let Some(bytes) = self.under_way.pop_front() else {
             return Ok(None);
         };
-        let head = decode_head(&self.settings, bytes.as_slice()).map_err(|_| anyhow!("no frame"))?;
-        let Some(node) = node_named(&mut self.nodes, head.to) else {
-            bail!("no such node");
-        };
-        if !node.room() {
-            bail!("no room");
-        }
-        let turn = node
-            .take(bytes.as_slice())
-            .map_err(|_| anyhow!("a refused frame"))?;
-        self.send(turn)?;
-        Ok(Some(head))
+        let head = decode_head(&self.settings, bytes.as_slice())?;
+        let node = self.node(head.to)?;
+        check_room(node)?;
+        let turn = node.take(bytes.as_slice())?;
+        let news = self.send(head.to, turn)?;
+        Ok(Some((head, news)))
     }
 
     // The name of this text.
     fn name(&self, text: &[u8]) -> Result<Name>
         ensures { IfOk result (IsName self.now.settings) }
     {
-        match read_name(&self.settings, text) {
-            Ok(name) => Ok(name),
-            Err(_) => bail!("a name"),
-        }
+        Ok(read_name(&self.settings, text)?)
     }
 
-    // Puts the frames of a step under way.
-    fn send(&mut self, turn: Turn) -> Result<()> {
+    // The node of this name.
+    fn node(&mut self, name: Name) -> Result<&mut Node> {
+        node_named(&mut self.nodes, name).context("no such node")
+    }
+
+    // Puts the frames of a node's step under way, and gives its news.
+    fn send(&mut self, node: Name, turn: Turn) -> Result<NodeNews> {
+        let news = turn.news;
         for bytes in turn.sent.into_frames() {
             self.under_way.push_back(bytes)?;
         }
-        Ok(())
+        Ok(NodeNews { node, news })
     }
 }
 
