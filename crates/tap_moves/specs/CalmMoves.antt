@@ -6,11 +6,10 @@ use Rattle.tap_join.specs.declared.sought.Sought.TheVariants.{Forward}
 use Rattle.tap_wire.specs.declared.frame.Body.{Body}
 use Rattle.tap_wire.specs.declared.frame.Body.TheVariants.{Seek}
 use Rattle.tap_wire.specs.declared.kind.Kind.{Kind}
-use Rattle.tap_wire.specs.declared.kind.Kind.TheVariants.{Ack, Forget, Heard, Hello, Link, Release, Tell}
+use Rattle.tap_wire.specs.declared.kind.Kind.TheVariants.{Forget, Hello, Release, Tell}
 use Rattle.tap_wire.specs.Kind.{kind_of}
 use Rattle.tap_rule.specs.Node.{NodeState, Status}
 use Rattle.tap_rule.specs.Node.Status.{Ceased, Core, Joining}
-use Rattle.tap_rule.specs.QuietSteps.{IsQuietKind}
 use Rattle.tap_safety.specs.Bookkeeping.{TellsAreDeeper}
 use Rattle.tap_safety.specs.Departing.{Departure}
 use Rattle.tap_safety.specs.Notices.{Notices}
@@ -19,6 +18,7 @@ use Rattle.tap_safety.specs.System.{System}
 use Rattle.tap_safety.specs.Tells.{TellsAreSound}
 use Rattle.tap_moves.specs.Delivered.{after_delivery}
 use Rattle.tap_moves.specs.InvariantLaws.{IsDelivery, IsTakenThere}
+use Rattle.tap_moves.specs.FrameLaws.{IsPlainKind}
 
 -- a Tell at a joining node or one that has ceased, a Hello, a Seek that goes on, a Release, a Forget, an answer, a Link, and those of
 -- pointers and casts
@@ -27,10 +27,7 @@ IsCalmKind status Tell = (status ≡ Joining) ⊎ (status ≡ Ceased)
 IsCalmKind status Hello = status ≡ Joining
 IsCalmKind status Release = (status ≡ Joining) ⊎ (status ≡ Core)
 IsCalmKind status Forget = (status ≡ Joining) ⊎ (status ≡ Core)
-IsCalmKind status Heard = Unit {0}
-IsCalmKind status Ack = Unit {0}
-IsCalmKind status Link = Unit {0}
-IsCalmKind status other = IsQuietKind other
+IsCalmKind status other = IsPlainKind other
 
 abbrev pub IsCalmThere : NodeState → Body → Type 0
 IsCalmThere node (Seek joiner) = (node.status ≡ Core) × ((next : List ℕ) × (sought node.ties.table joiner ≡ Forward next))

@@ -7,8 +7,11 @@ use Rattle.tap_name.specs.declared.slot.Slot.{Slot}
 use Rattle.tap_join.specs.declared.sought.Sought.TheVariants.{Forward}
 use Rattle.tap_join.specs.Seek.{sought}
 use Rattle.tap_wire.specs.declared.frame.Body.{Body}
-use Rattle.tap_wire.specs.declared.frame.Body.TheVariants.{Ack, Forget, Heard, Link, Release, Seek}
+use Rattle.tap_wire.specs.declared.frame.Body.TheVariants.{Forget, Release, Seek}
 use Rattle.tap_wire.specs.declared.frame.TellFields.{TellFields}
+use Rattle.tap_wire.specs.declared.kind.Kind.{Kind}
+use Rattle.tap_wire.specs.declared.kind.Kind.TheVariants as kind
+use Rattle.tap_wire.specs.Kind.{kind_of}
 use Rattle.tap_table.specs.declared.tie.Tie.{Tie}
 use Rattle.tap_rule.specs.Event.{Start}
 use Rattle.tap_rule.specs.Event.Start.{Abandon}
@@ -18,19 +21,22 @@ use Rattle.tap_rule.specs.Reaction.{Message, Reaction}
 use Rattle.tap_rule.specs.StartRules.{rule_of_start}
 use Rattle.tap_rule.specs.Node.{NodeState, name_of, settings_of}
 use Rattle.tap_rule.specs.Node.Status.{Ceased, Core, Joining}
-use Rattle.tap_rule.specs.QuietSteps.{IsQuiet, IsQuietStart}
+use Rattle.tap_rule.specs.QuietSteps.{IsQuietStart, IsQuietKind}
 use Rattle.tap_safety.specs.Frames.{HelloFields, hello_body, tell_body}
 use Rattle.tap_safety.specs.FrameSteps.{StartsJoin, StartsPlainly, TakesForget, TakesHello, TakesPlainly, TakesRelease, TakesTellCeased, TakesTellJoining}
 use Rattle.tap_safety.specs.System.{System}
 use Rattle.tap_moves.specs.ByRule.{BeginsByRule, StartsByRule, StartsNone, TakesByRule}
 
 -- a frame whose taker stays what it is, with its links and covers: an answer, a Link, a Seek that goes on, and those of pointers and casts
+abbrev pub IsPlainKind : Kind → Type 0
+IsPlainKind kind.Heard = Unit {0}
+IsPlainKind kind.Ack = Unit {0}
+IsPlainKind kind.Link = Unit {0}
+IsPlainKind other = IsQuietKind other
+
 abbrev pub IsPlain : NodeState → Body → Type 0
-IsPlain node (Heard session) = Unit {0}
-IsPlain node (Ack session) = Unit {0}
-IsPlain node (Link version on) = Unit {0}
 IsPlain node (Seek joiner) = (next : List ℕ) × (sought node.ties.table joiner ≡ Forward next)
-IsPlain node other = IsQuiet other
+IsPlain node other = IsPlainKind (kind_of other)
 
 -- the words and the messages of a rule, if there is one
 abbrev pub words_by : Option Reaction → List Tie

@@ -34,6 +34,8 @@ use Rattle.tap_safety.specs.Words.{IsGiven}
 use Rattle.tap_moves.specs.Delivered.{after_delivery, after_start}
 use Rattle.tap_moves.specs.Spelled.{AreNodes, IsNamedStart}
 use Rattle.tap_moves.specs.TiesLaws.{WordsStand}
+use Rattle.tap_moves.specs.SessionsLaws.{IsOutsideKind}
+use Rattle.tap_moves.specs.FrameLaws.{IsPlainKind}
 
 -- The basis of the invariant holds, each node is one, and a frame of this number, sender and body is under way to this node, to which it
 -- isn't strange.
@@ -52,10 +54,7 @@ IsFilledKind node kind.Seek = node.status ≡ Core
 IsFilledKind node kind.Done = node.abandoned ≡ false
 IsFilledKind node kind.Release = (node.status ≡ Joining) ⊎ (node.status ≡ Core)
 IsFilledKind node kind.Forget = (node.status ≡ Joining) ⊎ (node.status ≡ Core)
-IsFilledKind node kind.Heard = Unit {0}
-IsFilledKind node kind.Ack = Unit {0}
-IsFilledKind node kind.Link = Unit {0}
-IsFilledKind node other = IsQuietKind other
+IsFilledKind node other = IsPlainKind other
 
 abbrev pub IsFilledThere : NodeState → Body → Type 0
 IsFilledThere node body = IsFilledKind node (kind_of body)
@@ -102,10 +101,7 @@ IsSoftKind status kind.Tell = (status ≡ Joining) ⊎ (status ≡ HasCeased)
 IsSoftKind status kind.Hello = status ≡ Joining
 IsSoftKind status kind.Release = (status ≡ Joining) ⊎ (status ≡ Core)
 IsSoftKind status kind.Forget = (status ≡ Joining) ⊎ (status ≡ Core)
-IsSoftKind status kind.Heard = Unit {0}
-IsSoftKind status kind.Ack = Unit {0}
-IsSoftKind status kind.Link = Unit {0}
-IsSoftKind status other = IsQuietKind other
+IsSoftKind status other = IsPlainKind other
 
 abbrev pub IsSoftThere : NodeState → Body → Type 0
 IsSoftThere node (Seek joiner) = (next : List ℕ) × (sought node.ties.table joiner ≡ Forward next)
@@ -129,11 +125,7 @@ IsTakenKind status kind.Hello = status ≡ Joining
 IsTakenKind status kind.Heard = Unit {0}
 IsTakenKind status kind.Ack = Unit {0}
 IsTakenKind status kind.Seek = status ≡ Core
-IsTakenKind status kind.Done = Unit {0}
-IsTakenKind status kind.Release = Unit {0}
-IsTakenKind status kind.Forget = Unit {0}
-IsTakenKind status kind.Link = Unit {0}
-IsTakenKind status other = IsQuietKind other
+IsTakenKind status other = IsOutsideKind other
 
 abbrev pub IsTakenThere : NodeState → Body → Type 0
 IsTakenThere node body = IsTakenKind node.status (kind_of body)

@@ -2,14 +2,17 @@
 use Rattle.std.specs.Prelude.{◌≡◌, ◌⊎◌, ℕ, ◌+◌, ◌<◌, List, None, Some}
 use Rattle.tap_session.specs.declared.parent.Parent.TheVariants.{Node, Root}
 use Rattle.tap_wire.specs.declared.frame.Body.{Body}
-use Rattle.tap_wire.specs.declared.frame.Body.TheVariants.{Done, Forget, Link, Release, Seek}
+use Rattle.tap_wire.specs.declared.frame.Body.TheVariants.{Seek}
 use Rattle.tap_wire.specs.declared.frame.Frame.{Frame}
 use Rattle.tap_wire.specs.declared.frame.TellFields.{TellFields}
+use Rattle.tap_wire.specs.declared.kind.Kind.{Kind}
+use Rattle.tap_wire.specs.declared.kind.Kind.TheVariants as kind
+use Rattle.tap_wire.specs.Kind.{kind_of}
 use Rattle.tap_name.specs.declared.slot.Slot.{Slot}
 use Rattle.tap_join.specs.Seek.{sought}
 use Rattle.tap_join.specs.declared.sought.Sought.TheVariants.{Forward}
 use Rattle.tap_rule.specs.Laws.{frame_to}
-use Rattle.tap_rule.specs.QuietSteps.{IsQuiet}
+use Rattle.tap_rule.specs.QuietSteps.{IsQuietKind}
 use Rattle.tap_session.specs.Session.{Session}
 use Rattle.tap_rule.specs.Node.{NodeState, join_session_at, name_of}
 use Rattle.tap_rule.specs.Node.Status.{Ceased, Core, Joining}
@@ -108,13 +111,16 @@ AnswerKeepsExact body = (s s' : System) (number : ℕ) (node : NodeState) (from 
 
 -- A frame that belongs to no session, and for which nothing is sent in one: a Done, a Release, a Forget, a Link, a Seek that goes on, and
 -- those of pointers and casts.
+abbrev pub IsOutsideKind : Kind → Type 0
+IsOutsideKind kind.Done = Unit {0}
+IsOutsideKind kind.Release = Unit {0}
+IsOutsideKind kind.Forget = Unit {0}
+IsOutsideKind kind.Link = Unit {0}
+IsOutsideKind other = IsQuietKind other
+
 abbrev pub IsOutside : NodeState → Body → Type 0
-IsOutside node Done = Unit {0}
-IsOutside node Release = Unit {0}
-IsOutside node Forget = Unit {0}
-IsOutside node (Link version on) = Unit {0}
 IsOutside node (Seek joiner) = (next : List ℕ) × (sought node.ties.table joiner ≡ Forward next)
-IsOutside node other = IsQuiet other
+IsOutside node other = IsOutsideKind (kind_of other)
 
 abbrev pub OutsideLeavesSessions : Type 0
 OutsideLeavesSessions = (s s' : System) (number : ℕ) (node : NodeState) (from : List ℕ) (body : Body) → BeforeTaking s
