@@ -33,7 +33,7 @@ use Rattle.tap_rule.specs.Strange.{is_strange}
 use Rattle.tap_rule.proofs.CarriedOut.{frame_law, start_law, unruled_law, unruled_start_law}
 use Rattle.tap_safety.specs.Frames.{tell_body}
 use Rattle.tap_safety.specs.Turned.{joiner_of}
-use Rattle.tap_safety.proofs.Said.{Said, said_of}
+use Rattle.tap_safety.proofs.Said.{Said}
 use Rattle.tap_safety.proofs.Said.Said.{IsSeek, IsTell}
 use Rattle.tap_moves.specs.Spelled.{IsNodeOf}
 use Rattle.tap_bounds.specs.Openings.{most_covering, most_opened}

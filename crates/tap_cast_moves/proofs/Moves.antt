@@ -6,7 +6,7 @@ use Rattle.tap_name.specs.Names.{has_name}
 use Rattle.tap_cast.specs.Casts.{level_of_cast}
 use Rattle.tap_session.specs.Session.{Session}
 use Rattle.tap_wire.specs.declared.frame.Body.{Body}
-use Rattle.tap_wire.specs.declared.frame.Body.TheVariants.{Seek, Tell, Hello, Heard, Ack, Done, Release, Link, Lay, Find, Answer, Leave, Left, Gone, Forget, Cast, CastAck}
+use Rattle.tap_wire.specs.declared.frame.Body.TheVariants.{Cast, CastAck}
 use Rattle.tap_wire.specs.declared.frame.Frame.{Frame}
 use Rattle.tap_rule.specs.Act.{act}
 use Rattle.tap_rule.specs.Event.{News, Start}

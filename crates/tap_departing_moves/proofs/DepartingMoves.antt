@@ -1,8 +1,7 @@
 -- Departures and their notices after each frame that is no notice, from the invariant.
-use Rattle.std.proofs.Common.{◌≡◌, inl, inr, ℕ, Bool, true, List, [], ◌⊎◌, Option, None, Some, refl, subst}
+use Rattle.std.proofs.Common.{◌≡◌, inl, inr, ℕ, true, List, [], ◌⊎◌, Option, None, Some, refl, subst}
 use Rattle.std.proofs.lemmas.Bool.{cases_Bool}
 use Rattle.tap_name.specs.Settings.{SettingsValue}
-use Rattle.tap_name.specs.declared.slot.Offered.{Offered}
 use Rattle.tap_name.specs.declared.slot.Slot.{Slot}
 use Rattle.tap_wire.specs.declared.frame.Body.{Body}
 use Rattle.tap_wire.specs.declared.frame.Body.TheVariants.{Done, Forget, Gone as GoneBody, Lay, Leave, Left, Link, Release, Seek}

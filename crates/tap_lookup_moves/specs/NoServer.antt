@@ -8,6 +8,9 @@ use Rattle.tap_pointer.specs.declared.pair.Pair.{Pair}
 use Rattle.tap_pointer.specs.Pointers.{pair_of}
 use Rattle.tap_wire.specs.declared.frame.Body.{Body}
 use Rattle.tap_wire.specs.declared.frame.Body.TheVariants.{Answer, Find}
+use Rattle.tap_wire.specs.declared.kind.Kind.{Kind}
+use Rattle.tap_wire.specs.declared.kind.Kind.TheVariants as kind
+use Rattle.tap_wire.specs.Kind.{kind_of}
 use Rattle.tap_rule.specs.Event.News.{Answered}
 use Rattle.tap_rule.specs.Event.Start.{Find as StartFind}
 use Rattle.tap_rule.specs.Node.{NodeState}
@@ -56,10 +59,13 @@ NoneIsNotedAtEnds = (p : SettingsValue) (s : System) (x : List ℕ) (ticket : �
 -- ---- lookups alone
 
 -- a Find or an Answer
+abbrev IsLookupKind : Kind → Type 0
+IsLookupKind kind.Find = Unit {0}
+IsLookupKind kind.Answer = Unit {0}
+IsLookupKind other = ⊥
+
 abbrev pub IsLookup : Body → Type 0
-IsLookup (Find ticket object asker level) = Unit {0}
-IsLookup (Answer ticket server) = Unit {0}
-IsLookup other = ⊥
+IsLookup body = IsLookupKind (kind_of body)
 
 -- nothing is under way but Finds and Answers, of whichever lookups
 pub record AreLookups (s : System) : Type 0 where

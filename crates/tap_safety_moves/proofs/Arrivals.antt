@@ -2,7 +2,7 @@
 use Rattle.std.proofs.Common.{◌≡◌, ◌⊎◌, ℕ, suc, Bool, List, [], ◌∷◌, Some, true, false, arith, refl, subst, sym, inl, inr}
 use Rattle.std.specs.List.{Contains}
 use Rattle.tap_name.specs.Settings.{SettingsValue}
-use Rattle.tap_wire.specs.declared.frame.Body.TheVariants.{Ack, Gone as GoneNotice, Heard}
+use Rattle.tap_wire.specs.declared.frame.Body.TheVariants.{Ack, Heard}
 use Rattle.tap_wire.specs.declared.frame.Frame.{Frame}
 use Rattle.tap_wire.specs.declared.frame.Body.{Body}
 use Rattle.tap_rule.specs.HasRule.{taken_by, HasRule}

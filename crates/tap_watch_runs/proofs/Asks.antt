@@ -38,7 +38,7 @@ use Rattle.tap_safety.specs.Step.{numbered_from}
 use Rattle.tap_safety.specs.System.{Covers, System, IsUnderWay}
 use Rattle.tap_safety.proofs.Moves.{starts}
 use Rattle.tap_safety.proofs.Told.{among_either, among_sent}
-use Rattle.tap_safety.proofs.Said.{Said, said_of}
+use Rattle.tap_safety.proofs.Said.{Said}
 use Rattle.tap_safety.proofs.Said.Said.{IsSeek, IsTell}
 use Rattle.tap_moves.specs.ByRule.{taken_at}
 use Rattle.tap_moves.specs.Delivered.{after_start}
@@ -241,8 +241,8 @@ module _ (p : SettingsValue) (s : System) (number : ℕ) (node : NodeState) (fro
       let shared = (surrogate_is node.ties.table ties.table joiner name fits.apart prefix found).0 in
       subst (IsCovering node) same (covering node (first_request node joiner prefix) ties name fits (omega (arith, shared)))
 
-  pub table_stays : {body : Body} → Said body → (request : Request) → IsDelivery p s number node from body → asked_at_core node from body ≡ Some request
-      → IsCovering node request
+  pub table_stays : {body : Body} → Said body → (request : Request) → IsDelivery p s number node from body
+      → asked_at_core node from body ≡ Some request → IsCovering node request
   table_stays (IsSeek joiner) request is asks = seek_table joiner (sought node.ties.table joiner) request is refl asks
   table_stays (IsTell tell watch) request is asks =
       let same : request_of from tell watch ≡ request = cc in

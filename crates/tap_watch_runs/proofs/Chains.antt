@@ -240,8 +240,8 @@ module _ (p : SettingsValue) (s : System) (r : WatchMemory) (number : ℕ) (node
         };
       })
 
-  body_led : {body : Body} → Said body → (request : Request) → IsDelivery p s number node from body → asked_at_core node from body ≡ Some request
-      → IsLed p s r number node request
+  body_led : {body : Body} → Said body → (request : Request) → IsDelivery p s number node from body
+      → asked_at_core node from body ≡ Some request → IsLed p s r number node request
   body_led (IsSeek joiner) request is asks = seek_led joiner (sought node.ties.table joiner) request is refl asks
   body_led (IsTell tell watch) request is asks =
       let same : request_of from tell watch ≡ request = cc in

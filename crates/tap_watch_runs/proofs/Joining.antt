@@ -24,7 +24,7 @@ use Rattle.tap_rule.proofs.JoinSteps.{done_law, hello_law, meet_law, tell_fits}
 use Rattle.tap_rule.proofs.LinkSteps.{forget_law, release_law}
 use Rattle.tap_safety.specs.Frames.{HelloFields, hello_body, tell_body}
 use Rattle.tap_safety.specs.System.{System}
-use Rattle.tap_safety.proofs.Said.{Said, said_of}
+use Rattle.tap_safety.proofs.Said.{Said}
 use Rattle.tap_safety.proofs.Said.Said.{IsDone, IsForget, IsGone, IsHello, IsLeave, IsLeft, IsRelease, IsSeek, IsTell}
 use Rattle.tap_moves.specs.ByRule.{taken_at}
 use Rattle.tap_moves.specs.FrameLaws.{IsPlain}

@@ -152,8 +152,8 @@ module _ (b : Beginning) (log group : List Record) (run : IsRun b log) (follows 
         subst (λ (q : Request). After (chain_to r node q) (name_of node) q.joiner q.prefix) same
         (record { above = []; first = refl; told = tt })
 
-    body_told : {body : Body} → Said body → (request : Request) → IsDelivery p s number node from body → asked_at_core node from body ≡ Some request
-        → After (chain_to r node request) (name_of node) request.joiner request.prefix
+    body_told : {body : Body} → Said body → (request : Request) → IsDelivery p s number node from body
+        → asked_at_core node from body ≡ Some request → After (chain_to r node request) (name_of node) request.joiner request.prefix
     body_told (IsSeek joiner) request is asks = seek_told joiner (sought node.ties.table joiner) request asks
     body_told (IsTell tell watch) request is asks =
         let same : request_of from tell watch ≡ request = cc in
