@@ -16,9 +16,9 @@ use Rattle.tap_join.specs.declared.sought.Sought.TheVariants.{Forward, Surrogate
 use Rattle.tap_wire.specs.declared.frame.Body.TheVariants.{Ack, Seek}
 use Rattle.tap_wire.specs.declared.frame.TellFields.{TellFields}
 use Rattle.tap_rule.specs.Answers.{answer_for, next_number, with_session}
-use Rattle.tap_rule.specs.Ceasing.{acknowledges}
-use Rattle.tap_rule.specs.Covering.{Request, answers_awaited, covers_as, first_request, greeting, pins_and_covers, seeks_as, tell_for, with_level}
-use Rattle.tap_rule.specs.Joining.{meets, welcomes}
+use Rattle.tap_rule.specs.Ceasing.{takes_tell_ceased}
+use Rattle.tap_rule.specs.Covering.{Request, answers_awaited, covers_as, first_request, greeting, pins_and_covers, takes_seek_as, tell_for, with_level}
+use Rattle.tap_rule.specs.Joining.{takes_tell_joining, welcomes}
 use Rattle.tap_rule.specs.Node.{NodeState}
 use Rattle.tap_rule.specs.Reaction.{Message, message, pin_word, sends, with_pin, with_words}
 use Rattle.tap_rule.specs.Hellos.{core_hello, joining_hello}
@@ -81,9 +81,9 @@ module _ (node : NodeState) where
     pins_acks = covering (covered node.covers (with_pin node request.joiner).ties.table request.watch request.joiner request.prefix
         request.level)
 
-  pub seeks_acks : (joiner : List ℕ) (found : Sought) → FewAcks node 0 (seeks_as node joiner found)
+  pub seeks_acks : (joiner : List ℕ) (found : Sought) → FewAcks node 0 (takes_seek_as node joiner found)
   seeks_acks joiner (Forward next) =
-      same_acks node (seeks_as node joiner (Forward next)) refl
+      same_acks node (takes_seek_as node joiner (Forward next)) refl
       (All-cons (λ m. IsUnacked m.body) (message next (Seek joiner)) [] tt (All-nil (λ m. IsUnacked m.body)))
   seeks_acks joiner (Surrogate prefix) = pins_acks (first_request node joiner prefix)
 
@@ -98,8 +98,8 @@ module _ (node : NodeState) where
         (All-cons (λ m. IsUnacked m.body) (message tell.joiner (joining_hello (next_number (with_pin node tell.joiner)))) [] tt
         (All-nil (λ m. IsUnacked m.body)))
 
-    pub meets_acks : FewAcks node 1 (meets node from tell)
+    pub meets_acks : FewAcks node 1 (takes_tell_joining node from tell)
     meets_acks = by_before (has_name node.greeted tell.joiner)
 
-    pub ceased_acks : FewAcks node 1 (acknowledges node from tell.session)
+    pub ceased_acks : FewAcks node 1 (takes_tell_ceased node from tell.session)
     ceased_acks = record { few = omega arith }

@@ -14,8 +14,8 @@ use Rattle.tap_wire.specs.declared.frame.Body.TheVariants.{Ack, Seek}
 use Rattle.tap_wire.specs.declared.frame.Frame.{Frame}
 use Rattle.tap_wire.specs.declared.frame.TellFields.{TellFields}
 use Rattle.tap_rule.specs.Act.{act}
-use Rattle.tap_rule.specs.Ceasing.{acknowledges}
-use Rattle.tap_rule.specs.Covering.{first_request, request_of, seeks_as}
+use Rattle.tap_rule.specs.Ceasing.{takes_tell_ceased}
+use Rattle.tap_rule.specs.Covering.{first_request, request_of, takes_seek_as}
 use Rattle.tap_rule.specs.Event.{Acted, Start}
 use Rattle.tap_rule.specs.Event.Event.{Starts, Takes}
 use Rattle.tap_rule.specs.Event.Start.{Join, Abandon, Publish, Withdraw, Find, Leave, Cast}
@@ -149,9 +149,9 @@ start_greets node start = by (rule_of_start node.status node start) refl (start_
 -- ---- what it does at a frame
 
 module _ (node : NodeState) (from : List ℕ) where
-  seeking : (b : List ℕ) (found : Sought) → node.status ≡ Core → Greets node (seeks_as node b found)
+  seeking : (b : List ℕ) (found : Sought) → node.status ≡ Core → Greets node (takes_seek_as node b found)
   seeking b (Forward next) at =
-      ungreeting_greets node (seeks_as node b (Forward next)) (keeps node (seeks_as node b (Forward next)) refl refl refl
+      ungreeting_greets node (takes_seek_as node b (Forward next)) (keeps node (takes_seek_as node b (Forward next)) refl refl refl
       (All-cons (λ m. IsUngreeting m.body) (message next (Seek b)) [] tt (All-nil (λ m. IsUngreeting m.body))))
   seeking b (Surrogate prefix) at = pins_greet node (first_request node b prefix) at
 
@@ -171,7 +171,7 @@ module _ (node : NodeState) (from : List ℕ) where
   tell_rule tell watch Leaving at = tt
   tell_rule tell watch Gone at = tt
   tell_rule tell watch Ceased at =
-      ungreeting_greets node (acknowledges node from tell.session) (keeps node (acknowledges node from tell.session) refl refl refl
+      ungreeting_greets node (takes_tell_ceased node from tell.session) (keeps node (takes_tell_ceased node from tell.session) refl refl refl
       (All-cons (λ m. IsUngreeting m.body) (message from (Ack tell.session)) [] tt (All-nil (λ m. IsUngreeting m.body))))
 
   rule_greets : (body : Body) → Said body → IfSome (rule_of_frame node.status node from body) (Greets node)

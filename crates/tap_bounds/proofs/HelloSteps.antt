@@ -25,7 +25,7 @@ use Rattle.tap_wire.specs.declared.frame.Frame.{Frame}
 use Rattle.tap_wire.specs.declared.frame.TellFields.{TellFields}
 use Rattle.tap_rule.specs.Answers.{answer_for, next_number, with_session}
 use Rattle.tap_rule.specs.Covering.{Request, answers_awaited, covers_as, greeting, pins_and_covers, tell_for, with_level}
-use Rattle.tap_rule.specs.Joining.{meets, welcomes}
+use Rattle.tap_rule.specs.Joining.{takes_tell_joining, welcomes}
 use Rattle.tap_rule.specs.Node.{IsRunning, NodeState, Status, level_of, name_of}
 use Rattle.tap_rule.specs.Node.Status.{Ceased, Core, Gone, Joining, Leaving}
 use Rattle.tap_rule.specs.Reaction.{Message, Reaction, message, pin_word, sends, with_pin, with_words}
@@ -419,5 +419,5 @@ module _ (node : NodeState) (from : List ℕ) (tell : TellFields) (at : node.sta
       (All-cons (λ m. IsUngreeting m.body) (message from (Ack tell.session)) [] tt (All-nil (λ m. IsUngreeting m.body))))
   by_before false is = welcomed is
 
-  pub meets_greet : Greets node (meets node from tell)
+  pub meets_greet : Greets node (takes_tell_joining node from tell)
   meets_greet = by_before (has_name node.greeted tell.joiner) refl

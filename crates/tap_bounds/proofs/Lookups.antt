@@ -8,7 +8,7 @@ use Rattle.tap_table.specs.declared.next.Next.TheVariants.{Hop, Root}
 use Rattle.tap_table.specs.Ties.{TiesValue}
 use Rattle.tap_table.proofs.Hops.{hop_exactly, hop_is}
 use Rattle.tap_pointer.specs.declared.lay.Lay.{Lay}
-use Rattle.tap_pointer.specs.Pointers.{least_server}
+use Rattle.tap_pointer.specs.Pointers.{server_for}
 use Rattle.tap_pointer.specs.Reconcile.{AreLaid}
 use Rattle.tap_pointer.proofs.Laws.{laid_sends_nothing}
 use Rattle.tap_wire.specs.declared.frame.Body.{Body}
@@ -94,10 +94,10 @@ module _ (p : SettingsValue) (s : System) (number most : ℕ) (node : NodeState)
         let of = is.nodes.nodes (name_of node) node is.at in
         let laid = subst (λ (ties : TiesValue). AreLaid ties.table node.pointers) (sym step.alike.ties) (of.laid runs) in
         let body = (is.invariant.spelled.each number (frame_to node from (Find ticket object asker level)) is.among).body in
-        by_server step laid body.0 body.2.1 (least_server node.pointers object) refl
+        by_server step laid body.0 body.2.1 (server_for node.pointers object) refl
       where
         by_next : FindStep node ticket object asker level acted → AreLaid acted.state.ties.table node.pointers → IsName p object
-            → level ≤ p.digits → least_server node.pointers object ≡ None → (next : Next)
+            → level ≤ p.digits → server_for node.pointers object ≡ None → (next : Next)
             → next_from node.ties.table level (drop level object) ≡ next → SendsLeft (FrameLeaves p.digits) most acted.sent
         by_next step laid named inside none Root found =
             sends_one (FrameLeaves p.digits) most 0 (message_frame (name_of node) (message asker (Answer ticket None))) acted.sent
@@ -110,7 +110,7 @@ module _ (p : SettingsValue) (s : System) (number most : ℕ) (node : NodeState)
             (omega (arith, room, inside)) (omega (arith, room, inside, above))
 
         by_server : FindStep node ticket object asker level acted → AreLaid acted.state.ties.table node.pointers → IsName p object
-            → level ≤ p.digits → (server : Option (List ℕ)) → least_server node.pointers object ≡ server
+            → level ≤ p.digits → (server : Option (List ℕ)) → server_for node.pointers object ≡ server
             → SendsLeft (FrameLeaves p.digits) most acted.sent
         by_server step laid named inside (Some server) held =
             sends_one (FrameLeaves p.digits) most 0 (message_frame (name_of node) (message asker (Answer ticket (Some server)))) acted.sent
@@ -161,9 +161,9 @@ module _ (p : SettingsValue) (s : System) (x object : List ℕ) (ticket : ℕ) (
   asks = act asker (Starts (StartFind ticket object))
 
   asked : LookupStep asker ticket object asks → AreLaid asks.state.ties.table asker.pointers → SendsLeft (FrameLeaves p.digits) (p.digits + 1) asks.sent
-  asked step laid = by_server (least_server asker.pointers object) refl
+  asked step laid = by_server (server_for asker.pointers object) refl
     where
-      by_next : least_server asker.pointers object ≡ None → (next : Next) → next_from asker.ties.table 0 object ≡ next
+      by_next : server_for asker.pointers object ≡ None → (next : Next) → next_from asker.ties.table 0 object ≡ next
           → SendsLeft (FrameLeaves p.digits) (p.digits + 1) asks.sent
       by_next none Root found =
           sends_none (FrameLeaves p.digits) (p.digits + 1) asks.sent (none_sent asker _ asks (step.at_root none found) laid)
@@ -174,7 +174,7 @@ module _ (p : SettingsValue) (s : System) (x object : List ℕ) (ticket : ℕ) (
           asks.sent (one_sent asker (message to (Find ticket object (name_of asker) next)) asks (step.goes_on to next none found) laid)
           (omega arith) (omega (arith, above))
 
-      by_server : (server : Option (List ℕ)) → least_server asker.pointers object ≡ server → SendsLeft (FrameLeaves p.digits) (p.digits + 1) asks.sent
+      by_server : (server : Option (List ℕ)) → server_for asker.pointers object ≡ server → SendsLeft (FrameLeaves p.digits) (p.digits + 1) asks.sent
       by_server (Some server) held =
           sends_none (FrameLeaves p.digits) (p.digits + 1) asks.sent (none_sent asker _ asks (step.served server held) laid)
       by_server None none = by_next none (next_from asker.ties.table 0 object) refl

@@ -19,7 +19,7 @@ use Rattle.tap_wire.specs.declared.frame.Body.TheVariants.{Ack, Seek}
 use Rattle.tap_wire.specs.declared.frame.Frame.{Frame}
 use Rattle.tap_wire.specs.declared.frame.TellFields.{TellFields}
 use Rattle.tap_rule.specs.Act.{act}
-use Rattle.tap_rule.specs.Ceasing.{acknowledges}
+use Rattle.tap_rule.specs.Ceasing.{takes_tell_ceased}
 use Rattle.tap_rule.specs.Covering.{request_of}
 use Rattle.tap_rule.specs.Event.{Acted, Start}
 use Rattle.tap_rule.specs.Event.Event.{Starts, Takes}
@@ -146,7 +146,7 @@ module _ (p : SettingsValue) (node : NodeState) (from : List ℕ) (of : IsNodeOf
   tell_rule tell watch inside Leaving at = tt
   tell_rule tell watch inside Gone at = tt
   tell_rule tell watch inside Ceased at =
-      none_opens p node tell.joiner (acknowledges node from tell.session) (keeps node (acknowledges node from tell.session) refl refl refl
+      none_opens p node tell.joiner (takes_tell_ceased node from tell.session) (keeps node (takes_tell_ceased node from tell.session) refl refl refl
       (All-cons (λ m. IsUngreeting m.body) (message from (Ack tell.session)) [] tt (All-nil (λ m. IsUngreeting m.body)))) refl
 
   pub rule_opens : (body : Body) → Said body → IsBody p body → IfSome (rule_of_frame node.status node from body) (Opens p node (joiner_of body))

@@ -21,8 +21,8 @@ use Rattle.tap_join.specs.declared.sought.Sought.TheVariants.{Forward, Surrogate
 use Rattle.tap_wire.specs.declared.frame.Body.TheVariants.{Ack, Seek}
 use Rattle.tap_wire.specs.declared.frame.TellFields.{TellFields}
 use Rattle.tap_rule.specs.Answers.{answer_for, next_number, with_session}
-use Rattle.tap_rule.specs.Covering.{Request, answers_awaited, covers_as, first_request, greeting, pins_and_covers, seeks_as, tell_for, with_level}
-use Rattle.tap_rule.specs.Joining.{meets, welcomes}
+use Rattle.tap_rule.specs.Covering.{Request, answers_awaited, covers_as, first_request, greeting, pins_and_covers, takes_seek_as, tell_for, with_level}
+use Rattle.tap_rule.specs.Joining.{takes_tell_joining, welcomes}
 use Rattle.tap_rule.specs.Node.{IsRunning, NodeState, Status, level_of}
 use Rattle.tap_rule.specs.Node.Status.{Ceased, Core, Gone, Joining, Leaving}
 use Rattle.tap_rule.specs.Reaction.{Message, Reaction, message, pin_word, sends, with_pin, with_words}
@@ -218,9 +218,9 @@ module _ (p : SettingsValue) (node : NodeState) (request : Request) (at : node.s
 
 -- a Seek, whose surrogate's prefix is within the digits
 pub seeks_opens : (p : SettingsValue) (node : NodeState) (joiner : List ℕ) (found : Sought) → node.status ≡ Core
-    → ((prefix : ℕ) → found ≡ Surrogate prefix → prefix ≤ p.digits) → Opens p node joiner (seeks_as node joiner found)
+    → ((prefix : ℕ) → found ≡ Surrogate prefix → prefix ≤ p.digits) → Opens p node joiner (takes_seek_as node joiner found)
 seeks_opens p node joiner (Forward next) at inside =
-    none_opens p node joiner (seeks_as node joiner (Forward next)) (keeps node _ refl refl refl
+    none_opens p node joiner (takes_seek_as node joiner (Forward next)) (keeps node _ refl refl refl
     (All-cons (λ m. IsUngreeting m.body) (message next (Seek joiner)) [] tt (All-nil (λ m. IsUngreeting m.body)))) refl
 seeks_opens p node joiner (Surrogate prefix) at inside =
     pins_opens p node (first_request node joiner prefix) at (inside prefix refl)
@@ -252,5 +252,5 @@ module _ (p : SettingsValue) (node : NodeState) (from : List ℕ) (tell : TellFi
       (All-cons (λ m. IsUngreeting m.body) (message from (Ack tell.session)) [] tt (All-nil (λ m. IsUngreeting m.body)))) refl
   by_before false is = welcomed is
 
-  pub meets_opens : Opens p node tell.joiner (meets node from tell)
+  pub meets_opens : Opens p node tell.joiner (takes_tell_joining node from tell)
   meets_opens = by_before (has_name node.greeted tell.joiner) refl

@@ -14,7 +14,7 @@ use Rattle.tap_wire.specs.declared.frame.Body.TheVariants.{Seek}
 use Rattle.tap_wire.specs.declared.frame.Frame.{Frame}
 use Rattle.tap_wire.specs.declared.frame.TellFields.{TellFields}
 use Rattle.tap_rule.specs.Act.{act}
-use Rattle.tap_rule.specs.Covering.{first_request, request_of, seeks_as}
+use Rattle.tap_rule.specs.Covering.{first_request, request_of, takes_seek_as}
 use Rattle.tap_rule.specs.Event.{Acted, Start}
 use Rattle.tap_rule.specs.Event.Event.{Starts, Takes}
 use Rattle.tap_rule.specs.Event.Start.{Join, Abandon, Publish, Withdraw, Find, Leave, Cast}
@@ -126,7 +126,7 @@ module _ (p : SettingsValue) (s : System) (number : ℕ) (node : NodeState) (fro
   elsewhere body other =
       IfSome_then (rule_of_frame node.status node from body) (elsewhere_untold node from node.status refl other body) (untold_grows node)
 
-  seeking : (next b : List ℕ) → Untold node (seeks_as node b (Forward next))
+  seeking : (next b : List ℕ) → Untold node (takes_seek_as node b (Forward next))
   seeking next b = record {
     messages = All-cons (λ m. IsUntold m.body) (message next (Seek b)) [] tt (All-nil (λ m. IsUntold m.body));
     covers = inl refl;
@@ -138,8 +138,8 @@ module _ (p : SettingsValue) (s : System) (number : ℕ) (node : NodeState) (fro
   unfolding frame_at_core
   core_seek b is at = at_core (sought node.ties.table b)
     where
-      at_core : (found : Sought) → Grows node (seeks_as node b found)
-      at_core (Forward next) = untold_grows node (seeks_as node b (Forward next)) (seeking next b)
+      at_core : (found : Sought) → Grows node (takes_seek_as node b found)
+      at_core (Forward next) = untold_grows node (takes_seek_as node b (Forward next)) (seeking next b)
       at_core (Surrogate prefix) =
           let seeker = is.invariant.seekers.seeks from (name_of node) b (way p s number node from (Seek b) is) in
           pins_grow node (due p s number node from (Seek b) is).is_node (first_request node b prefix)

@@ -15,7 +15,7 @@ use Rattle.tap_history.specs.Names.{names_of, with_name}
 use Rattle.tap_history.specs.Refusals.{first_refusal}
 use Rattle.tap_history.specs.Steps.{actor_of, join_name}
 use Rattle.tap_rule.specs.Event.{Start}
-use Rattle.tap_rule.specs.Event.Start.{Abandon as GivesUp, Cast as Casts, Find as Finds, Join as Joins, Leave as Leaves, Publish as Publishes, Withdraw as Withdraws}
+use Rattle.tap_rule.specs.Event.Start.{Abandon as StartAbandon, Cast as StartCast, Find as StartFind, Join as StartJoin, Leave as StartLeave, Publish as StartPublish, Withdraw as StartWithdraw}
 use Rattle.tap_safety.specs.Move.{Move, may_move}
 use Rattle.tap_safety.specs.Move.Move.{Begins, Delivers}
 use Rattle.tap_safety.specs.System.{System}
@@ -38,7 +38,7 @@ record StartsSo (log : List Record) (step : Step) (name : List ℕ) (start : Sta
   names : fold with_name (names_of log) (joined_in (Begins name start ∷ [])) ≡ names_of log ++ joined_in (Begins name start ∷ [])
 
 module _ (log : List Record) (name : List ℕ) where
-  join_so : (via : List ℕ) → first_refusal log (Join name via) ≡ None → StartsSo log (Join name via) name (Joins via)
+  join_so : (via : List ℕ) → first_refusal log (Join name via) ≡ None → StartsSo log (Join name via) name (StartJoin via)
   unfolding join_name
   join_so via accepted = record {
     joins = refl;
@@ -61,29 +61,29 @@ module _ (log : List Record) (name : List ℕ) where
   unfolding actor_of start_of_step join_name
   starts_so (Join x via) start accepted at =
       let same : x ≡ name = ap name_at at in
-      let what : Joins via ≡ start = ap (start_in (Joins via)) at in
+      let what : StartJoin via ≡ start = ap (start_in (StartJoin via)) at in
       subst (λ w. StartsSo log (Join x via) name w) what
-      (subst (λ y. StartsSo log (Join y via) name (Joins via)) (sym same)
+      (subst (λ y. StartsSo log (Join y via) name (StartJoin via)) (sym same)
       (join_so via (subst (λ y. first_refusal log (Join y via) ≡ None) same accepted)))
   starts_so (Depart x) start accepted at =
-      let what : Leaves ≡ start = ap (start_in Leaves) at in
-      subst (λ w. StartsSo log (Depart x) name w) what (other_so (Depart x) Leaves refl refl refl)
+      let what : StartLeave ≡ start = ap (start_in StartLeave) at in
+      subst (λ w. StartsSo log (Depart x) name w) what (other_so (Depart x) StartLeave refl refl refl)
   starts_so (Publish object server) start accepted at =
-      let what : Publishes object ≡ start = ap (start_in (Publishes object)) at in
-      subst (λ w. StartsSo log (Publish object server) name w) what (other_so (Publish object server) (Publishes object) refl refl refl)
+      let what : StartPublish object ≡ start = ap (start_in (StartPublish object)) at in
+      subst (λ w. StartsSo log (Publish object server) name w) what (other_so (Publish object server) (StartPublish object) refl refl refl)
   starts_so (Withdraw object server) start accepted at =
-      let what : Withdraws object ≡ start = ap (start_in (Withdraws object)) at in
-      subst (λ w. StartsSo log (Withdraw object server) name w) what (other_so (Withdraw object server) (Withdraws object) refl refl refl)
+      let what : StartWithdraw object ≡ start = ap (start_in (StartWithdraw object)) at in
+      subst (λ w. StartsSo log (Withdraw object server) name w) what (other_so (Withdraw object server) (StartWithdraw object) refl refl refl)
   starts_so (Find object asker) start accepted at =
-      let what : Finds (next_ticket log) object ≡ start = ap (start_in Leaves) at in
+      let what : StartFind (next_ticket log) object ≡ start = ap (start_in StartLeave) at in
       subst (λ w. StartsSo log (Find object asker) name w) what
-      (other_so (Find object asker) (Finds (next_ticket log) object) refl refl refl)
+      (other_so (Find object asker) (StartFind (next_ticket log) object) refl refl refl)
   starts_so (Abandon x) start accepted at =
-      let what : GivesUp ≡ start = ap (start_in GivesUp) at in
-      subst (λ w. StartsSo log (Abandon x) name w) what (other_so (Abandon x) GivesUp refl refl refl)
+      let what : StartAbandon ≡ start = ap (start_in StartAbandon) at in
+      subst (λ w. StartsSo log (Abandon x) name w) what (other_so (Abandon x) StartAbandon refl refl refl)
   starts_so (Cast word prefix asker) start accepted at =
-      let made = Casts (next_cast log) (length prefix) word in
-      let what : made ≡ start = ap (start_in Leaves) at in
+      let made = StartCast (next_cast log) (length prefix) word in
+      let what : made ≡ start = ap (start_in StartLeave) at in
       subst (λ w. StartsSo log (Cast word prefix asker) name w) what (other_so (Cast word prefix asker) made refl refl refl)
   starts_so step start accepted at = absurd (cc)
 

@@ -19,7 +19,7 @@ use Rattle.tap_history.specs.Groups.{is_ended}
 use Rattle.tap_rule.specs.Act.{act}
 use Rattle.tap_rule.specs.Event.{Acted, News, Start}
 use Rattle.tap_rule.specs.Event.Event.{Starts, Takes}
-use Rattle.tap_rule.specs.Event.News.{Answered as IsAnswered, Cast as IsCast, Core as IsCore, Gone as IsGone, Nothing}
+use Rattle.tap_rule.specs.Event.News.{Answered as AnsweredNews, Cast as CastNews, Core as CoreNews, Gone as GoneNews, Nothing}
 use Rattle.tap_rule.specs.Node.{NodeState}
 use Rattle.tap_safety.specs.Move.{MayArrive, Move, may_move}
 use Rattle.tap_safety.specs.Move.Move.{Delivers}
@@ -53,18 +53,18 @@ so_silent false item none = refl
 before_silent : (name : List ℕ) (news : News) → filter_map bytes_sent (news_before name news) ≡ []
 unfolding news_before bytes_sent
 before_silent name Nothing = refl
-before_silent name IsCore = refl
-before_silent name IsGone = refl
-before_silent name (IsAnswered ticket server) = refl
-before_silent name (IsCast cast reached closed) = so_silent reached _ refl
+before_silent name CoreNews = refl
+before_silent name GoneNews = refl
+before_silent name (AnsweredNews ticket server) = refl
+before_silent name (CastNews cast reached closed) = so_silent reached _ refl
 
 after_silent : (news : News) → filter_map bytes_sent (news_after news) ≡ []
 unfolding news_after bytes_sent
 after_silent Nothing = refl
-after_silent IsCore = refl
-after_silent IsGone = refl
-after_silent (IsAnswered ticket server) = refl
-after_silent (IsCast cast reached closed) = so_silent closed _ refl
+after_silent CoreNews = refl
+after_silent GoneNews = refl
+after_silent (AnsweredNews ticket server) = refl
+after_silent (CastNews cast reached closed) = so_silent closed _ refl
 
 announced_silent : (log : List Record) (step : Step) → filter_map bytes_sent (announced log step) ≡ []
 unfolding announced bytes_sent

@@ -12,7 +12,7 @@ use Rattle.tap_log.specs.declared.record.Record.TheVariants.{Asked, Published}
 use Rattle.tap_history.specs.Moments.{awaiting, is_none, is_rest, is_still, under_way}
 use Rattle.tap_history.specs.Steps.{actor_of}
 use Rattle.tap_rule.specs.Event.{Start}
-use Rattle.tap_rule.specs.Event.Start.{Find as Finds, Publish as Publishes}
+use Rattle.tap_rule.specs.Event.Start.{Find as StartFind, Publish as StartPublish}
 use Rattle.tap_safety.specs.Move.Move.{Begins}
 use Rattle.tap_runs.specs.Beginning.{Beginning}
 use Rattle.tap_runs.specs.Course.{system_of}
@@ -74,7 +74,7 @@ module _ (b : Beginning) (log : List Record) (run : IsRun b log) where
       let said = Asked ticket object asker in
       let since = run_since b log run before asked.index step (said ∷ after) asked.is in
       let alone = since.alone said after refl refl refl none in
-      let start = Finds (next_ticket before) object in
+      let start = StartFind (next_ticket before) object in
       let few = lookup_sends_few b.settings (system_of before) asker object (next_ticket before) alone.later
       (runs_are_sound b before since.run) (run_rests b before since.run asked.rest)
       (may_so b log before (said ∷ after) step since alone asker start refl) alone.delivers in
@@ -90,7 +90,7 @@ module _ (b : Beginning) (log : List Record) (run : IsRun b log) where
       let said = Published object server in
       let since = run_since b log run before published.index step (said ∷ after) published.is in
       let alone = since.alone said after refl refl refl none in
-      let start = Publishes object in
+      let start = StartPublish object in
       let few = publication_sends_few b.settings (system_of before) server object alone.later (runs_are_sound b before since.run)
       (run_grown b before since.run).stand (run_rests b before since.run published.rest)
       (may_so b log before (said ∷ after) step since alone server start refl) alone.delivers in

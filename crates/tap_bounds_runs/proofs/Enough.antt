@@ -18,7 +18,7 @@ use Rattle.tap_history.specs.Steps.{actor_of, join_name}
 use Rattle.tap_rule.specs.Act.{act}
 use Rattle.tap_rule.specs.Event.{Start}
 use Rattle.tap_rule.specs.Event.Event.{Starts}
-use Rattle.tap_rule.specs.Event.Start.{Join as Joins}
+use Rattle.tap_rule.specs.Event.Start.{Join as StartJoin}
 use Rattle.tap_rule.specs.Node.{joiner}
 use Rattle.tap_rule.specs.Sending.{by_receiver}
 use Rattle.tap_rule.proofs.StartSteps.{seek_start_law}
@@ -56,7 +56,7 @@ use Rattle.tap_bounds_runs.proofs.Sum.{run_joins_send_few}
 -- ---- the group of a step
 
 -- a node that starts to join sends one frame
-join_sends : (p : SettingsValue) (x via : List ℕ) → length (act (joiner p x) (Starts (Joins via))).sent ≡ 1
+join_sends : (p : SettingsValue) (x via : List ℕ) → length (act (joiner p x) (Starts (StartJoin via))).sent ≡ 1
 unfolding by_receiver
 join_sends p x via = ap length (seek_start_law (joiner p x) via refl).completed.sent.all
 
@@ -70,7 +70,7 @@ module _ (p : SettingsValue) (log : List Record) (s : System) where
       → SendsAtMostOne p s step (Some (Begins name start))
   unfolding actor_of start_of_step join_name sent_by
   start_one (Join x via) name start fits at =
-      let what : Joins via ≡ start = ap (start_in (Joins via)) at in
+      let what : StartJoin via ≡ start = ap (start_in (StartJoin via)) at in
       inr (x, refl, subst (λ w. length (sent_with p s (Some (Begins name w))) ≡ 1) what (join_sends p name via))
   start_one (Depart x) name start fits at = absurd (cc)
   start_one (Publish object server) name start fits at = absurd (cc)

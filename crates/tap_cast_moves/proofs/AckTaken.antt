@@ -13,7 +13,7 @@ use Rattle.tap_session.specs.Session.{Session}
 use Rattle.tap_session.specs.Sessions.{answer_to, answered_at, session_of}
 use Rattle.tap_wire.specs.declared.frame.Body.TheVariants.{Cast, CastAck}
 use Rattle.tap_wire.specs.declared.frame.Frame.{Frame}
-use Rattle.tap_rule.specs.Casts.{cast_answer, cast_answered, cast_answered_as, cast_news, cast_of, is_root}
+use Rattle.tap_rule.specs.Casts.{cast_answer, cast_news, cast_of, is_root, takes_cast_ack, takes_cast_ack_as}
 use Rattle.tap_rule.specs.CastSteps.{CastAckStep}
 use Rattle.tap_rule.specs.Event.{Acted}
 use Rattle.tap_rule.specs.FrameRules.{frame_at_core}
@@ -117,7 +117,7 @@ module _ (p : SettingsValue) (s : System) (r : CastMemory) (number : ℕ) (node 
   sent = seen_sent p s r number node from (CastAck k) is
 
   abbrev rule : Reaction
-  rule = cast_answered node k
+  rule = takes_cast_ack node k
 
   -- its cast
   abbrev pub ack_cast : ℕ
@@ -195,7 +195,7 @@ module _ (p : SettingsValue) (s : System) (r : CastMemory) (number : ℕ) (node 
   }
     where
       status_same : (answer : Answered)
-          → (cast_answered_as (record node { cast_sessions = answered_at node.cast_sessions k }) (cast_of node k) answer).state.status ≡ node.status
+          → (takes_cast_ack_as (record node { cast_sessions = answered_at node.cast_sessions k }) (cast_of node k) answer).state.status ≡ node.status
       status_same Open = refl
       status_same (Closed parent) = refl
       status_same Unknown = refl
@@ -204,15 +204,15 @@ module _ (p : SettingsValue) (s : System) (r : CastMemory) (number : ℕ) (node 
 
   -- as the answer says
   messages_as : (answer : Answered) → answer_to (session_of node.cast_sessions.sessions k) ≡ answer → rule.messages
-      ≡ (cast_answered_as (record node { cast_sessions = answered_at node.cast_sessions k }) (cast_of node k) answer).messages
+      ≡ (takes_cast_ack_as (record node { cast_sessions = answered_at node.cast_sessions k }) (cast_of node k) answer).messages
   messages_as answer same =
-      ap (λ a. (cast_answered_as (record node { cast_sessions = answered_at node.cast_sessions k }) (cast_of node k) a).messages) same
+      ap (λ a. (takes_cast_ack_as (record node { cast_sessions = answered_at node.cast_sessions k }) (cast_of node k) a).messages) same
 
   news_as : (answer : Answered) → answer_to (session_of node.cast_sessions.sessions k) ≡ answer → acted.news
-      ≡ (cast_answered_as (record node { cast_sessions = answered_at node.cast_sessions k }) (cast_of node k) answer).news
+      ≡ (takes_cast_ack_as (record node { cast_sessions = answered_at node.cast_sessions k }) (cast_of node k) answer).news
   news_as answer same =
       ack_carried.news
-      ∙ ap (λ a. (cast_answered_as (record node { cast_sessions = answered_at node.cast_sessions k }) (cast_of node k) a).news) same
+      ∙ ap (λ a. (takes_cast_ack_as (record node { cast_sessions = answered_at node.cast_sessions k }) (cast_of node k) a).news) same
 
   way_was : (m : ℕ) (w to : List ℕ) (c l n d : ℕ) (text : List ℕ)
       → AmongFrames m (record { from = w; to = to; body = Cast c l n d text }) s'.frames

@@ -18,7 +18,7 @@ use Rattle.tap_cast.proofs.KeptLevels.{cast_again, cast_anew, kept_exactly, othe
 use Rattle.tap_wire.specs.declared.frame.Body.{Body}
 use Rattle.tap_wire.specs.declared.frame.Body.TheVariants.{Cast}
 use Rattle.tap_wire.specs.declared.frame.Frame.{Frame}
-use Rattle.tap_rule.specs.Casts.{Copy, answers_cast, cast_for, cast_news, casts_as}
+use Rattle.tap_rule.specs.Casts.{Copy, cast_for, cast_news, casts_as, takes_cast_outside}
 use Rattle.tap_rule.specs.Event.{Acted}
 use Rattle.tap_rule.specs.FrameRules.{frame_at_ceased, frame_at_core, frame_at_joining, rule_of_frame}
 use Rattle.tap_rule.specs.Laws.{IsCarriedOut, frame_to}
@@ -491,11 +491,11 @@ module _ (p : SettingsValue) (s : System) (r : CastMemory) (number : ℕ) (node 
           (cast_targets node.ties.table level (sent_from node.ties.table.settings.digits k))) same))
 
   -- a joining or ceased node answers it
-  elsewhere : (is_core_status node.status ≡ false) → rule_of_frame node.status node from body ≡ Some (answers_cast node from session)
+  elsewhere : (is_core_status node.status ≡ false) → rule_of_frame node.status node from body ≡ Some (takes_cast_outside node from session)
       → KeepsAndTells
   elsewhere no_core ruled =
-      let carried = frame_law node (frame_to node from body) (answers_cast node from session) is.known ruled in
-      answered_sound (answers_cast node from session) carried refl refl refl refl refl refl (λ core.
+      let carried = frame_law node (frame_to node from body) (takes_cast_outside node from session) is.known ruled in
+      answered_sound (takes_cast_outside node from session) carried refl refl refl refl refl refl (λ core.
       let here = core.is in
       let there = is.at in
       let same : core.state ≡ node = cc in

@@ -6,7 +6,7 @@ use Rattle.tap_name.specs.Prefix.{lcp}
 use Rattle.tap_name.specs.Settings.{SettingsValue}
 use Rattle.tap_name.proofs.Prefixes.{lcp-least, lcp-sym as lcp_swap, lcp-triangle}
 use Rattle.tap_link.specs.declared.kind.Kind.{Kind}
-use Rattle.tap_link.specs.declared.kind.Kind.TheVariants.{Pin, Settled, Leaving as Marked}
+use Rattle.tap_link.specs.declared.kind.Kind.TheVariants.{Pin, Settled, Leaving as LeavingKind}
 use Rattle.tap_link.proofs.Least.{never_settled}
 use Rattle.tap_table.specs.Levels.{is_between}
 use Rattle.tap_table.specs.Table.{IsTable, TableValue, kind_in, links_near}
@@ -125,8 +125,8 @@ module _ (p : SettingsValue) (s : System) (node : NodeState) (basis : Basis p s)
       by_kind Pin same None none core = by_pin none same core
       by_kind Settled same None none core =
           let there : kind_in table t ≡ Some Settled = is ∙ ap Some same in absurd (never_settled name_cmp (links_near table t) t none there)
-      by_kind Marked same None none core =
-          absurd (basis.departure.marked own t peace (linked t Marked (is ∙ ap Some same)))
+      by_kind LeavingKind same None none core =
+          absurd (basis.departure.marked own t peace (linked t LeavingKind (is ∙ ap Some same)))
 
     -- if it is core, since no table has a hole
     pub sent_on : HoleFree p s → IsCoreNode s own → IsCoreNode s e → lcp own e < p.digits → IsSentOn from to e

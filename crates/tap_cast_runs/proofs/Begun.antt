@@ -17,7 +17,7 @@ use Rattle.tap_history.specs.Steps.{actor_of}
 use Rattle.tap_rule.specs.Act.{act}
 use Rattle.tap_rule.specs.Event.{Event, News, Start}
 use Rattle.tap_rule.specs.Event.Event.{Starts, Takes}
-use Rattle.tap_rule.specs.Event.News.{Nothing, Core as IsCore, Gone as IsGone, Answered as IsAnswered, Cast as IsCast}
+use Rattle.tap_rule.specs.Event.News.{Nothing, Core as CoreNews, Gone as GoneNews, Answered as AnsweredNews, Cast as CastNews}
 use Rattle.tap_rule.specs.Event.Start.{Abandon as StartAbandon, Cast as StartCast, Find as StartFind, Join as StartJoin, Leave as StartLeave, Publish as StartPublish, Withdraw as StartWithdraw}
 use Rattle.tap_rule.specs.Node.{NodeState, Status}
 use Rattle.tap_rule.specs.Node.Status.{Ceased, Core, Gone, Joining, Leaving}
@@ -64,7 +64,7 @@ still_same found run is = record { now = run; is = is; caster = refl; level = re
 
 noted_still : (runs : ℕ → Option CastRun) (y : List ℕ) (news : News) (c : ℕ) (run : CastRun) → runs c ≡ Some run
     → IsStill (runs_noted runs y news c) run
-noted_still runs y (IsCast cast reached closed) c run is =
+noted_still runs y (CastNews cast reached closed) c run is =
     elim (cases_Bool (c == cast)) [
       | inl here ↦
           let there : runs cast ≡ Some run = ap runs (sym (eqb-true c cast here)) ∙ is in
@@ -75,12 +75,12 @@ noted_still runs y (IsCast cast reached closed) c run is =
             level = refl;
             audience = refl;
           }
-      | inr other ↦ still_same (runs_noted runs y (IsCast cast reached closed) c) run (rw other is)
+      | inr other ↦ still_same (runs_noted runs y (CastNews cast reached closed) c) run (rw other is)
     ]
 noted_still runs y Nothing c run is = still_same (runs c) run is
-noted_still runs y IsCore c run is = still_same (runs c) run is
-noted_still runs y IsGone c run is = still_same (runs c) run is
-noted_still runs y (IsAnswered ticket server) c run is = still_same (runs c) run is
+noted_still runs y CoreNews c run is = still_same (runs c) run is
+noted_still runs y GoneNews c run is = still_same (runs c) run is
+noted_still runs y (AnsweredNews ticket server) c run is = still_same (runs c) run is
 
 begun_still : (s : System) (r : CastMemory) (x : List ℕ) (start : Start) → IsNewCast r (Begins x start) → (c : ℕ) (run : CastRun)
     → r.cast c ≡ Some run → runs_begun s r x start c ≡ Some run
@@ -170,18 +170,18 @@ so_none false item is = nothing
 before_none : (name : List ℕ) (news : News) → NoneBegins (news_before name news)
 unfolding begun_cast news_before
 before_none name Nothing = nothing
-before_none name IsCore = one _ refl
-before_none name IsGone = one _ refl
-before_none name (IsAnswered ticket server) = nothing
-before_none name (IsCast cast reached closed) = so_none reached (Reached cast name) refl
+before_none name CoreNews = one _ refl
+before_none name GoneNews = one _ refl
+before_none name (AnsweredNews ticket server) = nothing
+before_none name (CastNews cast reached closed) = so_none reached (Reached cast name) refl
 
 after_none : (news : News) → NoneBegins (news_after news)
 unfolding begun_cast news_after
 after_none Nothing = nothing
-after_none IsCore = nothing
-after_none IsGone = nothing
-after_none (IsAnswered ticket server) = one _ refl
-after_none (IsCast cast reached closed) = so_none closed (Closed cast) refl
+after_none CoreNews = nothing
+after_none GoneNews = nothing
+after_none (AnsweredNews ticket server) = one _ refl
+after_none (CastNews cast reached closed) = so_none closed (Closed cast) refl
 
 sent_none : (p : SettingsValue) (number : ℕ) (frames : List Frame) → NoneBegins (sent_records p number frames)
 unfolding begun_cast

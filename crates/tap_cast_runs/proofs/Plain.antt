@@ -24,7 +24,7 @@ use Rattle.tap_history.specs.Refusals.{first_refusal}
 use Rattle.tap_rule.specs.Act.{act}
 use Rattle.tap_rule.specs.Event.{Acted, News, Start}
 use Rattle.tap_rule.specs.Event.Event.{Starts, Takes}
-use Rattle.tap_rule.specs.Event.News.{Nothing, Core as IsCore, Gone as IsGone, Answered as IsAnswered, Cast as IsCast}
+use Rattle.tap_rule.specs.Event.News.{Nothing, Core as CoreNews, Gone as GoneNews, Answered as AnsweredNews, Cast as CastNews}
 use Rattle.tap_rule.specs.Node.{NodeState}
 use Rattle.tap_safety.specs.Move.{Move}
 use Rattle.tap_safety.specs.Move.Move.{Begins, Delivers}
@@ -157,50 +157,50 @@ closed_on c log more = sum_by-append (λ r. if says_closed c r then 1 else 0) lo
 
 -- the news say that the cast c has reached x, or is closed
 abbrev pub reaches : ℕ → List ℕ → List ℕ → News → Bool
-reaches c x y (IsCast cast reached closed) = reached && ((c == cast) && pointwise nat_eq x y)
+reaches c x y (CastNews cast reached closed) = reached && ((c == cast) && pointwise nat_eq x y)
 reaches c x y other = false
 
 abbrev pub closes : ℕ → News → Bool
-closes c (IsCast cast reached closed) = closed && (c == cast)
+closes c (CastNews cast reached closed) = closed && (c == cast)
 closes c other = false
 
 before_reached : (c : ℕ) (x y : List ℕ) (news : News) → reached_count c x (news_before y news) ≡ (if reaches c x y news then 1 else 0)
 unfolding says_reached news_before
 before_reached c x y Nothing = refl
-before_reached c x y IsCore = refl
-before_reached c x y IsGone = refl
-before_reached c x y (IsAnswered ticket server) = refl
-before_reached c x y (IsCast cast true closed) =
+before_reached c x y CoreNews = refl
+before_reached c x y GoneNews = refl
+before_reached c x y (AnsweredNews ticket server) = refl
+before_reached c x y (CastNews cast true closed) =
     let all = sum_by-cons (λ r. if says_reached c x r then 1 else 0) (Reached cast y) [] in omega (arith, all)
-before_reached c x y (IsCast cast false closed) = refl
+before_reached c x y (CastNews cast false closed) = refl
 
 after_reached : (c : ℕ) (x : List ℕ) (news : News) → reached_count c x (news_after news) ≡ 0
 unfolding says_reached news_after
 after_reached c x Nothing = refl
-after_reached c x IsCore = refl
-after_reached c x IsGone = refl
-after_reached c x (IsAnswered ticket server) = refl
-after_reached c x (IsCast cast reached true) = refl
-after_reached c x (IsCast cast reached false) = refl
+after_reached c x CoreNews = refl
+after_reached c x GoneNews = refl
+after_reached c x (AnsweredNews ticket server) = refl
+after_reached c x (CastNews cast reached true) = refl
+after_reached c x (CastNews cast reached false) = refl
 
 before_closed : (c : ℕ) (y : List ℕ) (news : News) → closed_count c (news_before y news) ≡ 0
 unfolding says_closed news_before
 before_closed c y Nothing = refl
-before_closed c y IsCore = refl
-before_closed c y IsGone = refl
-before_closed c y (IsAnswered ticket server) = refl
-before_closed c y (IsCast cast true closed) = refl
-before_closed c y (IsCast cast false closed) = refl
+before_closed c y CoreNews = refl
+before_closed c y GoneNews = refl
+before_closed c y (AnsweredNews ticket server) = refl
+before_closed c y (CastNews cast true closed) = refl
+before_closed c y (CastNews cast false closed) = refl
 
 after_closed : (c : ℕ) (news : News) → closed_count c (news_after news) ≡ (if closes c news then 1 else 0)
 unfolding says_closed news_after
 after_closed c Nothing = refl
-after_closed c IsCore = refl
-after_closed c IsGone = refl
-after_closed c (IsAnswered ticket server) = refl
-after_closed c (IsCast cast reached true) =
+after_closed c CoreNews = refl
+after_closed c GoneNews = refl
+after_closed c (AnsweredNews ticket server) = refl
+after_closed c (CastNews cast reached true) =
     let all = sum_by-cons (λ r. if says_closed c r then 1 else 0) (Closed cast) [] in omega (arith, all)
-after_closed c (IsCast cast reached false) = refl
+after_closed c (CastNews cast reached false) = refl
 
 module _ (p : SettingsValue) (number : ℕ) (y : List ℕ) (acted : Acted) where
   acted_reached : (c : ℕ) (x : List ℕ) → reached_count c x (acted_records p number y acted) ≡ (if reaches c x y acted.news then 1 else 0)

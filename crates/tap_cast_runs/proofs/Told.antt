@@ -7,7 +7,7 @@ use Rattle.std.proofs.lemmas.Bool.{and_parts, cases_Bool, true≢false}
 use Rattle.std.proofs.lemmas.Slice.Eq.{bytes_eq-Decides}
 use Rattle.tap_rule.proofs.AnswerSteps.{same_number}
 use Rattle.tap_rule.specs.Event.{News}
-use Rattle.tap_rule.specs.Event.News.{Nothing, Core as IsCore, Gone as IsGone, Answered as IsAnswered, Cast as IsCast}
+use Rattle.tap_rule.specs.Event.News.{Nothing, Core as CoreNews, Gone as GoneNews, Answered as AnsweredNews, Cast as CastNews}
 use Rattle.tap_safety.specs.System.{System}
 use Rattle.tap_cast_moves.specs.News.{NewsAreTrue}
 use Rattle.tap_cast_moves.specs.Recalled.{run_marked, runs_noted}
@@ -60,11 +60,11 @@ module _ (s : System) (r r' : CastMemory) (runs : ℕ → Option CastRun) (y : L
       let one = ap one_if here in
       omega (arith, one)
 
-  module _ (cast : ℕ) (reached closed : Bool) (is : news ≡ IsCast cast reached closed) where
+  module _ (cast : ℕ) (reached closed : Bool) (is : news ≡ CastNews cast reached closed) where
     marked : r'.cast cast ≡ option_map (run_marked y reached closed) (runs cast)
     marked = noted cast ∙ ap (λ n. runs_noted runs y n cast) is ∙ here
       where
-        here : runs_noted runs y (IsCast cast reached closed) cast ≡ option_map (run_marked y reached closed) (runs cast)
+        here : runs_noted runs y (CastNews cast reached closed) cast ≡ option_map (run_marked y reached closed) (runs cast)
         here = rw (same_number cast) refl
 
     -- the cast was started
@@ -115,10 +115,10 @@ module _ (s : System) (r r' : CastMemory) (runs : ℕ → Option CastRun) (y : L
       by : (told : News) → news ≡ told → ◌≡◌ {A = ℕ} (one_if (is_reached (r'.cast c) x))
           (one_if (is_reached (r.cast c) x) + one_if (reaches c x y news))
       by Nothing is = rw is (other_reached c x (ap (λ n. runs_noted runs y n c) is))
-      by IsCore is = rw is (other_reached c x (ap (λ n. runs_noted runs y n c) is))
-      by IsGone is = rw is (other_reached c x (ap (λ n. runs_noted runs y n c) is))
-      by (IsAnswered ticket server) is = rw is (other_reached c x (ap (λ n. runs_noted runs y n c) is))
-      by (IsCast cast reached closed) is = elim (cases_Bool (c == cast)) [
+      by CoreNews is = rw is (other_reached c x (ap (λ n. runs_noted runs y n c) is))
+      by GoneNews is = rw is (other_reached c x (ap (λ n. runs_noted runs y n c) is))
+      by (AnsweredNews ticket server) is = rw is (other_reached c x (ap (λ n. runs_noted runs y n c) is))
+      by (CastNews cast reached closed) is = elim (cases_Bool (c == cast)) [
         | inl same ↦
             let here = here_reached cast reached closed is x in
             let it : c ≡ cast = eqb-true c cast same in
@@ -141,10 +141,10 @@ module _ (s : System) (r r' : CastMemory) (runs : ℕ → Option CastRun) (y : L
       by : (told : News) → news ≡ told → ◌≡◌ {A = ℕ} (one_if (is_closed (r'.cast c)))
           (one_if (is_closed (r.cast c)) + one_if (closes c news))
       by Nothing is = rw is (other_closed c (ap (λ n. runs_noted runs y n c) is))
-      by IsCore is = rw is (other_closed c (ap (λ n. runs_noted runs y n c) is))
-      by IsGone is = rw is (other_closed c (ap (λ n. runs_noted runs y n c) is))
-      by (IsAnswered ticket server) is = rw is (other_closed c (ap (λ n. runs_noted runs y n c) is))
-      by (IsCast cast reached closed) is = elim (cases_Bool (c == cast)) [
+      by CoreNews is = rw is (other_closed c (ap (λ n. runs_noted runs y n c) is))
+      by GoneNews is = rw is (other_closed c (ap (λ n. runs_noted runs y n c) is))
+      by (AnsweredNews ticket server) is = rw is (other_closed c (ap (λ n. runs_noted runs y n c) is))
+      by (CastNews cast reached closed) is = elim (cases_Bool (c == cast)) [
         | inl same ↦
             let here = here_closed cast reached closed is in
             let it : c ≡ cast = eqb-true c cast same in

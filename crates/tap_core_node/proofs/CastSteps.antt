@@ -28,10 +28,10 @@ use Rattle.tap_wire.specs.Spelling.{IsBody, IsLevel}
 use Rattle.tap_node_common.specs.declared.cast_fields.CastFields.{CastFields}
 use Rattle.tap_node_common.specs.Spelled.{HaveSpellings}
 use Rattle.tap_node_common.specs.Targets.{cast_to}
-use Rattle.tap_rule.specs.Event.News.{Nothing as RuleNothing}
+use Rattle.tap_rule.specs.Event.News.{Nothing as NothingNews}
 use Rattle.tap_rule.specs.Node.{NodeState}
 use Rattle.tap_rule.specs.Reaction.{Message}
-use Rattle.tap_rule.specs.Casts.{Copy, cast_answer, cast_answered, cast_for, cast_news, cast_of, casts, is_root, next_cast_session, with_cast_session}
+use Rattle.tap_rule.specs.Casts.{Copy, cast_answer, cast_for, cast_news, cast_of, casts, is_root, next_cast_session, takes_cast_ack, with_cast_session}
 use Rattle.tap_rule.specs.Sending.{message_frame}
 use Rattle.tap_node_common.specs.declared.news.News.TheVariants.{Nothing}
 use Rattle.tap_node_common.specs.declared.sender.Sender.{Sender}
@@ -73,7 +73,7 @@ module _ (node : NodeState) (copy : Copy) (kept : CastsValue) (before sent : Lis
       → StepsAs node (casts node copy) (record node { casts = kept }) before sent Nothing
   cast_again is sends =
       let stays : kept ≡ node.casts = same ∙ already_kept node.casts node.ties.table copy.cast copy.level is in
-      rw (is, stays) (messages_step node node (cast_answer copy.parent) RuleNothing before sent sends)
+      rw (is, stays) (messages_step node node (cast_answer copy.parent) NothingNews before sent sends)
 
   -- one that has no targets
   pub cast_alone : (first : Bool) (targets : List CastTarget) → turn ≡ Now first targets → (length targets == 0) ≡ true
@@ -101,21 +101,21 @@ module _ (node : NodeState) (session : ℕ) (sessions : SessionsValue) (before :
     (same : sessions ≡ answered_at node.cast_sessions session) where
   pub cast_closed : (parent : Parent) (sent : List (List ℕ)) → answer_to (session_of node.cast_sessions.sessions session) ≡ Closed parent
       → sent ≡ before ++ message_bytes (node_sender node) (cast_answer parent)
-      → StepsAs node (cast_answered node session) (record node { cast_sessions = sessions }) before sent
+      → StepsAs node (takes_cast_ack node session) (record node { cast_sessions = sessions }) before sent
       (news_of (cast_news (cast_of node session) false (is_root parent)))
   cast_closed parent sent is sends =
       rw (is, same) (messages_step node (record node { cast_sessions = answered_at node.cast_sessions session }) (cast_answer parent)
       (cast_news (cast_of node session) false (is_root parent)) before sent sends)
 
   pub cast_open : answer_to (session_of node.cast_sessions.sessions session) ≡ Open
-      → StepsAs node (cast_answered node session) (record node { cast_sessions = sessions }) before before Nothing
+      → StepsAs node (takes_cast_ack node session) (record node { cast_sessions = sessions }) before before Nothing
   cast_open is =
-      rw (is, same) (silent_step node (record node { cast_sessions = answered_at node.cast_sessions session }) RuleNothing before)
+      rw (is, same) (silent_step node (record node { cast_sessions = answered_at node.cast_sessions session }) NothingNews before)
 
   pub cast_unknown : answer_to (session_of node.cast_sessions.sessions session) ≡ Unknown
-      → StepsAs node (cast_answered node session) (record node { cast_sessions = sessions }) before before Nothing
+      → StepsAs node (takes_cast_ack node session) (record node { cast_sessions = sessions }) before before Nothing
   cast_unknown is =
-      rw (is, same) (silent_step node (record node { cast_sessions = answered_at node.cast_sessions session }) RuleNothing before)
+      rw (is, same) (silent_step node (record node { cast_sessions = answered_at node.cast_sessions session }) NothingNews before)
 
 -- a slot has no more targets than links
 few_in_slot : (links : SlotLinks) (primary : Option (List ℕ)) → least_settled links ≡ primary

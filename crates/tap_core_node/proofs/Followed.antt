@@ -22,10 +22,10 @@ use Rattle.tap_pointer.specs.Reconcile.{AreLaid}
 use Rattle.tap_rule.specs.Node.{IsRunning, NodeState, name_of, settings_of}
 use Rattle.tap_rule.specs.Node.Status.{Core}
 use Rattle.tap_rule.specs.Reaction.{Reaction, with_pin, with_words}
-use Rattle.tap_rule.specs.Casts.{Copy, cast_answered, cast_answered_as, cast_of, casts, casts_as}
-use Rattle.tap_rule.specs.Covering.{Request, answers_awaited, covers, covers_as, first_request, pins_and_covers, seeks, seeks_as, spreads, with_level}
+use Rattle.tap_rule.specs.Casts.{Copy, cast_of, casts, casts_as, takes_cast_ack, takes_cast_ack_as}
+use Rattle.tap_rule.specs.Covering.{Request, answers_awaited, covers, covers_as, first_request, pins_and_covers, spreads, takes_seek, takes_seek_as, with_level}
 use Rattle.tap_rule.specs.JoinSteps.{found_for}
-use Rattle.tap_rule.specs.Pointers.{asks, finds}
+use Rattle.tap_rule.specs.Pointers.{starts_find, takes_find}
 use Rattle.tap_node_common.specs.declared.news.News.{News}
 use Rattle.tap_node_common.specs.Sound.{IsSoundNode}
 use Rattle.tap_node_common.specs.Step.{FollowsAs, StepsAs}
@@ -67,11 +67,11 @@ module _ (node : NodeState) (core : node.status ≡ Core) (laid : AreLaid node.t
     laid = subst (λ (n : NodeState). AreLaid n.ties.table n.pointers) (sym alone.state) laid;
   }
 
-  pub finds_quiet : (ticket : ℕ) (object asker : List ℕ) (level : ℕ) → IsQuiet (finds node ticket object asker level)
-  finds_quiet ticket object asker level = alone_quiet (finds node ticket object asker level) (finds_alone node ticket object asker level)
+  pub finds_quiet : (ticket : ℕ) (object asker : List ℕ) (level : ℕ) → IsQuiet (takes_find node ticket object asker level)
+  finds_quiet ticket object asker level = alone_quiet (takes_find node ticket object asker level) (finds_alone node ticket object asker level)
 
-  pub asks_quiet : (ticket : ℕ) (object : List ℕ) → IsQuiet (asks node ticket object)
-  asks_quiet ticket object = alone_quiet (asks node ticket object) (asks_alone node ticket object)
+  pub asks_quiet : (ticket : ℕ) (object : List ℕ) → IsQuiet (starts_find node ticket object)
+  asks_quiet ticket object = alone_quiet (starts_find node ticket object) (asks_alone node ticket object)
 
   -- a cast, and an answer to one
   casts_as_quiet : (copy : Copy) (turn : CastTurn) → IsQuiet (casts_as node copy turn)
@@ -83,12 +83,12 @@ module _ (node : NodeState) (core : node.status ≡ Core) (laid : AreLaid node.t
   casts_quiet copy = casts_as_quiet copy (turn_of node.casts node.ties.table copy.cast copy.level)
 
   cast_answered_as_quiet : (cast session : ℕ) (answer : Answered)
-      → IsQuiet (cast_answered_as (record node { cast_sessions = answered_at node.cast_sessions session }) cast answer)
+      → IsQuiet (takes_cast_ack_as (record node { cast_sessions = answered_at node.cast_sessions session }) cast answer)
   cast_answered_as_quiet cast session Open = record { status = core; lays = refl; laid = laid }
   cast_answered_as_quiet cast session (Closed parent) = record { status = core; lays = refl; laid = laid }
   cast_answered_as_quiet cast session Unknown = record { status = core; lays = refl; laid = laid }
 
-  pub cast_answered_quiet : (session : ℕ) → IsQuiet (cast_answered node session)
+  pub cast_answered_quiet : (session : ℕ) → IsQuiet (takes_cast_ack node session)
   cast_answered_quiet session =
       cast_answered_as_quiet (cast_of node session) session (answer_to (session_of node.cast_sessions.sessions session))
 
@@ -107,10 +107,10 @@ module _ (node : NodeState) (sound : IsSoundNode node) (core : node.status ≡ C
       (found_for node request))
 
   seeks_as_quiet : (joiner : List ℕ) → IsName (settings_of node) joiner → joiner ≢ name_of node → (found : Sought)
-      → IsQuiet (seeks_as node joiner found)
+      → IsQuiet (takes_seek_as node joiner found)
   seeks_as_quiet joiner is_name other (Forward next) = record { status = core; lays = refl; laid = sound.laid }
   seeks_as_quiet joiner is_name other (Surrogate prefix) =
       pins_and_covers_quiet (first_request node joiner prefix) is_name other
 
-  pub seeks_quiet : (joiner : List ℕ) → IsName (settings_of node) joiner → joiner ≢ name_of node → IsQuiet (seeks node joiner)
+  pub seeks_quiet : (joiner : List ℕ) → IsName (settings_of node) joiner → joiner ≢ name_of node → IsQuiet (takes_seek node joiner)
   seeks_quiet joiner is_name other = seeks_as_quiet joiner is_name other (sought node.ties.table joiner)

@@ -9,8 +9,8 @@ use Rattle.tap_join.specs.declared.sought.Sought.TheVariants.{Forward, Surrogate
 use Rattle.tap_join.specs.Hello.{words_of}
 use Rattle.tap_join.specs.Seek.{sought}
 use Rattle.tap_wire.specs.declared.frame.Body.TheVariants.{Seek}
-use Rattle.tap_rule.specs.Covering.{Request, covers, pins_and_covers, seeks}
-use Rattle.tap_rule.specs.Event.News.{Nothing as RuleNothing}
+use Rattle.tap_rule.specs.Covering.{Request, covers, pins_and_covers, takes_seek}
+use Rattle.tap_rule.specs.Event.News.{Nothing as NothingNews}
 use Rattle.tap_rule.specs.Node.{NodeState, name_of, settings_of}
 use Rattle.tap_rule.specs.Node.Status.{Core}
 use Rattle.tap_rule.specs.Reaction.{message, pin_word, with_pin}
@@ -47,10 +47,10 @@ module _ (node : NodeState) (sound : IsSoundNode node) (core : node.status ≡ C
     pub sent_on : IsName (settings_of node) joiner → joiner ≢ name_of node → (next : List ℕ) (sent : List (List ℕ))
         → sought node.ties.table joiner ≡ Forward next
         → sent ≡ before ++ message_bytes (node_sender node) (message next (Seek joiner) ∷ [])
-        → FollowsAs node (Some (seeks node joiner)) node before sent Nothing
+        → FollowsAs node (Some (takes_seek node joiner)) node before sent Nothing
     sent_on is_name other next sent is sends =
-        follows_quiet node (seeks node joiner) node before sent Nothing (seeks_quiet node sound core joiner is_name other)
-        (rw is (messages_step node node (message next (Seek joiner) ∷ []) RuleNothing before sent sends))
+        follows_quiet node (takes_seek node joiner) node before sent Nothing (seeks_quiet node sound core joiner is_name other)
+        (rw is (messages_step node node (message next (Seek joiner) ∷ []) NothingNews before sent sends))
 
     -- or whose surrogate the node is
     abbrev as_surrogate : ℕ → List Slot → Request
@@ -66,5 +66,5 @@ module _ (node : NodeState) (sound : IsSoundNode node) (core : node.status ≡ C
     pub at_surrogate : (prefix : ℕ) (watch : List Slot) → sought node.ties.table joiner ≡ Surrogate prefix
         → watch ≡ full_slots (settings_of node) joiner prefix → (after : NodeState) (sent : List (List ℕ)) (news : News)
         → FollowsAs node (Some (pins_and_covers node (as_surrogate prefix watch))) after before sent news
-        → FollowsAs node (Some (seeks node joiner)) after before sent news
+        → FollowsAs node (Some (takes_seek node joiner)) after before sent news
     at_surrogate prefix watch is full after sent news follows_as = rw is (rw full at follows_as)

@@ -17,7 +17,7 @@ use Rattle.tap_wire.specs.declared.frame.TellFields.{TellFields}
 use Rattle.tap_wire.specs.Spelling.{AreSlots, IsBody, spelling}
 use Rattle.tap_node_common.specs.Spelled.{HaveSpellings, spelled}
 use Rattle.tap_node_common.specs.Targets.{tell_to}
-use Rattle.tap_rule.specs.Event.News.{Nothing as RuleNothing}
+use Rattle.tap_rule.specs.Event.News.{Nothing as NothingNews}
 use Rattle.tap_rule.specs.Node.{NodeState}
 use Rattle.tap_rule.specs.Reaction.{Message, Reaction, with_words}
 use Rattle.tap_rule.specs.Answers.{answer_for, next_number, with_session}
@@ -68,7 +68,7 @@ module _ (node : NodeState) (request : Request) (first : Bool) (offer : List Off
   pub spread_alone : (sent : List (List ℕ)) → (answers_awaited first (length targets) == 0) ≡ true
       → sent ≡ before ++ message_bytes (node_sender node) (answer_for request.parent ∷ [])
       → StepsAs node (spreads node request first offer targets left) node before sent Nothing
-  spread_alone sent none is = rw none (messages_step node node (answer_for request.parent ∷ []) RuleNothing before sent is)
+  spread_alone sent none is = rw none (messages_step node node (answer_for request.parent ∷ []) NothingNews before sent is)
 
   -- one that waits for answers
   pub spread_told : (sessions : SessionsValue) (greeted sent : List (List ℕ)) → (answers_awaited first (length targets) == 0) ≡ false
@@ -84,7 +84,7 @@ module _ (node : NodeState) (request : Request) (first : Bool) (offer : List Off
       told ∙ ap (λ b. b ++ message_bytes (node_sender node) tells) hello
       ∙ append_assoc before (message_bytes (node_sender node) greets) (message_bytes (node_sender node) tells)
       ∙ ap (λ b. before ++ b) (sym (bytes_after (node_sender node) greets tells)) in
-      rw (some, opened) (messages_step node after (greets ++ tells) RuleNothing before sent all)
+      rw (some, opened) (messages_step node after (greets ++ tells) NothingNews before sent all)
 
 module _ (node : NodeState) (request : Request) (before : List (List ℕ)) where
   abbrev found : Covered
@@ -98,7 +98,7 @@ module _ (node : NodeState) (request : Request) (before : List (List ℕ)) where
   covered_before kept sent is same sends =
       let stays : kept ≡ node.covers =
       same ∙ already_same node.covers node.ties.table request.watch request.joiner request.prefix request.level is in
-      rw (is, stays) (messages_step node node (answer_for request.parent ∷ []) RuleNothing before sent sends)
+      rw (is, stays) (messages_step node node (answer_for request.parent ∷ []) NothingNews before sent sends)
 
   -- one that is covered now
   pub covered_now : (kept : CoversValue) (after : NodeState) (sent : List (List ℕ)) (first : Bool) (offer : List Offered)

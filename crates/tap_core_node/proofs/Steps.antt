@@ -8,13 +8,13 @@ use Rattle.tap_table.proofs.Primaries.{primary_near}
 use Rattle.tap_depart.specs.Told.{told_leave}
 use Rattle.tap_join.specs.Hello.{words_of}
 use Rattle.tap_wire.specs.declared.frame.Body.TheVariants.{Left}
-use Rattle.tap_rule.specs.Answers.{answer_sends, answered}
-use Rattle.tap_rule.specs.Event.News.{Answered as RuleAnswered, Nothing as RuleNothing}
-use Rattle.tap_rule.specs.Leaving.{leave_word, takes_leave, takes_out}
-use Rattle.tap_rule.specs.Links.{forgets, hears_and_releases, release_answer, release_word, releases, with_word}
+use Rattle.tap_rule.specs.Answers.{answer_sends, takes_heard_or_ack}
+use Rattle.tap_rule.specs.Event.News.{Answered as AnsweredNews, Nothing as NothingNews}
+use Rattle.tap_rule.specs.Leaving.{leave_word, takes_gone, takes_leave}
+use Rattle.tap_rule.specs.Links.{release_answer, release_word, takes_forget, takes_link, takes_release, with_word}
 use Rattle.tap_rule.specs.Node.{IsRunning, NodeState, join_session_at, name_of, settings_of}
 use Rattle.tap_rule.specs.Node.Status.{Core}
-use Rattle.tap_rule.specs.Pointers.{is_answered, lays_due, with_reconciled}
+use Rattle.tap_rule.specs.Pointers.{lays_due, takes_answer, with_reconciled}
 use Rattle.tap_rule.specs.Reaction.{Message, message, stays, with_ties}
 use Rattle.tap_node_common.specs.declared.news.News.TheVariants.{Answered, Nothing}
 use Rattle.tap_node_common.specs.Sender.{lay_bytes, message_bytes, node_sender, word_bytes}
@@ -30,61 +30,61 @@ module _ (node : NodeState) (sound : IsSoundNode node) (core : node.status ≡ C
   -- an answer to a session of joins
   pub answered_follows : (session : ℕ) (sessions : SessionsValue) (sent : List (List ℕ)) → sessions ≡ answered_at node.sessions session
       → sent ≡ before ++ message_bytes (node_sender node) (answer_sends (answer_to (join_session_at node session)))
-      → FollowsAs node (Some (answered node session)) (record node { sessions = sessions }) before sent Nothing
+      → FollowsAs node (Some (takes_heard_or_ack node session)) (record node { sessions = sessions }) before sent Nothing
   answered_follows session sessions sent same is =
       let after : NodeState = record node { sessions = answered_at node.sessions session } in
       let messages = answer_sends (answer_to (join_session_at node session)) in
-      rw same (follows_quiet node (answered node session) after before sent Nothing
-      (record { status = core; lays = refl; laid = sound.laid }) (messages_step node after messages RuleNothing before sent is))
+      rw same (follows_quiet node (takes_heard_or_ack node session) after before sent Nothing
+      (record { status = core; lays = refl; laid = sound.laid }) (messages_step node after messages NothingNews before sent is))
 
   -- the word of a holder
   pub heard_follows : (holder : List ℕ) (version : ℕ) (on : Bool) (ties : TiesValue) (sent : List (List ℕ))
       → ties ≡ held_word node.ties holder version on
       → sent ≡ before ++ message_bytes (node_sender node) (release_answer node holder version on)
-      → FollowsAs node (Some (hears_and_releases node holder version on)) (record node { ties = ties }) before sent Nothing
+      → FollowsAs node (Some (takes_link node holder version on)) (record node { ties = ties }) before sent Nothing
   heard_follows holder version on ties sent same is =
       let after : NodeState = with_word node holder version on in
-      rw same (follows_quiet node (hears_and_releases node holder version on) after before sent Nothing
+      rw same (follows_quiet node (takes_link node holder version on) after before sent Nothing
       (record { status = core; lays = refl; laid = sound.laid })
-      (messages_step node after (release_answer node holder version on) RuleNothing before sent is))
+      (messages_step node after (release_answer node holder version on) NothingNews before sent is))
 
   -- a lookup that is answered
   pub found_follows : (ticket : ℕ) (server : Option (List ℕ))
-      → FollowsAs node (Some (is_answered node ticket server)) node before before (Answered ticket server)
+      → FollowsAs node (Some (takes_answer node ticket server)) node before before (Answered ticket server)
   found_follows ticket server =
-      follows_quiet node (is_answered node ticket server) node before before (Answered ticket server)
-      (record { status = core; lays = refl; laid = sound.laid }) (silent_step node node (RuleAnswered ticket server) before)
+      follows_quiet node (takes_answer node ticket server) node before before (Answered ticket server)
+      (record { status = core; lays = refl; laid = sound.laid }) (silent_step node node (AnsweredNews ticket server) before)
 
   module _ (from : List ℕ) (is_name : IsName (settings_of node) from) (other : from ≢ name_of node) where
     -- a Forget
     pub forgotten_follows : (ties : TiesValue) → ties ≡ forgotten node.ties from
-        → FollowsAs node (Some (forgets node from)) (record node { ties = ties }) before before Nothing
+        → FollowsAs node (Some (takes_forget node from)) (record node { ties = ties }) before before Nothing
     forgotten_follows ties same =
         let after : NodeState = record node { ties = forgotten node.ties from } in
-        rw same (follows_quiet node (forgets node from) after before before Nothing
+        rw same (follows_quiet node (takes_forget node from) after before before Nothing
         (record {
           status = core;
           lays = refl;
           laid = laid-forgotten node.ties.table from sound.valid.ties.table is_name other node.pointers sound.laid;
         })
-        (silent_step node after RuleNothing before))
+        (silent_step node after NothingNews before))
 
     -- a Release: the slot's primary is the same, or all pairs are laid as wanted
     abbrev let_go : NodeState
     let_go = with_ties (released node.ties from) (release_word node from) node
 
     released_step : (sent : List (List ℕ)) → sent ≡ before ++ word_bytes (node_sender node) (words_of (release_word node from))
-        → StepsAs node (releases node from) let_go before sent Nothing
+        → StepsAs node (takes_release node from) let_go before sent Nothing
     released_step sent is =
-        words_step node let_go (words_of (release_word node from)) [] RuleNothing before sent (is ∙ sym (append-nil _))
+        words_step node let_go (words_of (release_word node from)) [] NothingNews before sent (is ∙ sym (append-nil _))
 
     pub released_quietly : (ties : TiesValue) (stamp : ℕ) (sent : List (List ℕ)) → ties ≡ released node.ties from
         → stamp ≡ stamp_after node.stamp (release_word node from)
         → sent ≡ before ++ word_bytes (node_sender node) (words_of (release_word node from))
         → primary_near ties.table from ≡ primary_near node.ties.table from
-        → FollowsAs node (Some (releases node from)) (record node { ties = ties; stamp = stamp }) before sent Nothing
+        → FollowsAs node (Some (takes_release node from)) (record node { ties = ties; stamp = stamp }) before sent Nothing
     released_quietly ties stamp sent same numbered is alike =
-        rw (same, numbered) (follows_quiet node (releases node from) let_go before sent Nothing
+        rw (same, numbered) (follows_quiet node (takes_release node from) let_go before sent Nothing
         (record {
           status = core;
           lays = refl;
@@ -96,10 +96,10 @@ module _ (node : NodeState) (sound : IsSoundNode node) (core : node.status ≡ C
     pub released_and_laid : (after middle : NodeState) (added sent : List (List ℕ)) → middle ≡ let_go
         → added ≡ before ++ word_bytes (node_sender node) (words_of (release_word node from)) → after ≡ with_reconciled middle
         → sent ≡ added ++ lay_bytes (node_sender middle) (lays_due middle)
-        → FollowsAs node (Some (releases node from)) after before sent Nothing
+        → FollowsAs node (Some (takes_release node from)) after before sent Nothing
     released_and_laid after middle added sent same words laid lays =
-        follows_rule node (releases node from) after before sent Nothing (subst IsRunning (sym core) tt)
-        (reconciled_step node (releases node from) after let_go before added sent Nothing refl (released_step added words)
+        follows_rule node (takes_release node from) after before sent Nothing (subst IsRunning (sym core) tt)
+        (reconciled_step node (takes_release node from) after let_go before added sent Nothing refl (released_step added words)
         (laid ∙ ap with_reconciled same) (lays ∙ ap (λ m. added ++ lay_bytes (node_sender m) (lays_due m)) same))
 
     -- a Leave of a node that isn't the slot's primary
@@ -119,23 +119,23 @@ module _ (node : NodeState) (sound : IsSoundNode node) (core : node.status ≡ C
           lays = refl;
           laid = laid-told_leave node.ties from sound.valid.ties.table is_name other is_other replacement node.pointers sound.laid;
         })
-        (words_step node after (words_of word) messages RuleNothing before sent
+        (words_step node after (words_of word) messages NothingNews before sent
         (is ∙ ap (λ first. first ++ message_bytes (node_sender node) messages) words)))
 
     -- a Gone that leaves the slot's primary
     pub removed_quietly : (ties : TiesValue) → ties ≡ removed node.ties from
         → primary_near ties.table from ≡ primary_near node.ties.table from
-        → FollowsAs node (Some (takes_out node from)) (record node { ties = ties }) before before Nothing
+        → FollowsAs node (Some (takes_gone node from)) (record node { ties = ties }) before before Nothing
     removed_quietly ties same alike =
         let after : NodeState = record node { ties = removed node.ties from } in
-        rw same (follows_quiet node (takes_out node from) after before before Nothing
+        rw same (follows_quiet node (takes_gone node from) after before before Nothing
         (record {
           status = core;
           lays = refl;
           laid = laid-removed node.ties.table from sound.valid.ties.table is_name other
               (sym (ap (λ (t : TiesValue). primary_near t.table from) same) ∙ alike) node.pointers sound.laid;
         })
-        (silent_step node after RuleNothing before))
+        (silent_step node after NothingNews before))
 
 -- a change without frames, after which all pairs are laid as wanted
 pub silent_and_laid : (node changed after middle : NodeState) (before sent : List (List ℕ)) → changed.status ≡ Core
@@ -144,6 +144,6 @@ pub silent_and_laid : (node changed after middle : NodeState) (before sent : Lis
     → FollowsAs node (Some (stays changed)) after before sent Nothing
 silent_and_laid node changed after middle before sent core own same laid lays =
     follows_rule node (stays changed) after before sent Nothing (subst IsRunning (sym core) tt)
-    (reconciled_step node (stays changed) after changed before before sent Nothing refl (silent_step node changed RuleNothing before)
+    (reconciled_step node (stays changed) after changed before before sent Nothing refl (silent_step node changed NothingNews before)
     (laid ∙ ap with_reconciled same)
     (lays ∙ ap (λ m. before ++ lay_bytes (node_sender m) (lays_due m)) same ∙ ap (λ s. before ++ lay_bytes s (lays_due changed)) own))

@@ -3,7 +3,7 @@ ghost use Rattle.std.specs.List.{slice_index_or};
 ghost use Rattle.tap_name.specs.Name.{IsName};
 ghost use Rattle.tap_name.specs.Word.{IsWord};
 ghost use Rattle.tap_session.specs.Session.{most_sessions};
-ghost use Rattle.tap_rule.specs.Casts.{cast_answered, cast_for, cast_news, casts, is_root, next_cast_session, with_cast_session};
+ghost use Rattle.tap_rule.specs.Casts.{cast_for, cast_news, casts, is_root, next_cast_session, takes_cast_ack, with_cast_session};
 ghost use Rattle.tap_wire.specs.Spelling.{IsLevel};
 ghost use Rattle.tap_node_common.specs.Sender.{message_bytes, sender_of};
 ghost use Rattle.tap_node_common.specs.Sound.{IsParent, IsSoundNode, has_numbers_left};
@@ -38,7 +38,7 @@ impl CoreNode {
     /// with it. Its depth is below 65,535.
     ///
     /// Rule: docs/PROTOCOL.md, "Cast".
-    pub fn casts(
+    pub fn cast(
         &mut self,
         sent: &mut FrameList,
         copy: &CastCopy,
@@ -54,12 +54,12 @@ impl CoreNode {
             (core_state self.new) sent.old sent.new news) }
     {
         let mut news = News::Nothing;
-        self.notes_cast(sent, copy, word, &mut news)?;
+        self.note_cast(sent, copy, word, &mut news)?;
         Ok(news)
     }
 
     // Takes a copy of a cast or starts one, and notes what there is to say of it.
-    pub(crate) fn notes_cast(
+    pub(crate) fn note_cast(
         &mut self,
         sent: &mut FrameList,
         copy: &CastCopy,
@@ -88,7 +88,7 @@ impl CoreNode {
                     *news = cast_news(copy.cast, first, is_root(&copy.parent));
                     return Ok(());
                 }
-                self.cast_spreads(sent, copy, word, &targets)?;
+                self.spread_cast(sent, copy, word, &targets)?;
                 *news = cast_news(copy.cast, first, false);
                 Ok(())
             }
@@ -96,7 +96,7 @@ impl CoreNode {
     }
 
     // The targets are sent the cast, in a session that waits for them.
-    fn cast_spreads(
+    fn spread_cast(
         &mut self,
         sent: &mut FrameList,
         copy: &CastCopy,
@@ -136,7 +136,7 @@ impl CoreNode {
     // CastAck: the session of this number has one answer more. The last one is passed on, and at the root the cast is
     // closed.
     #[inline(never)]
-    pub(crate) fn cast_answered(
+    pub(crate) fn on_cast_ack(
         &mut self,
         sent: &mut FrameList,
         session: u32,
@@ -144,7 +144,7 @@ impl CoreNode {
     ) -> Result<(), NoMemory>
         requires sound { IsSoundNode (core_state self.old) }
         requires nothing { news.old ≡ News.Nothing }
-        ensures { OnOk result (FollowsAs (core_state self.old) (Some (cast_answered (core_state self.old) session))
+        ensures { OnOk result (FollowsAs (core_state self.old) (Some (takes_cast_ack (core_state self.old) session))
             (core_state self.new) sent.old sent.new news.new) }
     {
         match self.parts.cast_sessions.answered(session) {

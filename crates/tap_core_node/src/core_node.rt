@@ -4,12 +4,12 @@ ghost use Rattle.tap_name.specs.declared.slot.Slot.{Slot};
 ghost use Rattle.tap_name.specs.Name.{IsName};
 ghost use Rattle.tap_pointer.specs.Pointers.{held_or_laid_count, pair_of};
 ghost use Rattle.tap_pointer.specs.Reconcile.{AreLaidBeside, AreLaidBut};
-ghost use Rattle.tap_rule.specs.Answers.{answered};
+ghost use Rattle.tap_rule.specs.Answers.{takes_heard_or_ack};
 ghost use Rattle.tap_rule.specs.FrameRules.{frame_at_core};
-ghost use Rattle.tap_rule.specs.Leaving.{takes_leave, takes_out};
-ghost use Rattle.tap_rule.specs.Links.{forgets, hears_and_releases, releases};
+ghost use Rattle.tap_rule.specs.Leaving.{takes_gone, takes_leave};
+ghost use Rattle.tap_rule.specs.Links.{takes_forget, takes_link, takes_release};
 ghost use Rattle.tap_rule.specs.Node.{member_at_rest};
-ghost use Rattle.tap_rule.specs.Pointers.{asks, finds, lays_due, starts_publishing, takes_lay, with_reconciled, withdraws};
+ghost use Rattle.tap_rule.specs.Pointers.{lays_due, starts_find, starts_publish, starts_withdraw, takes_find, takes_lay, with_reconciled};
 ghost use Rattle.tap_wire.specs.Spelling.{IsLevel};
 ghost use Rattle.tap_node_common.specs.Sender.{lay_bytes, sender_of};
 ghost use Rattle.tap_node_common.specs.Sound.{AreNamedHops, AreNamedPairs, IsSoundNode, MayTake, has_numbers_left};
@@ -116,13 +116,13 @@ impl CoreNode {
     {
         *news = News::Nothing;
         match &frame.body {
-            Body::Seek { .. } => self.take_seek(frame, sent),
-            Body::Tell { .. } => self.take_tell(frame, sent),
-            Body::Heard { session } | Body::Ack { session } => self.answered(sent, *session),
-            Body::Release => self.releases(sent, Release { from: frame.from }),
-            Body::Link { version, on } => self.hears_and_releases(sent, frame.from, *version, *on),
-            Body::Lay { .. } => self.take_lay(frame, sent),
-            Body::Find { .. } => self.take_find(frame, sent),
+            Body::Seek { .. } => self.on_seek(frame, sent),
+            Body::Tell { .. } => self.on_tell(frame, sent),
+            Body::Heard { session } | Body::Ack { session } => self.on_heard_or_ack(sent, *session),
+            Body::Release => self.on_release(sent, Release { from: frame.from }),
+            Body::Link { version, on } => self.on_link(sent, frame.from, *version, *on),
+            Body::Lay { .. } => self.on_lay(frame, sent),
+            Body::Find { .. } => self.on_find(frame, sent),
             Body::Answer { ticket, server } => {
                 *news = News::Answered {
                     ticket: *ticket,
@@ -130,20 +130,20 @@ impl CoreNode {
                 };
                 Ok(())
             }
-            Body::Leave { replacement } => self.takes_leave(sent, frame.from, *replacement),
-            Body::Gone => self.takes_out(sent, frame.from),
+            Body::Leave { replacement } => self.on_leave(sent, frame.from, *replacement),
+            Body::Gone => self.on_gone(sent, frame.from),
             Body::Forget => {
-                self.forgets(Forget { from: frame.from });
+                self.on_forget(Forget { from: frame.from });
                 Ok(())
             }
-            Body::Cast { .. } => self.take_cast(frame, sent, news),
-            Body::CastAck { session } => self.cast_answered(sent, *session, news),
+            Body::Cast { .. } => self.on_cast(frame, sent, news),
+            Body::CastAck { session } => self.on_cast_ack(sent, *session, news),
             Body::Hello { .. } | Body::Done | Body::Left => Ok(()),
         }
     }
 
     // Takes a Tell.
-    fn take_tell(&mut self, frame: &Frame, sent: &mut FrameList) -> Result<(), NoMemory>
+    fn on_tell(&mut self, frame: &Frame, sent: &mut FrameList) -> Result<(), NoMemory>
         requires { MayTake (core_state self.old) frame.now }
         ensures { (joiner : List ℕ) (prefix level session depth : ℕ) (watch : List Slot) → frame.now.body ≡ Body.Tell joiner prefix level session depth watch
             → OnOk result (FollowsAs (core_state self.old)
@@ -172,13 +172,13 @@ impl CoreNode {
             parent,
             depth: *depth,
         };
-        self.pins_and_covers(sent, &request, watch)
+        self.pin_and_cover(sent, &request, watch)
     }
 
     // Heard or Ack: a session of joins has one answer more, and after the last one its parent is answered.
-    fn answered(&mut self, sent: &mut FrameList, session: u32) -> Result<(), NoMemory>
+    fn on_heard_or_ack(&mut self, sent: &mut FrameList, session: u32) -> Result<(), NoMemory>
         requires { IsSoundNode (core_state self.old) }
-        ensures { OnOk result (FollowsAs (core_state self.old) (Some (answered (core_state self.old) session))
+        ensures { OnOk result (FollowsAs (core_state self.old) (Some (takes_heard_or_ack (core_state self.old) session))
             (core_state self.new) sent.old sent.new News.Nothing) }
     {
         let sender = self.sender();
@@ -187,7 +187,7 @@ impl CoreNode {
     }
 
     // Link: a new one is answered with a Release.
-    fn hears_and_releases(
+    fn on_link(
         &mut self,
         sent: &mut FrameList,
         holder: Name,
@@ -198,18 +198,18 @@ impl CoreNode {
         requires name { IsName self.old.core.table.settings holder }
         requires other { holder ≢ self.old.core.table.owner }
         ensures { OnOk result (FollowsAs (core_state self.old)
-            (Some (hears_and_releases (core_state self.old) holder version on)) (core_state self.new) sent.old sent.new News.Nothing) }
+            (Some (takes_link (core_state self.old) holder version on)) (core_state self.new) sent.old sent.new News.Nothing) }
     {
         hear_and_release(self.core.ties_mut(), sent, holder, version, on)?;
         Ok(())
     }
 
     // Forget: a pin on the sender is gone.
-    fn forgets(&mut self, by: Forget<Name>)
+    fn on_forget(&mut self, by: Forget<Name>)
         requires sound { IsSoundNode (core_state self.old) }
         requires name { IsName self.old.core.table.settings by.from }
         requires other { by.from ≢ self.old.core.table.owner }
-        ensures { (before : List (List ℕ)) → FollowsAs (core_state self.old) (Some (forgets (core_state self.old) by.from))
+        ensures { (before : List (List ℕ)) → FollowsAs (core_state self.old) (Some (takes_forget (core_state self.old) by.from))
             (core_state self.new) before before News.Nothing }
     {
         self.core.ties_mut().forget(by);
@@ -217,12 +217,12 @@ impl CoreNode {
 
     // Release: a pin on the sender is settled if its slot has room, and else dropped. If the slot's primary is another one
     // now, pairs may be wanted elsewhere.
-    fn releases(&mut self, sent: &mut FrameList, by: Release<Name>) -> Result<(), NoMemory>
+    fn on_release(&mut self, sent: &mut FrameList, by: Release<Name>) -> Result<(), NoMemory>
         requires sound { IsSoundNode (core_state self.old) }
         requires room { has_numbers_left (core_state self.old) ≡ true }
         requires name { IsName self.old.core.table.settings by.from }
         requires other { by.from ≢ self.old.core.table.owner }
-        ensures { OnOk result (FollowsAs (core_state self.old) (Some (releases (core_state self.old) by.from))
+        ensures { OnOk result (FollowsAs (core_state self.old) (Some (takes_release (core_state self.old) by.from))
             (core_state self.new) sent.old sent.new News.Nothing) }
     {
         let from = by.from;
@@ -234,12 +234,12 @@ impl CoreNode {
             return Ok(());
         }
         let level = self.core.ties().table().owner().lcp(&from) as u8;
-        self.reconciles_at(sent, level)?;
+        self.reconcile_at(sent, level)?;
         Ok(())
     }
 
     // Lays all pairs as wanted, if no pair needs it but those whose way passes a level.
-    fn reconciles_at(&mut self, sent: &mut FrameList, level: u8) -> Result<(), NoMemory>
+    fn reconcile_at(&mut self, sent: &mut FrameList, level: u8) -> Result<(), NoMemory>
         requires owner { self.old.core.table.owner ≡ self.old.parts.pointers.owner }
         requires names { AreNamedPairs self.old.core.table.settings self.old.parts.pointers }
         requires hops { AreNamedHops self.old.core.table.settings self.old.parts.pointers }
@@ -260,7 +260,7 @@ impl CoreNode {
     }
 
     // Lays all pairs as wanted.
-    fn reconciles(&mut self, sent: &mut FrameList) -> Result<(), NoMemory>
+    fn reconcile(&mut self, sent: &mut FrameList) -> Result<(), NoMemory>
         requires owner { self.old.core.table.owner ≡ self.old.parts.pointers.owner }
         requires names { AreNamedPairs self.old.core.table.settings self.old.parts.pointers }
         requires hops { AreNamedHops self.old.core.table.settings self.old.parts.pointers }
@@ -274,7 +274,7 @@ impl CoreNode {
     }
 
     // Lays all pairs as wanted. If a level is given, no pair needs it but those whose way passes this level.
-    fn reconciles_beside(&mut self, sent: &mut FrameList, level: Option<u8>) -> Result<(), NoMemory>
+    fn reconcile_beside(&mut self, sent: &mut FrameList, level: Option<u8>) -> Result<(), NoMemory>
         requires owner { self.old.core.table.owner ≡ self.old.parts.pointers.owner }
         requires names { AreNamedPairs self.old.core.table.settings self.old.parts.pointers }
         requires hops { AreNamedHops self.old.core.table.settings self.old.parts.pointers }
@@ -285,13 +285,13 @@ impl CoreNode {
             ≡ sent.old ++ lay_bytes (sender_of self.old.core.table) (lays_due (core_state self.old))) }
     {
         match level {
-            Some(level) => self.reconciles_at(sent, level),
-            None => self.reconciles(sent),
+            Some(level) => self.reconcile_at(sent, level),
+            None => self.reconcile(sent),
         }
     }
 
     // Lays the pair of an object that it serves itself as wanted, if no other pair needs it.
-    fn reconciles_own(&mut self, sent: &mut FrameList, object: Name) -> Result<(), NoMemory>
+    fn reconcile_own(&mut self, sent: &mut FrameList, object: Name) -> Result<(), NoMemory>
         requires owner { self.old.core.table.owner ≡ self.old.parts.pointers.owner }
         requires names { AreNamedPairs self.old.core.table.settings self.old.parts.pointers }
         requires hops { AreNamedHops self.old.core.table.settings self.old.parts.pointers }
@@ -314,7 +314,7 @@ impl CoreNode {
     }
 
     // Takes a Lay.
-    fn take_lay(&mut self, frame: &Frame, sent: &mut FrameList) -> Result<(), NoMemory>
+    fn on_lay(&mut self, frame: &Frame, sent: &mut FrameList) -> Result<(), NoMemory>
         requires { MayTake (core_state self.old) frame.now }
         ensures { (object server : List ℕ) (level version : ℕ) (on : Bool) → frame.now.body ≡ Body.Lay object server level version on
             → OnOk result (FollowsAs (core_state self.old)
@@ -339,11 +339,11 @@ impl CoreNode {
             version: *version,
             on: *on,
         };
-        self.takes_lay(sent, &lay)
+        self.apply_lay(sent, &lay)
     }
 
     // Takes a Find.
-    fn take_find(&mut self, frame: &Frame, sent: &mut FrameList) -> Result<(), NoMemory>
+    fn on_find(&mut self, frame: &Frame, sent: &mut FrameList) -> Result<(), NoMemory>
         requires { MayTake (core_state self.old) frame.now }
         ensures { (ticket : ℕ) (object asker : List ℕ) (level : ℕ) → frame.now.body ≡ Body.Find ticket object asker level
             → OnOk result (FollowsAs (core_state self.old)
@@ -364,11 +364,11 @@ impl CoreNode {
             asker: *asker,
             level: *level,
         };
-        self.finds(sent, &find)
+        self.route_find(sent, &find)
     }
 
     // Lay: the register of the pair takes it, and the pair is laid as wanted.
-    fn takes_lay(&mut self, sent: &mut FrameList, lay: &TakenLay) -> Result<(), NoMemory>
+    fn apply_lay(&mut self, sent: &mut FrameList, lay: &TakenLay) -> Result<(), NoMemory>
         requires sound { IsSoundNode (core_state self.old) }
         requires room { has_numbers_left (core_state self.old) ≡ true }
         requires object { IsName self.old.core.table.settings lay.now.object }
@@ -390,13 +390,13 @@ impl CoreNode {
     }
 
     // Find: it is answered if a server is held or this is the root, and goes on if not.
-    fn finds(&self, sent: &mut FrameList, find: &TakenFind) -> Result<(), NoMemory>
+    fn route_find(&self, sent: &mut FrameList, find: &TakenFind) -> Result<(), NoMemory>
         requires sound { IsSoundNode (core_state self.now) }
         requires object { IsName self.now.core.table.settings find.now.object }
         requires asker { IsName self.now.core.table.settings find.now.asker }
         requires level { find.now.level ≤ self.now.core.table.settings.digits }
         ensures { OnOk result (FollowsAs (core_state self.now)
-            (Some (finds (core_state self.now) find.now.ticket find.now.object find.now.asker find.now.level)) (core_state self.now) sent.old sent.new News.Nothing) }
+            (Some (takes_find (core_state self.now) find.now.ticket find.now.object find.now.asker find.now.level)) (core_state self.now) sent.old sent.new News.Nothing) }
     {
         take_find(&self.parts.pointers, self.core.ties().table(), sent, find)?;
         Ok(())
@@ -404,7 +404,7 @@ impl CoreNode {
 
     // Leave: it marks the leaver, takes the replacement if its slot wants one, and answers. If another node is the slot's
     // primary, it stays so, and no replacement is wanted.
-    fn takes_leave(
+    fn on_leave(
         &mut self,
         sent: &mut FrameList,
         from: Name,
@@ -432,17 +432,17 @@ impl CoreNode {
         if other {
             return Ok(());
         }
-        self.reconciles_beside(sent, level)?;
+        self.reconcile_beside(sent, level)?;
         Ok(())
     }
 
     // Gone: its link to the sender is taken out. That mostly leaves the slot's primary as it was, since the link was marked.
-    fn takes_out(&mut self, sent: &mut FrameList, from: Name) -> Result<(), NoMemory>
+    fn on_gone(&mut self, sent: &mut FrameList, from: Name) -> Result<(), NoMemory>
         requires sound { IsSoundNode (core_state self.old) }
         requires room { has_numbers_left (core_state self.old) ≡ true }
         requires name { IsName self.old.core.table.settings from }
         requires other { from ≢ self.old.core.table.owner }
-        ensures { OnOk result (FollowsAs (core_state self.old) (Some (takes_out (core_state self.old) from))
+        ensures { OnOk result (FollowsAs (core_state self.old) (Some (takes_gone (core_state self.old) from))
             (core_state self.new) sent.old sent.new News.Nothing) }
     {
         let old_primary = self.core.ties().table().near(&from).primary();
@@ -451,13 +451,13 @@ impl CoreNode {
         if old_primary == new_primary {
             return Ok(());
         }
-        self.reconciles(sent)?;
+        self.reconcile(sent)?;
         Ok(())
     }
 
     // Takes a Cast.
     #[inline(never)]
-    fn take_cast(
+    fn on_cast(
         &mut self,
         frame: &Frame,
         sent: &mut FrameList,
@@ -490,46 +490,46 @@ impl CoreNode {
             parent,
             depth: *depth,
         };
-        self.notes_cast(sent, &copy, word.as_slice(), news)
+        self.note_cast(sent, &copy, word.as_slice(), news)
     }
 
     /// It publishes an object.
     ///
     /// Rule: docs/PROTOCOL.md, "Publication and withdrawal".
-    pub fn publishes(&mut self, sent: &mut FrameList, object: Name) -> Result<News, NoMemory>
+    pub fn publish(&mut self, sent: &mut FrameList, object: Name) -> Result<News, NoMemory>
         requires sound { IsSoundNode (core_state self.old) }
         requires room { has_numbers_left (core_state self.old) ≡ true }
         requires object { IsName self.old.core.table.settings object }
-        ensures { IfOk result (λ news. FollowsAs (core_state self.old) (Some (starts_publishing (core_state self.old) object))
+        ensures { IfOk result (λ news. FollowsAs (core_state self.old) (Some (starts_publish (core_state self.old) object))
             (core_state self.new) sent.old sent.new news) }
     {
         self.parts.pointers.publish(object)?;
-        self.reconciles_own(sent, object)?;
+        self.reconcile_own(sent, object)?;
         Ok(News::Nothing)
     }
 
     /// It withdraws an object.
     ///
     /// Rule: docs/PROTOCOL.md, "Publication and withdrawal".
-    pub fn withdraws(&mut self, sent: &mut FrameList, object: Name) -> Result<News, NoMemory>
+    pub fn withdraw(&mut self, sent: &mut FrameList, object: Name) -> Result<News, NoMemory>
         requires sound { IsSoundNode (core_state self.old) }
         requires room { has_numbers_left (core_state self.old) ≡ true }
         requires object { IsName self.old.core.table.settings object }
-        ensures { IfOk result (λ news. FollowsAs (core_state self.old) (Some (withdraws (core_state self.old) object))
+        ensures { IfOk result (λ news. FollowsAs (core_state self.old) (Some (starts_withdraw (core_state self.old) object))
             (core_state self.new) sent.old sent.new news) }
     {
         self.parts.pointers.withdraw(object);
-        self.reconciles_own(sent, object)?;
+        self.reconcile_own(sent, object)?;
         Ok(News::Nothing)
     }
 
     /// It looks an object up, under a ticket.
     ///
     /// Rule: docs/PROTOCOL.md, "Find".
-    pub fn asks(&self, sent: &mut FrameList, ticket: u32, object: Name) -> Result<News, NoMemory>
+    pub fn find(&self, sent: &mut FrameList, ticket: u32, object: Name) -> Result<News, NoMemory>
         requires sound { IsSoundNode (core_state self.now) }
         requires object { IsName self.now.core.table.settings object }
-        ensures { IfOk result (λ news. FollowsAs (core_state self.now) (Some (asks (core_state self.now) ticket object))
+        ensures { IfOk result (λ news. FollowsAs (core_state self.now) (Some (starts_find (core_state self.now) ticket object))
             (core_state self.now) sent.old sent.new news) }
     {
         let table = self.core.ties().table();

@@ -37,7 +37,7 @@ pub(crate) struct Request {
 
 impl CoreNode {
     // Takes a Seek: it goes on to the primary of the joiner's slot, or else the node is the joiner's surrogate.
-    pub(crate) fn take_seek(&mut self, frame: &Frame, sent: &mut FrameList) -> Result<(), NoMemory>
+    pub(crate) fn on_seek(&mut self, frame: &Frame, sent: &mut FrameList) -> Result<(), NoMemory>
         requires { MayTake (core_state self.old) frame.now }
         ensures { (joiner : List ℕ) → frame.now.body ≡ Body.Seek joiner → OnOk result (FollowsAs (core_state self.old)
             (frame_at_core (core_state self.old) frame.now.from frame.now.body) (core_state self.new) sent.old sent.new News.Nothing) }
@@ -61,13 +61,13 @@ impl CoreNode {
                     parent: Parent::Root { joiner },
                     depth: 0,
                 };
-                self.pins_and_covers(sent, &request, &watch)
+                self.pin_and_cover(sent, &request, &watch)
             }
         }
     }
 
     // It pins the joiner and covers it.
-    pub(crate) fn pins_and_covers(
+    pub(crate) fn pin_and_cover(
         &mut self,
         sent: &mut FrameList,
         request: &Request,
@@ -89,12 +89,12 @@ impl CoreNode {
         let joiner = request.joiner;
         let word = self.core.ties_mut().pin(&mut self.parts.stamp, joiner)?;
         self.sender().send_word(sent, word)?;
-        self.covers(sent, request, watch)?;
+        self.cover(sent, request, watch)?;
         Ok(())
     }
 
     // It covers the joiner, which it has pinned.
-    fn covers(
+    fn cover(
         &mut self,
         sent: &mut FrameList,
         request: &Request,
@@ -124,13 +124,13 @@ impl CoreNode {
                 offer,
                 targets,
                 left,
-            } => self.spreads(sent, request, first, offer, &targets, &left),
+            } => self.spread(sent, request, first, offer, &targets, &left),
         }
     }
 
     // It greets the joiner if the cover is the first, and tells the targets of it, in a session that waits for all of
     // them; if there is nobody to wait for, the parent is answered at once.
-    fn spreads(
+    fn spread(
         &mut self,
         sent: &mut FrameList,
         request: &Request,
@@ -163,7 +163,7 @@ impl CoreNode {
             .parts
             .sessions
             .open(request.parent, request.depth, waiting)?;
-        greets(&sender, sent, &request.joiner, session, first, offer)?;
+        greet(&sender, sent, &request.joiner, session, first, offer)?;
         let fields = TellFields {
             joiner: request.joiner,
             prefix: request.prefix,
@@ -177,7 +177,7 @@ impl CoreNode {
 }
 
 // The joiner is greeted if the cover is the first, with the links that are offered.
-fn greets(
+fn greet(
     sender: &Sender,
     sent: &mut FrameList,
     joiner: &Name,

@@ -8,7 +8,7 @@ use Rattle.tap_name.specs.Settings.{SettingsValue}
 use Rattle.tap_name.proofs.Prefixes.{lcp-sym}
 use Rattle.tap_name.specs.declared.slot.Slot.{Slot}
 use Rattle.tap_link.specs.declared.kind.Kind.{Kind}
-use Rattle.tap_link.specs.declared.kind.Kind.TheVariants.{Leaving as Marked, Pin, Settled}
+use Rattle.tap_link.specs.declared.kind.Kind.TheVariants.{Leaving as LeavingKind, Pin, Settled}
 use Rattle.tap_session.specs.declared.parent.Parent.TheVariants.{Root}
 use Rattle.tap_session.specs.Session.{Session, SessionsValue}
 use Rattle.tap_table.specs.Table.{kind_in}
@@ -23,7 +23,7 @@ use Rattle.tap_wire.specs.declared.frame.Body.{Body}
 use Rattle.tap_wire.specs.declared.frame.Body.TheVariants.{Done, Lay, Link, Release, Seek}
 use Rattle.tap_wire.specs.declared.frame.Frame.{Frame}
 use Rattle.tap_wire.specs.declared.frame.TellFields.{TellFields}
-use Rattle.tap_rule.specs.Covering.{first_request, pins_and_covers, request_of, seeks, takes_tell}
+use Rattle.tap_rule.specs.Covering.{first_request, pins_and_covers, request_of, takes_seek, takes_tell}
 use Rattle.tap_rule.specs.Act.{act}
 use Rattle.tap_rule.specs.Event.{Acted}
 use Rattle.tap_rule.specs.Event.Event.{Takes}
@@ -100,13 +100,13 @@ none_departs p s number node from body is never = by_departing s.departing refl
 
 -- the links of a node are sound after a step that keeps soft and core nodes, if none is marked
 links_sound_then : (s s' : System) (x : List ℕ) (node : NodeState) → s.node x ≡ Some node → NamesSoft s
-    → ((x t : List ℕ) → HasLink s x t Marked → ⊥) → ((y : List ℕ) → IsCoreNode s y → IsCoreNode s' y)
+    → ((x t : List ℕ) → HasLink s x t LeavingKind → ⊥) → ((y : List ℕ) → IsCoreNode s y → IsCoreNode s' y)
     → ((y : List ℕ) → IsSoft s y → IsSoft s' y) → (t : List ℕ) (kind : Kind) → link_to node t ≡ Some kind → IsSoundLink s' t kind
 links_sound_then s s' x node at soft unmarked cores softs t Pin link =
     softs t (soft.pins x t (record { state = node; is = at; link = link }))
 links_sound_then s s' x node at soft unmarked cores softs t Settled link =
     cores t (soft.settled x t (record { state = node; is = at; link = link }))
-links_sound_then s s' x node at soft unmarked cores softs t Marked link =
+links_sound_then s s' x node at soft unmarked cores softs t LeavingKind link =
     absurd (unmarked x t (record { state = node; is = at; link = link }))
 
 -- a node that pins a soft node adds a sound link
@@ -270,7 +270,7 @@ module _ (p : SettingsValue) (s : System) (number : ℕ) (node : NodeState) (fro
       }
     where
       not_seek : (y : List ℕ) → tell_body tell watch ≡ Seek y → ⊥
-      not_seek y seeks = let wrong : tell_body tell watch ≡ Seek y = seeks in cc
+      not_seek y same = let wrong : tell_body tell watch ≡ Seek y = same in cc
 
   tell_by : (level : Option ℕ) → level_of node tell.joiner ≡ level → KeepsNames p tell_after
   tell_by None none = tell_anew (λ kept some. let wrong : None ≡ Some kept = sym none ∙ some in absurd (cc))
@@ -311,7 +311,7 @@ module _ (p : SettingsValue) (s : System) (number : ℕ) (node : NodeState) (fro
   pub seek_carried : IsCarriedOut node (pins_and_covers node (first_request node joiner prefix)) seek_acted
   unfolding frame_at_core
   seek_carried =
-      let sought_on = frame_law node (frame_to node from (Seek joiner)) (seeks node joiner) is.known (rw at refl) in
+      let sought_on = frame_law node (frame_to node from (Seek joiner)) (takes_seek node joiner) is.known (rw at refl) in
       rw found at sought_on
 
   seek_taken : TakesByRule s seek_after number node from (Seek joiner)

@@ -1,6 +1,6 @@
 -- While nobody departs: a node that takes a frame, sends no notice and doesn't begin to leave keeps it so.
 use Rattle.std.proofs.Common.{◌≡◌, inl, inr, ℕ, List, None, Some, sym, ◌∙◌}
-use Rattle.tap_link.specs.declared.kind.Kind.TheVariants.{Leaving as Marked}
+use Rattle.tap_link.specs.declared.kind.Kind.TheVariants.{Leaving as LeavingKind}
 use Rattle.tap_wire.specs.declared.frame.Body.{Body}
 use Rattle.tap_wire.specs.declared.frame.Frame.{Frame}
 use Rattle.tap_rule.specs.Node.{NodeState}
@@ -42,9 +42,9 @@ module _ (s s' : System) (number : ℕ) (frame : Frame) (sent : List Frame) (tak
         | inr sends ↦ absurd (none y t body sends notice)
       ]
 
-  nobody_marked : (y t : List ℕ) → HasLink s' y t Marked → ⊥
+  nobody_marked : (y t : List ℕ) → HasLink s' y t LeavingKind → ⊥
   nobody_marked y t link =
-      elim (links_sound s s' x before after at sound y t Marked link) [
+      elim (links_sound s s' x before after at sound y t LeavingKind link) [
         | inl old ↦ departure.marked y t was old
         | inr never ↦ never
       ]

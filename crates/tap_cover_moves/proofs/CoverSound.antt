@@ -10,7 +10,7 @@ use Rattle.tap_name.specs.Settings.{SettingsValue}
 use Rattle.tap_name.specs.declared.slot.Offered.{Offered}
 use Rattle.tap_name.proofs.Prefixes.{lcp-sym}
 use Rattle.tap_link.specs.declared.kind.Kind.{Kind}
-use Rattle.tap_link.specs.declared.kind.Kind.TheVariants.{Leaving as Marked, Pin, Settled}
+use Rattle.tap_link.specs.declared.kind.Kind.TheVariants.{Leaving as LeavingKind, Pin, Settled}
 use Rattle.tap_session.specs.declared.parent.Parent.{Parent}
 use Rattle.tap_session.specs.declared.parent.Parent.TheVariants.{Node, Root}
 use Rattle.tap_table.specs.Table.{IsTable, TableValue}
@@ -61,7 +61,7 @@ pub record HasCovered (p : SettingsValue) (s : System) (node : NodeState) (reque
 sound_soft : (s : System) (t : List ℕ) (kind : Kind) → IsSoundLink s t kind → IsSoft s t
 sound_soft s t Pin soft = soft
 sound_soft s t Settled core = inr (inl core)
-sound_soft s t Marked never = absurd never
+sound_soft s t LeavingKind never = absurd never
 
 -- and so is a sound offer
 offer_soft : (s : System) (b : List ℕ) (o : Offered) → IsSoundOffer s b o → IsSoft s o.name

@@ -21,7 +21,7 @@ use Rattle.tap_rule.specs.EndSteps.{EndStep, lays_at_end, words_at_end}
 use Rattle.tap_rule.specs.Event.{Acted}
 use Rattle.tap_rule.specs.Laws.{frame_to}
 use Rattle.tap_rule.specs.Node.{NodeState, link_to, name_of}
-use Rattle.tap_rule.specs.Node.Status.{Ceased as HasCeased, Joining, Leaving}
+use Rattle.tap_rule.specs.Node.Status.{Ceased as CeasedStatus, Joining, Leaving}
 use Rattle.tap_rule.specs.Reaction.{Message, message, to_each}
 use Rattle.tap_rule.specs.Sent.{IsAmong}
 use Rattle.tap_rule.proofs.Among.{among-map_from}
@@ -116,7 +116,7 @@ module _ (p : SettingsValue) (s : System) (number : ℕ) (node : NodeState) (fro
   pub joins : node.status ≡ Joining
   joins = joins_here s node joiner is.at
 
-  pub step : EndStep node HasCeased Forget acted
+  pub step : EndStep node CeasedStatus Forget acted
   step = cease_law node from joins given_up is.known
 
   pub taken : TakesByRule s after number node from Done
@@ -348,7 +348,7 @@ module _ (p : SettingsValue) (s : System) (number : ℕ) (node : NodeState) (fro
   seeker_apart_now x seeker same =
       let at : after.node own ≡ Some seeker.state = subst (λ v. after.node v ≡ Some seeker.state) same seeker.is in
       let one = one_state after own seeker.state acted.state at taken.at.is in
-      let wrong : Joining ≡ HasCeased = sym seeker.joining ∙ ap (λ (n : NodeState). n.status) one ∙ step.status in
+      let wrong : Joining ≡ CeasedStatus = sym seeker.joining ∙ ap (λ (n : NodeState). n.status) one ∙ step.status in
       cc
 
   nodes_on : (y : List ℕ) → HasNode s y → HasNode after y
@@ -431,16 +431,16 @@ module _ (p : SettingsValue) (s : System) (number : ℕ) (node : NodeState) (fro
       let new = numbered_new node.stamp (words_at_end node)
       (off_numbered node.stamp (targets_by_name node.ties.table)) in
       record {
-        table = λ table. let never : has_table HasCeased = subst has_table step.status table in absurd never;
+        table = λ table. let never : has_table CeasedStatus = subst has_table step.status table in absurd never;
         from = λ w t version on sends. let word = said w t version on sends in (word.0, subst has_table (sym joins) tt);
         new = λ w t version on sends.
             let word = said w t version on sends in
             let above = (new.each word.1.0 word.1.1).0 in
             let same = word.1.2 in
             omega (arith, above, same);
-        given = λ table w t version on sends. let never : has_table HasCeased = subst has_table step.status table in absurd never;
+        given = λ table w t version on sends. let never : has_table CeasedStatus = subst has_table step.status table in absurd never;
         once =
-            in_order_once own (words_at_end node) (to_each Forget (holders_on node.ties)) (lays_at_end HasCeased node) acted.sent
+            in_order_once own (words_at_end node) (to_each Forget (holders_on node.ties)) (lays_at_end CeasedStatus node) acted.sent
             step.in_order new.apart (λ m among version on same.
             let found = among-map_from (λ name. message name Forget) m (holders_on node.ties) among in
             let wrong : Forget ≡ Link version on = ap (λ (n : Message). n.body) (sym found.2) ∙ same in cc);
@@ -499,7 +499,7 @@ given_up_peaceful p s number node from ends =
     is_peaceful s after number (frame_to node from Done) acted.sent (is_taken p s number node from Done is) (name_of node) node acted.state
     (changes_at p s number node from Done is)
     (λ w t body sends. farewell_no_notice (kind_of body) (farewells p s number node from is ends.given_up w t body sends))
-    (λ leaves. let wrong : HasCeased ≡ Leaving = sym end.status ∙ leaves in absurd (cc))
+    (λ leaves. let wrong : CeasedStatus ≡ Leaving = sym end.status ∙ leaves in absurd (cc))
     (λ t kind link. let wrong : None ≡ Some kind = sym (end.unlinked t) ∙ link in absurd (cc)) none (peace_kept p s number none)
     is.invariant.departure is.invariant.notices
 

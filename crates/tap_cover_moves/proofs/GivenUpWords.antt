@@ -22,7 +22,7 @@ use Rattle.tap_rule.specs.EndSteps.{words_at_end}
 use Rattle.tap_rule.specs.Event.{Acted}
 use Rattle.tap_rule.specs.Laws.{frame_to}
 use Rattle.tap_rule.specs.Node.{NodeState, link_to, name_of, word_of}
-use Rattle.tap_rule.specs.Node.Status.{Ceased as HasCeased, Core, Joining}
+use Rattle.tap_rule.specs.Node.Status.{Ceased as CeasedStatus, Core, Joining}
 use Rattle.tap_rule.specs.Reaction.{Message, message}
 use Rattle.tap_rule.specs.Sent.{IsAmong}
 use Rattle.tap_rule.proofs.Among.{among-map, among-map_from}
@@ -132,7 +132,7 @@ module _ (p : SettingsValue) (s : System) (number : ℕ) (node : NodeState) (fro
   unfolding status_of
   status_was = ap status_in is.at ∙ ap (λ status. Some status) (joins p s number node from is given_up)
 
-  status_now : status_of after own ≡ Some HasCeased
+  status_now : status_of after own ≡ Some CeasedStatus
   unfolding status_of
   status_now =
       ap status_in (taken p s number node from is given_up).at.is

@@ -10,7 +10,7 @@ use Rattle.tap_wire.specs.declared.frame.Body.TheVariants.{Forget, Link, Release
 use Rattle.tap_wire.specs.declared.frame.Frame.{Frame}
 use Rattle.tap_rule.specs.Event.{Acted}
 use Rattle.tap_rule.specs.Node.{NodeState}
-use Rattle.tap_rule.specs.Node.Status.{Ceased as HasCeased, Core, Joining}
+use Rattle.tap_rule.specs.Node.Status.{Ceased as CeasedStatus, Core, Joining}
 use Rattle.tap_safety.specs.Ceased.{Ceased, CoreOrJoining, IsRegistered, SaysSo}
 use Rattle.tap_safety.specs.Moved.{HasDone, last_after}
 use Rattle.tap_safety.specs.Remembered.{Word}
@@ -42,7 +42,7 @@ joining_said s ties x n pin joins =
 
 module _ (s s' : System) (x t : List ℕ) (word : Word) (step : TakesLink s s' x t word) (hears : hears_words (status_of s t)) where
   -- a word to a node that has ceased isn't the one that is taken
-  word_on : (y n : List ℕ) (w : Word) → status_of s n ≡ Some HasCeased → IsOnWay s (word_frame y n w) → IsOnWay s' (word_frame y n w)
+  word_on : (y n : List ℕ) (w : Word) → status_of s n ≡ Some CeasedStatus → IsOnWay s (word_frame y n w) → IsOnWay s' (word_frame y n w)
   word_on y n w ended way =
       elim (step.still (word_frame y n w) way) [
         | inr on ↦ on
@@ -74,7 +74,7 @@ module _ (s s' : System) (x t : List ℕ) (word : Word) (step : TakesLink s s' x
   heard_ceased ties ceased = record {
     joining = λ y n either pin joins. joining_said s' ties y n pin joins;
     ceased = λ y n either pin ended.
-        let was : status_of s n ≡ Some HasCeased = sym (step.status n) ∙ ended in
+        let was : status_of s n ≡ Some CeasedStatus = sym (step.status n) ∙ ended in
         let had : Pins s y n = at_link s y n Pin (sym (step.links y n) ∙ link_at s' y n Pin pin) in
         elim (ceased.ceased y n (either_was y either) had was) [
           | inl says ↦ inl (record { word = says.word; on = says.on; way = word_on y n says.word was says.way })
@@ -93,8 +93,8 @@ pub record TakesUnheard (frame : Frame) (before : NodeState) (acted : Acted) (wo
   pub status : acted.state.status ≡ before.status
   pub ties : acted.state.ties ≡ before.ties
   pub no_link : (from to : List ℕ) (version : ℕ) (on : Bool) → IsSent acted.sent from to (Link version on) → ⊥
-  pub forgets : before.status ≡ HasCeased → word.on ≡ true → IsSent acted.sent frame.to frame.from Forget
-  pub forgotten : (from to : List ℕ) → IsSent acted.sent from to Forget → (from ≡ frame.to) × (before.status ≡ HasCeased)
+  pub forgets : before.status ≡ CeasedStatus → word.on ≡ true → IsSent acted.sent frame.to frame.from Forget
+  pub forgotten : (from to : List ℕ) → IsSent acted.sent from to Forget → (from ≡ frame.to) × (before.status ≡ CeasedStatus)
 
 module _ (s s' : System) (number : ℕ) (frame : Frame) (before : NodeState) (acted : Acted) (taken : IsTaken s s' number frame acted.sent)
     (at : ChangesAt s s' frame.to before acted.state) (done : HasDone s s' frame.to acted.state acted.sent) (word : Word)
@@ -209,7 +209,7 @@ module _ (s s' : System) (number : ℕ) (frame : Frame) (before : NodeState) (ac
   either_before y (inr joins) = inr (sym (status_same y) ∙ joins)
 
   -- who says so to a node that has ceased is sent a Forget once it is taken
-  says_or : (y n : List ℕ) → status_of s n ≡ Some HasCeased → SaysSo s y n → SaysSo s' y n ⊎ IsUnderWay s' n y Forget
+  says_or : (y n : List ℕ) → status_of s n ≡ Some CeasedStatus → SaysSo s y n → SaysSo s' y n ⊎ IsUnderWay s' n y Forget
   says_or y n ended says =
       elim (still_under_way s s' number frame acted.sent taken y n (Link says.word.version says.word.on) says.way) [
         | inl on ↦ inl (record { word = says.word; on = says.on; way = on })
@@ -219,8 +219,8 @@ module _ (s s' : System) (number : ℕ) (frame : Frame) (before : NodeState) (ac
             let body : Link says.word.version says.word.on ≡ Link word.version word.on =
             ap (λ (f : Frame). f.body) is ∙ step.body in
             let same : says.word.on ≡ word.on = cc in
-            let here : Some before.status ≡ Some HasCeased = sym status_here ∙ ap (status_of s) (sym to) ∙ ended in
-            let ceased : before.status ≡ HasCeased = cc in
+            let here : Some before.status ≡ Some CeasedStatus = sym status_here ∙ ap (status_of s) (sym to) ∙ ended in
+            let ceased : before.status ≡ CeasedStatus = cc in
             let sends = step.forgets ceased (sym same ∙ says.on) in
             let way = sent_under_way s s' number frame acted.sent taken frame.to frame.from Forget sends in
             inr (subst (λ z. IsUnderWay s' z y Forget) (sym to) (subst (λ z. IsUnderWay s' frame.to z Forget) (sym from) way))
@@ -230,7 +230,7 @@ module _ (s s' : System) (number : ℕ) (frame : Frame) (before : NodeState) (ac
   unheard_ceased ties ceased = record {
     joining = λ y n either pin joins. joining_said s' ties y n pin joins;
     ceased = λ y n either pin ended.
-        let was : status_of s n ≡ Some HasCeased = sym (status_same n) ∙ ended in
+        let was : status_of s n ≡ Some CeasedStatus = sym (status_same n) ∙ ended in
         let had : Pins s y n = at_link s y n Pin (sym (link_same y n) ∙ link_at s' y n Pin pin) in
         elim (ceased.ceased y n (either_before y either) had was) [
           | inl says ↦ says_or y n was says

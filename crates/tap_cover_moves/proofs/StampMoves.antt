@@ -21,16 +21,16 @@ use Rattle.tap_join.specs.declared.sought.Sought.TheVariants.{Forward, Surrogate
 use Rattle.tap_wire.specs.declared.frame.Body.{Body}
 use Rattle.tap_wire.specs.declared.frame.Body.TheVariants.{Ack, Done, Forget, Heard, Link, Release, Seek}
 use Rattle.tap_wire.specs.declared.frame.TellFields.{TellFields}
-use Rattle.tap_rule.specs.Answers.{answer_for, answer_sends, answered, with_session}
-use Rattle.tap_rule.specs.Ceasing.{acknowledges, is_forgotten}
-use Rattle.tap_rule.specs.Covering.{Request, answers_awaited, covers_as, first_request, greeting, pins_and_covers, request_of, seeks, tell_for, with_level}
+use Rattle.tap_rule.specs.Answers.{answer_for, answer_sends, takes_heard_or_ack, with_session}
+use Rattle.tap_rule.specs.Ceasing.{takes_link_ceased, takes_tell_ceased}
+use Rattle.tap_rule.specs.Covering.{Request, answers_awaited, covers_as, first_request, greeting, pins_and_covers, request_of, takes_seek, tell_for, with_level}
 use Rattle.tap_rule.specs.FrameRules.{frame_at_ceased, frame_at_core, frame_at_joining, frame_at_leaving, rule_of_frame}
 use Rattle.tap_rule.specs.JoinSteps.{found_for}
-use Rattle.tap_rule.specs.Joining.{hello_words, meets, welcomes}
+use Rattle.tap_rule.specs.Joining.{hello_words, takes_tell_joining, welcomes}
 use Rattle.tap_rule.specs.Laws.{frame_to}
-use Rattle.tap_rule.specs.Links.{forgets, hears, hears_and_releases, is_new_link, releases}
+use Rattle.tap_rule.specs.Links.{is_new_link, takes_forget, takes_link, takes_link_joining, takes_release}
 use Rattle.tap_rule.specs.Node.{NodeState, Status, join_session_at, link_to, name_of, settings_of}
-use Rattle.tap_rule.specs.Node.Status.{Ceased as HasCeased, Core, Gone, Joining, Leaving}
+use Rattle.tap_rule.specs.Node.Status.{Ceased as CeasedStatus, Core, Gone, Joining, Leaving}
 use Rattle.tap_rule.specs.QuietSteps.{IsQuiet}
 use Rattle.tap_rule.specs.Reaction.{Message, Reaction, message, sends, to_each, with_pin}
 use Rattle.tap_rule.specs.Sent.{IsAmong}
@@ -101,9 +101,9 @@ parent_no_link : (parent : Parent) → IsNoLink (answer_for parent).body
 parent_no_link (Root joiner) = tt
 parent_no_link (Node name session) = tt
 
-answered_stamped : (node : NodeState) (session : ℕ) → IsStampedRule node (answered node session)
+answered_stamped : (node : NodeState) (session : ℕ) → IsStampedRule node (takes_heard_or_ack node session)
 answered_stamped node session =
-    wordless node (answered node session) refl refl refl (answer_no_link (answer_to (join_session_at node session)))
+    wordless node (takes_heard_or_ack node session) refl refl refl (answer_no_link (answer_to (join_session_at node session)))
 
 -- a rule, if there is one
 abbrev IsStampedSo : NodeState → Option Reaction → Type 0
@@ -117,7 +117,7 @@ heard_stamped Joining node from session = answered_stamped node session
 heard_stamped Core node from session = answered_stamped node session
 heard_stamped Leaving node from session = tt
 heard_stamped Gone node from session = tt
-heard_stamped HasCeased node from session = answered_stamped node session
+heard_stamped CeasedStatus node from session = answered_stamped node session
 
 ack_stamped : (status : Status) (node : NodeState) (from : List ℕ) (session : ℕ)
     → IsStampedSo node (rule_of_frame status node from (Ack session))
@@ -126,29 +126,29 @@ ack_stamped Joining node from session = answered_stamped node session
 ack_stamped Core node from session = answered_stamped node session
 ack_stamped Leaving node from session = tt
 ack_stamped Gone node from session = tt
-ack_stamped HasCeased node from session = answered_stamped node session
+ack_stamped CeasedStatus node from session = answered_stamped node session
 
 link_stamped : (status : Status) (node : NodeState) (from : List ℕ) (version : ℕ) (on : Bool)
     → IsStampedSo node (rule_of_frame status node from (Link version on))
 unfolding frame_at_joining frame_at_core frame_at_leaving frame_at_ceased
-link_stamped Joining node from version on = wordless node (hears node from version on) refl refl refl (λ m among. absurd among)
+link_stamped Joining node from version on = wordless node (takes_link_joining node from version on) refl refl refl (λ m among. absurd among)
 link_stamped Core node from version on =
-    wordless node (hears_and_releases node from version on) refl refl refl (if_no_link (is_new_link node from version on) from Release tt)
+    wordless node (takes_link node from version on) refl refl refl (if_no_link (is_new_link node from version on) from Release tt)
 link_stamped Leaving node from version on =
-    wordless node (hears_and_releases node from version on) refl refl refl (if_no_link (is_new_link node from version on) from Release tt)
+    wordless node (takes_link node from version on) refl refl refl (if_no_link (is_new_link node from version on) from Release tt)
 link_stamped Gone node from version on = tt
-link_stamped HasCeased node from version on = wordless node (is_forgotten node from on) refl refl refl (if_no_link on from Forget tt)
+link_stamped CeasedStatus node from version on = wordless node (takes_link_ceased node from on) refl refl refl (if_no_link on from Forget tt)
 
 forget_stamped : (status : Status) (node : NodeState) (from : List ℕ) → IsStampedSo node (rule_of_frame status node from Forget)
 unfolding frame_at_joining frame_at_core frame_at_leaving frame_at_ceased
-forget_stamped Joining node from = wordless node (forgets node from) refl refl refl (λ m among. absurd among)
-forget_stamped Core node from = wordless node (forgets node from) refl refl refl (λ m among. absurd among)
+forget_stamped Joining node from = wordless node (takes_forget node from) refl refl refl (λ m among. absurd among)
+forget_stamped Core node from = wordless node (takes_forget node from) refl refl refl (λ m among. absurd among)
 forget_stamped Leaving node from = tt
 forget_stamped Gone node from = tt
-forget_stamped HasCeased node from = tt
+forget_stamped CeasedStatus node from = tt
 
 -- a Release, at a node that has a table
-released_stamped : (node : NodeState) (from : List ℕ) → has_table node.status → IsStampedRule node (releases node from)
+released_stamped : (node : NodeState) (from : List ℕ) → has_table node.status → IsStampedRule node (takes_release node from)
 released_stamped node from table = record {
   words = one_new (is_pinned (link_to node from) && not (has_room_near node.ties.table from)) from node.stamp false;
   messages = λ m among. absurd among;
@@ -163,7 +163,7 @@ release_stamped Joining node from at = released_stamped node from (rw at tt)
 release_stamped Core node from at = released_stamped node from (rw at tt)
 release_stamped Leaving node from at = tt
 release_stamped Gone node from at = tt
-release_stamped HasCeased node from at = tt
+release_stamped CeasedStatus node from at = tt
 
 -- ---- covers
 
@@ -214,14 +214,14 @@ meets_keeps : (node : NodeState) (from : List ℕ) (tell : TellFields) (greeted 
 meets_keeps node from tell true = (refl, one_no_link from (Ack tell.session) tt)
 meets_keeps node from tell false = (refl, one_no_link tell.joiner (joining_hello (node.sessions.opened + 1)) tt)
 
-meets_stamped : (node : NodeState) (from : List ℕ) (tell : TellFields) → has_table node.status → IsStampedRule node (meets node from tell)
+meets_stamped : (node : NodeState) (from : List ℕ) (tell : TellFields) → has_table node.status → IsStampedRule node (takes_tell_joining node from tell)
 meets_stamped node from tell table =
     let keeps = meets_keeps node from tell (has_name node.greeted tell.joiner) in
     record {
       words =
-          subst (λ now. AreNewWords node.stamp now (meets node from tell).words) (sym keeps.0)
+          subst (λ now. AreNewWords node.stamp now (takes_tell_joining node from tell).words) (sym keeps.0)
           (one_new (is_none (link_to node tell.joiner)) tell.joiner node.stamp true);
-      messages = no_links (meets node from tell).messages keeps.1;
+      messages = no_links (takes_tell_joining node from tell).messages keeps.1;
       table = λ now. table;
       speaks = λ word among. table;
     }
@@ -233,11 +233,11 @@ tell_stamped Joining node from tell watch at = meets_stamped node from tell (rw 
 tell_stamped Core node from tell watch at = cover_stamped node (request_of from tell watch) (rw at tt)
 tell_stamped Leaving node from tell watch at = tt
 tell_stamped Gone node from tell watch at = tt
-tell_stamped HasCeased node from tell watch at =
-    wordless node (acknowledges node from tell.session) refl refl refl (one_no_link from (Ack tell.session) tt)
+tell_stamped CeasedStatus node from tell watch at =
+    wordless node (takes_tell_ceased node from tell.session) refl refl refl (one_no_link from (Ack tell.session) tt)
 
 seeks_stamped : (node : NodeState) (joiner : List ℕ) → has_table node.status → (found : Sought) → sought node.ties.table joiner ≡ found
-    → IsStampedRule node (seeks node joiner)
+    → IsStampedRule node (takes_seek node joiner)
 seeks_stamped node joiner table (Forward next) is =
     rw is (wordless node (sends node (message next (Seek joiner) ∷ [])) refl refl refl (one_no_link next (Seek joiner) tt))
 seeks_stamped node joiner table (Surrogate prefix) is = rw is (cover_stamped node (first_request node joiner prefix) table)
@@ -249,7 +249,7 @@ seek_stamped Joining node from joiner at = tt
 seek_stamped Core node from joiner at = seeks_stamped node joiner (rw at tt) (sought node.ties.table joiner) refl
 seek_stamped Leaving node from joiner at = tt
 seek_stamped Gone node from joiner at = tt
-seek_stamped HasCeased node from joiner at = tt
+seek_stamped CeasedStatus node from joiner at = tt
 
 -- ---- a Hello and a Done
 
@@ -266,7 +266,7 @@ hello_stamped Joining node from hello is at tells = record {
 hello_stamped Core node from hello is at tells = absurd (cc)
 hello_stamped Leaving node from hello is at tells = absurd (cc)
 hello_stamped Gone node from hello is at tells = absurd (cc)
-hello_stamped HasCeased node from hello is at tells = absurd (cc)
+hello_stamped CeasedStatus node from hello is at tells = absurd (cc)
 
 releases_no_link : (names : List (List ℕ)) (m : Message) → IsAmong m (to_each Release names) → IsNoLink m.body
 releases_no_link names m among =
@@ -285,7 +285,7 @@ done_stamped Joining node from is at joined = rw joined (record {
 done_stamped Core node from is at joined = absurd (cc)
 done_stamped Leaving node from is at joined = absurd (cc)
 done_stamped Gone node from is at joined = absurd (cc)
-done_stamped HasCeased node from is at joined = absurd (cc)
+done_stamped CeasedStatus node from is at joined = absurd (cc)
 
 -- ---- by a delivery
 

@@ -5,7 +5,7 @@ use Rattle.tap_name.specs.Order.{name_cmp}
 use Rattle.tap_name.specs.Settings.{SettingsValue}
 use Rattle.tap_name.specs.declared.slot.Slot.{Slot}
 use Rattle.tap_link.specs.declared.kind.Kind.{Kind}
-use Rattle.tap_link.specs.declared.kind.Kind.TheVariants.{Leaving as Marked, Pin, Settled}
+use Rattle.tap_link.specs.declared.kind.Kind.TheVariants.{Leaving as LeavingKind, Pin, Settled}
 use Rattle.tap_link.specs.LinkSet.{is_pinned}
 use Rattle.tap_register.specs.Registers.{entry_of}
 use Rattle.tap_session.specs.declared.parent.Parent.TheVariants.{Node, Root}
@@ -24,8 +24,8 @@ use Rattle.tap_wire.specs.declared.frame.Body.TheVariants.{Ack, Done, Forget, He
 use Rattle.tap_wire.specs.declared.frame.Frame.{Frame}
 use Rattle.tap_wire.specs.declared.frame.TellFields.{TellFields}
 use Rattle.tap_wire.specs.Kind.{kind_of}
-use Rattle.tap_rule.specs.Answers.{answer_sends, answered}
-use Rattle.tap_rule.specs.Ceasing.{is_forgotten}
+use Rattle.tap_rule.specs.Answers.{answer_sends, takes_heard_or_ack}
+use Rattle.tap_rule.specs.Ceasing.{takes_link_ceased}
 use Rattle.tap_rule.specs.Covering.{first_request, request_of}
 use Rattle.tap_rule.specs.Event.{Acted}
 use Rattle.tap_rule.specs.FrameRules.{frame_at_ceased, frame_at_core, frame_at_joining, frame_at_leaving, rule_of_frame}
@@ -33,7 +33,7 @@ use Rattle.tap_rule.specs.JoinSteps.{CoverStep, SeekStep}
 use Rattle.tap_rule.specs.Laws.{frame_to}
 use Rattle.tap_rule.specs.Links.{release_word}
 use Rattle.tap_rule.specs.Node.{IsRunning, NodeState, Status, join_session_at, link_to, name_of}
-use Rattle.tap_rule.specs.Node.Status.{Ceased as HasCeased, Core, Gone, Joining, Leaving}
+use Rattle.tap_rule.specs.Node.Status.{Ceased as CeasedStatus, Core, Gone, Joining, Leaving}
 use Rattle.tap_rule.specs.QuietSteps.{IsQuiet}
 use Rattle.tap_rule.specs.Reaction.{Message, Reaction, message}
 use Rattle.tap_rule.specs.Sent.{AreSent, IsAmong}
@@ -133,7 +133,7 @@ answer_no_word Unknown m among = absurd among
 answer_no_word (Closed (Root joiner)) m among = one_no_word joiner Done tt m among
 answer_no_word (Closed (Node name session)) m among = one_no_word name (Ack session) tt m among
 
-answered_silent : (node : NodeState) (session : ℕ) → IsSilentRule node (answered node session)
+answered_silent : (node : NodeState) (session : ℕ) → IsSilentRule node (takes_heard_or_ack node session)
 answered_silent node session = record {
   status = refl;
   ties = refl;
@@ -148,7 +148,7 @@ heard_silent Joining node from session = answered_silent node session
 heard_silent Core node from session = answered_silent node session
 heard_silent Leaving node from session = tt
 heard_silent Gone node from session = tt
-heard_silent HasCeased node from session = answered_silent node session
+heard_silent CeasedStatus node from session = answered_silent node session
 
 ack_silent : (status : Status) (node : NodeState) (from : List ℕ) (session : ℕ)
     → LeavesTies node (rule_of_frame status node from (Ack session))
@@ -157,16 +157,16 @@ ack_silent Joining node from session = answered_silent node session
 ack_silent Core node from session = answered_silent node session
 ack_silent Leaving node from session = tt
 ack_silent Gone node from session = tt
-ack_silent HasCeased node from session = answered_silent node session
+ack_silent CeasedStatus node from session = answered_silent node session
 
-ceased_silent : (status : Status) (node : NodeState) (from : List ℕ) (tell : TellFields) (watch : List Slot) → status ≡ HasCeased
+ceased_silent : (status : Status) (node : NodeState) (from : List ℕ) (tell : TellFields) (watch : List Slot) → status ≡ CeasedStatus
     → LeavesTies node (rule_of_frame status node from (tell_body tell watch))
 unfolding frame_at_joining frame_at_core frame_at_leaving frame_at_ceased
 ceased_silent Joining node from tell watch at = absurd (cc)
 ceased_silent Core node from tell watch at = absurd (cc)
 ceased_silent Leaving node from tell watch at = absurd (cc)
 ceased_silent Gone node from tell watch at = absurd (cc)
-ceased_silent HasCeased node from tell watch at = record {
+ceased_silent CeasedStatus node from tell watch at = record {
   status = refl;
   ties = refl;
   words = refl;
@@ -231,7 +231,7 @@ module _ (p : SettingsValue) (s : System) (number : ℕ) (node : NodeState) (fro
         ties = ap (λ (n : NodeState). n.ties) ignored.state;
         no_link = λ w t version on sends.
             let never : IsSent [] w t (Link version on) = subst (λ sent. IsSent sent w t (Link version on)) ignored.sent sends in never;
-        forgets = λ ended on. let wrong : Gone ≡ HasCeased = sym at ∙ ended in absurd (cc);
+        forgets = λ ended on. let wrong : Gone ≡ CeasedStatus = sym at ∙ ended in absurd (cc);
         forgotten = λ w t sends.
             let never : IsSent [] w t Forget = subst (λ sent. IsSent sent w t Forget) ignored.sent sends in absurd never;
       }
@@ -245,15 +245,15 @@ module _ (p : SettingsValue) (s : System) (number : ℕ) (node : NodeState) (fro
   forgets_if true is = inl refl
   forgets_if false is = absurd (true≢false (sym is))
 
-  ceased_takes : (word : Word) → IsDelivery p s number node from (Link word.version word.on) → node.status ≡ HasCeased
+  ceased_takes : (word : Word) → IsDelivery p s number node from (Link word.version word.on) → node.status ≡ CeasedStatus
       → TakesUnheard (frame_to node from (Link word.version word.on)) node (taken_at node from (Link word.version word.on)) word
   unfolding frame_at_ceased
   ceased_takes word is at =
-      let carried = frame_law node (frame_to node from (Link word.version word.on)) (is_forgotten node from word.on) is.known
+      let carried = frame_law node (frame_to node from (Link word.version word.on)) (takes_link_ceased node from word.on) is.known
       (rw at refl) in
       record {
         body = refl;
-        unheard = λ hears. let never : hears_words (Some HasCeased) = rw at at hears in never;
+        unheard = λ hears. let never : hears_words (Some CeasedStatus) = rw at at hears in never;
         status = carried.status;
         ties = carried.ties;
         no_link = λ w t version on sends.
@@ -287,7 +287,7 @@ module _ (p : SettingsValue) (s : System) (number : ℕ) (node : NodeState) (fro
   link_words word is Core at = heard_words word is (rw at tt) (rw at tt)
   link_words word is Leaving at = heard_words word is (rw at tt) (rw at tt)
   link_words word is Gone at = unheard_words word is (gone_takes word is at)
-  link_words word is HasCeased at = unheard_words word is (ceased_takes word is at)
+  link_words word is CeasedStatus at = unheard_words word is (ceased_takes word is at)
 
   -- ---- a Release and a Forget
 
@@ -315,7 +315,7 @@ module _ (p : SettingsValue) (s : System) (number : ℕ) (node : NodeState) (fro
   pinned_some None pin = absurd (true≢false (sym pin))
   pinned_some (Some Pin) pin = refl
   pinned_some (Some Settled) pin = absurd (true≢false (sym pin))
-  pinned_some (Some Marked) pin = absurd (true≢false (sym pin))
+  pinned_some (Some LeavingKind) pin = absurd (true≢false (sym pin))
 
   early_table : (node.status ≡ Joining) ⊎ (node.status ≡ Core) → has_table node.status
   early_table (inl at) = rw at tt
@@ -404,7 +404,7 @@ module _ (p : SettingsValue) (s : System) (number : ℕ) (node : NodeState) (fro
   -- ---- covers, and a Done
 
   tell_words : (tell : TellFields) (watch : List Slot) → IsDelivery p s number node from (tell_body tell watch)
-      → (node.status ≡ Core) ⊎ ((node.status ≡ Joining) ⊎ (node.status ≡ HasCeased)) → WordsStand after
+      → (node.status ≡ Core) ⊎ ((node.status ≡ Joining) ⊎ (node.status ≡ CeasedStatus)) → WordsStand after
   tell_words tell watch is (inl at) =
       cover_stand p s number node from (tell_body tell watch) is (request_of from tell watch)
       (tell_carried p s number node from tell watch is at) (tell_step p s number node from tell watch is at)

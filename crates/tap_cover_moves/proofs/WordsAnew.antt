@@ -23,7 +23,7 @@ use Rattle.tap_rule.specs.Event.{Acted}
 use Rattle.tap_rule.specs.JoinSteps.{CoverStep, DoneStep}
 use Rattle.tap_rule.specs.Laws.{IsCarriedOut, frame_to}
 use Rattle.tap_rule.specs.Node.{NodeState, link_to, name_of, word_of}
-use Rattle.tap_rule.specs.Node.Status.{Ceased as HasCeased, Core, Joining}
+use Rattle.tap_rule.specs.Node.Status.{Ceased as CeasedStatus, Core, Joining}
 use Rattle.tap_rule.specs.Reaction.{Message, message, pin_word, to_each}
 use Rattle.tap_rule.specs.Sent.{AreSent, IsAmong}
 use Rattle.tap_rule.proofs.Among.{among-map, among-map_from}
@@ -325,20 +325,20 @@ module _ (p : SettingsValue) (s : System) (number : ℕ) (node : NodeState) (fro
         | inr same ↦ elim either [ inl core ↦ inl (same ∙ core) | inr joins ↦ inr (same ∙ joins) ]
       ]
 
-  ended_yet : (n : List ℕ) → status_of done_after n ≡ Some HasCeased → status_of joins_yet n ≡ Some HasCeased
+  ended_yet : (n : List ℕ) → status_of done_after n ≡ Some CeasedStatus → status_of joins_yet n ≡ Some CeasedStatus
   ended_yet n ended =
       elim (status_yet n) [
         | inr same ↦ same ∙ ended
         | inl here ↦
-            let wrong : Some Core ≡ Some HasCeased = sym core_now ∙ ap (status_of done_after) (sym here) ∙ ended in absurd (cc)
+            let wrong : Some Core ≡ Some CeasedStatus = sym core_now ∙ ap (status_of done_after) (sym here) ∙ ended in absurd (cc)
       ]
 
-  ended_now : (n : List ℕ) → status_of joins_yet n ≡ Some HasCeased → status_of done_after n ≡ Some HasCeased
+  ended_now : (n : List ℕ) → status_of joins_yet n ≡ Some CeasedStatus → status_of done_after n ≡ Some CeasedStatus
   ended_now n ended =
       elim (status_yet n) [
         | inr same ↦ sym same ∙ ended
         | inl here ↦
-            let wrong : Some Joining ≡ Some HasCeased = sym joins_then ∙ ap (status_of joins_yet) (sym here) ∙ ended in absurd (cc)
+            let wrong : Some Joining ≡ Some CeasedStatus = sym joins_then ∙ ap (status_of joins_yet) (sym here) ∙ ended in absurd (cc)
       ]
 
   done_ceased : Ceased done_after

@@ -2,7 +2,7 @@
 use Rattle.std.proofs.Common.{◌≡◌, inl, inr, ℕ, List, [], ◌⊎◌, Option, None, Some, refl, sym, ap, subst, ◌∙◌}
 use Rattle.tap_name.specs.Names.{Among}
 use Rattle.tap_link.specs.declared.kind.Kind.{Kind}
-use Rattle.tap_link.specs.declared.kind.Kind.TheVariants.{Settled, Leaving as Marked}
+use Rattle.tap_link.specs.declared.kind.Kind.TheVariants.{Settled, Leaving as LeavingKind}
 use Rattle.tap_rule.specs.Node.{NodeState, Status, link_to}
 use Rattle.tap_rule.specs.Node.Status.{Core, Leaving}
 use Rattle.tap_safety.specs.System.{System, HasLink, IsCoreNode}
@@ -127,7 +127,7 @@ module _ (s s' : System) (x : List ℕ) (before after : NodeState) (at : Changes
 -- ---- slots and the leaver
 
 -- a slot that is filled stays so, if the link is marked yet, and settled links of the node stay
-pub replaced_on : (s s' : System) (a n : List ℕ) → (HasOther s' a n → HasOther s a n) → HasLink s' a n Marked
+pub replaced_on : (s s' : System) (a n : List ℕ) → (HasOther s' a n → HasOther s a n) → HasLink s' a n LeavingKind
     → ((to : List ℕ) → HasLink s a to Settled → HasLink s' a to Settled) → HasReplaced s a n → HasReplaced s' a n
 replaced_on s s' a n others marked settled replaced = record {
   marked = marked;

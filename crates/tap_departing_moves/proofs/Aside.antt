@@ -2,12 +2,12 @@
 use Rattle.std.proofs.Common.{◌≡◌, inl, inr, ℕ, true, List, [], ◌∷◌, ◌⊎◌, None, Some, refl, sym, ap, subst, ◌∙◌}
 use Rattle.tap_name.specs.Names.{Among}
 use Rattle.tap_link.specs.declared.kind.Kind.{Kind}
-use Rattle.tap_link.specs.declared.kind.Kind.TheVariants.{Settled, Leaving as Marked}
+use Rattle.tap_link.specs.declared.kind.Kind.TheVariants.{Settled, Leaving as LeavingKind}
 use Rattle.tap_wire.specs.declared.frame.Body.{Body}
 use Rattle.tap_wire.specs.declared.frame.Body.TheVariants.{Forget, Gone, Lay, Leave, Left, Link, Release}
 use Rattle.tap_wire.specs.declared.frame.Frame.{Frame}
 use Rattle.tap_rule.specs.Node.{NodeState}
-use Rattle.tap_rule.specs.Node.Status.{Gone as HasGone, Leaving}
+use Rattle.tap_rule.specs.Node.Status.{Gone as GoneStatus, Leaving}
 use Rattle.tap_rule.specs.Reaction.{Message}
 use Rattle.tap_rule.specs.Sent.{AreSent, IsAmong}
 use Rattle.tap_safety.specs.Remembered.{Leaver}
@@ -148,7 +148,7 @@ module _ (s s' : System) (number : ℕ) (frame : Frame) (leaver : Leaver) (aside
 
   still_replaced : (a n : List ℕ) → HasReplaced s a n → HasReplaced s' a n
   still_replaced a n replaced =
-      replaced_on s s' a n (others a n) (link_on a n Marked replaced.marked) (λ to link. link_on a to Settled link) replaced
+      replaced_on s s' a n (others a n) (link_on a n LeavingKind replaced.marked) (λ to link. link_on a to Settled link) replaced
 
   -- ---- the leaver
 
@@ -175,7 +175,7 @@ module _ (s s' : System) (number : ℕ) (frame : Frame) (leaver : Leaver) (aside
   still_departing = record {
     joining = λ x joining. before.joining x (sym (leaves.status x) ∙ joining);
     pins = λ x t pin. before.pins x t (link_was x t _ pin);
-    marked = λ x t marked. before.marked x t (link_was x t Marked marked);
+    marked = λ x t marked. before.marked x t (link_was x t LeavingKind marked);
     leaving = λ x leaving. before.leaving x (sym (leaves.status x) ∙ leaving);
     frames = λ x t body way. elim (was_or_aside x t body way) [
       | inl old ↦ before.frames x t body old
@@ -225,16 +225,16 @@ module _ (s s' : System) (number : ℕ) (frame : Frame) (leaver : Leaver) (aside
         no_notice one.number one.frame (between_notice leaver.name a.0 one.frame one.between) one.among
 
     -- and of a node that is gone a Gone would be, to whoever had a link to it
-    not_linked : status_of s leaver.name ≡ Some HasGone → (y : List ℕ) (kind : Kind) → HasLink s y leaver.name kind → ⊥
+    not_linked : status_of s leaver.name ≡ Some GoneStatus → (y : List ℕ) (kind : Kind) → HasLink s y leaver.name kind → ⊥
     not_linked gone y kind link =
         let way = (before.gone gone y kind link).1 in
         no_notice way.number (record { from = leaver.name; to = y; body = Gone }) tt way.among
 
-    nobody_marked : (x t : List ℕ) → HasLink s' x t Marked → ⊥
+    nobody_marked : (x t : List ℕ) → HasLink s' x t LeavingKind → ⊥
     nobody_marked x t link =
-        let was = link_was x t Marked link in
-        let to_leaver = subst (λ n. HasLink s x n Marked) (before.marked x t was) was in
-        elim before.ends [ inl leaving ↦ not_leaving leaving | inr gone ↦ not_linked gone x Marked to_leaver ]
+        let was = link_was x t LeavingKind link in
+        let to_leaver = subst (λ n. HasLink s x n LeavingKind) (before.marked x t was) was in
+        elim before.ends [ inl leaving ↦ not_leaving leaving | inr gone ↦ not_linked gone x LeavingKind to_leaver ]
 
     nobody_leaves : (x : List ℕ) → status_of s' x ≡ Some Leaving → ⊥
     nobody_leaves x leaving =

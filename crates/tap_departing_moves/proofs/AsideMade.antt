@@ -3,7 +3,7 @@ use Rattle.std.proofs.Common.{◌≡◌, ◌&&◌, inl, inr, ℕ, Bool, true, fa
 use Rattle.tap_name.specs.Name.{IsName}
 use Rattle.tap_name.specs.Settings.{SettingsValue}
 use Rattle.tap_link.specs.declared.kind.Kind.{Kind}
-use Rattle.tap_link.specs.declared.kind.Kind.TheVariants.{Leaving as Marked, Pin, Settled}
+use Rattle.tap_link.specs.declared.kind.Kind.TheVariants.{Leaving as LeavingKind, Pin, Settled}
 use Rattle.tap_link.specs.LinkSet.{is_pinned}
 use Rattle.tap_session.specs.Session.{SessionsValue}
 use Rattle.tap_table.specs.Table.{TableValue, kind_in}
@@ -234,7 +234,7 @@ not_pinned : (kind : Option Kind) → (kind ≡ Some Pin → ⊥) → is_pinned 
 not_pinned None none = refl
 not_pinned (Some Pin) none = absurd (none refl)
 not_pinned (Some Settled) none = refl
-not_pinned (Some Marked) none = refl
+not_pinned (Some LeavingKind) none = refl
 
 -- without a pin on its sender it changes nothing
 release_aside : (leaver : Leaver) (node : NodeState) (from : List ℕ) → (name : IsName (settings_of node) from)

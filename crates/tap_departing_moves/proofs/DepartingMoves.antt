@@ -4,12 +4,12 @@ use Rattle.std.proofs.lemmas.Bool.{cases_Bool}
 use Rattle.tap_name.specs.Settings.{SettingsValue}
 use Rattle.tap_name.specs.declared.slot.Slot.{Slot}
 use Rattle.tap_wire.specs.declared.frame.Body.{Body}
-use Rattle.tap_wire.specs.declared.frame.Body.TheVariants.{Done, Forget, Gone as GoneBody, Lay, Leave, Left, Link, Release, Seek}
+use Rattle.tap_wire.specs.declared.frame.Body.TheVariants.{Done, Forget, Gone, Lay, Leave, Left, Link, Release, Seek}
 use Rattle.tap_wire.specs.declared.frame.TellFields.{TellFields}
 use Rattle.tap_rule.specs.FrameRules.{frame_at_ceased, frame_at_core, frame_at_joining, frame_at_leaving, rule_of_frame}
 use Rattle.tap_rule.specs.Laws.{frame_to}
 use Rattle.tap_rule.specs.Node.{NodeState, Status, link_to, name_of}
-use Rattle.tap_rule.specs.Node.Status.{Ceased, Core, Gone, Joining, Leaving}
+use Rattle.tap_rule.specs.Node.Status.{Ceased, Core, Gone as GoneStatus, Joining, Leaving}
 use Rattle.tap_rule.proofs.CarriedOut.{unruled_law}
 use Rattle.tap_safety.specs.Departing.{Departs}
 use Rattle.tap_safety.specs.Notices.{IsNotice}
@@ -49,7 +49,7 @@ departing_aside p s number node from Forget is other leaver departs =
     absurd ((is.invariant.departure.during leaver departs).forgets from (name_of node) (way p s number node from Forget is))
 departing_aside p s number node from (Leave replacement) is other leaver departs = absurd (other tt)
 departing_aside p s number node from Left is other leaver departs = absurd (other tt)
-departing_aside p s number node from GoneBody is other leaver departs = absurd (other tt)
+departing_aside p s number node from Gone is other leaver departs = absurd (other tt)
 departing_aside p s number node from body is other leaver departs =
     absurd ((is.invariant.departure.during leaver departs).frames from (name_of node) body (way p s number node from body is))
 
@@ -92,7 +92,7 @@ tell_part Core node from tell watch = inl (inl refl)
 tell_part Joining node from tell watch = inl (inr (inl refl))
 tell_part Ceased node from tell watch = inl (inr (inr refl))
 tell_part Leaving node from tell watch = inr refl
-tell_part Gone node from tell watch = inr refl
+tell_part GoneStatus node from tell watch = inr refl
 
 seek_part : (status : Status) (node : NodeState) (from joiner : List ℕ)
     → (status ≡ Core) ⊎ (rule_of_frame status node from (Seek joiner) ≡ None)
@@ -101,7 +101,7 @@ seek_part Core node from joiner = inl refl
 seek_part Joining node from joiner = inr refl
 seek_part Ceased node from joiner = inr refl
 seek_part Leaving node from joiner = inr refl
-seek_part Gone node from joiner = inr refl
+seek_part GoneStatus node from joiner = inr refl
 
 hello_part : (status : Status) (node : NodeState) (from : List ℕ) (hello : HelloFields)
     → (status ≡ Joining) ⊎ (rule_of_frame status node from (hello_body hello) ≡ None)
@@ -110,7 +110,7 @@ hello_part Joining node from hello = inl refl
 hello_part Core node from hello = inr refl
 hello_part Ceased node from hello = inr refl
 hello_part Leaving node from hello = inr refl
-hello_part Gone node from hello = inr refl
+hello_part GoneStatus node from hello = inr refl
 
 -- a Release and a Forget alike
 freeing_part : (status : Status) (node : NodeState) (from : List ℕ) → ((status ≡ Joining) ⊎ (status ≡ Core))
@@ -120,7 +120,7 @@ freeing_part Joining node from = inl (inl refl)
 freeing_part Core node from = inl (inr refl)
 freeing_part Ceased node from = inr (refl, refl)
 freeing_part Leaving node from = inr (refl, refl)
-freeing_part Gone node from = inr (refl, refl)
+freeing_part GoneStatus node from = inr (refl, refl)
 
 -- each frame that is no notice is one of these
 has_part : (node : NodeState) (from : List ℕ) {body : Body} → Said body → (IsNotice body → ⊥) → HasItsPart node from body

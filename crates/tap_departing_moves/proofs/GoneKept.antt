@@ -1,12 +1,12 @@
 -- The Gone of a node that has left: whoever takes it has no link to that node any more.
 use Rattle.std.proofs.Common.{◌≡◌, inl, inr, ℕ, true, List, [], ◌⊎◌, None, Some, refl, sym, ap, subst, ◌∙◌}
 use Rattle.tap_link.specs.declared.kind.Kind.{Kind}
-use Rattle.tap_link.specs.declared.kind.Kind.TheVariants.{Pin, Settled, Leaving as Marked}
+use Rattle.tap_link.specs.declared.kind.Kind.TheVariants.{Pin, Settled, Leaving as LeavingKind}
 use Rattle.tap_wire.specs.declared.frame.Body.{Body}
 use Rattle.tap_wire.specs.declared.frame.Body.TheVariants.{Forget, Gone, Leave, Left, Link, Release}
 use Rattle.tap_wire.specs.declared.frame.Frame.{Frame}
 use Rattle.tap_rule.specs.Node.{NodeState, link_to}
-use Rattle.tap_rule.specs.Node.Status.{Core, Gone as HasGone, Leaving}
+use Rattle.tap_rule.specs.Node.Status.{Core, Gone as GoneStatus, Leaving}
 use Rattle.tap_rule.specs.Sent.{AreSent}
 use Rattle.tap_safety.specs.Remembered.{Leaver}
 use Rattle.tap_safety.specs.System.{System, AmongFrames, HasLink, IsCoreNode, IsUnderWay}
@@ -62,10 +62,10 @@ module _ (s s' : System) (number : ℕ) (n x : List ℕ) (takes : TakesGone s s'
   sender_gone : IsGoneLeaver s n
   sender_gone = notices.gones n x (taken_under_way s s' number frame step.sent step.taken)
 
-  n_gone : status_of s n ≡ Some HasGone
+  n_gone : status_of s n ≡ Some GoneStatus
   n_gone = sender_gone.gone
 
-  leaver_gone : status_of s leaver.name ≡ Some HasGone
+  leaver_gone : status_of s leaver.name ≡ Some GoneStatus
   leaver_gone =
       let same : Some leaver ≡ Some sender_gone.leaver = sym departs ∙ sender_gone.departs in
       let one : leaver ≡ sender_gone.leaver = cc in
@@ -121,9 +121,9 @@ module _ (s s' : System) (number : ℕ) (n x : List ℕ) (takes : TakesGone s s'
   core_apart t core is =
       elim core.core [
         | inl at ↦
-            let wrong = one_status s t Core HasGone (status_seen s t core.state Core core.is at) (ap (status_of s) is ∙ n_gone) in cc
+            let wrong = one_status s t Core GoneStatus (status_seen s t core.state Core core.is at) (ap (status_of s) is ∙ n_gone) in cc
         | inr at ↦
-            let wrong = one_status s t Leaving HasGone (status_seen s t core.state Leaving core.is at) (ap (status_of s) is ∙ n_gone) in cc
+            let wrong = one_status s t Leaving GoneStatus (status_seen s t core.state Leaving core.is at) (ap (status_of s) is ∙ n_gone) in cc
       ]
 
   -- no link is new
@@ -168,14 +168,14 @@ module _ (s s' : System) (number : ℕ) (n x : List ℕ) (takes : TakesGone s s'
   others : (a m : List ℕ) → HasOther s' a m → HasOther s a m
   others = other_was s s' x step.before step.after step.at step.stays.status
 
-  still_replaced : (a m : List ℕ) → HasReplaced s a m → HasLink s' a m Marked → HasReplaced s' a m
+  still_replaced : (a m : List ℕ) → HasReplaced s a m → HasLink s' a m LeavingKind → HasReplaced s' a m
   still_replaced a m replaced marked = replaced_on s s' a m (others a m) marked (settled_stays a) replaced
 
   -- ---- the leaver
 
   -- a leaving node isn't the one that has gone
   leaving_apart : (y : List ℕ) → status_of s y ≡ Some Leaving → y ≡ n → ⊥
-  leaving_apart y leaving is = let wrong = one_status s y Leaving HasGone leaving (ap (status_of s) is ∙ n_gone) in cc
+  leaving_apart y leaving is = let wrong = one_status s y Leaving GoneStatus leaving (ap (status_of s) is ∙ n_gone) in cc
 
   -- a leaving node goes on as before
   goes_on : (old new : NodeState) → new.awaited ≡ old.awaited → ((t : List ℕ) → link_to new t ≡ link_to old t)
@@ -211,12 +211,12 @@ module _ (s s' : System) (number : ℕ) (n x : List ℕ) (takes : TakesGone s s'
   -- ---- while it goes on
 
   -- a holder of the leaver that has gone keeps its link, or takes the Gone
-  still_gone : status_of s' leaver.name ≡ Some HasGone → (y : List ℕ) (kind : Kind) → HasLink s' y leaver.name kind
+  still_gone : status_of s' leaver.name ≡ Some GoneStatus → (y : List ℕ) (kind : Kind) → HasLink s' y leaver.name kind
       → HasReplaced s' y leaver.name × IsUnderWay s' leaver.name y Gone
   still_gone gone y kind link =
       let was = link_was y leaver.name kind link in
       let both = before.gone (sym (same leaver.name) ∙ gone) y kind was in
-      let marked = one_kind s y leaver.name kind Marked was both.0.marked in (
+      let marked = one_kind s y leaver.name kind LeavingKind was both.0.marked in (
         still_replaced y leaver.name both.0 (subst (HasLink s' y leaver.name) marked link),
         elim (still_under_way s s' number frame step.sent step.taken leaver.name y Gone both.1) [
           | inl way ↦ way
@@ -241,7 +241,7 @@ module _ (s s' : System) (number : ℕ) (n x : List ℕ) (takes : TakesGone s s'
   still_departing = record {
     joining = λ y joining. before.joining y (sym (same y) ∙ joining);
     pins = λ y t pin. before.pins y t (link_was y t Pin pin);
-    marked = λ y t marked. before.marked y t (link_was y t Marked marked);
+    marked = λ y t marked. before.marked y t (link_was y t LeavingKind marked);
     leaving = λ y leaving. before.leaving y (sym (same y) ∙ leaving);
     frames = λ y t body way. elim (was_or_aside y t body way) [
       | inl old ↦ before.frames y t body old
@@ -260,7 +260,7 @@ module _ (s s' : System) (number : ℕ) (n x : List ℕ) (takes : TakesGone s s'
         let old = way_was a y Left (λ never. never) way in
         let was = before.lefts a y old in
         let apart = leaving_apart y (awaiting_leaves s y a (notices.lefts a y old)) in
-        (was.0, still_replaced a y was.1 (link_stays a y Marked apart was.1.marked));
+        (was.0, still_replaced a y was.1 (link_stays a y LeavingKind apart was.1.marked));
     quiet = λ y t version way. before.quiet y t version (way_was y t (Link version true) (λ never. never) way);
     releases = λ y t way. elim (was_or_aside y t Release way) [
       | inl old ↦ before.releases y t old
@@ -290,13 +290,13 @@ module _ (s s' : System) (number : ℕ) (n x : List ℕ) (takes : TakesGone s s'
         none_among one.number one.frame (between_still leaver.name a.0 one.number one.frame one.between one.among)
 
     -- nor is a link marked: a Gone would be under way
-    nobody_marked : (y t : List ℕ) → HasLink s' y t Marked → ⊥
+    nobody_marked : (y t : List ℕ) → HasLink s' y t LeavingKind → ⊥
     nobody_marked y t link =
-        let to_leaver = subst (λ m. HasLink s' y m Marked) (before.marked y t (link_was y t Marked link)) link in
+        let to_leaver = subst (λ m. HasLink s' y m LeavingKind) (before.marked y t (link_was y t LeavingKind link)) link in
         elim before.ends [
           | inl leaving ↦ not_leaving leaving
           | inr gone ↦
-              let way = (still_gone (same leaver.name ∙ gone) y Marked to_leaver).1 in
+              let way = (still_gone (same leaver.name ∙ gone) y LeavingKind to_leaver).1 in
               none_among way.number (record { from = leaver.name; to = y; body = Gone }) way.among
         ]
 
@@ -327,7 +327,7 @@ module _ (s s' : System) (number : ℕ) (n x : List ℕ) (takes : TakesGone s s'
   -- a holder that has answered keeps its link, or has none any more, the leaver being gone
   answered_on : (a : List ℕ) → HasAnswered s a leaver.name → HasAnswered s' a leaver.name
   answered_on a (inl replaced) =
-      elim (link_on a leaver.name Marked replaced.marked) [
+      elim (link_on a leaver.name LeavingKind replaced.marked) [
         | inr marked ↦ inl (still_replaced a leaver.name replaced marked)
         | inl gone ↦ inr (
           no_kind (link_of s' a leaver.name) (λ kind has.

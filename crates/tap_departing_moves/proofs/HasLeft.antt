@@ -2,12 +2,12 @@
 use Rattle.std.proofs.Common.{◌≡◌, ◌≢◌, inl, inr, ℕ, ◌+◌, ◌<◌, true, false, List, [], ◌⊎◌, Option, None, Some, arith, refl, sym, ap, subst, ◌∙◌}
 use Rattle.tap_name.specs.Names.{Among}
 use Rattle.tap_link.specs.declared.kind.Kind.{Kind}
-use Rattle.tap_link.specs.declared.kind.Kind.TheVariants.{Pin, Settled, Leaving as Marked}
+use Rattle.tap_link.specs.declared.kind.Kind.TheVariants.{Pin, Settled, Leaving as LeavingKind}
 use Rattle.tap_wire.specs.declared.frame.Body.{Body}
 use Rattle.tap_wire.specs.declared.frame.Body.TheVariants.{Forget, Gone, Lay, Leave, Left, Link, Release}
 use Rattle.tap_wire.specs.declared.frame.Frame.{Frame}
 use Rattle.tap_rule.specs.Node.{NodeState, Status, link_to}
-use Rattle.tap_rule.specs.Node.Status.{Ceased as HasCeased, Core, Gone as HasGone, Joining, Leaving}
+use Rattle.tap_rule.specs.Node.Status.{Ceased as CeasedStatus, Core, Gone as GoneStatus, Joining, Leaving}
 use Rattle.tap_safety.specs.Remembered.{Leaver}
 use Rattle.tap_safety.specs.System.{System, AmongFrames, HasLink, IsCoreNode, IsUnderWay}
 use Rattle.tap_safety.specs.Departing.{Departs, HasOther, HasReplaced, WhileDeparting, may_be_then}
@@ -38,7 +38,7 @@ IsLeftOver s leaver from to Left = ⊥
 IsLeftOver s leaver from to Forget = ⊥
 IsLeftOver s leaver from to Gone = ⊥
 IsLeftOver s leaver from to (Link version true) =
-    (to ≡ leaver.name → ⊥) × (from ≡ leaver.name → ⊥) × (status_of s to ≡ Some HasCeased → ⊥)
+    (to ≡ leaver.name → ⊥) × (from ≡ leaver.name → ⊥) × (status_of s to ≡ Some CeasedStatus → ⊥)
 IsLeftOver s leaver from to Release = (to ≡ leaver.name → ⊥) × (from ≡ leaver.name → ⊥)
 IsLeftOver s leaver from to other = may_be_then other
 
@@ -72,11 +72,11 @@ farewell_may_be leaver from to _ farewell = absurd farewell
 -- is told; it and each holder have the slot filled; and no other frame is under way than such.
 pub record HasLeft (s s' : System) (leaver : Leaver) (before after : NodeState) : Type 0 where
   pub at : ChangesAt s s' leaver.name before after
-  pub status : after.status ≡ HasGone
+  pub status : after.status ≡ GoneStatus
   pub unlinked : (t : List ℕ) → link_to after t ≡ None
   pub joining : (y : List ℕ) → status_of s y ≡ Some Joining → ⊥
   pub pins : (y t : List ℕ) → HasLink s y t Pin → ⊥
-  pub marked : (y t : List ℕ) → HasLink s y t Marked → t ≡ leaver.name
+  pub marked : (y t : List ℕ) → HasLink s y t LeavingKind → t ≡ leaver.name
   pub leaving : (y : List ℕ) → status_of s y ≡ Some Leaving → y ≡ leaver.name
   pub filled : (y : List ℕ) (kind : Kind) → HasLink s y leaver.name kind → HasReplaced s y leaver.name
   pub told : (y : List ℕ) (kind : Kind) → HasLink s y leaver.name kind → IsUnderWay s' leaver.name y Gone
@@ -91,8 +91,8 @@ module _ (s s' : System) (leaver : Leaver) (before after : NodeState) (left : Ha
   own = leaver.name
 
   -- the leaver is gone
-  gone_now : status_of s' own ≡ Some HasGone
-  gone_now = status_seen s' own after HasGone left.at.is left.status
+  gone_now : status_of s' own ≡ Some GoneStatus
+  gone_now = status_seen s' own after GoneStatus left.at.is left.status
 
   -- ---- links
 
@@ -120,11 +120,11 @@ module _ (s s' : System) (leaver : Leaver) (before after : NodeState) (left : Ha
   -- ---- statuses
 
   -- who isn't gone has the status that it had
-  status_was : (y : List ℕ) (status : Status) → (status ≡ HasGone → ⊥) → status_of s' y ≡ Some status → status_of s y ≡ Some status
+  status_was : (y : List ℕ) (status : Status) → (status ≡ GoneStatus → ⊥) → status_of s' y ≡ Some status → status_of s y ≡ Some status
   status_was y status other now =
       elim (status_apart s s' own before after left.at y) [
         | inr same ↦ sym same ∙ now
-        | inl here ↦ absurd (other (one_status s' y status HasGone now (ap (status_of s') here ∙ gone_now)))
+        | inl here ↦ absurd (other (one_status s' y status GoneStatus now (ap (status_of s') here ∙ gone_now)))
       ]
 
   -- each core node was one
@@ -145,7 +145,7 @@ module _ (s s' : System) (leaver : Leaver) (before after : NodeState) (left : Ha
   nobody_leaves : (y : List ℕ) → status_of s' y ≡ Some Leaving → ⊥
   nobody_leaves y now =
       let here = left.leaving y (status_was y Leaving (λ wrong. cc) now) in
-      let wrong = one_status s' y Leaving HasGone now (ap (status_of s') here ∙ gone_now) in cc
+      let wrong = one_status s' y Leaving GoneStatus now (ap (status_of s') here ∙ gone_now) in cc
 
   -- another core node of a slot was there before
   other_before : (a n : List ℕ) → HasOther s' a n → HasOther s a n
@@ -155,7 +155,7 @@ module _ (s s' : System) (leaver : Leaver) (before after : NodeState) (left : Ha
   -- a slot that is filled stays so
   still_replaced : (a : List ℕ) → a ≢ own → HasReplaced s a own → HasReplaced s' a own
   still_replaced a other replaced =
-      replaced_on s s' a own (other_before a own) (link_on a own Marked other replaced.marked)
+      replaced_on s s' a own (other_before a own) (link_on a own LeavingKind other replaced.marked)
       (λ to link. link_on a to Settled other link) replaced
 
   -- ---- frames
@@ -208,7 +208,7 @@ module _ (s s' : System) (leaver : Leaver) (before after : NodeState) (left : Ha
   still_departing = record {
     joining = λ y now. left.joining y (status_was y Joining (λ wrong. cc) now);
     pins = λ y t pin. left.pins y t (link_was y t Pin pin).0;
-    marked = λ y t marked. left.marked y t (link_was y t Marked marked).0;
+    marked = λ y t marked. left.marked y t (link_was y t LeavingKind marked).0;
     leaving = λ y now. left.leaving y (status_was y Leaving (λ wrong. cc) now);
     frames = λ y t body now. elim (left.frames y t body now) [
       | inl old ↦ left_over_may_be s leaver y t body old
@@ -216,7 +216,7 @@ module _ (s s' : System) (leaver : Leaver) (before after : NodeState) (left : Ha
     ];
     ends = inr gone_now;
     goes = λ state is leaving.
-        let wrong = one_status s' own Leaving HasGone (status_seen s' own state Leaving is leaving) gone_now in cc;
+        let wrong = one_status s' own Leaving GoneStatus (status_seen s' own state Leaving is leaving) gone_now in cc;
     gone = λ gone y kind link.
         let was = link_was y own kind link in
         (still_replaced y was.1 (left.filled y kind was.0), left.told y kind was.0);
@@ -242,9 +242,9 @@ module _ (s s' : System) (leaver : Leaver) (before after : NodeState) (left : Ha
     departure = record {
       during = λ other departs'. subst (WhileDeparting s') (left.departs other departs') still_departing;
       marked = λ y t over link.
-          let was = link_was y t Marked link in
+          let was = link_was y t LeavingKind link in
           let to = left.marked y t was.0 in
-          let way = left.told y Marked (subst (λ m. HasLink s y m Marked) to was.0) in
+          let way = left.told y LeavingKind (subst (λ m. HasLink s y m LeavingKind) to was.0) in
           none_under_way over own y Gone way;
       leaving = λ y over now. nobody_leaves y now;
     };
@@ -257,7 +257,7 @@ module _ (s s' : System) (leaver : Leaver) (before after : NodeState) (left : Ha
       answered = λ other a departs' holds none. subst (HaveAnswered s') (left.departs other departs') answered_now a holds none;
       words = λ other y t version departs' now.
           let so = new_word y t version now in
-          (λ leaving. nobody_leaves t leaving, λ ceased. so.2 (status_was t HasCeased (λ wrong. cc) ceased));
+          (λ leaving. nobody_leaves t leaving, λ ceased. so.2 (status_was t CeasedStatus (λ wrong. cc) ceased));
     };
   }
 
@@ -276,7 +276,7 @@ module _ (s s' : System) (leaver : Leaver) (before after : NodeState) (left : Ha
   core_apart y core here =
       elim core.core [
         | inl is ↦
-            let wrong = one_status s' y Core HasGone (status_seen s' y core.state Core core.is is) (ap (status_of s') here ∙ gone_now) in
+            let wrong = one_status s' y Core GoneStatus (status_seen s' y core.state Core core.is is) (ap (status_of s') here ∙ gone_now) in
             cc
         | inr is ↦ nobody_leaves y (status_seen s' y core.state Leaving core.is is)
       ]
@@ -285,7 +285,7 @@ module _ (s s' : System) (leaver : Leaver) (before after : NodeState) (left : Ha
   settled_apart : (y t : List ℕ) → HasLink s y t Settled → t ≢ own
   settled_apart y t link here =
       let to = subst (λ m. HasLink s y m Settled) here link in
-      let wrong = one_kind s y own Marked Settled (left.filled y Settled to).marked to in cc
+      let wrong = one_kind s y own LeavingKind Settled (left.filled y Settled to).marked to in cc
 
   -- whoever's link of a slot was to the leaver has another one there
   near_by : (y e : List ℕ) → IsCoreNode s' y → IsCoreNode s' e → NamesSoft s → HasNear s y e → HasNear s' y e

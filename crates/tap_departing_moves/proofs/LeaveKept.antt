@@ -3,14 +3,14 @@ use Rattle.std.proofs.Common.{◌≡◌, ◌≢◌, inl, inr, ℕ, ◌+◌, ◌<
 use Rattle.tap_name.specs.Names.{Among}
 use Rattle.tap_name.specs.Prefix.{lcp}
 use Rattle.tap_link.specs.declared.kind.Kind.{Kind}
-use Rattle.tap_link.specs.declared.kind.Kind.TheVariants.{Pin, Settled, Leaving as Marked}
+use Rattle.tap_link.specs.declared.kind.Kind.TheVariants.{Pin, Settled, Leaving as LeavingKind}
 use Rattle.tap_table.specs.declared.tie.Tie.{Tie}
 use Rattle.tap_pointer.specs.declared.lay.Lay as lay
 use Rattle.tap_wire.specs.declared.frame.Body.{Body}
 use Rattle.tap_wire.specs.declared.frame.Body.TheVariants.{Forget, Gone, Lay, Leave, Left, Link, Release}
 use Rattle.tap_wire.specs.declared.frame.Frame.{Frame}
 use Rattle.tap_rule.specs.Node.{NodeState, link_to, name_of}
-use Rattle.tap_rule.specs.Node.Status.{Ceased as HasCeased, Core, Gone as HasGone, Leaving}
+use Rattle.tap_rule.specs.Node.Status.{Ceased as CeasedStatus, Core, Gone as GoneStatus, Leaving}
 use Rattle.tap_rule.specs.Reaction.{Message, message}
 use Rattle.tap_rule.specs.Sending.{by_receiver, lay_frame, link_frame}
 use Rattle.tap_rule.specs.Sent.{AreSent, AreSentInOrder, IsAmong}
@@ -178,12 +178,12 @@ module _ (s s' : System) (number : ℕ) (n x : List ℕ) (replacement : Option (
   now_at : s'.node x ≡ Some step.after
   now_at = step.at.is
 
-  marked_now : HasLink s' x n Marked
+  marked_now : HasLink s' x n LeavingKind
   marked_now = record { state = step.after; is = now_at; link = takes.heeds.marked }
 
-  not_marked : (a : List ℕ) → a ≡ x → HasLink s a n Marked → ⊥
+  not_marked : (a : List ℕ) → a ≡ x → HasLink s a n LeavingKind → ⊥
   not_marked a here marked =
-      let wrong = one_kind s x n Marked Settled (subst (λ y. HasLink s y n Marked) here marked) settled in cc
+      let wrong = one_kind s x n LeavingKind Settled (subst (λ y. HasLink s y n LeavingKind) here marked) settled in cc
 
   link_on : (y t : List ℕ) (kind : Kind) → HasLink s y t kind → ((y ≡ x) × (t ≡ n)) ⊎ HasLink s' y t kind
   link_on y t kind link =
@@ -202,14 +202,14 @@ module _ (s s' : System) (number : ℕ) (n x : List ℕ) (replacement : Option (
 
   -- a link that is new is the marked one to n, or a settled one to the replacement
   abbrev IsNew : List ℕ → List ℕ → Kind → Type 0
-  IsNew y t kind = (y ≡ x) × (((t ≡ n) × (kind ≡ Marked)) ⊎ ((replacement ≡ Some t) × (kind ≡ Settled)))
+  IsNew y t kind = (y ≡ x) × (((t ≡ n) × (kind ≡ LeavingKind)) ⊎ ((replacement ≡ Some t) × (kind ≡ Settled)))
 
   new_here : (y t : List ℕ) (kind : Kind) → y ≡ x → s.node y ≡ Some step.before → link_to step.after t ≡ Some kind
       → HasLink s y t kind ⊎ IsNew y t kind
   new_here y t kind here at now =
       elim (same_name t n) [
         | inl gone ↦
-            let same : Some Marked ≡ Some kind = sym takes.heeds.marked ∙ ap (link_to step.after) (sym gone) ∙ now in
+            let same : Some LeavingKind ≡ Some kind = sym takes.heeds.marked ∙ ap (link_to step.after) (sym gone) ∙ now in
             inr (here, inl (gone, cc))
         | inr other ↦ elim (takes.heeds.new t kind other now) [
           | inl had ↦ inl (record { state = step.before; is = at; link = had })
@@ -228,7 +228,7 @@ module _ (s s' : System) (number : ℕ) (n x : List ℕ) (replacement : Option (
 
   still_replaced : (a : List ℕ) → HasReplaced s a n → HasReplaced s' a n
   still_replaced a replaced =
-      replaced_on s s' a n (others a n) (stays_there a Marked n replaced replaced.marked) (λ to link. stays_there a Settled to replaced link)
+      replaced_on s s' a n (others a n) (stays_there a LeavingKind n replaced replaced.marked) (λ to link. stays_there a Settled to replaced link)
       replaced
     where
       -- a node whose link to n is marked isn't x
@@ -277,7 +277,7 @@ module _ (s s' : System) (number : ℕ) (n x : List ℕ) (replacement : Option (
   not_pin : (y t : List ℕ) → IsNew y t Pin → ⊥
   not_pin y t new = elim new.1 [ inl marked ↦ (let wrong = marked.1 in cc) | inr settled ↦ (let wrong = settled.1 in cc) ]
 
-  new_marked : (y t : List ℕ) → IsNew y t Marked → t ≡ leaver.name
+  new_marked : (y t : List ℕ) → IsNew y t LeavingKind → t ≡ leaver.name
   new_marked y t new = elim new.1 [ inl marked ↦ marked.0 ∙ is_leaver | inr settled ↦ (let wrong = settled.1 in cc) ]
 
   -- the replacement isn't the leaver
@@ -298,7 +298,7 @@ module _ (s s' : System) (number : ℕ) (n x : List ℕ) (replacement : Option (
   still_departing = record {
     joining = λ y joining. before.joining y (sym (same y) ∙ joining);
     pins = λ y t pin. elim (link_was y t Pin pin) [ inl old ↦ before.pins y t old | inr new ↦ not_pin y t new ];
-    marked = λ y t marked. elim (link_was y t Marked marked) [ inl old ↦ before.marked y t old | inr new ↦ new_marked y t new ];
+    marked = λ y t marked. elim (link_was y t LeavingKind marked) [ inl old ↦ before.marked y t old | inr new ↦ new_marked y t new ];
     leaving = λ y leaving. before.leaving y (sym (same y) ∙ leaving);
     frames = λ y t body now. elim (was_or_sent y t body now) [
       | inl old ↦ before.frames y t body old
@@ -308,7 +308,7 @@ module _ (s s' : System) (number : ℕ) (n x : List ℕ) (replacement : Option (
     goes = leaver_goes_on;
     gone = λ gone y kind link.
         let leaves = same leaver.name ∙ ap (status_of s) (sym is_leaver) ∙ n_leaves in
-        let wrong = one_status s' leaver.name HasGone Leaving gone leaves in cc;
+        let wrong = one_status s' leaver.name GoneStatus Leaving gone leaves in cc;
     leaves = λ y a r now.
         let so = before.leaves y a r (way_was y a (Leave r) (λ never. never) now) in
         (so.0, link_waits y a r now so.1, fits_on s s' a y r (others a y) so.2);
@@ -423,14 +423,14 @@ module _ (s s' : System) (number : ℕ) (n x : List ℕ) (replacement : Option (
   answered_on a (inl replaced) =
       inl (subst (HasReplaced s' a) is_leaver (still_replaced a (subst (HasReplaced s a) (sym is_leaver) replaced)))
   answered_on a (inr unlinked) =
-      let wrong = one_status s leaver.name HasGone Leaving unlinked.1 (ap (status_of s) (sym is_leaver) ∙ n_leaves) in cc
+      let wrong = one_status s leaver.name GoneStatus Leaving unlinked.1 (ap (status_of s) (sym is_leaver) ∙ n_leaves) in cc
 
   answered : HaveAnswered s' leaver
   answered a holds none =
       answered_on a (notices.answered leaver a departs holds (λ awaits. none (on leaver.name a awaits)))
 
   -- the replacement is core, and doesn't leave
-  given_hears : (t : List ℕ) → replacement ≡ Some t → (status_of s' t ≡ Some Leaving → ⊥) × (status_of s' t ≡ Some HasCeased → ⊥)
+  given_hears : (t : List ℕ) → replacement ≡ Some t → (status_of s' t ≡ Some Leaving → ⊥) × (status_of s' t ≡ Some CeasedStatus → ⊥)
   given_hears t given =
       let core = soft.leaves n x t (subst (λ r. IsUnderWay s n x (Leave r)) given way) in
       let other : status_of s t ≡ Some Leaving → ⊥ = λ leaving. given_apart t given (before.leaving t leaving) in (
@@ -438,7 +438,7 @@ module _ (s s' : System) (number : ℕ) (n x : List ℕ) (replacement : Option (
         λ ceased. elim core.core [
           | inl at ↦
               let now = same t ∙ status_seen s t core.state Core core.is at in
-              let wrong = one_status s' t HasCeased Core ceased now in cc
+              let wrong = one_status s' t CeasedStatus Core ceased now in cc
           | inr at ↦ other (status_seen s t core.state Leaving core.is at)
         ],
       )
@@ -483,8 +483,8 @@ module _ (s s' : System) (number : ℕ) (n x : List ℕ) (replacement : Option (
       elim (link_on y t kind link) [
         | inr stays ↦ record { kind = kind; link = stays }
         | inl both ↦
-            let at_x = subst (λ m. HasLink s' x m Marked) (sym both.1) marked_now in
-            record { kind = Marked; link = subst (λ z. HasLink s' z t Marked) (sym both.0) at_x }
+            let at_x = subst (λ m. HasLink s' x m LeavingKind) (sym both.1) marked_now in
+            record { kind = LeavingKind; link = subst (λ z. HasLink s' z t LeavingKind) (sym both.0) at_x }
       ]
 
   leave_soft : NamesSoft s'
@@ -513,7 +513,7 @@ module _ (s s' : System) (number : ℕ) (n x : List ℕ) (replacement : Option (
   }
     where
       runs : (y t : List ℕ) (kind : Kind) → HasLink s' y t kind
-          → (status_of s' y ≡ Some HasGone → ⊥) × (status_of s' y ≡ Some HasCeased → ⊥)
+          → (status_of s' y ≡ Some GoneStatus → ⊥) × (status_of s' y ≡ Some CeasedStatus → ⊥)
       runs y t kind link =
           elim (link_was y t kind link) [
             | inl old ↦

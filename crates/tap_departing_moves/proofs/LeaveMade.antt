@@ -5,7 +5,7 @@ use Rattle.tap_name.specs.Prefix.{lcp}
 use Rattle.tap_name.proofs.Near.{same_slot_where_near}
 use Rattle.tap_name.proofs.Prefixes.{lcp-sym}
 use Rattle.tap_link.specs.declared.kind.Kind.{Kind}
-use Rattle.tap_link.specs.declared.kind.Kind.TheVariants.{Settled, Leaving as Marked}
+use Rattle.tap_link.specs.declared.kind.Kind.TheVariants.{Settled, Leaving as LeavingKind}
 use Rattle.tap_table.specs.declared.tie.Tie.{Tie}
 use Rattle.tap_table.specs.Table.{kind_in}
 use Rattle.tap_table.specs.Ties.{AreTies, TiesValue}
@@ -29,7 +29,7 @@ pub record IsLeaveWord (node after : NodeState) (replacement : Option (List ℕ)
 -- At a node that had a settled link to n: that link is marked, and the others stay; a new one is a settled link to the replacement, which
 -- alone is told of it; and if a replacement was given, a settled link is in the slot of n.
 pub record HeedsLeave (node after : NodeState) (n : List ℕ) (replacement : Option (List ℕ)) (words : List Tie) : Type 0 where
-  pub marked : link_to after n ≡ Some Marked
+  pub marked : link_to after n ≡ Some LeavingKind
   pub stay : (t : List ℕ) (kind : Kind) → (t ≡ n → ⊥) → link_to node t ≡ Some kind → link_to after t ≡ Some kind
   pub new : (t : List ℕ) (kind : Kind) → (t ≡ n → ⊥) → link_to after t ≡ Some kind
       → (link_to node t ≡ Some kind) ⊎ ((replacement ≡ Some t) × (kind ≡ Settled))

@@ -2,12 +2,12 @@
 use Rattle.std.proofs.Common.{◌≡◌, ◌≢◌, ◌↔◌, inl, inr, ℕ, true, List, [], ◌⊎◌, Option, None, Some, refl, sym, ap, subst, ◌∙◌}
 use Rattle.tap_name.specs.Names.{Among}
 use Rattle.tap_link.specs.declared.kind.Kind.{Kind}
-use Rattle.tap_link.specs.declared.kind.Kind.TheVariants.{Pin, Settled, Leaving as Marked}
+use Rattle.tap_link.specs.declared.kind.Kind.TheVariants.{Pin, Settled, Leaving as LeavingKind}
 use Rattle.tap_wire.specs.declared.frame.Body.{Body}
 use Rattle.tap_wire.specs.declared.frame.Body.TheVariants.{Forget, Gone, Leave, Left, Link, Release}
 use Rattle.tap_wire.specs.declared.frame.Frame.{Frame}
 use Rattle.tap_rule.specs.Node.{NodeState}
-use Rattle.tap_rule.specs.Node.Status.{Gone as HasGone, Leaving}
+use Rattle.tap_rule.specs.Node.Status.{Gone as GoneStatus, Leaving}
 use Rattle.tap_rule.specs.Sent.{AreSent}
 use Rattle.tap_safety.specs.Remembered.{Leaver}
 use Rattle.tap_safety.specs.System.{System, AmongFrames, HasLink, IsCoreNode, IsUnderWay}
@@ -97,7 +97,7 @@ module _ (s s' : System) (number : ℕ) (a n : List ℕ) (takes : TakesLeft s s'
 
   still_replaced : (b m : List ℕ) → HasReplaced s b m → HasReplaced s' b m
   still_replaced b m was =
-      replaced_on s s' b m (others b m) (link_on b m Marked was.marked) (λ to link. link_on b to Settled link) was
+      replaced_on s s' b m (others b m) (link_on b m LeavingKind was.marked) (λ to link. link_on b to Settled link) was
 
   -- ---- what is under way
 
@@ -215,7 +215,7 @@ module _ (s s' : System) (number : ℕ) (a n : List ℕ) (takes : TakesLeft s s'
   still_departing = record {
     joining = λ y joining. before.joining y (sym (same y) ∙ joining);
     pins = λ y t pin. before.pins y t (link_was y t Pin pin);
-    marked = λ y t marked. before.marked y t (link_was y t Marked marked);
+    marked = λ y t marked. before.marked y t (link_was y t LeavingKind marked);
     leaving = λ y leaving. before.leaving y (sym (same y) ∙ leaving);
     frames = λ y t body now. elim (none_aside y t body now) [
       | inl old ↦ before.frames y t body old
@@ -223,7 +223,7 @@ module _ (s s' : System) (number : ℕ) (a n : List ℕ) (takes : TakesLeft s s'
     ];
     ends = inl leaves_on;
     goes = leaver_goes_on;
-    gone = λ gone y kind link. let wrong = one_status s' leaver.name HasGone Leaving gone leaves_on in cc;
+    gone = λ gone y kind link. let wrong = one_status s' leaver.name GoneStatus Leaving gone leaves_on in cc;
     leaves = λ y b r now.
         let so = before.leaves y b r (way_was y b (Leave r) (λ never. never) now) in
         (so.0, link_on b y Settled so.1, fits_on s s' b y r (others b y) so.2);

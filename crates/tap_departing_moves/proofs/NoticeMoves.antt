@@ -6,7 +6,7 @@ use Rattle.tap_name.specs.Names.{Among}
 use Rattle.tap_name.specs.Prefix.{lcp}
 use Rattle.tap_name.specs.Settings.{SettingsValue}
 use Rattle.tap_link.specs.declared.kind.Kind.{Kind}
-use Rattle.tap_link.specs.declared.kind.Kind.TheVariants.{Pin, Settled, Leaving as Marked}
+use Rattle.tap_link.specs.declared.kind.Kind.TheVariants.{Pin, Settled, Leaving as LeavingKind}
 use Rattle.tap_session.specs.Session.{SessionsValue}
 use Rattle.tap_table.specs.ByName.{targets_by_name}
 use Rattle.tap_table.specs.Ties.{TiesValue, holders_on}
@@ -15,7 +15,7 @@ use Rattle.tap_depart.specs.Leaving.{LeavingValue, names_but}
 use Rattle.tap_depart.proofs.Departures.{still_awaited}
 use Rattle.tap_join.specs.Hello.{words_of}
 use Rattle.tap_wire.specs.declared.frame.Body.{Body}
-use Rattle.tap_wire.specs.declared.frame.Body.TheVariants.{Forget, Gone as GoneBody, Leave, Left, Link, Release}
+use Rattle.tap_wire.specs.declared.frame.Body.TheVariants.{Forget, Gone, Leave, Left, Link, Release}
 use Rattle.tap_wire.specs.declared.frame.Frame.{Frame}
 use Rattle.tap_rule.specs.Completed.{lays_after}
 use Rattle.tap_rule.specs.EndSteps.{EndStep, LeftStep, words_at_end}
@@ -24,7 +24,7 @@ use Rattle.tap_rule.specs.Laws.{frame_to}
 use Rattle.tap_rule.specs.Leaving.{leave_word}
 use Rattle.tap_rule.specs.Event.{Acted}
 use Rattle.tap_rule.specs.Node.{NodeState, Status, link_to, name_of, settings_of}
-use Rattle.tap_rule.specs.Node.Status.{Ceased, Core, Gone, Joining, Leaving}
+use Rattle.tap_rule.specs.Node.Status.{Ceased, Core, Gone as GoneStatus, Joining, Leaving}
 use Rattle.tap_rule.specs.Reaction.{message, to_each}
 use Rattle.tap_rule.specs.Sent.{AreSent}
 use Rattle.tap_rule.proofs.CarriedOut.{unruled_law}
@@ -99,19 +99,19 @@ module _ (p : SettingsValue) (s : System) (number : ℕ) (node : NodeState) (fro
       by Core at = at
       by Joining at = absurd ((during p s number node from body is notice).joining own (status_seen s own node Joining is.at at))
       by Leaving at = absurd (other ((during p s number node from body is notice).leaving own (status_seen s own node Leaving is.at at)))
-      by Gone at = absurd ((is.invariant.ended.none own t kind has).0 (status_seen s own node Gone is.at at))
+      by GoneStatus at = absurd ((is.invariant.ended.none own t kind has).0 (status_seen s own node GoneStatus is.at at))
       by Ceased at = absurd ((is.invariant.ended.none own t kind has).1 (status_seen s own node Ceased is.at at))
 
 -- ---- Gone
 
 -- only a core node has a rule for a Gone
 pub gone_unruled : (status : Status) (node : NodeState) (from : List ℕ) → (status ≡ Core → ⊥)
-    → rule_of_frame status node from GoneBody ≡ None
+    → rule_of_frame status node from Gone ≡ None
 unfolding frame_at_joining frame_at_core frame_at_leaving frame_at_ceased
 gone_unruled Joining node from other = refl
 gone_unruled Core node from other = absurd (other refl)
 gone_unruled Leaving node from other = refl
-gone_unruled Gone node from other = refl
+gone_unruled GoneStatus node from other = refl
 gone_unruled Ceased node from other = refl
 
 -- a node is core, or isn't
@@ -119,43 +119,43 @@ pub is_core_or_not : (status : Status) → (status ≡ Core) ⊎ (status ≡ Cor
 is_core_or_not Core = inl refl
 is_core_or_not Joining = inr (λ wrong. cc)
 is_core_or_not Leaving = inr (λ wrong. cc)
-is_core_or_not Gone = inr (λ wrong. cc)
+is_core_or_not GoneStatus = inr (λ wrong. cc)
 is_core_or_not Ceased = inr (λ wrong. cc)
 
 module _ (p : SettingsValue) (s : System) (number : ℕ) (node : NodeState) (from : List ℕ)
-    (is : IsDelivery p s number node from GoneBody) where
+    (is : IsDelivery p s number node from Gone) where
   abbrev pub gone_acted : Acted
-  gone_acted = taken_at node from GoneBody
+  gone_acted = taken_at node from Gone
 
-  pub from_gone : status_of s from ≡ Some Gone
-  from_gone = (is.invariant.notices.gones from (name_of node) (way p s number node from GoneBody is)).gone
+  pub from_gone : status_of s from ≡ Some GoneStatus
+  from_gone = (is.invariant.notices.gones from (name_of node) (way p s number node from Gone is)).gone
 
   -- whoever has a link to a node that has left is core
   pub gone_linked : (kind : Kind) → link_to node from ≡ Some kind → node.status ≡ Core
   gone_linked Pin link =
-      absurd ((during p s number node from GoneBody is tt).pins (name_of node) from (record { state = node; is = is.at; link = link }))
+      absurd ((during p s number node from Gone is tt).pins (name_of node) from (record { state = node; is = is.at; link = link }))
   gone_linked Settled link =
       let core = is.invariant.soft.settled (name_of node) from (record { state = node; is = is.at; link = link }) in
       elim core.core [
-        | inl at ↦ (let wrong = one_status s from Core Gone (status_seen s from core.state Core core.is at) from_gone in cc)
-        | inr at ↦ (let wrong = one_status s from Leaving Gone (status_seen s from core.state Leaving core.is at) from_gone in cc)
+        | inl at ↦ (let wrong = one_status s from Core GoneStatus (status_seen s from core.state Core core.is at) from_gone in cc)
+        | inr at ↦ (let wrong = one_status s from Leaving GoneStatus (status_seen s from core.state Leaving core.is at) from_gone in cc)
       ]
-  gone_linked Marked link =
-      let to_leaver = (during p s number node from GoneBody is tt).marked (name_of node) from
+  gone_linked LeavingKind link =
+      let to_leaver = (during p s number node from Gone is tt).marked (name_of node) from
       (record { state = node; is = is.at; link = link }) in
-      linked_core p s number node from GoneBody is tt from Marked link
-      (λ here. sender_apart p s number node from GoneBody is tt (to_leaver ∙ sym here))
+      linked_core p s number node from Gone is tt from LeavingKind link
+      (λ here. sender_apart p s number node from Gone is tt (to_leaver ∙ sym here))
 
   gone_takes : (gone_acted.state.status ≡ node.status) → (gone_acted.state.covers ≡ node.covers)
       → gone_acted.state.sessions.opened ≡ node.sessions.opened → gone_acted.state.awaited ≡ node.awaited
       → link_to gone_acted.state from ≡ None → ((t : List ℕ) → (t ≡ from) ⊎ (link_to gone_acted.state t ≡ link_to node t))
       → AreSent (name_of node) [] [] gone_acted.sent → TakesGone s (after_delivery p s number) number from (name_of node)
   gone_takes status covers opened awaited unlinked others sent =
-      let here = due p s number node from GoneBody is in
+      let here = due p s number node from Gone is in
       record {
         step =
-            takes_frame s (after_delivery p s number) number node from GoneBody (by_rule p s number node from GoneBody here)
-            (starts_none_as p s number node from GoneBody here opened) status covers [] [] sent;
+            takes_frame s (after_delivery p s number) number node from Gone (by_rule p s number node from Gone here)
+            (starts_none_as p s number node from Gone here opened) status covers [] [] sent;
         awaited = awaited;
         unlinked = unlinked;
         others = others;
@@ -164,30 +164,30 @@ module _ (p : SettingsValue) (s : System) (number : ℕ) (node : NodeState) (fro
 
   gone_at_core : node.status ≡ Core → TakesGone s (after_delivery p s number) number from (name_of node)
   gone_at_core at =
-      let ties = (due p s number node from GoneBody is).is_node.ties in
-      let step = gone_law node from ties (sender_name p s number node from GoneBody is) at is.known in
+      let ties = (due p s number node from Gone is).is_node.ties in
+      let step = gone_law node from ties (sender_name p s number node from Gone is) at is.known in
       gone_takes step.joins.status step.joins.covers (ap (λ (o : SessionsValue). o.opened) step.sessions) step.rest.awaited
       (by_kind (link_to node from) refl) step.others step.sent
     where
       by_kind : (found : Option Kind) → link_to node from ≡ found → link_to gone_acted.state from ≡ None
       by_kind None none =
-          let ties = (due p s number node from GoneBody is).is_node.ties in
-          let step = gone_law node from ties (sender_name p s number node from GoneBody is) at is.known in
+          let ties = (due p s number node from Gone is).is_node.ties in
+          let step = gone_law node from ties (sender_name p s number node from Gone is) at is.known in
           step.kept (rw none refl) ∙ none
       by_kind (Some Pin) link =
-          absurd ((during p s number node from GoneBody is tt).pins (name_of node) from (record { state = node; is = is.at; link = link }))
+          absurd ((during p s number node from Gone is tt).pins (name_of node) from (record { state = node; is = is.at; link = link }))
       by_kind (Some Settled) link =
-          let ties = (due p s number node from GoneBody is).is_node.ties in
-          let step = gone_law node from ties (sender_name p s number node from GoneBody is) at is.known in
+          let ties = (due p s number node from Gone is).is_node.ties in
+          let step = gone_law node from ties (sender_name p s number node from Gone is) at is.known in
           step.removed (rw link refl)
-      by_kind (Some Marked) link =
-          let ties = (due p s number node from GoneBody is).is_node.ties in
-          let step = gone_law node from ties (sender_name p s number node from GoneBody is) at is.known in
+      by_kind (Some LeavingKind) link =
+          let ties = (due p s number node from Gone is).is_node.ties in
+          let step = gone_law node from ties (sender_name p s number node from Gone is) at is.known in
           step.removed (rw link refl)
 
   gone_elsewhere : (node.status ≡ Core → ⊥) → TakesGone s (after_delivery p s number) number from (name_of node)
   gone_elsewhere other =
-      let ignored = unruled_law node (frame_to node from GoneBody) (gone_unruled node.status node from other) in
+      let ignored = unruled_law node (frame_to node from Gone) (gone_unruled node.status node from other) in
       gone_takes (ap (λ (n : NodeState). n.status) ignored.state) (ap (λ (n : NodeState). n.covers) ignored.state)
       (ap (λ (n : NodeState). n.sessions.opened) ignored.state) (ap (λ (n : NodeState). n.awaited) ignored.state)
       (ap (λ (n : NodeState). link_to n from) ignored.state ∙ no_kind (link_to node from) (λ kind has. other (gone_linked kind has)))
@@ -199,7 +199,7 @@ module _ (p : SettingsValue) (s : System) (number : ℕ) (node : NodeState) (fro
 
   gone_order : DepartsInOrder (after_delivery p s number)
   gone_order =
-      let who = who_departs p s number node from GoneBody is tt in
+      let who = who_departs p s number node from Gone is tt in
       gone_in_order s (after_delivery p s number) number from (name_of node) gone_taken (until_rest_law p s number) who.0 who.1
       is.invariant.departure is.invariant.notices is.invariant.soft
 
@@ -236,7 +236,7 @@ module _ (p : SettingsValue) (s : System) (number : ℕ) (node : NodeState) (fro
   leave_kinds r Pin given link =
       absurd ((during p s number node from leave_body is tt).pins (name_of node) r (record { state = node; is = is.at; link = link }))
   leave_kinds r Settled given link = refl
-  leave_kinds r Marked given link =
+  leave_kinds r LeavingKind given link =
       let to_leaver = (during p s number node from leave_body is tt).marked (name_of node) r
       (record { state = node; is = is.at; link = link }) in
       absurd ((leave_fits r given).0 (to_leaver ∙ sym leave_said.0))
@@ -341,13 +341,13 @@ module _ (p : SettingsValue) (s : System) (number : ℕ) (node : NodeState) (fro
 
   -- or it was the last one
   module _ (last : length (names_but node.awaited from) ≡ 0) where
-    pub left_end : EndStep node Gone GoneBody left_acted
+    pub left_end : EndStep node GoneStatus Gone left_acted
     left_end = left_step.finishes last
 
     -- what it sends at its end
-    pub end_sent : AreSent left_leaver.name (words_at_end node) (to_each GoneBody (holders_on node.ties)) left_acted.sent
+    pub end_sent : AreSent left_leaver.name (words_at_end node) (to_each Gone (holders_on node.ties)) left_acted.sent
     end_sent =
-        subst (λ x. AreSent x (words_at_end node) (to_each GoneBody (holders_on node.ties)) left_acted.sent) left_said.0 left_end.sent
+        subst (λ x. AreSent x (words_at_end node) (to_each Gone (holders_on node.ties)) left_acted.sent) left_said.0 left_end.sent
 
     -- nobody else is awaited
     alone : (y b : List ℕ) → y ≡ name_of node → IsAwaiting s y b → b ≡ from
@@ -368,10 +368,10 @@ module _ (p : SettingsValue) (s : System) (number : ℕ) (node : NodeState) (fro
         none_left (d ∷ names) none c among = cc
 
     -- the leaver isn't gone before
-    not_gone : (y : List ℕ) → y ≡ left_leaver.name → status_of s y ≡ Some Gone → ⊥
+    not_gone : (y : List ℕ) → y ≡ left_leaver.name → status_of s y ≡ Some GoneStatus → ⊥
     not_gone y here gone =
         let own = status_seen s (name_of node) node Leaving is.at left_leaving in
-        let wrong = one_status s y Gone Leaving gone (ap (status_of s) (here ∙ sym left_said.0) ∙ own) in cc
+        let wrong = one_status s y GoneStatus Leaving gone (ap (status_of s) (here ∙ sym left_said.0) ∙ own) in cc
 
     -- so each holder has its slot filled
     answered_all : (a : List ℕ) → Among a left_leaver.holders → HasReplaced s a left_leaver.name
@@ -412,9 +412,9 @@ module _ (p : SettingsValue) (s : System) (number : ℕ) (node : NodeState) (fro
               registered_holds s own node ties is.at y (record { word = said.last; on = said.on_is; is = stood })
         ]
 
-    told_all : (y : List ℕ) (kind : Kind) → HasLink s y left_leaver.name kind → IsUnderWay left_after left_leaver.name y GoneBody
+    told_all : (y : List ℕ) (kind : Kind) → HasLink s y left_leaver.name kind → IsUnderWay left_after left_leaver.name y Gone
     told_all y kind link =
-        sent_under_way s left_after number (frame_to node from Left) left_acted.sent left_made.taken left_leaver.name y GoneBody
+        sent_under_way s left_after number (frame_to node from Left) left_acted.sent left_made.taken left_leaver.name y Gone
         (gone_sent left_leaver node.stamp (targets_by_name node.ties.table) (holders_on node.ties) left_acted.sent end_sent y
         (holder_on y kind link))
 
@@ -449,7 +449,7 @@ module _ (p : SettingsValue) (s : System) (number : ℕ) (node : NodeState) (fro
         (inr (ap (λ z. record { from = z; to = t; body = Left }) to
         ∙ ap (λ z. record { from = from; to = z; body = Left }) here)) old now
     left_over y t Forget m old now = left_during.forgets y t (record { number = m; among = old })
-    left_over y t GoneBody m old now =
+    left_over y t Gone m old now =
         let sender = is.invariant.notices.gones y t (record { number = m; among = old }) in
         let departs = (who_departs p s number node from Left is tt).1 in
         let same : Some left_leaver ≡ Some sender.leaver = sym departs ∙ sender.departs in
@@ -527,5 +527,5 @@ module _ (p : SettingsValue) (s : System) (number : ℕ) (node : NodeState) (fro
 pub notice_in_order : NoticeInOrder
 notice_in_order p s number node from (Leave replacement) is notice = leave_order p s number node from replacement is
 notice_in_order p s number node from Left is notice = left_order p s number node from is
-notice_in_order p s number node from GoneBody is notice = gone_order p s number node from is
+notice_in_order p s number node from Gone is notice = gone_order p s number node from is
 notice_in_order p s number node from _ is notice = absurd notice

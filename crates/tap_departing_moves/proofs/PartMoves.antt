@@ -3,7 +3,7 @@ use Rattle.std.proofs.Common.{◌≡◌, inl, inr, ℕ, List, [], length, Option
 use Rattle.std.proofs.lemmas.Bool.{cases_eq}
 use Rattle.tap_name.specs.Prefix.{lcp}
 use Rattle.tap_name.specs.Settings.{SettingsValue}
-use Rattle.tap_link.specs.declared.kind.Kind.TheVariants.{Leaving as Marked}
+use Rattle.tap_link.specs.declared.kind.Kind.TheVariants.{Leaving as LeavingKind}
 use Rattle.tap_session.specs.Session.{Session, SessionsValue}
 use Rattle.tap_session.specs.Sessions.{session_of}
 use Rattle.tap_multicast.specs.Covers.{CoversValue, level_kept}
@@ -12,13 +12,13 @@ use Rattle.tap_depart.specs.Leaving.{names_but}
 use Rattle.tap_depart.specs.Replacement.{replacement_for}
 use Rattle.tap_depart.proofs.Replacements.{least_above_is}
 use Rattle.tap_wire.specs.declared.frame.Body.{Body}
-use Rattle.tap_wire.specs.declared.frame.Body.TheVariants.{Gone as GoneBody, Leave, Left}
+use Rattle.tap_wire.specs.declared.frame.Body.TheVariants.{Gone, Leave, Left}
 use Rattle.tap_rule.specs.Act.{act}
 use Rattle.tap_rule.specs.Event.Event.{Starts}
-use Rattle.tap_rule.specs.Event.Start.{Leave as LeaveStart}
+use Rattle.tap_rule.specs.Event.Start.{Leave as StartLeave}
 use Rattle.tap_rule.specs.Laws.{frame_to}
 use Rattle.tap_rule.specs.Node.{NodeState, Status, join_session_at, name_of}
-use Rattle.tap_rule.specs.Node.Status.{Ceased, Core, Gone, Joining, Leaving}
+use Rattle.tap_rule.specs.Node.Status.{Ceased, Core, Gone as GoneStatus, Joining, Leaving}
 use Rattle.tap_rule.proofs.CarriedOut.{unruled_law}
 use Rattle.tap_rule.proofs.EndSteps.{gone_law, leave_law}
 use Rattle.tap_safety.specs.Departing.{WhileDeparting}
@@ -128,22 +128,22 @@ module _ (p : SettingsValue) (s : System) (number : ℕ) (node : NodeState) (fro
   after = after_delivery p s number
 
   -- a Gone
-  module _ (is : IsDelivery p s number node from GoneBody) where
-    gone_held : IsHeld node (taken_at node from GoneBody).state
+  module _ (is : IsDelivery p s number node from Gone) where
+    gone_held : IsHeld node (taken_at node from Gone).state
     gone_held = elim (is_core_or_not node.status) [
       | inl at ↦
-          let ties = (due p s number node from GoneBody is).is_node.ties in
-          let step = gone_law node from ties (sender_name p s number node from GoneBody is) at is.known in
-          held_so node (taken_at node from GoneBody).state step.sessions step.joins.covers
+          let ties = (due p s number node from Gone is).is_node.ties in
+          let step = gone_law node from ties (sender_name p s number node from Gone is) at is.known in
+          held_so node (taken_at node from Gone).state step.sessions step.joins.covers
       | inr other ↦
-          let ignored = unruled_law node (frame_to node from GoneBody) (gone_unruled node.status node from other) in
-          held_so node (taken_at node from GoneBody).state (ap (λ (n : NodeState). n.sessions) ignored.state)
+          let ignored = unruled_law node (frame_to node from Gone) (gone_unruled node.status node from other) in
+          held_so node (taken_at node from Gone).state (ap (λ (n : NodeState). n.sessions) ignored.state)
           (ap (λ (n : NodeState). n.covers) ignored.state)
     ]
 
     gone_during : (leaver : Leaver) × WhileDeparting after leaver
     gone_during =
-        let who = who_departs p s number node from GoneBody is tt in
+        let who = who_departs p s number node from Gone is tt in
         let inv = is.invariant in (
           who.0,
           gone_departing s after number from (name_of node) (gone_taken p s number node from is) (until_rest_law p s number) who.0
@@ -152,7 +152,7 @@ module _ (p : SettingsValue) (s : System) (number : ℕ) (node : NodeState) (fro
 
     gone_have : AreFilled p s → HaveTables p after
     gone_have filled =
-        let who = who_departs p s number node from GoneBody is tt in
+        let who = who_departs p s number node from Gone is tt in
         let inv = is.invariant in
         gone_tables s after number from (name_of node) (gone_taken p s number node from is) (until_rest_law p s number) who.0 who.1
         inv.departure inv.notices inv.soft p filled.hole_free inv.has_core inv.ended
@@ -213,17 +213,17 @@ module _ (p : SettingsValue) (s : System) (number : ℕ) (node : NodeState) (fro
         let link = (left_said p s number node from is).1.marked in
         by link link.state.status refl
       where
-        by : (link : HasLink s from (name_of node) Marked) → (status : Status) → link.state.status ≡ status → IsCoreNode s from
+        by : (link : HasLink s from (name_of node) LeavingKind) → (status : Status) → link.state.status ≡ status → IsCoreNode s from
         by link Core at = record { state = link.state; is = link.is; core = inl at }
         by link Joining at =
             absurd ((left_during p s number node from is).joining from (status_seen s from link.state Joining link.is at))
         by link Leaving at =
             let here = (left_during p s number node from is).leaving from (status_seen s from link.state Leaving link.is at) in
             absurd (sender_apart p s number node from Left is tt (here ∙ sym (left_said p s number node from is).0))
-        by link Gone at =
-            absurd ((is.invariant.ended.none from (name_of node) Marked link).0 (status_seen s from link.state Gone link.is at))
+        by link GoneStatus at =
+            absurd ((is.invariant.ended.none from (name_of node) LeavingKind link).0 (status_seen s from link.state GoneStatus link.is at))
         by link Ceased at =
-            absurd ((is.invariant.ended.none from (name_of node) Marked link).1 (status_seen s from link.state Ceased link.is at))
+            absurd ((is.invariant.ended.none from (name_of node) LeavingKind link).1 (status_seen s from link.state Ceased link.is at))
 
     left_have : AreFilled p s → HaveTables p after
     left_have filled =
@@ -244,7 +244,7 @@ notice_held : (p : SettingsValue) (s : System) (number : ℕ) (node : NodeState)
     → IsDelivery p s number node from body → IsNotice body → IsHeld node (taken_at node from body).state
 notice_held p s number node from (Leave replacement) is notice = leave_held p s number node from replacement is
 notice_held p s number node from Left is notice = left_held p s number node from is
-notice_held p s number node from GoneBody is notice = gone_held p s number node from is
+notice_held p s number node from Gone is notice = gone_held p s number node from is
 notice_held p s number node from _ is notice = absurd notice
 
 -- what is so while a node departs is so after a notice, also if it was the last frame under way
@@ -252,7 +252,7 @@ pub notice_during : (p : SettingsValue) (s : System) (number : ℕ) (node : Node
     → IsDelivery p s number node from body → IsNotice body → (leaver : Leaver) × WhileDeparting (after_delivery p s number) leaver
 notice_during p s number node from (Leave replacement) is notice = leave_during p s number node from replacement is
 notice_during p s number node from Left is notice = left_goes p s number node from is
-notice_during p s number node from GoneBody is notice = gone_during p s number node from is
+notice_during p s number node from Gone is notice = gone_during p s number node from is
 notice_during p s number node from _ is notice = absurd notice
 
 -- nobody joined before a notice
@@ -267,7 +267,7 @@ nobody_before p s number node from body is notice =
 pub notice_tables : NoticeTables
 notice_tables p s number node from (Leave replacement) is filled notice = leave_have p s number node from replacement is filled
 notice_tables p s number node from Left is filled notice = left_have p s number node from is filled
-notice_tables p s number node from GoneBody is filled notice = gone_have p s number node from is filled
+notice_tables p s number node from Gone is filled notice = gone_have p s number node from is filled
 notice_tables p s number node from _ is filled notice = absurd notice
 
 pub notice_sessions : NoticeSessions
@@ -295,10 +295,10 @@ module _ (p : SettingsValue) (s : System) (x : List ℕ) (inv : Invariant p s) (
   leaving = may.acts.state
 
   abbrev left : System
-  left = after_start p s x LeaveStart
+  left = after_start p s x StartLeave
 
   abbrev left_state : NodeState
-  left_state = (act leaving (Starts LeaveStart)).state
+  left_state = (act leaving (Starts StartLeave)).state
 
   starts_held : IsHeld leaving left_state
   starts_held = elim (cases_eq (length (holders_on leaving.ties)) 0) [
@@ -344,8 +344,8 @@ module _ (p : SettingsValue) (s : System) (x : List ℕ) (inv : Invariant p s) (
   starts_sessions =
       let step = leaver_step p s x inv nodes may in
       sessions_after p s left x leaving left_state inv.basis (changes p s x inv nodes may) starts_held nobody_then (leaver_of x leaving)
-      starts_during (numbers_sent s left (act leaving (Starts LeaveStart)).sent step.sent inv.basis.numbered)
-      (start_joins p s x LeaveStart inv.basis may).of_joiners
+      starts_during (numbers_sent s left (act leaving (Starts StartLeave)).sent step.sent inv.basis.numbered)
+      (start_joins p s x StartLeave inv.basis may).of_joiners
 
   starts_sought : AreSought p left
   starts_sought =
@@ -354,7 +354,7 @@ module _ (p : SettingsValue) (s : System) (x : List ℕ) (inv : Invariant p s) (
 
 -- and it is so after the start of a departure, also if the node ends at once
 pub leaving_during : (p : SettingsValue) (s : System) (x : List ℕ) (inv : Invariant p s) (nodes : AreNodes p s) (may : MayLeave s x)
-    → WhileDeparting (after_start p s x LeaveStart) (leaver_of x may.acts.state)
+    → WhileDeparting (after_start p s x StartLeave) (leaver_of x may.acts.state)
 leaving_during p s x inv nodes may = starts_during p s x inv nodes may
 
 pub leaving_tables : LeavingTables

@@ -9,18 +9,18 @@ use Rattle.tap_depart.specs.Leaving.{names_but, started_leaving}
 use Rattle.tap_depart.specs.Told.{offer_tells_if, taken_in}
 use Rattle.tap_join.specs.Hello.{words_of}
 use Rattle.tap_wire.specs.declared.frame.Body.{Body}
-use Rattle.tap_wire.specs.declared.frame.Body.TheVariants.{Gone as GoneBody, Leave, Left, Link}
+use Rattle.tap_wire.specs.declared.frame.Body.TheVariants.{Gone, Leave, Left, Link}
 use Rattle.tap_wire.specs.declared.frame.Frame.{Frame}
 use Rattle.tap_rule.specs.Act.{act}
 use Rattle.tap_rule.specs.EndSteps.{EndStep, lays_at_end, words_at_end}
 use Rattle.tap_rule.specs.Event.{Acted}
 use Rattle.tap_rule.specs.Event.Event.{Starts}
-use Rattle.tap_rule.specs.Event.Start.{Leave as LeaveStart}
+use Rattle.tap_rule.specs.Event.Start.{Leave as StartLeave}
 use Rattle.tap_rule.specs.FrameRules.{frame_at_core, rule_of_frame}
 use Rattle.tap_rule.specs.Laws.{frame_to}
 use Rattle.tap_rule.specs.Leaving.{leave_for, takes_leave}
 use Rattle.tap_rule.specs.Node.{NodeState, name_of}
-use Rattle.tap_rule.specs.Node.Status.{Gone}
+use Rattle.tap_rule.specs.Node.Status.{Gone as GoneStatus}
 use Rattle.tap_rule.specs.Reaction.{Message, message, to_each}
 use Rattle.tap_rule.specs.Sending.{lay_frame}
 use Rattle.tap_rule.specs.Sent.{AreSent, IsAmong}
@@ -69,28 +69,28 @@ pub no_message : (m : Message) → IsAmong m [] → (version : ℕ) (on : Bool) 
 no_message m among version on is = among
 
 -- a Gone is none
-pub farewell_no_link : (names : List (List ℕ)) (m : Message) → IsAmong m (to_each GoneBody names) → (version : ℕ) (on : Bool)
+pub farewell_no_link : (names : List (List ℕ)) (m : Message) → IsAmong m (to_each Gone names) → (version : ℕ) (on : Bool)
     → m.body ≡ Link version on → ⊥
 farewell_no_link names m among version on is =
-    let found = among-map_from (λ name. message name GoneBody) m names among in
-    let wrong : GoneBody ≡ Link version on = ap (λ (n : Message). n.body) (sym found.2) ∙ is in cc
+    let found = among-map_from (λ name. message name Gone) m names among in
+    let wrong : Gone ≡ Link version on = ap (λ (n : Message). n.body) (sym found.2) ∙ is in cc
 
 -- ---- a node that ends
 
 -- Of a node with a table that is gone then: its words have the numbers after its stamp's, in order.
-end_stamps : (node : NodeState) (acted : Acted) → EndStep node Gone GoneBody acted → has_table node.status
+end_stamps : (node : NodeState) (acted : Acted) → EndStep node GoneStatus Gone acted → has_table node.status
     → Stamps node acted.state (name_of node) acted.sent
 end_stamps node acted end table = record {
-  table = λ now. let never : has_table Gone = subst has_table end.status now in absurd never;
+  table = λ now. let never : has_table GoneStatus = subst has_table end.status now in absurd never;
   from = λ w t version on sends. ((said w t version on sends).0, table);
   new = λ w t version on sends.
       let word = said w t version on sends in
       let above = (new.each word.1.0 word.1.1).0 in
       let same = word.1.2 in
       omega (arith, above, same);
-  given = λ now w t version on sends. let never : has_table Gone = subst has_table end.status now in absurd never;
+  given = λ now w t version on sends. let never : has_table GoneStatus = subst has_table end.status now in absurd never;
   once =
-      in_order_once (name_of node) (words_at_end node) (to_each GoneBody (holders_on node.ties)) (lays_at_end Gone node) acted.sent
+      in_order_once (name_of node) (words_at_end node) (to_each Gone (holders_on node.ties)) (lays_at_end GoneStatus node) acted.sent
       end.in_order new.apart (farewell_no_link (holders_on node.ties));
 }
   where
@@ -156,21 +156,21 @@ module _ (p : SettingsValue) (s : System) (number : ℕ) (node : NodeState) (fro
         speaks = λ word among. table;
       }))
 
-  gone_stamped : IsDelivery p s number node from GoneBody → AreStamped (after_delivery p s number)
+  gone_stamped : IsDelivery p s number node from Gone → AreStamped (after_delivery p s number)
   gone_stamped is =
-      let acted = taken_at node from GoneBody in
+      let acted = taken_at node from Gone in
       elim (is_core_or_not node.status) [
         | inl at ↦
-            let ties = (due p s number node from GoneBody is).is_node.ties in
-            let step = gone_law node from ties (sender_name p s number node from GoneBody is) at is.known in
+            let ties = (due p s number node from Gone is).is_node.ties in
+            let step = gone_law node from ties (sender_name p s number node from Gone is) at is.known in
             let stamp = step.completed.stamp in
-            stamped_by p s number node from GoneBody is
+            stamped_by p s number node from Gone is
             (silent_stamps node acted (name_of node) step.joins.status (omega (arith, stamp))
             (no_links (name_of node) [] acted.sent step.sent no_message))
         | inr other ↦
-            let ignored = unruled_law node (frame_to node from GoneBody) (gone_unruled node.status node from other) in
+            let ignored = unruled_law node (frame_to node from Gone) (gone_unruled node.status node from other) in
             let stamp : acted.state.stamp ≡ node.stamp = ap (λ (n : NodeState). n.stamp) ignored.state in
-            stamped_by p s number node from GoneBody is
+            stamped_by p s number node from Gone is
             (silent_stamps node acted (name_of node) (ap (λ (n : NodeState). n.status) ignored.state) (omega (arith, stamp))
             (λ frame among version on same.
             let never : IsAmong frame [] = subst (λ sent. IsAmong frame sent) ignored.sent among in never))
@@ -195,7 +195,7 @@ module _ (p : SettingsValue) (s : System) (number : ℕ) (node : NodeState) (fro
 pub notice_stamped : NoticeStamped
 notice_stamped p s number node from (Leave replacement) is notice = leave_stamped p s number node from replacement is
 notice_stamped p s number node from Left is notice = left_stamped p s number node from is
-notice_stamped p s number node from GoneBody is notice = gone_stamped p s number node from is
+notice_stamped p s number node from Gone is notice = gone_stamped p s number node from is
 notice_stamped p s number node from _ is notice = absurd notice
 
 -- ---- the start of a departure
@@ -205,7 +205,7 @@ module _ (p : SettingsValue) (s : System) (x : List ℕ) (inv : Invariant p s) (
   node = may.acts.state
 
   abbrev acted : Acted
-  acted = act node (Starts LeaveStart)
+  acted = act node (Starts StartLeave)
 
   table : has_table node.status
   table = subst has_table (sym may.acts.core) tt
@@ -239,10 +239,10 @@ module _ (p : SettingsValue) (s : System) (x : List ℕ) (inv : Invariant p s) (
             once = none_once acted.sent none;
           }
 
-  starts_stamped : AreStamped (after_start p s x LeaveStart)
+  starts_stamped : AreStamped (after_start p s x StartLeave)
   starts_stamped =
       let step = leaver_step p s x inv nodes may in
-      stamps_start s (after_start p s x LeaveStart) x node acted.state acted.sent step.sent (changes p s x inv nodes may) step.done
+      stamps_start s (after_start p s x StartLeave) x node acted.state acted.sent step.sent (changes p s x inv nodes may) step.done
       starts_stamps inv.basis.versions inv.basis.stamped
 
 pub leaving_stamped : LeavingStamped

@@ -2,13 +2,13 @@
 use Rattle.std.proofs.Common.{◌≡◌, inl, inr, ℕ, true, List, [], ◌++◌, Option, None, Some, map, refl, sym, ap, subst, ◌∙◌}
 use Rattle.tap_name.specs.Names.{Among}
 use Rattle.tap_link.specs.declared.kind.Kind.{Kind}
-use Rattle.tap_link.specs.declared.kind.Kind.TheVariants.{Pin, Settled, Leaving as Marked}
+use Rattle.tap_link.specs.declared.kind.Kind.TheVariants.{Pin, Settled, Leaving as LeavingKind}
 use Rattle.tap_pointer.specs.declared.lay.Lay as lay
 use Rattle.tap_wire.specs.declared.frame.Body.{Body}
 use Rattle.tap_wire.specs.declared.frame.Body.TheVariants.{Forget, Gone, Lay, Leave, Left, Link, Release}
 use Rattle.tap_wire.specs.declared.frame.Frame.{Frame}
 use Rattle.tap_rule.specs.Node.{NodeState, Status, link_to}
-use Rattle.tap_rule.specs.Node.Status.{Ceased as HasCeased, Core, Gone as HasGone, Joining, Leaving}
+use Rattle.tap_rule.specs.Node.Status.{Ceased as CeasedStatus, Core, Gone as GoneStatus, Joining, Leaving}
 use Rattle.tap_rule.specs.Sending.{lay_frame}
 use Rattle.tap_rule.specs.Sent.{IsAmong}
 use Rattle.tap_rule.proofs.Among.{among-map_from}
@@ -212,18 +212,18 @@ module _ (s s' : System) (leaver : Leaver) (before after : NodeState) (given : L
       settled_kind : (t : List ℕ) (kind : Kind) → HasLink s own t kind → kind ≡ Settled
       settled_kind t Pin link = absurd (starts.rest.pins own t link)
       settled_kind t Settled link = refl
-      settled_kind t Marked link = absurd (starts.rest.marked own t link)
+      settled_kind t LeavingKind link = absurd (starts.rest.marked own t link)
 
   pub still_departing : WhileDeparting s' leaver
   still_departing = record {
     joining = λ y now. starts.rest.joining y (status_was y Joining (λ wrong. cc) now);
     pins = λ y t pin. starts.rest.pins y t (link_was y t Pin pin);
-    marked = λ y t marked. absurd (starts.rest.marked y t (link_was y t Marked marked));
+    marked = λ y t marked. absurd (starts.rest.marked y t (link_was y t LeavingKind marked));
     leaving = only_leaver;
     frames = λ y t body now. notice_may_be leaver given y t body (way_so y t body now);
     ends = inl leaves_now;
     goes = leaver_goes_on;
-    gone = λ gone y kind link. let wrong = one_status s' own HasGone Leaving gone leaves_now in cc;
+    gone = λ gone y kind link. let wrong = one_status s' own GoneStatus Leaving gone leaves_now in cc;
     leaves = λ y a r now.
         let so = way_so y a (Leave r) now in
         let link = link_on a own Settled (starts.holds a so.1) in (
@@ -297,8 +297,8 @@ module _ (s s' : System) (leaver : Leaver) (before after : NodeState) (given : L
     ended = record {
       none = λ y t kind link.
           let was = ended.none y t kind (link_was y t kind link) in (
-            λ gone. was.0 (status_was y HasGone (λ wrong. cc) gone),
-            λ ceased. was.1 (status_was y HasCeased (λ wrong. cc) ceased),
+            λ gone. was.0 (status_was y GoneStatus (λ wrong. cc) gone),
+            λ ceased. was.1 (status_was y CeasedStatus (λ wrong. cc) ceased),
           );
     };
   }

@@ -7,7 +7,7 @@ use Rattle.tap_name.specs.Prefix.{lcp}
 use Rattle.tap_name.specs.Settings.{SettingsValue}
 use Rattle.tap_name.proofs.Prefixes.{lcp-triangle}
 use Rattle.tap_link.specs.declared.kind.Kind.{Kind}
-use Rattle.tap_link.specs.declared.kind.Kind.TheVariants.{Pin, Settled, Leaving as Marked}
+use Rattle.tap_link.specs.declared.kind.Kind.TheVariants.{Pin, Settled, Leaving as LeavingKind}
 use Rattle.tap_table.specs.ByName.{targets_by_name}
 use Rattle.tap_table.specs.Table.{TableValue, kind_in}
 use Rattle.tap_table.specs.Ties.{AreTies, TiesValue, holders_on}
@@ -18,17 +18,17 @@ use Rattle.tap_depart.proofs.Replacements.{none_given, replacement_fits}
 use Rattle.tap_pointer.specs.declared.lay.Lay as lay
 use Rattle.tap_pointer.specs.Pointers.{all_withdrawn}
 use Rattle.tap_wire.specs.declared.frame.Body.{Body}
-use Rattle.tap_wire.specs.declared.frame.Body.TheVariants.{Gone as GoneBody, Release}
+use Rattle.tap_wire.specs.declared.frame.Body.TheVariants.{Gone, Release}
 use Rattle.tap_wire.specs.declared.frame.Frame.{Frame}
 use Rattle.tap_rule.specs.Act.{act}
 use Rattle.tap_rule.specs.Completed.{lays_after}
 use Rattle.tap_rule.specs.EndSteps.{EndStep, words_at_end}
 use Rattle.tap_rule.specs.Event.{Acted}
 use Rattle.tap_rule.specs.Event.Event.{Starts}
-use Rattle.tap_rule.specs.Event.Start.{Leave as LeaveStart}
+use Rattle.tap_rule.specs.Event.Start.{Leave as StartLeave}
 use Rattle.tap_rule.specs.Leaving.{leave_for}
 use Rattle.tap_rule.specs.Node.{NodeState, link_to, name_of}
-use Rattle.tap_rule.specs.Node.Status.{Core, Gone}
+use Rattle.tap_rule.specs.Node.Status.{Core, Gone as GoneStatus}
 use Rattle.tap_rule.specs.Reaction.{to_each}
 use Rattle.tap_rule.specs.Sending.{by_receiver, lay_frame, link_frame, message_frame}
 use Rattle.tap_rule.specs.Sent.{AreSent}
@@ -64,7 +64,7 @@ leaver_of x node = record { name = x; links = λ t. link_to node t; holders = ho
 
 -- it is remembered, unless no frame is under way
 departs_then : (p : SettingsValue) (s : System) (x : List ℕ) (node : NodeState) → s.node x ≡ Some node
-    → (after_start p s x LeaveStart).departing ≡ departing_with (after_start p s x LeaveStart).frames (Some (leaver_of x node))
+    → (after_start p s x StartLeave).departing ≡ departing_with (after_start p s x StartLeave).frames (Some (leaver_of x node))
 unfolding moved
 departs_then p s x node at = rw at refl
 
@@ -96,10 +96,10 @@ module _ (p : SettingsValue) (s : System) (x : List ℕ) (inv : Invariant p s) (
   node = may.acts.state
 
   abbrev pub after : System
-  after = after_start p s x LeaveStart
+  after = after_start p s x StartLeave
 
   abbrev pub acted : Acted
-  acted = act node (Starts LeaveStart)
+  acted = act node (Starts StartLeave)
 
   abbrev pub leaver : Leaver
   leaver = leaver_of x node
@@ -116,8 +116,8 @@ module _ (p : SettingsValue) (s : System) (x : List ℕ) (inv : Invariant p s) (
   pub ties : AreTies node.ties
   ties = (nodes.nodes x node at).is_node.ties
 
-  pub step : IsStarted p s x LeaveStart node
-  step = starts p s x LeaveStart node at
+  pub step : IsStarted p s x StartLeave node
+  step = starts p s x StartLeave node at
 
   pub changes : ChangesAt s after x node acted.state
   changes = record { was = at; is = step.done.is; others = step.done.others }
@@ -138,7 +138,7 @@ module _ (p : SettingsValue) (s : System) (x : List ℕ) (inv : Invariant p s) (
   pub settled_kind : (y t : List ℕ) (kind : Kind) → HasLink s y t kind → HasLink s y t Settled
   settled_kind y t Pin link = absurd (rest.pins y t link)
   settled_kind y t Settled link = link
-  settled_kind y t Marked link = absurd (rest.marked y t link)
+  settled_kind y t LeavingKind link = absurd (rest.marked y t link)
 
   -- who has a link to it is a holder that is on, and the other way round
   linked_holds : (y : List ℕ) (kind : Kind) → HasLink s y x kind → Among y (holders_on node.ties)
@@ -252,11 +252,11 @@ module _ (p : SettingsValue) (s : System) (x : List ℕ) (inv : Invariant p s) (
   -- ---- it has none, and ends at once
 
   module _ (none : length (holders_on node.ties) ≡ 0) where
-    pub ends : EndStep node Gone GoneBody acted
+    pub ends : EndStep node GoneStatus Gone acted
     ends = law.finishes none
 
-    pub end_sent : AreSent x (words_at_end node) (to_each GoneBody (holders_on node.ties)) acted.sent
-    end_sent = subst (λ n. AreSent n (words_at_end node) (to_each GoneBody (holders_on node.ties)) acted.sent) own ends.sent
+    pub end_sent : AreSent x (words_at_end node) (to_each Gone (holders_on node.ties)) acted.sent
+    end_sent = subst (λ n. AreSent n (words_at_end node) (to_each Gone (holders_on node.ties)) acted.sent) own ends.sent
 
     nobody_linked : (y : List ℕ) (kind : Kind) → HasLink s y x kind → ⊥
     nobody_linked y kind link = nobody_among (holders_on node.ties) none y (linked_holds y kind link)

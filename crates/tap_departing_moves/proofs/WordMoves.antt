@@ -20,17 +20,17 @@ use Rattle.tap_depart.specs.Leaving.{names_but, started_leaving}
 use Rattle.tap_depart.proofs.Notices.{told_holders}
 use Rattle.tap_join.specs.Hello.{words_of}
 use Rattle.tap_wire.specs.declared.frame.Body.{Body}
-use Rattle.tap_wire.specs.declared.frame.Body.TheVariants.{Gone as GoneBody, Leave, Left, Link}
+use Rattle.tap_wire.specs.declared.frame.Body.TheVariants.{Gone, Leave, Left, Link}
 use Rattle.tap_wire.specs.declared.frame.Frame.{Frame}
 use Rattle.tap_rule.specs.Act.{act}
 use Rattle.tap_rule.specs.EndSteps.{EndStep, words_at_end}
 use Rattle.tap_rule.specs.Event.{Acted}
 use Rattle.tap_rule.specs.Event.Event.{Starts}
-use Rattle.tap_rule.specs.Event.Start.{Leave as LeaveStart}
+use Rattle.tap_rule.specs.Event.Start.{Leave as StartLeave}
 use Rattle.tap_rule.specs.Laws.{frame_to}
 use Rattle.tap_rule.specs.Leaving.{leave_for, leave_word}
 use Rattle.tap_rule.specs.Node.{NodeState, link_to, name_of, word_of}
-use Rattle.tap_rule.specs.Node.Status.{Core, Gone}
+use Rattle.tap_rule.specs.Node.Status.{Core, Gone as GoneStatus}
 use Rattle.tap_rule.specs.Reaction.{Message, message, to_each}
 use Rattle.tap_rule.specs.Sent.{AreSent, IsAmong}
 use Rattle.tap_rule.proofs.CarriedOut.{unruled_law}
@@ -106,7 +106,7 @@ off_once last names distinct one two first second same =
     ]
 
 -- a node that is gone has said of each link that it has none, and has no register
-end_tells : (s' : System) (node : NodeState) (acted : Acted) → AreTies node.ties → EndStep node Gone GoneBody acted
+end_tells : (s' : System) (node : NodeState) (acted : Acted) → AreTies node.ties → EndStep node GoneStatus Gone acted
     → TellsLinks s' node acted.state (words_at_end node)
 end_tells s' node acted ties end =
     let names = targets_by_name node.ties.table in
@@ -207,20 +207,20 @@ module _ (p : SettingsValue) (s : System) (number : ℕ) (node : NodeState) (fro
       subst hears_words (status_same s after own node acted.state (changes_at p s number node from body is) status t) hears
 
 -- a node that is gone hears no words, and the others are as before
-ended_hears : (s s' : System) (x : List ℕ) (before after : NodeState) → ChangesAt s s' x before after → after.status ≡ Gone
+ended_hears : (s s' : System) (x : List ℕ) (before after : NodeState) → ChangesAt s s' x before after → after.status ≡ GoneStatus
     → (t : List ℕ) → hears_words (status_of s' t) → hears_words (status_of s t)
 ended_hears s s' x before after at gone t hears =
     elim (status_apart s s' x before after at t) [
       | inr same ↦ subst hears_words same hears
       | inl here ↦
-          let never : ⊥ = subst hears_words (ap (status_of s') here ∙ status_seen s' x after Gone at.is gone) hears in absurd never
+          let never : ⊥ = subst hears_words (ap (status_of s') here ∙ status_seen s' x after GoneStatus at.is gone) hears in absurd never
     ]
 
 -- and its own register is nobody's
-ended_deaf : (s s' : System) (x : List ℕ) (before after : NodeState) → ChangesAt s s' x before after → after.status ≡ Gone
+ended_deaf : (s s' : System) (x : List ℕ) (before after : NodeState) → ChangesAt s s' x before after → after.status ≡ GoneStatus
     → (y : List ℕ) → hears_words (status_of s' x) → register_of s' x y ≡ register_of s x y
 ended_deaf s s' x before after at gone y hears =
-    let never : ⊥ = subst hears_words (status_seen s' x after Gone at.is gone) hears in absurd never
+    let never : ⊥ = subst hears_words (status_seen s' x after GoneStatus at.is gone) hears in absurd never
 
 -- ---- each notice
 
@@ -288,40 +288,40 @@ module _ (p : SettingsValue) (s : System) (number : ℕ) (node : NodeState) (fro
         leave_holders y)
 
   -- a Gone
-  module _ (is : IsDelivery p s number node from GoneBody) where
+  module _ (is : IsDelivery p s number node from Gone) where
     abbrev gone_acted : Acted
-    gone_acted = taken_at node from GoneBody
+    gone_acted = taken_at node from Gone
 
     gone_at_core : node.status ≡ Core → WordsStand (after_delivery p s number)
     gone_at_core at =
         let s' = after_delivery p s number in
-        let ties = (due p s number node from GoneBody is).is_node.ties in
-        let step = gone_law node from ties (sender_name p s number node from GoneBody is) at is.known in
-        let status = status_same s s' own_name node gone_acted.state (changes_at p s number node from GoneBody is) step.joins.status in
-        let has_gone : status_of s' from ≡ Some Gone = status from ∙ from_gone p s number node from is in
-        told_stand p s number node from GoneBody is tt [] [] step.sent no_message
+        let ties = (due p s number node from Gone is).is_node.ties in
+        let step = gone_law node from ties (sender_name p s number node from Gone is) at is.known in
+        let status = status_same s s' own_name node gone_acted.state (changes_at p s number node from Gone is) step.joins.status in
+        let has_gone : status_of s' from ≡ Some GoneStatus = status from ∙ from_gone p s number node from is in
+        told_stand p s number node from Gone is tt [] [] step.sent no_message
         (silent_tells s' node gone_acted.state step.holders (λ t hears. elim (step.others t) [
           | inr same ↦ same
           | inl here ↦
               let never : ⊥ = subst hears_words (ap (status_of s') here ∙ has_gone) hears in absurd never
         ]))
-        (subst has_table (sym at) tt) (hears_same p s number node from GoneBody is tt step.joins.status)
-        (λ y hears. register_same s s' own_name node gone_acted.state (changes_at p s number node from GoneBody is) step.holders y)
+        (subst has_table (sym at) tt) (hears_same p s number node from Gone is tt step.joins.status)
+        (λ y hears. register_same s s' own_name node gone_acted.state (changes_at p s number node from Gone is) step.holders y)
 
     gone_stand : WordsStand (after_delivery p s number)
     gone_stand = elim (is_core_or_not node.status) [
       | inl at ↦ gone_at_core at
       | inr other ↦
-          let ignored = unruled_law node (frame_to node from GoneBody) (gone_unruled node.status node from other) in
-          silent_stand s (after_delivery p s number) number (frame_to node from GoneBody) node gone_acted
-          (is_taken p s number node from GoneBody is) (changes_at p s number node from GoneBody is)
-          (has_done p s number node from GoneBody is)
+          let ignored = unruled_law node (frame_to node from Gone) (gone_unruled node.status node from other) in
+          silent_stand s (after_delivery p s number) number (frame_to node from Gone) node gone_acted
+          (is_taken p s number node from Gone is) (changes_at p s number node from Gone is)
+          (has_done p s number node from Gone is)
           (record {
             status = ap (λ (n : NodeState). n.status) ignored.state;
             ties = ap (λ (n : NodeState). n.ties) ignored.state;
             no_word = λ w t b sends. let never : IsSent [] w t b = subst (λ sent. IsSent sent w t b) ignored.sent sends in absurd never;
           })
-          tt (stood p s number node from GoneBody is)
+          tt (stood p s number node from Gone is)
     ]
 
   -- a Left
@@ -338,7 +338,7 @@ module _ (p : SettingsValue) (s : System) (number : ℕ) (node : NodeState) (fro
           | inl last ↦
               let end = left_end p s number node from is last in
               let ties = (due p s number node from Left is).is_node.ties in
-              told_stand p s number node from Left is tt (words_at_end node) (to_each GoneBody (holders_on node.ties)) end.sent
+              told_stand p s number node from Left is tt (words_at_end node) (to_each Gone (holders_on node.ties)) end.sent
               (farewell_no_link (holders_on node.ties)) (end_tells s' node left_acted ties end) table
               (ended_hears s s' own_name node left_acted.state at end.status) (ended_deaf s s' own_name node left_acted.state at end.status)
           | inr others ↦
@@ -353,7 +353,7 @@ module _ (p : SettingsValue) (s : System) (number : ℕ) (node : NodeState) (fro
 pub notice_words : NoticeWords
 notice_words p s number node from (Leave replacement) is notice = leave_stand p s number node from replacement is
 notice_words p s number node from Left is notice = left_stand p s number node from is
-notice_words p s number node from GoneBody is notice = gone_stand p s number node from is
+notice_words p s number node from Gone is notice = gone_stand p s number node from is
 notice_words p s number node from _ is notice = absurd notice
 
 -- ---- the start of a departure
@@ -363,10 +363,10 @@ module _ (p : SettingsValue) (s : System) (x : List ℕ) (inv : Invariant p s) (
   node = may.acts.state
 
   abbrev left : System
-  left = after_start p s x LeaveStart
+  left = after_start p s x StartLeave
 
   abbrev starts_acted : Acted
-  starts_acted = act node (Starts LeaveStart)
+  starts_acted = act node (Starts StartLeave)
 
   -- no frame was under way, and those are that are sent
   frames_are : left.frames ≡ numbered_from s.next starts_acted.sent
@@ -417,9 +417,9 @@ module _ (p : SettingsValue) (s : System) (x : List ℕ) (inv : Invariant p s) (
     | inl none ↦
         let end = leaver_ends p s x inv nodes may none in
         let at = changes p s x inv nodes may in
-        let are = subst (λ n. AreSent n (words_at_end node) (to_each GoneBody (holders_on node.ties)) starts_acted.sent)
+        let are = subst (λ n. AreSent n (words_at_end node) (to_each Gone (holders_on node.ties)) starts_acted.sent)
         (leaver_own p s x inv nodes may) end.sent in
-        starts_told (words_at_end node) (to_each GoneBody (holders_on node.ties)) are (farewell_no_link (holders_on node.ties))
+        starts_told (words_at_end node) (to_each Gone (holders_on node.ties)) are (farewell_no_link (holders_on node.ties))
         (end_tells left node starts_acted (leaver_ties p s x inv nodes may) end)
         (ended_hears s left x node starts_acted.state at end.status) (ended_deaf s left x node starts_acted.state at end.status)
     | inr some ↦

@@ -27,7 +27,7 @@ use Rattle.tap_history.specs.Refusals.{first_refusal}
 use Rattle.tap_rule.specs.Act.{act}
 use Rattle.tap_rule.specs.Event.{Acted, Event, News, Start}
 use Rattle.tap_rule.specs.Event.Event.{Starts, Takes}
-use Rattle.tap_rule.specs.Event.News.{Nothing, Core as IsCore, Gone as IsGone, Answered as IsAnswered, Cast as IsCast}
+use Rattle.tap_rule.specs.Event.News.{Nothing, Core as CoreNews, Gone as GoneNews, Answered as AnsweredNews, Cast as CastNews}
 use Rattle.tap_rule.specs.Node.{NodeState}
 use Rattle.tap_safety.specs.Moved.{numbered_frame, starter}
 use Rattle.tap_safety.specs.System.{System}
@@ -63,18 +63,18 @@ so_plain false item plain = All-nil Plain
 before_plain : (name : List ℕ) (news : News) → All Plain (news_before name news)
 unfolding is_plain news_before
 before_plain name Nothing = All-nil Plain
-before_plain name IsCore = one _ refl
-before_plain name IsGone = one _ refl
-before_plain name (IsAnswered ticket server) = All-nil Plain
-before_plain name (IsCast cast reached closed) = so_plain reached (Reached cast name) refl
+before_plain name CoreNews = one _ refl
+before_plain name GoneNews = one _ refl
+before_plain name (AnsweredNews ticket server) = All-nil Plain
+before_plain name (CastNews cast reached closed) = so_plain reached (Reached cast name) refl
 
 after_plain : (news : News) → All Plain (news_after news)
 unfolding is_plain news_after
 after_plain Nothing = All-nil Plain
-after_plain IsCore = All-nil Plain
-after_plain IsGone = All-nil Plain
-after_plain (IsAnswered ticket server) = one _ refl
-after_plain (IsCast cast reached closed) = so_plain closed (Closed cast) refl
+after_plain CoreNews = All-nil Plain
+after_plain GoneNews = All-nil Plain
+after_plain (AnsweredNews ticket server) = one _ refl
+after_plain (CastNews cast reached closed) = so_plain closed (Closed cast) refl
 
 acted_plain : (p : SettingsValue) (number : ℕ) (name : List ℕ) (acted : Acted) → All Plain (acted_records p number name acted)
 acted_plain p number name acted =

@@ -24,7 +24,7 @@ use Rattle.tap_engine.specs.Outcome.{adds, adds_within, is_within, spends}
 use Rattle.tap_engine.specs.Seen.{bytes_records, seen_after, seen_before, turn_records}
 use Rattle.tap_engine.specs.Working.{CanAddTurn, LogsAs}
 use Rattle.tap_engine.specs.declared.stop.Stop.{Stop}
-use Rattle.tap_engine.specs.declared.stop.Stop.TheVariants.{NoMemory, Spent as IsSpent}
+use Rattle.tap_engine.specs.declared.stop.Stop.TheVariants.{NoMemory, Spent as StopSpent}
 use Rattle.tap_engine.specs.declared.engine.Acted.{Acted}
 use Rattle.tap_engine.specs.declared.engine.Engine.{Engine}
 use Rattle.tap_engine.proofs.Addable.{group_fits, limit_fits, spent_fits}
@@ -201,7 +201,7 @@ within_is m all size false counts few is =
 
 -- too many frames: the first records, and `Spent`
 pub logs_spent : (m after : Engine) (first all : List Record) (size : ℕ) (given : Result (Unit {0}) Stop) → sent_count all ≡ size
-    → sent_count m.ledger.records ≤ m.frames → nat_lt (m.frames - sent_count m.ledger.records) size ≡ true → given ≡ Err IsSpent
+    → sent_count m.ledger.records ≤ m.frames → nat_lt (m.frames - sent_count m.ledger.records) size ≡ true → given ≡ Err StopSpent
     → after.ledger.records ≡ m.ledger.records ++ (first ++ Spent m.frames ∷ []) → after ≡ record m { ledger = after.ledger }
     → LogsAs (adds_within (seen m) first all) m given after
 logs_spent m after first all size given counts few over answer log same =
@@ -210,8 +210,8 @@ logs_spent m after first all size given counts few over answer log same =
     subst (λ o. LogsAs o m given after) (sym is) (record {
       answer = λ other. answer;
       log = λ other. log;
-      room = λ ok. let never : Err IsSpent ≡ Ok tt = sym answer ∙ ok in absurd (cc);
-      short = λ none. let never : Err IsSpent ≡ Err NoMemory = sym answer ∙ none in absurd (cc);
+      room = λ ok. let never : Err StopSpent ≡ Ok tt = sym answer ∙ ok in absurd (cc);
+      short = λ none. let never : Err StopSpent ≡ Err NoMemory = sym answer ∙ none in absurd (cc);
       same = same;
     })
 

@@ -24,7 +24,7 @@ use Rattle.tap_history.proofs.Growing.{names_of-push}
 use Rattle.tap_history.proofs.Parts.{beginning_of-group, groups_of-ended, groups_of-group}
 use Rattle.tap_rule.specs.Act.{act}
 use Rattle.tap_rule.specs.Event.Event.{Starts}
-use Rattle.tap_rule.specs.Event.Start.{Join as Joins}
+use Rattle.tap_rule.specs.Event.Start.{Join as StartJoin}
 use Rattle.tap_rule.specs.Node.{joiner}
 use Rattle.tap_rule.specs.Sending.{by_receiver}
 use Rattle.tap_rule.proofs.StartSteps.{seek_start_law}
@@ -162,13 +162,13 @@ spent_names log limit = names_stay log (Spent limit) refl refl
 
 -- a join that isn't refused is accepted: the one that joins sends a frame
 join_sends : (p : SettingsValue) (number : ℕ) (name via : List ℕ)
-    → is_accepted (acted_records p number name (act (joiner p name) (Starts (Joins via)))) ≡ true
+    → is_accepted (acted_records p number name (act (joiner p name) (Starts (StartJoin via)))) ≡ true
 unfolding by_receiver
 join_sends p number name via =
-    acted_accepted p number name (act (joiner p name) (Starts (Joins via))) _ _ (seek_start_law (joiner p name) via refl).completed.sent.all
+    acted_accepted p number name (act (joiner p name) (Starts (StartJoin via))) _ _ (seek_start_law (joiner p name) via refl).completed.sent.all
 
 module _ (p : SettingsValue) (log : List Record) (s : System) (index : ℕ) (name via : List ℕ) where
-  join_records : accepted_records p log s (Join name via) ≡ acted_records p (sent_count log) name (act (joiner p name) (Starts (Joins via)))
+  join_records : accepted_records p log s (Join name via) ≡ acted_records p (sent_count log) name (act (joiner p name) (Starts (StartJoin via)))
   unfolding accepted_records actor_of start_of_step announced
   join_records = refl
 

@@ -23,7 +23,7 @@ use Rattle.tap_history.specs.Steps.{actor_of, is_start}
 use Rattle.tap_rule.specs.Act.{act}
 use Rattle.tap_rule.specs.Event.{Event, Start as Begun}
 use Rattle.tap_rule.specs.Event.Event.{Starts, Takes}
-use Rattle.tap_rule.specs.Event.Start.{Join as Joins, Abandon as GivesUp, Publish as Publishes, Withdraw as Withdraws, Find as Finds, Leave as Leaves, Cast as Casts}
+use Rattle.tap_rule.specs.Event.Start.{Join as StartJoin, Abandon as StartAbandon, Publish as StartPublish, Withdraw as StartWithdraw, Find as StartFind, Leave as StartLeave, Cast as StartCast}
 use Rattle.tap_rule.specs.Node.{NodeState, joiner, settings_of}
 use Rattle.tap_node.specs.Node.{running}
 use Rattle.tap_safety.specs.Move.{Move}
@@ -283,13 +283,13 @@ module _ (m : Engine) (ready : AreReady m) (index : ℕ) (step : Step) (next : I
   module _ (name : List ℕ) (start : Begun) (node : NodeState) (at : start_at was step ≡ Some (name, start))
       (begins : starter p s name start ≡ Some node) where
     node_settings : (begun_start : Begun) → starter p s name begun_start ≡ Some node → settings_of node ≡ p
-    node_settings (Joins via) is = let same : joiner p name ≡ node = cc in ap settings_of (sym same)
-    node_settings GivesUp is = ((sound m ready).nodes name node is).settings_are
-    node_settings (Publishes object) is = ((sound m ready).nodes name node is).settings_are
-    node_settings (Withdraws object) is = ((sound m ready).nodes name node is).settings_are
-    node_settings (Finds ticket object) is = ((sound m ready).nodes name node is).settings_are
-    node_settings Leaves is = ((sound m ready).nodes name node is).settings_are
-    node_settings (Casts cast level word) is = ((sound m ready).nodes name node is).settings_are
+    node_settings (StartJoin via) is = let same : joiner p name ≡ node = cc in ap settings_of (sym same)
+    node_settings StartAbandon is = ((sound m ready).nodes name node is).settings_are
+    node_settings (StartPublish object) is = ((sound m ready).nodes name node is).settings_are
+    node_settings (StartWithdraw object) is = ((sound m ready).nodes name node is).settings_are
+    node_settings (StartFind ticket object) is = ((sound m ready).nodes name node is).settings_are
+    node_settings StartLeave is = ((sound m ready).nodes name node is).settings_are
+    node_settings (StartCast cast level word) is = ((sound m ready).nodes name node is).settings_are
 
     start_moves : move_of_group was group ≡ Some (Begins name start)
     start_moves =

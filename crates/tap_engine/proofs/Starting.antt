@@ -11,9 +11,9 @@ use Rattle.tap_history.specs.Refusals.{first_refusal}
 use Rattle.tap_history.specs.Steps.{actor_of}
 use Rattle.tap_rule.specs.Act.{act}
 use Rattle.tap_rule.specs.Event.{Acted as RuleActed, News}
-use Rattle.tap_rule.specs.Event.News.{Nothing as NothingNew}
+use Rattle.tap_rule.specs.Event.News.{Nothing as NothingNews}
 use Rattle.tap_rule.specs.Event.Event.{Starts}
-use Rattle.tap_rule.specs.Event.Start.{Join as Joins}
+use Rattle.tap_rule.specs.Event.Start.{Join as StartJoin}
 use Rattle.tap_rule.specs.Node.{NodeState, Status, joiner, settings_of}
 use Rattle.tap_rule.specs.Node.Status.{Joining, Core, Leaving, Gone, Ceased}
 use Rattle.tap_rule.specs.StartRules.{rule_of_start}
@@ -93,7 +93,7 @@ is_fresh engine ready name via accepted =
     go_on.nodes.nodes_are name
     ∙ none_there (s.node name) (sym (go_on.ever name) ∙ joiner_is_new engine.ledger.records name via accepted)
 
-join_at : (log : List Record) (name via : List ℕ) → start_at log (Join name via) ≡ Some (name, Joins via)
+join_at : (log : List Record) (name via : List ℕ) → start_at log (Join name via) ≡ Some (name, StartJoin via)
 unfolding actor_of start_of_step
 join_at log name via = refl
 
@@ -103,7 +103,7 @@ pub has_joined_at : (before after : Engine) (name via : List ℕ) (turn : Turn)
     → HasBegunAt before after (Join name via) (record { name = name; turn = turn })
 has_joined_at before after name via turn joined settings = record {
   name = name;
-  start = Joins via;
+  start = StartJoin via;
   node = joiner before.settings name;
   at = join_at before.ledger.records name via;
   was = refl;
@@ -149,7 +149,7 @@ abbrev state_in : NodeState → Option NodeValue → NodeState
 state_in other None = other
 state_in other (Some node) = node.state
 
-no_join : (start : Start) (via : List ℕ) → begun start ≡ Joins via → ⊥
+no_join : (start : Start) (via : List ℕ) → begun start ≡ StartJoin via → ⊥
 no_join Abandon via is = cc
 no_join (Publish object) via is = cc
 no_join (Withdraw object) via is = cc
@@ -217,7 +217,7 @@ no_rule node Leaving start not = refl
 no_rule node Gone start not = refl
 no_rule node Ceased start not = refl
 
-nothing_told : (node : NodeState) (acted : RuleActed) (name : List ℕ) → acted.sent ≡ [] → acted.news ≡ NothingNew
+nothing_told : (node : NodeState) (acted : RuleActed) (name : List ℕ) → acted.sent ≡ [] → acted.news ≡ NothingNews
     → (nothing_by name).turn ≡ turn_made node acted
 nothing_told node acted name sent news =
     let frames : List Frame → Turn = λ l. record { sent = spelled (settings_of node) l; news = news_of acted.news } in

@@ -29,7 +29,7 @@ use Rattle.tap_runs.specs.Groups.{step_group, taken_group}
 use Rattle.tap_engine.specs.World.{HasBegun, WorldValue}
 use Rattle.tap_engine.specs.WorldLog.{HasCome, HasGoneTo, HasIndices, HasStopped, IsCourseOrFinished, IsPending, IsWorldLog}
 use Rattle.tap_engine.specs.declared.stop.Stop.{Stop}
-use Rattle.tap_engine.specs.declared.stop.Stop.TheVariants.{Ended, Refused as IsRefused}
+use Rattle.tap_engine.specs.declared.stop.Stop.TheVariants.{Ended, Refused as StopRefused}
 use Rattle.tap_engine.proofs.Courses.{last_step}
 use Rattle.tap_engine.proofs.Indices.{indices_next, indices_stay}
 use Rattle.tap_engine.proofs.Steps.{IsPlayed, choice_may, clash, follows_within, no_choice, number_there, quiet_within, refused_choice, silent_within, step_may, taken_may}
@@ -231,7 +231,7 @@ module _ (w : WorldValue) (nodes : List (List ℕ × NodeValue)) where
     place_log place is = by_number (slice_get (outstanding w.log) place) refl
       where
         by_number : (number : Option ℕ) → slice_get (outstanding w.log) place ≡ number → IsWorldLog (left_by w (takes_number w number) nodes)
-        by_number None at = stays_log (IsRefused (NoSuchFlight (length (outstanding w.log)))) is
+        by_number None at = stays_log (StopRefused (NoSuchFlight (length (outstanding w.log)))) is
         by_number (Some number) at = takes_log number (number_there (outstanding w.log) place number at)
 
     -- a choice alone

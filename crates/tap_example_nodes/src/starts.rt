@@ -1,7 +1,7 @@
 ghost use Rattle.std.specs.Prelude.{◌≡◌, IfOk, IsTrue, OnOk};
 ghost use Rattle.tap_name.specs.Name.{IsName};
 ghost use Rattle.tap_rule.specs.Node.{settings_of};
-ghost use Rattle.tap_rule.specs.Node.Status.{Core as core};
+ghost use Rattle.tap_rule.specs.Node.Status.{Core as CoreStatus};
 ghost use Rattle.tap_node.specs.Node.{has_room_left};
 
 use anyhow::{Context, Result, bail};
@@ -36,7 +36,7 @@ pub(crate) fn check_room(node: &Node) -> Result<()>
 
 // The node is core, or there is an error. It has not ended then, either.
 fn check_core(node: &Node) -> Result<()>
-    ensures { OnOk result (node.now.state.status ≡ core) }
+    ensures { OnOk result (node.now.state.status ≡ CoreStatus) }
 {
     match node.status() {
         NodeStatus::Core => Ok(()),

@@ -33,7 +33,7 @@ use Rattle.tap_log.specs.Laws.{at_most_one}
 use Rattle.tap_report.specs.Text.{IsBegin, IsPrintable}
 use Rattle.tap_rule.specs.Node.{NodeState, settings_of}
 use Rattle.tap_rule.specs.Event.{Acted, Event, News}
-use Rattle.tap_rule.specs.Event.News.{Nothing, Core as IsCore, Gone as IsGone, Answered as IsAnswered, Cast as IsCast}
+use Rattle.tap_rule.specs.Event.News.{Nothing, Core as CoreNews, Gone as GoneNews, Answered as AnsweredNews, Cast as CastNews}
 use Rattle.tap_rule.specs.Act.{act}
 use Rattle.tap_runs.specs.Acts.{acted_records, if_so, news_after, news_before, sent_records}
 use Rattle.tap_runs.specs.Damage.{copied_number, damage_record, fault_in, fault_of_copy, garbled}
@@ -101,18 +101,18 @@ module _ (p : SettingsValue) (limits : AreWithinLimits p) where
   before_told : (name : List ℕ) (news : News) → AreTold p 1 (news_before name news)
   unfolding news_before
   before_told name Nothing = more_told p 0 1 [] (omega arith) (none_told p)
-  before_told name IsCore = one_told p _ (tt, λ h. cc)
-  before_told name IsGone = one_told p _ (tt, λ h. cc)
-  before_told name (IsAnswered ticket server) = more_told p 0 1 [] (omega arith) (none_told p)
-  before_told name (IsCast cast reached closed) = so_told reached _ (tt, λ h. cc)
+  before_told name CoreNews = one_told p _ (tt, λ h. cc)
+  before_told name GoneNews = one_told p _ (tt, λ h. cc)
+  before_told name (AnsweredNews ticket server) = more_told p 0 1 [] (omega arith) (none_told p)
+  before_told name (CastNews cast reached closed) = so_told reached _ (tt, λ h. cc)
 
   after_told : (news : News) → AreTold p 1 (news_after news)
   unfolding news_after
   after_told Nothing = more_told p 0 1 [] (omega arith) (none_told p)
-  after_told IsCore = more_told p 0 1 [] (omega arith) (none_told p)
-  after_told IsGone = more_told p 0 1 [] (omega arith) (none_told p)
-  after_told (IsAnswered ticket server) = one_told p _ (tt, λ h. cc)
-  after_told (IsCast cast reached closed) = so_told closed _ (tt, λ h. cc)
+  after_told CoreNews = more_told p 0 1 [] (omega arith) (none_told p)
+  after_told GoneNews = more_told p 0 1 [] (omega arith) (none_told p)
+  after_told (AnsweredNews ticket server) = one_told p _ (tt, λ h. cc)
+  after_told (CastNews cast reached closed) = so_told closed _ (tt, λ h. cc)
 
   acted_told : (number : ℕ) (name : List ℕ) (acted : Acted) → All (IsFrame p) acted.sent → AreTold p 2 (acted_records p number name acted)
   acted_told number name acted spelled =

@@ -29,7 +29,7 @@ use Rattle.tap_rule.specs.Node.Status.{Core}
 use Rattle.tap_rule.specs.Reaction.{Reaction}
 use Rattle.tap_rule.proofs.CarriedOut.{frame_law, unruled_law}
 use Rattle.tap_rule.proofs.EndSteps.{unlinked}
-use Rattle.tap_rule.specs.Links.{releases}
+use Rattle.tap_rule.specs.Links.{takes_release}
 use Rattle.tap_rule.specs.Event.{Acted}
 use Rattle.tap_safety.specs.Frames.{HelloFields, tell_body}
 use Rattle.tap_safety.specs.Move.{MayJoin}
@@ -98,7 +98,7 @@ module _ (p : SettingsValue) (members : List (List ℕ)) (s : System) (r : Traff
           | inr leaving ↦ absurd (subst JoinsOrIsCore leaving (are.nodes from core.state core.is).status)
         ]
 
-    release_says : Says Release (releases node from)
+    release_says : Says Release (takes_release node from)
     release_says =
         releases_links members s node (is_node Release is) (named Release) from (sender_name p s number node from Release is)
         (is.invariant.ends.apart number (frame_to node from Release) is.among) sender_core

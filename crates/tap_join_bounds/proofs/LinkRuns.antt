@@ -3,7 +3,7 @@ use Rattle.std.proofs.Common.{◌≡◌, ℕ, ◌≤◌, Bool, true, false, cond
 use Rattle.tap_name.specs.Names.{Among, has_name}
 use Rattle.tap_name.specs.Settings.{SettingsValue}
 use Rattle.tap_link.specs.declared.kind.Kind.{Kind}
-use Rattle.tap_link.specs.declared.kind.Kind.TheVariants.{Leaving as Marked, Pin, Settled}
+use Rattle.tap_link.specs.declared.kind.Kind.TheVariants.{Leaving as LeavingKind, Pin, Settled}
 use Rattle.tap_rule.specs.Event.{Start}
 use Rattle.tap_rule.specs.Event.Start.{Join}
 use Rattle.tap_rule.specs.Node.{NodeState, Status, link_to}
@@ -80,7 +80,7 @@ module _ (p : SettingsValue) (members : List (List ℕ)) (are : AreMembers p mem
       by (Some Pin) link =
           absurd ((nothing_is_left p rest (sound_at_rest p members are) refl).pins x t (record { state = node; is = is; link = link }))
       by (Some Settled) link = refl
-      by (Some Marked) link = refl
+      by (Some LeavingKind) link = refl
 
   none_owed : (t x : List ℕ) (has : Bool) → has_name members t ≡ has → owed_in (rest.node t) x ≡ 0
   none_owed t x true is = rw is refl

@@ -14,7 +14,7 @@ use Rattle.tap_wire.specs.declared.frame.Body.{Body}
 use Rattle.tap_wire.specs.declared.frame.Body.TheVariants.{Hello}
 use Rattle.tap_wire.specs.declared.frame.Frame.{Frame}
 use Rattle.tap_rule.specs.Joining.{takes_hello}
-use Rattle.tap_rule.specs.Links.{releases}
+use Rattle.tap_rule.specs.Links.{takes_release}
 use Rattle.tap_rule.specs.Node.{NodeState, Status, link_to, name_of, settings_of}
 use Rattle.tap_rule.specs.Node.Status.{Ceased, Core, Gone, Joining, Leaving}
 use Rattle.tap_rule.specs.Kept.{IsNode}
@@ -144,7 +144,7 @@ module _ (members : List (List ℕ)) (s : System) (node : NodeState) (is : IsNod
   -- a release from a core node
   module _ (from : List ℕ) (name : IsName (settings_of node) from) (apart : from ≢ name_of node)
       (core : status_in (s.node from) ≡ Some Core) where
-    drops : (t : List ℕ) → Drops t (releases node from).words (link_to node t) (link_to (releases node from).state t)
+    drops : (t : List ℕ) → Drops t (takes_release node from).words (link_to node t) (link_to (takes_release node from).state t)
     drops t = drops_released node.ties node.stamp from is.ties.table name apart t
 
     same_for_core : (t : List ℕ) (one two : Option Kind) → t ≡ from
@@ -153,13 +153,13 @@ module _ (members : List (List ℕ)) (s : System) (node : NodeState) (is : IsNod
         let status : status_in (s.node t) ≡ Some Core = ap (λ u. status_in (s.node u)) same ∙ core in
         rw status refl
 
-    pub releases_links : LinksStep members s node named (releases node from)
+    pub releases_links : LinksStep members s node named (takes_release node from)
     releases_links = record {
       on = λ t.
           let none = (drops t).on in
           elim (same_name t from) [
             | inl same ↦
-                let most = same_for_core t (link_to node t) (link_to (releases node from).state t) same in omega (arith, none, most)
+                let most = same_for_core t (link_to node t) (link_to (takes_release node from).state t) same in omega (arith, none, most)
             | inr other ↦
                 let kept = ap (λ found. most_for (has_name members t) (status_in (s.node t)) found)
                 (released_elsewhere node.ties node.stamp from is.ties.table name apart t other) in

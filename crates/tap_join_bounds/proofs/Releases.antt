@@ -19,7 +19,7 @@ use Rattle.tap_rule.specs.Kept.{IsNode}
 use Rattle.tap_rule.specs.Node.{NodeState, Status, name_of}
 use Rattle.tap_rule.specs.Node.Status.{Ceased, Core, Gone, Joining, Leaving}
 use Rattle.tap_rule.specs.Joining.{becomes_core}
-use Rattle.tap_rule.specs.Links.{hears, is_new_link, with_word}
+use Rattle.tap_rule.specs.Links.{is_new_link, takes_link_joining, with_word}
 use Rattle.tap_rule.specs.Reaction.{Message, Reaction, message, sends, to_each}
 use Rattle.tap_rule.specs.Sending.{message_frame}
 use Rattle.tap_moves.proofs.Got.{same_name}
@@ -218,11 +218,11 @@ module _ (ties : TiesValue) (from : List ℕ) (version : ℕ) (on : Bool) (x : L
 
 -- a joining node that hears a word owes one more at most
 pub hears_owed : (node : NodeState) (from : List ℕ) (version : ℕ) (on : Bool) → node.status ≡ Joining
-    → ReleasesStep node (said_on from on) (hears node from version on)
+    → ReleasesStep node (said_on from on) (takes_link_joining node from version on)
 hears_owed node from version on at = record {
   each = λ x.
       let before : owed node x ≡ cond {A = ℕ} (is_on node.ties x) 1 0 = ap (λ st. owed_by st node.ties x) at in
-      let now : owed (hears node from version on).state x ≡ cond {A = ℕ} (is_on (held_word node.ties from version on) x) 1 0 =
+      let now : owed (takes_link_joining node from version on).state x ≡ cond {A = ℕ} (is_on (held_word node.ties from version on) x) 1 0 =
       ap (λ st. owed_by st (held_word node.ties from version on) x) at in
       let more = word_owes node.ties from version on x in
       omega (arith, before, now, more);

@@ -10,12 +10,12 @@ use Rattle.tap_pointer.specs.Reconcile.{AreLaid, wanted_hop}
 use Rattle.tap_wire.specs.declared.frame.Body.TheVariants.{Hello, Heard, Ack, Release, Link, Forget, Cast}
 use Rattle.tap_wire.specs.declared.frame.Frame.{Frame}
 use Rattle.tap_wire.specs.declared.frame.TellFields.{TellFields}
-use Rattle.tap_rule.specs.Answers.{answered}
-use Rattle.tap_rule.specs.Casts.{answers_cast}
+use Rattle.tap_rule.specs.Answers.{takes_heard_or_ack}
+use Rattle.tap_rule.specs.Casts.{takes_cast_outside}
 use Rattle.tap_rule.specs.FrameRules.{frame_at_joining}
-use Rattle.tap_rule.specs.Joining.{meets, takes_hello}
+use Rattle.tap_rule.specs.Joining.{takes_hello, takes_tell_joining}
 use Rattle.tap_rule.specs.Laws.{tell_of}
-use Rattle.tap_rule.specs.Links.{forgets, hears, releases}
+use Rattle.tap_rule.specs.Links.{takes_forget, takes_link_joining, takes_release}
 use Rattle.tap_rule.specs.Node.{IsRunning, NodeState, name_of}
 use Rattle.tap_rule.specs.Node.Status.{Joining}
 use Rattle.tap_rule.specs.Reaction.{Reaction}
@@ -37,7 +37,7 @@ record KeepsJoining (node : NodeState) (r : Reaction) : Type 0 where
   lays : r.lays ≡ []
 
 -- a Tell's is one, whether it greets or not
-meets_keeps : (node : NodeState) (from : List ℕ) (tell : TellFields) → KeepsJoining node (meets node from tell)
+meets_keeps : (node : NodeState) (from : List ℕ) (tell : TellFields) → KeepsJoining node (takes_tell_joining node from tell)
 meets_keeps node from tell =
     elim (cases_Bool (has_name node.greeted tell.joiner)) [
       | inl before ↦ record { status = rw before refl; pointers = rw before refl; lays = rw before refl }
@@ -63,10 +63,10 @@ module _ (node : NodeState) (joins : node.status ≡ Joining) (alone : node.poin
       let joining : r.state.status ≡ Joining = keeps.status ∙ joins in
       follows_quietly node r after before sent news (subst IsRunning (sym joining) tt) keeps.lays laid steps
 
-  pub tell_follows : (tell : TellFields) (watch : List Slot) → frame.body ≡ tell_of tell watch → Steps (meets node frame.from tell)
+  pub tell_follows : (tell : TellFields) (watch : List Slot) → frame.body ≡ tell_of tell watch → Steps (takes_tell_joining node frame.from tell)
       → Follows
   unfolding frame_at_joining
-  tell_follows tell watch is steps = rw is (follows (meets node frame.from tell) (meets_keeps node frame.from tell) steps)
+  tell_follows tell watch is steps = rw is (follows (takes_tell_joining node frame.from tell) (meets_keeps node frame.from tell) steps)
 
   pub hello_follows : (session : ℕ) (core : Bool) (links : List Offered) → frame.body ≡ Hello session core links
       → Steps (takes_hello node frame.from session core links) → Follows
@@ -74,28 +74,28 @@ module _ (node : NodeState) (joins : node.status ≡ Joining) (alone : node.poin
   hello_follows session core links is steps =
       rw is (follows (takes_hello node frame.from session core links) (record { status = refl; pointers = refl; lays = refl }) steps)
 
-  pub answer_follows : (session : ℕ) → (frame.body ≡ Heard session) ⊎ (frame.body ≡ Ack session) → Steps (answered node session) → Follows
+  pub answer_follows : (session : ℕ) → (frame.body ≡ Heard session) ⊎ (frame.body ≡ Ack session) → Steps (takes_heard_or_ack node session) → Follows
   unfolding frame_at_joining
   answer_follows session (inl is) steps =
-      rw is (follows (answered node session) (record { status = refl; pointers = refl; lays = refl }) steps)
+      rw is (follows (takes_heard_or_ack node session) (record { status = refl; pointers = refl; lays = refl }) steps)
   answer_follows session (inr is) steps =
-      rw is (follows (answered node session) (record { status = refl; pointers = refl; lays = refl }) steps)
+      rw is (follows (takes_heard_or_ack node session) (record { status = refl; pointers = refl; lays = refl }) steps)
 
-  pub release_follows : frame.body ≡ Release → Steps (releases node frame.from) → Follows
+  pub release_follows : frame.body ≡ Release → Steps (takes_release node frame.from) → Follows
   unfolding frame_at_joining
-  release_follows is steps = rw is (follows (releases node frame.from) (record { status = refl; pointers = refl; lays = refl }) steps)
+  release_follows is steps = rw is (follows (takes_release node frame.from) (record { status = refl; pointers = refl; lays = refl }) steps)
 
-  pub link_follows : (version : ℕ) (on : Bool) → frame.body ≡ Link version on → Steps (hears node frame.from version on) → Follows
+  pub link_follows : (version : ℕ) (on : Bool) → frame.body ≡ Link version on → Steps (takes_link_joining node frame.from version on) → Follows
   unfolding frame_at_joining
   link_follows version on is steps =
-      rw is (follows (hears node frame.from version on) (record { status = refl; pointers = refl; lays = refl }) steps)
+      rw is (follows (takes_link_joining node frame.from version on) (record { status = refl; pointers = refl; lays = refl }) steps)
 
-  pub forget_follows : frame.body ≡ Forget → Steps (forgets node frame.from) → Follows
+  pub forget_follows : frame.body ≡ Forget → Steps (takes_forget node frame.from) → Follows
   unfolding frame_at_joining
-  forget_follows is steps = rw is (follows (forgets node frame.from) (record { status = refl; pointers = refl; lays = refl }) steps)
+  forget_follows is steps = rw is (follows (takes_forget node frame.from) (record { status = refl; pointers = refl; lays = refl }) steps)
 
   pub cast_follows : (cast level session depth : ℕ) (word : List ℕ) → frame.body ≡ Cast cast level session depth word
-      → Steps (answers_cast node frame.from session) → Follows
+      → Steps (takes_cast_outside node frame.from session) → Follows
   unfolding frame_at_joining
   cast_follows cast level session depth word is steps =
-      rw is (follows (answers_cast node frame.from session) (record { status = refl; pointers = refl; lays = refl }) steps)
+      rw is (follows (takes_cast_outside node frame.from session) (record { status = refl; pointers = refl; lays = refl }) steps)

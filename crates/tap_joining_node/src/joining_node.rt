@@ -4,14 +4,14 @@ ghost use Rattle.tap_session.specs.Session.{most_sessions};
 ghost use Rattle.tap_session.specs.Sessions.{opened_with};
 ghost use Rattle.tap_table.specs.Table.{rows};
 ghost use Rattle.tap_table.specs.Ties.{AreTies};
-ghost use Rattle.tap_rule.specs.Answers.{answered};
-ghost use Rattle.tap_rule.specs.Casts.{answers_cast};
-ghost use Rattle.tap_rule.specs.Ceasing.{ceases, gives_up};
+ghost use Rattle.tap_rule.specs.Answers.{takes_heard_or_ack};
+ghost use Rattle.tap_rule.specs.Casts.{takes_cast_outside};
+ghost use Rattle.tap_rule.specs.Ceasing.{ceases, starts_abandon};
 ghost use Rattle.tap_rule.specs.FrameRules.{frame_at_joining};
-ghost use Rattle.tap_rule.specs.Joining.{becomes_core, meets, starts_join, takes_hello};
-ghost use Rattle.tap_rule.specs.Links.{forgets, hears, releases};
+ghost use Rattle.tap_rule.specs.Joining.{becomes_core, starts_join, takes_hello, takes_tell_joining};
+ghost use Rattle.tap_rule.specs.Links.{takes_forget, takes_link_joining, takes_release};
 ghost use Rattle.tap_rule.specs.Node.{joiner};
-ghost use Rattle.tap_rule.specs.Node.Status.{Ceased as ceased};
+ghost use Rattle.tap_rule.specs.Node.Status.{Ceased as CeasedStatus};
 ghost use Rattle.tap_rule.specs.Reaction.{message};
 ghost use Rattle.tap_wire.specs.Spelling.{AreLinks};
 ghost use Rattle.tap_wire.specs.declared.frame.Body.TheVariants as bodies;
@@ -105,23 +105,23 @@ impl JoiningNode {
                 session,
                 depth,
                 ..
-            } => self.meets(sent, frame.from, *joiner, *session, *depth),
+            } => self.on_tell(sent, frame.from, *joiner, *session, *depth),
             Body::Hello {
                 session,
                 core,
                 links,
-            } => self.takes_hello(sent, frame.from, *session, *core, links),
-            Body::Heard { session } | Body::Ack { session } => self.answered(sent, *session),
-            Body::Release => self.releases(sent, Release { from: frame.from }),
+            } => self.on_hello(sent, frame.from, *session, *core, links),
+            Body::Heard { session } | Body::Ack { session } => self.on_heard_or_ack(sent, *session),
+            Body::Release => self.on_release(sent, Release { from: frame.from }),
             Body::Link { version, on } => {
-                self.hears(frame.from, *version, *on)?;
+                self.on_link(frame.from, *version, *on)?;
                 Ok(())
             }
             Body::Forget => {
-                self.forgets(Forget { from: frame.from });
+                self.on_forget(Forget { from: frame.from });
                 Ok(())
             }
-            Body::Cast { session, .. } => self.answers_cast(sent, frame.from, *session),
+            Body::Cast { session, .. } => self.on_cast(sent, frame.from, *session),
             Body::Seek { .. }
             | Body::Done
             | Body::Lay { .. }
@@ -135,7 +135,7 @@ impl JoiningNode {
     }
 
     // Tell: it pins the joiner, and greets it once.
-    fn meets(
+    fn on_tell(
         &mut self,
         sent: &mut FrameList,
         from: Name,
@@ -149,7 +149,7 @@ impl JoiningNode {
         requires other { joiner ≢ self.old.joining.ties.table.owner }
         requires number { self.old.stamp < u32.MAX }
         requires room { self.old.sessions.opened < most_sessions }
-        ensures { OnOk result (StepsAs (joining_state self.old) (meets (joining_state self.old) from
+        ensures { OnOk result (StepsAs (joining_state self.old) (takes_tell_joining (joining_state self.old) from
             (record { joiner = joiner; prefix = 0; level = 0; session = session; depth = depth }))
             (joining_state self.new) sent.old sent.new News.Nothing) }
     {
@@ -161,7 +161,7 @@ impl JoiningNode {
                 name: from,
                 session,
             };
-            self.greets(sent, &sender, joiner, parent, depth)?;
+            self.greet(sent, &sender, joiner, parent, depth)?;
         } else {
             sender.send(sent, &from, Body::Ack { session })?;
         }
@@ -169,7 +169,7 @@ impl JoiningNode {
     }
 
     // Greets a joiner, in a session that waits for its answer alone.
-    fn greets(
+    fn greet(
         &mut self,
         sent: &mut FrameList,
         sender: &Sender,
@@ -194,7 +194,7 @@ impl JoiningNode {
     }
 
     // Hello: it takes the sender and then the links, and answers.
-    fn takes_hello(
+    fn on_hello(
         &mut self,
         sent: &mut FrameList,
         from: Name,
@@ -217,9 +217,9 @@ impl JoiningNode {
     }
 
     // Heard or Ack: a session has one answer more, and after the last one its parent is answered.
-    fn answered(&mut self, sent: &mut FrameList, session: u32) -> Result<(), NoMemory>
+    fn on_heard_or_ack(&mut self, sent: &mut FrameList, session: u32) -> Result<(), NoMemory>
         requires { HaveParents self.old.joining.ties.table.settings self.old.sessions }
-        ensures { OnOk result (StepsAs (joining_state self.old) (answered (joining_state self.old) session)
+        ensures { OnOk result (StepsAs (joining_state self.old) (takes_heard_or_ack (joining_state self.old) session)
             (joining_state self.new) sent.old sent.new News.Nothing) }
     {
         let sender = self.sender();
@@ -228,11 +228,11 @@ impl JoiningNode {
     }
 
     // Release: a pin on the sender is settled if its slot has room, and else dropped.
-    fn releases(&mut self, sent: &mut FrameList, by: Release<Name>) -> Result<(), NoMemory>
+    fn on_release(&mut self, sent: &mut FrameList, by: Release<Name>) -> Result<(), NoMemory>
         requires name { IsName self.old.joining.ties.table.settings by.from }
         requires other { by.from ≢ self.old.joining.ties.table.owner }
         requires number { self.old.stamp < u32.MAX }
-        ensures { OnOk result (StepsAs (joining_state self.old) (releases (joining_state self.old) by.from)
+        ensures { OnOk result (StepsAs (joining_state self.old) (takes_release (joining_state self.old) by.from)
             (joining_state self.new) sent.old sent.new News.Nothing) }
     {
         let word = self.joining.ties_mut().release(&mut self.stamp, by);
@@ -241,26 +241,26 @@ impl JoiningNode {
     }
 
     // Link: the register of its holders takes the word.
-    fn hears(&mut self, holder: Name, version: u32, on: bool) -> Result<(), NoMemory>
+    fn on_link(&mut self, holder: Name, version: u32, on: bool) -> Result<(), NoMemory>
         requires name { IsName self.old.joining.ties.table.settings holder }
         requires other { holder ≢ self.old.joining.ties.table.owner }
-        ensures { OnOk result (joining_state self.new ≡ (hears (joining_state self.old) holder version on).state) }
+        ensures { OnOk result (joining_state self.new ≡ (takes_link_joining (joining_state self.old) holder version on).state) }
     {
         self.joining.ties_mut().held(holder, version, on)?;
         Ok(())
     }
 
     // Forget: a pin on the sender is gone.
-    fn forgets(&mut self, by: Forget<Name>)
+    fn on_forget(&mut self, by: Forget<Name>)
         requires name { IsName self.old.joining.ties.table.settings by.from }
         requires other { by.from ≢ self.old.joining.ties.table.owner }
-        ensures { joining_state self.new ≡ (forgets (joining_state self.old) by.from).state }
+        ensures { joining_state self.new ≡ (takes_forget (joining_state self.old) by.from).state }
     {
         self.joining.ties_mut().forget(by);
     }
 
     // Cast: it is answered.
-    fn answers_cast(
+    fn on_cast(
         &mut self,
         sent: &mut FrameList,
         from: Name,
@@ -268,7 +268,7 @@ impl JoiningNode {
     ) -> Result<(), NoMemory>
         requires sender { IsName self.old.joining.ties.table.settings from }
         requires session { 1 ≤ session }
-        ensures { OnOk result (StepsAs (joining_state self.old) (answers_cast (joining_state self.old) from session)
+        ensures { OnOk result (StepsAs (joining_state self.old) (takes_cast_outside (joining_state self.old) from session)
             (joining_state self.new) sent.old sent.new News.Nothing) }
     {
         self.sender().send(sent, &from, Body::CastAck { session })?;
@@ -278,7 +278,7 @@ impl JoiningNode {
     /// Starts its join: a Seek, to the node that it knows.
     ///
     /// Rule: docs/PROTOCOL.md, "The start of a join".
-    pub fn starts_join(&self, sent: &mut FrameList, via: Name) -> Result<News, NoMemory>
+    pub fn join(&self, sent: &mut FrameList, via: Name) -> Result<News, NoMemory>
         requires { IsName self.now.joining.ties.table.settings via }
         ensures { IfOk result (λ news. StepsAs (joining_state self.now) (starts_join (joining_state self.now) via)
             (joining_state self.now) sent.old sent.new news) }
@@ -292,8 +292,8 @@ impl JoiningNode {
     /// Gives its join up.
     ///
     /// Rule: docs/PROTOCOL.md, "Giving a join up".
-    pub fn gives_up(&mut self)
-        ensures { joining_state self.new ≡ (gives_up (joining_state self.old)).state }
+    pub fn abandon(&mut self)
+        ensures { joining_state self.new ≡ (starts_abandon (joining_state self.old)).state }
     {
         self.joining.abandon();
     }
@@ -301,7 +301,7 @@ impl JoiningNode {
     /// Takes a Done, if its join wasn't given up: it is core now, and releases its holders.
     ///
     /// Rule: docs/PROTOCOL.md, "Done".
-    pub fn becomes_core(self, sent: &mut FrameList) -> Result<Joined, NoMemory>
+    pub fn become_core(self, sent: &mut FrameList) -> Result<Joined, NoMemory>
         requires { self.joining.abandoned ≡ false }
         ensures { IfOk result (λ joined. StepsAs (joining_state self) (becomes_core (joining_state self)) (core_joined joined)
             sent.old sent.new News.Core) }
@@ -321,12 +321,12 @@ impl JoiningNode {
     /// each holder; its sessions are left.
     ///
     /// Rule: docs/PROTOCOL.md, "Done".
-    pub fn ceases(self, sent: &mut FrameList, by: Cease<Name>) -> Result<Sessions, NoMemory>
+    pub fn cease(self, sent: &mut FrameList, by: Cease<Name>) -> Result<Sessions, NoMemory>
         requires abandoned { self.joining.abandoned ≡ true }
         requires owner { by.owner ≡ self.joining.ties.table.owner }
         requires numbers { self.stamp + length (rows self.joining.ties.table) ≤ u32.MAX }
         ensures { IfOk result (λ sessions. StepsAs (joining_state self) (ceases (joining_state self))
-            (ended_state ceased self.joining.ties.table.settings self.joining.ties.table.owner sessions) sent.old sent.new News.Gone) }
+            (ended_state CeasedStatus self.joining.ties.table.settings self.joining.ties.table.owner sessions) sent.old sent.new News.Gone) }
     {
         let sender = self.sender();
         let mut stamp = self.stamp;

@@ -11,8 +11,8 @@ fn a_join_from_its_seek_to_its_end(rt: HostRuntime) -> Result<(), Fail> {
     let name = read_name(&settings, b"01")?;
     let node = JoiningNode::new(rt.alloc(), name, &settings)?;
     let mut sent = FrameList::new(rt.alloc());
-    node.starts_join(&mut sent, via)?;
-    let joined = node.becomes_core(&mut sent)?;
+    node.join(&mut sent, via)?;
+    let joined = node.become_core(&mut sent)?;
     assert_eq!(rt; joined.core.ties().holder_count(), 0);
     assert_eq!(rt; sent.len(), 1);
     if sent.len() > 0 {

@@ -10,7 +10,7 @@ use Rattle.tap_pointer.specs.Reconcile.{clear_lays, reconciled}
 use Rattle.tap_wire.specs.declared.frame.Body.TheVariants.{Gone}
 use Rattle.tap_wire.specs.declared.frame.Frame.{Frame}
 use Rattle.tap_node_common.proofs.Steps.{all_sent, one_sent}
-use Rattle.tap_rule.specs.Event.News.{Nothing as RuleNothing}
+use Rattle.tap_rule.specs.Event.News.{Nothing as NothingNews}
 use Rattle.tap_rule.specs.Leaving.{finishes, last_words, leave_for}
 use Rattle.tap_rule.specs.Node.{NodeState, name_of, settings_of}
 use Rattle.tap_rule.specs.Node.Status.{Gone as GoneStatus}
@@ -55,7 +55,7 @@ module _ (node : NodeState) where
       → StepsAs node (reconciles (sends node messages)) (record node { pointers = pointers; stamp = stamp }) before sent Nothing
   notices_step messages pointers stamp before added sent is same numbered lays =
       reconciled_step node (sends node messages) (record node { pointers = pointers; stamp = stamp }) node before added sent Nothing refl
-      (messages_step node node messages RuleNothing before added is) (reconciled_is node pointers stamp same numbered) lays
+      (messages_step node node messages NothingNews before added is) (reconciled_is node pointers stamp same numbered) lays
 
   -- the words, the Gones and the Lays of its end are sent
   pub finished_step : (before worded gone sent : List (List ℕ)) → worded ≡ before ++ word_bytes (node_sender node) (last_words node)

@@ -5,11 +5,11 @@ use Rattle.tap_pointer.specs.Pointers.{pair_of}
 use Rattle.tap_pointer.specs.Reconcile.{AreLaid}
 use Rattle.tap_wire.specs.declared.frame.Body.TheVariants.{Link, Lay, Find, Answer}
 use Rattle.tap_wire.specs.declared.frame.Frame.{Frame}
-use Rattle.tap_rule.specs.Event.News.{Answered as RuleAnswered}
+use Rattle.tap_rule.specs.Event.News.{Answered as AnsweredNews}
 use Rattle.tap_rule.specs.FrameRules.{frame_at_leaving}
-use Rattle.tap_rule.specs.Links.{hears_and_releases}
+use Rattle.tap_rule.specs.Links.{takes_link}
 use Rattle.tap_rule.specs.Node.{IsRunning, NodeState}
-use Rattle.tap_rule.specs.Pointers.{finds, is_answered, reconciles, takes_lay}
+use Rattle.tap_rule.specs.Pointers.{reconciles, takes_answer, takes_find, takes_lay}
 use Rattle.tap_rule.specs.Reaction.{Reaction}
 use Rattle.tap_node_common.specs.declared.news.News.{News}
 use Rattle.tap_node_common.specs.declared.news.News.TheVariants.{Answered}
@@ -32,17 +32,17 @@ module _ (node : NodeState) (runs : IsRunning node.status) (frame : Frame) where
         rw is (follows_rule node (takes_lay node frame.from (pair_of object server) level version on) after before sent news runs steps)
 
     pub link_follows : AreLaid node.ties.table node.pointers → (version : ℕ) (on : Bool) → frame.body ≡ Link version on
-        → Steps (hears_and_releases node frame.from version on) → Follows
+        → Steps (takes_link node frame.from version on) → Follows
     unfolding frame_at_leaving
     link_follows laid version on is steps =
-        rw is (follows_quietly node (hears_and_releases node frame.from version on) after before sent news runs refl laid steps)
+        rw is (follows_quietly node (takes_link node frame.from version on) after before sent news runs refl laid steps)
 
     pub find_follows : AreLaid node.ties.table node.pointers → (ticket : ℕ) (object asker : List ℕ) (level : ℕ)
-        → frame.body ≡ Find ticket object asker level → Steps (finds node ticket object asker level) → Follows
+        → frame.body ≡ Find ticket object asker level → Steps (takes_find node ticket object asker level) → Follows
     unfolding frame_at_leaving
     find_follows laid ticket object asker level is steps =
         rw is
-        (follows_alone node (finds node ticket object asker level) after before sent news runs laid
+        (follows_alone node (takes_find node ticket object asker level) after before sent news runs laid
         (finds_alone node ticket object asker level) steps)
 
   -- an Answer is noted, and nothing else happens
@@ -52,5 +52,5 @@ module _ (node : NodeState) (runs : IsRunning node.status) (frame : Frame) where
   unfolding frame_at_leaving
   answer_follows laid before ticket server is =
       rw is
-      (follows_quietly node (is_answered node ticket server) node before before (Answered ticket server) runs refl laid
-      (silent_step node node (RuleAnswered ticket server) before))
+      (follows_quietly node (takes_answer node ticket server) node before before (Answered ticket server) runs refl laid
+      (silent_step node node (AnsweredNews ticket server) before))

@@ -6,9 +6,9 @@ ghost use Rattle.tap_table.specs.Table.{rows};
 ghost use Rattle.tap_table.specs.Ties.{AreTies};
 ghost use Rattle.tap_rule.specs.FrameRules.{frame_at_leaving};
 ghost use Rattle.tap_rule.specs.Leaving.{finishes, leave_for, with_departure};
-ghost use Rattle.tap_rule.specs.Links.{hears_and_releases};
-ghost use Rattle.tap_rule.specs.Node.Status.{Gone as gone};
-ghost use Rattle.tap_rule.specs.Pointers.{finds, reconciles, takes_lay};
+ghost use Rattle.tap_rule.specs.Links.{takes_link};
+ghost use Rattle.tap_rule.specs.Node.Status.{Gone as GoneStatus};
+ghost use Rattle.tap_rule.specs.Pointers.{reconciles, takes_find, takes_lay};
 ghost use Rattle.tap_rule.specs.Reaction.{sends};
 ghost use Rattle.tap_wire.specs.declared.frame.Body.TheVariants as bodies;
 ghost use Rattle.tap_wire.specs.Spelling.{IsLevel};
@@ -99,9 +99,9 @@ impl LeavingNode {
     {
         *news = News::Nothing;
         match &frame.body {
-            Body::Link { version, on } => self.hears_and_releases(sent, frame.from, *version, *on),
-            Body::Lay { .. } => self.take_lay(frame, sent),
-            Body::Find { .. } => self.take_find(frame, sent),
+            Body::Link { version, on } => self.on_link(sent, frame.from, *version, *on),
+            Body::Lay { .. } => self.on_lay(frame, sent),
+            Body::Find { .. } => self.on_find(frame, sent),
             Body::Answer { ticket, server } => {
                 *news = News::Answered {
                     ticket: *ticket,
@@ -126,7 +126,7 @@ impl LeavingNode {
     }
 
     // Link: a new one is answered with a Release.
-    fn hears_and_releases(
+    fn on_link(
         &mut self,
         sent: &mut FrameList,
         holder: Name,
@@ -135,7 +135,7 @@ impl LeavingNode {
     ) -> Result<(), NoMemory>
         requires name { IsName self.old.leaving.ties.table.settings holder }
         requires other { holder ≢ self.old.leaving.ties.table.owner }
-        ensures { OnOk result (StepsAs (leaving_state self.old) (hears_and_releases (leaving_state self.old) holder version on)
+        ensures { OnOk result (StepsAs (leaving_state self.old) (takes_link (leaving_state self.old) holder version on)
             (leaving_state self.new) sent.old sent.new News.Nothing) }
     {
         hear_and_release(self.leaving.ties_mut(), sent, holder, version, on)?;
@@ -143,7 +143,7 @@ impl LeavingNode {
     }
 
     // Takes a Lay.
-    fn take_lay(&mut self, frame: &Frame, sent: &mut FrameList) -> Result<(), NoMemory>
+    fn on_lay(&mut self, frame: &Frame, sent: &mut FrameList) -> Result<(), NoMemory>
         requires may { MayTake (leaving_state self.old) frame.now }
         requires kind { IsLayBody frame.now.body }
         ensures { OnOk result (FollowsAs (leaving_state self.old)
@@ -168,11 +168,11 @@ impl LeavingNode {
             version: *version,
             on: *on,
         };
-        self.takes_lay(sent, &lay)
+        self.apply_lay(sent, &lay)
     }
 
     // Takes a Find.
-    fn take_find(&mut self, frame: &Frame, sent: &mut FrameList) -> Result<(), NoMemory>
+    fn on_find(&mut self, frame: &Frame, sent: &mut FrameList) -> Result<(), NoMemory>
         requires may { MayTake (leaving_state self.old) frame.now }
         requires kind { IsFindBody frame.now.body }
         ensures { OnOk result (FollowsAs (leaving_state self.old)
@@ -193,11 +193,11 @@ impl LeavingNode {
             asker: *asker,
             level: *level,
         };
-        self.finds(sent, &find)
+        self.route_find(sent, &find)
     }
 
     // Lay: the register of its sender takes it, and its pair is laid as wanted.
-    fn takes_lay(&mut self, sent: &mut FrameList, lay: &TakenLay) -> Result<(), NoMemory>
+    fn apply_lay(&mut self, sent: &mut FrameList, lay: &TakenLay) -> Result<(), NoMemory>
         requires sound { IsSoundNode (leaving_state self.old) }
         requires room { has_numbers_left (leaving_state self.old) ≡ true }
         requires object { IsName self.old.leaving.ties.table.settings lay.now.object }
@@ -219,12 +219,12 @@ impl LeavingNode {
     }
 
     // Find: it is answered, or it goes on.
-    fn finds(&self, sent: &mut FrameList, find: &TakenFind) -> Result<(), NoMemory>
+    fn route_find(&self, sent: &mut FrameList, find: &TakenFind) -> Result<(), NoMemory>
         requires sound { IsSoundNode (leaving_state self.now) }
         requires object { IsName self.now.leaving.ties.table.settings find.now.object }
         requires asker { IsName self.now.leaving.ties.table.settings find.now.asker }
         requires level { find.now.level ≤ self.now.leaving.ties.table.settings.digits }
-        ensures { OnOk result (StepsAs (leaving_state self.now) (finds (leaving_state self.now) find.now.ticket find.now.object find.now.asker find.now.level)
+        ensures { OnOk result (StepsAs (leaving_state self.now) (takes_find (leaving_state self.now) find.now.ticket find.now.object find.now.asker find.now.level)
             (leaving_state self.now) sent.old sent.new News.Nothing) }
     {
         take_find(
@@ -239,7 +239,7 @@ impl LeavingNode {
     /// Takes a Left: the sender is awaited no more.
     ///
     /// Rule: docs/PROTOCOL.md, "Left".
-    pub fn is_left(&mut self, from: Name)
+    pub fn on_left(&mut self, from: Name)
         ensures { self.new ≡ record self.old { leaving = left_by self.old.leaving from } }
     {
         self.leaving.left(from);
@@ -250,7 +250,7 @@ impl LeavingNode {
     /// The stamp has two numbers left for each pair that is held or laid. If memory is refused, the node is used no more.
     ///
     /// Rule: docs/PROTOCOL.md, "The start of a departure".
-    pub fn sends_notices(&mut self, sent: &mut FrameList) -> Result<(), NoMemory>
+    pub fn send_notices(&mut self, sent: &mut FrameList) -> Result<(), NoMemory>
         requires notices { self.old.leaving.notices ≡ (started_leaving self.old.leaving.ties).notices }
         requires owner { self.old.parts.pointers.owner ≡ self.old.leaving.ties.table.owner }
         requires pairs { AreNamedPairs self.old.leaving.ties.table.settings self.old.parts.pointers }
@@ -260,14 +260,14 @@ impl LeavingNode {
             (reconciles (sends (leaving_state self.old) (map leave_for self.old.leaving.notices)))
             (leaving_state self.new) sent.old sent.new News.Nothing) }
     {
-        self.sends_leaves(sent)?;
+        self.send_leaves(sent)?;
         let table = self.leaving.ties().table();
         reconcile(&mut self.parts.pointers, table, &mut self.parts.stamp, sent)?;
         Ok(())
     }
 
     // Sends the notices of its start.
-    fn sends_leaves(&self, sent: &mut FrameList) -> Result<(), NoMemory>
+    fn send_leaves(&self, sent: &mut FrameList) -> Result<(), NoMemory>
         requires notices { self.now.leaving.notices ≡ (started_leaving self.now.leaving.ties).notices }
         ensures { OnOk result (sent.new
             ≡ sent.old ++ message_bytes (sender_of self.now.leaving.ties.table) (map leave_for self.now.leaving.notices)) }
@@ -289,13 +289,13 @@ impl LeavingNode {
     /// It awaits nobody. The stamp has a number left for each link, and for each pair that is held or laid.
     ///
     /// Rule: docs/PROTOCOL.md, "Left".
-    pub fn finishes(self, sent: &mut FrameList) -> Result<Sessions, NoMemory>
+    pub fn finish(self, sent: &mut FrameList) -> Result<Sessions, NoMemory>
         requires awaits { length self.leaving.awaited ≡ 0 }
         requires pairs { AreNamedPairs self.leaving.ties.table.settings self.parts.pointers }
         requires hops { AreNamedHops self.leaving.ties.table.settings self.parts.pointers }
         requires numbers { self.parts.stamp + length (rows self.leaving.ties.table) + held_or_laid_count self.parts.pointers.pairs ≤ u32.MAX }
         ensures { IfOk result (λ sessions. StepsAs (leaving_state self) (finishes (leaving_state self))
-            (ended_state gone self.leaving.ties.table.settings self.leaving.ties.table.owner sessions) sent.old sent.new News.Gone) }
+            (ended_state GoneStatus self.leaving.ties.table.settings self.leaving.ties.table.owner sessions) sent.old sent.new News.Gone) }
     {
         let sender = self.sender();
         let LeavingNode { leaving, parts, .. } = self;

@@ -5,7 +5,7 @@ use Rattle.std.proofs.lemmas.List.Elements.{All-cons, All-nil}
 use Rattle.tap_name.specs.Settings.{SettingsValue}
 use Rattle.tap_table.specs.declared.next.Next.{Next}
 use Rattle.tap_table.specs.declared.next.Next.TheVariants.{Hop as HopTo, Root}
-use Rattle.tap_pointer.specs.Pointers.{least_server}
+use Rattle.tap_pointer.specs.Pointers.{server_for}
 use Rattle.tap_pointer.specs.Reconcile.{AreLaid}
 use Rattle.tap_pointer.proofs.Laws.{laid_sends_nothing}
 use Rattle.tap_wire.specs.declared.frame.Body.{Body}
@@ -95,30 +95,30 @@ module _ (node : NodeState) (acted : Acted) (laid : AreLaid node.ties.table node
 find_stays : (node : NodeState) (ticket : ℕ) (object asker : List ℕ) (level : ℕ) (acted : Acted) → AreLaid node.ties.table node.pointers
     → FindStep node ticket object asker level acted → StaysAlike node acted
 find_stays node ticket object asker level acted laid step =
-    by_server (least_server node.pointers object) refl
+    by_server (server_for node.pointers object) refl
   where
-    by_next : least_server node.pointers object ≡ None → (next : Next) → next_hop node object level ≡ next → StaysAlike node acted
+    by_next : server_for node.pointers object ≡ None → (next : Next) → next_hop node object level ≡ next → StaysAlike node acted
     by_next none Root hop =
         stays_alike node acted laid step.alike _ _ (step.at_root none hop) (one_message node acted laid step.alike _ _ tt)
     by_next none (HopTo to next) hop =
         stays_alike node acted laid step.alike _ _ (step.goes_on to next none hop) (one_message node acted laid step.alike _ _ tt)
 
-    by_server : (server : Option (List ℕ)) → least_server node.pointers object ≡ server → StaysAlike node acted
+    by_server : (server : Option (List ℕ)) → server_for node.pointers object ≡ server → StaysAlike node acted
     by_server None none = by_next none (next_hop node object level) refl
     by_server (Some server) held =
         stays_alike node acted laid step.alike _ _ (step.served server held) (one_message node acted laid step.alike _ _ tt)
 
 lookup_stays : (node : NodeState) (ticket : ℕ) (object : List ℕ) (acted : Acted) → AreLaid node.ties.table node.pointers
     → LookupStep node ticket object acted → StaysAlike node acted
-lookup_stays node ticket object acted laid step = by_server (least_server node.pointers object) refl
+lookup_stays node ticket object acted laid step = by_server (server_for node.pointers object) refl
   where
-    by_next : least_server node.pointers object ≡ None → (next : Next) → next_hop node object 0 ≡ next → StaysAlike node acted
+    by_next : server_for node.pointers object ≡ None → (next : Next) → next_hop node object 0 ≡ next → StaysAlike node acted
     by_next none Root hop =
         stays_alike node acted laid step.alike _ _ (step.at_root none hop) (no_message node acted laid step.alike)
     by_next none (HopTo to next) hop =
         stays_alike node acted laid step.alike _ _ (step.goes_on to next none hop) (one_message node acted laid step.alike _ _ tt)
 
-    by_server : (server : Option (List ℕ)) → least_server node.pointers object ≡ server → StaysAlike node acted
+    by_server : (server : Option (List ℕ)) → server_for node.pointers object ≡ server → StaysAlike node acted
     by_server None none = by_next none (next_hop node object 0) refl
     by_server (Some server) held =
         stays_alike node acted laid step.alike _ _ (step.served server held) (no_message node acted laid step.alike)
@@ -206,7 +206,7 @@ module _ (p : SettingsValue) (rest : System) (asker : List ℕ) (ticket : ℕ) (
             let once : AnsweredAtOnce node start number server = subst (AskNotes node start) news (start_acts node start).news in
             let starts_it = once.is in
             let objects : object ≡ once.object = cc in
-            let held : least_server node.pointers object ≡ server = ap (least_server node.pointers) objects ∙ once.held in
+            let held : server_for node.pointers object ≡ server = ap (server_for node.pointers) objects ∙ once.held in
             let ends = λ (none : server ≡ None). ap (λ o. next_hop node o 0) objects ∙ once.ends none in
             let numbers : number ≡ ticket = cc in
             (numbers, exactly 0 server first held ends),
@@ -322,7 +322,7 @@ module _ (p : SettingsValue) (rest : System) (asker : List ℕ) (ticket : ℕ) (
         let was = alone.nodes frame.to node at in
         let of : IsOfLookup p rest ticket object asker frame.to (Find named says.object to says.level) =
         subst (IsOfLookup p rest ticket object asker frame.to) says.is of_it in
-        let held : least_server node.pointers object ≡ server = ap (least_server node.pointers) (sym of.1) ∙ says.held in
+        let held : server_for node.pointers object ≡ server = ap (server_for node.pointers) (sym of.1) ∙ says.held in
         let ends = λ (none : server ≡ None). ap (λ o. next_hop node o says.level) (sym of.1) ∙ says.ends none in (
           of.0,
           answers_exactly p rest sound_rest stand quiet object asks.name asker asker_core frame.to node says.level server was receives.0

@@ -3,7 +3,7 @@ use Rattle.std.proofs.Common.{◌≡◌, ℕ, Bool, true, List, Option, Some, ap
 use Rattle.std.specs.Option.{option_map}
 use Rattle.tap_name.specs.Settings.{SettingsValue}
 use Rattle.tap_pointer.specs.declared.pair.Pair.{Pair}
-use Rattle.tap_pointer.specs.Pointers.{least_server, pair_of}
+use Rattle.tap_pointer.specs.Pointers.{pair_of, server_for}
 use Rattle.tap_wire.specs.declared.frame.Body.TheVariants.{Answer, Find}
 use Rattle.tap_wire.specs.declared.frame.Frame.{Frame}
 use Rattle.tap_rule.specs.Act.{act}
@@ -90,7 +90,7 @@ module _ (asked : ℕ → List ℕ → Bool) (was : Pair → Bool) (p : Settings
     (ever : AreOfPublished was s) (before : LookupsAreOf asked was s) where
   -- the least server that a node holds
   server_was : (x : List ℕ) (node : NodeState) (object : List ℕ) (server : Option (List ℕ)) → s.node x ≡ Some node
-      → least_server node.pointers object ≡ server → (name : List ℕ) → server ≡ Some name → was (pair_of object name) ≡ true
+      → server_for node.pointers object ≡ server → (name : List ℕ) → server ≡ Some name → was (pair_of object name) ≡ true
   server_was x node object server at held name is =
       let of = sound.nodes.nodes x node at in
       held_was_published s was x (pair_of object name) stand ever (record {

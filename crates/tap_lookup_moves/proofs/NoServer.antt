@@ -4,7 +4,7 @@ use Rattle.tap_name.specs.Settings.{SettingsValue}
 use Rattle.tap_surrogate.specs.Entered.{walk_entered}
 use Rattle.tap_surrogate.specs.Nodes.{Nodes, core_links}
 use Rattle.tap_table.specs.declared.next.Next.TheVariants.{Hop as HopTo, Root}
-use Rattle.tap_pointer.specs.Pointers.{is_held, least_server, pair_of, state_of}
+use Rattle.tap_pointer.specs.Pointers.{is_held, pair_of, server_for, state_of}
 use Rattle.tap_wire.specs.declared.frame.Body.TheVariants.{Answer, Find}
 use Rattle.tap_wire.specs.declared.frame.Frame.{Frame}
 use Rattle.tap_runs.specs.Observed.{nodes_of}
@@ -45,7 +45,7 @@ use Rattle.tap_lookup_moves.proofs.Walks.{delivered_nodes, joins_aloud, lookups_
 
 -- a node that has no server of an object holds no pair of it
 ends_here : (s : System) (x object : List ℕ) (level : ℕ) (node : NodeState) → s.node x ≡ Some node
-    → least_server node.pointers object ≡ None → next_hop node object level ≡ Root → EndsAt s x object level
+    → server_for node.pointers object ≡ None → next_hop node object level ≡ Root → EndsAt s x object level
 ends_here s x object level node at none last = record {
   state = node;
   is = at;
@@ -87,7 +87,7 @@ none_is_noted_at_ends p s x ticket object may sound noted =
     let once : AnsweredAtOnce node start ticket None = subst (AskNotes node start) news (start_acts node start).news in
     let starts_it = once.is in
     let objects : once.object ≡ object = cc in
-    let held : least_server node.pointers object ≡ None = ap (least_server node.pointers) (sym objects) ∙ once.held in
+    let held : server_for node.pointers object ≡ None = ap (server_for node.pointers) (sym objects) ∙ once.held in
     ends_here s x object 0 node at held (ap (λ o. next_hop node o 0) (sym objects) ∙ once.ends refl)
 
 -- ---- the ends of walks

@@ -10,7 +10,7 @@ use Rattle.tap_table.specs.declared.next.Next.{Next}
 use Rattle.tap_table.specs.declared.next.Next.TheVariants.{Hop as HopTo, Root}
 use Rattle.tap_pointer.specs.declared.pair.Pair.{Pair}
 use Rattle.tap_pointer.specs.Pair.{pair_cmp}
-use Rattle.tap_pointer.specs.Pointers.{is_held, least_server, pair_of, state_of}
+use Rattle.tap_pointer.specs.Pointers.{is_held, pair_of, server_for, state_of}
 use Rattle.tap_surrogate.specs.Entered.{AreEntered, Entered, IsChain, next_of, walk_entered}
 use Rattle.tap_surrogate.specs.Laws.{LeadsToRoot}
 use Rattle.tap_surrogate.specs.Nodes.{core_links}
@@ -134,7 +134,7 @@ module _ (p : SettingsValue) (s : System) (sound : Sound p s) (stand : PointersS
 
       -- So what a node of the walk answers is exact: the least server that it holds, and none where there is no next hop.
       pub answers_exactly : (x : List ℕ) (node : NodeState) (level : ℕ) (server : Option (List ℕ)) → WasAlike s x node → node.status ≡ Core
-          → IsStrictlySortedBy pair_cmp (keys_of node.pointers.pairs) → IsOnWalk p s object asker x level → least_server node.pointers object ≡ server
+          → IsStrictlySortedBy pair_cmp (keys_of node.pointers.pairs) → IsOnWalk p s object asker x level → server_for node.pointers object ≡ server
           → (server ≡ None → next_hop node object level ≡ Root) → IsExact s object server
       answers_exactly x node level (Some server) was core sorted on held ends =
           let is : is_held (state_of node.pointers (pair_of object server)) ≡ true =

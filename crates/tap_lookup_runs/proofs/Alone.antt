@@ -15,7 +15,7 @@ use Rattle.tap_history.specs.Published.{has_pair, published_of}
 use Rattle.tap_history.specs.Steps.{actor_of}
 use Rattle.tap_rule.specs.Event.{Start}
 use Rattle.tap_rule.specs.Event.Event.{Starts}
-use Rattle.tap_rule.specs.Event.Start.{Find as Finds}
+use Rattle.tap_rule.specs.Event.Start.{Find as StartFind}
 use Rattle.tap_safety.specs.Move.{Move, may_start}
 use Rattle.tap_safety.specs.Move.Move.{Begins, Delivers}
 use Rattle.tap_safety.specs.Moved.{numbered_frame, starter}
@@ -58,7 +58,7 @@ record WasAtRest (p : SettingsValue) (before : List Record) (ticket : ℕ) (obje
   sound : Sound p (system_of before)
   stand : PointersStand (system_of before)
   quiet : (system_of before).frames ≡ []
-  asks : may_start p (system_of before) asker (Finds ticket object)
+  asks : may_start p (system_of before) asker (StartFind ticket object)
   agree : (pair : Pair) → has_pair (published_of before) (pair_line pair) ≡ is_served (system_of before) pair
 
 -- if no start is accepted in what follows, it goes alone; and each answer is exact before which none is
@@ -206,9 +206,9 @@ module _ (b : Beginning) (log group : List Record) (run : IsRun b log) (follows 
       (is : group ≡ StepRecord index (Find object asker) ∷ Asked ticket object asker ∷ after) (resting : is_rest log ≡ true) where
     -- the group is that of the start, which is of this lookup
     record IsItsStart : Type 0 where
-      may : may_start b.settings (system_of log) asker (Finds ticket object)
-      moves : move_of_group log group ≡ Some (Begins asker (Finds ticket object))
-      are : after ≡ records_of_act b.settings log asker ((system_of log).node asker) (Starts (Finds ticket object))
+      may : may_start b.settings (system_of log) asker (StartFind ticket object)
+      moves : move_of_group log group ≡ Some (Begins asker (StartFind ticket object))
+      are : after ≡ records_of_act b.settings log asker ((system_of log).node asker) (Starts (StartFind ticket object))
 
     its_start : (start : IsStartGroup b.settings log (system_of log) group) → IsItsStart
     unfolding actor_of start_of_step announced
@@ -218,26 +218,26 @@ module _ (b : Beginning) (log group : List Record) (run : IsRun b log) (follows 
         let step_is : start.step ≡ Find object asker = cc in
         let items_are : start.items ≡ Asked ticket object asker ∷ after = cc in
         let starting = start.starting in
-        let at : ◌≡◌ {A = Option (List ℕ × Start)} (Some (asker, Finds (next_ticket log) object)) (Some (starting.name, starting.start)) =
+        let at : ◌≡◌ {A = Option (List ℕ × Start)} (Some (asker, StartFind (next_ticket log) object)) (Some (starting.name, starting.start)) =
         ap (start_at log) (sym step_is) ∙ starting.at in
         let name_is : asker ≡ starting.name = ap name_at at in
-        let start_is : Finds (next_ticket log) object ≡ starting.start = ap (start_in (Finds (next_ticket log) object)) at in
+        let start_is : StartFind (next_ticket log) object ≡ starting.start = ap (start_in (StartFind (next_ticket log) object)) at in
         let done = records_of_act b.settings log starting.name (starter b.settings (system_of log) starting.name starting.start)
         (Starts starting.start) in
         let told : Asked ticket object asker ∷ after ≡ Asked (next_ticket log) object asker ∷ done =
         sym items_are ∙ starting.are ∙ ap (λ st. announced log st ++ done) step_is in
         let tickets : next_ticket log ≡ ticket = cc in
         let rest_is : after ≡ done = cc in
-        let finds : starting.start ≡ Finds ticket object = sym start_is ∙ ap (λ n. Finds n object) tickets in
+        let finds : starting.start ≡ StartFind ticket object = sym start_is ∙ ap (λ n. StartFind n object) tickets in
         record {
           may =
-              subst (λ x. may_start b.settings (system_of log) x (Finds ticket object)) (sym name_is)
+              subst (λ x. may_start b.settings (system_of log) x (StartFind ticket object)) (sym name_is)
               (subst (may_start b.settings (system_of log) starting.name) finds start.may);
           moves = start.moves ∙ ap (λ x. Some (Begins x starting.start)) (sym name_is) ∙ ap (λ w. Some (Begins asker w)) finds;
           are =
               rest_is
               ∙ ap (λ w. records_of_act b.settings log starting.name (starter b.settings (system_of log) starting.name w) (Starts w)) finds
-              ∙ ap (λ x. records_of_act b.settings log x ((system_of log).node x) (Starts (Finds ticket object))) (sym name_is);
+              ∙ ap (λ x. records_of_act b.settings log x ((system_of log).node x) (Starts (StartFind ticket object))) (sym name_is);
         }
 
     asked_none : (items : List Record) → All (λ item. asked_ticket item ≡ None) items → items ≡ Asked ticket object asker ∷ after → ⊥
@@ -271,12 +271,12 @@ module _ (b : Beginning) (log group : List Record) (run : IsRun b log) (follows 
         let each : All Holds after =
         subst (All Holds) (sym start.are)
         (act_all Holds (free_exact (system_of log) ticket object) b.settings log asker ((system_of log).node asker)
-        (Starts (Finds ticket object)) begins.1) in
+        (Starts (StartFind ticket object)) begins.1) in
         record {
           was = record { sound = sound; stand = grown.stand; quiet = quiet; asks = start.may; agree = grown.agree };
           alone = λ none.
               subst (GoesAlone b.settings (system_of log) ticket object asker)
-              (sym (moves_to (Some (Begins asker (Finds ticket object))) start.moves)) begins.0;
+              (sym (moves_to (Some (Begins asker (StartFind ticket object))) start.moves)) begins.0;
           exact = λ between later answered server are none.
               all_at Holds after between (Answered answered server) later each are;
         }

@@ -6,8 +6,8 @@ use Rattle.tap_log.specs.declared.record.Record.{Record}
 use Rattle.tap_log.specs.declared.record.Record.TheVariants.{Answered, Asked, Step as StepRecord}
 use Rattle.tap_history.specs.Moments.{is_moment}
 use Rattle.tap_rule.specs.Event.Event.{Starts}
-use Rattle.tap_rule.specs.Event.News.{Answered as IsAnswered}
-use Rattle.tap_rule.specs.Event.Start.{Find as Finds}
+use Rattle.tap_rule.specs.Event.News.{Answered as AnsweredNews}
+use Rattle.tap_rule.specs.Event.Start.{Find as StartFind}
 use Rattle.tap_safety.specs.Move.{may_start}
 use Rattle.tap_safety.specs.Move.Move.{Begins}
 use Rattle.tap_safety.specs.Moved.{moved, starter}
@@ -40,8 +40,8 @@ use Rattle.tap_lookup_runs.proofs.Runs.{asked_first, find_step, finds_asked}
 module _ (b : Beginning) (log group : List Record) (run : IsRun b log) (follows : Follows b log group)
     (names : HaveNames b.settings group) (moment : is_moment log (length log) ≡ true)
     (start : IsStartGroup b.settings log (system_of log) group) (ticket : ℕ) (object : List ℕ)
-    (finds : start.starting.start ≡ Finds ticket object)
-    (noted : news_of b.settings (system_of log) (Begins start.starting.name start.starting.start) ≡ Some (IsAnswered ticket None)) where
+    (finds : start.starting.start ≡ StartFind ticket object)
+    (noted : news_of b.settings (system_of log) (Begins start.starting.name start.starting.start) ≡ Some (AnsweredNews ticket None)) where
   w : IsWhole log group
   w = whole b log group run.course run.going follows
 
@@ -51,13 +51,13 @@ module _ (b : Beginning) (log group : List Record) (run : IsRun b log) (follows 
   grown : Grown log (system_of log)
   grown = run_grown b log run
 
-  asks : may_start b.settings (system_of log) start.starting.name (Finds ticket object)
+  asks : may_start b.settings (system_of log) start.starting.name (StartFind ticket object)
   asks = subst (may_start b.settings (system_of log) start.starting.name) finds start.may
 
   ends_at_asker : EndsAt (system_of log) start.starting.name object 0
   ends_at_asker =
       none_is_noted_at_ends b.settings (system_of log) start.starting.name ticket object asks sound
-      (subst (λ what. news_of b.settings (system_of log) (Begins start.starting.name what) ≡ Some (IsAnswered ticket None)) finds noted)
+      (subst (λ what. news_of b.settings (system_of log) (Begins start.starting.name what) ≡ Some (AnsweredNews ticket None)) finds noted)
 
   group_is : group ≡ StepRecord start.index (Find object start.starting.name) ∷ Asked ticket object start.starting.name
       ∷ records_of_act b.settings log start.starting.name (starter b.settings (system_of log) start.starting.name start.starting.start)
@@ -88,13 +88,13 @@ module _ (b : Beginning) (log group : List Record) (run : IsRun b log) (follows 
       let same = run_moves b log group run follows (Some (Begins st.name st.start)) start.moves
       ∙ ap (λ what. moved b.settings (system_of log) (Begins st.name what)) finds in
       let node = asks.acts.state in
-      let lookups = lookups_before b.settings (system_of log) st.name (Finds ticket object) node asks.acts.is
+      let lookups = lookups_before b.settings (system_of log) st.name (StartFind ticket object) node asks.acts.is
       (subst AreLookups same clear.lookups) in
       let pair = pair_of object clear.server in
       let served_after : is_served (system_of (log ++ group)) pair ≡ true =
       sym ((run_grown b (log ++ group) (run_more b log group run follows names)).agree pair) ∙ clear.published in
       let served : is_served (system_of log) pair ≡ true =
-      sym (start_serves b.settings (system_of log) st.name (Finds ticket object) pair asks sound grown.stand)
+      sym (start_serves b.settings (system_of log) st.name (StartFind ticket object) pair asks sound grown.stand)
       ∙ sym (ap (λ t. is_served t pair) same) ∙ served_after in
       ends_at_once_are_exact b.settings (system_of log) st.name object ticket sound grown.stand lookups asks ends_at_asker clear.server
       (served_is (system_of log) pair served)

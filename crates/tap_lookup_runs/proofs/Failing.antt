@@ -2,12 +2,12 @@
 use Rattle.std.proofs.Common.{◌≡◌, ◌⊎◌, inl, inr, ℕ, true, List, ◌∷◌, ◌++◌, length, Option, None, Some, arith, sym, subst, ◌∙◌, length-append}
 use Rattle.tap_name.specs.Settings.{SettingsValue}
 use Rattle.tap_pointer.specs.Pointers.{pair_of}
-use Rattle.tap_wire.specs.declared.frame.Body.TheVariants.{Answer, Find as FindBody}
+use Rattle.tap_wire.specs.declared.frame.Body.TheVariants.{Answer, Find}
 use Rattle.tap_log.specs.declared.record.Record.{Record}
 use Rattle.tap_log.specs.declared.record.Record.TheVariants.{Answered}
 use Rattle.tap_history.specs.Moments.{is_moment}
 use Rattle.tap_rule.specs.Event.{News}
-use Rattle.tap_rule.specs.Event.News.{Answered as IsAnswered}
+use Rattle.tap_rule.specs.Event.News.{Answered as AnsweredNews}
 use Rattle.tap_safety.specs.Move.{Move, may_move}
 use Rattle.tap_safety.specs.Move.Move.{Begins, Delivers}
 use Rattle.tap_safety.specs.Moved.{moved}
@@ -56,13 +56,13 @@ pub record HasFailed (log before : List Record) (ticket : ℕ) : Type 0 where
 pub record Watched (p : SettingsValue) (log : List Record) (s : System) : Type 0 where
   pub moment : is_moment log (length log) ≡ true
   pub finds : (from to : List ℕ) (ticket : ℕ) (object asker : List ℕ) (level : ℕ)
-      → IsUnderWay s from to (FindBody ticket object asker level) → HasBeenDisturbed log ticket object ⊎ IsOnWalk p s object asker to level
+      → IsUnderWay s from to (Find ticket object asker level) → HasBeenDisturbed log ticket object ⊎ IsOnWalk p s object asker to level
   pub answers : (from to : List ℕ) (ticket : ℕ) → IsUnderWay s from to (Answer ticket None) → MayFail log ticket
   pub each : (before after : List Record) (ticket : ℕ) → log ≡ before ++ Answered ticket None ∷ after → HasFailed log before ticket
 
 -- the record, if it is an answer, is the news
 abbrev pub IsNoted : Option News → Record → Type 0
-IsNoted news (Answered ticket server) = news ≡ Some (IsAnswered ticket server)
+IsNoted news (Answered ticket server) = news ≡ Some (AnsweredNews ticket server)
 IsNoted news other = Unit {0}
 
 pub free_noted : (news : Option News) (item : Record) → IsUnanswered item → IsNoted news item
@@ -148,11 +148,11 @@ module _ (b : Beginning) (log group : List Record) (run : IsRun b log) (follows 
       HasBeenDisturbed (log ++ group) ticket object ⊎ IsOnWalk b.settings (system_of (log ++ group)) object asker to level
 
   module _ (from to : List ℕ) (ticket : ℕ) (object asker : List ℕ) (level : ℕ)
-      (way : IsUnderWay (system_of (log ++ group)) from to (FindBody ticket object asker level)) where
+      (way : IsUnderWay (system_of (log ++ group)) from to (Find ticket object asker level)) where
     find_idle : system_of (log ++ group) ≡ system_of log → KnownOf to ticket object asker level
     find_idle same =
         elim (watched.finds from to ticket object asker level
-        (subst (λ t. IsUnderWay t from to (FindBody ticket object asker level)) same way)) [
+        (subst (λ t. IsUnderWay t from to (Find ticket object asker level)) same way)) [
           | inl known ↦ inl (still ticket object known)
           | inr on ↦ inr (subst (λ t. IsOnWalk b.settings t object asker to level) (sym same) on)
         ]
@@ -162,7 +162,7 @@ module _ (b : Beginning) (log group : List Record) (run : IsRun b log) (follows 
     find_moved lookups move is may =
         let same = moves_to (Some move) is in
         let law = finds_stay_on_walks b.settings (system_of log) move may sound grown.stand looked.core (subst AreLookups same lookups) from to
-        ticket object asker level (subst (λ t. IsUnderWay t from to (FindBody ticket object asker level)) same way) in
+        ticket object asker level (subst (λ t. IsUnderWay t from to (Find ticket object asker level)) same way) in
         let back = λ (on : IsOnWalk b.settings (moved b.settings (system_of log) move) object asker to level).
         subst (λ t. IsOnWalk b.settings t object asker to level) (sym same) on in
         elim law [
@@ -198,7 +198,7 @@ module _ (b : Beginning) (log group : List Record) (run : IsRun b log) (follows 
   -- a lookup that ends as its Find is taken has been disturbed
   disturbed_at : (number ticket : ℕ) (object : List ℕ) → EndsWith (system_of log) number ticket object → HasBeenDisturbed log ticket object
   disturbed_at number ticket object ends =
-      let way : IsUnderWay (system_of log) ends.from ends.to (FindBody ticket object ends.asker ends.level) =
+      let way : IsUnderWay (system_of log) ends.from ends.to (Find ticket object ends.asker ends.level) =
       record { number = number; among = ends.among } in
       let due = looked.core.finds ends.from ends.to ticket object ends.asker ends.level way in
       let name = (find_spelled b.settings (system_of log) sound ends.from ends.to ticket object ends.asker ends.level way).0 in
@@ -219,7 +219,7 @@ module _ (b : Beginning) (log group : List Record) (run : IsRun b log) (follows 
   fails_with : (taken : IsTakenGroup b.settings log (system_of log) group) → (ticket : ℕ) (object : List ℕ)
       → EndsWith (system_of log) taken.number ticket object → MayFail (log ++ group) ticket
   fails_with taken ticket object ends =
-      let way : IsUnderWay (system_of log) ends.from ends.to (FindBody ticket object ends.asker ends.level) =
+      let way : IsUnderWay (system_of log) ends.from ends.to (Find ticket object ends.asker ends.level) =
       record { number = taken.number; among = ends.among } in
       let asked = looked.are.finds ends.from ends.to ticket object ends.asker ends.level way in
       let size = length-append log group in

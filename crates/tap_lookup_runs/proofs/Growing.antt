@@ -12,7 +12,7 @@ use Rattle.tap_log.specs.declared.record.Record.TheVariants.{Answered}
 use Rattle.tap_rule.specs.Act.{act}
 use Rattle.tap_rule.specs.Event.{Acted, Event, News}
 use Rattle.tap_rule.specs.Event.Event.{Takes}
-use Rattle.tap_rule.specs.Event.News.{Answered as IsAnswered, Cast as IsCast, Core as IsCore, Gone as IsGone, Nothing}
+use Rattle.tap_rule.specs.Event.News.{Answered as AnsweredNews, Cast as CastNews, Core as CoreNews, Gone as GoneNews, Nothing}
 use Rattle.tap_rule.specs.Node.{NodeState}
 use Rattle.tap_safety.specs.System.{System}
 use Rattle.tap_runs.specs.Acts.{acted_records, if_so, news_after, news_before, sent_records}
@@ -113,27 +113,27 @@ module _ (Holds : Record → Type 0) (free : (item : Record) → IsUnanswered it
   before_free : (name : List ℕ) (news : News) → All IsUnanswered (news_before name news)
   unfolding news_before
   before_free name Nothing = All-nil IsUnanswered
-  before_free name IsCore = one_unanswered _ tt
-  before_free name IsGone = one_unanswered _ tt
-  before_free name (IsAnswered ticket server) = All-nil IsUnanswered
-  before_free name (IsCast cast reached closed) = so_unanswered reached _ tt
+  before_free name CoreNews = one_unanswered _ tt
+  before_free name GoneNews = one_unanswered _ tt
+  before_free name (AnsweredNews ticket server) = All-nil IsUnanswered
+  before_free name (CastNews cast reached closed) = so_unanswered reached _ tt
 
   sent_free : (p : SettingsValue) (number : ℕ) (frames : List Frame) → All IsUnanswered (sent_records p number frames)
   sent_free p number [] = All-nil IsUnanswered
   sent_free p number (frame ∷ frames) = All-cons IsUnanswered _ (sent_records p (number + 1) frames) tt (sent_free p (number + 1) frames)
 
-  after_all : (news : News) → ((ticket : ℕ) (server : Option (List ℕ)) → news ≡ IsAnswered ticket server → Holds (Answered ticket server))
+  after_all : (news : News) → ((ticket : ℕ) (server : Option (List ℕ)) → news ≡ AnsweredNews ticket server → Holds (Answered ticket server))
       → All Holds (news_after news)
   unfolding news_after
   after_all Nothing known = All-nil Holds
-  after_all IsCore known = All-nil Holds
-  after_all IsGone known = All-nil Holds
-  after_all (IsAnswered ticket server) known = All-cons Holds _ [] (known ticket server refl) (All-nil Holds)
-  after_all (IsCast cast reached closed) known = free_all _ (so_unanswered closed _ tt)
+  after_all CoreNews known = All-nil Holds
+  after_all GoneNews known = All-nil Holds
+  after_all (AnsweredNews ticket server) known = All-cons Holds _ [] (known ticket server refl) (All-nil Holds)
+  after_all (CastNews cast reached closed) known = free_all _ (so_unanswered closed _ tt)
 
   -- what holds of each record but answers, and of the answer that is noted, holds of each record of what a node does
   pub acted_all : (p : SettingsValue) (number : ℕ) (name : List ℕ) (acted : Acted)
-      → ((ticket : ℕ) (server : Option (List ℕ)) → acted.news ≡ IsAnswered ticket server → Holds (Answered ticket server))
+      → ((ticket : ℕ) (server : Option (List ℕ)) → acted.news ≡ AnsweredNews ticket server → Holds (Answered ticket server))
       → All Holds (acted_records p number name acted)
   acted_all p number name acted known =
       All-append Holds (news_before name acted.news) (sent_records p number acted.sent ++ news_after acted.news)
@@ -142,14 +142,14 @@ module _ (Holds : Record → Type 0) (free : (item : Record) → IsUnanswered it
       (after_all acted.news known))
 
 pub acted_unanswered : (p : SettingsValue) (number : ℕ) (name : List ℕ) (acted : Acted)
-    → ((ticket : ℕ) (server : Option (List ℕ)) → acted.news ≡ IsAnswered ticket server → ⊥)
+    → ((ticket : ℕ) (server : Option (List ℕ)) → acted.news ≡ AnsweredNews ticket server → ⊥)
     → All IsUnanswered (acted_records p number name acted)
 acted_unanswered p number name acted never = acted_all IsUnanswered (λ item is. is) p number name acted never
 
 -- so it is of each record of what a node does at an event, and as it takes a frame
 module _ (Holds : Record → Type 0) (free : (item : Record) → IsUnanswered item → Holds item) (p : SettingsValue) (log : List Record) where
   pub act_all : (name : List ℕ) (node : Option NodeState) (event : Event)
-      → ((ticket : ℕ) (server : Option (List ℕ)) → option_map (λ one. (act one event).news) node ≡ Some (IsAnswered ticket server)
+      → ((ticket : ℕ) (server : Option (List ℕ)) → option_map (λ one. (act one event).news) node ≡ Some (AnsweredNews ticket server)
       → Holds (Answered ticket server))
       → All Holds (records_of_act p log name node event)
   act_all name None event known = All-nil Holds
@@ -157,7 +157,7 @@ module _ (Holds : Record → Type 0) (free : (item : Record) → IsUnanswered it
       acted_all Holds free p (sent_count log) name (act node event) (λ ticket server is. known ticket server (ap Some is))
 
   pub receive_all : (s : System) (frame : Option Frame)
-      → ((ticket : ℕ) (server : Option (List ℕ)) → news_of_frame s frame ≡ Some (IsAnswered ticket server) → Holds (Answered ticket server))
+      → ((ticket : ℕ) (server : Option (List ℕ)) → news_of_frame s frame ≡ Some (AnsweredNews ticket server) → Holds (Answered ticket server))
       → All Holds (received_records p log s frame)
   receive_all s None known = All-nil Holds
   receive_all s (Some frame) known = act_all frame.to (s.node frame.to) (Takes frame) known

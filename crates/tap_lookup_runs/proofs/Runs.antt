@@ -15,7 +15,7 @@ use Rattle.tap_history.specs.Groups.{is_ended}
 use Rattle.tap_history.specs.Steps.{actor_of}
 use Rattle.tap_rule.specs.Event.{Start}
 use Rattle.tap_rule.specs.Event.Event.{Starts}
-use Rattle.tap_rule.specs.Event.Start.{Abandon as GivesUp, Cast as Casts, Find as Finds, Join as Joins, Leave as Leaves, Publish as Publishes, Withdraw as Withdraws}
+use Rattle.tap_rule.specs.Event.Start.{Abandon as StartAbandon, Cast as StartCast, Find as StartFind, Join as StartJoin, Leave as StartLeave, Publish as StartPublish, Withdraw as StartWithdraw}
 use Rattle.tap_safety.specs.AtRest.{system_at_rest}
 use Rattle.tap_safety.specs.Move.{Move, may_move}
 use Rattle.tap_safety.specs.Move.Move.{Begins, Delivers}
@@ -59,8 +59,8 @@ pub record Looked (log : List Record) (s : System) : Type 0 where
 
 -- ---- one more group
 
-no_lookup : {A : Type 0} (kind start : Start) (ticket : ℕ) (object : List ℕ) → kind ≡ start → start ≡ Finds ticket object
-    → (kind ≡ Finds ticket object → ⊥) → A
+no_lookup : {A : Type 0} (kind start : Start) (ticket : ℕ) (object : List ℕ) → kind ≡ start → start ≡ StartFind ticket object
+    → (kind ≡ StartFind ticket object → ⊥) → A
 no_lookup kind start ticket object at is never = absurd (never (at ∙ is))
 
 -- the step that starts a lookup, and the number of its ticket
@@ -69,25 +69,25 @@ pub record IsFindStep (log : List Record) (step : Step) (name : List ℕ) (ticke
   pub next : next_ticket log ≡ ticket
 
 pub find_step : (log : List Record) (step : Step) (name : List ℕ) (start : Start) → start_at log step ≡ Some (name, start) → (ticket : ℕ)
-    (object : List ℕ) → start ≡ Finds ticket object → IsFindStep log step name ticket object
+    (object : List ℕ) → start ≡ StartFind ticket object → IsFindStep log step name ticket object
 unfolding actor_of start_of_step
 find_step log (Find sought asker) name start at ticket object is =
-    let both : Finds (next_ticket log) sought ≡ Finds ticket object = ap (start_in (Finds (next_ticket log) sought)) at ∙ is in
+    let both : StartFind (next_ticket log) sought ≡ StartFind ticket object = ap (start_in (StartFind (next_ticket log) sought)) at ∙ is in
     let objects : sought ≡ object = cc in
     let names : asker ≡ name = ap name_at at in
     record { is = ap (λ o. Find o asker) objects ∙ ap (Find object) names; next = cc }
 find_step log (Join newcomer via) name start at ticket object is =
-    no_lookup (Joins via) start ticket object (ap (start_in (Joins via)) at) is (λ same. cc)
+    no_lookup (StartJoin via) start ticket object (ap (start_in (StartJoin via)) at) is (λ same. cc)
 find_step log (Depart node) name start at ticket object is =
-    no_lookup (Leaves) start ticket object (ap (start_in (Leaves)) at) is (λ same. cc)
+    no_lookup (StartLeave) start ticket object (ap (start_in (StartLeave)) at) is (λ same. cc)
 find_step log (Publish sought server) name start at ticket object is =
-    no_lookup (Publishes sought) start ticket object (ap (start_in (Publishes sought)) at) is (λ same. cc)
+    no_lookup (StartPublish sought) start ticket object (ap (start_in (StartPublish sought)) at) is (λ same. cc)
 find_step log (Withdraw sought server) name start at ticket object is =
-    no_lookup (Withdraws sought) start ticket object (ap (start_in (Withdraws sought)) at) is (λ same. cc)
+    no_lookup (StartWithdraw sought) start ticket object (ap (start_in (StartWithdraw sought)) at) is (λ same. cc)
 find_step log (Abandon node) name start at ticket object is =
-    no_lookup (GivesUp) start ticket object (ap (start_in (GivesUp)) at) is (λ same. cc)
+    no_lookup (StartAbandon) start ticket object (ap (start_in (StartAbandon)) at) is (λ same. cc)
 find_step log (Cast word prefix asker) name start at ticket object is =
-    no_lookup (Casts (next_cast log) (length prefix) word) start ticket object (ap (start_in (Casts (next_cast log) (length prefix) word)) at) is (λ same. cc)
+    no_lookup (StartCast (next_cast log) (length prefix) word) start ticket object (ap (start_in (StartCast (next_cast log) (length prefix) word)) at) is (λ same. cc)
 find_step log step name start at ticket object is = absurd (cc)
 
 -- what is said of it first
@@ -99,7 +99,7 @@ finds_asked log step name ticket object finds =
 
 -- a lookup that is started is asked for first
 pub asked_first : (log : List Record) (index : ℕ) (step : Step) (name : List ℕ) (start : Start) → start_at log step ≡ Some (name, start)
-    → (ticket : ℕ) (object : List ℕ) → start ≡ Finds ticket object
+    → (ticket : ℕ) (object : List ℕ) → start ≡ StartFind ticket object
     → was_asked (log ++ StepRecord index step ∷ announced log step) ticket object ≡ true
 asked_first log index step name start at ticket object is =
     let finds = find_step log step name start at ticket object is in
@@ -118,7 +118,7 @@ module _ (p : SettingsValue) (log : List Record) (s : System) (looked : Looked l
       let now = lookups_grow log (Taken number ∷ []) s looked.are in
       let known = ever_grows log (Taken number ∷ []) s ever in
       let asks : IsAskedFor (was_asked told) (Delivers number) =
-      λ x ticket object is. let wrong : Delivers number ≡ Begins x (Finds ticket object) = is in absurd (cc) in
+      λ x ticket object is. let wrong : Delivers number ≡ Begins x (StartFind ticket object) = is in absurd (cc) in
       let holds : All (AnswerHolds told) items =
       subst (All (AnswerHolds told)) (sym are)
       (receive_all (AnswerHolds told) (unanswered_holds told) p log s (numbered_frame number s.frames) (λ ticket server noted.
@@ -158,7 +158,7 @@ module _ (p : SettingsValue) (log : List Record) (s : System) (looked : Looked l
       let known = ever_grows log more s ever in
       let asks : IsAskedFor (was_asked told) move =
       λ x ticket object is.
-      let start_is : starting.start ≡ Finds ticket object = cc in
+      let start_is : starting.start ≡ StartFind ticket object = cc in
       asked_first log index step starting.name starting.start starting.at ticket object start_is in
       let holds : All (AnswerHolds told) done =
       act_all (AnswerHolds told) (unanswered_holds told) p log starting.name node (Starts starting.start) (λ ticket server noted.

@@ -11,7 +11,7 @@ use Rattle.tap_history.specs.Steps.{actor_of}
 use Rattle.tap_rule.specs.Act.{act}
 use Rattle.tap_rule.specs.Event.{Start}
 use Rattle.tap_rule.specs.Event.Event.{Starts}
-use Rattle.tap_rule.specs.Event.Start.{Find as Finds, Join as Joins, Leave as Leaves}
+use Rattle.tap_rule.specs.Event.Start.{Find as StartFind, Join as StartJoin, Leave as StartLeave}
 use Rattle.tap_rule.specs.Node.{NodeState}
 use Rattle.tap_safety.specs.Moved.{starter}
 use Rattle.tap_safety.specs.System.{System}
@@ -29,7 +29,7 @@ module _ (p : SettingsValue) (log : List Record) (s : System) (name : List ℕ) 
   done = records_of_act p log name (starter p s name start) (Starts start)
 
   -- what a node does at another start than a lookup answers none
-  unanswered_node : (node : Option NodeState) → ((ticket : ℕ) (object : List ℕ) → start ≡ Finds ticket object → ⊥)
+  unanswered_node : (node : Option NodeState) → ((ticket : ℕ) (object : List ℕ) → start ≡ StartFind ticket object → ⊥)
       → All IsUnanswered (records_of_act p log name node (Starts start))
   unanswered_node None other = λ k d inside. absurd (omega arith)
   unanswered_node (Some node) other =
@@ -51,13 +51,13 @@ module _ (p : SettingsValue) (log : List Record) (s : System) (name : List ℕ) 
   unanswered_first : (step : Step) → start_at log step ≡ Some (name, start) → BeginsUnanswered (announced log step ++ done)
   unfolding actor_of start_of_step announced
   unanswered_first (Join newcomer via) at =
-      let is : Joins via ≡ start = ap (start_in (Joins via)) at in
+      let is : StartJoin via ≡ start = ap (start_in (StartJoin via)) at in
       no_answer_first done (unanswered_node (starter p s name start) (λ ticket object finds.
-      let wrong : Joins via ≡ Finds ticket object = is ∙ finds in cc))
+      let wrong : StartJoin via ≡ StartFind ticket object = is ∙ finds in cc))
   unanswered_first (Depart node) at =
-      let is : Leaves ≡ start = ap (start_in Leaves) at in
+      let is : StartLeave ≡ start = ap (start_in StartLeave) at in
       no_answer_first done (unanswered_node (starter p s name start) (λ ticket object finds.
-      let wrong : Leaves ≡ Finds ticket object = is ∙ finds in cc))
+      let wrong : StartLeave ≡ StartFind ticket object = is ∙ finds in cc))
   unanswered_first (Publish object server) at = λ ticket answer rest is. cc
   unanswered_first (Withdraw object server) at = λ ticket answer rest is. cc
   unanswered_first (Find object asker) at = λ ticket answer rest is. cc

@@ -28,7 +28,7 @@ use Rattle.tap_wire.specs.declared.frame.Body.TheVariants.{Ack, Done, Heard, See
 use Rattle.tap_wire.specs.declared.frame.Frame.{Frame}
 use Rattle.tap_wire.specs.declared.frame.TellFields.{TellFields}
 use Rattle.tap_rule.specs.Answers.{answer_for, with_session}
-use Rattle.tap_rule.specs.Covering.{Request, answers_awaited, covers_as, first_request, greeting, pins_and_covers, request_of, seeks, takes_tell, tell_for, with_level}
+use Rattle.tap_rule.specs.Covering.{Request, answers_awaited, covers_as, first_request, greeting, pins_and_covers, request_of, takes_seek, takes_tell, tell_for, with_level}
 use Rattle.tap_rule.specs.Event.{Acted}
 use Rattle.tap_rule.specs.FrameRules.{frame_at_core}
 use Rattle.tap_rule.specs.JoinSteps.{found_for}
@@ -321,7 +321,7 @@ module _ (p : SettingsValue) (s : System) (number : ℕ) (node : NodeState) (fro
   unfolding frame_at_core
   seek_goes joiner is at (Forward next) found = (outside_books p s number node from (Seek joiner) is (next, found)).deeper
   seek_goes joiner is at (Surrogate prefix) found =
-      let sought_on = frame_law node (frame_to node from (Seek joiner)) (seeks node joiner) is.known (rw at refl) in
+      let sought_on = frame_law node (frame_to node from (Seek joiner)) (takes_seek node joiner) is.known (rw at refl) in
       let carried : IsCarriedOut node (pins_and_covers node (first_request node joiner prefix)) (taken_at node from (Seek joiner)) =
       rw found at sought_on in
       seat_deeper joiner prefix is at found carried

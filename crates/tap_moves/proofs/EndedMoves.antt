@@ -11,7 +11,7 @@ use Rattle.tap_join.specs.declared.sought.Sought.TheVariants.{Forward, Surrogate
 use Rattle.tap_wire.specs.declared.frame.Body.{Body}
 use Rattle.tap_wire.specs.declared.frame.Body.TheVariants.{Done, Forget, Release, Seek}
 use Rattle.tap_wire.specs.declared.frame.TellFields.{TellFields}
-use Rattle.tap_rule.specs.Ceasing.{acknowledges}
+use Rattle.tap_rule.specs.Ceasing.{takes_tell_ceased}
 use Rattle.tap_rule.specs.Event.{Acted}
 use Rattle.tap_rule.specs.FrameRules.{frame_at_ceased}
 use Rattle.tap_rule.specs.JoinSteps.{SeeksAs}
@@ -97,7 +97,7 @@ module _ (p : SettingsValue) (s : System) (number : ℕ) (node : NodeState) (fro
       goes_on (tell_body tell watch) is step.status (inl at)
   tell_ended tell watch is (inr (inr at)) =
       let frame = frame_to node from (tell_body tell watch) in
-      let carried = frame_law node frame (acknowledges node from tell.session) is.known (rw at refl) in
+      let carried = frame_law node frame (takes_tell_ceased node from tell.session) is.known (rw at refl) in
       stays_so (tell_body tell watch) is carried.status (ap (λ (ties : TiesValue). ties.table) carried.ties)
 
   seated_status : (joiner : List ℕ) (acted : Acted) (prefix : ℕ) → SeeksAs node joiner acted (Surrogate prefix)

@@ -19,7 +19,7 @@ use Rattle.tap_wire.specs.declared.frame.Body.TheVariants.{Ack, Forget, Heard, R
 use Rattle.tap_wire.specs.declared.frame.Frame.{Frame}
 use Rattle.tap_wire.specs.declared.frame.TellFields.{TellFields}
 use Rattle.tap_rule.specs.Event.{Acted}
-use Rattle.tap_rule.specs.Joining.{hello_words, meets, welcomes}
+use Rattle.tap_rule.specs.Joining.{hello_words, takes_tell_joining, welcomes}
 use Rattle.tap_rule.specs.Laws.{IsCarriedOut, frame_to}
 use Rattle.tap_rule.specs.Links.{release_word}
 use Rattle.tap_rule.specs.Reaction.{Message, message, pin_word, sends, with_pin, with_words}
@@ -29,7 +29,7 @@ use Rattle.tap_rule.specs.Sent.{AreSent, IsAmong}
 use Rattle.tap_rule.proofs.CarriedOut.{frame_law}
 use Rattle.tap_rule.proofs.JoinSteps.{hello_law, meet_law, tell_fits}
 use Rattle.tap_rule.proofs.LinkSteps.{forget_law, release_law}
-use Rattle.tap_rule.specs.Ceasing.{acknowledges}
+use Rattle.tap_rule.specs.Ceasing.{takes_tell_ceased}
 use Rattle.tap_rule.specs.Node.Status.{Joining}
 use Rattle.tap_rule.specs.Strange.{is_strange}
 use Rattle.tap_rule.specs.FrameRules.{frame_at_ceased, frame_at_joining}
@@ -47,7 +47,7 @@ pub ceased_tell_is_made : CeasedTellIsMade
 unfolding frame_at_ceased
 ceased_tell_is_made s s' number node from tell watch taken surrogates at =
     let frame = frame_to node from (tell_body tell watch) in
-    let carried = frame_law node frame (acknowledges node from tell.session) taken.known (rw at refl) in
+    let carried = frame_law node frame (takes_tell_ceased node from tell.session) taken.known (rw at refl) in
     record {
       step =
           takes_frame s s' number node from (tell_body tell watch) taken surrogates carried.status carried.covers []
@@ -81,7 +81,7 @@ pub meets_sent : (node : NodeState) (from : List ℕ) (tell : TellFields) (watch
     → MeetsSo node from tell (taken_at node from (tell_body tell watch)).sent
 unfolding frame_at_joining
 meets_sent node from tell watch known at =
-    let carried = frame_law node (frame_to node from (tell_body tell watch)) (meets node from tell) known (rw at refl) in
+    let carried = frame_law node (frame_to node from (tell_body tell watch)) (takes_tell_joining node from tell) known (rw at refl) in
     meets_so node from tell (taken_at node from (tell_body tell watch)) (has_name node.greeted tell.joiner) carried
 
 pub joining_tell_is_made : JoiningTellIsMade

@@ -16,10 +16,10 @@ use Rattle.tap_multicast.specs.declared.covers.Covered.{Covered}
 use Rattle.tap_multicast.specs.declared.covers.Covered.TheVariants.{Already, Now}
 use Rattle.tap_multicast.specs.declared.target.Target.{Target}
 use Rattle.tap_rule.specs.Answers.{answer_for, with_session}
-use Rattle.tap_rule.specs.Covering.{Request, answers_awaited, covers_as, first_request, greeting, pins_and_covers, request_of, seeks, tell_for, takes_tell, with_level}
-use Rattle.tap_rule.specs.Ceasing.{acknowledges}
+use Rattle.tap_rule.specs.Covering.{Request, answers_awaited, covers_as, first_request, greeting, pins_and_covers, request_of, takes_seek, tell_for, takes_tell, with_level}
+use Rattle.tap_rule.specs.Ceasing.{takes_tell_ceased}
 use Rattle.tap_rule.specs.FrameRules.{frame_at_ceased, frame_at_core, frame_at_joining}
-use Rattle.tap_rule.specs.Joining.{meets, welcomes}
+use Rattle.tap_rule.specs.Joining.{takes_tell_joining, welcomes}
 use Rattle.tap_rule.specs.Event.{Acted}
 use Rattle.tap_rule.specs.JoinSteps.{found_for}
 use Rattle.tap_rule.specs.Laws.{IsCarriedOut, frame_to, tell_of}
@@ -260,12 +260,12 @@ tell_in_session node from tell watch (inl at) known =
     (frame_law node (frame_to node from (tell_of tell watch)) (takes_tell node from tell watch) known (rw at refl))
 tell_in_session node from tell watch (inr at) known =
     meets_in_session node from tell _ (has_name node.greeted tell.joiner)
-    (frame_law node (frame_to node from (tell_of tell watch)) (meets node from tell) known (rw at refl))
+    (frame_law node (frame_to node from (tell_of tell watch)) (takes_tell_joining node from tell) known (rw at refl))
 
 pub seek_opens : SeekOpens
 unfolding frame_at_core
 seek_opens node from joiner prefix at known is =
-    let sought_on = frame_law node (frame_to node from (Seek joiner)) (seeks node joiner) known (rw at refl) in
+    let sought_on = frame_law node (frame_to node from (Seek joiner)) (takes_seek node joiner) known (rw at refl) in
     let carried : IsCarriedOut node (pins_and_covers node (first_request node joiner prefix)) (taken_at node from (Seek joiner)) =
     rw is at sought_on in
     let none = uncovered node from joiner known in
@@ -274,7 +274,7 @@ seek_opens node from joiner prefix at known is =
 pub ceased_answers : CeasedAnswers
 unfolding frame_at_ceased
 ceased_answers node from tell watch at known =
-    let carried = frame_law node (frame_to node from (tell_of tell watch)) (acknowledges node from tell.session) known (rw at refl) in
+    let carried = frame_law node (frame_to node from (tell_of tell watch)) (takes_tell_ceased node from tell.session) known (rw at refl) in
     record {
       sessions = carried.sessions;
       told = carried.sent.named (message from (Ack tell.session)) (inl refl);
@@ -283,6 +283,6 @@ ceased_answers node from tell watch at known =
           let same = only_one found.0 (message from (Ack tell.session)) found.1 in
           answer_in (name_of node) (Node from tell.session) y k (rw same at found.2);
       one = λ y k n is.
-          ways_by_rule node (acknowledges node from tell.session) _ y k n carried
+          ways_by_rule node (takes_tell_ceased node from tell.session) _ y k n carried
           (answer_within (name_of node) (Node from tell.session) y k is);
     }

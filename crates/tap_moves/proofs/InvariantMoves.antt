@@ -7,13 +7,13 @@ use Rattle.tap_name.specs.Settings.{SettingsValue}
 use Rattle.tap_name.specs.declared.slot.Offered.{Offered}
 use Rattle.tap_name.specs.declared.slot.Slot.{Slot}
 use Rattle.tap_link.specs.declared.kind.Kind.{Kind}
-use Rattle.tap_link.specs.declared.kind.Kind.TheVariants.{Leaving as Marked, Pin, Settled}
+use Rattle.tap_link.specs.declared.kind.Kind.TheVariants.{Leaving as LeavingKind, Pin, Settled}
 use Rattle.tap_wire.specs.declared.frame.Body.{Body}
 use Rattle.tap_wire.specs.declared.frame.Body.TheVariants.{Ack, Done, Forget, Heard, Link, Release, Seek}
 use Rattle.tap_wire.specs.declared.frame.TellFields.{TellFields}
 use Rattle.tap_rule.specs.Laws.{frame_to}
 use Rattle.tap_rule.specs.Node.{IsRunning, NodeState, Status, level_of, link_to, name_of, settings_of}
-use Rattle.tap_rule.specs.Node.Status.{Ceased as HasCeased, Core, Gone, Joining, Leaving}
+use Rattle.tap_rule.specs.Node.Status.{Ceased as CeasedStatus, Core, Gone, Joining, Leaving}
 use Rattle.tap_safety.specs.Departing.{may_be_then}
 use Rattle.tap_safety.specs.DoneStep.{BeforeDone, IsSound}
 use Rattle.tap_safety.specs.Frames.{HelloFields, hello_body, tell_body}
@@ -100,7 +100,7 @@ module _ (p : SettingsValue) (s : System) (number : ℕ) (node : NodeState) (fro
   sender_name = of_node from (known_name p s is.nodes from (is.invariant.ends.known number (frame_to node from body) is.among).0)
 
   -- while such a frame is under way nobody departs, so no link is marked
-  pub unmarked : (may_be_then body → ⊥) → (x t : List ℕ) → HasLink s x t Marked → ⊥
+  pub unmarked : (may_be_then body → ⊥) → (x t : List ℕ) → HasLink s x t LeavingKind → ⊥
   unmarked never x t link = by_departing s.departing refl
     where
       by_departing : (departing : Option Leaver) → s.departing ≡ departing → ⊥
@@ -146,12 +146,12 @@ offered_name p s are offered core soft =
     ]
 
 -- a link to a joiner is a pin
-pin_on : (p : SettingsValue) (s : System) (unmarked : (x t : List ℕ) → HasLink s x t Marked → ⊥)
+pin_on : (p : SettingsValue) (s : System) (unmarked : (x t : List ℕ) → HasLink s x t LeavingKind → ⊥)
     (settled : (x t : List ℕ) → HasLink s x t Settled → IsCoreNode s t) (x b : List ℕ) → IsJoiner s b → (kind : Kind) → HasLink s x b kind
     → Pins s x b
 pin_on p s unmarked settled x b joiner Pin link = link
 pin_on p s unmarked settled x b joiner Settled link = absurd (core_or_joiner s b (settled x b link) joiner)
-pin_on p s unmarked settled x b joiner Marked link = absurd (unmarked x b link)
+pin_on p s unmarked settled x b joiner LeavingKind link = absurd (unmarked x b link)
 
 -- and so have all that are offered
 pub hello_names_are : (p : SettingsValue) (s : System) (number : ℕ) (node : NodeState) (from : List ℕ) (hello : HelloFields)
@@ -228,7 +228,7 @@ module _ (p : SettingsValue) (s : System) (number : ℕ) (node : NodeState) (fro
         | inr most ↦ tell_known at kept some most
       ]
 
-      tell_fills : (node.status ≡ Core) ⊎ ((node.status ≡ Joining) ⊎ (node.status ≡ HasCeased)) → AreFilled p after
+      tell_fills : (node.status ≡ Core) ⊎ ((node.status ≡ Joining) ⊎ (node.status ≡ CeasedStatus)) → AreFilled p after
       tell_fills (inl at) = tell_at_core at (level_of node tell.joiner) refl
       tell_fills (inr (inl at)) =
           joining_tell_keeps p s number node from tell watch (due p s number node from (tell_body tell watch) is) at told_name
@@ -319,7 +319,7 @@ hears_runs Joining heard = tt
 hears_runs Core heard = tt
 hears_runs Leaving heard = tt
 hears_runs Gone heard = absurd heard
-hears_runs HasCeased heard = absurd heard
+hears_runs CeasedStatus heard = absurd heard
 
 pub link_ties : LinkTies
 link_ties p s number node from word is heard =
@@ -382,11 +382,11 @@ joiner_here s node (inr (inl core)) at joins =
 joiner_here s node (inr (inr ceased)) at joins =
     let is = ceased.is in
     let same : ceased.state ≡ node = cc in
-    let wrong : Joining ≡ HasCeased = sym joins ∙ ap (λ (n : NodeState). n.status) (sym same) ∙ ceased.ceased in
+    let wrong : Joining ≡ CeasedStatus = sym joins ∙ ap (λ (n : NodeState). n.status) (sym same) ∙ ceased.ceased in
     absurd (cc)
 
 tell_soft : (p : SettingsValue) (s : System) (number : ℕ) (node : NodeState) (from : List ℕ) (tell : TellFields) (watch : List Slot)
-    → IsDelivery p s number node from (tell_body tell watch) → (node.status ≡ Joining) ⊎ (node.status ≡ HasCeased)
+    → IsDelivery p s number node from (tell_body tell watch) → (node.status ≡ Joining) ⊎ (node.status ≡ CeasedStatus)
     → NamesSoft (after_delivery p s number)
 tell_soft p s number node from tell watch is (inl at) =
     let sound = told p s number node from tell watch is in

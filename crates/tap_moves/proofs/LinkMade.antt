@@ -16,7 +16,7 @@ use Rattle.tap_rule.specs.Act.{act, completed}
 use Rattle.tap_rule.specs.Event.{Acted}
 use Rattle.tap_rule.specs.FrameRules.{frame_at_core, frame_at_joining, frame_at_leaving, rule_of_frame}
 use Rattle.tap_rule.specs.Laws.{IsRunning, frame_to}
-use Rattle.tap_rule.specs.Links.{hears, hears_and_releases, is_new_link, release_answer}
+use Rattle.tap_rule.specs.Links.{is_new_link, release_answer, takes_link, takes_link_joining}
 use Rattle.tap_rule.specs.Node.{NodeState, Status, link_to, name_of, word_of}
 use Rattle.tap_rule.specs.Node.Status.{Ceased, Core, Gone, Joining, Leaving}
 use Rattle.tap_rule.specs.Reaction.{Reaction, message}
@@ -113,13 +113,13 @@ release_by : (node : NodeState) (from : List ℕ) (version : ℕ) (on : Bool)
 unfolding frame_at_joining frame_at_core frame_at_leaving
 release_by node from version on known laid f among Joining at heard =
     unanswered (name_of node) from f
-    (sends_no_lay node from (Link version on) (hears node from version on) known (rw at refl) (rw at tt) laid f among)
+    (sends_no_lay node from (Link version on) (takes_link_joining node from version on) known (rw at refl) (rw at tt) laid f among)
 release_by node from version on known laid f among Core at heard =
     answered node from version on f
-    (sends_no_lay node from (Link version on) (hears_and_releases node from version on) known (rw at refl) (rw at tt) laid f among)
+    (sends_no_lay node from (Link version on) (takes_link node from version on) known (rw at refl) (rw at tt) laid f among)
 release_by node from version on known laid f among Leaving at heard =
     answered node from version on f
-    (sends_no_lay node from (Link version on) (hears_and_releases node from version on) known (rw at refl) (rw at tt) laid f among)
+    (sends_no_lay node from (Link version on) (takes_link node from version on) known (rw at refl) (rw at tt) laid f among)
 release_by node from version on known laid f among Gone at heard = absurd heard
 release_by node from version on known laid f among Ceased at heard = absurd heard
 
@@ -299,8 +299,8 @@ module _ (s s' : System) (number : ℕ) (node : NodeState) (from : List ℕ) (wo
       sent_under_way s s' number (word_frame from own word) acted.sent taken.taken own from Release
       (sent_among own from Release acted.sent (step.answers (inl at) (newer_is (word_of node from) word.version newer_entry) on))
 
-  pub takes_link : TakesLink s s' from own word
-  takes_link = record {
+  pub link_taken : TakesLink s s' from own word
+  link_taken = record {
     status = status_same s s' own node acted.state taken.at step.joins.status;
     links = links_same s s' own node acted.state taken.at (λ t. ap (λ (table : TableValue). kind_in table t) step.table);
     last = last;
@@ -316,4 +316,4 @@ module _ (s s' : System) (number : ℕ) (node : NodeState) (from : List ℕ) (wo
 
 pub link_is_made : LinkIsMade
 link_is_made s s' number node from word taken remembers numbers stamped heard laid =
-    takes_link s s' number node from word taken remembers numbers stamped heard laid
+    link_taken s s' number node from word taken remembers numbers stamped heard laid

@@ -12,7 +12,7 @@ use Rattle.tap_wire.specs.declared.frame.Body.{Body}
 use Rattle.tap_wire.specs.declared.frame.Body.TheVariants.{Ack, Done, Forget, Heard, Link, Release, Seek}
 use Rattle.tap_wire.specs.declared.frame.Frame.{Frame}
 use Rattle.tap_wire.specs.declared.frame.TellFields.{TellFields}
-use Rattle.tap_rule.specs.Ceasing.{acknowledges, ceases}
+use Rattle.tap_rule.specs.Ceasing.{ceases, takes_tell_ceased}
 use Rattle.tap_rule.specs.Act.{act}
 use Rattle.tap_rule.specs.Event.{Acted, Start}
 use Rattle.tap_rule.specs.Event.Event.{Starts, Takes}
@@ -241,7 +241,7 @@ module _ (p : SettingsValue) (s : System) (number : ℕ) (node : NodeState) (fro
       → node.status ≡ Ceased → (taken_at node from (tell_body tell watch)).state.status ≡ node.status
   unfolding frame_at_ceased
   ceased_stays tell watch known at =
-      (frame_law node (frame_to node from (tell_body tell watch)) (acknowledges node from tell.session) known (rw at refl)).status
+      (frame_law node (frame_to node from (tell_body tell watch)) (takes_tell_ceased node from tell.session) known (rw at refl)).status
 
   tell_steps : (tell : TellFields) (watch : List Slot) → IsDelivery p s number node from (tell_body tell watch)
       → (node.status ≡ Core) ⊎ ((node.status ≡ Joining) ⊎ (node.status ≡ Ceased)) → Steps (tell_body tell watch)

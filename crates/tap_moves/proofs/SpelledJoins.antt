@@ -15,7 +15,7 @@ use Rattle.tap_name.specs.declared.slot.Offered.{Offered}
 use Rattle.tap_name.specs.declared.slot.Slot.{Slot}
 use Rattle.tap_link.specs.Entry.{Entry as LinkEntry}
 use Rattle.tap_link.specs.declared.kind.Kind.{Kind}
-use Rattle.tap_link.specs.declared.kind.Kind.TheVariants.{Leaving as Marked, Pin, Settled}
+use Rattle.tap_link.specs.declared.kind.Kind.TheVariants.{Leaving as LeavingKind, Pin, Settled}
 use Rattle.tap_link.proofs.TargetKinds.{kind_pinned}
 use Rattle.tap_register.specs.declared.registers.Entry.{Entry}
 use Rattle.tap_table.specs.ByName.{by_name, targets_by_name}
@@ -144,7 +144,7 @@ is_pin : (kind : Option Kind) → is_no_pin kind ≡ false → kind_pinned kind 
 is_pin None fit = refl
 is_pin (Some Pin) fit = refl
 is_pin (Some Settled) fit = cc
-is_pin (Some Marked) fit = cc
+is_pin (Some LeavingKind) fit = cc
 
 -- a request of names, that fits the node that is to cover it
 pub record IsSpelledRequest (node : NodeState) (request : Request) : Type 0 where

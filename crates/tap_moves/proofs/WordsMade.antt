@@ -33,7 +33,7 @@ use Rattle.tap_rule.specs.Answers.{answer_sends}
 use Rattle.tap_rule.specs.FrameRules.{frame_at_core, rule_of_frame}
 use Rattle.tap_rule.specs.Laws.{AnswerLaw, frame_to}
 use Rattle.tap_rule.specs.Node.{NodeState, Status, join_session_at, level_of, link_to, name_of, settings_of}
-use Rattle.tap_rule.specs.Node.Status.{Ceased as HasCeased, Core, Joining}
+use Rattle.tap_rule.specs.Node.Status.{Ceased as CeasedStatus, Core, Joining}
 use Rattle.tap_rule.specs.QuietSteps.{IsQuiet, IsQuietKind}
 use Rattle.tap_rule.specs.Reaction.{Message, message, pin_word, sends, with_pin, with_words}
 use Rattle.tap_rule.specs.Sending.{link_frame, message_frame}
@@ -277,7 +277,7 @@ module _ (p : SettingsValue) (s : System) (number : ℕ) (node : NodeState) (fro
       (early_table node.status at) stamped stand
     where
       early : (node.status ≡ Joining) ⊎ (node.status ≡ Core)
-          → (node.status ≡ Joining) ⊎ ((node.status ≡ Core) ⊎ (node.status ≡ HasCeased))
+          → (node.status ≡ Joining) ⊎ ((node.status ≡ Core) ⊎ (node.status ≡ CeasedStatus))
       early (inl joining) = inl joining
       early (inr core) = inr (inl core)
 

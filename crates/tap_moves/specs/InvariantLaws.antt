@@ -14,7 +14,7 @@ use Rattle.tap_rule.specs.Event.{Start}
 use Rattle.tap_rule.specs.Event.Start.{Join, Leave}
 use Rattle.tap_rule.specs.Laws.{frame_to}
 use Rattle.tap_rule.specs.Node.{NodeState, Status, level_of, name_of}
-use Rattle.tap_rule.specs.Node.Status.{Ceased as HasCeased, Core, Joining}
+use Rattle.tap_rule.specs.Node.Status.{Ceased as CeasedStatus, Core, Joining}
 use Rattle.tap_rule.specs.QuietSteps.{IsQuietKind}
 use Rattle.tap_rule.specs.Strange.{is_strange}
 use Rattle.tap_safety.specs.Bookkeeping.{EndedHaveNoLinks, has_table}
@@ -48,7 +48,7 @@ pub record IsDelivery (p : SettingsValue) (s : System) (number : ℕ) (node : No
 
 -- a frame of a join where a rule takes it, but the Done of a join that was given up; and those of pointers and casts
 abbrev IsFilledKind : NodeState → Kind → Type 0
-IsFilledKind node kind.Tell = (node.status ≡ Core) ⊎ ((node.status ≡ Joining) ⊎ (node.status ≡ HasCeased))
+IsFilledKind node kind.Tell = (node.status ≡ Core) ⊎ ((node.status ≡ Joining) ⊎ (node.status ≡ CeasedStatus))
 IsFilledKind node kind.Hello = node.status ≡ Joining
 IsFilledKind node kind.Seek = node.status ≡ Core
 IsFilledKind node kind.Done = node.abandoned ≡ false
@@ -97,7 +97,7 @@ FrameSays = (p : SettingsValue) (s : System) (number : ℕ) (node : NodeState) (
 -- another frame whose taker says of nobody that it is core, but by a Release: a Tell at a joining node or one that has ceased, a Hello, a
 -- Release, a Forget, an answer, a Link, a Seek that goes on, and those of pointers and casts
 abbrev IsSoftKind : Status → Kind → Type 0
-IsSoftKind status kind.Tell = (status ≡ Joining) ⊎ (status ≡ HasCeased)
+IsSoftKind status kind.Tell = (status ≡ Joining) ⊎ (status ≡ CeasedStatus)
 IsSoftKind status kind.Hello = status ≡ Joining
 IsSoftKind status kind.Release = (status ≡ Joining) ⊎ (status ≡ Core)
 IsSoftKind status kind.Forget = (status ≡ Joining) ⊎ (status ≡ Core)
@@ -120,7 +120,7 @@ SeekGives = (p : SettingsValue) (s : System) (number : ℕ) (node : NodeState) (
 
 -- a frame of a join where a rule takes it, or one of no session
 abbrev IsTakenKind : Status → Kind → Type 0
-IsTakenKind status kind.Tell = (status ≡ Core) ⊎ ((status ≡ Joining) ⊎ (status ≡ HasCeased))
+IsTakenKind status kind.Tell = (status ≡ Core) ⊎ ((status ≡ Joining) ⊎ (status ≡ CeasedStatus))
 IsTakenKind status kind.Hello = status ≡ Joining
 IsTakenKind status kind.Heard = Unit {0}
 IsTakenKind status kind.Ack = Unit {0}

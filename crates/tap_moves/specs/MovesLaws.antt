@@ -12,7 +12,7 @@ use Rattle.tap_rule.specs.Event.{Start}
 use Rattle.tap_rule.specs.Event.Start.{Abandon, Join}
 use Rattle.tap_rule.specs.QuietSteps.{IsQuietStart}
 use Rattle.tap_rule.specs.Node.{NodeState, level_of, link_to, name_of, settings_of}
-use Rattle.tap_rule.specs.Node.Status.{Ceased as HasCeased, Core, Joining}
+use Rattle.tap_rule.specs.Node.Status.{Ceased as CeasedStatus, Core, Joining}
 use Rattle.tap_safety.specs.Bookkeeping.{AreStamped}
 use Rattle.tap_safety.specs.Ceased.{Ceased}
 use Rattle.tap_join.specs.Seek.{sought}
@@ -83,7 +83,7 @@ JoiningTellKeeps = (p : SettingsValue) (s : System) (number : ℕ) (node : NodeS
 
 abbrev pub CeasedTellKeeps : Type 0
 CeasedTellKeeps = (p : SettingsValue) (s : System) (number : ℕ) (node : NodeState) (from : List ℕ) (tell : TellFields) (watch : List Slot)
-    → IsArriving s number node from (tell_body tell watch) → node.status ≡ HasCeased
+    → IsArriving s number node from (tell_body tell watch) → node.status ≡ CeasedStatus
     → AreFilled p s → AreFilled p (after_delivery p s number)
 
 -- Hellos, Releases and Forgets
@@ -113,7 +113,7 @@ LinkKeeps = (p : SettingsValue) (s : System) (number : ℕ) (node : NodeState) (
 abbrev pub TellKeepsSessions : Type 0
 TellKeepsSessions = (p : SettingsValue) (s : System) (number : ℕ) (node : NodeState) (from : List ℕ) (tell : TellFields) (watch : List Slot)
     → IsArriving s number node from (tell_body tell watch)
-    → (node.status ≡ Core) ⊎ ((node.status ≡ Joining) ⊎ (node.status ≡ HasCeased)) → BeforeTaking s
+    → (node.status ≡ Core) ⊎ ((node.status ≡ Joining) ⊎ (node.status ≡ CeasedStatus)) → BeforeTaking s
     → AreExact (after_delivery p s number)
 
 -- answers, Hellos, and frames of no session

@@ -6,10 +6,10 @@ use Rattle.tap_wire.specs.declared.frame.Body.{Body}
 use Rattle.tap_wire.specs.declared.frame.Body.TheVariants.{Done, Left}
 use Rattle.tap_rule.specs.Node.{NodeState, Status}
 use Rattle.tap_rule.specs.Node.Status.{Joining as JoiningStatus, Core as CoreStatus, Leaving as LeavingStatus, Gone as GoneStatus, Ceased as CeasedStatus}
-use Rattle.tap_rule.specs.Ceasing.{is_done}
+use Rattle.tap_rule.specs.Ceasing.{takes_done}
 use Rattle.tap_rule.specs.Event.{Start}
 use Rattle.tap_rule.specs.FrameRules.{frame_at_ceased, frame_at_core, frame_at_joining, frame_at_leaving}
-use Rattle.tap_rule.specs.Leaving.{is_left}
+use Rattle.tap_rule.specs.Leaving.{takes_left}
 use Rattle.tap_rule.specs.StartRules.{start_at_core, start_at_joining}
 use Rattle.tap_node_common.specs.declared.news.News.{News}
 use Rattle.tap_node_common.specs.declared.news.News.TheVariants.{Nothing}
@@ -106,14 +106,14 @@ module _ (p : SettingsValue) (name : List ℕ) where
   -- what Done and Left come to, at a joining and at a leaving node
   pub done_from : (before after : State) (node : JoiningNode) (from : List ℕ) (held sent : List (List ℕ)) (news : News)
       → before ≡ Joining node → (node_value p name after).ended ≡ false
-      → FollowsAs (joining_state node) (Some (is_done (joining_state node))) (state_held p name after) held sent news
+      → FollowsAs (joining_state node) (Some (takes_done (joining_state node))) (state_held p name after) held sent news
       → FollowsFrom p name before after from Done held sent news
   unfolding frame_at_joining
   done_from before after node from held sent news was runs follows = rw was (record { runs = runs; follows = follows })
 
   pub left_from : (before after : State) (node : LeavingNode) (from : List ℕ) (held sent : List (List ℕ)) (news : News)
       → before ≡ Leaving node → (node_value p name after).ended ≡ false
-      → FollowsAs (leaving_state node) (Some (is_left (leaving_state node) from)) (state_held p name after) held sent news
+      → FollowsAs (leaving_state node) (Some (takes_left (leaving_state node) from)) (state_held p name after) held sent news
       → FollowsFrom p name before after from Left held sent news
   unfolding frame_at_leaving
   left_from before after node from held sent news was runs follows = rw was (record { runs = runs; follows = follows })

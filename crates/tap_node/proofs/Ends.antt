@@ -6,10 +6,10 @@ use Rattle.tap_session.specs.Session.{SessionsValue}
 use Rattle.tap_pointer.specs.Reconcile.{AreLaid, wanted_hop}
 use Rattle.tap_depart.specs.Leaving.{names_but, started_leaving}
 use Rattle.tap_rule.specs.Node.{IsRunning, NodeState, Status}
-use Rattle.tap_rule.specs.Ceasing.{ceases, is_done}
-use Rattle.tap_rule.specs.Event.News.{Nothing as RuleNothing}
+use Rattle.tap_rule.specs.Ceasing.{ceases, takes_done}
+use Rattle.tap_rule.specs.Event.News.{Nothing as NothingNews}
 use Rattle.tap_rule.specs.Joining.{becomes_core}
-use Rattle.tap_rule.specs.Leaving.{finishes, is_left, leave_for, leaves, with_departure}
+use Rattle.tap_rule.specs.Leaving.{finishes, leave_for, starts_leave, takes_left, with_departure}
 use Rattle.tap_rule.specs.Pointers.{reconciles}
 use Rattle.tap_rule.specs.Reaction.{Message, Reaction, sends}
 use Rattle.tap_node_common.specs.declared.news.News.{News}
@@ -33,14 +33,14 @@ module _ (node after : NodeState) (before sent : List (List ℕ)) (news : News) 
   done_if abandoned = if abandoned then ceases node else becomes_core node
 
   pub done_joins : node.abandoned ≡ false → node.pointers.pairs ≡ [] → StepsAs node (becomes_core node) after before sent news
-      → FollowsAs node (Some (is_done node)) after before sent news
+      → FollowsAs node (Some (takes_done node)) after before sent news
   done_joins kept none steps =
       let laid : AreLaid node.ties.table node.pointers = rw none (All-nil (λ e. e.1.laid ≡ wanted_hop node.ties.table e)) in
       subst (λ b. FollowsAs node (Some (done_if b)) after before sent news) (sym kept)
       (follows_quietly node (becomes_core node) after before sent news tt refl laid steps)
 
   pub done_ceases : node.abandoned ≡ true → StepsAs node (ceases node) after before sent news
-      → FollowsAs node (Some (is_done node)) after before sent news
+      → FollowsAs node (Some (takes_done node)) after before sent news
   done_ceases given_up steps = subst (λ b. FollowsAs node (Some (done_if b)) after before sent news) (sym given_up) steps
 
   -- the start of a departure, at a node without holders, or not
@@ -51,12 +51,12 @@ module _ (node after : NodeState) (before sent : List (List ℕ)) (news : News) 
   leaves_if alone = if alone then finishes (with_departure node) else sends (with_departure node) notices
 
   pub leaves_at_once : (length (started_leaving node.ties).awaited == 0) ≡ true
-      → StepsAs node (finishes (with_departure node)) after before sent news → FollowsAs node (Some (leaves node)) after before sent news
+      → StepsAs node (finishes (with_departure node)) after before sent news → FollowsAs node (Some (starts_leave node)) after before sent news
   leaves_at_once alone steps = subst (λ b. FollowsAs node (Some (leaves_if b)) after before sent news) (sym alone) steps
 
   pub leaves_awaiting : (length (started_leaving node.ties).awaited == 0) ≡ false
       → StepsAs node (reconciles (sends (with_departure node) notices)) after before sent news
-      → FollowsAs node (Some (leaves node)) after before sent news
+      → FollowsAs node (Some (starts_leave node)) after before sent news
   leaves_awaiting held steps = subst (λ b. FollowsAs node (Some (leaves_if b)) after before sent news) (sym held) steps
 
 -- Left, after which a node awaits nobody, or somebody
@@ -68,11 +68,11 @@ module _ (node : NodeState) (from : List ℕ) (before : List (List ℕ)) where
   left_if last = if last then finishes without else sends without []
 
   pub left_finishes : (after : NodeState) (sent : List (List ℕ)) (news : News) → (length (names_but node.awaited from) == 0) ≡ true
-      → StepsAs node (finishes without) after before sent news → FollowsAs node (Some (is_left node from)) after before sent news
+      → StepsAs node (finishes without) after before sent news → FollowsAs node (Some (takes_left node from)) after before sent news
   left_finishes after sent news last steps = subst (λ b. FollowsAs node (Some (left_if b)) after before sent news) (sym last) steps
 
   pub left_stays : IsRunning node.status → AreLaid node.ties.table node.pointers → (length (names_but node.awaited from) == 0) ≡ false
-      → FollowsAs node (Some (is_left node from)) without before before Nothing
+      → FollowsAs node (Some (takes_left node from)) without before before Nothing
   left_stays running laid more =
       subst (λ b. FollowsAs node (Some (left_if b)) without before before Nothing) (sym more)
-      (follows_quietly node (sends without []) without before before Nothing running refl laid (silent_step node without RuleNothing before))
+      (follows_quietly node (sends without []) without before before Nothing running refl laid (silent_step node without NothingNews before))

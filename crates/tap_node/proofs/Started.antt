@@ -4,8 +4,8 @@ use Rattle.tap_session.specs.declared.parent.Parent.{Parent}
 use Rattle.tap_session.specs.declared.parent.Parent.TheVariants.{Root}
 use Rattle.tap_pointer.specs.Reconcile.{AreLaid}
 use Rattle.tap_rule.specs.Node.{IsRunning, NodeState, name_of}
-use Rattle.tap_rule.specs.Ceasing.{gives_up}
-use Rattle.tap_rule.specs.Event.News.{Nothing as RuleNothing}
+use Rattle.tap_rule.specs.Ceasing.{starts_abandon}
+use Rattle.tap_rule.specs.Event.News.{Nothing as NothingNews}
 use Rattle.tap_rule.specs.Joining.{starts_join}
 use Rattle.tap_rule.specs.Casts.{Copy, casts, starts_cast}
 use Rattle.tap_node_common.specs.declared.news.News.{News}
@@ -25,11 +25,11 @@ cast_starts node after copy before sent news root depth follows =
 
 -- a join that is given up, and one that starts, at a node whose pairs are laid as wanted
 module _ (node : NodeState) (running : IsRunning node.status) (laid : AreLaid node.ties.table node.pointers) where
-  pub gives_up_follows : (next : NodeState) (sent : List (List ℕ)) → next ≡ (gives_up node).state
-      → FollowsAs node (Some (gives_up node)) next sent sent Nothing
+  pub gives_up_follows : (next : NodeState) (sent : List (List ℕ)) → next ≡ (starts_abandon node).state
+      → FollowsAs node (Some (starts_abandon node)) next sent sent Nothing
   gives_up_follows next sent is =
-      rw is (follows_quietly node (gives_up node) (gives_up node).state sent sent Nothing running refl laid
-      (silent_step node (gives_up node).state RuleNothing sent))
+      rw is (follows_quietly node (starts_abandon node) (starts_abandon node).state sent sent Nothing running refl laid
+      (silent_step node (starts_abandon node).state NothingNews sent))
 
   pub join_follows : (via : List ℕ) (before sent : List (List ℕ)) (news : News) → StepsAs node (starts_join node via) node before sent news
       → FollowsAs node (Some (starts_join node via)) node before sent news

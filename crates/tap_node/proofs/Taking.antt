@@ -9,7 +9,7 @@ use Rattle.tap_wire.specs.declared.frame.Body.TheVariants.{Tell, Heard, Ack, Lin
 use Rattle.tap_rule.specs.Node.{NodeState}
 use Rattle.tap_rule.specs.Node.Status.{Ceased}
 use Rattle.tap_rule.specs.Answers.{answer_sends}
-use Rattle.tap_rule.specs.Event.News.{Nothing as RuleNothing}
+use Rattle.tap_rule.specs.Event.News.{Nothing as NothingNews}
 use Rattle.tap_rule.specs.FrameRules.{frame_at_ceased}
 use Rattle.tap_rule.specs.Reaction.{Message, message, sends}
 use Rattle.tap_node_common.specs.declared.news.News.TheVariants.{Nothing}
@@ -35,7 +35,7 @@ module _ (p : SettingsValue) (name : List ℕ) (sessions left : SessionsValue) (
       → frame_at_ceased ceased from body ≡ Some (sends (ended_state Ceased p name after) messages) → left ≡ after → Sends messages
       → TakesCeased
   answers after messages rule is added =
-      rw (rule, is) (messages_step ceased (ended_state Ceased p name after) messages RuleNothing before sent added)
+      rw (rule, is) (messages_step ceased (ended_state Ceased p name after) messages NothingNews before sent added)
 
   pub tell_ceased : (joiner : List ℕ) (prefix level session depth : ℕ) (watch : List Slot)
       → body ≡ Tell joiner prefix level session depth watch → left ≡ sessions → Sends (message from (Ack session) ∷ []) → TakesCeased

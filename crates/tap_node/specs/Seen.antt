@@ -10,7 +10,7 @@ use Rattle.tap_rule.specs.FrameRules.{rule_of_frame}
 use Rattle.tap_rule.specs.StartRules.{rule_of_start}
 use Rattle.tap_session.specs.Session.{SessionsValue}
 use Rattle.tap_rule.specs.Node.{NodeState, name_of, settings_of}
-use Rattle.tap_rule.specs.Node.Status.{Gone as gone, Ceased as ceased}
+use Rattle.tap_rule.specs.Node.Status.{Gone as GoneStatus, Ceased as CeasedStatus}
 use Rattle.tap_node.specs.declared.state.State.{State}
 use Rattle.tap_node.specs.declared.state.State.TheVariants.{Joining, Core, Leaving, Gone, Ceased, Ended}
 use Rattle.tap_node.specs.Node.{NodeValue, running, stopped}
@@ -27,9 +27,9 @@ abbrev pub node_value : SettingsValue → List ℕ → State → NodeValue
 node_value p name (Joining node) = running (joining_state node)
 node_value p name (Core node) = running (core_state node)
 node_value p name (Leaving node) = running (leaving_state node)
-node_value p name (Gone sessions) = running (ended_state gone p name sessions)
-node_value p name (Ceased sessions) = running (ended_state ceased p name sessions)
-node_value p name (Ended sessions) = stopped (ended_state gone p name sessions)
+node_value p name (Gone sessions) = running (ended_state GoneStatus p name sessions)
+node_value p name (Ceased sessions) = running (ended_state CeasedStatus p name sessions)
+node_value p name (Ended sessions) = stopped (ended_state GoneStatus p name sessions)
 
 -- its state
 abbrev pub state_held : SettingsValue → List ℕ → State → NodeState

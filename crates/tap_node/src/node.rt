@@ -229,7 +229,7 @@ impl Node {
             sent: FrameList::new(self.alloc),
             news: News::Nothing,
         };
-        match self.state.takes(self.alloc, &self.sender, &mut turn, frame) {
+        match self.state.take(self.alloc, &self.sender, &mut turn, frame) {
             Ok(()) => Ok(turn),
             Err(NoMemory) => {
                 self.state = State::ended(self.alloc);

@@ -3,7 +3,7 @@ ghost use Rattle.tap_name.specs.Name.{IsName};
 ghost use Rattle.tap_name.specs.Word.{IsWord};
 ghost use Rattle.tap_cast.specs.Casts.{level_of_cast};
 ghost use Rattle.tap_rule.specs.Node.{settings_of};
-ghost use Rattle.tap_rule.specs.Node.Status.{Core as core, Joining as joining};
+ghost use Rattle.tap_rule.specs.Node.Status.{Core as CoreStatus, Joining as JoiningStatus};
 ghost use Rattle.tap_rule.specs.Event.Start.{Abandon, Cast, Find, Join, Leave, Publish, Withdraw};
 ghost use Rattle.tap_node.specs.Node.{has_room_left};
 ghost use Rattle.tap_node.specs.Outcome.{AnswersAs, start_outcome};
@@ -26,7 +26,7 @@ impl Node {
     /// Rule: docs/PROTOCOL.md, "The start of a join".
     pub fn seek_by(&mut self, via: Name) -> Result<Turn, NodeFault>
         requires room { IsTrue (has_room_left self.old) }
-        requires joining { self.old.ended ≡ false → self.old.state.status ≡ joining }
+        requires joining { self.old.ended ≡ false → self.old.state.status ≡ JoiningStatus }
         requires name { IsName (settings_of self.old.state) via }
         ensures { AnswersAs (start_outcome self.old (Join via)) self.old result self.new }
     {
@@ -35,7 +35,7 @@ impl Node {
         }
         let sender = self.sender();
         let mut sent = FrameList::new(self.alloc);
-        let news = self.state.starts_join(&sender, &mut sent, via);
+        let news = self.state.join(&sender, &mut sent, via);
         turned(self.alloc, &mut self.state, sent, news)
     }
 
@@ -46,7 +46,7 @@ impl Node {
     /// Rule: docs/PROTOCOL.md, "Giving a join up".
     pub fn abandon(&mut self) -> Result<Turn, NodeFault>
         requires room { IsTrue (has_room_left self.old) }
-        requires joining { self.old.ended ≡ false → self.old.state.status ≡ joining }
+        requires joining { self.old.ended ≡ false → self.old.state.status ≡ JoiningStatus }
         ensures { AnswersAs (start_outcome self.old Abandon) self.old result self.new }
     {
         if self.is_ended() {
@@ -54,7 +54,7 @@ impl Node {
         }
         let sender = self.sender();
         let sent = FrameList::new(self.alloc);
-        let news = self.state.gives_up(&sender);
+        let news = self.state.abandon(&sender);
         turned(self.alloc, &mut self.state, sent, Ok(news))
     }
 
@@ -65,7 +65,7 @@ impl Node {
     /// Rule: docs/PROTOCOL.md, "Publication and withdrawal".
     pub fn publish(&mut self, object: Name) -> Result<Turn, NodeFault>
         requires room { IsTrue (has_room_left self.old) }
-        requires core { self.old.ended ≡ false → self.old.state.status ≡ core }
+        requires core { self.old.ended ≡ false → self.old.state.status ≡ CoreStatus }
         requires name { IsName (settings_of self.old.state) object }
         ensures { AnswersAs (start_outcome self.old (Publish object)) self.old result self.new }
     {
@@ -74,7 +74,7 @@ impl Node {
         }
         let sender = self.sender();
         let mut sent = FrameList::new(self.alloc);
-        let news = self.state.publishes(&sender, &mut sent, object);
+        let news = self.state.publish(&sender, &mut sent, object);
         turned(self.alloc, &mut self.state, sent, news)
     }
 
@@ -85,7 +85,7 @@ impl Node {
     /// Rule: docs/PROTOCOL.md, "Publication and withdrawal".
     pub fn withdraw(&mut self, object: Name) -> Result<Turn, NodeFault>
         requires room { IsTrue (has_room_left self.old) }
-        requires core { self.old.ended ≡ false → self.old.state.status ≡ core }
+        requires core { self.old.ended ≡ false → self.old.state.status ≡ CoreStatus }
         requires name { IsName (settings_of self.old.state) object }
         ensures { AnswersAs (start_outcome self.old (Withdraw object)) self.old result self.new }
     {
@@ -94,7 +94,7 @@ impl Node {
         }
         let sender = self.sender();
         let mut sent = FrameList::new(self.alloc);
-        let news = self.state.withdraws(&sender, &mut sent, object);
+        let news = self.state.withdraw(&sender, &mut sent, object);
         turned(self.alloc, &mut self.state, sent, news)
     }
 
@@ -105,7 +105,7 @@ impl Node {
     /// Rule: docs/PROTOCOL.md, "Find".
     pub fn find(&mut self, ticket: u32, object: Name) -> Result<Turn, NodeFault>
         requires room { IsTrue (has_room_left self.old) }
-        requires core { self.old.ended ≡ false → self.old.state.status ≡ core }
+        requires core { self.old.ended ≡ false → self.old.state.status ≡ CoreStatus }
         requires name { IsName (settings_of self.old.state) object }
         ensures { AnswersAs (start_outcome self.old (Find ticket object)) self.old result self.new }
     {
@@ -114,7 +114,7 @@ impl Node {
         }
         let sender = self.sender();
         let mut sent = FrameList::new(self.alloc);
-        let news = self.state.asks(&sender, &mut sent, ticket, object);
+        let news = self.state.find(&sender, &mut sent, ticket, object);
         turned(self.alloc, &mut self.state, sent, news)
     }
 
@@ -126,7 +126,7 @@ impl Node {
     /// Rule: docs/PROTOCOL.md, "Cast".
     pub fn cast(&mut self, cast: u32, level: u8, word: &[u8]) -> Result<Turn, NodeFault>
         requires room { IsTrue (has_room_left self.old) }
-        requires core { self.old.ended ≡ false → self.old.state.status ≡ core }
+        requires core { self.old.ended ≡ false → self.old.state.status ≡ CoreStatus }
         requires level { level ≤ (settings_of self.old.state).digits }
         requires word { IsWord word.now }
         requires fresh { self.old.ended ≡ false → level_of_cast self.old.state.casts cast ≡ None }
@@ -145,7 +145,7 @@ impl Node {
             },
             depth: 0,
         };
-        let news = self.state.casts(&sender, &mut sent, &copy, word);
+        let news = self.state.cast(&sender, &mut sent, &copy, word);
         turned(self.alloc, &mut self.state, sent, news)
     }
 
@@ -156,7 +156,7 @@ impl Node {
     /// Rule: docs/PROTOCOL.md, "The start of a departure".
     pub fn leave(&mut self) -> Result<Turn, NodeFault>
         requires room { IsTrue (has_room_left self.old) }
-        requires core { self.old.ended ≡ false → self.old.state.status ≡ core }
+        requires core { self.old.ended ≡ false → self.old.state.status ≡ CoreStatus }
         ensures { AnswersAs (start_outcome self.old Leave) self.old result self.new }
     {
         if self.is_ended() {
@@ -164,7 +164,7 @@ impl Node {
         }
         let sender = self.sender();
         let mut sent = FrameList::new(self.alloc);
-        let news = self.state.leaves(self.alloc, &sender, &mut sent);
+        let news = self.state.leave(self.alloc, &sender, &mut sent);
         turned(self.alloc, &mut self.state, sent, news)
     }
 }

@@ -3,7 +3,7 @@ ghost use Rattle.tap_name.specs.Name.{IsName};
 ghost use Rattle.tap_rule.specs.FrameRules.{frame_at_ceased};
 ghost use Rattle.tap_name.specs.Word.{IsWord};
 ghost use Rattle.tap_rule.specs.Event.Start.{Abandon, Cast, Find, Join, Leave, Publish, Withdraw};
-ghost use Rattle.tap_rule.specs.Node.Status.{Ceased as ceased, Core as core, Joining as joining};
+ghost use Rattle.tap_rule.specs.Node.Status.{Ceased as CeasedStatus, Core as CoreStatus, Joining as JoiningStatus};
 ghost use Rattle.tap_wire.specs.Spelling.{IsFrame};
 ghost use Rattle.tap_wire.specs.declared.frame.Body.TheVariants as bodies;
 ghost use Rattle.tap_core_node.specs.State.{core_state};
@@ -49,7 +49,7 @@ impl State {
     // Does as the rule of a frame says that isn't strange. What changes the status is done by calls that aren't inlined, so that
     // other frames don't clear room for a second state.
     #[inline(never)]
-    pub(crate) fn takes(
+    pub(crate) fn take(
         &mut self,
         alloc: Global,
         sender: &Sender,
@@ -63,15 +63,15 @@ impl State {
             turn.old.sent turn.new.sent turn.new.news) }
     {
         match &frame.body {
-            Body::Done => self.takes_done(alloc, sender, turn),
-            Body::Left => self.takes_left(alloc, sender, turn, &frame.from),
-            _ => self.stays(sender, turn, frame),
+            Body::Done => self.on_done(alloc, sender, turn),
+            Body::Left => self.on_left(alloc, sender, turn, &frame.from),
+            _ => self.on_other(sender, turn, frame),
         }
     }
 
     // Takes a Done.
     #[inline(never)]
-    fn takes_done(
+    fn on_done(
         &mut self,
         alloc: Global,
         sender: &Sender,
@@ -84,7 +84,7 @@ impl State {
             turn.old.sent turn.new.sent turn.new.news) }
     {
         let state = mem::replace(self, State::ended(alloc));
-        let (next, news) = state.is_done(alloc, sender, &mut turn.sent)?;
+        let (next, news) = state.after_done(alloc, sender, &mut turn.sent)?;
         *self = next;
         turn.news = news;
         Ok(())
@@ -92,7 +92,7 @@ impl State {
 
     // Takes a Left.
     #[inline(never)]
-    fn takes_left(
+    fn on_left(
         &mut self,
         alloc: Global,
         sender: &Sender,
@@ -106,14 +106,14 @@ impl State {
             turn.old.sent turn.new.sent turn.new.news) }
     {
         let state = mem::replace(self, State::ended(alloc));
-        let (next, news) = state.is_left(sender, &mut turn.sent, *from)?;
+        let (next, news) = state.after_left(sender, &mut turn.sent, *from)?;
         *self = next;
         turn.news = news;
         Ok(())
     }
 
     // Does as the rule of a frame says after which the status is the same.
-    fn stays(&mut self, sender: &Sender, turn: &mut Turn, frame: &Frame) -> Result<(), NoMemory>
+    fn on_other(&mut self, sender: &Sender, turn: &mut Turn, frame: &Frame) -> Result<(), NoMemory>
         requires held { IsHeldBy sender.now.settings sender.now.name self.old }
         requires may { MayTake (state_held sender.now.settings sender.now.name self.old) frame.now }
         requires no_done { frame.now.body ≢ bodies.Done }
@@ -132,7 +132,7 @@ impl State {
     }
 
     // Done, which a joining node alone takes. A join that was given up ends with the node.
-    fn is_done(
+    fn after_done(
         self,
         alloc: Global,
         sender: &Sender,
@@ -148,15 +148,15 @@ impl State {
             return Ok((self, News::Nothing));
         };
         if !node.joining.is_abandoned() {
-            let joined = node.becomes_core(sent)?;
+            let joined = node.become_core(sent)?;
             return Ok((State::Core(core_of(alloc, joined)), News::Core));
         }
         let by = Cease { owner: sender.name };
-        Ok((State::Ceased(node.ceases(sent, by)?), News::Gone))
+        Ok((State::Ceased(node.cease(sent, by)?), News::Gone))
     }
 
     // Left, which a leaving node alone takes. After the last one it finishes.
-    fn is_left(
+    fn after_left(
         self,
         sender: &Sender,
         sent: &mut FrameList,
@@ -172,15 +172,15 @@ impl State {
             return Ok((self, News::Nothing));
         };
         let mut node = node;
-        node.is_left(from);
+        node.on_left(from);
         if node.is_free() {
-            return Ok((State::Gone(node.finishes(sent)?), News::Gone));
+            return Ok((State::Gone(node.finish(sent)?), News::Gone));
         }
         Ok((State::Leaving(node), News::Nothing))
     }
 
     // The start of a join, at a joining node.
-    pub(crate) fn starts_join(
+    pub(crate) fn join(
         &mut self,
         sender: &Sender,
         sent: &mut FrameList,
@@ -189,32 +189,32 @@ impl State {
         requires held { IsHeldBy sender.now.settings sender.now.name self.old }
         requires sound { IsSoundNode (state_held sender.now.settings sender.now.name self.old) }
         requires room { has_numbers_left (state_held sender.now.settings sender.now.name self.old) ≡ true }
-        requires at { (state_held sender.now.settings sender.now.name self.old).status ≡ joining }
+        requires at { (state_held sender.now.settings sender.now.name self.old).status ≡ JoiningStatus }
         requires name { IsName sender.now.settings via }
         ensures { IfOk result (λ news. StartsFrom sender.now.settings sender.now.name self.old self.new (Join via) sent.old sent.new news) }
     {
         match self {
-            State::Joining(node) => node.starts_join(sent, via),
+            State::Joining(node) => node.join(sent, via),
             _ => Ok(News::Nothing),
         }
     }
 
     // The join of a joining node is given up.
-    pub(crate) fn gives_up(&mut self, sender: &Sender) -> News
+    pub(crate) fn abandon(&mut self, sender: &Sender) -> News
         requires held { IsHeldBy sender.now.settings sender.now.name self.old }
         requires sound { IsSoundNode (state_held sender.now.settings sender.now.name self.old) }
         requires room { has_numbers_left (state_held sender.now.settings sender.now.name self.old) ≡ true }
-        requires at { (state_held sender.now.settings sender.now.name self.old).status ≡ joining }
+        requires at { (state_held sender.now.settings sender.now.name self.old).status ≡ JoiningStatus }
         ensures { (sent : List (List ℕ)) → StartsFrom sender.now.settings sender.now.name self.old self.new Abandon sent sent result }
     {
         if let State::Joining(node) = self {
-            node.gives_up();
+            node.abandon();
         }
         News::Nothing
     }
 
     // A core node publishes an object.
-    pub(crate) fn publishes(
+    pub(crate) fn publish(
         &mut self,
         sender: &Sender,
         sent: &mut FrameList,
@@ -223,18 +223,18 @@ impl State {
         requires held { IsHeldBy sender.now.settings sender.now.name self.old }
         requires sound { IsSoundNode (state_held sender.now.settings sender.now.name self.old) }
         requires room { has_numbers_left (state_held sender.now.settings sender.now.name self.old) ≡ true }
-        requires at { (state_held sender.now.settings sender.now.name self.old).status ≡ core }
+        requires at { (state_held sender.now.settings sender.now.name self.old).status ≡ CoreStatus }
         requires name { IsName sender.now.settings object }
         ensures { IfOk result (λ news. StartsFrom sender.now.settings sender.now.name self.old self.new (Publish object) sent.old sent.new news) }
     {
         match self {
-            State::Core(node) => node.publishes(sent, object),
+            State::Core(node) => node.publish(sent, object),
             _ => Ok(News::Nothing),
         }
     }
 
     // A core node withdraws an object.
-    pub(crate) fn withdraws(
+    pub(crate) fn withdraw(
         &mut self,
         sender: &Sender,
         sent: &mut FrameList,
@@ -243,18 +243,18 @@ impl State {
         requires held { IsHeldBy sender.now.settings sender.now.name self.old }
         requires sound { IsSoundNode (state_held sender.now.settings sender.now.name self.old) }
         requires room { has_numbers_left (state_held sender.now.settings sender.now.name self.old) ≡ true }
-        requires at { (state_held sender.now.settings sender.now.name self.old).status ≡ core }
+        requires at { (state_held sender.now.settings sender.now.name self.old).status ≡ CoreStatus }
         requires name { IsName sender.now.settings object }
         ensures { IfOk result (λ news. StartsFrom sender.now.settings sender.now.name self.old self.new (Withdraw object) sent.old sent.new news) }
     {
         match self {
-            State::Core(node) => node.withdraws(sent, object),
+            State::Core(node) => node.withdraw(sent, object),
             _ => Ok(News::Nothing),
         }
     }
 
     // A core node looks an object up.
-    pub(crate) fn asks(
+    pub(crate) fn find(
         &mut self,
         sender: &Sender,
         sent: &mut FrameList,
@@ -264,18 +264,18 @@ impl State {
         requires held { IsHeldBy sender.now.settings sender.now.name self.old }
         requires sound { IsSoundNode (state_held sender.now.settings sender.now.name self.old) }
         requires room { has_numbers_left (state_held sender.now.settings sender.now.name self.old) ≡ true }
-        requires at { (state_held sender.now.settings sender.now.name self.old).status ≡ core }
+        requires at { (state_held sender.now.settings sender.now.name self.old).status ≡ CoreStatus }
         requires name { IsName sender.now.settings object }
         ensures { IfOk result (λ news. StartsFrom sender.now.settings sender.now.name self.old self.new (Find ticket object) sent.old sent.new news) }
     {
         match self {
-            State::Core(node) => node.asks(sent, ticket, object),
+            State::Core(node) => node.find(sent, ticket, object),
             _ => Ok(News::Nothing),
         }
     }
 
     // A core node begins a cast.
-    pub(crate) fn casts(
+    pub(crate) fn cast(
         &mut self,
         sender: &Sender,
         sent: &mut FrameList,
@@ -285,7 +285,7 @@ impl State {
         requires held { IsHeldBy sender.now.settings sender.now.name self.old }
         requires sound { IsSoundNode (state_held sender.now.settings sender.now.name self.old) }
         requires room { has_numbers_left (state_held sender.now.settings sender.now.name self.old) ≡ true }
-        requires at { (state_held sender.now.settings sender.now.name self.old).status ≡ core }
+        requires at { (state_held sender.now.settings sender.now.name self.old).status ≡ CoreStatus }
         requires level { copy.now.level ≤ sender.now.settings.digits }
         requires root { copy.now.parent ≡ Parent.Root sender.now.name }
         requires depth { copy.now.depth ≡ 0 }
@@ -293,13 +293,13 @@ impl State {
         ensures { IfOk result (λ news. StartsFrom sender.now.settings sender.now.name self.old self.new (Cast copy.now.cast copy.now.level word.now) sent.old sent.new news) }
     {
         match self {
-            State::Core(node) => node.casts(sent, copy, word),
+            State::Core(node) => node.cast(sent, copy, word),
             _ => Ok(News::Nothing),
         }
     }
 
     // A core node leaves.
-    pub(crate) fn leaves(
+    pub(crate) fn leave(
         &mut self,
         alloc: Global,
         sender: &Sender,
@@ -308,17 +308,17 @@ impl State {
         requires held { IsHeldBy sender.now.settings sender.now.name self.old }
         requires sound { IsSoundNode (state_held sender.now.settings sender.now.name self.old) }
         requires room { has_numbers_left (state_held sender.now.settings sender.now.name self.old) ≡ true }
-        requires at { (state_held sender.now.settings sender.now.name self.old).status ≡ core }
+        requires at { (state_held sender.now.settings sender.now.name self.old).status ≡ CoreStatus }
         ensures { IfOk result (λ news. StartsFrom sender.now.settings sender.now.name self.old self.new Leave sent.old sent.new news) }
     {
         let state = mem::replace(self, State::ended(alloc));
-        let (next, news) = state.has_left(alloc, sender, sent)?;
+        let (next, news) = state.after_leave(alloc, sender, sent)?;
         *self = next;
         Ok(news)
     }
 
     // The start of a departure, at a core node. Without holders it finishes at once.
-    fn has_left(
+    fn after_leave(
         self,
         alloc: Global,
         sender: &Sender,
@@ -327,7 +327,7 @@ impl State {
         requires held { IsHeldBy sender.now.settings sender.now.name self }
         requires sound { IsSoundNode (state_held sender.now.settings sender.now.name self) }
         requires room { has_numbers_left (state_held sender.now.settings sender.now.name self) ≡ true }
-        requires at { (state_held sender.now.settings sender.now.name self).status ≡ core }
+        requires at { (state_held sender.now.settings sender.now.name self).status ≡ CoreStatus }
         ensures { IfOk result (λ r. StartsFrom sender.now.settings sender.now.name self r.0 Leave sent.old sent.new r.1) }
     {
         let State::Core(node) = self else {
@@ -336,9 +336,9 @@ impl State {
         let (core, parts) = node.into_parts();
         let mut node = LeavingNode::start(alloc, core, parts)?;
         if node.is_free() {
-            return Ok((State::Gone(node.finishes(sent)?), News::Gone));
+            return Ok((State::Gone(node.finish(sent)?), News::Gone));
         }
-        node.sends_notices(sent)?;
+        node.send_notices(sent)?;
         Ok((State::Leaving(node), News::Nothing))
     }
 }
@@ -390,9 +390,9 @@ fn take_ceased(
     requires own { IsName sender.now.settings sender.now.name }
     requires parents { HaveParents sender.now.settings sessions.old }
     requires frame { IsFrame sender.now.settings frame.now }
-    ensures { OnOk result (FollowsAs (ended_state ceased sender.now.settings sender.now.name sessions.old)
-        (frame_at_ceased (ended_state ceased sender.now.settings sender.now.name sessions.old) frame.now.from frame.now.body)
-        (ended_state ceased sender.now.settings sender.now.name sessions.new) sent.old sent.new News.Nothing) }
+    ensures { OnOk result (FollowsAs (ended_state CeasedStatus sender.now.settings sender.now.name sessions.old)
+        (frame_at_ceased (ended_state CeasedStatus sender.now.settings sender.now.name sessions.old) frame.now.from frame.now.body)
+        (ended_state CeasedStatus sender.now.settings sender.now.name sessions.new) sent.old sent.new News.Nothing) }
 {
     let from = frame.from;
     match &frame.body {

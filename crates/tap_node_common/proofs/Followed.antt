@@ -2,12 +2,12 @@
 use Rattle.std.proofs.Common.{◌≡◌, ℕ, List, [], Option, None, Some, refl, sym, subst}
 use Rattle.tap_table.specs.declared.next.Next.{Next}
 use Rattle.tap_table.specs.declared.next.Next.TheVariants.{Root, Hop}
-use Rattle.tap_pointer.specs.Pointers.{least_server}
+use Rattle.tap_pointer.specs.Pointers.{server_for}
 use Rattle.tap_pointer.specs.Reconcile.{AreLaid}
 use Rattle.tap_rule.specs.Act.{completed}
 use Rattle.tap_rule.specs.Node.{IsRunning, NodeState, Status}
 use Rattle.tap_rule.specs.Node.Status.{Joining, Core, Leaving, Gone, Ceased}
-use Rattle.tap_rule.specs.Pointers.{asks, asks_on, asks_with, finds, finds_on, finds_with, next_hop, reconciles}
+use Rattle.tap_rule.specs.Pointers.{next_hop, reconciles, starts_find, starts_find_on, starts_find_with, takes_find, takes_find_on, takes_find_with}
 use Rattle.tap_rule.specs.Reaction.{Reaction}
 use Rattle.tap_node_common.specs.declared.news.News.{News}
 use Rattle.tap_node_common.specs.Step.{FollowsAs, StepsAs}
@@ -38,27 +38,27 @@ pub record LeavesAlone (node : NodeState) (r : Reaction) : Type 0 where
 
 module _ (node : NodeState) (ticket : ℕ) (object : List ℕ) where
   module _ (asker : List ℕ) (level : ℕ) where
-    finds_on_alone : (next : Next) → LeavesAlone node (finds_on node ticket object asker next)
+    finds_on_alone : (next : Next) → LeavesAlone node (takes_find_on node ticket object asker next)
     finds_on_alone Root = record { state = refl; lays = refl }
     finds_on_alone (Hop to next) = record { state = refl; lays = refl }
 
-    finds_with_alone : (server : Option (List ℕ)) → LeavesAlone node (finds_with node ticket object asker level server)
+    finds_with_alone : (server : Option (List ℕ)) → LeavesAlone node (takes_find_with node ticket object asker level server)
     finds_with_alone None = finds_on_alone (next_hop node object level)
     finds_with_alone (Some server) = record { state = refl; lays = refl }
 
-    pub finds_alone : LeavesAlone node (finds node ticket object asker level)
-    finds_alone = finds_with_alone (least_server node.pointers object)
+    pub finds_alone : LeavesAlone node (takes_find node ticket object asker level)
+    finds_alone = finds_with_alone (server_for node.pointers object)
 
-  asks_on_alone : (next : Next) → LeavesAlone node (asks_on node ticket object next)
+  asks_on_alone : (next : Next) → LeavesAlone node (starts_find_on node ticket object next)
   asks_on_alone Root = record { state = refl; lays = refl }
   asks_on_alone (Hop to next) = record { state = refl; lays = refl }
 
-  asks_with_alone : (server : Option (List ℕ)) → LeavesAlone node (asks_with node ticket object server)
+  asks_with_alone : (server : Option (List ℕ)) → LeavesAlone node (starts_find_with node ticket object server)
   asks_with_alone None = asks_on_alone (next_hop node object 0)
   asks_with_alone (Some server) = record { state = refl; lays = refl }
 
-  pub asks_alone : LeavesAlone node (asks node ticket object)
-  asks_alone = asks_with_alone (least_server node.pointers object)
+  pub asks_alone : LeavesAlone node (starts_find node ticket object)
+  asks_alone = asks_with_alone (server_for node.pointers object)
 
 -- such a rule at a node whose pairs are laid as wanted
 pub follows_alone : (node : NodeState) (r : Reaction) (after : NodeState) (before sent : List (List ℕ)) (news : News)

@@ -18,7 +18,7 @@ use Rattle.tap_pointer.specs.declared.pair.Pair.{Pair}
 use Rattle.tap_pointer.specs.declared.state.PairState.{PairState}
 use Rattle.tap_pointer.specs.declared.state.Pointer.{Pointer}
 use Rattle.tap_pointer.specs.Pair.{pair_cmp, pair_cmp-total}
-use Rattle.tap_pointer.specs.Pointers.{IsPairState, IsPointers, PointersValue, all_withdrawn, is_held, is_of, lay_applied, least_server, level_held, nothing_known, own_pair, owner_publishes, published, server_among, state_of, with_lay, with_published, with_state, withdrawn}
+use Rattle.tap_pointer.specs.Pointers.{IsPairState, IsPointers, PointersValue, all_withdrawn, is_held, is_of, lay_applied, level_held, nothing_known, own_pair, owner_publishes, published, server_among, server_for, state_of, with_lay, with_published, with_state, withdrawn}
 use Rattle.tap_pointer.specs.Reconcile.{AreLaid, AreNamesHeld, hop_from, hop_of, reconciled, wanted_hop, with_wanted}
 use Rattle.tap_pointer.proofs.Entries.{All-put}
 use Rattle.tap_pointer.proofs.Known.{All-found, pair_cmp-equal}
@@ -154,5 +154,5 @@ module _ (p : SettingsValue) (object server : List ℕ) where
         | inr apart ↦ later (sym (server-not_held object e pairs apart) ∙ is)
       ]
 
-  pub server_named : (pointers : PointersValue) → AreNamedPairs p pointers → least_server pointers object ≡ Some server → IsName p server
+  pub server_named : (pointers : PointersValue) → AreNamedPairs p pointers → server_for pointers object ≡ Some server → IsName p server
   server_named pointers named is = server_among_named pointers.pairs named is

@@ -7,7 +7,7 @@ use Rattle.tap_rule.specs.Node.{NodeState}
 use Rattle.tap_rule.specs.Pointers.{lays_due, reconciles, takes_lay, with_reconciled}
 use Rattle.tap_rule.specs.Reaction.{Message, Reaction, sends, stays, with_news, with_words}
 use Rattle.tap_rule.specs.Event.{News as RuleNews}
-use Rattle.tap_rule.specs.Event.News.{Nothing as RuleNothing}
+use Rattle.tap_rule.specs.Event.News.{Nothing as NothingNews}
 use Rattle.tap_node_common.specs.declared.news.News.{News}
 use Rattle.tap_node_common.specs.declared.news.News.TheVariants.{Nothing}
 use Rattle.tap_node_common.specs.declared.pointing.TakenLay.{TakenLay}
@@ -93,4 +93,4 @@ pub lay_step : (node : NodeState) (lay : TakenLay) (pointers : PointersValue) (s
 lay_step node lay pointers stamp before sent same numbered lays =
     let middle : NodeState = record node { pointers = lay_taken node.pointers lay } in
     reconciled_step node (stays middle) (record node { pointers = pointers; stamp = stamp }) middle before before sent Nothing refl
-    (silent_step node middle RuleNothing before) (reconciled_is middle pointers stamp same numbered) lays
+    (silent_step node middle NothingNews before) (reconciled_is middle pointers stamp same numbered) lays

@@ -2,7 +2,7 @@ ghost use Rattle.std.specs.Prelude.{◌≡◌, ◌+◌, ◌*◌, ◌≤◌, ◌+
 ghost use Rattle.tap_name.specs.Name.{IsName};
 ghost use Rattle.tap_pointer.specs.Pointers.{held_or_laid_count, pair_of};
 ghost use Rattle.tap_pointer.specs.Reconcile.{AreLaid, AreLaidBeside, AreLaidBut, reconcile_lays, reconciled};
-ghost use Rattle.tap_rule.specs.Pointers.{asks, finds};
+ghost use Rattle.tap_rule.specs.Pointers.{starts_find, takes_find};
 ghost use Rattle.tap_wire.specs.Spelling.{IsLevel};
 ghost use Rattle.tap_node_common.specs.Pointing.{EachStepsAs, lay_taken};
 ghost use Rattle.tap_node_common.specs.Sender.{lay_bytes, sender_of};
@@ -193,7 +193,7 @@ pub fn take_find(
     requires asker { IsName table.now.settings find.now.asker }
     requires level { find.now.level ≤ table.now.settings.digits }
     ensures { OnOk result (EachStepsAs table.now pointers.now
-        (λ node. finds node find.now.ticket find.now.object find.now.asker find.now.level) sent.old sent.new News.Nothing) }
+        (λ node. takes_find node find.now.ticket find.now.object find.now.asker find.now.level) sent.old sent.new News.Nothing) }
 {
     let sender = Sender::of(table);
     let ticket = find.ticket;
@@ -233,7 +233,7 @@ pub fn ask(
 ) -> Result<News, NoMemory>
     requires names { AreNamedPairs table.now.settings pointers.now }
     requires object { IsName table.now.settings object }
-    ensures { IfOk result (λ news. EachStepsAs table.now pointers.now (λ node. asks node ticket object) sent.old sent.new news) }
+    ensures { IfOk result (λ news. EachStepsAs table.now pointers.now (λ node. starts_find node ticket object) sent.old sent.new news) }
 {
     if let Some(server) = pointers.lookup(object) {
         let server = Some(server);

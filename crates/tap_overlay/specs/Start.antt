@@ -8,20 +8,20 @@ use Rattle.tap_name.specs.Word.{IsWord}
 use Rattle.tap_cast.specs.Casts.{level_of_cast}
 use Rattle.tap_rule.specs.Node.Status.{Core, Joining}
 use Rattle.tap_rule.specs.Event.{Start as Begun}
-use Rattle.tap_rule.specs.Event.Start.{Abandon as Abandons, Cast as Casts, Find as Finds, Leave as Leaves}
-use Rattle.tap_rule.specs.Event.Start.{Publish as Publishes, Withdraw as Withdraws}
+use Rattle.tap_rule.specs.Event.Start.{Abandon as StartAbandon, Cast as StartCast, Find as StartFind, Leave as StartLeave}
+use Rattle.tap_rule.specs.Event.Start.{Publish as StartPublish, Withdraw as StartWithdraw}
 use Rattle.tap_node.specs.Node.{NodeValue}
 use Rattle.tap_overlay.specs.declared.start.Start.{Start}
 use Rattle.tap_overlay.specs.declared.start.Start.TheVariants.{Abandon, Publish, Withdraw, Find, Leave, Cast}
 
 -- the start as the rule of a node has it
 abbrev pub begun : Start → Begun
-begun Abandon = Abandons
-begun (Publish object) = Publishes object
-begun (Withdraw object) = Withdraws object
-begun (Find ticket object) = Finds ticket object
-begun Leave = Leaves
-begun (Cast cast level word) = Casts cast level word.now
+begun Abandon = StartAbandon
+begun (Publish object) = StartPublish object
+begun (Withdraw object) = StartWithdraw object
+begun (Find ticket object) = StartFind ticket object
+begun Leave = StartLeave
+begun (Cast cast level word) = StartCast cast level word.now
 
 -- it joins, or is core, if it takes steps
 abbrev pub Joins : NodeValue → Type 0

@@ -132,8 +132,8 @@ abbrev pub server_among : List (Pair × PairState) → List ℕ → Option (List
 server_among pairs object = option_map (λ pair. pair.server) (find (is_of object) (held_among pairs))
 
 -- the least server held for an object, since the pairs ascend
-abbrev pub least_server : PointersValue → List ℕ → Option (List ℕ)
-least_server p object = server_among p.pairs object
+abbrev pub server_for : PointersValue → List ℕ → Option (List ℕ)
+server_for p object = server_among p.pairs object
 
 -- what is kept of each pair: the owner alone publishes, as the pair's server, and each register has a level from 1 to the
 -- number of digits

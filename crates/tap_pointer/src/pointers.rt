@@ -1,6 +1,6 @@
 ghost use Rattle.std.specs.Prelude.{◌≡◌, ◌+◌, ◌*◌, ◌<◌, ◌≤◌, not, length, map, slice_get, Some, IfOk, OnOk, OnErr};
 ghost use Rattle.tap_name.specs.Name.{IsName};
-ghost use Rattle.tap_pointer.specs.Pointers.{IsPointers, all_withdrawn, is_news, lay_applied, least_server, no_pointers, own_pair, pair_of, pairs_held, pointer_at, published, owner_publishes, held_or_laid_count, withdrawn};
+ghost use Rattle.tap_pointer.specs.Pointers.{IsPointers, all_withdrawn, held_or_laid_count, is_news, lay_applied, no_pointers, own_pair, owner_publishes, pair_of, pairs_held, pointer_at, published, server_for, withdrawn};
 ghost use Rattle.tap_pointer.specs.Reconcile.{AreLaid, AreLaidBeside, AreLaidBut, AreLaidUnlessApart, AreNamesHeld, clear_lays, cleared, reconcile_lays, reconciled};
 
 use crate::change::{held_or_laid_count, lay, publish, take, withdraw};
@@ -11,7 +11,7 @@ use crate::pair::Pair;
 use crate::relaid::take_and_lay;
 use crate::state::{PairState, Pointer};
 use crate::walk::{
-    held_at, held_count, lay_as_told, lays_to_none, lays_to_wanted, least_server, withdraw_all,
+    held_at, held_count, lay_as_told, lays_to_none, lays_to_wanted, server_for, withdraw_all,
 };
 use std::alloc::Global;
 use std::collections::BTreeMap;
@@ -340,9 +340,9 @@ impl Pointers {
     ///
     /// Rule: docs/PROTOCOL.md, "Pointers".
     pub fn lookup(&self, object: Name) -> Option<Name>
-        ensures { result ≡ least_server self.now object }
+        ensures { result ≡ server_for self.now object }
     {
-        least_server(&self.pairs, &object)
+        server_for(&self.pairs, &object)
     }
 
     /// The pairs that are held, ascending by object, then server.

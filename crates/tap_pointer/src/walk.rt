@@ -154,7 +154,7 @@ pub(crate) fn withdraw_all(pairs: &mut BTreeMap<Pair, PairState>)
 
 // The least server held for an object. It looks at the pairs of this object alone, which begin where that of the empty
 // name would stand.
-pub(crate) fn least_server(pairs: &BTreeMap<Pair, PairState>, object: &Name) -> Option<Name>
+pub(crate) fn server_for(pairs: &BTreeMap<Pair, PairState>, object: &Name) -> Option<Name>
     ensures { result ≡ server_among pairs.now.entries object.now }
 {
     let first = first_of(object);

@@ -21,10 +21,10 @@ use Rattle.tap_rule.specs.Node.Status.{Ceased, Core, Gone, Joining, Leaving}
 use Rattle.tap_rule.specs.Sent.{IsAmong}
 use Rattle.tap_rule.specs.StartRules.{rule_of_start}
 use Rattle.tap_rule.specs.Casts.{starts_cast}
-use Rattle.tap_rule.specs.Ceasing.{gives_up}
+use Rattle.tap_rule.specs.Ceasing.{starts_abandon}
 use Rattle.tap_rule.specs.Joining.{starts_join}
-use Rattle.tap_rule.specs.Leaving.{leaves}
-use Rattle.tap_rule.specs.Pointers.{asks, starts_publishing, withdraws}
+use Rattle.tap_rule.specs.Leaving.{starts_leave}
+use Rattle.tap_rule.specs.Pointers.{starts_find, starts_publish, starts_withdraw}
 use Rattle.tap_rule.specs.Reaction.{Reaction}
 use Rattle.tap_rule.proofs.Kept.{joiner_law}
 use Rattle.tap_rule.proofs.StartSteps.{seek_start_law}
@@ -435,7 +435,7 @@ pub there_is_rule : (p : SettingsValue) (s : System) (x : List ℕ) (start : Sta
     → ((node.status ≡ Joining) × (start ≡ Abandon)) ⊎ ((node.status ≡ Core) × IsOfCore start)
     → rule_of_start node.status node start ≡ None → ⊥
 there_is_rule p s x start node at (inl (joining, abandons)) none =
-    let wrong : ◌≡◌ {A = Option Reaction} (Some (gives_up node)) None =
+    let wrong : ◌≡◌ {A = Option Reaction} (Some (starts_abandon node)) None =
     ap (λ w. rule_of_start Joining node w) (sym abandons) ∙ ap (λ st. rule_of_start st node start) (sym joining) ∙ none in
     cc
 there_is_rule p s x start node at (inr (core, of)) none =
@@ -444,11 +444,11 @@ there_is_rule p s x start node at (inr (core, of)) none =
     core_rule : (w : Start) → IsOfCore w → rule_of_start Core node w ≡ None → ⊥
     core_rule (Join via) of none = of
     core_rule Abandon of none = of
-    core_rule Leave of none = let wrong : ◌≡◌ {A = Option Reaction} (Some (leaves node)) None = none in cc
+    core_rule Leave of none = let wrong : ◌≡◌ {A = Option Reaction} (Some (starts_leave node)) None = none in cc
     core_rule (Publish object) of none =
-        let wrong : ◌≡◌ {A = Option Reaction} (Some (starts_publishing node object)) None = none in cc
-    core_rule (Withdraw object) of none = let wrong : ◌≡◌ {A = Option Reaction} (Some (withdraws node object)) None = none in cc
-    core_rule (Find ticket object) of none = let wrong : ◌≡◌ {A = Option Reaction} (Some (asks node ticket object)) None = none in cc
+        let wrong : ◌≡◌ {A = Option Reaction} (Some (starts_publish node object)) None = none in cc
+    core_rule (Withdraw object) of none = let wrong : ◌≡◌ {A = Option Reaction} (Some (starts_withdraw node object)) None = none in cc
+    core_rule (Find ticket object) of none = let wrong : ◌≡◌ {A = Option Reaction} (Some (starts_find node ticket object)) None = none in cc
     core_rule (Cast cast level word) of none =
         let wrong : ◌≡◌ {A = Option Reaction} (Some (starts_cast node cast level word)) None = none in cc
 

@@ -10,7 +10,7 @@ use Rattle.tap_register.specs.Registers.{entry_of}
 use Rattle.tap_register.specs.declared.registers.Entry.{Entry}
 use Rattle.tap_link.specs.Entry as links
 use Rattle.tap_link.specs.declared.kind.Kind.{Kind}
-use Rattle.tap_link.specs.declared.kind.Kind.TheVariants.{Leaving as Marked, Pin, Settled}
+use Rattle.tap_link.specs.declared.kind.Kind.TheVariants.{Leaving as LeavingKind, Pin, Settled}
 use Rattle.tap_table.specs.Next.{next_from}
 use Rattle.tap_table.specs.Table.{TableValue, kind_in}
 use Rattle.tap_table.specs.declared.next.Next.TheVariants.{Hop as HopTo}
@@ -126,7 +126,7 @@ module _ (p : SettingsValue) (s : System) (sound : Sound p s) (stand : PointersS
       → kind ≡ Settled
   settled x node at to Pin is = absurd (left.pins x to (record { state = node; is = at; link = is }))
   settled x node at to Settled is = refl
-  settled x node at to Marked is = absurd (left.marked x to (record { state = node; is = at; link = is }))
+  settled x node at to LeavingKind is = absurd (left.marked x to (record { state = node; is = at; link = is }))
 
   links_settled : (x : List ℕ) (node : NodeState) → s.node x ≡ Some node → HasSettledCoreLinks (nodes_of s) node.ties.table
   links_settled x node at =

@@ -25,7 +25,7 @@ use Rattle.tap_history.specs.Steps.{actor_of, depart_name}
 use Rattle.tap_rule.specs.Act.{act}
 use Rattle.tap_rule.specs.Event.{Start}
 use Rattle.tap_rule.specs.Event.Event.{Starts}
-use Rattle.tap_rule.specs.Event.Start.{Abandon as GivesUp, Join as Joins, Leave as Leaves, Publish as Publishes, Withdraw as Withdraws}
+use Rattle.tap_rule.specs.Event.Start.{Abandon as StartAbandon, Join as StartJoin, Leave as StartLeave, Publish as StartPublish, Withdraw as StartWithdraw}
 use Rattle.tap_rule.specs.Node.{NodeState}
 use Rattle.tap_rule.specs.Node.Status.{Core}
 use Rattle.tap_safety.specs.Move.{may_move, may_start}
@@ -151,13 +151,13 @@ pub record IsAside (log : List Record) (step : Step) (name : List ℕ) (start : 
   pub said : All IsUnpaired (announced log step)
   pub stays : depart_name step ≡ None
   pub serves : (pair : Pair) (before : Bool) → served_after name start pair before ≡ before
-  pub unpublished : (object : List ℕ) → start ≡ Publishes object → ⊥
+  pub unpublished : (object : List ℕ) → start ≡ StartPublish object → ⊥
 
 abbrev KindOf : List Record → Step → List ℕ → Start → Type 0
 KindOf log step name start =
-    ((object : List ℕ) × (step ≡ Publish object name) × (start ≡ Publishes object))
-    ⊎ (((object : List ℕ) × (step ≡ Withdraw object name) × (start ≡ Withdraws object))
-    ⊎ (((step ≡ Depart name) × (start ≡ Leaves)) ⊎ IsAside log step name start))
+    ((object : List ℕ) × (step ≡ Publish object name) × (start ≡ StartPublish object))
+    ⊎ (((object : List ℕ) × (step ≡ Withdraw object name) × (start ≡ StartWithdraw object))
+    ⊎ (((step ≡ Depart name) × (start ≡ StartLeave)) ⊎ IsAside log step name start))
 
 module _ (log : List Record) (name : List ℕ) (start : Start) where
   serves_alike : (x : List ℕ) (first : Start) → ◌≡◌ {A = Option (List ℕ × Start)} (Some (x, first)) (Some (name, start))
@@ -167,7 +167,7 @@ module _ (log : List Record) (name : List ℕ) (start : Start) where
       ap (λ w. served_after name w pair before) (sym (ap (start_in first) at)) ∙ same pair before
 
   never_publishes : (x : List ℕ) (first : Start) → ◌≡◌ {A = Option (List ℕ × Start)} (Some (x, first)) (Some (name, start))
-      → ((object : List ℕ) → first ≡ Publishes object → ⊥) → (object : List ℕ) → start ≡ Publishes object → ⊥
+      → ((object : List ℕ) → first ≡ StartPublish object → ⊥) → (object : List ℕ) → start ≡ StartPublish object → ⊥
   never_publishes x first at never object is = never object (ap (start_in first) at ∙ is)
 
   no_pairs : All IsUnpaired []
@@ -179,16 +179,16 @@ module _ (log : List Record) (name : List ℕ) (start : Start) where
   kind_of : (step : Step) → start_at log step ≡ Some (name, start) → KindOf log step name start
   unfolding actor_of start_of_step depart_name announced published_pair withdrawn_pair
   kind_of (Publish object server) at =
-      inl (object, ap (λ n. Publish object n) (ap name_at at), sym (ap (start_in (Publishes object)) at))
+      inl (object, ap (λ n. Publish object n) (ap name_at at), sym (ap (start_in (StartPublish object)) at))
   kind_of (Withdraw object server) at =
-      inr (inl (object, ap (λ n. Withdraw object n) (ap name_at at), sym (ap (start_in (Withdraws object)) at)))
-  kind_of (Depart node) at = inr (inr (inl (ap (λ x. Depart x) (ap name_at at), sym (ap (start_in Leaves) at))))
+      inr (inl (object, ap (λ n. Withdraw object n) (ap name_at at), sym (ap (start_in (StartWithdraw object)) at)))
+  kind_of (Depart node) at = inr (inr (inl (ap (λ x. Depart x) (ap name_at at), sym (ap (start_in StartLeave) at))))
   kind_of (Join newcomer via) at =
       inr (inr (inr (record {
         said = no_pairs;
         stays = refl;
-        serves = serves_alike newcomer (Joins via) at (λ pair before. refl);
-        unpublished = never_publishes newcomer (Joins via) at (λ object is. cc);
+        serves = serves_alike newcomer (StartJoin via) at (λ pair before. refl);
+        unpublished = never_publishes newcomer (StartJoin via) at (λ object is. cc);
       })))
   kind_of (Find object asker) at =
       inr (inr (inr (record {
@@ -201,8 +201,8 @@ module _ (log : List Record) (name : List ℕ) (start : Start) where
       inr (inr (inr (record {
         said = one_no_pair _ (refl, refl);
         stays = refl;
-        serves = serves_alike node GivesUp at (λ pair before. refl);
-        unpublished = never_publishes node GivesUp at (λ object is. cc);
+        serves = serves_alike node StartAbandon at (λ pair before. refl);
+        unpublished = never_publishes node StartAbandon at (λ object is. cc);
       })))
   kind_of (Cast word prefix asker) at =
       inr (inr (inr (record {
@@ -321,7 +321,7 @@ module _ (p : SettingsValue) (log : List Record) (s : System) (grown : Grown log
         (λ pair. frame_serves p s number pair may sound grown.stand)
         (λ x leaver. leavers_stay p s (Delivers number) x may sound grown.stand leaver)
         (ever_kept p s (Delivers number) (was_published (log ++ Taken number ∷ items)) may sound grown.stand
-        (λ x object is. let wrong : Delivers number ≡ Begins x (Publishes object) = is in absurd (cc))
+        (λ x object is. let wrong : Delivers number ≡ Begins x (StartPublish object) = is in absurd (cc))
         (ever_grows log (Taken number ∷ items) s grown.ever))
 
     -- ---- a step
@@ -364,14 +364,14 @@ module _ (p : SettingsValue) (log : List Record) (s : System) (grown : Grown log
         nobody_leaves stays = none_named depart_name index step items (no_steps items within) (inr stays)
 
         -- what is known of was published, also of what is published now
-        ever_now : ((object : List ℕ) → starting.start ≡ Publishes object
+        ever_now : ((object : List ℕ) → starting.start ≡ StartPublish object
             → was_published (log ++ StepRecord index step ∷ items) (pair_of object name) ≡ true)
             → AreOfPublished (was_published (log ++ StepRecord index step ∷ items)) now
         ever_now new =
             ever_kept p s (Begins name starting.start) (was_published (log ++ StepRecord index step ∷ items)) may sound grown.stand
             (λ x object is.
             let here : name ≡ x = cc in
-            let start_is : starting.start ≡ Publishes object = cc in
+            let start_is : starting.start ≡ StartPublish object = cc in
             subst (λ y. was_published (log ++ StepRecord index step ∷ items) (pair_of object y) ≡ true) here (new object start_is))
             (ever_grows log (StepRecord index step ∷ items) s grown.ever)
 
@@ -385,7 +385,7 @@ module _ (p : SettingsValue) (log : List Record) (s : System) (grown : Grown log
             (ever_now (λ object publishes. absurd (aside.unpublished object publishes)))
 
         -- a publication
-        publish_start : (object : List ℕ) → step ≡ Publish object name → starting.start ≡ Publishes object
+        publish_start : (object : List ℕ) → step ≡ Publish object name → starting.start ≡ StartPublish object
             → Grown (log ++ StepRecord index step ∷ items) now
         publish_start object is starts =
             let says = publish_says index step done done_none object name in
@@ -397,7 +397,7 @@ module _ (p : SettingsValue) (log : List Record) (s : System) (grown : Grown log
             record {
               stand = stands_now;
               ever = ever_now (λ other publishes.
-                  let same : other ≡ object = let both : Publishes other ≡ Publishes object = sym publishes ∙ starts in cc in
+                  let same : other ≡ object = let both : StartPublish other ≡ StartPublish object = sym publishes ∙ starts in cc in
                   subst (λ o. was_published (log ++ StepRecord index step ∷ items) (pair_of o name) ≡ true) (sym same)
                   (new_was log (StepRecord index step ∷ items) object name (filter_map published_pair done)
                   (ap (λ l. filter_map published_pair (StepRecord index step ∷ l)) are ∙ publish_named index step done object name)));
@@ -419,7 +419,7 @@ module _ (p : SettingsValue) (log : List Record) (s : System) (grown : Grown log
             }
 
         -- a withdrawal
-        withdraw_start : (object : List ℕ) → step ≡ Withdraw object name → starting.start ≡ Withdraws object
+        withdraw_start : (object : List ℕ) → step ≡ Withdraw object name → starting.start ≡ StartWithdraw object
             → Grown (log ++ StepRecord index step ∷ items) now
         withdraw_start object is starts =
             let says = withdraw_says index step done done_none object name in
@@ -429,7 +429,7 @@ module _ (p : SettingsValue) (log : List Record) (s : System) (grown : Grown log
             record {
               stand = stands_now;
               ever = ever_now (λ other publishes.
-                  let wrong : Withdraws object ≡ Publishes other = sym starts ∙ publishes in absurd (cc));
+                  let wrong : StartWithdraw object ≡ StartPublish other = sym starts ∙ publishes in absurd (cc));
               agree = λ pair.
                   let q = pair_line pair in
                   let d = has_name (departures_of log) pair.server in
@@ -447,14 +447,14 @@ module _ (p : SettingsValue) (log : List Record) (s : System) (grown : Grown log
             }
 
         -- a departure
-        leave_start : step ≡ Depart name → starting.start ≡ Leaves → Grown (log ++ StepRecord index step ∷ items) now
+        leave_start : step ≡ Depart name → starting.start ≡ StartLeave → Grown (log ++ StepRecord index step ∷ items) now
         leave_start is starts =
             let may_leave = subst (may_start p s name) starts may in
             let node = may_leave.acts.state in
-            let are : items ≡ acted_records p (sent_count log) name (act node (Starts Leaves)) =
+            let are : items ≡ acted_records p (sent_count log) name (act node (Starts StartLeave)) =
             starting.are ∙ ap (λ l. l ++ done) (ap (announced log) is ∙ nothing_first log name)
             ∙ ap (λ w. records_of_act p log name (starter p s name w) (Starts w)) starts
-            ∙ ap (λ n. records_of_act p log name n (Starts Leaves)) may_leave.acts.is in
+            ∙ ap (λ n. records_of_act p log name n (Starts StartLeave)) may_leave.acts.is in
             let accepted : is_accepted items ≡ true =
             ap is_accepted are ∙ leave_accepted p (sent_count log) name node may_leave.acts.core in
             let left_is : filter_map depart_name (accepted_in false (StepRecord index step ∷ items)) ≡ name ∷ [] =
@@ -467,7 +467,7 @@ module _ (p : SettingsValue) (log : List Record) (s : System) (grown : Grown log
             let says = others_say index step items none in
             record {
               stand = stands_now;
-              ever = ever_now (λ other publishes. let wrong : Leaves ≡ Publishes other = sym starts ∙ publishes in absurd (cc));
+              ever = ever_now (λ other publishes. let wrong : StartLeave ≡ StartPublish other = sym starts ∙ publishes in absurd (cc));
               agree = λ pair.
                   let q = pair_line pair in
                   let d = has_name (departures_of log) pair.server in
@@ -479,7 +479,7 @@ module _ (p : SettingsValue) (log : List Record) (s : System) (grown : Grown log
               departed = λ x left. leaves_either starts x left_is left;
             }
           where
-            leaves_either : starting.start ≡ Leaves → (x : List ℕ) → filter_map depart_name (accepted_in false (StepRecord index step ∷ items)) ≡ name ∷ []
+            leaves_either : starting.start ≡ StartLeave → (x : List ℕ) → filter_map depart_name (accepted_in false (StepRecord index step ∷ items)) ≡ name ∷ []
                 → has_name (departures_of (log ++ StepRecord index step ∷ items)) x ≡ true → IsLeaver now x
             leaves_either starts x left_is left =
                 elim (cases_Bool (has_name (departures_of log) x)) [

@@ -24,7 +24,7 @@ use Rattle.tap_history.specs.Core.{core_of}
 use Rattle.tap_history.specs.Published.{unwithdrawn_pair, unwithdrawn_pairs}
 use Rattle.tap_history.specs.Refusals.{first_refusal}
 use Rattle.tap_rule.specs.Event.{Acted, Event, News, Start}
-use Rattle.tap_rule.specs.Event.News.{Answered as IsAnswered, Cast as IsCast, Core as IsCore, Gone as IsGone, Nothing}
+use Rattle.tap_rule.specs.Event.News.{Answered as AnsweredNews, Cast as CastNews, Core as CoreNews, Gone as GoneNews, Nothing}
 use Rattle.tap_rule.specs.Node.{NodeState}
 use Rattle.tap_rule.specs.Act.{act}
 use Rattle.tap_safety.specs.System.{System}
@@ -67,18 +67,18 @@ so_unpaired false item is = none_paired
 before_unpaired : (name : List ℕ) (news : News) → All IsUnpaired (news_before name news)
 unfolding published_pair withdrawn_pair news_before
 before_unpaired name Nothing = none_paired
-before_unpaired name IsCore = one_unpaired _ (refl, refl)
-before_unpaired name IsGone = one_unpaired _ (refl, refl)
-before_unpaired name (IsAnswered ticket server) = none_paired
-before_unpaired name (IsCast cast reached closed) = so_unpaired reached (Reached cast name) (refl, refl)
+before_unpaired name CoreNews = one_unpaired _ (refl, refl)
+before_unpaired name GoneNews = one_unpaired _ (refl, refl)
+before_unpaired name (AnsweredNews ticket server) = none_paired
+before_unpaired name (CastNews cast reached closed) = so_unpaired reached (Reached cast name) (refl, refl)
 
 after_unpaired : (news : News) → All IsUnpaired (news_after news)
 unfolding published_pair withdrawn_pair news_after
 after_unpaired Nothing = none_paired
-after_unpaired IsCore = none_paired
-after_unpaired IsGone = none_paired
-after_unpaired (IsAnswered ticket server) = one_unpaired _ (refl, refl)
-after_unpaired (IsCast cast reached closed) = so_unpaired closed (Closed cast) (refl, refl)
+after_unpaired CoreNews = none_paired
+after_unpaired GoneNews = none_paired
+after_unpaired (AnsweredNews ticket server) = one_unpaired _ (refl, refl)
+after_unpaired (CastNews cast reached closed) = so_unpaired closed (Closed cast) (refl, refl)
 
 sent_unpaired : (p : SettingsValue) (number : ℕ) (frames : List Frame) → All IsUnpaired (sent_records p number frames)
 unfolding published_pair withdrawn_pair

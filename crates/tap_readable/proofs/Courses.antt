@@ -18,7 +18,7 @@ use Rattle.tap_history.specs.Steps.{actor_of}
 use Rattle.tap_rule.specs.Act.{act}
 use Rattle.tap_rule.specs.Event.{Acted, Start}
 use Rattle.tap_rule.specs.Event.Event.{Starts, Takes}
-use Rattle.tap_rule.specs.Event.Start.{Join as Joins, Abandon as GivesUp, Publish as Publishes, Withdraw as Withdraws, Find as Finds, Leave as Leaves, Cast as Casts}
+use Rattle.tap_rule.specs.Event.Start.{Join as StartJoin, Abandon as StartAbandon, Publish as StartPublish, Withdraw as StartWithdraw, Find as StartFind, Leave as StartLeave, Cast as StartCast}
 use Rattle.tap_rule.specs.Node.{NodeState, joiner}
 use Rattle.tap_safety.specs.Move.{Move}
 use Rattle.tap_safety.specs.Move.Move.{Begins, Delivers}
@@ -61,19 +61,19 @@ module _ (p : SettingsValue) (log : List Record) (tickets : next_ticket log < 2 
       → Brings p name start
   unfolding actor_of start_of_step
   start_brings (Join x via) name start names at =
-      same_start x name (Joins via) start at (record { is_name = names.0; names = names.1; typed = tt })
+      same_start x name (StartJoin via) start at (record { is_name = names.0; names = names.1; typed = tt })
   start_brings (Depart x) name start names at =
-      same_start x name Leaves start at (record { is_name = names; names = tt; typed = tt })
+      same_start x name StartLeave start at (record { is_name = names; names = tt; typed = tt })
   start_brings (Publish object x) name start names at =
-      same_start x name (Publishes object) start at (record { is_name = names.1; names = names.0; typed = tt })
+      same_start x name (StartPublish object) start at (record { is_name = names.1; names = names.0; typed = tt })
   start_brings (Withdraw object x) name start names at =
-      same_start x name (Withdraws object) start at (record { is_name = names.1; names = tt; typed = tt })
+      same_start x name (StartWithdraw object) start at (record { is_name = names.1; names = tt; typed = tt })
   start_brings (Find object x) name start names at =
-      same_start x name (Finds (next_ticket log) object) start at (record { is_name = names.1; names = names.0; typed = tickets })
+      same_start x name (StartFind (next_ticket log) object) start at (record { is_name = names.1; names = names.0; typed = tickets })
   start_brings (Abandon x) name start names at =
-      same_start x name GivesUp start at (record { is_name = names; names = tt; typed = tt })
+      same_start x name StartAbandon start at (record { is_name = names; names = tt; typed = tt })
   start_brings (Cast word prefix x) name start names at =
-      same_start x name (Casts (next_cast log) (length prefix) word) start at
+      same_start x name (StartCast (next_cast log) (length prefix) word) start at
       (record { is_name = names.2; names = names.0; typed = casts })
   start_brings step name start names at = absurd (cc)
 
@@ -135,7 +135,7 @@ module _ (b : Beginning) (log group : List Record) (course : IsCourse b log) (go
         (delivers p s number frame node found at).taken.next (move_few (Some (Delivers number)) is)
 
     starter_in_range : (x : List ℕ) (start : Start) (node : NodeState) → starter p s x start ≡ Some node → IsInRange node
-    starter_in_range x (Joins via) node is =
+    starter_in_range x (StartJoin via) node is =
         let same : joiner p x ≡ node = cc in subst IsInRange same (joiner_in_range p x)
     starter_in_range x _ node is = in_range x node is
 

@@ -7,7 +7,7 @@ use Rattle.tap_name.specs.Settings.{SettingsValue}
 use Rattle.tap_name.proofs.Membership.{few_among, has_name-Decides}
 use Rattle.tap_name.proofs.Sorted.{distinct-from_ascending}
 use Rattle.tap_link.specs.declared.kind.Kind.{Kind}
-use Rattle.tap_link.specs.declared.kind.Kind.TheVariants.{Leaving as Marked, Pin, Settled}
+use Rattle.tap_link.specs.declared.kind.Kind.TheVariants.{Leaving as LeavingKind, Pin, Settled}
 use Rattle.tap_table.specs.ByName.{targets_by_name}
 use Rattle.tap_table.proofs.Targets.{target_is_linked, targets-ascending}
 use Rattle.tap_rule.specs.Kept.{IsNode}
@@ -48,7 +48,7 @@ module _ (p : SettingsValue) (members : List (List ℕ)) (are : AreMembers p mem
   linked_is_member : (x t : List ℕ) (kind : Kind) → HasLink s x t kind → Among t members
   linked_is_member x t Pin link = soft_is_member t (basis.soft.pins x t link)
   linked_is_member x t Settled link = let core = basis.soft.settled x t link in (node_is_member t core.state core.is).0
-  linked_is_member x t Marked link = absurd (basis.departure.marked x t refl link)
+  linked_is_member x t LeavingKind link = absurd (basis.departure.marked x t refl link)
 
   member_reads : (x : List ℕ) → Among x members → s.node x ≡ Some (member_at_rest p members x)
       → IsReadableNode p x (member_at_rest p members x)

@@ -15,8 +15,8 @@ use Rattle.tap_log.specs.Kinds.{asked_ticket, begun_cast, step_of}
 use Rattle.tap_rule.specs.Node.{NodeState}
 use Rattle.tap_rule.specs.Event.{Acted, Event, News, Start}
 use Rattle.tap_rule.specs.Event.Event.{Takes}
-use Rattle.tap_rule.specs.Event.News.{Nothing, Core as IsCore, Gone as IsGone, Answered as IsAnswered, Cast as IsCast}
-use Rattle.tap_rule.specs.Event.Start.{Join as Joins, Abandon as GivesUp, Publish as Publishes, Withdraw as Withdraws, Find as Finds, Leave as Leaves, Cast as Casts}
+use Rattle.tap_rule.specs.Event.News.{Nothing, Core as CoreNews, Gone as GoneNews, Answered as AnsweredNews, Cast as CastNews}
+use Rattle.tap_rule.specs.Event.Start.{Join as StartJoin, Abandon as StartAbandon, Publish as StartPublish, Withdraw as StartWithdraw, Find as StartFind, Leave as StartLeave, Cast as StartCast}
 use Rattle.tap_rule.specs.Act.{act}
 use Rattle.tap_safety.specs.System.{System}
 use Rattle.tap_runs.specs.Acts.{acted_records, if_so, news_after, news_before, sent_records}
@@ -57,18 +57,18 @@ module _ {Y : Type 0} (h : Record → Option Y) (nothing : TellsNothing h) where
   before_told : (name : List ℕ) (news : News) → told h (news_before name news) ≡ 0
   unfolding news_before
   before_told name Nothing = refl
-  before_told name IsCore = one_told _ (nothing.core name)
-  before_told name IsGone = one_told _ (nothing.gone name)
-  before_told name (IsAnswered ticket server) = refl
-  before_told name (IsCast cast reached closed) = if_told reached _ (nothing.reached cast name)
+  before_told name CoreNews = one_told _ (nothing.core name)
+  before_told name GoneNews = one_told _ (nothing.gone name)
+  before_told name (AnsweredNews ticket server) = refl
+  before_told name (CastNews cast reached closed) = if_told reached _ (nothing.reached cast name)
 
   after_told : (news : News) → told h (news_after news) ≡ 0
   unfolding news_after
   after_told Nothing = refl
-  after_told IsCore = refl
-  after_told IsGone = refl
-  after_told (IsAnswered ticket server) = one_told _ (nothing.answered ticket server)
-  after_told (IsCast cast reached closed) = if_told closed _ (nothing.closed cast)
+  after_told CoreNews = refl
+  after_told GoneNews = refl
+  after_told (AnsweredNews ticket server) = one_told _ (nothing.answered ticket server)
+  after_told (CastNews cast reached closed) = if_told closed _ (nothing.closed cast)
 
   sent_told : (p : SettingsValue) (number : ℕ) (frames : List Frame) → told h (sent_records p number frames) ≡ 0
   sent_told p number [] = refl
@@ -150,14 +150,14 @@ module _ (log : List Record) (name : List ℕ) (start : Start) where
   pub numbered_start : (step : Step) → start_at log step ≡ Some (name, start)
       → StartsCastTo (cast_count log + told begun_cast (announced log step)) start
   unfolding actor_of start_of_step announced begun_cast
-  numbered_start (Join newcomer via) at = same_start _ newcomer (Joins via) at tt
-  numbered_start (Depart node) at = same_start _ node Leaves at tt
-  numbered_start (Publish object server) at = same_start _ server (Publishes object) at tt
-  numbered_start (Withdraw object server) at = same_start _ server (Withdraws object) at tt
-  numbered_start (Find object asker) at = same_start _ asker (Finds (next_ticket log) object) at tt
-  numbered_start (Abandon node) at = same_start _ node GivesUp at tt
+  numbered_start (Join newcomer via) at = same_start _ newcomer (StartJoin via) at tt
+  numbered_start (Depart node) at = same_start _ node StartLeave at tt
+  numbered_start (Publish object server) at = same_start _ server (StartPublish object) at tt
+  numbered_start (Withdraw object server) at = same_start _ server (StartWithdraw object) at tt
+  numbered_start (Find object asker) at = same_start _ asker (StartFind (next_ticket log) object) at tt
+  numbered_start (Abandon node) at = same_start _ node StartAbandon at tt
   numbered_start (Cast word prefix asker) at =
-      same_start _ asker (Casts (next_cast log) (length prefix) word) at (omega arith)
+      same_start _ asker (StartCast (next_cast log) (length prefix) word) at (omega arith)
   numbered_start step at = absurd (cc)
 
 -- ---- groups

@@ -10,7 +10,7 @@ use Rattle.tap_wire.specs.declared.frame.Body.TheVariants.{Heard, Ack, Done}
 use Rattle.tap_rule.specs.Node.{NodeState, join_session_at}
 use Rattle.tap_rule.specs.Event.{Acted}
 use Rattle.tap_rule.specs.Reaction.{message}
-use Rattle.tap_rule.specs.Answers.{answer_for, answer_sends, answered}
+use Rattle.tap_rule.specs.Answers.{answer_for, answer_sends, takes_heard_or_ack}
 use Rattle.tap_rule.specs.FrameRules.{frame_at_ceased, frame_at_core, frame_at_joining}
 use Rattle.tap_rule.specs.Sent.{IsAmong}
 use Rattle.tap_rule.specs.Completed.{SendsAt}
@@ -34,11 +34,11 @@ not_last None waits = refl
 not_last (Some s) waits = rw (other_number s.waiting waits) refl
 
 module _ (node : NodeState) (session : ℕ) (acted : Acted) (are : AreSessions node.sessions) where
-  whole : IsCarriedOut node (answered node session) acted
+  whole : IsCarriedOut node (takes_heard_or_ack node session) acted
       → SendsAt node.status node (answer_sends (answer_to (join_session_at node session))) acted
   whole carried = sends_at node _ _ acted carried refl refl refl node.status refl
 
-  answered_step : IsCarriedOut node (answered node session) acted → AnswerStep node session acted
+  answered_step : IsCarriedOut node (takes_heard_or_ack node session) acted → AnswerStep node session acted
   answered_step carried =
       let look : (number : ℕ) → join_session_at acted.state number
       ≡ (if session == number then option_and_then with_answer (join_session_at node session) else join_session_at node number) =
@@ -77,7 +77,7 @@ unfolding frame_at_joining frame_at_core frame_at_ceased
 heard_law node from session are at taken =
     let frame = frame_to node from (Heard session) in
     answered_step node session _ are
-    (frame_law node frame (answered node session) taken (elim at [
+    (frame_law node frame (takes_heard_or_ack node session) taken (elim at [
       | inl joining ↦ rw joining refl
       | inr other ↦ elim other [ inl core ↦ rw core refl | inr ceased ↦ rw ceased refl ]
     ]))
@@ -87,7 +87,7 @@ unfolding frame_at_joining frame_at_core frame_at_ceased
 ack_law node from session are at taken =
     let frame = frame_to node from (Ack session) in
     answered_step node session _ are
-    (frame_law node frame (answered node session) taken (elim at [
+    (frame_law node frame (takes_heard_or_ack node session) taken (elim at [
       | inl joining ↦ rw joining refl
       | inr other ↦ elim other [ inl core ↦ rw core refl | inr ceased ↦ rw ceased refl ]
     ]))

@@ -17,9 +17,9 @@ use Rattle.tap_wire.specs.declared.frame.Body.TheVariants.{Cast, CastAck}
 use Rattle.tap_rule.specs.Node.{IsRunning, NodeState, name_of}
 use Rattle.tap_rule.specs.Event.{Acted, News}
 use Rattle.tap_rule.specs.Event.News.{Nothing}
-use Rattle.tap_rule.specs.Event.Start.{Cast as CastStart}
+use Rattle.tap_rule.specs.Event.Start.{Cast as StartCast}
 use Rattle.tap_rule.specs.Reaction.{Message, message, sends, with_news}
-use Rattle.tap_rule.specs.Casts.{Copy, cast_answer, cast_answered, cast_answered_as, cast_for, cast_news, cast_of, casts, casts_as, is_root}
+use Rattle.tap_rule.specs.Casts.{Copy, cast_answer, cast_for, cast_news, cast_of, casts, casts_as, is_root, takes_cast_ack, takes_cast_ack_as}
 use Rattle.tap_rule.specs.FrameRules.{frame_at_core}
 use Rattle.tap_rule.specs.Sending.{message_frame}
 use Rattle.tap_rule.specs.Sent.{IsAmong}
@@ -131,7 +131,7 @@ module _ (node : NodeState) (acted : Acted) (runs : IsRunning node.status) where
         }
 
     ack_as : (answer : Answered) → answer_to (cast_session_at node session) ≡ answer
-        → IsCarriedOut node (cast_answered_as answered (cast_of node session) answer) acted → CastAckStep node session acted
+        → IsCarriedOut node (takes_cast_ack_as answered (cast_of node session) answer) acted → CastAckStep node session acted
     ack_as Open is carried =
         sessions_after carried.casts carried.cast_sessions carried.cast_numbers
         (λ waits. completed_by node _ acted carried runs (omega arith))
@@ -163,10 +163,10 @@ pub cast_start_law : CastStartLaw
 cast_start_law node cast level word at =
     let copy : Copy = record { cast = cast; level = level; parent = Root (name_of node); depth = 0; word = word } in
     cast_as node _ (rw at tt) copy (turn_of node.casts node.ties.table cast level) refl
-    (start_law node (CastStart cast level word) (casts node copy) (rw at refl))
+    (start_law node (StartCast cast level word) (casts node copy) (rw at refl))
 
 pub cast_ack_law : CastAckLaw
 unfolding frame_at_core
 cast_ack_law node from session are at taken =
     ack_as node _ (rw at tt) session are (answer_to (cast_session_at node session)) refl
-    (frame_law node (frame_to node from (CastAck session)) (cast_answered node session) taken (rw at refl))
+    (frame_law node (frame_to node from (CastAck session)) (takes_cast_ack node session) taken (rw at refl))

@@ -7,8 +7,8 @@ use Rattle.tap_rule.specs.Node.Status.{Ceased}
 use Rattle.tap_rule.specs.Event.{Acted}
 use Rattle.tap_rule.specs.Reaction.{Message, message, sends}
 use Rattle.tap_rule.specs.Sending.{by_receiver, message_frame}
-use Rattle.tap_rule.specs.Casts.{answers_cast}
-use Rattle.tap_rule.specs.Ceasing.{acknowledges, is_forgotten}
+use Rattle.tap_rule.specs.Casts.{takes_cast_outside}
+use Rattle.tap_rule.specs.Ceasing.{takes_link_ceased, takes_tell_ceased}
 use Rattle.tap_rule.specs.FrameRules.{frame_at_ceased, frame_at_joining}
 use Rattle.tap_rule.specs.CeasedSteps.{CeasedStep}
 use Rattle.tap_rule.specs.Laws.{CeasedCastLaw, CeasedLinkLaw, CeasedTellLaw, CeasedUnlinkLaw, IsCarriedOut, JoiningCastLaw, frame_to, tell_of}
@@ -32,29 +32,29 @@ pub ceased_tell_law : CeasedTellLaw
 unfolding frame_at_ceased
 ceased_tell_law node from tell watch at taken =
     ceased_step node (message from (Ack tell.session) ∷ []) _ at
-    (frame_law node (frame_to node from (tell_of tell watch)) (acknowledges node from tell.session) taken (rw at refl))
+    (frame_law node (frame_to node from (tell_of tell watch)) (takes_tell_ceased node from tell.session) taken (rw at refl))
 
 pub ceased_link_law : CeasedLinkLaw
 unfolding frame_at_ceased
 ceased_link_law node from version at taken =
     ceased_step node (message from Forget ∷ []) _ at
-    (frame_law node (frame_to node from (Link version true)) (is_forgotten node from true) taken (rw at refl))
+    (frame_law node (frame_to node from (Link version true)) (takes_link_ceased node from true) taken (rw at refl))
 
 pub ceased_unlink_law : CeasedUnlinkLaw
 unfolding frame_at_ceased
 ceased_unlink_law node from version at taken =
     ceased_step node [] _ at
-    (frame_law node (frame_to node from (Link version false)) (is_forgotten node from false) taken (rw at refl))
+    (frame_law node (frame_to node from (Link version false)) (takes_link_ceased node from false) taken (rw at refl))
 
 pub ceased_cast_law : CeasedCastLaw
 unfolding frame_at_ceased
 ceased_cast_law node from cast level session depth word at taken =
     ceased_step node (message from (CastAck session) ∷ []) _ at
-    (frame_law node (frame_to node from (Cast cast level session depth word)) (answers_cast node from session) taken (rw at refl))
+    (frame_law node (frame_to node from (Cast cast level session depth word)) (takes_cast_outside node from session) taken (rw at refl))
 
 pub joining_cast_law : JoiningCastLaw
 unfolding frame_at_joining
 joining_cast_law node from cast level session depth word at taken =
     let frame = frame_to node from (Cast cast level session depth word) in
-    let carried = frame_law node frame (answers_cast node from session) taken (rw at refl) in
+    let carried = frame_law node frame (takes_cast_outside node from session) taken (rw at refl) in
     record { alike = alike_by carried refl; completed = completed_by node _ _ carried (rw at tt) (omega arith) }

@@ -31,7 +31,7 @@ use Rattle.tap_rule.specs.Event.{Acted}
 use Rattle.tap_rule.specs.Event.News.{Nothing}
 use Rattle.tap_rule.specs.Reaction.{Message, message, pin_word, sends, with_pin, with_words}
 use Rattle.tap_rule.specs.Answers.{answer_for, with_session}
-use Rattle.tap_rule.specs.Covering.{Request, answers_awaited, covers_as, first_request, greeting, pins_and_covers, request_of, seeks, seeks_as, takes_tell, tell_for, with_level}
+use Rattle.tap_rule.specs.Covering.{Request, answers_awaited, covers_as, first_request, greeting, pins_and_covers, request_of, takes_seek, takes_seek_as, takes_tell, tell_for, with_level}
 use Rattle.tap_rule.specs.Strange.{is_leaving, is_no_pin, is_own_name, is_strange, is_strange_body, is_strange_seek, is_too_many, names_to_link}
 use Rattle.tap_rule.specs.FrameRules.{frame_at_core}
 use Rattle.tap_rule.specs.Sending.{link_frame}
@@ -255,7 +255,7 @@ module _ (node : NodeState) (joiner : List ℕ) (acted : Acted) (ties : AreTies 
   where
     seek_as : (found : Sought) → sought node.ties.table joiner ≡ found
         → ((prefix : ℕ) → sought node.ties.table joiner ≡ Surrogate prefix → IsTellFit node joiner) → IsRunning node.status
-        → IsCarriedOut node (seeks_as node joiner found) acted → SeekStep node joiner acted
+        → IsCarriedOut node (takes_seek_as node joiner found) acted → SeekStep node joiner acted
     seek_as (Forward next) is fits runs carried =
         rw is (
           carried.ties,
@@ -272,4 +272,4 @@ pub seek_law : SeekLaw
 unfolding frame_at_core
 seek_law node from joiner ties is_name at taken =
     seek_as node joiner _ ties is_name (sought node.ties.table joiner) refl (λ prefix. seek_fits node from joiner prefix taken)
-    (rw at tt) (frame_law node (frame_to node from (Seek joiner)) (seeks node joiner) taken (rw at refl))
+    (rw at tt) (frame_law node (frame_to node from (Seek joiner)) (takes_seek node joiner) taken (rw at refl))

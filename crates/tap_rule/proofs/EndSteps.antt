@@ -13,15 +13,15 @@ use Rattle.tap_depart.specs.Leaving.{names_but}
 use Rattle.tap_depart.specs.Told.{taken_in}
 use Rattle.tap_pointer.specs.declared.lay.Lay.{Lay}
 use Rattle.tap_wire.specs.declared.frame.Body.{Body}
-use Rattle.tap_wire.specs.declared.frame.Body.TheVariants.{Done, Leave, Left, Forget, Gone as GoneFrame}
+use Rattle.tap_wire.specs.declared.frame.Body.TheVariants.{Done, Leave, Left, Forget, Gone}
 use Rattle.tap_rule.specs.Node.{IsRunning, NodeState, Status, ended, link_to, name_of, settings_of}
-use Rattle.tap_rule.specs.Node.Status.{Leaving, Gone, Ceased}
+use Rattle.tap_rule.specs.Node.Status.{Leaving, Gone as GoneStatus, Ceased}
 use Rattle.tap_rule.specs.Event.{Acted}
 use Rattle.tap_rule.specs.Event.News.{Gone as GoneNews}
 use Rattle.tap_rule.specs.Reaction.{Reaction, sends, to_each}
 use Rattle.tap_rule.specs.Sent.{AreSentInOrder}
 use Rattle.tap_rule.specs.Ceasing.{ceases}
-use Rattle.tap_rule.specs.Leaving.{finishes, is_left, takes_leave, takes_out}
+use Rattle.tap_rule.specs.Leaving.{finishes, takes_gone, takes_leave, takes_left}
 use Rattle.tap_rule.specs.FrameRules.{frame_at_core, frame_at_joining, frame_at_leaving}
 use Rattle.tap_rule.specs.EndSteps.{EndStep, GoneStep, IsEmptied, LeftStep, lays_at_end, words_at_end}
 use Rattle.tap_rule.specs.Laws.{CeaseLaw, GoneLaw, IsCarriedOut, LeaveLaw, LeftLaw, frame_to}
@@ -114,7 +114,7 @@ module _ (node : NodeState) (from : List ℕ) (acted : Acted) (at : node.status 
       → LeftStep node from acted
   left_as true is carried = record {
     waits = λ some. absurd (some (eqb-true (length (names_but node.awaited from)) 0 is));
-    finishes = λ none. end_step node Gone GoneFrame _ acted (λ runs. runs) refl carried;
+    finishes = λ none. end_step node GoneStatus Gone _ acted (λ runs. runs) refl carried;
   }
   left_as false is carried = record {
     waits = λ some. (
@@ -133,11 +133,11 @@ pub left_law : LeftLaw
 unfolding frame_at_leaving
 left_law node from at taken =
     left_as node from _ at (length (names_but node.awaited from) == 0) refl
-    (frame_law node (frame_to node from Left) (is_left node from) taken (rw at refl))
+    (frame_law node (frame_to node from Left) (takes_left node from) taken (rw at refl))
 
 module _ (node : NodeState) (from : List ℕ) (acted : Acted) (ties : AreTies node.ties) (is_name : IsName (settings_of node) from)
     (apart : from ≢ name_of node) (runs : IsRunning node.status) where
-  taken_out_step : IsCarriedOut node (takes_out node from) acted → GoneStep node from acted
+  taken_out_step : IsCarriedOut node (takes_gone node from) acted → GoneStep node from acted
   taken_out_step carried =
       let link : (name : List ℕ) → link_to acted.state name ≡ by_rule from name kind_removed (link_to node name) =
       λ name. ap (λ (t : TiesValue). kind_in t.table name) carried.ties
@@ -159,6 +159,6 @@ module _ (node : NodeState) (from : List ℕ) (acted : Acted) (ties : AreTies no
 pub gone_law : GoneLaw
 unfolding frame_at_core
 gone_law node from ties is_name at taken =
-    let frame = frame_to node from GoneFrame in
+    let frame = frame_to node from Gone in
     taken_out_step node from _ ties is_name (not_own node frame taken) (rw at tt)
-    (frame_law node frame (takes_out node from) taken (rw at refl))
+    (frame_law node frame (takes_gone node from) taken (rw at refl))

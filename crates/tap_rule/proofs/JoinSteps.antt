@@ -22,7 +22,7 @@ use Rattle.tap_rule.specs.Event.{Acted}
 use Rattle.tap_rule.specs.Reaction.{message, pin_word, sends, with_pin, with_words}
 use Rattle.tap_rule.specs.Strange.{is_no_pin, is_own_name, is_strange, is_strange_body, is_strange_tell, is_too_many, most_depth, names_to_link}
 use Rattle.tap_rule.specs.FrameRules.{frame_at_joining}
-use Rattle.tap_rule.specs.Joining.{becomes_core, meets, takes_hello, welcomes}
+use Rattle.tap_rule.specs.Joining.{becomes_core, takes_hello, takes_tell_joining, welcomes}
 use Rattle.tap_rule.specs.Sending.{link_frame}
 use Rattle.tap_rule.specs.Sent.{IsAmong}
 use Rattle.tap_rule.specs.JoinSteps.{MeetStep, PinStep}
@@ -139,7 +139,7 @@ pub meet_law : MeetLaw
 unfolding frame_at_joining
 meet_law node from tell watch ties is_name at taken =
     met_as node from tell _ ties is_name (tell_fits node from tell watch taken) (rw at tt) (has_name node.greeted tell.joiner) refl
-    (frame_law node (frame_to node from (tell_of tell watch)) (meets node from tell) taken (rw at refl))
+    (frame_law node (frame_to node from (tell_of tell watch)) (takes_tell_joining node from tell) taken (rw at refl))
 
 pub hello_law : HelloLaw
 unfolding frame_at_joining

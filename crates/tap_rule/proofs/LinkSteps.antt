@@ -22,7 +22,7 @@ use Rattle.tap_rule.specs.Event.{Acted}
 use Rattle.tap_rule.specs.Event.News.{Nothing}
 use Rattle.tap_rule.specs.Reaction.{Message, message, sends}
 use Rattle.tap_rule.specs.FrameRules.{frame_at_core, frame_at_joining, frame_at_leaving, rule_of_frame}
-use Rattle.tap_rule.specs.Links.{forgets, hears, hears_and_releases, release_answer, release_word, releases, with_word}
+use Rattle.tap_rule.specs.Links.{release_answer, release_word, takes_forget, takes_link, takes_link_joining, takes_release, with_word}
 use Rattle.tap_rule.specs.Sent.{AreSent, IsAmong}
 use Rattle.tap_rule.specs.Steps.{ForgetStep, LinkStep, ReleaseStep}
 use Rattle.tap_rule.specs.Laws.{ForgetLaw, IsCarriedOut, LinkLaw, ReleaseLaw, frame_to}
@@ -33,7 +33,7 @@ use Rattle.tap_rule.proofs.OneName.{not_own, others_stay}
 
 module _ (node : NodeState) (from : List ℕ) (acted : Acted) (ties : AreTies node.ties) (is_name : IsName (settings_of node) from)
     (apart : from ≢ name_of node) (runs : IsRunning node.status) where
-  released_step : IsCarriedOut node (releases node from) acted → ReleaseStep node from acted
+  released_step : IsCarriedOut node (takes_release node from) acted → ReleaseStep node from acted
   released_step carried =
       let rule : Option Kind → Option Kind = kind_released (has_room_near node.ties.table from) in
       let link : (name : List ℕ) → link_to acted.state name ≡ by_rule from name rule (link_to node name) =
@@ -57,7 +57,7 @@ module _ (node : NodeState) (from : List ℕ) (acted : Acted) (ties : AreTies no
         completed = completed_by node _ acted carried runs (one_word _ from node.stamp false);
       }
 
-  forgotten_step : IsCarriedOut node (forgets node from) acted → ForgetStep node from acted
+  forgotten_step : IsCarriedOut node (takes_forget node from) acted → ForgetStep node from acted
   forgotten_step carried =
       let link : (name : List ℕ) → link_to acted.state name ≡ by_rule from name kind_forgotten (link_to node name) =
       λ name. ap (λ (t : TiesValue). kind_in t.table name) carried.ties
@@ -78,13 +78,13 @@ module _ (node : NodeState) (from : List ℕ) (acted : Acted) (ties : AreTies no
 
 -- the rules of these kinds
 release_rule : (node : NodeState) (from : List ℕ) → (node.status ≡ Joining) ⊎ (node.status ≡ Core)
-    → rule_of_frame node.status node from Release ≡ Some (releases node from)
+    → rule_of_frame node.status node from Release ≡ Some (takes_release node from)
 unfolding frame_at_joining frame_at_core
 release_rule node from (inl at) = rw at refl
 release_rule node from (inr at) = rw at refl
 
 forget_rule : (node : NodeState) (from : List ℕ) → (node.status ≡ Joining) ⊎ (node.status ≡ Core)
-    → rule_of_frame node.status node from Forget ≡ Some (forgets node from)
+    → rule_of_frame node.status node from Forget ≡ Some (takes_forget node from)
 unfolding frame_at_joining frame_at_core
 forget_rule node from (inl at) = rw at refl
 forget_rule node from (inr at) = rw at refl
@@ -93,13 +93,13 @@ pub release_law : ReleaseLaw
 release_law node from ties is_name at taken =
     let frame = frame_to node from Release in
     released_step node from _ ties is_name (not_own node frame taken) (early_runs node.status at)
-    (frame_law node frame (releases node from) taken (release_rule node from at))
+    (frame_law node frame (takes_release node from) taken (release_rule node from at))
 
 pub forget_law : ForgetLaw
 forget_law node from ties is_name at taken =
     let frame = frame_to node from Forget in
     forgotten_step node from _ ties is_name (not_own node frame taken) (early_runs node.status at)
-    (frame_law node frame (forgets node from) taken (forget_rule node from at))
+    (frame_law node frame (takes_forget node from) taken (forget_rule node from at))
 
 module _ (node : NodeState) (holder : List ℕ) (version : ℕ) (on : Bool) (acted : Acted) where
   -- the word of each name after the word of a holder
@@ -156,15 +156,15 @@ pub link_law : LinkLaw
 unfolding frame_at_joining frame_at_core frame_at_leaving
 link_law node holder version on (inl at) taken =
     let frame = frame_to node holder (Link version on) in
-    heard_step node holder version on _ [] (frame_law node frame (hears node holder version on) taken (rw at refl))
+    heard_step node holder version on _ [] (frame_law node frame (takes_link_joining node holder version on) taken (rw at refl))
     (λ other. not_both node at other) (λ joining. refl) (rw at tt) (inr refl)
 link_law node holder version on (inr (inl at)) taken =
     let frame = frame_to node holder (Link version on) in
     heard_step node holder version on _ (release_answer node holder version on)
-    (frame_law node frame (hears_and_releases node holder version on) taken (rw at refl))
+    (frame_law node frame (takes_link node holder version on) taken (rw at refl))
     (λ core. refl) (λ joining. not_both node joining (inl at)) (rw at tt) (inl refl)
 link_law node holder version on (inr (inr at)) taken =
     let frame = frame_to node holder (Link version on) in
     heard_step node holder version on _ (release_answer node holder version on)
-    (frame_law node frame (hears_and_releases node holder version on) taken (rw at refl))
+    (frame_law node frame (takes_link node holder version on) taken (rw at refl))
     (λ leaving. refl) (λ joining. not_both node joining (inr at)) (rw at tt) (inl refl)

@@ -8,15 +8,15 @@ use Rattle.tap_pointer.specs.declared.pair.Pair.{Pair}
 use Rattle.tap_pointer.specs.declared.state.PairState.{PairState}
 use Rattle.tap_pointer.specs.Pointers.{with_published}
 use Rattle.tap_pointer.specs.Reconcile.{layings, layings_to_none, lays_numbered}
-use Rattle.tap_wire.specs.declared.frame.Body.TheVariants.{Gone as GoneFrame}
+use Rattle.tap_wire.specs.declared.frame.Body.TheVariants.{Gone}
 use Rattle.tap_rule.specs.Node.{NodeState}
-use Rattle.tap_rule.specs.Node.Status.{Gone}
+use Rattle.tap_rule.specs.Node.Status.{Gone as GoneStatus}
 use Rattle.tap_rule.specs.Event.{Acted}
 use Rattle.tap_rule.specs.Event.Start.{Join, Abandon, Leave}
 use Rattle.tap_rule.specs.Reaction.{sends}
 use Rattle.tap_rule.specs.Joining.{starts_join}
-use Rattle.tap_rule.specs.Ceasing.{gives_up}
-use Rattle.tap_rule.specs.Leaving.{finishes, leave_for, leaves, with_departure}
+use Rattle.tap_rule.specs.Ceasing.{starts_abandon}
+use Rattle.tap_rule.specs.Leaving.{finishes, leave_for, starts_leave, with_departure}
 use Rattle.tap_rule.specs.EndSteps.{words_at_end}
 use Rattle.tap_rule.specs.StartSteps.{LeaveStartStep}
 use Rattle.tap_rule.specs.Laws.{GiveUpLaw, IsCarriedOut, LeaveStartLaw, SeekStartLaw}
@@ -38,7 +38,7 @@ seek_start_law node via at =
 
 pub give_up_law : GiveUpLaw
 give_up_law node at =
-    let carried = start_law node Abandon (gives_up node) (rw at refl) in
+    let carried = start_law node Abandon (starts_abandon node) (rw at refl) in
     record {
       abandoned = carried.abandoned;
       status = carried.status;
@@ -64,7 +64,7 @@ module _ (node : NodeState) (acted : Acted) where
   leaves_as true is carried = record {
     waits = λ some. absurd (some (eqb-true (length (holders_on node.ties)) 0 is));
     finishes = λ none.
-        end_step node Gone GoneFrame _ acted (λ runs. runs)
+        end_step node GoneStatus Gone _ acted (λ runs. runs)
         (ap (lays_numbered (node.stamp + length (words_at_end node))) (clearing_withdrawn node.pointers.pairs)) carried;
   }
   leaves_as false is carried = record {
@@ -85,4 +85,4 @@ module _ (node : NodeState) (acted : Acted) where
 
 pub leave_start_law : LeaveStartLaw
 leave_start_law node at =
-    leaves_as node _ (length (holders_on node.ties) == 0) refl (start_law node Leave (leaves node) (rw at refl))
+    leaves_as node _ (length (holders_on node.ties) == 0) refl (start_law node Leave (starts_leave node) (rw at refl))

@@ -1,6 +1,6 @@
 -- Answers to the sessions of joins: Heard and Ack, at a joining, core or ceased node.
 --
--- A Heard or an Ack: `answered`, then `answer_sends`, then `answer_for`.
+-- A Heard or an Ack: `takes_heard_or_ack`, then `answer_sends`, then `answer_for`.
 --
 -- Rule: docs/PROTOCOL.md, "Heard and Ack".
 use Rattle.std.specs.Prelude.{ℕ, ◌+◌, List, [], ◌∷◌}
@@ -26,8 +26,8 @@ answer_sends (Closed parent) = answer_for parent ∷ []
 answer_sends Unknown = []
 
 -- Heard or Ack: the session of this number has one answer more
-abbrev pub answered : NodeState → SessionNumber → Reaction
-answered node session =
+abbrev pub takes_heard_or_ack : NodeState → SessionNumber → Reaction
+takes_heard_or_ack node session =
     sends (record node { sessions = answered_at node.sessions session })
     (answer_sends (answer_to (join_session_at node session)))
 

@@ -1,7 +1,7 @@
 -- Casts: the start, Cast and CastAck.
 --
 -- The start: `starts_cast`, then `casts`. A Cast: `takes_cast`, then `casts`. Both go on with `casts_as` and `cast_spreads`. A Cast at a
--- joining or ceased node: `answers_cast`. A CastAck: `cast_answered`, then `cast_answered_as`.
+-- joining or ceased node: `takes_cast_outside`. A CastAck: `takes_cast_ack`, then `takes_cast_ack_as`.
 --
 -- Rule: docs/PROTOCOL.md, "Cast" and "CastAck".
 use Rattle.std.specs.Prelude.{ℕ, ◌+◌, ◌-◌, ◌||◌, Bool, true, false, if◌then◌else◌, List, [], ◌∷◌, ◌++◌, length, map}
@@ -88,22 +88,22 @@ takes_cast node from cast level session depth word =
     casts node (record { cast = cast; level = level; parent = Node from session; depth = depth; word = word })
 
 -- Cast, at a joining or ceased node: it is answered
-abbrev pub answers_cast : NodeState → Name → SessionNumber → Reaction
-answers_cast node from session = sends node (message from (CastAck session) ∷ [])
+abbrev pub takes_cast_outside : NodeState → Name → SessionNumber → Reaction
+takes_cast_outside node from session = sends node (message from (CastAck session) ∷ [])
 
 -- the cast of a session
 abbrev pub cast_of : NodeState → SessionNumber → CastNumber
 cast_of node session = slice_index_or node.cast_numbers (session - 1) 0
 
 -- what an answer does in a session of this cast: the last one is passed on, and at the root the cast is closed
-abbrev pub cast_answered_as : NodeState → CastNumber → Answered → Reaction
-cast_answered_as node cast Open = sends node []
-cast_answered_as node cast (Closed parent) =
+abbrev pub takes_cast_ack_as : NodeState → CastNumber → Answered → Reaction
+takes_cast_ack_as node cast Open = sends node []
+takes_cast_ack_as node cast (Closed parent) =
     with_news (cast_news cast false (is_root parent)) (sends node (cast_answer parent))
-cast_answered_as node cast Unknown = sends node []
+takes_cast_ack_as node cast Unknown = sends node []
 
 -- CastAck, at a core node: the session of this number has one answer more
-abbrev pub cast_answered : NodeState → SessionNumber → Reaction
-cast_answered node session =
-    cast_answered_as (record node { cast_sessions = answered_at node.cast_sessions session }) (cast_of node session)
+abbrev pub takes_cast_ack : NodeState → SessionNumber → Reaction
+takes_cast_ack node session =
+    takes_cast_ack_as (record node { cast_sessions = answered_at node.cast_sessions session }) (cast_of node session)
     (answer_to (session_of node.cast_sessions.sessions session))

@@ -1,7 +1,7 @@
 -- Joins that are given up, and what a node does that has ceased.
 --
--- Giving a join up: `gives_up`. A Done: `is_done`, then `becomes_core` or `ceases`. At a node that has ceased, a Tell:
--- `acknowledges`, and a Link: `is_forgotten`.
+-- Giving a join up: `starts_abandon`. A Done: `takes_done`, then `becomes_core` or `ceases`. At a node that has ceased, a Tell:
+-- `takes_tell_ceased`, and a Link: `takes_link_ceased`.
 --
 -- Rule: docs/PROTOCOL.md, "Giving a join up" and "Done" and "Tell" and "Link".
 use Rattle.std.specs.Prelude.{Bool, true, if◌then◌else◌, [], ◌∷◌}
@@ -17,8 +17,8 @@ use Rattle.tap_rule.specs.Reaction.{Reaction, message, sends, stays, to_each, wi
 use Rattle.tap_rule.specs.Joining.{becomes_core}
 
 -- the join of a joining node is given up: from now on it is abandoned, and it sends nothing
-abbrev pub gives_up : NodeState → Reaction
-gives_up node = stays (record node { abandoned = true })
+abbrev pub starts_abandon : NodeState → Reaction
+starts_abandon node = stays (record node { abandoned = true })
 
 -- Done, at an abandoned node: it has ceased; a word for each link that there is none any more, and then a Forget for each
 -- holder that is on, both ascending
@@ -29,13 +29,13 @@ ceases node =
     (sends (ended Ceased node) (to_each Forget (holders_on node.ties))))
 
 -- Done, at a joining node
-abbrev pub is_done : NodeState → Reaction
-is_done node = if node.abandoned then ceases node else becomes_core node
+abbrev pub takes_done : NodeState → Reaction
+takes_done node = if node.abandoned then ceases node else becomes_core node
 
 -- Tell, at a node that has ceased: it is answered
-abbrev pub acknowledges : NodeState → Name → SessionNumber → Reaction
-acknowledges node from session = sends node (message from (Ack session) ∷ [])
+abbrev pub takes_tell_ceased : NodeState → Name → SessionNumber → Reaction
+takes_tell_ceased node from session = sends node (message from (Ack session) ∷ [])
 
 -- Link, at a node that has ceased: who says that it has a link is to forget it
-abbrev pub is_forgotten : NodeState → Name → Bool → Reaction
-is_forgotten node holder on = sends node (if on then message holder Forget ∷ [] else [])
+abbrev pub takes_link_ceased : NodeState → Name → Bool → Reaction
+takes_link_ceased node holder on = sends node (if on then message holder Forget ∷ [] else [])

@@ -1,6 +1,6 @@
 -- What a core node does for a joiner: Seek and Tell.
 --
--- A Seek: `seeks`, then `seeks_as`, and at the surrogate `first_request` and `pins_and_covers`. A Tell: `takes_tell`, then
+-- A Seek: `takes_seek`, then `takes_seek_as`, and at the surrogate `first_request` and `pins_and_covers`. A Tell: `takes_tell`, then
 -- `request_of` and `pins_and_covers`. Both go on with `covers`, `covers_as` and `spreads`.
 --
 -- Rule: docs/PROTOCOL.md, "Seek" and "Tell" and "Covers of a node".
@@ -104,12 +104,12 @@ request_of from tell watch = record {
 }
 
 -- Seek, at a core node: it goes on to the primary of the joiner's slot, or else the node is the joiner's surrogate
-abbrev pub seeks_as : NodeState → Name → Sought → Reaction
-seeks_as node joiner (Forward next) = sends node (message next (Seek joiner) ∷ [])
-seeks_as node joiner (Surrogate prefix) = pins_and_covers node (first_request node joiner prefix)
+abbrev pub takes_seek_as : NodeState → Name → Sought → Reaction
+takes_seek_as node joiner (Forward next) = sends node (message next (Seek joiner) ∷ [])
+takes_seek_as node joiner (Surrogate prefix) = pins_and_covers node (first_request node joiner prefix)
 
-abbrev pub seeks : NodeState → Name → Reaction
-seeks node joiner = seeks_as node joiner (sought node.ties.table joiner)
+abbrev pub takes_seek : NodeState → Name → Reaction
+takes_seek node joiner = takes_seek_as node joiner (sought node.ties.table joiner)
 
 -- Tell, at a core node
 abbrev pub takes_tell : NodeState → Name → TellFields → List Slot → Reaction

@@ -11,9 +11,9 @@ use Rattle.tap_pointer.specs.declared.lay.Lay.{Lay}
 use Rattle.tap_pointer.specs.Pointers.{no_pointers}
 use Rattle.tap_pointer.specs.Reconcile.{clear_lays}
 use Rattle.tap_wire.specs.declared.frame.Body.{Body}
-use Rattle.tap_wire.specs.declared.frame.Body.TheVariants.{Left, Gone as GoneFrame}
+use Rattle.tap_wire.specs.declared.frame.Body.TheVariants.{Left, Gone}
 use Rattle.tap_rule.specs.Node.{NodeState, Status, link_to, name_of, settings_of}
-use Rattle.tap_rule.specs.Node.Status.{Gone}
+use Rattle.tap_rule.specs.Node.Status.{Gone as GoneStatus}
 use Rattle.tap_rule.specs.Event.{Acted}
 use Rattle.tap_rule.specs.Event.News.{Nothing, Gone as GoneNews}
 use Rattle.tap_rule.specs.Reaction.{message, to_each}
@@ -42,7 +42,7 @@ words_at_end node = off_ties node.stamp (targets_by_name node.ties.table)
 
 -- and the Lays that clear its pointers, if it has left in order
 abbrev pub lays_at_end : Status → NodeState → List Lay
-lays_at_end Gone node = clear_lays (node.stamp + length (words_at_end node)) node.pointers
+lays_at_end GoneStatus node = clear_lays (node.stamp + length (words_at_end node)) node.pointers
 lays_at_end _ node = []
 
 -- A node ends, with this status: it has no link and no holder any more, says so of each link, and sends each holder this.
@@ -75,7 +75,7 @@ pub record LeftStep (node : NodeState) (from : List ℕ) (acted : Acted) : Type 
       → JoinsAlike node acted.state × (acted.state.ties ≡ node.ties) × (acted.state.sessions ≡ node.sessions)
       × (acted.state.awaited ≡ names_but node.awaited from) × AreSent (name_of node) [] [] acted.sent
       × CastsAlike node acted.state × IsCompleted node node.pointers [] [] Nothing acted
-  pub finishes : length (names_but node.awaited from) ≡ 0 → EndStep node Gone GoneFrame acted
+  pub finishes : length (names_but node.awaited from) ≡ 0 → EndStep node GoneStatus Gone acted
 
 -- Gone, at a core node: its link to the sender is taken out, if that isn't a pin, and nothing else changes
 pub record GoneStep (node : NodeState) (from : List ℕ) (acted : Acted) : Type 0 where

@@ -10,7 +10,7 @@ use Rattle.tap_wire.specs.Kind.{kind_of}
 use Rattle.tap_rule.specs.Node.{Status}
 use Rattle.tap_rule.specs.Node.Status.{Joining, Core, Leaving, Ceased}
 use Rattle.tap_rule.specs.Event.{Start}
-use Rattle.tap_rule.specs.Event.Start.{Join, Abandon, Publish, Withdraw, Find as FindStart, Leave as LeaveStart, Cast as CastStart}
+use Rattle.tap_rule.specs.Event.Start.{Join, Abandon, Publish, Withdraw, Find as StartFind, Leave as StartLeave, Cast as StartCast}
 
 -- who takes a frame of each kind; a node that is gone takes none
 unfoldable pub taken_by : Kind → List Status
@@ -38,9 +38,9 @@ made_by (Join via) = Joining
 made_by Abandon = Joining
 made_by (Publish object) = Core
 made_by (Withdraw object) = Core
-made_by (FindStart ticket object) = Core
-made_by LeaveStart = Core
-made_by (CastStart cast level word) = Core
+made_by (StartFind ticket object) = Core
+made_by StartLeave = Core
+made_by (StartCast cast level word) = Core
 
 -- at a node of this status there is a rule for such a frame, and for such a start
 abbrev pub HasRule : Status → Body → Type 0

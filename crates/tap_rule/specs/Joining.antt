@@ -1,6 +1,6 @@
 -- What a joining node does: its start, Tell, Hello and Done.
 --
--- The start: `starts_join`. A Tell: `meets`, then `welcomes_once`, then `welcomes`. A Hello: `takes_hello`, then `hello_words` and
+-- The start: `starts_join`. A Tell: `takes_tell_joining`, then `welcomes_once`, then `welcomes`. A Hello: `takes_hello`, then `hello_words` and
 -- `with_hello`. A Done, if the join isn't given up: `becomes_core`.
 --
 -- Rule: docs/PROTOCOL.md, "The start of a join" and "Tell" and "Hello" and "Done".
@@ -42,8 +42,8 @@ welcomes_once node from tell =
     if has_name node.greeted tell.joiner then sends node (message from (Ack tell.session) ∷ []) else welcomes node from tell
 
 -- Tell, at a joining node: it pins the joiner and greets it; it tells nobody on
-abbrev pub meets : NodeState → Name → TellFields → Reaction
-meets node from tell = with_words (words_of (pin_word node tell.joiner)) (welcomes_once (with_pin node tell.joiner) from tell)
+abbrev pub takes_tell_joining : NodeState → Name → TellFields → Reaction
+takes_tell_joining node from tell = with_words (words_of (pin_word node tell.joiner)) (welcomes_once (with_pin node tell.joiner) from tell)
 
 -- the words that a Hello takes, and the node after it: its ties as the names leave them, and its stamp at the last word
 abbrev pub hello_words : NodeState → Name → Bool → List Offered → List Tie

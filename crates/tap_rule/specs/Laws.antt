@@ -34,7 +34,7 @@ use Rattle.tap_rule.specs.Said.{IsCastNews, IsFrameOf, IsOneEach}
 use Rattle.tap_rule.specs.Begins.{BeginsAtRest, BeginsToJoin}
 use Rattle.tap_rule.specs.Kept.{IsNode, IsStart, KeepsNode}
 use Rattle.tap_rule.specs.Sent.{AreSent, AreSentInOrder}
-use Rattle.tap_rule.specs.Event.Start.{Abandon, Publish, Withdraw, Cast as CastStart, Find as FindStart, Join as JoinStart, Leave as LeaveStart}
+use Rattle.tap_rule.specs.Event.Start.{Abandon, Publish, Withdraw, Cast as StartCast, Find as StartFind, Join as StartJoin, Leave as StartLeave}
 use Rattle.tap_rule.specs.CastSteps.{CastAckStep, CastStep}
 use Rattle.tap_rule.specs.CeasedSteps.{AnsweredCastStep, CeasedStep}
 use Rattle.tap_rule.specs.EndSteps.{EndStep, GoneStep, LeaveStep, LeftStep}
@@ -229,13 +229,13 @@ QuietStartLaw = (node : NodeState) (start : Start) → IsQuietStart start → Qu
 
 -- the starts of a join and of a departure, and that a join is given up
 abbrev pub SeekStartLaw : Type 0
-SeekStartLaw = (node : NodeState) (via : List ℕ) → node.status ≡ Joining → SeekStartStep node via (act node (Starts (JoinStart via)))
+SeekStartLaw = (node : NodeState) (via : List ℕ) → node.status ≡ Joining → SeekStartStep node via (act node (Starts (StartJoin via)))
 
 abbrev pub GiveUpLaw : Type 0
 GiveUpLaw = (node : NodeState) → node.status ≡ Joining → GiveUpStep node (act node (Starts Abandon))
 
 abbrev pub LeaveStartLaw : Type 0
-LeaveStartLaw = (node : NodeState) → node.status ≡ Core → LeaveStartStep node (act node (Starts LeaveStart))
+LeaveStartLaw = (node : NodeState) → node.status ≡ Core → LeaveStartStep node (act node (Starts StartLeave))
 
 -- Cast and CastAck, and the start of a cast, at a core node
 abbrev pub CastLaw : Type 0
@@ -247,7 +247,7 @@ CastLaw = (node : NodeState) (from : List ℕ) (cast level session depth : ℕ) 
 abbrev pub CastStartLaw : Type 0
 CastStartLaw = (node : NodeState) (cast level : ℕ) (word : List ℕ) → node.status ≡ Core
     → CastStep node (record { cast = cast; level = level; parent = Root (name_of node); depth = 0; word = word })
-    (act node (Starts (CastStart cast level word)))
+    (act node (Starts (StartCast cast level word)))
 
 abbrev pub CastAckLaw : Type 0
 CastAckLaw = (node : NodeState) (from : List ℕ) (session : ℕ) → AreSessions node.cast_sessions → node.status ≡ Core
@@ -284,7 +284,7 @@ WithdrawLaw = (node : NodeState) (object : List ℕ) → node.status ≡ Core
 
 abbrev pub LookupLaw : Type 0
 LookupLaw = (node : NodeState) (ticket : ℕ) (object : List ℕ) → node.status ≡ Core
-    → LookupStep node ticket object (act node (Starts (FindStart ticket object)))
+    → LookupStep node ticket object (act node (Starts (StartFind ticket object)))
 
 -- Tell, Link and Cast at a node that has ceased: a Tell is answered with an Ack, a word that there is a link with a Forget, and a Cast
 -- with a CastAck

@@ -1,7 +1,7 @@
 -- Departures: the start, Leave, Left and Gone.
 --
--- The start: `leaves`, then `with_departure`, then `finishes_or_sends`. A Leave: `takes_leave`, then `leave_word`. A Left: `is_left`,
--- then `finishes_or_sends`. A Gone: `takes_out`.
+-- The start: `starts_leave`, then `with_departure`, then `finishes_or_sends`. A Leave: `takes_leave`, then `leave_word`. A Left: `takes_left`,
+-- then `finishes_or_sends`. A Gone: `takes_gone`.
 --
 -- Rule: docs/PROTOCOL.md, "The start of a departure" and "Leave" and "Left" and "Gone".
 use Rattle.std.specs.Prelude.{◌==◌, ◌+◌, if◌then◌else◌, List, [], ◌∷◌, length, map, Option}
@@ -52,8 +52,8 @@ abbrev pub finishes_or_sends : NodeState → List Message → Reaction
 finishes_or_sends node messages = if length node.awaited == 0 then finishes node else sends node messages
 
 -- a core node leaves: a Leave for each holder that is on, ascending; without holders it finishes at once
-abbrev pub leaves : NodeState → Reaction
-leaves node = finishes_or_sends (with_departure node) (map leave_for (started_leaving node.ties).notices)
+abbrev pub starts_leave : NodeState → Reaction
+starts_leave node = finishes_or_sends (with_departure node) (map leave_for (started_leaving node.ties).notices)
 
 -- Leave, at a core node: it marks the leaver, takes the replacement if its slot wants one, and answers
 abbrev pub leave_word : NodeState → Name → Option Name → Option Tie
@@ -65,9 +65,9 @@ takes_leave node from replacement =
     with_words (words_of word) (sends (with_ties (told_leave node.ties from replacement) word node) (message from Left ∷ []))
 
 -- Left, at a leaving node: the sender is awaited no more, and after the last one the node finishes
-abbrev pub is_left : NodeState → Name → Reaction
-is_left node from = finishes_or_sends (record node { awaited = names_but node.awaited from }) []
+abbrev pub takes_left : NodeState → Name → Reaction
+takes_left node from = finishes_or_sends (record node { awaited = names_but node.awaited from }) []
 
 -- Gone, at a core node: its link to the sender is taken out, without a word
-abbrev pub takes_out : NodeState → Name → Reaction
-takes_out node from = stays (record node { ties = removed node.ties from })
+abbrev pub takes_gone : NodeState → Name → Reaction
+takes_gone node from = stays (record node { ties = removed node.ties from })

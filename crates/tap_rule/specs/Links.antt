@@ -1,7 +1,7 @@
 -- Links in both directions: Release, Link and Forget.
 --
--- A Release: `releases`, then `release_word`. A Link: `hears` at a joining node, and elsewhere `hears_and_releases`, then
--- `release_answer`. A Forget: `forgets`.
+-- A Release: `takes_release`, then `release_word`. A Link: `takes_link_joining` at a joining node, and elsewhere `takes_link`, then
+-- `release_answer`. A Forget: `takes_forget`.
 --
 -- Rule: docs/PROTOCOL.md, "Release" and "Link" and "Forget".
 use Rattle.std.specs.Prelude.{◌&&◌, Bool, if◌then◌else◌, List, [], ◌∷◌, Option}
@@ -19,8 +19,8 @@ use Rattle.tap_rule.specs.Reaction.{Message, Reaction, message, sends, stays, wi
 abbrev pub release_word : NodeState → Name → Option Tie
 release_word node from = release_tells node.ties node.stamp from
 
-abbrev pub releases : NodeState → Name → Reaction
-releases node from =
+abbrev pub takes_release : NodeState → Name → Reaction
+takes_release node from =
     with_words (words_of (release_word node from)) (stays (with_ties (released node.ties from) (release_word node from) node))
 
 -- the node once it has heard the word of a holder
@@ -36,14 +36,14 @@ abbrev pub release_answer : NodeState → Name → Version → Bool → List Mes
 release_answer node holder version on = if is_new_link node holder version on then message holder Release ∷ [] else []
 
 -- Link, at a joining node
-abbrev pub hears : NodeState → Name → Version → Bool → Reaction
-hears node holder version on = stays (with_word node holder version on)
+abbrev pub takes_link_joining : NodeState → Name → Version → Bool → Reaction
+takes_link_joining node holder version on = stays (with_word node holder version on)
 
 -- Link, at a core or leaving node: a new link is answered with a Release
-abbrev pub hears_and_releases : NodeState → Name → Version → Bool → Reaction
-hears_and_releases node holder version on =
+abbrev pub takes_link : NodeState → Name → Version → Bool → Reaction
+takes_link node holder version on =
     sends (with_word node holder version on) (release_answer node holder version on)
 
 -- Forget, at a joining or core node: a pin on the sender is gone, without a word
-abbrev pub forgets : NodeState → Name → Reaction
-forgets node from = stays (record node { ties = forgotten node.ties from })
+abbrev pub takes_forget : NodeState → Name → Reaction
+takes_forget node from = stays (record node { ties = forgotten node.ties from })

@@ -3,7 +3,7 @@ use Rattle.std.specs.Prelude.{◌≡◌, ℕ, Bool, List, [], ◌∷◌, drop, O
 use Rattle.tap_table.specs.declared.next.Next.TheVariants.{Root, Hop}
 use Rattle.tap_table.specs.Next.{next_from}
 use Rattle.tap_pointer.specs.declared.pair.Pair.{Pair}
-use Rattle.tap_pointer.specs.Pointers.{PointersValue, lay_applied, least_server, pointer_at}
+use Rattle.tap_pointer.specs.Pointers.{PointersValue, lay_applied, pointer_at, server_for}
 use Rattle.tap_wire.specs.declared.frame.Body.TheVariants.{Find, Answer}
 use Rattle.tap_rule.specs.Node.{NodeState, name_of}
 use Rattle.tap_rule.specs.Event.{Acted}
@@ -25,23 +25,23 @@ LayStep node from pair level version on acted =
 -- Find: with a server the asker is sent an Answer; without one the Find goes on, and at the root the Answer has none
 pub record FindStep (node : NodeState) (ticket : ℕ) (object asker : List ℕ) (level : ℕ) (acted : Acted) : Type 0 where
   pub alike : AllAlike node acted.state
-  pub served : (server : List ℕ) → least_server node.pointers object ≡ Some server
+  pub served : (server : List ℕ) → server_for node.pointers object ≡ Some server
       → IsCompleted node node.pointers [] (message asker (Answer ticket (Some server)) ∷ []) Nothing acted
-  pub goes_on : (to : List ℕ) (next : ℕ) → least_server node.pointers object ≡ None
+  pub goes_on : (to : List ℕ) (next : ℕ) → server_for node.pointers object ≡ None
       → next_from node.ties.table level (drop level object) ≡ Hop to next
       → IsCompleted node node.pointers [] (message to (Find ticket object asker next) ∷ []) Nothing acted
-  pub at_root : least_server node.pointers object ≡ None → next_from node.ties.table level (drop level object) ≡ Root
+  pub at_root : server_for node.pointers object ≡ None → next_from node.ties.table level (drop level object) ≡ Root
       → IsCompleted node node.pointers [] (message asker (Answer ticket None) ∷ []) Nothing acted
 
 -- the start of a lookup: with a server it is answered at once; without one a Find goes on, and at the root it is answered with none
 pub record LookupStep (node : NodeState) (ticket : ℕ) (object : List ℕ) (acted : Acted) : Type 0 where
   pub alike : AllAlike node acted.state
-  pub served : (server : List ℕ) → least_server node.pointers object ≡ Some server
+  pub served : (server : List ℕ) → server_for node.pointers object ≡ Some server
       → IsCompleted node node.pointers [] [] (Answered ticket (Some server)) acted
-  pub goes_on : (to : List ℕ) (next : ℕ) → least_server node.pointers object ≡ None
+  pub goes_on : (to : List ℕ) (next : ℕ) → server_for node.pointers object ≡ None
       → next_from node.ties.table 0 object ≡ Hop to next
       → IsCompleted node node.pointers [] (message to (Find ticket object (name_of node) next) ∷ []) Nothing acted
-  pub at_root : least_server node.pointers object ≡ None → next_from node.ties.table 0 object ≡ Root
+  pub at_root : server_for node.pointers object ≡ None → next_from node.ties.table 0 object ≡ Root
       → IsCompleted node node.pointers [] [] (Answered ticket None) acted
 
 -- Answer: the lookup is answered

@@ -10,23 +10,23 @@ use Rattle.tap_rule.specs.Event.{Start}
 use Rattle.tap_rule.specs.Event.Start.{Join, Abandon, Publish, Withdraw, Find, Leave, Cast}
 use Rattle.tap_rule.specs.Reaction.{Reaction}
 use Rattle.tap_rule.specs.Joining.{starts_join}
-use Rattle.tap_rule.specs.Ceasing.{gives_up}
-use Rattle.tap_rule.specs.Pointers.{asks, starts_publishing, withdraws}
-use Rattle.tap_rule.specs.Leaving.{leaves}
+use Rattle.tap_rule.specs.Ceasing.{starts_abandon}
+use Rattle.tap_rule.specs.Pointers.{starts_find, starts_publish, starts_withdraw}
+use Rattle.tap_rule.specs.Leaving.{starts_leave}
 use Rattle.tap_rule.specs.Casts.{starts_cast}
 
 -- a start at a joining node
 abbrev pub start_at_joining : NodeState → Start → Option Reaction
 start_at_joining node (Join via) = Some (starts_join node via)
-start_at_joining node Abandon = Some (gives_up node)
+start_at_joining node Abandon = Some (starts_abandon node)
 start_at_joining node _ = None
 
 -- a start at a core node
 abbrev pub start_at_core : NodeState → Start → Option Reaction
-start_at_core node (Publish object) = Some (starts_publishing node object)
-start_at_core node (Withdraw object) = Some (withdraws node object)
-start_at_core node (Find ticket object) = Some (asks node ticket object)
-start_at_core node Leave = Some (leaves node)
+start_at_core node (Publish object) = Some (starts_publish node object)
+start_at_core node (Withdraw object) = Some (starts_withdraw node object)
+start_at_core node (Find ticket object) = Some (starts_find node ticket object)
+start_at_core node Leave = Some (starts_leave node)
 start_at_core node (Cast cast level word) = Some (starts_cast node cast level word)
 start_at_core node _ = None
 

@@ -3,9 +3,9 @@ use Rattle.std.specs.Prelude.{◌≡◌, ◌≢◌, true, List, [], ◌∷◌, l
 use Rattle.tap_table.specs.Ties.{holders_on}
 use Rattle.tap_depart.specs.Leaving.{started_leaving}
 use Rattle.tap_pointer.specs.Pointers.{all_withdrawn}
-use Rattle.tap_wire.specs.declared.frame.Body.TheVariants.{Seek, Leave, Gone as GoneFrame}
+use Rattle.tap_wire.specs.declared.frame.Body.TheVariants.{Seek, Leave, Gone}
 use Rattle.tap_rule.specs.Node.{NodeState, name_of}
-use Rattle.tap_rule.specs.Node.Status.{Leaving, Gone}
+use Rattle.tap_rule.specs.Node.Status.{Leaving, Gone as GoneStatus}
 use Rattle.tap_rule.specs.Event.{Acted}
 use Rattle.tap_rule.specs.Event.News.{Nothing}
 use Rattle.tap_rule.specs.Reaction.{message}
@@ -45,4 +45,4 @@ pub record LeaveStartStep (node : NodeState) (acted : Acted) : Type 0 where
       × (acted.state.covers ≡ node.covers) × (acted.state.greeted ≡ node.greeted) × (acted.state.abandoned ≡ node.abandoned)
       × CastsAlike node acted.state × IsCompleted node (all_withdrawn node.pointers) []
       (map (λ notice. message notice.to (Leave notice.replacement)) (started_leaving node.ties).notices) Nothing acted
-  pub finishes : length (holders_on node.ties) ≡ 0 → EndStep node Gone GoneFrame acted
+  pub finishes : length (holders_on node.ties) ≡ 0 → EndStep node GoneStatus Gone acted

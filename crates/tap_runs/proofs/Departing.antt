@@ -27,7 +27,7 @@ use Rattle.tap_rule.specs.Node.{NodeState, Status, joiner}
 use Rattle.tap_rule.specs.Node.Status.{Joining, Core, Leaving, Gone, Ceased}
 use Rattle.tap_rule.specs.Event.{Acted, Start}
 use Rattle.tap_rule.specs.Event.Event.{Starts}
-use Rattle.tap_rule.specs.Event.Start.{Join as Joins, Abandon as GivesUp, Publish as Publishes, Withdraw as Withdraws, Leave as Leaves}
+use Rattle.tap_rule.specs.Event.Start.{Join as StartJoin, Abandon as StartAbandon, Publish as StartPublish, Withdraw as StartWithdraw, Leave as StartLeave}
 use Rattle.tap_rule.specs.Act.{act}
 use Rattle.tap_safety.specs.Move.{Move}
 use Rattle.tap_safety.specs.Move.Move.{Begins, Delivers}
@@ -149,15 +149,15 @@ module _ (log : List Record) (name : List ℕ) (start : Start) where
   no_part x first at none node leaver = ap (λ w. departing_by node name w leaver) (sym (ap (start_in first) at)) ∙ none node leaver
 
   departs_or_not : (step : Step) → start_at log step ≡ Some (name, start)
-      → ((step ≡ Depart name) × (start ≡ Leaves))
+      → ((step ≡ Depart name) × (start ≡ StartLeave))
       ⊎ ((depart_name step ≡ None) × ((node : NodeState) (leaver : Option Leaver) → departing_by node name start leaver ≡ leaver))
   unfolding actor_of start_of_step depart_name
-  departs_or_not (Depart node) at = inl (ap (λ x. Depart x) (ap name_at at), sym (ap (start_in Leaves) at))
-  departs_or_not (Join newcomer via) at = inr (refl, no_part newcomer (Joins via) at (λ node leaver. refl))
-  departs_or_not (Publish object server) at = inr (refl, no_part server (Publishes object) at (λ node leaver. refl))
-  departs_or_not (Withdraw object server) at = inr (refl, no_part server (Withdraws object) at (λ node leaver. refl))
+  departs_or_not (Depart node) at = inl (ap (λ x. Depart x) (ap name_at at), sym (ap (start_in StartLeave) at))
+  departs_or_not (Join newcomer via) at = inr (refl, no_part newcomer (StartJoin via) at (λ node leaver. refl))
+  departs_or_not (Publish object server) at = inr (refl, no_part server (StartPublish object) at (λ node leaver. refl))
+  departs_or_not (Withdraw object server) at = inr (refl, no_part server (StartWithdraw object) at (λ node leaver. refl))
   departs_or_not (Find object asker) at = inr (refl, no_part asker _ at (λ node leaver. refl))
-  departs_or_not (Abandon node) at = inr (refl, no_part node GivesUp at (λ node leaver. refl))
+  departs_or_not (Abandon node) at = inr (refl, no_part node StartAbandon at (λ node leaver. refl))
   departs_or_not (Cast word prefix asker) at = inr (refl, no_part asker _ at (λ node leaver. refl))
   departs_or_not step at = absurd (cc)
 
@@ -184,7 +184,7 @@ module _ (p : SettingsValue) (log : List Record) (s : System) (uncarried : is_ca
         ∙ sym (ap name_of_leaver (now ∙ ap (departing_with s'.frames) (same s.departing)))
 
     -- a departure
-    module _ (leaves : step ≡ Depart name) (leave : starting.start ≡ Leaves) where
+    module _ (leaves : step ≡ Depart name) (leave : starting.start ≡ StartLeave) where
       abbrev acted : Acted
       acted = act node (Starts starting.start)
 
@@ -221,7 +221,7 @@ module _ (p : SettingsValue) (log : List Record) (s : System) (uncarried : is_ca
           let accepted : is_accepted items ≡ true =
           ap is_accepted items_are ∙ acted_accepted p (sent_count log) name acted frame frames sends in
           departs log (StepRecord index step) items group uncarried s' after (name ∷ []) (named accepted)
-          ∙ departs_with s'.frames (departing_by node name Leaves s.departing)
+          ∙ departs_with s'.frames (departing_by node name StartLeave s.departing)
           ∙ sym (ap name_of_leaver (now ∙ ap (λ w. departing_with s'.frames (departing_by node name w s.departing)) leave))
 
       leaver_departs : (sent : List Frame) → acted.sent ≡ sent

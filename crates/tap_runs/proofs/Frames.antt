@@ -25,7 +25,7 @@ use Rattle.tap_history.proofs.Numbering.{numbered-group, outstanding-group}
 use Rattle.tap_rule.specs.Node.{NodeState}
 use Rattle.tap_rule.specs.Event.{Acted, News, Start}
 use Rattle.tap_rule.specs.Event.Event.{Starts, Takes}
-use Rattle.tap_rule.specs.Event.News.{Nothing, Core as IsCore, Gone as IsGone, Answered as IsAnswered, Cast as IsCast}
+use Rattle.tap_rule.specs.Event.News.{Nothing, Core as CoreNews, Gone as GoneNews, Answered as AnsweredNews, Cast as CastNews}
 use Rattle.tap_rule.specs.Act.{act}
 use Rattle.tap_safety.specs.Move.Move.{Begins, Delivers}
 use Rattle.tap_safety.specs.Moved.{moved, numbered_frame, starter, without_frame}
@@ -123,19 +123,19 @@ silent_so false item silent = record { sent = refl; taken = refl; asked = refl }
 silent_before : (name : List ℕ) (news : News) → AreSilent (news_before name news)
 unfolding news_before sent_number taken_number asked_ticket
 silent_before name Nothing = record { sent = refl; taken = refl; asked = refl }
-silent_before name IsCore = record { sent = refl; taken = refl; asked = refl }
-silent_before name IsGone = record { sent = refl; taken = refl; asked = refl }
-silent_before name (IsAnswered ticket server) = record { sent = refl; taken = refl; asked = refl }
-silent_before name (IsCast cast reached closed) =
+silent_before name CoreNews = record { sent = refl; taken = refl; asked = refl }
+silent_before name GoneNews = record { sent = refl; taken = refl; asked = refl }
+silent_before name (AnsweredNews ticket server) = record { sent = refl; taken = refl; asked = refl }
+silent_before name (CastNews cast reached closed) =
     silent_so reached (Reached cast name) (record { sent = refl; taken = refl; asked = refl })
 
 silent_after : (news : News) → AreSilent (news_after news)
 unfolding news_after sent_number taken_number asked_ticket
 silent_after Nothing = record { sent = refl; taken = refl; asked = refl }
-silent_after IsCore = record { sent = refl; taken = refl; asked = refl }
-silent_after IsGone = record { sent = refl; taken = refl; asked = refl }
-silent_after (IsAnswered ticket server) = record { sent = refl; taken = refl; asked = refl }
-silent_after (IsCast cast reached closed) = silent_so closed (Closed cast) (record { sent = refl; taken = refl; asked = refl })
+silent_after CoreNews = record { sent = refl; taken = refl; asked = refl }
+silent_after GoneNews = record { sent = refl; taken = refl; asked = refl }
+silent_after (AnsweredNews ticket server) = record { sent = refl; taken = refl; asked = refl }
+silent_after (CastNews cast reached closed) = silent_so closed (Closed cast) (record { sent = refl; taken = refl; asked = refl })
 
 -- These records send these frames, numbered from this number on, and take nothing and ask for nothing.
 pub record AreSending (p : SettingsValue) (number : ℕ) (frames : List Frame) (items : List Record) : Type 0 where

@@ -29,8 +29,8 @@ use Rattle.tap_rule.specs.Node.{NodeState, Status, joiner, member_at_rest}
 use Rattle.tap_rule.specs.Node.Status.{Joining}
 use Rattle.tap_rule.specs.Event.{Acted, News, Start}
 use Rattle.tap_rule.specs.Event.Event.{Starts, Takes}
-use Rattle.tap_rule.specs.Event.News.{Nothing, Core as IsCore, Gone as IsGone, Answered as IsAnswered, Cast as IsCast}
-use Rattle.tap_rule.specs.Event.Start.{Join as Joins}
+use Rattle.tap_rule.specs.Event.News.{Nothing, Core as CoreNews, Gone as GoneNews, Answered as AnsweredNews, Cast as CastNews}
+use Rattle.tap_rule.specs.Event.Start.{Join as StartJoin}
 use Rattle.tap_rule.specs.Act.{act}
 use Rattle.tap_rule.specs.Sending.{by_receiver}
 use Rattle.tap_rule.proofs.StartSteps.{seek_start_law}
@@ -450,38 +450,38 @@ module _ (name : List ℕ) where
   core_before : (news : News) → filter_map core_name (news_before name news) ≡ one_if (tells_core news) name
   unfolding news_before core_name
   core_before Nothing = refl
-  core_before IsCore = refl
-  core_before IsGone = refl
-  core_before (IsAnswered ticket server) = refl
-  core_before (IsCast cast true closed) = refl
-  core_before (IsCast cast false closed) = refl
+  core_before CoreNews = refl
+  core_before GoneNews = refl
+  core_before (AnsweredNews ticket server) = refl
+  core_before (CastNews cast true closed) = refl
+  core_before (CastNews cast false closed) = refl
 
   gone_before : (news : News) → filter_map gone_name (news_before name news) ≡ one_if (tells_gone news) name
   unfolding news_before gone_name
   gone_before Nothing = refl
-  gone_before IsCore = refl
-  gone_before IsGone = refl
-  gone_before (IsAnswered ticket server) = refl
-  gone_before (IsCast cast true closed) = refl
-  gone_before (IsCast cast false closed) = refl
+  gone_before CoreNews = refl
+  gone_before GoneNews = refl
+  gone_before (AnsweredNews ticket server) = refl
+  gone_before (CastNews cast true closed) = refl
+  gone_before (CastNews cast false closed) = refl
 
 core_later : (news : News) → filter_map core_name (news_after news) ≡ []
 unfolding news_after core_name
 core_later Nothing = refl
-core_later IsCore = refl
-core_later IsGone = refl
-core_later (IsAnswered ticket server) = refl
-core_later (IsCast cast reached true) = refl
-core_later (IsCast cast reached false) = refl
+core_later CoreNews = refl
+core_later GoneNews = refl
+core_later (AnsweredNews ticket server) = refl
+core_later (CastNews cast reached true) = refl
+core_later (CastNews cast reached false) = refl
 
 gone_later : (news : News) → filter_map gone_name (news_after news) ≡ []
 unfolding news_after gone_name
 gone_later Nothing = refl
-gone_later IsCore = refl
-gone_later IsGone = refl
-gone_later (IsAnswered ticket server) = refl
-gone_later (IsCast cast reached true) = refl
-gone_later (IsCast cast reached false) = refl
+gone_later CoreNews = refl
+gone_later GoneNews = refl
+gone_later (AnsweredNews ticket server) = refl
+gone_later (CastNews cast reached true) = refl
+gone_later (CastNews cast reached false) = refl
 
 sent_none : (h : Record → Option (List ℕ)) → ((number : ℕ) (bytes : List ℕ) → h (Sent number bytes) ≡ None)
     → (p : SettingsValue) (number : ℕ) (frames : List Frame) → filter_map h (sent_records p number frames) ≡ []
@@ -578,7 +578,7 @@ pub record IsThere (p : SettingsValue) (s : System) (step : Step) (name : List �
 pub record IsNew (s : System) (step : Step) (name : List ℕ) (start : Start) : Type 0 where
   pub via : List ℕ
   pub step_is : step ≡ Join name via
-  pub start_is : start ≡ Joins via
+  pub start_is : start ≡ StartJoin via
   pub none : s.node name ≡ None
 
 -- the two parts of what there may be
@@ -620,7 +620,7 @@ module _ (p : SettingsValue) (log : List Record) (s : System) (agree : Agree log
   unfolding actor_of start_of_step asked_node join_name
   starts_of (Join newcomer via) name start accepted at =
       let same : newcomer ≡ name = ap name_at at in
-      let what : Joins via ≡ start = ap (start_in (Joins via)) at in
+      let what : StartJoin via ≡ start = ap (start_in (StartJoin via)) at in
       let new = no_node (s.node newcomer) (sym (agree.ever newcomer) ∙ joiner_is_new log newcomer via accepted) in
       inl (record {
         via = via;
@@ -649,11 +649,11 @@ first_accepted : (p : SettingsValue) (number : ℕ) (name : List ℕ) (news : Ne
     → is_accepted (news_before name news ++ (sent_records p number (frame ∷ frames) ++ news_after news)) ≡ true
 unfolding news_before accepts begins_group
 first_accepted p number name Nothing frame frames = refl
-first_accepted p number name IsCore frame frames = refl
-first_accepted p number name IsGone frame frames = refl
-first_accepted p number name (IsAnswered ticket server) frame frames = refl
-first_accepted p number name (IsCast cast true closed) frame frames = refl
-first_accepted p number name (IsCast cast false closed) frame frames = refl
+first_accepted p number name CoreNews frame frames = refl
+first_accepted p number name GoneNews frame frames = refl
+first_accepted p number name (AnsweredNews ticket server) frame frames = refl
+first_accepted p number name (CastNews cast true closed) frame frames = refl
+first_accepted p number name (CastNews cast false closed) frame frames = refl
 
 pub acted_accepted : (p : SettingsValue) (number : ℕ) (name : List ℕ) (acted : Acted) (frame : Frame) (frames : List Frame)
     → acted.sent ≡ frame ∷ frames → is_accepted (acted_records p number name acted) ≡ true
@@ -663,10 +663,10 @@ acted_accepted p number name acted frame frames sends =
 
 -- a join sends a frame
 pub join_accepted : (p : SettingsValue) (number : ℕ) (name via : List ℕ)
-    → is_accepted (acted_records p number name (act (joiner p name) (Starts (Joins via)))) ≡ true
+    → is_accepted (acted_records p number name (act (joiner p name) (Starts (StartJoin via)))) ≡ true
 unfolding by_receiver
 join_accepted p number name via =
-    acted_accepted p number name (act (joiner p name) (Starts (Joins via))) _ _ (seek_start_law (joiner p name) via refl).completed.sent.all
+    acted_accepted p number name (act (joiner p name) (Starts (StartJoin via))) _ _ (seek_start_law (joiner p name) via refl).completed.sent.all
 
 -- ---- a group of a start
 
@@ -735,13 +735,13 @@ module _ (p : SettingsValue) (log : List Record) (s : System) (uncarried : is_ca
 
   -- a node that is new joins
   new_acts : (name via : List ℕ) → s.node name ≡ None
-      → All HasNoStep (announced log (Join name via) ++ records_of_act p log name (Some (joiner p name)) (Starts (Joins via)))
+      → All HasNoStep (announced log (Join name via) ++ records_of_act p log name (Some (joiner p name)) (Starts (StartJoin via)))
       → Acts log (StepRecord index (Join name via) ∷ (announced log (Join name via)
-      ++ records_of_act p log name (Some (joiner p name)) (Starts (Joins via)))) s (moved p s (Begins name (Joins via)))
+      ++ records_of_act p log name (Some (joiner p name)) (Starts (StartJoin via)))) s (moved p s (Begins name (StartJoin via)))
   unfolding announced join_name
   new_acts name via none steps =
-      start_acts p log s uncarried index (Join name via) name (Joins via) (joiner p name) refl true Joining
-      (start_noted (joiner p name) (Joins via)) (ap is_core_node none) (ap is_ended_node none) (ap is_some none) (λ joins. refl)
+      start_acts p log s uncarried index (Join name via) name (StartJoin via) (joiner p name) refl true Joining
+      (start_noted (joiner p name) (StartJoin via)) (ap is_core_node none) (ap is_ended_node none) (ap is_some none) (λ joins. refl)
       (named_in_group join_name index (Join name via) _ steps
       ∙ ap (λ b. if b then name ∷ [] else []) (join_accepted p (sent_count log) name via))
 
@@ -853,7 +853,7 @@ module _ (p : SettingsValue) (log : List Record) (s : System) (begun : 1 ≤ len
       new_seen : (new : IsNew s step starting.name starting.start) → Seen step starting.start
       new_seen new =
           let join = Join starting.name new.via in
-          let there : All HasNoStep (does join (Joins new.via)) =
+          let there : All HasNoStep (does join (StartJoin new.via)) =
           subst (λ w. All HasNoStep (does join w)) new.start_is (subst (λ st. All HasNoStep (does st starting.start)) new.step_is steps) in
           subst (λ st. Seen st starting.start) (sym new.step_is)
           (subst (λ w. Seen join w) (sym new.start_is) (new_acts p log s uncarried index starting.name new.via new.none there))

@@ -5,7 +5,7 @@ use Rattle.tap_wire.specs.declared.frame.Frame.{Frame}
 use Rattle.tap_rule.specs.Node.{NodeState, Status}
 use Rattle.tap_rule.specs.Event.{Acted, News, Start}
 use Rattle.tap_rule.specs.Event.Event.{Starts, Takes}
-use Rattle.tap_rule.specs.Event.News.{Nothing, Core as IsCore, Gone as IsGone, Answered as IsAnswered, Cast as IsCast}
+use Rattle.tap_rule.specs.Event.News.{Nothing, Core as CoreNews, Gone as GoneNews, Answered as AnsweredNews, Cast as CastNews}
 use Rattle.tap_rule.specs.Reaction.{Reaction}
 use Rattle.tap_rule.specs.Act.{act}
 use Rattle.tap_rule.specs.Casts.{cast_news, cast_of, is_root}
@@ -21,17 +21,17 @@ use Rattle.tap_runs.specs.Observed.{counts_as_core, has_ended}
 -- the node has become core, and it is gone or has ceased
 abbrev pub tells_core : News → Bool
 tells_core Nothing = false
-tells_core IsCore = true
-tells_core IsGone = false
-tells_core (IsAnswered ticket server) = false
-tells_core (IsCast cast reached closed) = false
+tells_core CoreNews = true
+tells_core GoneNews = false
+tells_core (AnsweredNews ticket server) = false
+tells_core (CastNews cast reached closed) = false
 
 abbrev pub tells_gone : News → Bool
 tells_gone Nothing = false
-tells_gone IsCore = false
-tells_gone IsGone = true
-tells_gone (IsAnswered ticket server) = false
-tells_gone (IsCast cast reached closed) = false
+tells_gone CoreNews = false
+tells_gone GoneNews = true
+tells_gone (AnsweredNews ticket server) = false
+tells_gone (CastNews cast reached closed) = false
 
 -- a node that becomes core hadn't ended; one is core that became so and isn't gone; and one has ended that was noted to be gone
 pub record IsNoted (before after : Status) (news : News) : Type 0 where

@@ -26,7 +26,7 @@ use Rattle.tap_surrogate.specs.Nodes.{core_links}
 use Rattle.tap_surrogate.specs.Walk.{walk}
 use Rattle.tap_rule.specs.Node.{NodeState}
 use Rattle.tap_rule.specs.Event.{Acted, Event, News, Start}
-use Rattle.tap_rule.specs.Event.News.{Nothing, Core as IsCore, Gone as IsGone, Answered as IsAnswered, Cast as IsCast}
+use Rattle.tap_rule.specs.Event.News.{Nothing, Core as CoreNews, Gone as GoneNews, Answered as AnsweredNews, Cast as CastNews}
 use Rattle.tap_rule.specs.Act.{act}
 use Rattle.tap_safety.specs.Moved.{numbered_frame, starter}
 use Rattle.tap_rule.specs.Event.Event.{Starts, Takes}
@@ -61,18 +61,18 @@ so_within false item within = All-nil Within
 before_within : (name : List ℕ) (news : News) → All Within (news_before name news)
 unfolding begins_group ends_log news_before
 before_within name Nothing = All-nil Within
-before_within name IsCore = one _ (refl, refl)
-before_within name IsGone = one _ (refl, refl)
-before_within name (IsAnswered ticket server) = All-nil Within
-before_within name (IsCast cast reached closed) = so_within reached (Reached cast name) (refl, refl)
+before_within name CoreNews = one _ (refl, refl)
+before_within name GoneNews = one _ (refl, refl)
+before_within name (AnsweredNews ticket server) = All-nil Within
+before_within name (CastNews cast reached closed) = so_within reached (Reached cast name) (refl, refl)
 
 after_within : (news : News) → All Within (news_after news)
 unfolding begins_group ends_log news_after
 after_within Nothing = All-nil Within
-after_within IsCore = All-nil Within
-after_within IsGone = All-nil Within
-after_within (IsAnswered ticket server) = one _ (refl, refl)
-after_within (IsCast cast reached closed) = so_within closed (Closed cast) (refl, refl)
+after_within CoreNews = All-nil Within
+after_within GoneNews = All-nil Within
+after_within (AnsweredNews ticket server) = one _ (refl, refl)
+after_within (CastNews cast reached closed) = so_within closed (Closed cast) (refl, refl)
 
 acted_within : (p : SettingsValue) (number : ℕ) (name : List ℕ) (acted : Acted) → All Within (acted_records p number name acted)
 acted_within p number name acted =

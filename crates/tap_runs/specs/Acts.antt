@@ -8,7 +8,7 @@ use Rattle.tap_wire.specs.Spelling.{spelling}
 use Rattle.tap_log.specs.declared.record.Record.{Record}
 use Rattle.tap_log.specs.declared.record.Record.TheVariants.{Sent, Core, Gone, Answered, Reached, Closed}
 use Rattle.tap_rule.specs.Event.{Acted, News}
-use Rattle.tap_rule.specs.Event.News.{Nothing, Core as IsCore, Gone as IsGone, Answered as IsAnswered, Cast as IsCast}
+use Rattle.tap_rule.specs.Event.News.{Nothing, Core as CoreNews, Gone as GoneNews, Answered as AnsweredNews, Cast as CastNews}
 
 -- these frames as they are sent, numbered from this number on
 abbrev pub sent_records : SettingsValue → ℕ → List Frame → List Record
@@ -23,17 +23,17 @@ if_so false item = []
 -- the news of the node of this name that stand before its frames, and those that stand after them
 unfoldable pub news_before : List ℕ → News → List Record
 news_before name Nothing = []
-news_before name IsCore = Core name ∷ []
-news_before name IsGone = Gone name ∷ []
-news_before name (IsAnswered ticket server) = []
-news_before name (IsCast cast reached closed) = if_so reached (Reached cast name)
+news_before name CoreNews = Core name ∷ []
+news_before name GoneNews = Gone name ∷ []
+news_before name (AnsweredNews ticket server) = []
+news_before name (CastNews cast reached closed) = if_so reached (Reached cast name)
 
 unfoldable pub news_after : News → List Record
 news_after Nothing = []
-news_after IsCore = []
-news_after IsGone = []
-news_after (IsAnswered ticket server) = Answered ticket server ∷ []
-news_after (IsCast cast reached closed) = if_so closed (Closed cast)
+news_after CoreNews = []
+news_after GoneNews = []
+news_after (AnsweredNews ticket server) = Answered ticket server ∷ []
+news_after (CastNews cast reached closed) = if_so closed (Closed cast)
 
 -- what a log says of what the node of this name did, if so many frames were sent before
 abbrev pub acted_records : SettingsValue → ℕ → List ℕ → Acted → List Record

@@ -6,7 +6,7 @@ use Rattle.std.specs.Option.{option_map}
 use Rattle.tap_name.specs.Root.{root}
 use Rattle.tap_name.specs.Settings.{SettingsValue}
 use Rattle.tap_link.specs.declared.kind.Kind.{Kind}
-use Rattle.tap_link.specs.declared.kind.Kind.TheVariants.{Pin, Settled, Leaving as Marked}
+use Rattle.tap_link.specs.declared.kind.Kind.TheVariants.{Pin, Settled, Leaving as LeavingKind}
 use Rattle.tap_table.specs.Table.{Row, TableValue, rows}
 use Rattle.tap_surrogate.specs.Nodes.{Nodes, core_links}
 use Rattle.tap_surrogate.specs.Walk.{walk}
@@ -77,7 +77,7 @@ nodes_of s =
 abbrev pub word_of_link : Kind → LinkWord
 word_of_link Pin = PinWord
 word_of_link Settled = SettledWord
-word_of_link Marked = LeavingWord
+word_of_link LeavingKind = LeavingWord
 
 abbrev pub link_line : Row → LinkLine
 link_line row = record { slot = row.slot; name = row.entry.target; kind = word_of_link row.entry.kind }

@@ -8,7 +8,7 @@ use Rattle.tap_log.specs.declared.record.Record.{Record}
 use Rattle.tap_log.specs.declared.record.Record.TheVariants.{Published, Withdrawn, Asked, Abandoned, CastFrom}
 use Rattle.tap_log.specs.Counts.{cast_count, ticket_count}
 use Rattle.tap_rule.specs.Event.{Start}
-use Rattle.tap_rule.specs.Event.Start.{Join as Joins, Abandon as GivesUp, Publish as Publishes, Withdraw as Withdraws, Find as Finds, Leave as Leaves, Cast as Casts}
+use Rattle.tap_rule.specs.Event.Start.{Join as StartJoin, Abandon as StartAbandon, Publish as StartPublish, Withdraw as StartWithdraw, Find as StartFind, Leave as StartLeave, Cast as StartCast}
 
 -- the ticket of the next lookup, and the number of the next cast: both are counted from 1
 abbrev pub next_ticket : List Record → ℕ
@@ -19,13 +19,13 @@ next_cast before = cast_count before + 1
 
 -- what the step has its actor start, after this log; none if it is no start
 unfoldable pub start_of_step : List Record → Step → Option Start
-start_of_step before (Join name via) = Some (Joins via)
-start_of_step before (Depart name) = Some Leaves
-start_of_step before (Publish object server) = Some (Publishes object)
-start_of_step before (Withdraw object server) = Some (Withdraws object)
-start_of_step before (Find object asker) = Some (Finds (next_ticket before) object)
-start_of_step before (Abandon name) = Some GivesUp
-start_of_step before (Cast word prefix asker) = Some (Casts (next_cast before) (length prefix) word)
+start_of_step before (Join name via) = Some (StartJoin via)
+start_of_step before (Depart name) = Some StartLeave
+start_of_step before (Publish object server) = Some (StartPublish object)
+start_of_step before (Withdraw object server) = Some (StartWithdraw object)
+start_of_step before (Find object asker) = Some (StartFind (next_ticket before) object)
+start_of_step before (Abandon name) = Some StartAbandon
+start_of_step before (Cast word prefix asker) = Some (StartCast (next_cast before) (length prefix) word)
 start_of_step before other = None
 
 -- what the log says of an accepted start before it says what the node did

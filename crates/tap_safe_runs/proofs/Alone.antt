@@ -23,8 +23,8 @@ use Rattle.tap_history.specs.Steps.{actor_of, is_start}
 use Rattle.tap_rule.specs.Act.{act}
 use Rattle.tap_rule.specs.Event.{Acted}
 use Rattle.tap_rule.specs.Event.Event.{Starts}
-use Rattle.tap_rule.specs.Event.News.{Gone as IsGone}
-use Rattle.tap_rule.specs.Event.Start.{Join as Joins, Leave as Leaves}
+use Rattle.tap_rule.specs.Event.News.{Gone as GoneNews}
+use Rattle.tap_rule.specs.Event.Start.{Join as StartJoin, Leave as StartLeave}
 use Rattle.tap_rule.specs.Leaving.{leave_for}
 use Rattle.tap_rule.specs.Node.{NodeState, joiner}
 use Rattle.tap_rule.specs.Node.Status.{Core}
@@ -51,21 +51,21 @@ use Rattle.tap_safe_runs.proofs.Safe.{runs_are_sound, steps_after, steps_before}
 
 -- a join sends a frame
 join_told : (p : SettingsValue) (number : ℕ) (name via : List ℕ)
-    → is_accepted (acted_records p number name (act (joiner p name) (Starts (Joins via)))) ≡ true
+    → is_accepted (acted_records p number name (act (joiner p name) (Starts (StartJoin via)))) ≡ true
 unfolding by_receiver
 join_told p number name via =
-    acted_accepted p number name (act (joiner p name) (Starts (Joins via))) _ _ (seek_start_law (joiner p name) via refl).completed.sent.all
+    acted_accepted p number name (act (joiner p name) (Starts (StartJoin via))) _ _ (seek_start_law (joiner p name) via refl).completed.sent.all
 
 -- whoever is gone is told to be
-gone_first : (name : List ℕ) (items : List Record) → is_accepted (news_before name IsGone ++ items) ≡ true
+gone_first : (name : List ℕ) (items : List Record) → is_accepted (news_before name GoneNews ++ items) ≡ true
 unfolding news_before accepts begins_group
 gone_first name items = refl
 
-gone_told : (p : SettingsValue) (number : ℕ) (name : List ℕ) (acted : Acted) → acted.news ≡ IsGone
+gone_told : (p : SettingsValue) (number : ℕ) (name : List ℕ) (acted : Acted) → acted.news ≡ GoneNews
     → is_accepted (acted_records p number name acted) ≡ true
 gone_told p number name acted is =
     ap (λ news. is_accepted (news_before name news ++ (sent_records p number acted.sent ++ news_after news))) is
-    ∙ gone_first name (sent_records p number acted.sent ++ news_after IsGone)
+    ∙ gone_first name (sent_records p number acted.sent ++ news_after GoneNews)
 
 -- a notice to a holder is a frame
 notices_told : (p : SettingsValue) (number : ℕ) (name from : List ℕ) (acted : Acted) (table : TableValue) (holders : List (List ℕ))
@@ -78,10 +78,10 @@ notices_told p number name from acted table (holder ∷ holders) others some is 
 
 -- a core node that leaves is gone at once, or gives notice
 leave_told : (p : SettingsValue) (number : ℕ) (name : List ℕ) (node : NodeState) → node.status ≡ Core
-    → is_accepted (acted_records p number name (act node (Starts Leaves))) ≡ true
+    → is_accepted (acted_records p number name (act node (Starts StartLeave))) ≡ true
 leave_told p number name node core =
     let law = leave_start_law node core in
-    let acted = act node (Starts Leaves) in
+    let acted = act node (Starts StartLeave) in
     elim (cases_eq (length (holders_on node.ties)) 0) [
       | inl none ↦ gone_told p number name acted (law.finishes none).news
       | inr some ↦
@@ -118,9 +118,9 @@ module _ (b : Beginning) (log : List Record) (run : IsRun b log) (index : ℕ) w
   unfolding actor_of start_of_step
   may_leave name may accepted =
       let group = StepRecord index (Depart name) ∷ [] in
-      let moves : move_of_group log group ≡ Some (Begins name Leaves) =
+      let moves : move_of_group log group ≡ Some (Begins name StartLeave) =
       step_moves log index (Depart name) [] ∙ ap (λ r. move_of_start r (start_at log (Depart name))) accepted in
-      group_may_move b log group (Begins name Leaves) run.course run.going (runs_are_sound b log run).invariant.basis may.0 may.1 moves
+      group_may_move b log group (Begins name StartLeave) run.course run.going (runs_are_sound b log run).invariant.basis may.0 may.1 moves
 
   -- a record accepts a start that isn't refused
   start_told : (step : Step) → is_start step ≡ true → MayStandAlone step → first_refusal log step ≡ None
@@ -129,7 +129,7 @@ module _ (b : Beginning) (log : List Record) (run : IsRun b log) (index : ℕ) w
   start_told (Join name via) starts may accepted = join_told p (sent_count log) name via
   start_told (Depart name) starts may accepted =
       let leave = may_leave name may accepted in
-      ap (λ node. is_accepted (records_of_act p log name node (Starts Leaves))) leave.acts.is
+      ap (λ node. is_accepted (records_of_act p log name node (Starts StartLeave))) leave.acts.is
       ∙ leave_told p (sent_count log) name leave.acts.state leave.acts.core
   start_told (Publish object server) starts may accepted = refl
   start_told (Withdraw object server) starts may accepted = refl

@@ -22,7 +22,7 @@ use Rattle.tap_history.proofs.Growing.{record_changes_hold}
 use Rattle.tap_rule.specs.Act.{act}
 use Rattle.tap_rule.specs.Event.{News}
 use Rattle.tap_rule.specs.Event.Event.{Starts, Takes}
-use Rattle.tap_rule.specs.Event.Start.{Abandon as GivesUpStart}
+use Rattle.tap_rule.specs.Event.Start.{Abandon as StartAbandon}
 use Rattle.tap_rule.specs.Node.{NodeState, Status, joiner, member_at_rest}
 use Rattle.tap_rule.specs.Node.Status.{Ceased, Core, Gone, Joining, Leaving}
 use Rattle.tap_rule.proofs.StartSteps.{give_up_law}
@@ -264,7 +264,7 @@ module _ (p : SettingsValue) (log : List Record) (s : System) (begun : 1 ≤ len
                 ap (λ (n : NodeState). n.status) (sym same) ∙ joins.joining
           ] in
           let law = give_up_law node status in
-          let up : HasGivenUp (act node (Starts GivesUpStart)).state = inr (law.status ∙ status, law.abandoned) in
+          let up : HasGivenUp (act node (Starts StartAbandon)).state = inr (law.status ∙ status, law.abandoned) in
           (both.0, subst (λ start. HasGivenUp (act node (Starts start)).state) both.1 up)
 
       acting_start : IsActing (GivesUp starting.start) (StepRecord index step ∷ does node) s begun_so

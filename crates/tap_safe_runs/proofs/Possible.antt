@@ -21,7 +21,7 @@ use Rattle.tap_history.specs.Names.{names_of}
 use Rattle.tap_history.specs.Refusals.{first_refusal}
 use Rattle.tap_history.specs.Steps.{abandon_name, actor_of, asked_node, depart_name, join_name, suits_departure, suits_joining}
 use Rattle.tap_rule.specs.Event.{Start}
-use Rattle.tap_rule.specs.Event.Start.{Join as Joins, Abandon as GivesUpStart, Publish as Publishes, Withdraw as Withdraws, Find as Finds, Leave as Leaves, Cast as Casts}
+use Rattle.tap_rule.specs.Event.Start.{Join as StartJoin, Abandon as StartAbandon, Publish as StartPublish, Withdraw as StartWithdraw, Find as StartFind, Leave as StartLeave, Cast as StartCast}
 use Rattle.tap_rule.specs.Node.Status.{Leaving}
 use Rattle.tap_safety.specs.Invariant.{Basis}
 use Rattle.tap_safety.specs.Move.{MayAct, MayArrive, Move, may_move, may_start}
@@ -141,7 +141,7 @@ module _ (b : Beginning) (log : List Record) (course : IsCourse b log) (going : 
 
     -- a join: the name is new, one more has room, and the node asked is core
     joins_by : (x via : List ℕ) → step ≡ Join x via → asked_node step ≡ Some via → join_name step ≡ Some x → suits_joining step ≡ false
-        → suits_departure step ≡ false → HasNames p step → may_start p s x (Joins via)
+        → suits_departure step ≡ false → HasNames p step → may_start p s x (StartJoin via)
     joins_by x via is asked joins joining departure names =
         let named : HasNames p (Join x via) = subst (HasNames p) is names in
         record {
@@ -157,7 +157,7 @@ module _ (b : Beginning) (log : List Record) (course : IsCourse b log) (going : 
         }
 
     -- a join that is given up: its node joins, and wasn't to give up before
-    gives_up_by : (x : List ℕ) → asked_node step ≡ Some x → abandon_name step ≡ Some x → may_start p s x GivesUpStart
+    gives_up_by : (x : List ℕ) → asked_node step ≡ Some x → abandon_name step ≡ Some x → may_start p s x StartAbandon
     gives_up_by x asked gives_up =
         let present : is_present_node (s.node x) ≡ true = sym (nodes.present x) ∙ asked_is_present log step x accepted asked in
         let joins = joining_there s x present (sym (nodes.core x) ∙ gives_up_joining log step accepted x gives_up) in
@@ -172,7 +172,7 @@ module _ (b : Beginning) (log : List Record) (course : IsCourse b log) (going : 
 
     -- a departure: at rest, while another node is core
     leaves_by : (x : List ℕ) → asked_node step ≡ Some x → depart_name step ≡ Some x → suits_joining step ≡ false
-        → suits_departure step ≡ false → may_start p s x Leaves
+        → suits_departure step ≡ false → may_start p s x StartLeave
     leaves_by x asked departs joining departure =
         let has = asked_is_core log step accepted x asked joining in
         let told : IsTold log s = is_told b log course going in
@@ -187,7 +187,7 @@ module _ (b : Beginning) (log : List Record) (course : IsCourse b log) (going : 
 
     -- a cast: of a word, under a number that its node hasn't met
     casts_by : (x prefix word : List ℕ) → step ≡ Cast word prefix x → asked_node step ≡ Some x → suits_joining step ≡ false
-        → suits_departure step ≡ false → HasNames p step → may_start p s x (Casts (next_cast log) (length prefix) word)
+        → suits_departure step ≡ false → HasNames p step → may_start p s x (StartCast (next_cast log) (length prefix) word)
     casts_by x prefix word is asked joining departure names =
         let named : HasNames p (Cast word prefix x) = subst (HasNames p) is names in
         let acts = acts_for x asked joining departure in
@@ -209,22 +209,22 @@ module _ (b : Beginning) (log : List Record) (course : IsCourse b log) (going : 
       → start_at log step ≡ Some (name, start) → may_start p s name start
   unfolding actor_of start_of_step asked_node join_name depart_name abandon_name suits_joining suits_departure
   may_begin (Join x via) name start accepted names at =
-      same_start x name (Joins via) start at (joins_by (Join x via) accepted x via refl refl refl refl refl names)
+      same_start x name (StartJoin via) start at (joins_by (Join x via) accepted x via refl refl refl refl refl names)
   may_begin (Depart x) name start accepted names at =
-      same_start x name Leaves start at (leaves_by (Depart x) accepted x refl refl refl refl)
+      same_start x name StartLeave start at (leaves_by (Depart x) accepted x refl refl refl refl)
   may_begin (Publish object x) name start accepted names at =
-      same_start x name (Publishes object) start at
+      same_start x name (StartPublish object) start at
       (record { acts = acts_for (Publish object x) accepted x refl refl refl; name = names.0 })
   may_begin (Withdraw object x) name start accepted names at =
-      same_start x name (Withdraws object) start at
+      same_start x name (StartWithdraw object) start at
       (record { acts = acts_for (Withdraw object x) accepted x refl refl refl; name = names.0 })
   may_begin (Find object x) name start accepted names at =
-      same_start x name (Finds (next_ticket log) object) start at
+      same_start x name (StartFind (next_ticket log) object) start at
       (record { acts = acts_for (Find object x) accepted x refl refl refl; name = names.0 })
   may_begin (Abandon x) name start accepted names at =
-      same_start x name GivesUpStart start at (gives_up_by (Abandon x) accepted x refl refl)
+      same_start x name StartAbandon start at (gives_up_by (Abandon x) accepted x refl refl)
   may_begin (Cast word prefix x) name start accepted names at =
-      same_start x name (Casts (next_cast log) (length prefix) word) start at
+      same_start x name (StartCast (next_cast log) (length prefix) word) start at
       (casts_by (Cast word prefix x) accepted x prefix word refl refl refl refl names)
   may_begin step name start accepted names at = absurd (cc)
 

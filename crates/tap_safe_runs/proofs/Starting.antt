@@ -6,7 +6,7 @@ use Rattle.tap_table.specs.Ties.{holders_on}
 use Rattle.tap_depart.specs.Leaving.{notice_for, started_leaving}
 use Rattle.tap_scenario.specs.declared.step.Step.{Step}
 use Rattle.tap_scenario.specs.declared.step.Step.TheVariants.{Abandon, Cast, Depart, Find, Join, Publish, Withdraw}
-use Rattle.tap_wire.specs.declared.frame.Body.TheVariants.{Leave as LeaveBody}
+use Rattle.tap_wire.specs.declared.frame.Body.TheVariants.{Leave}
 use Rattle.tap_log.specs.Counts.{sent_count}
 use Rattle.tap_log.specs.Kinds.{accepts, begins_group}
 use Rattle.tap_log.specs.declared.record.Record.{Record}
@@ -15,8 +15,8 @@ use Rattle.tap_history.specs.Steps.{actor_of, is_start}
 use Rattle.tap_rule.specs.Act.{act}
 use Rattle.tap_rule.specs.Event.{Acted, Start}
 use Rattle.tap_rule.specs.Event.Event.{Starts}
-use Rattle.tap_rule.specs.Event.News.{Gone as IsGone}
-use Rattle.tap_rule.specs.Event.Start.{Join as Joins, Leave as Leaves}
+use Rattle.tap_rule.specs.Event.News.{Gone as GoneNews}
+use Rattle.tap_rule.specs.Event.Start.{Join as StartJoin, Leave as StartLeave}
 use Rattle.tap_rule.specs.Node.{NodeState, joiner}
 use Rattle.tap_rule.specs.Node.Status.{Core}
 use Rattle.tap_rule.specs.Reaction.{message}
@@ -41,30 +41,30 @@ some_first : {A : Type 0} (x : A) (xs : List A) → IsAmong x xs → (y : A) × 
 some_first x [] among = absurd among
 some_first x (y ∷ ys) among = (y, ys, refl)
 
-gone_accepted : (p : SettingsValue) (number : ℕ) (name : List ℕ) (acted : Acted) → acted.news ≡ IsGone
+gone_accepted : (p : SettingsValue) (number : ℕ) (name : List ℕ) (acted : Acted) → acted.news ≡ GoneNews
     → is_accepted (acted_records p number name acted) ≡ true
 unfolding news_before accepts begins_group
 gone_accepted p number name acted gone =
     ap (λ news. is_accepted (news_before name news ++ (sent_records p number acted.sent ++ news_after news))) gone
 
 pub leave_accepted : (p : SettingsValue) (number : ℕ) (name : List ℕ) (node : NodeState) → node.status ≡ Core
-    → is_accepted (acted_records p number name (act node (Starts Leaves))) ≡ true
+    → is_accepted (acted_records p number name (act node (Starts StartLeave))) ≡ true
 leave_accepted p number name node core = by_holders (holders_on node.ties) refl
   where
     by_holders : (holders : List (List ℕ)) → holders_on node.ties ≡ holders
-        → is_accepted (acted_records p number name (act node (Starts Leaves))) ≡ true
+        → is_accepted (acted_records p number name (act node (Starts StartLeave))) ≡ true
     by_holders [] none =
-        gone_accepted p number name (act node (Starts Leaves)) ((leave_start_law node core).finishes (ap length none)).news
+        gone_accepted p number name (act node (Starts StartLeave)) ((leave_start_law node core).finishes (ap length none)).news
     by_holders (h ∷ hs) some =
         let first : IsAmong h (holders_on node.ties) = subst (IsAmong h) (sym some) (inl refl) in
         let notice = among-map (notice_for node.ties.table) h (holders_on node.ties) first in
-        let said = among-map (λ n. message n.to (LeaveBody n.replacement)) (notice_for node.ties.table h)
+        let said = among-map (λ n. message n.to (Leave n.replacement)) (notice_for node.ties.table h)
         (started_leaving node.ties).notices notice in
         let waits = (leave_start_law node core).waits (λ none.
         let more : length (h ∷ hs) ≡ 0 = ap length (sym some) ∙ none in omega (arith, more)) in
-        let sent = waits.4.named (message h (LeaveBody (notice_for node.ties.table h).replacement)) said in
-        let list = some_first _ (act node (Starts Leaves)).sent sent in
-        acted_accepted p number name (act node (Starts Leaves)) list.0 list.1 list.2
+        let sent = waits.4.named (message h (Leave (notice_for node.ties.table h).replacement)) said in
+        let list = some_first _ (act node (Starts StartLeave)).sent sent in
+        acted_accepted p number name (act node (Starts StartLeave)) list.0 list.1 list.2
 
 -- ---- each start
 
@@ -84,13 +84,13 @@ module _ (p : SettingsValue) (log : List Record) (s : System) (name : List ℕ) 
   accepted_start : (step : Step) → start_at log step ≡ Some (name, start) → is_accepted (announced log step ++ done) ≡ true
   unfolding actor_of start_of_step announced accepts begins_group
   accepted_start (Join newcomer via) at =
-      let is : Joins via ≡ start = ap (start_in (Joins via)) at in
+      let is : StartJoin via ≡ start = ap (start_in (StartJoin via)) at in
       let there : starter p s name start ≡ Some (joiner p name) = ap (starter p s name) (sym is) in
       ap (λ node. is_accepted (records_of_act p log name node (Starts start))) there
       ∙ ap (λ w. is_accepted (records_of_act p log name (Some (joiner p name)) (Starts w))) (sym is)
       ∙ join_accepted p (sent_count log) name via
   accepted_start (Depart node) at =
-      let is : Leaves ≡ start = ap (start_in Leaves) at in
+      let is : StartLeave ≡ start = ap (start_in StartLeave) at in
       let leaves = subst (may_start p s name) (sym is) may in
       let there : starter p s name start ≡ Some leaves.acts.state = ap (starter p s name) (sym is) ∙ leaves.acts.is in
       ap (λ one. is_accepted (records_of_act p log name one (Starts start))) there

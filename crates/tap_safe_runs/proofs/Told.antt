@@ -25,8 +25,8 @@ use Rattle.tap_history.specs.Refusals.{first_refusal}
 use Rattle.tap_history.specs.Steps.{actor_of}
 use Rattle.tap_table.specs.Table.{rows}
 use Rattle.tap_rule.specs.Event.{Acted, News, Start}
-use Rattle.tap_rule.specs.Event.News.{Nothing, Core as IsCore, Gone as IsGone, Answered as IsAnswered, Cast as IsCast}
-use Rattle.tap_rule.specs.Event.Start.{Join as Joins, Abandon as GivesUpStart, Publish as Publishes, Withdraw as Withdraws, Find as Finds, Leave as Leaves, Cast as Casts}
+use Rattle.tap_rule.specs.Event.News.{Nothing, Core as CoreNews, Gone as GoneNews, Answered as AnsweredNews, Cast as CastNews}
+use Rattle.tap_rule.specs.Event.Start.{Join as StartJoin, Abandon as StartAbandon, Publish as StartPublish, Withdraw as StartWithdraw, Find as StartFind, Leave as StartLeave, Cast as StartCast}
 use Rattle.tap_rule.specs.Node.{NodeState}
 use Rattle.tap_safety.specs.System.{System}
 use Rattle.tap_runs.specs.Acts.{acted_records, news_after, news_before, sent_records}
@@ -54,21 +54,21 @@ first_tells h a b c one other =
 core_before : (name : List ℕ) (news : News) → filter_map core_name (news_before name news) ≡ one_if (tells_core news) name
 unfolding news_before core_name
 core_before name Nothing = refl
-core_before name IsCore = refl
-core_before name IsGone = refl
-core_before name (IsAnswered ticket server) = refl
-core_before name (IsCast cast true closed) = refl
-core_before name (IsCast cast false closed) = refl
+core_before name CoreNews = refl
+core_before name GoneNews = refl
+core_before name (AnsweredNews ticket server) = refl
+core_before name (CastNews cast true closed) = refl
+core_before name (CastNews cast false closed) = refl
 
 -- the news after them
 core_later : (news : News) → filter_map core_name (news_after news) ≡ []
 unfolding news_after core_name
 core_later Nothing = refl
-core_later IsCore = refl
-core_later IsGone = refl
-core_later (IsAnswered ticket server) = refl
-core_later (IsCast cast reached true) = refl
-core_later (IsCast cast reached false) = refl
+core_later CoreNews = refl
+core_later GoneNews = refl
+core_later (AnsweredNews ticket server) = refl
+core_later (CastNews cast reached true) = refl
+core_later (CastNews cast reached false) = refl
 
 -- its frames
 core_sent : (p : SettingsValue) (number : ℕ) (frames : List Frame) → filter_map core_name (sent_records p number frames) ≡ []
@@ -116,21 +116,21 @@ core_alone taken = refl
 given_before : (name : List ℕ) (news : News) → abandoned_of (news_before name news) ≡ []
 unfolding news_before abandoned_name
 given_before name Nothing = refl
-given_before name IsCore = refl
-given_before name IsGone = refl
-given_before name (IsAnswered ticket server) = refl
-given_before name (IsCast cast true closed) = refl
-given_before name (IsCast cast false closed) = refl
+given_before name CoreNews = refl
+given_before name GoneNews = refl
+given_before name (AnsweredNews ticket server) = refl
+given_before name (CastNews cast true closed) = refl
+given_before name (CastNews cast false closed) = refl
 
 -- the news after them
 given_later : (news : News) → abandoned_of (news_after news) ≡ []
 unfolding news_after abandoned_name
 given_later Nothing = refl
-given_later IsCore = refl
-given_later IsGone = refl
-given_later (IsAnswered ticket server) = refl
-given_later (IsCast cast reached true) = refl
-given_later (IsCast cast reached false) = refl
+given_later CoreNews = refl
+given_later GoneNews = refl
+given_later (AnsweredNews ticket server) = refl
+given_later (CastNews cast reached true) = refl
+given_later (CastNews cast reached false) = refl
 
 -- its frames
 given_sent : (p : SettingsValue) (number : ℕ) (frames : List Frame) → abandoned_of (sent_records p number frames) ≡ []
@@ -173,22 +173,22 @@ given_alone taken = refl
 pub giving_up : (log : List Record) (step : Step) (name : List ℕ) (start : Start) → start_at log step ≡ Some (name, start) → GivesUp start
     → step ≡ Abandon name
 unfolding actor_of start_of_step
-giving_up log (Join newcomer via) name start at is = let wrong : Joins via ≡ start = ap (start_in start) at in absurd (cc)
-giving_up log (Depart node) name start at is = let wrong : Leaves ≡ start = ap (start_in start) at in absurd (cc)
-giving_up log (Publish object server) name start at is = let wrong : Publishes object ≡ start = ap (start_in start) at in absurd (cc)
-giving_up log (Withdraw object server) name start at is = let wrong : Withdraws object ≡ start = ap (start_in start) at in absurd (cc)
+giving_up log (Join newcomer via) name start at is = let wrong : StartJoin via ≡ start = ap (start_in start) at in absurd (cc)
+giving_up log (Depart node) name start at is = let wrong : StartLeave ≡ start = ap (start_in start) at in absurd (cc)
+giving_up log (Publish object server) name start at is = let wrong : StartPublish object ≡ start = ap (start_in start) at in absurd (cc)
+giving_up log (Withdraw object server) name start at is = let wrong : StartWithdraw object ≡ start = ap (start_in start) at in absurd (cc)
 giving_up log (Find object asker) name start at is =
-    let wrong : Finds (next_ticket log) object ≡ start = ap (start_in start) at in absurd (cc)
+    let wrong : StartFind (next_ticket log) object ≡ start = ap (start_in start) at in absurd (cc)
 giving_up log (Abandon node) name start at is = ap Abandon (ap name_at at)
 giving_up log (Cast word prefix asker) name start at is =
-    let wrong : Casts (next_cast log) (length prefix) word ≡ start = ap (start_in start) at in absurd (cc)
+    let wrong : StartCast (next_cast log) (length prefix) word ≡ start = ap (start_in start) at in absurd (cc)
 giving_up log step name start at is = absurd (cc)
 
 -- and the start of that step
 pub abandons : (log : List Record) (x name : List ℕ) (start : Start) → start_at log (Abandon x) ≡ Some (name, start)
-    → (x ≡ name) × (GivesUpStart ≡ start)
+    → (x ≡ name) × (StartAbandon ≡ start)
 unfolding actor_of start_of_step
-abandons log x name start at = (ap name_at at, ap (start_in GivesUpStart) at)
+abandons log x name start at = (ap name_at at, ap (start_in StartAbandon) at)
 
 -- it is announced
 pub given_announced : (log : List Record) (name : List ℕ) → has_name (abandoned_of (announced log (Abandon name))) name ≡ true

@@ -14,7 +14,7 @@ use Rattle.tap_name.proofs.Membership.{has_name-Decides}
 use Rattle.tap_name.proofs.Names.{All-among, among-filter, among-filter_from, among-take}
 use Rattle.tap_name.proofs.Sorted.{among-sorted, sorted-ascending}
 use Rattle.tap_link.specs.declared.kind.Kind.{Kind}
-use Rattle.tap_link.specs.declared.kind.Kind.TheVariants.{Pin, Settled, Leaving as Marked}
+use Rattle.tap_link.specs.declared.kind.Kind.TheVariants.{Pin, Settled, Leaving as LeavingKind}
 use Rattle.tap_link.specs.LinkSet.{kind_of}
 use Rattle.tap_register.specs.declared.registers.Entry.{Entry}
 use Rattle.tap_register.specs.Registers.{entry_of}
@@ -29,7 +29,7 @@ use Rattle.tap_table.proofs.Least.{is_slot-from, is_slot-to}
 use Rattle.tap_table.proofs.Near.{tied_itself, tied_names}
 use Rattle.tap_multicast.specs.Covers.{level_kept}
 use Rattle.tap_rule.specs.Node.{NodeState, Status, join_session_at, link_to, member_at_rest}
-use Rattle.tap_rule.specs.Node.Status.{Ceased as HasCeased, Core, Gone, Joining, Leaving}
+use Rattle.tap_rule.specs.Node.Status.{Ceased as CeasedStatus, Core, Gone, Joining, Leaving}
 use Rattle.tap_safety.specs.AtRest.{AreMembers, InvariantAtRest, system_at_rest, word_at_rest}
 use Rattle.tap_safety.specs.Bookkeeping.{HasCore}
 use Rattle.tap_safety.specs.Filled.{AreFilled}
@@ -373,7 +373,7 @@ module _ (p : SettingsValue) (members : List (List ℕ)) (are : AreMembers p mem
     };
     ceased = record {
       joining = λ x n core pins status. let no : Joining ≡ Core = (status_is n Joining status).1 in cc;
-      ceased = λ x n core pins status. let no : HasCeased ≡ Core = (status_is n HasCeased status).1 in cc;
+      ceased = λ x n core pins status. let no : CeasedStatus ≡ Core = (status_is n CeasedStatus status).1 in cc;
       forgets = λ n x way. absurd way.among;
     };
     ties = record {
@@ -392,7 +392,7 @@ module _ (p : SettingsValue) (members : List (List ℕ)) (are : AreMembers p mem
     };
     departure = record {
       during = λ leaver departs. let no : None ≡ Some leaver = departs in cc;
-      marked = λ x t none link. let no : Marked ≡ Settled = no_kind x t Marked link in cc;
+      marked = λ x t none link. let no : LeavingKind ≡ Settled = no_kind x t LeavingKind link in cc;
       leaving = λ x none status. let no : Leaving ≡ Core = (status_is x Leaving status).1 in cc;
     };
     notices = record {
@@ -433,7 +433,7 @@ module _ (p : SettingsValue) (members : List (List ℕ)) (are : AreMembers p mem
     ended = record {
       none = λ x t kind link. (
         λ gone. let no : Gone ≡ Core = (status_is x Gone gone).1 in cc,
-        λ ceased. let no : HasCeased ≡ Core = (status_is x HasCeased ceased).1 in cc,
+        λ ceased. let no : CeasedStatus ≡ Core = (status_is x CeasedStatus ceased).1 in cc,
       );
     };
     has_core = some_core members refl;

@@ -6,7 +6,7 @@ use Rattle.tap_name.specs.Prefix.{lcp}
 use Rattle.tap_name.specs.Settings.{SettingsValue}
 use Rattle.tap_name.proofs.Prefixes.{lcp-least, lcp-sym, lcp-triangle}
 use Rattle.tap_link.specs.declared.kind.Kind.{Kind}
-use Rattle.tap_link.specs.declared.kind.Kind.TheVariants.{Pin, Settled, Leaving as Marked}
+use Rattle.tap_link.specs.declared.kind.Kind.TheVariants.{Pin, Settled, Leaving as LeavingKind}
 use Rattle.tap_multicast.specs.Covers.{level_kept}
 use Rattle.tap_wire.specs.declared.frame.Frame.{Frame}
 use Rattle.tap_wire.specs.declared.frame.TellFields.{TellFields}
@@ -121,8 +121,8 @@ module _ (s s' : System) (number : ℕ) (w x : List ℕ) (tell : TellFields) (wa
             let three = lcp-least e filled.to primary (lcp x e + 1) (omega arith) (omega arith) in
             serves_near s' x tell.joiner e primary (lcp x primary + 1) (tells_way primary first.tells) (kept.cores primary core)
             (refl {a = lcp x primary + 1}) (omega arith)
-        by_kind filled level reaches Marked kind =
-            let link : HasLink s x filled.to Marked = rw kind at filled.link in
+        by_kind filled level reaches LeavingKind kind =
+            let link : HasLink s x filled.to LeavingKind = rw kind at filled.link in
             absurd (before.unmarked x filled.to link)
 
     -- each core node that the new level reaches was served, or is now

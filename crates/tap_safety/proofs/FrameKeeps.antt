@@ -8,7 +8,7 @@ use Rattle.tap_multicast.specs.Covers.{level_kept}
 use Rattle.tap_wire.specs.declared.frame.Frame.{Frame}
 use Rattle.tap_wire.specs.declared.frame.TellFields.{TellFields}
 use Rattle.tap_rule.specs.Node.{NodeState, link_to}
-use Rattle.tap_rule.specs.Node.Status.{Joining, Core, Leaving, Ceased as HasCeased}
+use Rattle.tap_rule.specs.Node.Status.{Joining, Core, Leaving, Ceased as CeasedStatus}
 use Rattle.tap_safety.specs.Frames.{HelloFields, hello_body, tell_body}
 use Rattle.tap_safety.specs.System.{System, Covers, HasLink, HelloNames, IsCoreNode, IsJoiner}
 use Rattle.tap_safety.specs.Words.{Pins}
@@ -36,7 +36,7 @@ use Rattle.tap_safety.proofs.Told.{named_still, told_still}
 pub one_state : (s : System) (x : List ℕ) (a b : NodeState) → s.node x ≡ Some a → s.node x ≡ Some b → a ≡ b
 one_state s x a b one two = cc
 
-pub core_not : (s : System) (x : List ℕ) (state : NodeState) → s.node x ≡ Some state → (state.status ≡ Joining) ⊎ (state.status ≡ HasCeased)
+pub core_not : (s : System) (x : List ℕ) (state : NodeState) → s.node x ≡ Some state → (state.status ≡ Joining) ⊎ (state.status ≡ CeasedStatus)
     → IsCoreNode s x → ⊥
 core_not s x state is status core =
     let same = one_state s x state core.state is core.is in
@@ -44,20 +44,20 @@ core_not s x state is status core =
     elim core.core [
       | inl is_core ↦ elim status [
         | inl joining ↦ let no : Joining ≡ Core = sym joining ∙ at ∙ is_core in cc
-        | inr ceased ↦ let no : HasCeased ≡ Core = sym ceased ∙ at ∙ is_core in cc
+        | inr ceased ↦ let no : CeasedStatus ≡ Core = sym ceased ∙ at ∙ is_core in cc
       ]
       | inr leaving ↦ elim status [
         | inl joining ↦ let no : Joining ≡ Leaving = sym joining ∙ at ∙ leaving in cc
-        | inr ceased ↦ let no : HasCeased ≡ Leaving = sym ceased ∙ at ∙ leaving in cc
+        | inr ceased ↦ let no : CeasedStatus ≡ Leaving = sym ceased ∙ at ∙ leaving in cc
       ]
     ]
 
-pub joiner_not_ceased : (s : System) (x : List ℕ) (state : NodeState) → s.node x ≡ Some state → state.status ≡ HasCeased
+pub joiner_not_ceased : (s : System) (x : List ℕ) (state : NodeState) → s.node x ≡ Some state → state.status ≡ CeasedStatus
     → IsJoiner s x → ⊥
 joiner_not_ceased s x state is ceased joiner =
     let same = one_state s x state joiner.state is joiner.is in
     let at : state.status ≡ joiner.state.status = ap (λ n. n.status) same in
-    let no : HasCeased ≡ Joining = sym ceased ∙ at ∙ joiner.joining in
+    let no : CeasedStatus ≡ Joining = sym ceased ∙ at ∙ joiner.joining in
     cc
 
 -- ---- what all of them keep

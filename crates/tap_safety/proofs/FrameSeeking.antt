@@ -2,7 +2,7 @@
 use Rattle.std.proofs.Common.{◌≡◌, inl, inr, ℕ, List, ◌⊎◌, Some, sym, ap, ◌∙◌}
 use Rattle.tap_name.specs.Settings.{SettingsValue}
 use Rattle.tap_link.specs.declared.kind.Kind.{Kind}
-use Rattle.tap_link.specs.declared.kind.Kind.TheVariants.{Pin, Settled, Leaving as Marked}
+use Rattle.tap_link.specs.declared.kind.Kind.TheVariants.{Pin, Settled, Leaving as LeavingKind}
 use Rattle.tap_wire.specs.declared.frame.Body.{Body}
 use Rattle.tap_wire.specs.declared.frame.Body.TheVariants.{Seek}
 use Rattle.tap_wire.specs.declared.frame.Frame.{Frame}
@@ -25,7 +25,7 @@ use Rattle.tap_safety.proofs.Told.{among_out, among_sent, among_was, told_by, wa
 pub sound_soft : (s : System) (t : List ℕ) (kind : Kind) → IsSoundLink s t kind → IsSoft s t
 sound_soft s t Pin sound = sound
 sound_soft s t Settled sound = inr (inl sound)
-sound_soft s t Marked sound = absurd sound
+sound_soft s t LeavingKind sound = absurd sound
 
 -- what a step at one node leaves of the nodes; and of a joining node that isn't started, if statuses stay, and its surrogate
 module _ (s s' : System) (x : List ℕ) (before after : NodeState) (at : ChangesAt s s' x before after) where

@@ -6,7 +6,7 @@ use Rattle.tap_name.specs.Prefix.{lcp}
 use Rattle.tap_name.specs.Settings.{SettingsValue}
 use Rattle.tap_name.specs.declared.slot.Slot.{Slot}
 use Rattle.tap_link.specs.declared.kind.Kind.{Kind}
-use Rattle.tap_link.specs.declared.kind.Kind.TheVariants.{Pin, Settled, Leaving as Marked}
+use Rattle.tap_link.specs.declared.kind.Kind.TheVariants.{Pin, Settled, Leaving as LeavingKind}
 use Rattle.tap_wire.specs.declared.frame.Body.TheVariants.{Done, Seek}
 use Rattle.tap_wire.specs.declared.frame.TellFields.{TellFields}
 use Rattle.tap_safety.specs.Frames.{tell_body}
@@ -60,7 +60,7 @@ module _ (p : SettingsValue) (s : System) (invariant : Basis p s) where
       quiet s e invariant.exact invariant.of_joiners (invariant.of_joiners.dones w e done) invariant.ends_once w done
 
   module _ (none_departs : s.departing ≡ None) where
-    unmarked : (x t : List ℕ) → HasLink s x t Marked → ⊥
+    unmarked : (x t : List ℕ) → HasLink s x t LeavingKind → ⊥
     unmarked x t link = invariant.departure.marked x t none_departs link
 
     pub before_tell : AreFilled p s → BeforeTell p s
@@ -80,7 +80,7 @@ module _ (p : SettingsValue) (s : System) (invariant : Basis p s) where
         by : (kind : Kind) → HasLink s x b kind → Pins s x b
         by Pin link = link
         by Settled link = absurd (core_or_joiner s b (invariant.soft.settled x b link) joiner)
-        by Marked link = absurd (unmarked x b link)
+        by LeavingKind link = absurd (unmarked x b link)
 
     sound : (b x : List ℕ) (level : ℕ) → IsJoiner s b → IsTold s b x level → IsSound p s b x level
     sound b x level joiner told =

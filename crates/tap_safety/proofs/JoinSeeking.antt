@@ -3,7 +3,7 @@ use Rattle.std.proofs.Common.{◌≡◌, inl, inr, ℕ, List, [], ◌∷◌, ◌
 use Rattle.std.proofs.lemmas.Bool.{cases_Bool}
 use Rattle.tap_name.specs.Settings.{SettingsValue}
 use Rattle.tap_link.specs.declared.kind.Kind.{Kind}
-use Rattle.tap_link.specs.declared.kind.Kind.TheVariants.{Pin, Settled, Leaving as Marked}
+use Rattle.tap_link.specs.declared.kind.Kind.TheVariants.{Pin, Settled, Leaving as LeavingKind}
 use Rattle.tap_wire.specs.declared.frame.Body.{Body}
 use Rattle.tap_wire.specs.declared.frame.Body.TheVariants.{Seek}
 use Rattle.tap_wire.specs.declared.frame.Frame.{Frame}
@@ -88,7 +88,7 @@ module _ (p : SettingsValue) (s s' : System) (x via : List ℕ) (start : StartsJ
       by : (kind : Kind) → HasLink s y z kind → HasNode s z
       by Pin link = soft_there s z (before.soft.pins y z link)
       by Settled link = soft_there s z (inr (inl (before.soft.settled y z link)))
-      by Marked link = absurd (before.unmarked y z link)
+      by LeavingKind link = absurd (before.unmarked y z link)
 
   named_there : (w b z : List ℕ) → HelloNames s w b z → HasNode s z
   named_there w b z named =

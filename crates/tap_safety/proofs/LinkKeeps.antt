@@ -8,7 +8,7 @@ use Rattle.tap_link.specs.declared.kind.Kind.TheVariants.{Pin, Settled}
 use Rattle.tap_wire.specs.declared.frame.Body.TheVariants.{Forget, Release}
 use Rattle.tap_wire.specs.declared.frame.Frame.{Frame}
 use Rattle.tap_rule.specs.Node.{NodeState, Status, link_to}
-use Rattle.tap_rule.specs.Node.Status.{Ceased as HasCeased}
+use Rattle.tap_rule.specs.Node.Status.{Ceased as CeasedStatus}
 use Rattle.tap_rule.specs.Sent.{IsAmong}
 use Rattle.tap_safety.specs.Frames.{HelloFields, hello_body, tell_body}
 use Rattle.tap_safety.specs.System.{System, AmongOffered, HasLink, HelloNames, IsCoreNode, IsJoiner, IsUnderWay}
@@ -171,15 +171,15 @@ forget_way s s' number n x step =
     taken_under_way s s' number (record { from = n; to = x; body = Forget }) step.step.sent step.step.taken
 
 module _ (s s' : System) (number : ℕ) (n x : List ℕ) (step : TakesForget s s' number n x)
-    (ceased : status_of s n ≡ Some HasCeased) where
+    (ceased : status_of s n ≡ Some CeasedStatus) where
   abbrev forget : Frame
   forget = record { from = n; to = x; body = Forget }
 
   no_core : IsCoreNode s n → ⊥
-  no_core = let state = some_state s n HasCeased ceased in core_not s n state.0 state.1 (inr state.2)
+  no_core = let state = some_state s n CeasedStatus ceased in core_not s n state.0 state.1 (inr state.2)
 
   no_joiner : IsJoiner s n → ⊥
-  no_joiner = let state = some_state s n HasCeased ceased in joiner_not_ceased s n state.0 state.1 state.2
+  no_joiner = let state = some_state s n CeasedStatus ceased in joiner_not_ceased s n state.0 state.1 state.2
 
   forget_cores : (y : List ℕ) → IsCoreNode s y → IsCoreNode s' y
   forget_cores = frame_cores s s' number forget step.step

@@ -2,7 +2,7 @@
 use Rattle.std.proofs.Common.{◌≡◌, inl, inr, ℕ, true, List, [], ◌∷◌, ◌⊎◌, Option, None, Some, refl, sym, ap, ◌∙◌}
 use Rattle.std.proofs.lemmas.Bool.{true≢false}
 use Rattle.tap_link.specs.declared.kind.Kind.{Kind}
-use Rattle.tap_link.specs.declared.kind.Kind.TheVariants.{Settled, Leaving as Marked}
+use Rattle.tap_link.specs.declared.kind.Kind.TheVariants.{Settled, Leaving as LeavingKind}
 use Rattle.tap_wire.specs.declared.frame.Body.{Body}
 use Rattle.tap_wire.specs.declared.frame.Body.TheVariants.{Gone, Leave, Left, Link}
 use Rattle.tap_wire.specs.declared.frame.Frame.{Frame}
@@ -104,7 +104,7 @@ module _ (s s' : System) (step : LeavesNotices s s') (notices : Notices s) where
   -- a slot that is filled stays so
   still_replaced : (leaver : Leaver) (a n : List ℕ) → Departs s leaver → HasReplaced s a n → HasReplaced s' a n
   still_replaced leaver a n departs replaced = record {
-    marked = link_stays leaver a n Marked departs replaced.marked;
+    marked = link_stays leaver a n LeavingKind departs replaced.marked;
     filled = λ other.
         let core = was_core other.other other.core in
         let by = replaced.filled (record { other = other.other; core = core; apart = other.apart; near = other.near }) in

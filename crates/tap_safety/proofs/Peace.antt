@@ -1,6 +1,6 @@
 -- What a step keeps of departures while nobody departs.
 use Rattle.std.proofs.Common.{◌≡◌, inl, inr, ℕ, List, [], ◌∷◌, Option, None, Some, refl, sym, ◌∙◌}
-use Rattle.tap_link.specs.declared.kind.Kind.TheVariants.{Leaving as Marked}
+use Rattle.tap_link.specs.declared.kind.Kind.TheVariants.{Leaving as LeavingKind}
 use Rattle.tap_wire.specs.declared.frame.Body.{Body}
 use Rattle.tap_wire.specs.declared.frame.Body.TheVariants.{Gone, Leave, Left}
 use Rattle.tap_wire.specs.declared.frame.Frame.{Frame}
@@ -97,9 +97,9 @@ module _ (s s' : System) (number : ℕ) (frame : Frame) (step : TakesFrame s s' 
   frame_peace : IsAtPeace s s'
   frame_peace = record { was = was; is = is; leaving = nobody_leaves; ways = no_notice_comes }
 
-  nobody_marked : (x t : List ℕ) → HasLink s' x t Marked → ⊥
+  nobody_marked : (x t : List ℕ) → HasLink s' x t LeavingKind → ⊥
   nobody_marked x t link =
-      elim (links_sound s s' frame.to step.before step.after step.at sound x t Marked link) [
+      elim (links_sound s s' frame.to step.before step.after step.at sound x t LeavingKind link) [
         | inl old ↦ departure.marked x t was old
         | inr wrong ↦ wrong
       ]

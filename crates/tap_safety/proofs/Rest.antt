@@ -4,10 +4,10 @@ use Rattle.std.proofs.lemmas.Bool.{cases_lt, true≢false}
 use Rattle.tap_name.specs.Names.{Among}
 use Rattle.tap_name.specs.Settings.{SettingsValue}
 use Rattle.tap_link.specs.declared.kind.Kind.{Kind}
-use Rattle.tap_link.specs.declared.kind.Kind.TheVariants.{Pin, Leaving as Marked}
+use Rattle.tap_link.specs.declared.kind.Kind.TheVariants.{Pin, Leaving as LeavingKind}
 use Rattle.tap_wire.specs.declared.frame.Frame.{Frame}
 use Rattle.tap_rule.specs.Node.{NodeState, Status}
-use Rattle.tap_rule.specs.Node.Status.{Ceased as HasCeased, Core, Gone, Joining, Leaving}
+use Rattle.tap_rule.specs.Node.Status.{Ceased as CeasedStatus, Core, Gone, Joining, Leaving}
 use Rattle.tap_safety.specs.Remembered.{Leaver, OpenSession, Token}
 use Rattle.tap_safety.specs.Remembered.Token.{Way, Child}
 use Rattle.tap_safety.specs.System.{System, AmongFrames, HasLink}
@@ -178,7 +178,7 @@ module _ (p : SettingsValue) (s : System) (invariant : Basis p s) (rest : s.fram
             (status_seen s invariant.has_core.name core.state Leaving core.is leaving))
       ]
 
-  nobody_marked : (x t : List ℕ) → HasLink s x t Marked → ⊥
+  nobody_marked : (x t : List ℕ) → HasLink s x t LeavingKind → ⊥
   nobody_marked x t link = by s.departing refl
     where
       by : (departing : Option Leaver) → s.departing ≡ departing → ⊥
@@ -188,7 +188,7 @@ module _ (p : SettingsValue) (s : System) (invariant : Basis p s) (rest : s.fram
           let same = during.marked x t link in
           elim during.ends [
             | inl leaving ↦ nobody_leaves leaver.name leaving
-            | inr gone ↦ let way = (during.gone gone x Marked (rw same at link)).1 in no_frame way.number _ way.among
+            | inr gone ↦ let way = (during.gone gone x LeavingKind (rw same at link)).1 in no_frame way.number _ way.among
           ]
 
   -- ---- pins
@@ -211,7 +211,7 @@ module _ (p : SettingsValue) (s : System) (invariant : Basis p s) (rest : s.fram
             | inr leaving ↦ nobody_leaves t (status_seen s t node.state Leaving node.is leaving)
           ]
       by (inr (inr ceased)) =
-          elim (invariant.ceased.ceased x t (inl core) pin (status_seen s t ceased.state HasCeased ceased.is ceased.ceased)) [
+          elim (invariant.ceased.ceased x t (inl core) pin (status_seen s t ceased.state CeasedStatus ceased.is ceased.ceased)) [
             | inl says ↦ no_frame says.way.number _ says.way.among
             | inr forget ↦ no_frame forget.number _ forget.among
           ]
@@ -224,7 +224,7 @@ module _ (p : SettingsValue) (s : System) (invariant : Basis p s) (rest : s.fram
       by Core is = no_pin x t (status_seen s x pin.state Core pin.is is) pin
       by Leaving is = nobody_leaves x (status_seen s x pin.state Leaving pin.is is)
       by Gone is = (invariant.ended.none x t Pin pin).0 (status_seen s x pin.state Gone pin.is is)
-      by HasCeased is = (invariant.ended.none x t Pin pin).1 (status_seen s x pin.state HasCeased pin.is is)
+      by CeasedStatus is = (invariant.ended.none x t Pin pin).1 (status_seen s x pin.state CeasedStatus pin.is is)
 
   -- ---- holders
 

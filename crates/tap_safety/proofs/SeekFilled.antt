@@ -5,7 +5,7 @@ use Rattle.tap_name.specs.Prefix.{lcp}
 use Rattle.tap_name.specs.Settings.{SettingsValue}
 use Rattle.tap_name.proofs.Prefixes.{lcp-least, lcp-sym, lcp-triangle}
 use Rattle.tap_link.specs.declared.kind.Kind.{Kind}
-use Rattle.tap_link.specs.declared.kind.Kind.TheVariants.{Pin, Settled, Leaving as Marked}
+use Rattle.tap_link.specs.declared.kind.Kind.TheVariants.{Pin, Settled, Leaving as LeavingKind}
 use Rattle.tap_multicast.specs.Covers.{level_kept}
 use Rattle.tap_wire.specs.declared.frame.Body.TheVariants.{Seek}
 use Rattle.tap_wire.specs.declared.frame.Frame.{Frame}
@@ -412,8 +412,8 @@ module _ (p : SettingsValue) (s s' : System) (number : ℕ) (w x b : List ℕ) (
           let four = lcp-least e near.to primary (lcp x e + 1) (omega arith) (omega arith) in
           serves_near s' x b e primary (lcp x primary + 1) (tells_way primary one.tells) (cores primary is_core)
           (refl {a = lcp x primary + 1}) (omega arith)
-      by_kind near level reaches Marked kind =
-          let link : HasLink s x near.to Marked = rw kind at near.link in
+      by_kind near level reaches LeavingKind kind =
+          let link : HasLink s x near.to LeavingKind = rw kind at near.link in
           absurd (before.unmarked x near.to link)
 
   cover_old : (v d e : List ℕ) (level : ℕ) → IsJoiner s' d → IsJoiner s d → Covers s v d level → IsClaim p s' v d e level

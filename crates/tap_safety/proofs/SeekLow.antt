@@ -5,7 +5,7 @@ use Rattle.tap_name.specs.Prefix.{lcp}
 use Rattle.tap_name.specs.Settings.{SettingsValue}
 use Rattle.tap_name.proofs.Prefixes.{lcp-least, lcp-sym, lcp-triangle}
 use Rattle.tap_link.specs.declared.kind.Kind.{Kind}
-use Rattle.tap_link.specs.declared.kind.Kind.TheVariants.{Pin, Settled, Leaving as Marked}
+use Rattle.tap_link.specs.declared.kind.Kind.TheVariants.{Pin, Settled, Leaving as LeavingKind}
 use Rattle.tap_rule.specs.Node.{link_to}
 use Rattle.tap_safety.specs.System.{System, IsCoreNode, HasLink, AmongOffered}
 use Rattle.tap_safety.specs.Words.{IsGiven}
@@ -52,8 +52,8 @@ module _ (p : SettingsValue) (s s' : System) (x b : List ℕ) (before : BeforeSe
       let two = first.near in
       let three = lcp-least f filled.to primary (lcp b f + 1) (omega arith) (omega arith) in
       offered_given f primary first.offered is_core (omega arith)
-  by_kind f low filled level same Marked kind =
-      let link : HasLink s x filled.to Marked = rw kind at filled.link in
+  by_kind f low filled level same LeavingKind kind =
+      let link : HasLink s x filled.to LeavingKind = rw kind at filled.link in
       absurd (before.unmarked x filled.to link)
 
   pub low_new : (f : List ℕ) → IsCoreNode s f → lcp b f ≤ lcp x b → IsGiven s' b f

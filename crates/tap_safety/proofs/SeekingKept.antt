@@ -5,7 +5,7 @@ use Rattle.tap_name.specs.Prefix.{lcp}
 use Rattle.tap_name.specs.Settings.{SettingsValue}
 use Rattle.tap_wire.specs.declared.frame.Body.TheVariants.{Seek}
 use Rattle.tap_wire.specs.declared.frame.TellFields.{TellFields}
-use Rattle.tap_rule.specs.Node.Status.{Joining, Ceased as HasCeased}
+use Rattle.tap_rule.specs.Node.Status.{Joining, Ceased as CeasedStatus}
 use Rattle.tap_safety.specs.Seeking.{AreOfSeekers, HasNode, HasOneSeek, IsSeeker, IsUnknown, Seeking}
 use Rattle.tap_safety.specs.System.{System, HelloNames, IsJoiner, IsUnderWay}
 use Rattle.tap_safety.specs.Words.{prefix_of}
@@ -54,7 +54,7 @@ seeker_not_soft s x seeker (inr (inl core)) = core_not s x seeker.state seeker.i
 seeker_not_soft s x seeker (inr (inr ceased)) =
     let same = one_state s x seeker.state ceased.state seeker.is ceased.is in
     let at : seeker.state.status ≡ ceased.state.status = ap (λ n. n.status) same in
-    let no : Joining ≡ HasCeased = sym seeker.joining ∙ at ∙ ceased.ceased in
+    let no : Joining ≡ CeasedStatus = sym seeker.joining ∙ at ∙ ceased.ceased in
     cc
 
 module _ (s s' : System) (leaves : LeavesSeekers s s') where

@@ -8,7 +8,7 @@ use Rattle.tap_wire.specs.declared.frame.Body.TheVariants.{Done}
 use Rattle.tap_wire.specs.declared.frame.Frame.{Frame}
 use Rattle.tap_wire.specs.declared.frame.TellFields.{TellFields}
 use Rattle.tap_rule.specs.Node.{NodeState, link_to}
-use Rattle.tap_rule.specs.Node.Status.{Joining, Ceased as HasCeased}
+use Rattle.tap_rule.specs.Node.Status.{Joining, Ceased as CeasedStatus}
 use Rattle.tap_safety.specs.Frames.{tell_body}
 use Rattle.tap_safety.specs.System.{System, HasLink, IsJoiner, IsUnderWay}
 use Rattle.tap_safety.specs.Step.{ChangesAt, HasSent, IsSent, numbered_from}
@@ -111,7 +111,7 @@ done_softs s s' number w e step y (inr (inr ceased)) =
       | inl here ↦
           let was = step.was in
           let at : ceased.state.status ≡ step.before.status = ap (λ n. n.status) here.1 in
-          let no : HasCeased ≡ Joining = sym ceased.ceased ∙ at ∙ was in
+          let no : CeasedStatus ≡ Joining = sym ceased.ceased ∙ at ∙ was in
           cc
       | inr there ↦ inr (inr (record { state = ceased.state; is = there; ceased = ceased.ceased }))
     ]

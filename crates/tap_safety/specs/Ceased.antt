@@ -1,6 +1,6 @@
 -- Pins on nodes that join or have ceased: they have said so, or will be told to forget it.
 use Rattle.std.specs.Prelude.{◌≡◌, ℕ, true, List, ◌⊎◌, Some}
-use Rattle.tap_rule.specs.Node.Status.{Joining, Core, Ceased as HasCeased}
+use Rattle.tap_rule.specs.Node.Status.{Joining, Core, Ceased as CeasedStatus}
 use Rattle.tap_wire.specs.declared.frame.Body.TheVariants.{Forget}
 use Rattle.tap_safety.specs.Remembered.{Word}
 use Rattle.tap_safety.specs.System.{System, IsUnderWay}
@@ -27,6 +27,6 @@ pub record IsRegistered (s : System) (x n : List ℕ) : Type 0 where
 -- a Forget is on its way; and a Forget comes from a ceased node.
 pub record Ceased (s : System) : Type 0 where
   pub joining : (x n : List ℕ) → CoreOrJoining s x → Pins s x n → status_of s n ≡ Some Joining → IsRegistered s x n ⊎ SaysSo s x n
-  pub ceased : (x n : List ℕ) → CoreOrJoining s x → Pins s x n → status_of s n ≡ Some HasCeased
+  pub ceased : (x n : List ℕ) → CoreOrJoining s x → Pins s x n → status_of s n ≡ Some CeasedStatus
       → SaysSo s x n ⊎ IsUnderWay s n x Forget
-  pub forgets : (n x : List ℕ) → IsUnderWay s n x Forget → status_of s n ≡ Some HasCeased
+  pub forgets : (n x : List ℕ) → IsUnderWay s n x Forget → status_of s n ≡ Some CeasedStatus

@@ -3,14 +3,14 @@ use Rattle.std.specs.Prelude.{◌≡◌, ℕ, ◌<◌, true, List, [], ◌⊎◌
 use Rattle.tap_name.specs.Prefix.{lcp}
 use Rattle.tap_name.specs.Names.{Among}
 use Rattle.tap_link.specs.declared.kind.Kind.{Kind}
-use Rattle.tap_link.specs.declared.kind.Kind.TheVariants.{Pin, Settled, Leaving as Marked}
+use Rattle.tap_link.specs.declared.kind.Kind.TheVariants.{Pin, Settled, Leaving as LeavingKind}
 use Rattle.tap_wire.specs.declared.frame.Body.{Body}
 use Rattle.tap_wire.specs.declared.frame.Body.TheVariants.{Forget, Gone, Leave, Left, Link, Release}
 use Rattle.tap_wire.specs.declared.kind.Kind.{Kind as FrameKind}
 use Rattle.tap_wire.specs.declared.kind.Kind.TheVariants.{Seek, Tell, Hello, Heard, Ack, Done, Find, Answer, Cast, CastAck}
 use Rattle.tap_wire.specs.Kind.{kind_of}
 use Rattle.tap_rule.specs.Node.{NodeState, link_to}
-use Rattle.tap_rule.specs.Node.Status.{Gone as HasGone, Joining, Leaving}
+use Rattle.tap_rule.specs.Node.Status.{Gone as GoneStatus, Joining, Leaving}
 use Rattle.tap_safety.specs.Remembered.{Leaver}
 use Rattle.tap_safety.specs.System.{System, HasLink, IsCoreNode, IsUnderWay}
 use Rattle.tap_safety.specs.Ties.{status_of}
@@ -50,7 +50,7 @@ FitsSlot s a n (Some r) = (r ≡ n → ⊥) × (lcp a n < lcp n r)
 
 -- a has a settled link in the slot of n, if another core node is in it
 pub record HasReplaced (s : System) (a n : List ℕ) : Type 0 where
-  pub marked : HasLink s a n Marked
+  pub marked : HasLink s a n LeavingKind
   pub filled : HasOther s a n → (to : List ℕ) × HasLink s a to Settled × (lcp a n < lcp n to)
 
 -- while n leaves: whom it awaits were holders; its links are as at its start, and settled; and who has a link to it was a holder
@@ -66,12 +66,12 @@ pub record WhileLeaving (s : System) (leaver : Leaver) (state : NodeState) : Typ
 pub record WhileDeparting (s : System) (leaver : Leaver) : Type 0 where
   pub joining : (x : List ℕ) → status_of s x ≡ Some Joining → ⊥
   pub pins : (x t : List ℕ) → HasLink s x t Pin → ⊥
-  pub marked : (x t : List ℕ) → HasLink s x t Marked → t ≡ leaver.name
+  pub marked : (x t : List ℕ) → HasLink s x t LeavingKind → t ≡ leaver.name
   pub leaving : (x : List ℕ) → status_of s x ≡ Some Leaving → x ≡ leaver.name
   pub frames : (x t : List ℕ) (body : Body) → IsUnderWay s x t body → may_be_then body
-  pub ends : (status_of s leaver.name ≡ Some Leaving) ⊎ (status_of s leaver.name ≡ Some HasGone)
+  pub ends : (status_of s leaver.name ≡ Some Leaving) ⊎ (status_of s leaver.name ≡ Some GoneStatus)
   pub goes : (state : NodeState) → s.node leaver.name ≡ Some state → state.status ≡ Leaving → WhileLeaving s leaver state
-  pub gone : status_of s leaver.name ≡ Some HasGone → (y : List ℕ) (kind : Kind) → HasLink s y leaver.name kind
+  pub gone : status_of s leaver.name ≡ Some GoneStatus → (y : List ℕ) (kind : Kind) → HasLink s y leaver.name kind
       → HasReplaced s y leaver.name × IsUnderWay s leaver.name y Gone
   pub leaves : (x a : List ℕ) (replacement : Option (List ℕ)) → IsUnderWay s x a (Leave replacement)
       → (x ≡ leaver.name) × HasLink s a x Settled × FitsSlot s a x replacement
@@ -82,5 +82,5 @@ pub record WhileDeparting (s : System) (leaver : Leaver) : Type 0 where
 
 pub record Departure (s : System) : Type 0 where
   pub during : (leaver : Leaver) → Departs s leaver → WhileDeparting s leaver
-  pub marked : (x t : List ℕ) → s.departing ≡ None → HasLink s x t Marked → ⊥
+  pub marked : (x t : List ℕ) → s.departing ≡ None → HasLink s x t LeavingKind → ⊥
   pub leaving : (x : List ℕ) → s.departing ≡ None → status_of s x ≡ Some Leaving → ⊥

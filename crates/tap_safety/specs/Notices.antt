@@ -9,7 +9,7 @@ use Rattle.tap_wire.specs.declared.frame.Frame.{Frame}
 use Rattle.tap_wire.specs.declared.kind.Kind.{Kind}
 use Rattle.tap_wire.specs.Kind.{kind_of}
 use Rattle.tap_rule.specs.Node.{NodeState}
-use Rattle.tap_rule.specs.Node.Status.{Ceased as HasCeased, Gone as HasGone, Leaving}
+use Rattle.tap_rule.specs.Node.Status.{Ceased as CeasedStatus, Gone as GoneStatus, Leaving}
 use Rattle.tap_rule.specs.Reaction.{Message}
 use Rattle.tap_rule.specs.Sent.{IsAmong}
 use Rattle.tap_safety.specs.Remembered.{Leaver}
@@ -54,11 +54,11 @@ pub record IsGoneLeaver (s : System) (x : List ℕ) : Type 0 where
   pub leaver : Leaver
   pub departs : Departs s leaver
   pub is : leaver.name ≡ x
-  pub gone : status_of s x ≡ Some HasGone
+  pub gone : status_of s x ≡ Some GoneStatus
 
 -- a has answered n: its link to n is marked, and the slot filled by another; or it has none any more, and n is gone
 abbrev pub HasAnswered : System → List ℕ → List ℕ → Type 0
-HasAnswered s a n = HasReplaced s a n ⊎ ((link_of s a n ≡ None) × (status_of s n ≡ Some HasGone))
+HasAnswered s a n = HasReplaced s a n ⊎ ((link_of s a n ≡ None) × (status_of s n ≡ Some GoneStatus))
 
 -- While nobody departs no notice is under way. A Leave goes to one that its sender awaits, and a Left comes from one that its receiver awaits;
 -- of each that is awaited there is one of the two; and a Gone comes from the leaver, once it is gone. A holder of the leaver that isn't awaited
@@ -72,7 +72,7 @@ pub record Notices (s : System) : Type 0 where
   pub answered : (leaver : Leaver) (a : List ℕ) → Departs s leaver → Among a leaver.holders → (IsAwaiting s leaver.name a → ⊥)
       → HasAnswered s a leaver.name
   pub words : (leaver : Leaver) (x t : List ℕ) (version : ℕ) → Departs s leaver → IsUnderWay s x t (Link version true)
-      → (status_of s t ≡ Some Leaving → ⊥) × (status_of s t ≡ Some HasCeased → ⊥)
+      → (status_of s t ≡ Some Leaving → ⊥) × (status_of s t ≡ Some CeasedStatus → ⊥)
 
 -- A step while nobody departs: nobody does afterwards, nobody leaves, and no notice comes.
 pub record IsAtPeace (s s' : System) : Type 0 where
@@ -101,7 +101,7 @@ pub record LeavesNotices (s s' : System) : Type 0 where
   pub status : (x : List ℕ) → status_of s' x ≡ status_of s x
   pub links : (leaver : Leaver) (a t : List ℕ) → Departs s leaver → link_of s' a t ≡ link_of s a t
   pub words : (x t : List ℕ) (version : ℕ) → IsUnderWay s' x t (Link version true) → IsUnderWay s x t (Link version true)
-      ⊎ ((status_of s' t ≡ Some Leaving → ⊥) × (status_of s' t ≡ Some HasCeased → ⊥))
+      ⊎ ((status_of s' t ≡ Some Leaving → ⊥) × (status_of s' t ≡ Some CeasedStatus → ⊥))
 
 -- a frame that is no notice, whose taker keeps its links and whom it awaits, and says of no new link
 pub record IsNoticeless (s s' : System) (number : ℕ) (frame : Frame) (step : TakesFrame s s' number frame) : Type 0 where

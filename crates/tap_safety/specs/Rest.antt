@@ -1,7 +1,7 @@
 -- What is so while no frame is under way.
 use Rattle.std.specs.Prelude.{◌≡◌, ◌↔◌, ℕ, List, [], Some}
 use Rattle.tap_name.specs.Settings.{SettingsValue}
-use Rattle.tap_link.specs.declared.kind.Kind.TheVariants.{Leaving as Marked}
+use Rattle.tap_link.specs.declared.kind.Kind.TheVariants.{Leaving as LeavingKind}
 use Rattle.tap_rule.specs.Node.Status.{Core, Joining, Leaving}
 use Rattle.tap_safety.specs.Remembered.{OpenSession}
 use Rattle.tap_safety.specs.System.{System, HasLink}
@@ -19,7 +19,7 @@ pub record Rest (s : System) : Type 0 where
   pub leaving : (x : List ℕ) → status_of s x ≡ Some Leaving → ⊥
   pub core : (x : List ℕ) × (status_of s x ≡ Some Core)
   pub pins : (x t : List ℕ) → Pins s x t → ⊥
-  pub marked : (x t : List ℕ) → HasLink s x t Marked → ⊥
+  pub marked : (x t : List ℕ) → HasLink s x t LeavingKind → ⊥
   pub holders : (x t : List ℕ) → status_of s t ≡ Some Core → Has s x t ↔ IsRegistered s x t
 
 abbrev pub RestHolds : Type 0

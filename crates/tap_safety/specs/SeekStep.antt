@@ -3,7 +3,7 @@ use Rattle.std.specs.Prelude.{◌≡◌, ℕ, ◌<◌, ◌≤◌, List, ◌⊎�
 use Rattle.tap_name.specs.Name.{IsName}
 use Rattle.tap_name.specs.Prefix.{lcp}
 use Rattle.tap_name.specs.Settings.{SettingsValue}
-use Rattle.tap_link.specs.declared.kind.Kind.TheVariants.{Pin, Settled, Leaving as Marked}
+use Rattle.tap_link.specs.declared.kind.Kind.TheVariants.{Pin, Settled, Leaving as LeavingKind}
 use Rattle.tap_rule.specs.Node.{NodeState, link_to}
 use Rattle.tap_safety.specs.Frames.{HelloFields, hello_body}
 use Rattle.tap_safety.specs.Seeking.{IsSeeker, IsUnknown}
@@ -37,7 +37,7 @@ pub record IsGreeted (p : SettingsValue) (s s' : System) (x b : List ℕ) : Type
 pub record BeforeSeek (p : SettingsValue) (s : System) : Type 0 where
   pub names : (y : List ℕ) → IsCoreNode s y → IsName p y
   pub settled : SettledCore s
-  pub unmarked : (y t : List ℕ) → HasLink s y t Marked → ⊥
+  pub unmarked : (y t : List ℕ) → HasLink s y t LeavingKind → ⊥
   pub hole_free : HoleFree p s
 
 -- b is a new joiner: the core node x is its surrogate, and has greeted it
@@ -63,7 +63,7 @@ pub record SeatsJoiner (p : SettingsValue) (s s' : System) (number : ℕ) (w x b
 pub record BeforeSeat (p : SettingsValue) (s : System) (x b : List ℕ) : Type 0 where
   pub names : (y : List ℕ) → IsCoreNode s y → IsName p y
   pub settled : SettledCore s
-  pub unmarked : (y t : List ℕ) → HasLink s y t Marked → ⊥
+  pub unmarked : (y t : List ℕ) → HasLink s y t LeavingKind → ⊥
   pub core : IsCoreNode s x
   pub seeker : IsSeeker s b
   pub unknown : IsUnknown s b

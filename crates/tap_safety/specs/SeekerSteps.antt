@@ -3,7 +3,7 @@ use Rattle.std.specs.Prelude.{◌≡◌, ℕ, List, [], ◌∷◌, ◌⊎◌}
 use Rattle.tap_name.specs.Settings.{SettingsValue}
 use Rattle.tap_name.specs.declared.slot.Offered.{Offered}
 use Rattle.tap_name.specs.declared.slot.Slot.{Slot}
-use Rattle.tap_link.specs.declared.kind.Kind.TheVariants.{Leaving as Marked}
+use Rattle.tap_link.specs.declared.kind.Kind.TheVariants.{Leaving as LeavingKind}
 use Rattle.tap_wire.specs.declared.frame.Body.{Body}
 use Rattle.tap_wire.specs.declared.frame.Body.TheVariants.{Hello, Seek, Tell}
 use Rattle.tap_wire.specs.declared.frame.Frame.{Frame}
@@ -82,7 +82,7 @@ pub record BeforeJoin (p : SettingsValue) (s : System) : Type 0 where
   pub soft : NamesSoft s
   pub tells : TellsAreSound p s
   pub ends : HaveEnds s
-  pub unmarked : (x t : List ℕ) → HasLink s x t Marked → ⊥
+  pub unmarked : (x t : List ℕ) → HasLink s x t LeavingKind → ⊥
 
 -- A Seek goes on: its taker stays what it is, with its links, and sends it to a core node, and nothing else.
 pub record SeekGoesOn (s s' : System) (number : ℕ) (w x b t : List ℕ) : Type 0 where

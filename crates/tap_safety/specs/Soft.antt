@@ -2,13 +2,13 @@
 use Rattle.std.specs.Prelude.{◌≡◌, ℕ, true, false, List, ◌⊎◌, Option, None, Some}
 use Rattle.tap_name.specs.declared.slot.Offered.{Offered}
 use Rattle.tap_link.specs.declared.kind.Kind.{Kind}
-use Rattle.tap_link.specs.declared.kind.Kind.TheVariants.{Pin, Settled, Leaving as Marked}
+use Rattle.tap_link.specs.declared.kind.Kind.TheVariants.{Pin, Settled, Leaving as LeavingKind}
 use Rattle.tap_join.specs.Hello.{hello_names}
 use Rattle.tap_wire.specs.declared.frame.Body.{Body}
 use Rattle.tap_wire.specs.declared.frame.Body.TheVariants.{Hello, Leave, Release, Seek, Tell}
 use Rattle.tap_wire.specs.declared.frame.Frame.{Frame}
 use Rattle.tap_rule.specs.Node.{NodeState, link_to}
-use Rattle.tap_rule.specs.Node.Status.{Ceased as HasCeased}
+use Rattle.tap_rule.specs.Node.Status.{Ceased as CeasedStatus}
 use Rattle.tap_rule.specs.Reaction.{Message}
 use Rattle.tap_rule.specs.Sent.{IsAmong}
 use Rattle.tap_safety.specs.Frames.{HelloFields, hello_body}
@@ -19,7 +19,7 @@ use Rattle.tap_safety.specs.System.{System, HasLink, IsCoreNode, IsJoiner, IsUnd
 pub record IsCeased (s : System) (x : List ℕ) : Type 0 where
   pub state : NodeState
   pub is : s.node x ≡ Some state
-  pub ceased : state.status ≡ HasCeased
+  pub ceased : state.status ≡ CeasedStatus
 
 -- a joiner, a core node or one that has ceased: a joining node that isn't started, and one that is gone, is none
 abbrev pub IsSoft : System → List ℕ → Type 0
@@ -49,7 +49,7 @@ pub record NamesSoft (s : System) : Type 0 where
 abbrev pub IsSoundLink : System → List ℕ → Kind → Type 0
 IsSoundLink s t Pin = IsSoft s t
 IsSoundLink s t Settled = IsCoreNode s t
-IsSoundLink s t Marked = ⊥
+IsSoundLink s t LeavingKind = ⊥
 
 -- each new link is to such a node
 abbrev pub AddsSoundLinks : System → NodeState → NodeState → Type 0

@@ -4,7 +4,7 @@ use Rattle.tap_name.specs.Name.{IsName}
 use Rattle.tap_name.specs.Prefix.{lcp}
 use Rattle.tap_name.specs.Settings.{SettingsValue}
 use Rattle.tap_name.specs.declared.slot.Slot.{Slot}
-use Rattle.tap_link.specs.declared.kind.Kind.TheVariants.{Pin, Settled, Leaving as Marked}
+use Rattle.tap_link.specs.declared.kind.Kind.TheVariants.{Pin, Settled, Leaving as LeavingKind}
 use Rattle.tap_multicast.specs.Covers.{level_kept}
 use Rattle.tap_wire.specs.declared.frame.Frame.{Frame}
 use Rattle.tap_wire.specs.declared.frame.TellFields.{TellFields}
@@ -89,7 +89,7 @@ pub record TakesKnownTell (s s' : System) (number : ℕ) (w x : List ℕ) (tell 
 pub record BeforeTell (p : SettingsValue) (s : System) : Type 0 where
   pub names : (x : List ℕ) → IsCoreNode s x → IsName p x
   pub settled : SettledCore s
-  pub unmarked : (x t : List ℕ) → HasLink s x t Marked → ⊥
+  pub unmarked : (x t : List ℕ) → HasLink s x t LeavingKind → ⊥
   pub covered : Covered p s
   pub hole_free : HoleFree p s
   pub cover : Cover p s

@@ -5,7 +5,7 @@ use Rattle.tap_link.specs.declared.kind.Kind.TheVariants.{Pin}
 use Rattle.tap_table.specs.declared.tie.Tie.{Tie}
 use Rattle.tap_wire.specs.declared.frame.Frame.{Frame}
 use Rattle.tap_rule.specs.Node.{NodeState, link_to, word_of}
-use Rattle.tap_rule.specs.Node.Status.{Ceased as HasCeased}
+use Rattle.tap_rule.specs.Node.Status.{Ceased as CeasedStatus}
 use Rattle.tap_rule.specs.Reaction.{Message}
 use Rattle.tap_rule.specs.Sent.{IsAmong}
 use Rattle.tap_wire.specs.declared.frame.Body.TheVariants.{Forget, Link, Release}
@@ -38,7 +38,7 @@ pub record SaysWords (s s' : System) (x : List ℕ) : Type 0 where
 -- and of the pins that it keeps on a node that has ceased a Forget still comes
 pub record KeepsForgets (s s' : System) (x : List ℕ) : Type 0 where
   pub still : (n y : List ℕ) → IsUnderWay s n y Forget → IsUnderWay s' n y Forget ⊎ ((y ≡ x) × (link_of s' y n ≡ Some Pin → ⊥))
-  pub was : (n y : List ℕ) → IsUnderWay s' n y Forget → IsUnderWay s n y Forget ⊎ (status_of s' n ≡ Some HasCeased)
+  pub was : (n y : List ℕ) → IsUnderWay s' n y Forget → IsUnderWay s n y Forget ⊎ (status_of s' n ≡ Some CeasedStatus)
 
 -- Of a node and the words that it sends: a link that changes has its word, which says whether it is there, with a number that the node's
 -- stamp had not yet given; there is one word at most to each name; and its register stays.

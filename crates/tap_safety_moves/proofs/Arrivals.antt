@@ -7,7 +7,7 @@ use Rattle.tap_wire.specs.declared.frame.Frame.{Frame}
 use Rattle.tap_wire.specs.declared.frame.Body.{Body}
 use Rattle.tap_rule.specs.HasRule.{taken_by, HasRule}
 use Rattle.tap_rule.specs.Node.{NodeState, Status, name_of}
-use Rattle.tap_rule.specs.Node.Status.{Ceased as HasCeased, Core, Gone, Joining, Leaving}
+use Rattle.tap_rule.specs.Node.Status.{Ceased as CeasedStatus, Core, Gone, Joining, Leaving}
 use Rattle.tap_rule.specs.Sent.{IsAmong}
 use Rattle.tap_safety.specs.FewSessions.{SessionsAreFew}
 use Rattle.tap_safety.specs.Invariant.{Basis}
@@ -46,23 +46,23 @@ contained (first ∷ others) status (inl is) = (0, omega arith, sym is)
 contained (first ∷ others) status (inr later) = let place = contained others status later in (suc place.0, omega arith, place.2)
 
 -- a Link has a rule at each node but one that is gone
-hears_or_gone : (status : Status) → IsAmong status (Joining ∷ Core ∷ Leaving ∷ HasCeased ∷ []) ⊎ (status ≡ Gone)
+hears_or_gone : (status : Status) → IsAmong status (Joining ∷ Core ∷ Leaving ∷ CeasedStatus ∷ []) ⊎ (status ≡ Gone)
 hears_or_gone Joining = inl (inl refl)
 hears_or_gone Core = inl (inr (inl refl))
 hears_or_gone Leaving = inl (inr (inr (inl refl)))
 hears_or_gone Gone = inr refl
-hears_or_gone HasCeased = inl (inr (inr (inr (inl refl))))
+hears_or_gone CeasedStatus = inl (inr (inr (inr (inl refl))))
 
 module _ (status : Status) where
-  at_tell : (status ≡ Core) ⊎ ((status ≡ Joining) ⊎ (status ≡ HasCeased)) → Contains (Joining ∷ Core ∷ HasCeased ∷ []) status
-  at_tell (inl core) = contained (Joining ∷ Core ∷ HasCeased ∷ []) status (inr (inl core))
-  at_tell (inr (inl joins)) = contained (Joining ∷ Core ∷ HasCeased ∷ []) status (inl joins)
-  at_tell (inr (inr ceased)) = contained (Joining ∷ Core ∷ HasCeased ∷ []) status (inr (inr (inl ceased)))
+  at_tell : (status ≡ Core) ⊎ ((status ≡ Joining) ⊎ (status ≡ CeasedStatus)) → Contains (Joining ∷ Core ∷ CeasedStatus ∷ []) status
+  at_tell (inl core) = contained (Joining ∷ Core ∷ CeasedStatus ∷ []) status (inr (inl core))
+  at_tell (inr (inl joins)) = contained (Joining ∷ Core ∷ CeasedStatus ∷ []) status (inl joins)
+  at_tell (inr (inr ceased)) = contained (Joining ∷ Core ∷ CeasedStatus ∷ []) status (inr (inr (inl ceased)))
 
-  at_answer : (status ≡ Joining) ⊎ ((status ≡ Core) ⊎ (status ≡ HasCeased)) → Contains (Joining ∷ Core ∷ HasCeased ∷ []) status
-  at_answer (inl joins) = contained (Joining ∷ Core ∷ HasCeased ∷ []) status (inl joins)
-  at_answer (inr (inl core)) = contained (Joining ∷ Core ∷ HasCeased ∷ []) status (inr (inl core))
-  at_answer (inr (inr ceased)) = contained (Joining ∷ Core ∷ HasCeased ∷ []) status (inr (inr (inl ceased)))
+  at_answer : (status ≡ Joining) ⊎ ((status ≡ Core) ⊎ (status ≡ CeasedStatus)) → Contains (Joining ∷ Core ∷ CeasedStatus ∷ []) status
+  at_answer (inl joins) = contained (Joining ∷ Core ∷ CeasedStatus ∷ []) status (inl joins)
+  at_answer (inr (inl core)) = contained (Joining ∷ Core ∷ CeasedStatus ∷ []) status (inr (inl core))
+  at_answer (inr (inr ceased)) = contained (Joining ∷ Core ∷ CeasedStatus ∷ []) status (inr (inr (inl ceased)))
 
   -- a Release and a Forget alike
   at_free : ((status ≡ Joining) ⊎ (status ≡ Core)) ⊎ IsOver status → Contains (Joining ∷ Core ∷ []) status ⊎ IsOver status
@@ -70,9 +70,9 @@ module _ (status : Status) where
   at_free (inl (inr core)) = inl (contained (Joining ∷ Core ∷ []) status (inr (inl core)))
   at_free (inr over) = inr over
 
-  at_link : Contains (Joining ∷ Core ∷ Leaving ∷ HasCeased ∷ []) status ⊎ (status ≡ Gone)
+  at_link : Contains (Joining ∷ Core ∷ Leaving ∷ CeasedStatus ∷ []) status ⊎ (status ≡ Gone)
   at_link = elim (hears_or_gone status) [
-    | inl hears ↦ inl (contained (Joining ∷ Core ∷ Leaving ∷ HasCeased ∷ []) status hears)
+    | inl hears ↦ inl (contained (Joining ∷ Core ∷ Leaving ∷ CeasedStatus ∷ []) status hears)
     | inr gone ↦ inr gone
   ]
 

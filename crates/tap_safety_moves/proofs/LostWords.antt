@@ -7,7 +7,7 @@ use Rattle.tap_wire.specs.declared.frame.Body.TheVariants.{Forget, Link, Release
 use Rattle.tap_wire.specs.declared.frame.Frame.{Frame}
 use Rattle.tap_rule.specs.Laws.{frame_to}
 use Rattle.tap_rule.specs.Node.{NodeState, name_of}
-use Rattle.tap_rule.specs.Node.Status.{Ceased as HasCeased, Gone}
+use Rattle.tap_rule.specs.Node.Status.{Ceased as CeasedStatus, Gone}
 use Rattle.tap_safety.specs.System.{System}
 use Rattle.tap_safety.specs.Ties.{link_of, register_in, register_of, release_frame}
 use Rattle.tap_safety.specs.WordSteps.{KeepsForgets, SaysWords}
@@ -45,7 +45,7 @@ module _ (p : SettingsValue) (s : System) (number : ℕ) (node : NodeState) (fro
       let was = is.invariant.ended.none own t Pin (at_link s own t Pin (sym (linked_same p s number node from body is own t) ∙ pin)) in
       elim over [
         | inl gone ↦ was.0 (status_seen s own node Gone is.at gone)
-        | inr ceased ↦ was.1 (status_seen s own node HasCeased is.at ceased)
+        | inr ceased ↦ was.1 (status_seen s own node CeasedStatus is.at ceased)
       ]
 
   register_same : (t x : List ℕ) → register_of left t x ≡ register_of s t x

@@ -8,7 +8,7 @@ use Rattle.tap_name.specs.Settings.{SettingsValue}
 use Rattle.tap_name.proofs.Membership.{are_distinct-Decides, few_among, has_name-Decides, has_name-no}
 use Rattle.tap_name.proofs.Sorted.{distinct-from_ascending}
 use Rattle.tap_link.specs.declared.kind.Kind.{Kind}
-use Rattle.tap_link.specs.declared.kind.Kind.TheVariants.{Leaving as Marked, Pin, Settled}
+use Rattle.tap_link.specs.declared.kind.Kind.TheVariants.{Leaving as LeavingKind, Pin, Settled}
 use Rattle.tap_pointer.specs.Reconcile.{wanted_hop}
 use Rattle.tap_table.specs.ByName.{targets_by_name}
 use Rattle.tap_table.specs.Table.{IsTable, TableValue}
@@ -44,15 +44,15 @@ soft_node s x (inr (inl core)) = record { state = core.state; is = core.is }
 soft_node s x (inr (inr ceased)) = record { state = ceased.state; is = ceased.is }
 
 -- a node links to nodes while no link is marked
-linked_node : (p : SettingsValue) (s : System) → Basis p s → ((x t : List ℕ) → HasLink s x t Marked → ⊥) → (x t : List ℕ) (kind : Kind)
+linked_node : (p : SettingsValue) (s : System) → Basis p s → ((x t : List ℕ) → HasLink s x t LeavingKind → ⊥) → (x t : List ℕ) (kind : Kind)
     → HasLink s x t kind → HasNode s t
 linked_node p s inv unmarked x t Pin link = soft_node s t (inv.soft.pins x t link)
 linked_node p s inv unmarked x t Settled link =
     let core = inv.soft.settled x t link in record { state = core.state; is = core.is }
-linked_node p s inv unmarked x t Marked link = absurd (unmarked x t link)
+linked_node p s inv unmarked x t LeavingKind link = absurd (unmarked x t link)
 
 -- so its links are at most 255: it is a node itself, and there are at most 256
-few_links : (p : SettingsValue) (s : System) → Basis p s → ((x t : List ℕ) → HasLink s x t Marked → ⊥) → (x : List ℕ) (node : NodeState)
+few_links : (p : SettingsValue) (s : System) → Basis p s → ((x t : List ℕ) → HasLink s x t LeavingKind → ⊥) → (x : List ℕ) (node : NodeState)
     → s.node x ≡ Some node → IsTable node.ties.table → node.ties.table.owner ≡ x → length (targets_by_name node.ties.table) ≤ 255
 few_links p s inv unmarked x node at valid owner =
     let t : TableValue = node.ties.table in

@@ -2,9 +2,9 @@
 use Rattle.std.proofs.Common.{◌≡◌, ◌⊎◌, ℕ, List, [], ◌∷◌, None, refl, inl, inr}
 use Rattle.tap_name.specs.Settings.{SettingsValue}
 use Rattle.tap_wire.specs.declared.frame.Body.{Body}
-use Rattle.tap_wire.specs.declared.frame.Body.TheVariants.{Done, Forget, Gone as GoneNotice, Leave as LeaveNotice, Left, Release}
+use Rattle.tap_wire.specs.declared.frame.Body.TheVariants.{Done, Forget, Gone, Leave, Left, Release}
 use Rattle.tap_rule.specs.Event.{Start}
-use Rattle.tap_rule.specs.Event.Start.{Leave}
+use Rattle.tap_rule.specs.Event.Start.{Leave as StartLeave}
 use Rattle.tap_rule.specs.FrameRules.{frame_at_ceased, rule_of_frame}
 use Rattle.tap_rule.specs.Laws.{frame_to}
 use Rattle.tap_rule.specs.Node.{NodeState, Status}
@@ -151,9 +151,9 @@ no_rule status node from (inr ceased) = rw ceased (refl, refl)
 
 -- it is a notice, or isn't
 notice_or_not : (body : Body) → IsNotice body ⊎ (IsNotice body → ⊥)
-notice_or_not (LeaveNotice replacement) = inl tt
+notice_or_not (Leave replacement) = inl tt
 notice_or_not Left = inl tt
-notice_or_not GoneNotice = inl tt
+notice_or_not Gone = inl tt
 notice_or_not _ = inr (λ never. never)
 
 module _ (p : SettingsValue) (s : System) (number : ℕ) (node : NodeState) (from : List ℕ) (sound : SoundBasis p s) where
@@ -222,19 +222,19 @@ comes_sound p s number node from body sound here =
 -- ---- a start
 
 -- it is a departure, or isn't
-departure_or_not : (start : Start) → (start ≡ Leave) ⊎ IsNoDeparture start
-departure_or_not Leave = inl refl
+departure_or_not : (start : Start) → (start ≡ StartLeave) ⊎ IsNoDeparture start
+departure_or_not StartLeave = inl refl
 departure_or_not _ = inr tt
 
-leaving_sound : (p : SettingsValue) (s : System) (x : List ℕ) → Sound p s → may_start p s x Leave → Sound p (after_start p s x Leave)
+leaving_sound : (p : SettingsValue) (s : System) (x : List ℕ) → Sound p s → may_start p s x StartLeave → Sound p (after_start p s x StartLeave)
 leaving_sound p s x sound may =
     let inv = sound.invariant.basis in
     record {
       invariant = leaving_keeps p s x sound.invariant sound.nodes sound.askers may;
-      nodes = (start_keeps_parts p s x Leave sound.nodes inv.spelled may tt).0;
-      askers = (start_ends p s x Leave inv sound.nodes sound.askers may tt).askers;
-      few = start_few p s x Leave inv may sound.few;
-      shallow = shallow_started p s x Leave sound.nodes may sound.shallow;
+      nodes = (start_keeps_parts p s x StartLeave sound.nodes inv.spelled may tt).0;
+      askers = (start_ends p s x StartLeave inv sound.nodes sound.askers may tt).askers;
+      few = start_few p s x StartLeave inv may sound.few;
+      shallow = shallow_started p s x StartLeave sound.nodes may sound.shallow;
     }
 
 -- each other start
@@ -253,7 +253,7 @@ begins_both p s x start sound may stays =
     )
 
 begins_sound : (p : SettingsValue) (s : System) (x : List ℕ) (start : Start) → Sound p s → may_start p s x start
-    → (start ≡ Leave) ⊎ IsNoDeparture start → Sound p (after_start p s x start)
+    → (start ≡ StartLeave) ⊎ IsNoDeparture start → Sound p (after_start p s x start)
 begins_sound p s x start sound may (inl leaves) =
     rw leaves (leaving_sound p s x sound (rw leaves at may))
 begins_sound p s x start sound may (inr stays) =

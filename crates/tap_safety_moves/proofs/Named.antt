@@ -7,7 +7,7 @@ use Rattle.tap_name.specs.Settings.{SettingsValue}
 use Rattle.tap_name.specs.declared.slot.Offered.{Offered}
 use Rattle.tap_name.proofs.Membership.{among_at, few_among}
 use Rattle.tap_link.specs.declared.kind.Kind.{Kind}
-use Rattle.tap_link.specs.declared.kind.Kind.TheVariants.{Leaving as Marked, Pin, Settled}
+use Rattle.tap_link.specs.declared.kind.Kind.TheVariants.{Leaving as LeavingKind, Pin, Settled}
 use Rattle.tap_wire.specs.declared.frame.Body.{Body}
 use Rattle.tap_wire.specs.declared.frame.Body.TheVariants.{Leave, Seek}
 use Rattle.tap_rule.specs.Fit.{CouldLink, MayLink}
@@ -43,7 +43,7 @@ named_link name (first ∷ links) (inr later) = let found = named_link name link
 
 module _ (p : SettingsValue) (s : System) (inv : Basis p s) where
   -- a marked link is to the one that departs, which leaves or is gone
-  marked_node : (x t : List ℕ) → HasLink s x t Marked → HasNode s t
+  marked_node : (x t : List ℕ) → HasLink s x t LeavingKind → HasNode s t
   marked_node x t link = by_departing s.departing refl
     where
       by_departing : (departing : Option Leaver) → s.departing ≡ departing → HasNode s t
@@ -58,7 +58,7 @@ module _ (p : SettingsValue) (s : System) (inv : Basis p s) where
   linked_node : (x t : List ℕ) (kind : Kind) → HasLink s x t kind → HasNode s t
   linked_node x t Pin link = soft_node s t (inv.soft.pins x t link)
   linked_node x t Settled link = core_node s t (inv.soft.settled x t link)
-  linked_node x t Marked link = marked_node x t link
+  linked_node x t LeavingKind link = marked_node x t link
 
   offered_node : (from to : List ℕ) (hello : HelloFields) → IsUnderWay s from to (hello_body hello) → (offered : Offered)
       → IsAmong offered hello.links → HasNode s offered.name

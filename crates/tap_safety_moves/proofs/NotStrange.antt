@@ -5,7 +5,7 @@ use Rattle.std.proofs.lemmas.Bool.Decides.{eqb_tells}
 use Rattle.tap_name.specs.Settings.{SettingsValue}
 use Rattle.tap_name.specs.declared.slot.Slot.{Slot}
 use Rattle.tap_link.specs.declared.kind.Kind.{Kind}
-use Rattle.tap_link.specs.declared.kind.Kind.TheVariants.{Leaving as Marked, Pin, Settled}
+use Rattle.tap_link.specs.declared.kind.Kind.TheVariants.{Leaving as LeavingKind, Pin, Settled}
 use Rattle.tap_wire.specs.declared.frame.Body.{Body}
 use Rattle.tap_wire.specs.declared.frame.Body.TheVariants.{Seek}
 use Rattle.tap_wire.specs.declared.frame.TellFields.{TellFields}
@@ -47,10 +47,10 @@ module _ (p : SettingsValue) (s : System) (number : ℕ) (node : NodeState) (fro
           absurd ((is.invariant.seeking.unknown joiner seeker).covered (name_of node) level
           (record { state = node; is = is.at; cover = kept }))
 
-      staying : link_to node joiner ≢ Some Marked
+      staying : link_to node joiner ≢ Some LeavingKind
       staying marked =
           (is.invariant.seeking.unknown joiner seeker).linked (name_of node)
-          (record { kind = Marked; link = record { state = node; is = is.at; link = marked } })
+          (record { kind = LeavingKind; link = record { state = node; is = is.at; link = marked } })
 
   -- ---- a Tell
 
@@ -63,8 +63,8 @@ module _ (p : SettingsValue) (s : System) (number : ℕ) (node : NodeState) (fro
     none_or_pin joins (Some Settled) settled =
         let link : HasLink s (name_of node) tell.joiner Settled = record { state = node; is = is.at; link = settled } in
         absurd (core_or_joiner s tell.joiner (is.invariant.soft.settled (name_of node) tell.joiner link) joins)
-    none_or_pin joins (Some Marked) marked =
-        let link : HasLink s (name_of node) tell.joiner Marked = record { state = node; is = is.at; link = marked } in
+    none_or_pin joins (Some LeavingKind) marked =
+        let link : HasLink s (name_of node) tell.joiner LeavingKind = record { state = node; is = is.at; link = marked } in
         absurd (is.invariant.departure.marked (name_of node) tell.joiner
         (none_departs p s number node from (tell_body tell watch) is (λ never. never)) link)
 

@@ -4,7 +4,7 @@ use Rattle.std.specs.Prelude.{IfSome, is_none}
 use Rattle.tap_table.specs.Levels.{sent_from}
 use Rattle.tap_table.specs.Table.{IsTable}
 use Rattle.tap_cast.specs.declared.casts.CastTurn.{CastTurn}
-use Rattle.tap_cast.specs.declared.casts.CastTurn.TheVariants.{Already as AlreadyCast, Now as CastNow}
+use Rattle.tap_cast.specs.declared.casts.CastTurn.TheVariants.{Already as CastAlready, Now as CastNow}
 use Rattle.tap_cast.specs.declared.target.CastTarget.{CastTarget}
 use Rattle.tap_cast.specs.Casts.{level_of_cast, turn_of}
 use Rattle.tap_cast.specs.Targets.{cast_targets}
@@ -47,7 +47,7 @@ module _ (node : NodeState) (valid : IsTable node.ties.table) where
 
   -- each target is at a level above the copy's, and so a copy for it, one deeper, is no deeper than its level
   abbrev IsAbove : ℕ → CastTurn → Type 0
-  IsAbove level AlreadyCast = Unit {0}
+  IsAbove level CastAlready = Unit {0}
   IsAbove level (CastNow first targets) = All (λ target. level < target.level) targets
 
   above : (copy : Copy) → IsAbove copy.level (turn_of node.casts node.ties.table copy.cast copy.level)
@@ -56,7 +56,7 @@ module _ (node : NodeState) (valid : IsTable node.ties.table) where
       targets : List CastTarget
       targets = cast_targets node.ties.table copy.level (sent_from node.ties.table.settings.digits (level_of_cast node.casts copy.cast))
 
-      by : (kept : Bool) → IsAbove copy.level (cond kept AlreadyCast (CastNow (is_none (level_of_cast node.casts copy.cast)) targets))
+      by : (kept : Bool) → IsAbove copy.level (cond kept CastAlready (CastNow (is_none (level_of_cast node.casts copy.cast)) targets))
       by true = tt
       by false = λ k d within. (targets_are node.ties.table valid copy.level _ k d within).above
 

@@ -10,7 +10,7 @@ use Rattle.tap_wire.specs.declared.frame.Frame.{Frame}
 use Rattle.tap_wire.specs.declared.frame.TellFields.{TellFields}
 use Rattle.tap_rule.specs.Laws.{frame_to}
 use Rattle.tap_rule.specs.Node.{NodeState, Status, join_session_at, name_of}
-use Rattle.tap_rule.specs.Node.Status.{Ceased as HasCeased, Core, Gone, Joining, Leaving}
+use Rattle.tap_rule.specs.Node.Status.{Ceased as CeasedStatus, Core, Gone, Joining, Leaving}
 use Rattle.tap_safety.specs.Bookkeeping.{holds_sessions}
 use Rattle.tap_safety.specs.Departing.{may_be_then}
 use Rattle.tap_safety.specs.Frames.{HelloFields, hello_body, tell_body}
@@ -32,7 +32,7 @@ not_leaving Joining stays = inl (inl refl)
 not_leaving Core stays = inl (inr refl)
 not_leaving Leaving stays = absurd (stays refl)
 not_leaving Gone stays = inr (inl refl)
-not_leaving HasCeased stays = inr (inr refl)
+not_leaving CeasedStatus stays = inr (inr refl)
 
 -- a node that neither joins nor leaves, and hasn't ended, is core
 only_core : (status : Status) → (status ≡ Joining → ⊥) → (status ≡ Leaving → ⊥) → (IsOver status → ⊥) → status ≡ Core
@@ -40,15 +40,15 @@ only_core Joining joins leaves over = absurd (joins refl)
 only_core Core joins leaves over = refl
 only_core Leaving joins leaves over = absurd (leaves refl)
 only_core Gone joins leaves over = absurd (over (inl refl))
-only_core HasCeased joins leaves over = absurd (over (inr refl))
+only_core CeasedStatus joins leaves over = absurd (over (inr refl))
 
 -- who may have sessions open joins, is core or has ceased
-holding : (status : Status) → holds_sessions status → (status ≡ Joining) ⊎ ((status ≡ Core) ⊎ (status ≡ HasCeased))
+holding : (status : Status) → holds_sessions status → (status ≡ Joining) ⊎ ((status ≡ Core) ⊎ (status ≡ CeasedStatus))
 holding Joining holds = inl refl
 holding Core holds = inr (inl refl)
 holding Leaving holds = absurd holds
 holding Gone holds = absurd holds
-holding HasCeased holds = inr (inr refl)
+holding CeasedStatus holds = inr (inr refl)
 
 -- who is core or leaving, and isn't leaving, is core
 stays_core : (status : Status) → (status ≡ Leaving → ⊥) → (status ≡ Core) ⊎ (status ≡ Leaving) → status ≡ Core
@@ -73,12 +73,12 @@ module _ (p : SettingsValue) (s : System) (number : ℕ) (node : NodeState) (fro
       let same : core.state ≡ node = cc in
       subst (λ (n : NodeState). (n.status ≡ Core) ⊎ (n.status ≡ Leaving)) same core.core
 
-  ceased_here : IsCeased s (name_of node) → node.status ≡ HasCeased
+  ceased_here : IsCeased s (name_of node) → node.status ≡ CeasedStatus
   ceased_here ceased =
       let there = ceased.is in
       let here = is.at in
       let same : ceased.state ≡ node = cc in
-      subst (λ (n : NodeState). n.status ≡ HasCeased) same ceased.ceased
+      subst (λ (n : NodeState). n.status ≡ CeasedStatus) same ceased.ceased
 
   -- nobody departs while such a frame is under way, so the node isn't leaving
   module _ (never : may_be_then body → ⊥) where
@@ -96,7 +96,7 @@ module _ (p : SettingsValue) (s : System) (number : ℕ) (node : NodeState) (fro
     core_stays : IsCoreNode s (name_of node) → node.status ≡ Core
     core_stays core = stays_core node.status stays (core_here core)
 
-    soft_stays : IsSoft s (name_of node) → (node.status ≡ Core) ⊎ ((node.status ≡ Joining) ⊎ (node.status ≡ HasCeased))
+    soft_stays : IsSoft s (name_of node) → (node.status ≡ Core) ⊎ ((node.status ≡ Joining) ⊎ (node.status ≡ CeasedStatus))
     soft_stays (inl joiner) = inr (inl (joins_here s node joiner is.at))
     soft_stays (inr (inl core)) = inl (core_stays core)
     soft_stays (inr (inr ceased)) = inr (inr (ceased_here ceased))
@@ -109,7 +109,7 @@ module _ (p : SettingsValue) (s : System) (number : ℕ) (node : NodeState) (fro
         let kept = is.invariant.counted.kept (name_of node) session awaited.session node awaited.is is.at in
         (kept.0, kept.1)
 
-    pub session_taker : (node.status ≡ Joining) ⊎ ((node.status ≡ Core) ⊎ (node.status ≡ HasCeased))
+    pub session_taker : (node.status ≡ Joining) ⊎ ((node.status ≡ Core) ⊎ (node.status ≡ CeasedStatus))
     session_taker =
         let awaited = is.invariant.exact.frames number (frame_to node from body) (name_of node) session is.among belongs in
         let place = is.invariant.places.places (name_of node) session awaited.session awaited.is in
@@ -135,7 +135,7 @@ module _ (p : SettingsValue) (s : System) (number : ℕ) (node : NodeState) (fro
       (subst (IsCoreNode s) (ap (λ (f : Frame). f.to) same) one.core)
 
   pub tell_taker : (tell : TellFields) (watch : List Slot) → Arrives p s number node from (tell_body tell watch)
-      → (node.status ≡ Core) ⊎ ((node.status ≡ Joining) ⊎ (node.status ≡ HasCeased))
+      → (node.status ≡ Core) ⊎ ((node.status ≡ Joining) ⊎ (node.status ≡ CeasedStatus))
   tell_taker tell watch is =
       let body = tell_body tell watch in
       soft_stays p s number node from body is (λ never. never)
@@ -198,7 +198,7 @@ module _ (p : SettingsValue) (s : System) (number : ℕ) (node : NodeState) (fro
           (λ leaves.
           is.invariant.ends.apart number (frame_to node from body) is.among
           (leave.0 ∙ sym (during.leaving (name_of node) (at Leaving leaves))))
-          (λ over. elim over [ inl gone ↦ ended.0 (at Gone gone) | inr ceased ↦ ended.1 (at HasCeased ceased) ])
+          (λ over. elim over [ inl gone ↦ ended.0 (at Gone gone) | inr ceased ↦ ended.1 (at CeasedStatus ceased) ])
 
   -- a Left comes to a node that leaves
   pub left_taker : Arrives p s number node from Left → node.status ≡ Leaving

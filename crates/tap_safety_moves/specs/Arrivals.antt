@@ -4,11 +4,11 @@ use Rattle.std.specs.Prelude.{◌≡◌, ◌⊎◌, ◌==◌, ℕ, Bool, false, 
 use Rattle.tap_name.specs.Settings.{SettingsValue}
 use Rattle.tap_session.specs.Session.{Session}
 use Rattle.tap_wire.specs.declared.frame.Body.{Body}
-use Rattle.tap_wire.specs.declared.frame.Body.TheVariants.{Cast, Done, Forget, Gone as GoneNotice, Link, Release}
+use Rattle.tap_wire.specs.declared.frame.Body.TheVariants.{Cast, Done, Forget, Gone, Link, Release}
 use Rattle.tap_rule.specs.HasRule.{HasRule}
 use Rattle.tap_rule.specs.Laws.{frame_to}
 use Rattle.tap_rule.specs.Node.{NodeState, Status, join_session_at, name_of}
-use Rattle.tap_rule.specs.Node.Status.{Gone}
+use Rattle.tap_rule.specs.Node.Status.{Gone as GoneStatus}
 use Rattle.tap_rule.specs.QuietSteps.{IsQuiet}
 use Rattle.tap_rule.specs.Strange.{is_strange, most_depth}
 use Rattle.tap_safety.specs.FewSessions.{SessionsAreFew}
@@ -53,8 +53,8 @@ OthersAreDelivered = (p : SettingsValue) (s : System) (number : ℕ) (node : Nod
 abbrev pub MayLackRule : Status → Body → Type 0
 MayLackRule status Release = IsOver status
 MayLackRule status Forget = IsOver status
-MayLackRule status (Link version on) = status ≡ Gone
-MayLackRule status GoneNotice = Unit {0}
+MayLackRule status (Link version on) = status ≡ GoneStatus
+MayLackRule status Gone = Unit {0}
 MayLackRule status other = IsQuiet other
 
 -- for each other frame there is a rule at its receiver

@@ -13,7 +13,7 @@ use Rattle.tap_session.specs.declared.parent.Parent.{Parent}
 use Rattle.tap_session.specs.declared.parent.Parent.TheVariants.{Node, Root}
 use Rattle.tap_session.specs.Session.{Session}
 use Rattle.tap_link.specs.declared.kind.Kind.{Kind}
-use Rattle.tap_link.specs.declared.kind.Kind.TheVariants.{Leaving as Marked, Pin, Settled}
+use Rattle.tap_link.specs.declared.kind.Kind.TheVariants.{Leaving as LeavingKind, Pin, Settled}
 use Rattle.tap_table.specs.Ties.{holders_on, is_on, says_on}
 use Rattle.tap_table.proofs.Found.{linked_is_other}
 use Rattle.tap_table.proofs.HoldersFound.{on_exactly}
@@ -96,7 +96,7 @@ module _ (p : SettingsValue) (s : System) (inv : Basis p s) (nodes : AreNodes p 
   abbrev Q : List ℕ → Type 0
   Q = HasNode s
 
-  marked_node : (t : List ℕ) → HasLink s x t Marked → HasNode s t
+  marked_node : (t : List ℕ) → HasLink s x t LeavingKind → HasNode s t
   marked_node t link = by_departing s.departing refl
     where
       by_departing : (departing : Option Leaver) → s.departing ≡ departing → HasNode s t
@@ -116,7 +116,7 @@ module _ (p : SettingsValue) (s : System) (inv : Basis p s) (nodes : AreNodes p 
   linked_node : (t : List ℕ) (kind : Kind) → link_to node t ≡ Some kind → HasNode s t
   linked_node t Pin found = soft_node s t (inv.soft.pins x t (record { state = node; is = at; link = found }))
   linked_node t Settled found = core_node s t (inv.soft.settled x t (record { state = node; is = at; link = found }))
-  linked_node t Marked found = marked_node t (record { state = node; is = at; link = found })
+  linked_node t LeavingKind found = marked_node t (record { state = node; is = at; link = found })
 
   links_known : AreLinks P Q node.ties.table
   links_known t kind found =

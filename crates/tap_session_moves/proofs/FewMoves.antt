@@ -26,7 +26,7 @@ use Rattle.tap_rule.specs.Event.Start.{Abandon, Cast, Find, Join, Leave, Publish
 use Rattle.tap_rule.specs.FrameRules.{frame_at_ceased}
 use Rattle.tap_rule.specs.JoinSteps.{CoverStep, CoversAs, MeetStep}
 use Rattle.tap_rule.specs.Laws.{AnswerLaw, IsCarriedOut, frame_to}
-use Rattle.tap_rule.specs.Ceasing.{acknowledges}
+use Rattle.tap_rule.specs.Ceasing.{takes_tell_ceased}
 use Rattle.tap_rule.specs.Node.{NodeState, Status, joiner, level_of, name_of}
 use Rattle.tap_rule.specs.Node.Status.{Ceased, Core, Gone, Joining, Leaving}
 use Rattle.tap_rule.specs.QuietSteps.{IsQuietStart}
@@ -386,7 +386,7 @@ module _ (p : SettingsValue) (s : System) (number : ℕ) (node : NodeState) (fro
             ]
 
     -- at a node that has ceased
-    ceased_few : node.status ≡ Ceased → IsCarriedOut node (acknowledges node from tell.session) acted → SessionsAreFew p s
+    ceased_few : node.status ≡ Ceased → IsCarriedOut node (takes_tell_ceased node from tell.session) acted → SessionsAreFew p s
         → SessionsAreFew p after
     ceased_few at carried few =
         let answers = ceased_answers node from tell watch at is.known in

@@ -14,7 +14,7 @@ use Rattle.tap_wire.specs.declared.frame.Body.{Body}
 use Rattle.tap_wire.specs.declared.frame.Body.TheVariants.{Ack, Done, Forget, Heard, Link, Release, Seek}
 use Rattle.tap_wire.specs.declared.frame.Frame.{Frame}
 use Rattle.tap_wire.specs.declared.frame.TellFields.{TellFields}
-use Rattle.tap_rule.specs.Ceasing.{acknowledges}
+use Rattle.tap_rule.specs.Ceasing.{takes_tell_ceased}
 use Rattle.tap_rule.specs.Event.{Acted}
 use Rattle.tap_rule.specs.FrameRules.{frame_at_ceased, frame_at_core, frame_at_joining, frame_at_leaving, rule_of_frame}
 use Rattle.tap_rule.specs.JoinSteps.{SeeksAs}
@@ -162,7 +162,7 @@ module _ (p : SettingsValue) (s : System) (number : ℕ) (node : NodeState) (fro
       → node.status ≡ Ceased → (taken_at node from (tell_body tell watch)).state.status ≡ node.status
   unfolding frame_at_ceased
   ceased_status tell watch known at =
-      (frame_law node (frame_to node from (tell_body tell watch)) (acknowledges node from tell.session) known (rw at refl)).status
+      (frame_law node (frame_to node from (tell_body tell watch)) (takes_tell_ceased node from tell.session) known (rw at refl)).status
 
   tell_keeps : (tell : TellFields) (watch : List Slot) → IsDelivery p s number node from (tell_body tell watch)
       → (node.status ≡ Core) ⊎ ((node.status ≡ Joining) ⊎ (node.status ≡ Ceased)) → KeepsJoins s after

@@ -5,14 +5,14 @@ use Rattle.tap_session.specs.Session.{SessionsValue}
 use Rattle.tap_depart.specs.Leaving.{names_but}
 use Rattle.tap_table.specs.Ties.{holders_on}
 use Rattle.tap_wire.specs.declared.frame.Body.{Body}
-use Rattle.tap_wire.specs.declared.frame.Body.TheVariants.{Ack, Done, Gone as GoneBody, Heard, Leave, Left}
+use Rattle.tap_wire.specs.declared.frame.Body.TheVariants.{Ack, Done, Gone, Heard, Leave, Left}
 use Rattle.tap_wire.specs.declared.frame.Frame.{Frame}
 use Rattle.tap_rule.specs.FrameRules.{frame_at_ceased, frame_at_core, frame_at_joining, frame_at_leaving, rule_of_frame}
 use Rattle.tap_rule.specs.Laws.{frame_to}
 use Rattle.tap_rule.specs.Leaving.{finishes}
 use Rattle.tap_rule.specs.Event.{Acted}
 use Rattle.tap_rule.specs.Node.{NodeState, Status, name_of}
-use Rattle.tap_rule.specs.Node.Status.{Ceased, Core, Gone, Joining, Leaving}
+use Rattle.tap_rule.specs.Node.Status.{Ceased, Core, Gone as GoneStatus, Joining, Leaving}
 use Rattle.tap_rule.specs.Reaction.{Message, Reaction, message, sends, to_each}
 use Rattle.tap_rule.specs.Sent.{IsAmong}
 use Rattle.tap_rule.specs.Strange.{is_strange}
@@ -63,7 +63,7 @@ notice_no_done _ is = tt
 -- it leaves the node what it is, but that a leaving one may be gone then; and it has notices sent alone
 record IsHeeded (node after : NodeState) : Type 0 where
   status : ((after.status ≡ node.status) × (after.covers ≡ node.covers) × (after.greeted ≡ node.greeted))
-      ⊎ ((node.status ≡ Leaving) × (after.status ≡ Gone))
+      ⊎ ((node.status ≡ Leaving) × (after.status ≡ GoneStatus))
   opened : after.sessions.opened ≡ node.sessions.opened
 
 abbrev HeedsBy : NodeState → Option Reaction → Type 0
@@ -83,20 +83,20 @@ leave_heeds Core node from replacement = (
   λ m among. elim among [ inl same ↦ subst (λ (n : Message). IsNotice n.body) (sym same) tt | inr never ↦ absurd never ],
 )
 leave_heeds Leaving node from replacement = tt
-leave_heeds Gone node from replacement = tt
+leave_heeds GoneStatus node from replacement = tt
 leave_heeds Ceased node from replacement = tt
 
-gone_heeds : (status : Status) (node : NodeState) (from : List ℕ) → HeedsBy node (rule_of_frame status node from GoneBody)
+gone_heeds : (status : Status) (node : NodeState) (from : List ℕ) → HeedsBy node (rule_of_frame status node from Gone)
 unfolding frame_at_joining frame_at_core frame_at_leaving frame_at_ceased
 gone_heeds Joining node from = tt
 gone_heeds Core node from = (as_it_was node _ refl refl refl refl, λ m among. absurd among)
 gone_heeds Leaving node from = tt
-gone_heeds Gone node from = tt
+gone_heeds GoneStatus node from = tt
 gone_heeds Ceased node from = tt
 
-farewells : (names : List (List ℕ)) (m : Message) → IsAmong m (to_each GoneBody names) → IsNotice m.body
+farewells : (names : List (List ℕ)) (m : Message) → IsAmong m (to_each Gone names) → IsNotice m.body
 farewells names m among =
-    let found = among-map_from (λ name. message name GoneBody) m names among in
+    let found = among-map_from (λ name. message name Gone) m names among in
     subst (λ (n : Message). IsNotice n.body) (sym found.2) tt
 
 left_as : (node after : NodeState) (last : Bool) → node.status ≡ Leaving → after.status ≡ node.status → after.covers ≡ node.covers
@@ -114,13 +114,13 @@ left_heeds Joining node from at = tt
 left_heeds Core node from at = tt
 left_heeds Leaving node from at =
     left_as node (record node { awaited = names_but node.awaited from }) (length (names_but node.awaited from) == 0) at refl refl refl refl
-left_heeds Gone node from at = tt
+left_heeds GoneStatus node from at = tt
 left_heeds Ceased node from at = tt
 
 notice_heeds : (node : NodeState) (from : List ℕ) (body : Body) → IsNotice body → HeedsBy node (rule_of_frame node.status node from body)
 notice_heeds node from (Leave replacement) is = leave_heeds node.status node from replacement
 notice_heeds node from Left is = left_heeds node.status node from refl
-notice_heeds node from GoneBody is = gone_heeds node.status node from
+notice_heeds node from Gone is = gone_heeds node.status node from
 notice_heeds node from _ is = absurd is
 
 -- so it is after the step
@@ -206,7 +206,7 @@ module _ (p : SettingsValue) (s : System) (number : ℕ) (node : NodeState) (fro
                 let now = joins.is in
                 let there : after.node b ≡ Some (taken_at node from body).state = ap after.node mine ∙ at.is in
                 let same : joins.state ≡ (taken_at node from body).state = cc in
-                let wrong : Joining ≡ Gone = sym joins.joining ∙ ap (λ (n : NodeState). n.status) same ∙ ends.1 in
+                let wrong : Joining ≡ GoneStatus = sym joins.joining ∙ ap (λ (n : NodeState). n.status) same ∙ ends.1 in
                 absurd (cc)
             | inr same ↦ record {
               state = joins.state;

@@ -59,7 +59,7 @@ use Rattle.tap_rule.specs.Kept.{IsNode}
 use Rattle.tap_rule.specs.Laws.{frame_to}
 use Rattle.tap_rule.specs.Leaving.{leave_for}
 use Rattle.tap_rule.specs.Node.{IsRunning, NodeState, Status, ended, join_session_at, name_of, settings_of}
-use Rattle.tap_rule.specs.Node.Status.{Ceased, Gone as HasGone}
+use Rattle.tap_rule.specs.Node.Status.{Ceased, Gone as GoneStatus}
 use Rattle.tap_rule.specs.Pointers.{next_hop}
 use Rattle.tap_rule.specs.Reaction.{Message, Reaction, pin_word, stays}
 use Rattle.tap_rule.specs.StartRules.{rule_of_start}
@@ -77,7 +77,7 @@ use Rattle.tap_multicast.specs.declared.covers.Covered.{Covered}
 use Rattle.tap_multicast.specs.declared.covers.Covered.TheVariants.{Already, Now}
 use Rattle.tap_cast.specs.declared.casts.CastTurn.{CastTurn}
 use Rattle.tap_pointer.specs.declared.lay.Lay.{Lay as LaySent}
-use Rattle.tap_wire.specs.declared.frame.Body.TheVariants.{Find, Forget, Gone as GoneBody, Hello, Leave, Release, Seek, Tell}
+use Rattle.tap_wire.specs.declared.frame.Body.TheVariants.{Find, Forget, Gone, Hello, Leave, Release, Seek, Tell}
 use Rattle.tap_rule.specs.Event.Start.{Find as StartFind, Join}
 use Rattle.tap_rule.proofs.Cases.{Cause, IsAsked, IsCast, IsNamed, RuleCase, rule_of, turn_for}
 use Rattle.tap_rule.proofs.Cases.Cause.{Takes, Starts}
@@ -485,7 +485,7 @@ module _ (P Q : List ℕ → Type 0) where
         let taken = takes_in from said.0 said.1 apart replacement said.2 said.3 (taken_in (marked node.ties from) from replacement) refl in
         unopened _ taken.links_then laid casts refl (taken.word node.stamp) refl sent
     case_sends (DropsLeaver {from = from}) at said sent =
-        let apart = not_own node (frame_to node from GoneBody) said.4 in
+        let apart = not_own node (frame_to node from Gone) said.4 in
         let to = of_sender from said.0 said.1 (removed node.ties from).table (λ name.
         others_stay from name kind_removed _ (kind_in t0 name) (kind_in-removed t0 from is.ties.table said.0 apart name)) in
         unopened _ to laid casts refl no_words refl sent
@@ -507,9 +507,9 @@ module _ (P Q : List ℕ → Type 0) where
         unopened _ links (λ still. withdrawn_all (subst IsRunning (sym at) tt)) casts refl no_words refl sent
     case_sends (IsGoneNow StartsLeaving last) at said sent =
         let to = withdrawn_all (subst IsRunning (sym at) tt) in
-        ending HasGone (λ runs. runs) _ (cleared_to P _ (all_withdrawn node.pointers) (are-all_withdrawn node.pointers is.pointers) to) _ sent _
+        ending GoneStatus (λ runs. runs) _ (cleared_to P _ (all_withdrawn node.pointers) (are-all_withdrawn node.pointers is.pointers) to) _ sent _
     case_sends (IsGoneNow OneLeft last) at said sent =
-        ending HasGone (λ runs. runs) _ (cleared_to P _ node.pointers is.pointers (laid (subst IsRunning (sym at) tt))) _ sent _
+        ending GoneStatus (λ runs. runs) _ (cleared_to P _ node.pointers is.pointers (laid (subst IsRunning (sym at) tt))) _ sent _
     case_sends _ at said sent = unopened _ links laid casts refl no_words refl sent
 
     rule_sends : (status : Status) → node.status ≡ status → (cause : Cause) → IsSaid cause → IfSome (rule_of status node cause) (SendsTo node)

@@ -22,9 +22,9 @@ use Rattle.tap_wire.specs.declared.kind.Kind.{Kind}
 use Rattle.tap_wire.specs.declared.kind.Kind.TheVariants as kind
 use Rattle.tap_wire.specs.Kind.{kind_of}
 use Rattle.tap_rule.specs.Answers.{answer_for, answer_sends, with_session}
-use Rattle.tap_rule.specs.Ceasing.{acknowledges}
+use Rattle.tap_rule.specs.Ceasing.{takes_tell_ceased}
 use Rattle.tap_rule.specs.Completed.{SendsAt}
-use Rattle.tap_rule.specs.Covering.{Request, answers_awaited, covers_as, first_request, greeting, pins_and_covers, request_of, seeks, takes_tell, tell_for, with_level}
+use Rattle.tap_rule.specs.Covering.{Request, answers_awaited, covers_as, first_request, greeting, pins_and_covers, request_of, takes_seek, takes_tell, tell_for, with_level}
 use Rattle.tap_rule.specs.Event.{Acted}
 use Rattle.tap_rule.specs.FrameRules.{frame_at_ceased, frame_at_core}
 use Rattle.tap_rule.specs.JoinSteps.{found_for}
@@ -193,7 +193,7 @@ tell_for_joiner node from tell watch known (inr (inl at)) =
     (taken_at node from (tell_body tell watch)).sent sent.are
     (greets_for tell.joiner (name_of node) sent.messages from tell refl sent.answers)
 tell_for_joiner node from tell watch known (inr (inr at)) =
-    let carried = frame_law node (frame_to node from (tell_of tell watch)) (acknowledges node from tell.session) known (rw at refl) in
+    let carried = frame_law node (frame_to node from (tell_of tell watch)) (takes_tell_ceased node from tell.session) known (rw at refl) in
     sent_for tell.joiner (name_of node) [] (message from (Ack tell.session) ∷ []) (taken_at node from (tell_body tell watch)).sent
     carried.sent (one_for tell.joiner (name_of node) from (Ack tell.session) tt)
 
@@ -204,7 +204,7 @@ pub seek_for_joiner : (node : NodeState) (from joiner : List ℕ) (prefix : ℕ)
     → SendsFor joiner (taken_at node from (Seek joiner)).sent
 unfolding frame_at_core
 seek_for_joiner node from joiner prefix at known is =
-    let sought_on = frame_law node (frame_to node from (Seek joiner)) (seeks node joiner) known (rw at refl) in
+    let sought_on = frame_law node (frame_to node from (Seek joiner)) (takes_seek node joiner) known (rw at refl) in
     let carried : IsCarriedOut node (pins_and_covers node (first_request node joiner prefix)) (taken_at node from (Seek joiner)) =
     rw is at sought_on in
     let none = uncovered node from joiner known in

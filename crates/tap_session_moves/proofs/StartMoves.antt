@@ -15,7 +15,7 @@ use Rattle.tap_rule.specs.Event.Event.{Starts}
 use Rattle.tap_rule.specs.Event.Start.{Abandon, Cast, Find, Join, Leave, Publish, Withdraw}
 use Rattle.tap_rule.specs.Leaving.{leave_for}
 use Rattle.tap_rule.specs.Node.{NodeState, joiner, name_of}
-use Rattle.tap_rule.specs.Node.Status.{Core, Gone as HasGone, Joining, Leaving}
+use Rattle.tap_rule.specs.Node.Status.{Core, Gone as GoneStatus, Joining, Leaving}
 use Rattle.tap_rule.specs.QuietSteps.{IsQuietStart}
 use Rattle.tap_rule.specs.Reaction.{Message, message, to_each}
 use Rattle.tap_rule.specs.Sending.{message_frame}
@@ -208,7 +208,7 @@ departs node at =
           let ends = step.finishes none in
           let words = off_ties node.stamp (targets_by_name node.ties.table) in
           record {
-            status = λ joins. let wrong : HasGone ≡ Joining = sym ends.status ∙ joins in cc;
+            status = λ joins. let wrong : GoneStatus ≡ Joining = sym ends.status ∙ joins in cc;
             aside = λ f y k among belongs.
                 let found = sent_in own words (to_each Gone holders) sent ends.sent f y k among belongs in
                 farewell_aside own holders found.0 y k found.1 found.2;

@@ -1,7 +1,7 @@
 -- Nobody departs, and no notice is under way, once a node has started something but a departure.
 use Rattle.std.proofs.Common.{◌≡◌, ℕ, List, None, Some, ap, sym, subst, ◌∙◌, inl, inr}
 use Rattle.tap_name.specs.Settings.{SettingsValue}
-use Rattle.tap_link.specs.declared.kind.Kind.TheVariants.{Leaving as Marked}
+use Rattle.tap_link.specs.declared.kind.Kind.TheVariants.{Leaving as LeavingKind}
 use Rattle.tap_wire.specs.declared.frame.Body.{Body}
 use Rattle.tap_wire.specs.declared.frame.Body.TheVariants.{Gone, Leave, Left, Seek}
 use Rattle.tap_rule.specs.Event.{Start}
@@ -22,7 +22,7 @@ use Rattle.tap_start_moves.specs.Starts.{StartPeaceful}
 use Rattle.tap_start_moves.proofs.StartKinds.{StartsAlike, StartsAnew, alike_link_was, alike_status, alike_way_was, anew_link_was, anew_start, anew_ways, by_kind}
 
 -- after a step while nobody departs, if no link is marked then
-at_peace : (p : SettingsValue) (s s' : System) → IsAtPeace s s' → ((y t : List ℕ) → HasLink s' y t Marked → ⊥) → Basis p s
+at_peace : (p : SettingsValue) (s s' : System) → IsAtPeace s s' → ((y t : List ℕ) → HasLink s' y t LeavingKind → ⊥) → Basis p s
     → IsPeaceful s'
 at_peace p s s' peace unmarked inv = record {
   none = peace.is;
@@ -51,7 +51,7 @@ alike_peace p s x start node is inv =
       leaving = λ y leaving. inv.departure.leaving y is.was_none (sym (alike_status p s x start node is y) ∙ leaving);
       ways = λ from to body way notice. alike_way_was p s x start node is from to body (quiet_no_notice body notice) way;
     })
-    (λ y t link. inv.departure.marked y t is.was_none (alike_link_was p s x start node is y t Marked link)) inv
+    (λ y t link. inv.departure.marked y t is.was_none (alike_link_was p s x start node is y t LeavingKind link)) inv
 
 -- a new name starts to join
 module _ (p : SettingsValue) (s : System) (x via : List ℕ) (is : StartsAnew p s x via) (inv : Basis p s) where
@@ -81,7 +81,7 @@ module _ (p : SettingsValue) (s : System) (x via : List ℕ) (is : StartsAnew p 
   anew_peace : IsPeaceful begun
   anew_peace =
       at_peace p s begun (record { was = is.was_none; is = is.none; leaving = nobody_leaves; ways = notice_was })
-      (λ y t link. inv.departure.marked y t is.was_none (anew_link_was p s x via is y t Marked link)) inv
+      (λ y t link. inv.departure.marked y t is.was_none (anew_link_was p s x via is y t LeavingKind link)) inv
 
 pub start_peaceful : StartPeaceful
 start_peaceful p s x start inv may stays =

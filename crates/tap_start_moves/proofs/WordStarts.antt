@@ -4,7 +4,7 @@ use Rattle.tap_name.specs.Order.{name_cmp}
 use Rattle.tap_name.specs.Settings.{SettingsValue}
 use Rattle.tap_register.specs.Registers.{entry_of}
 use Rattle.tap_link.specs.declared.kind.Kind.{Kind}
-use Rattle.tap_link.specs.declared.kind.Kind.TheVariants.{Leaving as Marked, Pin, Settled}
+use Rattle.tap_link.specs.declared.kind.Kind.TheVariants.{Leaving as LeavingKind, Pin, Settled}
 use Rattle.tap_table.specs.Ties.{TiesValue}
 use Rattle.tap_wire.specs.declared.frame.Body.{Body}
 use Rattle.tap_wire.specs.declared.frame.Body.TheVariants.{Forget, Link, Release, Seek}
@@ -14,7 +14,7 @@ use Rattle.tap_rule.specs.Event.{Acted, Start}
 use Rattle.tap_rule.specs.Event.Event.{Starts}
 use Rattle.tap_rule.specs.Event.Start.{Join}
 use Rattle.tap_rule.specs.Node.{NodeState}
-use Rattle.tap_rule.specs.Node.Status.{Ceased as HasCeased, Core, Joining}
+use Rattle.tap_rule.specs.Node.Status.{Ceased as CeasedStatus, Core, Joining}
 use Rattle.tap_rule.specs.QuietSteps.{IsQuiet}
 use Rattle.tap_safety.specs.Ceased.{CoreOrJoining, IsRegistered, SaysSo}
 use Rattle.tap_safety.specs.Invariant.{Basis}
@@ -120,7 +120,7 @@ linked_there : (p : SettingsValue) (s : System) → Basis p s → s.departing �
     → HasNode s t
 linked_there p s inv none y t Pin link = soft_there s t (inv.soft.pins y t link)
 linked_there p s inv none y t Settled link = soft_there s t (inr (inl (inv.soft.settled y t link)))
-linked_there p s inv none y t Marked link = absurd (inv.departure.marked y t none link)
+linked_there p s inv none y t LeavingKind link = absurd (inv.departure.marked y t none link)
 
 module _ (p : SettingsValue) (s : System) (x via : List ℕ) (is : StartsAnew p s x via) (inv : Basis p s) where
   abbrev begun : System
@@ -259,7 +259,7 @@ module _ (p : SettingsValue) (s : System) (x via : List ℕ) (is : StartsAnew p 
         | inr said ↦ inr (says_on y n said)
       ]
 
-  ceased_on : (y n : List ℕ) → CoreOrJoining begun y → Pins begun y n → status_of begun n ≡ Some HasCeased
+  ceased_on : (y n : List ℕ) → CoreOrJoining begun y → Pins begun y n → status_of begun n ≡ Some CeasedStatus
       → SaysSo begun y n ⊎ IsUnderWay begun n y Forget
   ceased_on y n who pin ceased =
       let had = pin_was y n pin in
@@ -269,10 +269,10 @@ module _ (p : SettingsValue) (s : System) (x via : List ℕ) (is : StartsAnew p 
         | inr forget ↦ inr (anew_stays n y Forget forget)
       ]
 
-  forgets_on : (n y : List ℕ) → IsUnderWay begun n y Forget → status_of begun n ≡ Some HasCeased
+  forgets_on : (n y : List ℕ) → IsUnderWay begun n y Forget → status_of begun n ≡ Some CeasedStatus
   forgets_on n y way =
       let ceased = inv.ceased.forgets n y (anew_was n y Forget (λ seek. let wrong : Forget ≡ Seek x = seek in cc) way) in
-      let state = some_state s n HasCeased ceased in
+      let state = some_state s n CeasedStatus ceased in
       status_there n (record { state = state.0; is = state.1 }) ∙ ceased
 
   anew_words : WordsStand begun

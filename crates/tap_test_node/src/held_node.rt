@@ -1,7 +1,7 @@
 ghost use Rattle.std.specs.Prelude.{◌≡◌, true, false, [], IfOk, IfSome, IsTrue};
 ghost use Rattle.tap_name.specs.Name.{IsName};
 ghost use Rattle.tap_rule.specs.Node.{settings_of};
-ghost use Rattle.tap_rule.specs.Node.Status.{Core as core, Joining as joining};
+ghost use Rattle.tap_rule.specs.Node.Status.{Core as CoreStatus, Joining as JoiningStatus};
 ghost use Rattle.tap_node.specs.Node.{has_room_left};
 
 use crate::members::read_members;
@@ -115,7 +115,7 @@ impl HeldNode {
     // Whether it may start what a joining node can: it is one, and there is room for a step. One that has ended may, too.
     fn may_join(&self) -> bool
         ensures room { result ≡ true → IsTrue (has_room_left self.now) }
-        ensures joining { result ≡ true → self.now.ended ≡ false → self.now.state.status ≡ joining }
+        ensures joining { result ≡ true → self.now.ended ≡ false → self.now.state.status ≡ JoiningStatus }
     {
         match self.node.status() {
             NodeStatus::Joining | NodeStatus::Ended => self.node.room(),
@@ -126,7 +126,7 @@ impl HeldNode {
     // The same of what a core node can start.
     fn may_act(&self) -> bool
         ensures room { result ≡ true → IsTrue (has_room_left self.now) }
-        ensures core { result ≡ true → self.now.ended ≡ false → self.now.state.status ≡ core }
+        ensures core { result ≡ true → self.now.ended ≡ false → self.now.state.status ≡ CoreStatus }
     {
         match self.node.status() {
             NodeStatus::Core | NodeStatus::Ended => self.node.room(),

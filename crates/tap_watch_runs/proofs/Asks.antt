@@ -17,7 +17,7 @@ use Rattle.tap_join.specs.declared.sought.Sought.{Sought}
 use Rattle.tap_join.specs.declared.sought.Sought.TheVariants.{Forward, Surrogate}
 use Rattle.tap_rule.specs.Act.{act}
 use Rattle.tap_rule.specs.Answers.{answer_for, with_session}
-use Rattle.tap_rule.specs.Covering.{Request, answers_awaited, covers_as, first_request, greeting, pins_and_covers, request_of, seeks, seeks_as, takes_tell, tell_for, with_level}
+use Rattle.tap_rule.specs.Covering.{Request, answers_awaited, covers_as, first_request, greeting, pins_and_covers, request_of, takes_seek, takes_seek_as, takes_tell, tell_for, with_level}
 use Rattle.tap_rule.specs.Event.{Acted, Start}
 use Rattle.tap_rule.specs.Event.Event.{Starts}
 use Rattle.tap_rule.specs.Event.Start.{Abandon, Cast as StartCast, Find as StartFind, Join, Leave as StartLeave, Publish, Withdraw}
@@ -151,7 +151,7 @@ module _ (p : SettingsValue) (s : System) (x : List ℕ) (start : Start) where
 
 -- what the node does then is to pin the joiner and cover it
 seek_asks : (node : NodeState) (from joiner : List ℕ) (found : Sought) (request : Request) (acted : Acted)
-    → asked_by_seek node joiner found ≡ Some request → IsCarriedOut node (seeks_as node joiner found) acted
+    → asked_by_seek node joiner found ≡ Some request → IsCarriedOut node (takes_seek_as node joiner found) acted
     → IsCarriedOut node (pins_and_covers node request) acted
 seek_asks node from joiner (Forward next) request acted is carried = absurd (cc)
 seek_asks node from joiner (Surrogate prefix) request acted is carried =
@@ -164,7 +164,7 @@ pub core_asks : (node : NodeState) (from : List ℕ) {body : Body} → Said body
 unfolding frame_at_core
 core_asks node from (IsSeek joiner) request at known is =
     seek_asks node from joiner (sought node.ties.table joiner) request (taken_at node from (Seek joiner)) is
-    (frame_law node (frame_to node from (Seek joiner)) (seeks node joiner) known (rw at refl))
+    (frame_law node (frame_to node from (Seek joiner)) (takes_seek node joiner) known (rw at refl))
 core_asks node from (IsTell tell watch) request at known is =
     let same : request_of from tell watch ≡ request = cc in
     subst (λ q. IsCarriedOut node (pins_and_covers node q) (taken_at node from (tell_body tell watch))) same

@@ -5,7 +5,7 @@ use Rattle.std.proofs.lemmas.Bool.{cases_Bool, true≢false}
 use Rattle.std.proofs.lemmas.List.Elements.{filter_map-append}
 use Rattle.tap_name.specs.Names.{has_name}
 use Rattle.tap_scenario.specs.declared.step.Step.{Step}
-use Rattle.tap_scenario.specs.declared.step.Step.TheVariants.{Abandon as GiveUp, Cast as CastStep, Find, Publish, Withdraw}
+use Rattle.tap_scenario.specs.declared.step.Step.TheVariants.{Abandon as AbandonStep, Cast as CastStep, Find, Publish, Withdraw}
 use Rattle.tap_wire.specs.declared.frame.Body.{Body}
 use Rattle.tap_wire.specs.declared.frame.Body.TheVariants.{Done}
 use Rattle.tap_wire.specs.declared.frame.Frame.{Frame}
@@ -133,7 +133,7 @@ unfolding announced core_name
 none_announced log (Publish object server) = refl
 none_announced log (Withdraw object server) = refl
 none_announced log (Find object asker) = refl
-none_announced log (GiveUp name) = refl
+none_announced log (AbandonStep name) = refl
 none_announced log (CastStep word prefix asker) = refl
 none_announced log step = refl
 

@@ -9,7 +9,7 @@ use Rattle.tap_name.specs.Order.{AreAscending, name_cmp}
 use Rattle.tap_link.specs.Entry.{Entry}
 use Rattle.tap_link.specs.LinkSet.{is_settled, kind_of, settled_count}
 use Rattle.tap_link.specs.declared.kind.Kind.{Kind}
-use Rattle.tap_link.specs.declared.kind.Kind.TheVariants.{Pin, Settled, Leaving as Marked}
+use Rattle.tap_link.specs.declared.kind.Kind.TheVariants.{Pin, Settled, Leaving as LeavingKind}
 use Rattle.tap_table.specs.Table.{IsTable, StandsIn, TableValue, has_room_near, kind_in, links_near, place_of, slot_number}
 use Rattle.tap_table.proofs.Found.{link_gives}
 use Rattle.tap_multicast.proofs.Linked.{picked-ascend}
@@ -41,7 +41,7 @@ among_place x (y ∷ ys) (inr later) = let rest = among_place x ys later in (suc
 settled_kind : (kind : Kind) → is_settled (Some kind) ≡ true → kind ≡ Settled
 settled_kind Pin is = cc
 settled_kind Settled is = refl
-settled_kind Marked is = cc
+settled_kind LeavingKind is = cc
 
 -- a settled link in the slot of a number stands there, and is found
 module _ (t : TableValue) (valid : IsTable t) (number : ℕ) (e : Entry (List ℕ)) (among : IsAmong e (get_or t.slots number [])) where

@@ -4,7 +4,7 @@ use Rattle.std.proofs.lemmas.Bool.{cases_Bool}
 use Rattle.tap_name.specs.Settings.{SettingsValue}
 use Rattle.tap_link.specs.LinkSet.{is_pinned}
 use Rattle.tap_link.specs.declared.kind.Kind.{Kind}
-use Rattle.tap_link.specs.declared.kind.Kind.TheVariants.{Pin, Settled, Leaving as Marked}
+use Rattle.tap_link.specs.declared.kind.Kind.TheVariants.{Pin, Settled, Leaving as LeavingKind}
 use Rattle.tap_name.specs.declared.slot.Offered.{Offered}
 use Rattle.tap_table.specs.Table.{IsTable, TableValue, has_room_near, kind_in}
 use Rattle.tap_table.specs.Ties.{TiesValue}
@@ -56,7 +56,7 @@ pin_is : (kind : Option Kind) → is_pinned kind ≡ true → kind ≡ Some Pin
 pin_is None is = cc
 pin_is (Some Pin) is = refl
 pin_is (Some Settled) is = cc
-pin_is (Some Marked) is = cc
+pin_is (Some LeavingKind) is = cc
 
 no_pin : (kind : Option Kind) → kind ≡ Some Settled → is_pinned kind ≡ false
 no_pin kind is = ap is_pinned is

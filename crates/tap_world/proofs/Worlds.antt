@@ -15,7 +15,7 @@ use Rattle.tap_runs.specs.Groups.{step_group}
 use Rattle.tap_engine.specs.World.{WorldValue}
 use Rattle.tap_engine.specs.declared.engine.Engine.{Engine}
 use Rattle.tap_engine.specs.declared.stop.Stop.{Stop}
-use Rattle.tap_engine.specs.declared.stop.Stop.TheVariants.{Ended, NoMemory, Refused, Spent as IsSpent}
+use Rattle.tap_engine.specs.declared.stop.Stop.TheVariants.{Ended, NoMemory, Refused, Spent as StopSpent}
 use Rattle.tap_engine.proofs.Courses.{members_more}
 use Rattle.tap_engine.proofs.Keeping.{begun, on, seen}
 use Rattle.tap_engine.proofs.Steps.{quiet_within}
@@ -145,7 +145,7 @@ module _ (before after : Engine) (given : Result (Unit {0}) Stop) where
 by_memory : (given : Result (Unit {0}) Stop) → (given ≡ Err NoMemory) ⊎ (given ≢ Err NoMemory)
 by_memory (Ok tt) = inr (λ never. cc)
 by_memory (Err (Refused refusal)) = inr (λ never. cc)
-by_memory (Err IsSpent) = inr (λ never. cc)
+by_memory (Err StopSpent) = inr (λ never. cc)
 by_memory (Err NoMemory) = inl refl
 by_memory (Err Ended) = inr (λ never. cc)
 
@@ -252,7 +252,7 @@ module _ (engine : Engine) (refused : Option Refusal) (stopped : Bool) (kept : A
 
 -- an observation or a damaged copy isn't stopped
 module _ (engine : Engine) (ready : AreReady engine) (index : ℕ) (step : Step) (kind : (observes step ≡ true) ⊎ (damages step ≡ true)) where
-  quiet_answer : (refusal : Option Refusal) → (unless_refused (seen engine) index step refusal).answer ≢ Err IsSpent
+  quiet_answer : (refusal : Option Refusal) → (unless_refused (seen engine) index step refusal).answer ≢ Err StopSpent
   quiet_answer (Some refusal) = λ spent. cc
   quiet_answer None =
       let goes = on engine ready in
@@ -260,10 +260,10 @@ module _ (engine : Engine) (ready : AreReady engine) (index : ℕ) (step : Step)
       let within = quiet_within w.beginning w.log goes.course goes.going index step kind in
       let is : (unless_refused w index step None).answer ≡ Ok tt =
       ap (λ (b : Bool). (if b then adds w (step_group w.beginning.settings w.log index step) else spends w (StepRecord index step ∷ [])).answer) within in
-      λ spent. let wrong : ◌≡◌ {A = Result (Unit {0}) Stop} (Ok tt) (Err IsSpent) = sym is ∙ spent in cc
+      λ spent. let wrong : ◌≡◌ {A = Result (Unit {0}) Stop} (Ok tt) (Err StopSpent) = sym is ∙ spent in cc
 
   pub unspent : (given : Result (Unit {0}) Stop) (after : Engine)
-      → LeadsTo (unless_refused (seen engine) index step (first_refusal engine.ledger.records step)) engine given after → given ≢ Err IsSpent
+      → LeadsTo (unless_refused (seen engine) index step (first_refusal engine.ledger.records step)) engine given after → given ≢ Err StopSpent
   unspent given after leads = λ spent.
-      let other : given ≢ Err NoMemory = λ none. let wrong : Err IsSpent ≡ Err NoMemory = sym spent ∙ none in cc in
+      let other : given ≢ Err NoMemory = λ none. let wrong : Err StopSpent ≡ Err NoMemory = sym spent ∙ none in cc in
       quiet_answer (first_refusal engine.ledger.records step) (sym (leads.answer other) ∙ spent)

@@ -8,11 +8,11 @@ use Rattle.tap_leaving_node.proofs.leaving_node.LeavingNode.take.Goals as goal
 
 pub returns-in-Link : goal.returns-in-Link
 returns-in-Link c =
-    (IfOk-weaker c.hears_and_releases.result _ _
+    (IfOk-weaker c.on_link.result _ _
     (λ _ steps.
-    link_follows (leaving_state c.args.self.now) tt c.args.frame.now (leaving_state c.hears_and_releases.new.self) c.args.sent.now
-    c.hears_and_releases.new.sent Nothing c.requires.may.sound.laid c.in-Link.version c.in-Link.on c.in-Link.is steps)
-    c.hears_and_releases.ensures)
+    link_follows (leaving_state c.args.self.now) tt c.args.frame.now (leaving_state c.on_link.new.self) c.args.sent.now
+    c.on_link.new.sent Nothing c.requires.may.sound.laid c.in-Link.version c.in-Link.on c.in-Link.is steps)
+    c.on_link.ensures)
 
 pub returns-in-Answer : goal.returns-in-Answer
 returns-in-Answer c =

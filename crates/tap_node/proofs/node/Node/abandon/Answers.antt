@@ -7,14 +7,14 @@ pub invariant_of-self : goal.invariant_of-self
 invariant_of-self c =
     let turned = c.turned.ensures in
     begun_keeps _ _ _ c.self.invariant _ c.self.view_is (sym c.is_ended.ensures ∙ c.if-is_ended.false) _
-    c.sender-sender.ensures.value Abandon (λ _. tt) _ c.new-sent.ensures _ _ c.new-sent.result (Ok c.gives_up-news.result)
-    (c.gives_up-news.ensures c.new-sent.result) _
+    c.sender-sender.ensures.value Abandon (λ _. tt) _ c.new-sent.ensures _ _ c.new-sent.result (Ok c.abandon-news.result)
+    (c.abandon-news.ensures c.new-sent.result) _
     (record { made = turned.made; same = turned.same; refused = turned.refused; ends = turned.ends })
 
 pub returns : goal.returns
 returns c =
     let turned = c.turned.ensures in
     begun_answers _ _ _ c.self.invariant _ c.self.view_is (sym c.is_ended.ensures ∙ c.if-is_ended.false) _
-    c.sender-sender.ensures.value Abandon (λ _. tt) _ c.new-sent.ensures _ _ c.new-sent.result (Ok c.gives_up-news.result)
-    (c.gives_up-news.ensures c.new-sent.result) _
+    c.sender-sender.ensures.value Abandon (λ _. tt) _ c.new-sent.ensures _ _ c.new-sent.result (Ok c.abandon-news.result)
+    (c.abandon-news.ensures c.new-sent.result) _
     (record { made = turned.made; same = turned.same; refused = turned.refused; ends = turned.ends })

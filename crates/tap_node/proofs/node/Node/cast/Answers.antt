@@ -8,7 +8,7 @@ invariant_of-self c =
     let turned = c.turned.ensures in
     begun_keeps _ _ _ c.self.invariant _ c.self.view_is (sym c.is_ended.ensures ∙ c.if-is_ended.false) _
     c.sender-sender.ensures.value (Cast c.args.cast c.args.level c.args.word.now) (λ _. tt) _ c.new-sent.ensures _ _ _ _
-    c.casts-news.ensures _
+    c.cast-news.ensures _
     (record { made = turned.made; same = turned.same; refused = turned.refused; ends = turned.ends })
 
 pub returns : goal.returns
@@ -16,5 +16,5 @@ returns c =
     let turned = c.turned.ensures in
     begun_answers _ _ _ c.self.invariant _ c.self.view_is (sym c.is_ended.ensures ∙ c.if-is_ended.false) _
     c.sender-sender.ensures.value (Cast c.args.cast c.args.level c.args.word.now) (λ _. tt) _ c.new-sent.ensures _ _ _ _
-    c.casts-news.ensures _
+    c.cast-news.ensures _
     (record { made = turned.made; same = turned.same; refused = turned.refused; ends = turned.ends })

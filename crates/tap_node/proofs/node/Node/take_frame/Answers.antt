@@ -30,22 +30,22 @@ module _ (c : goal.In-Ok) where
       subst (λ (n : NodeValue). is_strange n.state c.args.frame.now ≡ false) (sym c.self.view_is)
       (sym (c.is_strange.ensures c.requires.runs) ∙ c.if-is_strange.false)
 
-  follows : FollowsFrom c.self.inside.sender.settings c.self.inside.sender.name c.self.inside.state c.takes.new.self
-      c.args.frame.now.from c.args.frame.now.body [] c.takes.new.turn.sent c.takes.new.turn.news
+  follows : FollowsFrom c.self.inside.sender.settings c.self.inside.sender.name c.self.inside.state c.take.new.self
+      c.args.frame.now.from c.args.frame.now.body [] c.take.new.turn.sent c.take.new.turn.news
   follows = rw c.new.ensures at c.in-Ok.ensures
 
-  turned : IsTurned c.takes.new.self c.takes.new.self c.takes.new.turn.sent (Ok c.takes.new.turn.news) (Ok c.takes.new.turn)
+  turned : IsTurned c.take.new.self c.take.new.self c.take.new.turn.sent (Ok c.take.new.turn.news) (Ok c.take.new.turn)
   turned = record { made = refl; same = refl; refused = tt; ends = tt }
 
 pub invariant_of-self : goal.invariant_of-self
 invariant_of-self c =
-    frame_keeps c.self.inside.sender.settings c.self.inside.sender.name c.self.inside.state c.self.invariant (runs c) c.takes.new.self
-    c.takes.new.self c.takes.new.turn.sent (Ok c.takes.new.turn.news) (Ok c.takes.new.turn) (turned c) c.args.frame.now (is_frame c)
+    frame_keeps c.self.inside.sender.settings c.self.inside.sender.name c.self.inside.state c.self.invariant (runs c) c.take.new.self
+    c.take.new.self c.take.new.turn.sent (Ok c.take.new.turn.news) (Ok c.take.new.turn) (turned c) c.args.frame.now (is_frame c)
     (own c) (usual c) (follows c)
 
 pub returns-in-Ok : goal.returns-in-Ok
 returns-in-Ok c =
     rw (← c.self.view_is)
-    (frame_answers c.self.inside.sender.settings c.self.inside.sender.name c.self.inside.state c.self.invariant (runs c) c.takes.new.self
-    c.takes.new.self c.takes.new.turn.sent (Ok c.takes.new.turn.news) (Ok c.takes.new.turn) (turned c) c.args.frame.now (is_frame c)
+    (frame_answers c.self.inside.sender.settings c.self.inside.sender.name c.self.inside.state c.self.invariant (runs c) c.take.new.self
+    c.take.new.self c.take.new.turn.sent (Ok c.take.new.turn.news) (Ok c.take.new.turn) (turned c) c.args.frame.now (is_frame c)
     (own c) (usual c) (follows c))

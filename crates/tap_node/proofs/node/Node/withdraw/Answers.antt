@@ -7,12 +7,12 @@ pub invariant_of-self : goal.invariant_of-self
 invariant_of-self c =
     let turned = c.turned.ensures in
     begun_keeps _ _ _ c.self.invariant _ c.self.view_is (sym c.is_ended.ensures ∙ c.if-is_ended.false) _
-    c.sender-sender.ensures.value (Withdraw c.args.object) (λ _. c.requires.name) _ c.new-sent.ensures _ _ _ _ c.withdraws-news.ensures _
+    c.sender-sender.ensures.value (Withdraw c.args.object) (λ _. c.requires.name) _ c.new-sent.ensures _ _ _ _ c.withdraw-news.ensures _
     (record { made = turned.made; same = turned.same; refused = turned.refused; ends = turned.ends })
 
 pub returns : goal.returns
 returns c =
     let turned = c.turned.ensures in
     begun_answers _ _ _ c.self.invariant _ c.self.view_is (sym c.is_ended.ensures ∙ c.if-is_ended.false) _
-    c.sender-sender.ensures.value (Withdraw c.args.object) (λ _. c.requires.name) _ c.new-sent.ensures _ _ _ _ c.withdraws-news.ensures _
+    c.sender-sender.ensures.value (Withdraw c.args.object) (λ _. c.requires.name) _ c.new-sent.ensures _ _ _ _ c.withdraw-news.ensures _
     (record { made = turned.made; same = turned.same; refused = turned.refused; ends = turned.ends })

@@ -1,4 +1,0 @@
-use Rattle.tap_node.proofs.state.State.takes_done.Goals as goal
-
-pub returns : goal.returns
-returns c = λ from. rw (c.in_ok-next.was, c.replace-state.ensures.value) at c.is_done.ensures from
