@@ -4,6 +4,7 @@ ghost use Rattle.tap_name.specs.Name.{IsName};
 ghost use Rattle.tap_name.specs.Word.{IsWord};
 ghost use Rattle.tap_session.specs.Session.{most_sessions};
 ghost use Rattle.tap_rule.specs.Casts.{cast_for, cast_news, casts, is_root, next_cast_session, takes_cast_ack, with_cast_session};
+ghost use Rattle.tap_rule.specs.Strange.{most_depth};
 ghost use Rattle.tap_wire.specs.Spelling.{IsLevel};
 ghost use Rattle.tap_node_common.specs.Sender.{message_bytes, sender_of};
 ghost use Rattle.tap_node_common.specs.Sound.{IsParent, IsSoundNode, has_numbers_left};
@@ -48,7 +49,7 @@ impl CoreNode {
         requires room { has_numbers_left (core_state self.old) ≡ true }
         requires level { copy.now.level ≤ self.old.core.table.settings.digits }
         requires parent { IsParent self.old.core.table.settings copy.now.parent }
-        requires depth { copy.now.depth < 65535 }
+        requires depth { copy.now.depth < most_depth }
         requires word { IsWord word.now }
         ensures { IfOk result (λ news. FollowsAs (core_state self.old) (Some (casts (core_state self.old) (copied_with copy.now word.now)))
             (core_state self.new) sent.old sent.new news) }
@@ -70,7 +71,7 @@ impl CoreNode {
         requires room { has_numbers_left (core_state self.old) ≡ true }
         requires level { copy.now.level ≤ self.old.core.table.settings.digits }
         requires parent { IsParent self.old.core.table.settings copy.now.parent }
-        requires depth { copy.now.depth < 65535 }
+        requires depth { copy.now.depth < most_depth }
         requires word { IsWord word.now }
         requires nothing { news.old ≡ News.Nothing }
         ensures { OnOk result (FollowsAs (core_state self.old) (Some (casts (core_state self.old) (copied_with copy.now word.now)))
@@ -103,7 +104,7 @@ impl CoreNode {
         word: &[u8],
         targets: &List<CastTarget>,
     ) -> Result<(), NoMemory>
-        requires depth { copy.now.depth < 65535 }
+        requires depth { copy.now.depth < most_depth }
         requires word { IsWord word.now }
         requires names { All (λ target. IsName self.old.core.table.settings target.to) targets.now }
         requires levels { All (λ target. IsLevel self.old.core.table.settings target.level) targets.now }

@@ -7,6 +7,7 @@ ghost use Rattle.tap_table.specs.Table.{pinned};
 ghost use Rattle.tap_rule.specs.Covering.{answers_awaited, covers, pins_and_covers, spreads};
 ghost use Rattle.tap_rule.specs.FrameRules.{frame_at_core};
 ghost use Rattle.tap_rule.specs.Reaction.{message};
+ghost use Rattle.tap_rule.specs.Strange.{most_depth};
 ghost use Rattle.tap_wire.specs.Layout.{most_links, most_slots};
 ghost use Rattle.tap_wire.specs.Spelling.{AreLinks, AreSlots};
 ghost use Rattle.tap_node_common.specs.Sender.{message_bytes};
@@ -81,7 +82,7 @@ impl CoreNode {
         requires slots { length watch.now ≤ most_slots self.old.core.table.settings }
         requires few { length (targets_by_name (pinned self.old.core.table request.now.joiner)) ≤ most_links }
         requires parent { IsParent self.old.core.table.settings request.now.parent }
-        requires depth { request.now.depth < 65535 }
+        requires depth { request.now.depth < most_depth }
         ensures { OnOk result (FollowsAs (core_state self.old)
             (Some (pins_and_covers (core_state self.old) (asked_with request.now watch.now)))
             (core_state self.new) sent.old sent.new News.Nothing) }
@@ -104,7 +105,7 @@ impl CoreNode {
         requires slots { length watch.now ≤ most_slots self.old.core.table.settings }
         requires few { length (targets_by_name self.old.core.table) ≤ most_links }
         requires parent { IsParent self.old.core.table.settings request.now.parent }
-        requires depth { request.now.depth < 65535 }
+        requires depth { request.now.depth < most_depth }
         requires room { self.old.parts.sessions.opened < most_sessions }
         ensures { OnOk result (StepsAs (core_state self.old)
             (covers (core_state self.old) (asked_with request.now watch.now))
@@ -142,7 +143,7 @@ impl CoreNode {
         requires joiner { IsName self.old.core.table.settings request.now.joiner }
         requires prefix { request.now.prefix < self.old.core.table.settings.digits }
         requires parent { IsParent self.old.core.table.settings request.now.parent }
-        requires depth { request.now.depth < 65535 }
+        requires depth { request.now.depth < most_depth }
         requires offer { AreLinks self.old.core.table.settings offer }
         requires names { All (λ target. IsName self.old.core.table.settings target.to) targets.now }
         requires above { All (λ target. request.now.prefix < target.level) targets.now }

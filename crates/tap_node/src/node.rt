@@ -1,9 +1,11 @@
 ghost use Rattle.std.specs.Prelude.{◌≡◌, ◌≤◌, ◌&&◌, nat_lt, true, false, length, All, Contains, IfOk, IsTrue, Err};
 ghost use Rattle.std.specs.Option.{option_copied};
 ghost use Rattle.tap_name.specs.Name.{IsName};
+ghost use Rattle.tap_session.specs.Session.{most_sessions};
 ghost use Rattle.tap_rule.specs.Node.{joiner, member_at_rest, name_of, settings_of};
 ghost use Rattle.tap_rule.specs.Strange.{is_strange};
 ghost use Rattle.tap_wire.specs.Spelling.{IsFrame};
+ghost use Rattle.tap_node_common.specs.Sound.{join_sessions_limit, pairs_limit, stamp_limit};
 ghost use Rattle.tap_node.specs.Node.{has_room_left, node_status, pointers_lent, running, table_lent};
 
 use crate::fault::NodeFault;
@@ -286,7 +288,8 @@ impl Node {
 // Whether fewer sessions of joins and of casts were opened, a lesser number was given, and fewer pairs are held or laid than
 // there may be before a step.
 fn is_below_limits(sessions: u32, cast_sessions: u32, stamp: u32, span: usize) -> bool
-    ensures { result ≡ (nat_lt sessions 500000 && nat_lt cast_sessions 500001 && nat_lt stamp 4000000000 && nat_lt span 10000000) }
+    ensures { result ≡ (nat_lt sessions join_sessions_limit && nat_lt cast_sessions most_sessions && nat_lt stamp stamp_limit
+        && nat_lt span pairs_limit) }
 {
     sessions < 500_000 && cast_sessions < 500_001 && stamp < 4_000_000_000 && span < 10_000_000
 }

@@ -1,12 +1,12 @@
 -- What each node keeps that takes steps, so that its parts may do what a rule asks, and each frame has a spelling.
 --
 -- Rule: docs/PROTOCOL.md, "Nodes".
-use Rattle.std.specs.Prelude.{◌≡◌, ◌≤◌, ◌&&◌, nat_lt, Bool, true, false, [], length, All, IfSome}
+use Rattle.std.specs.Prelude.{◌≡◌, ℕ, ◌≤◌, ◌&&◌, nat_lt, Bool, true, false, [], length, All, IfSome}
 use Rattle.tap_name.specs.Name.{IsName}
 use Rattle.tap_name.specs.Settings.{SettingsValue}
 use Rattle.tap_session.specs.declared.parent.Parent.{Parent}
 use Rattle.tap_session.specs.declared.parent.Parent.TheVariants.{Root, Node}
-use Rattle.tap_session.specs.Session.{SessionsValue}
+use Rattle.tap_session.specs.Session.{SessionsValue, most_sessions}
 use Rattle.tap_table.specs.Table.{rows}
 use Rattle.tap_pointer.specs.Pointers.{PointersValue, held_or_laid_count}
 use Rattle.tap_pointer.specs.Reconcile.{AreLaid}
@@ -33,12 +33,22 @@ AreNamedPairs p pointers = All (λ e. IsName p e.0.object × IsName p e.0.server
 abbrev pub AreNamedHops : SettingsValue → PointersValue → Type 0
 AreNamedHops p pointers = All (λ e. IfSome e.1.laid (λ hop. IsName p hop.to × IsLevel p hop.level)) pointers.pairs
 
--- numbers are left for a step: fewer sessions of joins and of casts were opened, and fewer numbers given, than these, and
--- fewer pairs are held or laid
+-- what stays above the sessions of joins that a node opened, above the last number of its stamp, and above the pairs that it holds
+-- or has laid, before a step
+abbrev pub join_sessions_limit : ℕ
+join_sessions_limit = 500000
+
+abbrev pub stamp_limit : ℕ
+stamp_limit = 4000000000
+
+abbrev pub pairs_limit : ℕ
+pairs_limit = 10000000
+
+-- numbers are left for a step: all these are below their limits, and one more session of casts may be opened
 abbrev pub has_numbers_left : NodeState → Bool
 has_numbers_left node =
-    nat_lt node.sessions.opened 500000 && nat_lt node.cast_sessions.opened 500001 && nat_lt node.stamp 4000000000
-    && nat_lt (held_or_laid_count node.pointers.pairs) 10000000
+    nat_lt node.sessions.opened join_sessions_limit && nat_lt node.cast_sessions.opened most_sessions && nat_lt node.stamp stamp_limit
+    && nat_lt (held_or_laid_count node.pointers.pairs) pairs_limit
 
 -- a node that may know of pairs
 abbrev pub knows_pairs : Status → Bool

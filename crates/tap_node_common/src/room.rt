@@ -6,9 +6,7 @@ ghost use Rattle.tap_node_common.specs.Strangers.{IsFor, IsValid, is_known_to, n
 
 use crate::known::Known;
 use tap_name::{Name, Offered};
-
-// How many links a node may have.
-const MOST_LINKS: usize = 255;
+use tap_wire::MOST_LINKS;
 
 // Whether a link to this name may be one too many.
 pub(crate) fn has_no_room(known: Known<'_>, name: &Name) -> bool

@@ -4,16 +4,17 @@
 use Rattle.std.specs.Prelude.{◌≡◌, ℕ, ◌<◌, ◌≤◌, true, List, None}
 use Rattle.tap_cast.specs.Casts.{level_of_cast}
 use Rattle.tap_log.specs.declared.record.Record.{Record}
+use Rattle.tap_session.specs.Session.{most_sessions}
 use Rattle.tap_rule.specs.Node.{NodeState}
-use Rattle.tap_node_common.specs.Sound.{has_numbers_left}
+use Rattle.tap_node_common.specs.Sound.{has_numbers_left, join_sessions_limit}
 use Rattle.tap_runs.specs.Starts.{next_cast}
 
 -- how many sessions of joins, and of casts, a node may open in a run, and what its stamp stays below
 abbrev pub most_join_sessions : ℕ
-most_join_sessions = 500000
+most_join_sessions = join_sessions_limit
 
 abbrev pub most_cast_sessions : ℕ
-most_cast_sessions = 500001
+most_cast_sessions = most_sessions
 
 abbrev pub stamp_end : ℕ
 stamp_end = 3000000

@@ -14,6 +14,7 @@ use Rattle.tap_session.specs.Session.{Depth}
 use Rattle.tap_wire.specs.declared.frame.Frame.{Frame}
 use Rattle.tap_wire.specs.declared.frame.Body.{Body}
 use Rattle.tap_wire.specs.declared.frame.Body.TheVariants.{Seek, Tell, Hello, Leave, Cast}
+use Rattle.tap_wire.specs.Layout.{most_links}
 use Rattle.tap_table.specs.ByName.{targets_by_name}
 use Rattle.tap_depart.specs.Leaving.{names_but}
 use Rattle.tap_rule.specs.Node.{NodeState, level_of, name_of}
@@ -76,9 +77,9 @@ abbrev pub with_names : List Name → List Name → List Name
 with_names names [] = names
 with_names names (name ∷ others) = with_names (if has_name names name then names else name ∷ names) others
 
--- how many links a node may have
+-- how many links a node may have: as many as a Hello may offer
 abbrev pub most_links_kept : ℕ
-most_links_kept = 255
+most_links_kept = most_links
 
 -- the node's links and the names that a frame could link are, its own name left out, more than these
 abbrev pub is_too_many : NodeState → List Name → Bool
