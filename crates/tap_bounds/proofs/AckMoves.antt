@@ -20,7 +20,7 @@ use Rattle.tap_rule.specs.Event.{Acted, Start}
 use Rattle.tap_rule.specs.Event.Event.{Starts, Takes}
 use Rattle.tap_rule.specs.Event.Start.{Join, Abandon, Publish, Withdraw, Find, Leave, Cast}
 use Rattle.tap_rule.specs.FrameRules.{frame_at_ceased, frame_at_core, frame_at_joining, frame_at_leaving, rule_of_frame}
-use Rattle.tap_rule.specs.Laws.{IsCarriedOut, IsIgnored, frame_to}
+use Rattle.tap_rule.specs.RuleLaws.{IsCarriedOut, IsIgnored, frame_to}
 use Rattle.tap_rule.specs.Node.{NodeState, Status, joiner, member_at_rest, name_of}
 use Rattle.tap_rule.specs.Node.Status.{Ceased, Core, Gone, Joining, Leaving}
 use Rattle.tap_rule.specs.Reaction.{Message, Reaction}
@@ -34,7 +34,7 @@ use Rattle.tap_safety.specs.Move.{Move, may_start}
 use Rattle.tap_safety.specs.Move.Move.{Begins, Delivers}
 use Rattle.tap_safety.specs.Moved.{moved, starter}
 use Rattle.tap_safety.specs.System.{System, AmongFrames}
-use Rattle.tap_safety.proofs.Moves.{starts}
+use Rattle.tap_safety.proofs.Moved.{starts}
 use Rattle.tap_safety.proofs.Said.{Said, said_of}
 use Rattle.tap_safety.proofs.Said.Said.{IsSeek, IsTell}
 use Rattle.tap_moves.specs.ByRule.{taken_at}
@@ -43,14 +43,14 @@ use Rattle.tap_moves.specs.InvariantLaws.{IsDelivery}
 use Rattle.tap_moves.proofs.Got.{same_name}
 use Rattle.tap_moves.proofs.InvariantMoves.{due}
 use Rattle.tap_moves.proofs.MovesMade.{by_rule, is_found}
-use Rattle.tap_safety_moves.specs.Moves.{after_moves, may_run}
+use Rattle.tap_safety_moves.specs.SoundMoves.{after_moves, may_run}
 use Rattle.tap_safety_moves.specs.Sound.{Sound}
 use Rattle.tap_safety_moves.proofs.Members.{sound_at_rest}
-use Rattle.tap_safety_moves.proofs.Moves.{move_keeps}
+use Rattle.tap_safety_moves.proofs.SoundMoves.{move_keeps}
 use Rattle.tap_safety_moves.proofs.Delivered.{is_delivery}
 use Rattle.tap_bounds.specs.Acks.{AcksAreFew, AcksAtRest, MoveKeepsAcks, RunAcksFew, is_ack, is_ack_from, is_tell_body, is_tell_to}
-use Rattle.tap_bounds.specs.Moves.{traffic_of}
-use Rattle.tap_bounds.specs.Traffic.{Traffic, no_traffic, sent_by, taken_by, traffic_after}
+use Rattle.tap_bounds.specs.FewSent.{traffic_of}
+use Rattle.tap_bounds.specs.Traffic.{Traffic, frames_taken_by, no_traffic, sent_by, traffic_after}
 use Rattle.tap_bounds.proofs.Counting.{CountsMessages, count-append, count-cons, count-map_none, counted}
 use Rattle.tap_bounds.proofs.AckRules.{FewAcks, acks_in, below, rule_acks, start_acks}
 use Rattle.tap_bounds.proofs.AckSteps.{ceased_acks, meets_acks, pins_acks, seeks_acks}
@@ -233,13 +233,13 @@ tell_counts own from body =
 delivery_keeps : (p : SettingsValue) (s : System) (r : Traffic) (number : ℕ) (node : NodeState) (from : List ℕ) (body : Body)
     → IsDelivery p s number node from body → AcksAreFew s r
     → AcksAreFew (after_delivery p s number) (traffic_after p s r (Delivers number))
-unfolding sent_by taken_by
+unfolding sent_by frames_taken_by
 delivery_keeps p s r number node from body is few =
     let comes = due p s number node from body is in
     let step = by_rule p s number node from body comes in
     let here = is.at in
     let sent : sent_by p s (Delivers number) ≡ (taken_at node from body).sent = rw (is_found p s number node from body comes, here) refl in
-    let took : taken_by s (Delivers number) ≡ frame_to node from body ∷ [] = rw (is_found p s number node from body comes) refl in
+    let took : frames_taken_by s (Delivers number) ≡ frame_to node from body ∷ [] = rw (is_found p s number node from body comes) refl in
     acks_kept s (after_delivery p s number) r (traffic_after p s r (Delivers number)) node (cond (is_tell_body body) 1 0)
     (taken_at node from body) step.at.is step.at.others (ap (λ fs. r.sent ++ fs) sent) (frame_to node from body ∷ [])
     (ap (λ fs. r.taken ++ fs) took) (tell_counts (name_of node) from body)
@@ -258,7 +258,7 @@ starter_keeps : (p : SettingsValue) (s : System) (r : Traffic) (start : Start) (
     → starter p s (name_of node) start ≡ Some node
     → count_by (is_ack_from (name_of node)) r.sent + below node.sessions.sessions ≤ count_by (is_tell_to (name_of node)) r.taken
     → AcksAreFew s r → AcksAreFew (after_start p s (name_of node) start) (traffic_after p s r (Begins (name_of node) start))
-unfolding sent_by taken_by
+unfolding sent_by frames_taken_by
 starter_keeps p s r start node there old few =
     let done = (starts p s (name_of node) start node there).done in
     let sent : sent_by p s (Begins (name_of node) start) ≡ (act node (Starts start)).sent = rw there refl in

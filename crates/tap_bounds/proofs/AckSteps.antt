@@ -22,7 +22,7 @@ use Rattle.tap_rule.specs.Joining.{takes_tell_joining, welcomes}
 use Rattle.tap_rule.specs.Node.{NodeState}
 use Rattle.tap_rule.specs.Reaction.{Message, message, pin_word, sends, with_pin, with_words}
 use Rattle.tap_rule.specs.Hellos.{core_hello, joining_hello}
-use Rattle.tap_bounds.specs.Acks.{is_below, is_below_parent}
+use Rattle.tap_bounds.specs.Acks.{is_below_node, is_below_parent}
 use Rattle.tap_bounds.proofs.Counting.{count-append, count-cons}
 use Rattle.tap_bounds.proofs.AckRules.{AreUnacked, FewAcks, IsUnacked, below, none_acked, one_for, same_acks}
 
@@ -37,8 +37,8 @@ module _ (node : NodeState) where
   opened_acks before parent depth waiting words told same plain = record {
     few =
         let none = none_acked told plain in
-        let more = count-append is_below before.sessions.sessions (next_session before.sessions parent depth waiting ∷ []) in
-        let new = count-cons is_below (next_session before.sessions parent depth waiting) [] in
+        let more = count-append is_below_node before.sessions.sessions (next_session before.sessions parent depth waiting ∷ []) in
+        let new = count-cons is_below_node (next_session before.sessions parent depth waiting) [] in
         let alike = ap (λ (s : Rattle.tap_session.specs.Session.SessionsValue). below s.sessions) same in
         omega (arith, none, more, new, alike);
   }

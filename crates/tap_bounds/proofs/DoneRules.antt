@@ -5,7 +5,7 @@ use Rattle.tap_wire.specs.declared.frame.Frame.{Frame}
 use Rattle.tap_rule.specs.Act.{act}
 use Rattle.tap_rule.specs.Event.{Acted, Start}
 use Rattle.tap_rule.specs.Event.Event.{Starts, Takes}
-use Rattle.tap_rule.specs.Laws.{IsCarriedOut, frame_to}
+use Rattle.tap_rule.specs.RuleLaws.{IsCarriedOut, frame_to}
 use Rattle.tap_rule.specs.Node.{NodeState, Status}
 use Rattle.tap_rule.specs.Node.Status.{Ceased, Core, Joining}
 use Rattle.tap_rule.specs.Reaction.{Reaction}

@@ -12,7 +12,7 @@ use Rattle.tap_rule.specs.Act.{act}
 use Rattle.tap_rule.specs.Event.{Start}
 use Rattle.tap_rule.specs.Event.Event.{Starts}
 use Rattle.tap_rule.specs.Event.Start.{Join, Abandon, Publish, Withdraw, Find, Leave, Cast}
-use Rattle.tap_rule.specs.Laws.{frame_to}
+use Rattle.tap_rule.specs.RuleLaws.{frame_to}
 use Rattle.tap_rule.specs.Node.{NodeState, joiner, name_of}
 use Rattle.tap_rule.specs.Node.Status.{Joining}
 use Rattle.tap_rule.specs.Strange.{is_strange}
@@ -21,26 +21,26 @@ use Rattle.tap_safety.specs.Joins.{HasOneDone}
 use Rattle.tap_safety.specs.Move.{Move, may_move, may_start}
 use Rattle.tap_safety.specs.Move.Move.{Begins, Delivers}
 use Rattle.tap_safety.specs.Moved.{moved, starter}
-use Rattle.tap_safety.specs.Step.{Ascend}
+use Rattle.tap_safety.specs.Exchanges.{Ascend}
 use Rattle.tap_safety.specs.System.{System, AmongFrames, IsJoiner}
-use Rattle.tap_safety.proofs.Moves.{ascend_from, starts}
+use Rattle.tap_safety.proofs.Moved.{ascend_from, starts}
 use Rattle.tap_moves.specs.ByRule.{taken_at}
 use Rattle.tap_moves.specs.Delivered.{after_delivery, after_start}
 use Rattle.tap_moves.specs.InvariantLaws.{IsDelivery}
 use Rattle.tap_moves.proofs.InvariantMoves.{due, joins_here}
 use Rattle.tap_moves.proofs.MovesMade.{by_rule, is_found}
-use Rattle.tap_safety_moves.specs.Moves.{after_moves, may_run}
+use Rattle.tap_safety_moves.specs.SoundMoves.{after_moves, may_run}
 use Rattle.tap_safety_moves.specs.Sound.{Sound}
 use Rattle.tap_safety_moves.proofs.Members.{sound_at_rest}
-use Rattle.tap_safety_moves.proofs.Moves.{move_keeps}
+use Rattle.tap_safety_moves.proofs.SoundMoves.{move_keeps}
 use Rattle.tap_safety_moves.proofs.Delivered.{is_delivery}
 use Rattle.tap_bounds.specs.Dones.{DonesAreFew, DonesAtRest, MoveKeepsDones, RunDonesFew, is_done_body, is_done_to}
-use Rattle.tap_bounds.specs.Moves.{traffic_of}
+use Rattle.tap_bounds.specs.FewSent.{traffic_of}
 use Rattle.tap_bounds.specs.Taken.{AllAreKnown}
-use Rattle.tap_bounds.specs.Traffic.{Traffic, no_traffic, taken_by, traffic_after}
+use Rattle.tap_bounds.specs.Traffic.{Traffic, frames_taken_by, no_traffic, traffic_after}
 use Rattle.tap_bounds.proofs.Counting.{count-append, count-cons}
 use Rattle.tap_bounds.proofs.DoneRules.{done_ends, frame_joins, start_joins}
-use Rattle.tap_bounds.proofs.Taken.{known_at_rest, move_keeps_known}
+use Rattle.tap_bounds.proofs.KnownTaken.{known_at_rest, move_keeps_known}
 
 -- ---- the Dones under way
 
@@ -163,11 +163,11 @@ module _ (p : SettingsValue) (s : System) (r : Traffic) (number : ℕ) (node : N
 
   -- one more, if this is one
   taken_more : (b : List ℕ) → count_by (is_done_to b) r'.taken ≡ count_by (is_done_to b) r.taken + cond {A = ℕ} (is_done_to b frame) 1 0
-  unfolding taken_by
+  unfolding frames_taken_by
   taken_more b =
-      let took : taken_by s (Delivers number) ≡ frame ∷ [] =
+      let took : frames_taken_by s (Delivers number) ≡ frame ∷ [] =
       rw (is_found p s number node from body (due p s number node from body is)) refl in
-      let all = count-append (is_done_to b) r.taken (taken_by s (Delivers number)) in
+      let all = count-append (is_done_to b) r.taken (frames_taken_by s (Delivers number)) in
       let one = ap (count_by (is_done_to b)) took in
       let first = count-cons (is_done_to b) frame [] in
       omega (arith, all, one, first)
@@ -273,7 +273,7 @@ module _ (p : SettingsValue) (s : System) (r : Traffic) (x : List ℕ) (start : 
   r'' = traffic_after p s r (Begins x start)
 
   same_taken : (b : List ℕ) → count_by (is_done_to b) r''.taken ≡ count_by (is_done_to b) r.taken
-  unfolding taken_by
+  unfolding frames_taken_by
   same_taken b = let all = count-append (is_done_to b) r.taken [] in omega (arith, all)
 
   started_few : TakenAreFew s'' r''

@@ -20,7 +20,7 @@ use Rattle.tap_rule.specs.Event.{Acted, Start}
 use Rattle.tap_rule.specs.Event.Event.{Starts, Takes}
 use Rattle.tap_rule.specs.Event.Start.{Join, Abandon, Publish, Withdraw, Find, Leave, Cast}
 use Rattle.tap_rule.specs.FrameRules.{frame_at_ceased, frame_at_core, frame_at_joining, frame_at_leaving, rule_of_frame}
-use Rattle.tap_rule.specs.Laws.{IsCarriedOut, IsIgnored, frame_to}
+use Rattle.tap_rule.specs.RuleLaws.{IsCarriedOut, IsIgnored, frame_to}
 use Rattle.tap_rule.specs.Node.{NodeState, Status, joiner, name_of}
 use Rattle.tap_rule.specs.Node.Status.{Ceased, Core, Gone, Joining, Leaving}
 use Rattle.tap_rule.specs.Reaction.{Reaction, message}
@@ -34,7 +34,7 @@ use Rattle.tap_safety.specs.Move.{Move, may_start}
 use Rattle.tap_safety.specs.Move.Move.{Begins, Delivers}
 use Rattle.tap_safety.specs.Moved.{moved, starter}
 use Rattle.tap_safety.specs.System.{System, AmongFrames}
-use Rattle.tap_safety.proofs.Moves.{starts}
+use Rattle.tap_safety.proofs.Moved.{starts}
 use Rattle.tap_safety.proofs.Said.{Said, said_of}
 use Rattle.tap_safety.proofs.Said.Said.{IsSeek, IsTell}
 use Rattle.tap_moves.specs.ByRule.{taken_at}
@@ -43,13 +43,13 @@ use Rattle.tap_moves.specs.InvariantLaws.{IsDelivery}
 use Rattle.tap_moves.proofs.Got.{same_name}
 use Rattle.tap_moves.proofs.InvariantMoves.{due}
 use Rattle.tap_moves.proofs.MovesMade.{by_rule, is_found}
-use Rattle.tap_safety_moves.specs.Moves.{after_moves, may_run}
+use Rattle.tap_safety_moves.specs.SoundMoves.{after_moves, may_run}
 use Rattle.tap_safety_moves.specs.Sound.{Sound}
 use Rattle.tap_safety_moves.proofs.Members.{sound_at_rest}
-use Rattle.tap_safety_moves.proofs.Moves.{move_keeps}
+use Rattle.tap_safety_moves.proofs.SoundMoves.{move_keeps}
 use Rattle.tap_safety_moves.proofs.Delivered.{is_delivery}
 use Rattle.tap_bounds.specs.Hellos.{FewAreOnce, HellosAreFew, HellosAtRest, MoveKeepsHellos, RunHellosFew, if_covered, is_core_hello, is_joining_hello, most_as_core, most_as_joining}
-use Rattle.tap_bounds.specs.Moves.{traffic_of}
+use Rattle.tap_bounds.specs.FewSent.{traffic_of}
 use Rattle.tap_bounds.specs.Traffic.{Traffic, no_traffic, sent_by, traffic_after}
 use Rattle.tap_bounds.proofs.Counting.{count-append, count-map_none, counted}
 use Rattle.tap_bounds.proofs.HelloRules.{IsUngreeting, Ungreeting, keeps, rule_ungreeting, start_ungreeting}

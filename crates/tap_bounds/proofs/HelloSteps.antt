@@ -12,7 +12,7 @@ use Rattle.tap_name.specs.declared.slot.Slot.{Slot}
 use Rattle.tap_table.specs.Levels.{is_kept}
 use Rattle.tap_table.specs.Table.{TableValue, pinned as table_pinned}
 use Rattle.tap_table.specs.declared.tie.Tie.{Tie}
-use Rattle.tap_multicast.specs.Covers.{begun, cover_of, level_kept, with_cover}
+use Rattle.tap_multicast.specs.Covers.{begun_cover, cover_of, level_kept, with_cover}
 use Rattle.tap_multicast.specs.Offer.{left, offer}
 use Rattle.tap_multicast.specs.Targets.{targets}
 use Rattle.tap_multicast.specs.declared.covers.Covered.TheVariants.{Already}
@@ -373,7 +373,7 @@ module _ (node : NodeState) (request : Request) (at : node.status ≡ Core) wher
 
     covers_greet : (words : List Tie) (already : Bool) → is_kept kept request.level ≡ already
         → Greets node (with_words words (covers_as pinning request
-        (cond already Already (begun t request.watch (cover_of t kept request.joiner request.prefix request.level)))))
+        (cond already Already (begun_cover t request.watch (cover_of t kept request.joiner request.prefix request.level)))))
     covers_greet words true was =
         ungreeting_greets node (with_words words (sends pinning answers)) (keeps node _ refl refl refl (answer_plain request.parent))
     covers_greet words false fresh =

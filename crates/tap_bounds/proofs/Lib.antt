@@ -1,8 +1,8 @@
 pub mod Counting
-pub mod Rules
+pub mod PlainRules
 pub mod Sent
 pub mod SeekMoves
-pub mod Moves
+pub mod FewSent
 pub mod OneWay
 pub mod PairLays
 pub mod Publications
@@ -14,7 +14,7 @@ pub mod HelloRules
 pub mod Greeted
 pub mod HelloSteps
 pub mod HelloMoves
-pub mod Taken
+pub mod KnownTaken
 pub mod AckRules
 pub mod AckSteps
 pub mod AckMoves

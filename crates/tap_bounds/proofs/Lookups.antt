@@ -20,7 +20,7 @@ use Rattle.tap_rule.specs.Event.{Acted, News}
 use Rattle.tap_rule.specs.Event.Event.{Starts}
 use Rattle.tap_rule.specs.Event.Start.{Find as StartFind}
 use Rattle.tap_rule.specs.FrameRules.{frame_at_ceased, frame_at_joining, rule_of_frame}
-use Rattle.tap_rule.specs.Laws.{frame_to}
+use Rattle.tap_rule.specs.RuleLaws.{frame_to}
 use Rattle.tap_rule.specs.Node.{IsRunning, NodeState, Status, name_of}
 use Rattle.tap_rule.specs.Node.Status.{Ceased, Core, Gone, Joining, Leaving}
 use Rattle.tap_rule.specs.PointerSteps.{FindStep, LookupStep}
@@ -31,16 +31,16 @@ use Rattle.tap_rule.proofs.PointerSteps.{find_law, found_law, lookup_law}
 use Rattle.tap_safety.specs.Move.{MayActOn}
 use Rattle.tap_safety.specs.Move.Move.{Begins}
 use Rattle.tap_safety.specs.Moved.{moved}
-use Rattle.tap_safety.specs.Step.{numbered_from}
+use Rattle.tap_safety.specs.Exchanges.{numbered_from}
 use Rattle.tap_safety.specs.System.{System}
-use Rattle.tap_safety.proofs.Moves.{starts}
+use Rattle.tap_safety.proofs.Moved.{starts}
 use Rattle.tap_moves.specs.ByRule.{taken_at}
 use Rattle.tap_moves.specs.Delivered.{after_start}
 use Rattle.tap_moves.specs.InvariantLaws.{IsDelivery}
 use Rattle.tap_moves.proofs.SeekGoesOn.{one_sent}
 use Rattle.tap_safety_moves.specs.Sound.{Sound}
-use Rattle.tap_safety_moves.proofs.Moves.{move_keeps}
-use Rattle.tap_bounds.specs.Lookups.{LookupSendsFew}
+use Rattle.tap_safety_moves.proofs.SoundMoves.{move_keeps}
+use Rattle.tap_bounds.specs.FewLookups.{LookupSendsFew}
 use Rattle.tap_bounds.specs.Traffic.{no_traffic, sent_by, traffic_after}
 use Rattle.tap_bounds.proofs.OneWay.{MoveLeft, SendsLeft, deliveries_left, move_left, sends_none, sends_one}
 

@@ -24,7 +24,7 @@ use Rattle.tap_rule.specs.Covering.{request_of}
 use Rattle.tap_rule.specs.Event.{Acted, Start}
 use Rattle.tap_rule.specs.Event.Event.{Starts, Takes}
 use Rattle.tap_rule.specs.FrameRules.{frame_at_ceased, frame_at_core, frame_at_joining, frame_at_leaving, rule_of_frame}
-use Rattle.tap_rule.specs.Laws.{IsCarriedOut, IsIgnored}
+use Rattle.tap_rule.specs.RuleLaws.{IsCarriedOut, IsIgnored}
 use Rattle.tap_rule.specs.Node.{NodeState, Status, name_of}
 use Rattle.tap_rule.specs.Node.Status.{Ceased, Core, Gone, Joining, Leaving}
 use Rattle.tap_rule.specs.Reaction.{Reaction, message}
@@ -35,7 +35,7 @@ use Rattle.tap_safety.specs.Frames.{tell_body}
 use Rattle.tap_safety.specs.Turned.{joiner_of}
 use Rattle.tap_safety.proofs.Said.{Said}
 use Rattle.tap_safety.proofs.Said.Said.{IsSeek, IsTell}
-use Rattle.tap_moves.specs.Spelled.{IsNodeOf}
+use Rattle.tap_moves.specs.KnownNames.{IsNodeOf}
 use Rattle.tap_bounds.specs.Openings.{most_covering, most_opened}
 use Rattle.tap_bounds.proofs.HelloRules.{IsUngreeting, Ungreeting, keeps, rule_ungreeting, start_ungreeting}
 use Rattle.tap_bounds.proofs.OpenRules.{OpensNone, rule_opens_none, start_opens_none}

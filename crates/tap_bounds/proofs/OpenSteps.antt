@@ -10,7 +10,7 @@ use Rattle.tap_name.specs.Settings.{SettingsValue}
 use Rattle.tap_table.specs.Levels.{is_kept}
 use Rattle.tap_table.specs.Table.{TableValue, pinned as table_pinned}
 use Rattle.tap_table.specs.declared.tie.Tie.{Tie}
-use Rattle.tap_multicast.specs.Covers.{begun, cover_of, level_kept, with_cover}
+use Rattle.tap_multicast.specs.Covers.{begun_cover, cover_of, level_kept, with_cover}
 use Rattle.tap_multicast.specs.declared.covers.Covered.TheVariants.{Already}
 use Rattle.tap_multicast.specs.Offer.{left, offer}
 use Rattle.tap_multicast.specs.Targets.{targets}
@@ -203,7 +203,7 @@ module _ (p : SettingsValue) (node : NodeState) (request : Request) (at : node.s
 
     covers_opens : (words : List Tie) (already : Bool) → is_kept kept request.level ≡ already
         → Opens p node request.joiner (with_words words (covers_as pinning request
-        (cond already Already (begun t request.watch (cover_of t kept request.joiner request.prefix request.level)))))
+        (cond already Already (begun_cover t request.watch (cover_of t kept request.joiner request.prefix request.level)))))
     covers_opens words true was =
         none_opens p node request.joiner (with_words words (sends pinning answers)) (keeps node _ refl refl refl (answer_plain request.parent))
         refl

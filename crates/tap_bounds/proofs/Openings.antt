@@ -12,7 +12,7 @@ use Rattle.tap_rule.specs.Act.{act}
 use Rattle.tap_rule.specs.Event.{Acted, Start}
 use Rattle.tap_rule.specs.Event.Event.{Starts}
 use Rattle.tap_rule.specs.Event.Start.{Join, Abandon, Publish, Withdraw, Find, Leave, Cast}
-use Rattle.tap_rule.specs.Laws.{frame_to}
+use Rattle.tap_rule.specs.RuleLaws.{frame_to}
 use Rattle.tap_rule.specs.Node.{NodeState, joiner, member_at_rest, name_of}
 use Rattle.tap_safety.specs.AtRest.{member_of, system_at_rest}
 use Rattle.tap_safety.specs.Move.{Move, may_start}
@@ -20,7 +20,7 @@ use Rattle.tap_safety.specs.Move.Move.{Begins, Delivers}
 use Rattle.tap_safety.specs.Moved.{moved, starter}
 use Rattle.tap_safety.specs.System.{System, AmongFrames}
 use Rattle.tap_safety.specs.Turned.{joiner_of}
-use Rattle.tap_safety.proofs.Moves.{starts}
+use Rattle.tap_safety.proofs.Moved.{starts}
 use Rattle.tap_safety.proofs.Said.{said_of}
 use Rattle.tap_moves.specs.ByRule.{taken_at}
 use Rattle.tap_moves.specs.Delivered.{after_delivery, after_start}
@@ -28,10 +28,10 @@ use Rattle.tap_moves.specs.InvariantLaws.{IsDelivery}
 use Rattle.tap_moves.proofs.Got.{same_name}
 use Rattle.tap_moves.proofs.InvariantMoves.{due}
 use Rattle.tap_moves.proofs.MovesMade.{by_rule, is_found}
-use Rattle.tap_safety_moves.specs.Moves.{after_moves, may_run}
+use Rattle.tap_safety_moves.specs.SoundMoves.{after_moves, may_run}
 use Rattle.tap_safety_moves.specs.Sound.{Sound}
 use Rattle.tap_safety_moves.proofs.Members.{sound_at_rest}
-use Rattle.tap_safety_moves.proofs.Moves.{move_keeps}
+use Rattle.tap_safety_moves.proofs.SoundMoves.{move_keeps}
 use Rattle.tap_safety_moves.proofs.Delivered.{is_delivery}
 use Rattle.tap_bounds.specs.Openings.{FewAreOpened, MoveKeepsOpened, OpenedAreFew, OpenedAtRest, Opening, RunOpensFew, is_opened_at, is_opened_for, most_opened, opened_by_move, opened_by_moves}
 use Rattle.tap_bounds.proofs.Counting.{count-append, count-cons}

@@ -25,7 +25,7 @@ use Rattle.tap_rule.specs.Event.{Acted}
 use Rattle.tap_rule.specs.Event.Event.{Starts}
 use Rattle.tap_rule.specs.Event.Start.{Publish}
 use Rattle.tap_rule.specs.FrameRules.{frame_at_ceased, frame_at_joining, rule_of_frame}
-use Rattle.tap_rule.specs.Laws.{frame_to}
+use Rattle.tap_rule.specs.RuleLaws.{frame_to}
 use Rattle.tap_rule.specs.Node.{IsRunning, NodeState, Status, name_of}
 use Rattle.tap_rule.specs.Node.Status.{Ceased, Core, Gone, Joining, Leaving}
 use Rattle.tap_rule.specs.PointerSteps.{PointersStep}
@@ -34,20 +34,20 @@ use Rattle.tap_rule.proofs.PointerSteps.{lay_law, publish_law}
 use Rattle.tap_safety.specs.Move.{MayActOn}
 use Rattle.tap_safety.specs.Move.Move.{Begins, Delivers}
 use Rattle.tap_safety.specs.Moved.{moved}
-use Rattle.tap_safety.specs.Step.{numbered_from}
+use Rattle.tap_safety.specs.Exchanges.{numbered_from}
 use Rattle.tap_safety.specs.System.{System}
-use Rattle.tap_safety.proofs.Moves.{starts}
+use Rattle.tap_safety.proofs.Moved.{starts}
 use Rattle.tap_moves.specs.ByRule.{taken_at}
 use Rattle.tap_moves.specs.Delivered.{after_delivery, after_start}
 use Rattle.tap_moves.specs.InvariantLaws.{IsDelivery}
-use Rattle.tap_moves.specs.Spelled.{IsNodeOf}
+use Rattle.tap_moves.specs.KnownNames.{IsNodeOf}
 use Rattle.tap_moves.proofs.InvariantMoves.{due}
 use Rattle.tap_moves.proofs.MovesMade.{by_rule}
 use Rattle.tap_safety_moves.specs.Sound.{Sound}
-use Rattle.tap_safety_moves.proofs.Moves.{move_keeps}
+use Rattle.tap_safety_moves.proofs.SoundMoves.{move_keeps}
 use Rattle.tap_pointer_moves.specs.Paths.{HoldsPair}
-use Rattle.tap_pointer_moves.specs.Told.{PointersStand}
-use Rattle.tap_pointer_moves.proofs.Moves.{pointers_kept}
+use Rattle.tap_pointer_moves.specs.LaysTold.{PointersStand}
+use Rattle.tap_pointer_moves.proofs.PointersKept.{pointers_kept}
 use Rattle.tap_pointer_moves.proofs.Paths.{pointers_on_paths}
 use Rattle.tap_pointer_moves.proofs.Wanted.{laid_as_wanted}
 use Rattle.tap_bounds.specs.Publications.{PublicationSendsFew}

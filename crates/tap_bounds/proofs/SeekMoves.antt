@@ -15,7 +15,7 @@ use Rattle.tap_join.specs.declared.sought.Sought.TheVariants.{Forward}
 use Rattle.tap_join.proofs.Seeking.{forward_is}
 use Rattle.tap_wire.specs.declared.frame.Body.TheVariants.{Seek}
 use Rattle.tap_wire.specs.declared.frame.Frame.{Frame}
-use Rattle.tap_rule.specs.Laws.{frame_to}
+use Rattle.tap_rule.specs.RuleLaws.{frame_to}
 use Rattle.tap_rule.specs.Node.{NodeState, name_of, settings_of}
 use Rattle.tap_rule.specs.Node.Status.{Core}
 use Rattle.tap_rule.specs.Sending.{message_frame}
@@ -23,7 +23,7 @@ use Rattle.tap_rule.specs.Reaction.{message}
 use Rattle.tap_rule.specs.Sent.{IsAmong}
 use Rattle.tap_safety.specs.Seeking.{IsSeeker}
 use Rattle.tap_safety.specs.SessionSteps.{Exchanges}
-use Rattle.tap_safety.specs.Step.{numbered_from}
+use Rattle.tap_safety.specs.Exchanges.{numbered_from}
 use Rattle.tap_safety.specs.System.{System, AmongFrames}
 use Rattle.tap_moves.specs.ByRule.{taken_at}
 use Rattle.tap_moves.specs.Delivered.{after_delivery}

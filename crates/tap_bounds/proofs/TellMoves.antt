@@ -19,7 +19,7 @@ use Rattle.tap_rule.specs.Event.{Acted, Start}
 use Rattle.tap_rule.specs.Event.Event.{Starts, Takes}
 use Rattle.tap_rule.specs.Event.Start.{Join, Abandon, Publish, Withdraw, Find, Leave, Cast}
 use Rattle.tap_rule.specs.FrameRules.{frame_at_core, rule_of_frame}
-use Rattle.tap_rule.specs.Laws.{IsCarriedOut, IsIgnored, frame_to}
+use Rattle.tap_rule.specs.RuleLaws.{IsCarriedOut, IsIgnored, frame_to}
 use Rattle.tap_rule.specs.Node.{IsRunning, NodeState, Status, joiner, level_of, name_of}
 use Rattle.tap_rule.specs.Node.Status.{Ceased, Core, Gone, Joining, Leaving}
 use Rattle.tap_rule.specs.Reaction.{Reaction, message}
@@ -34,7 +34,7 @@ use Rattle.tap_safety.specs.Move.{Move, may_start}
 use Rattle.tap_safety.specs.Move.Move.{Begins, Delivers}
 use Rattle.tap_safety.specs.Moved.{moved, starter}
 use Rattle.tap_safety.specs.System.{System, AmongFrames}
-use Rattle.tap_safety.proofs.Moves.{starts}
+use Rattle.tap_safety.proofs.Moved.{starts}
 use Rattle.tap_safety.proofs.Said.{Said, said_of}
 use Rattle.tap_safety.proofs.Said.Said.{IsSeek, IsTell}
 use Rattle.tap_moves.specs.ByRule.{taken_at}
@@ -43,12 +43,12 @@ use Rattle.tap_moves.specs.InvariantLaws.{IsDelivery}
 use Rattle.tap_moves.proofs.Got.{same_name}
 use Rattle.tap_moves.proofs.InvariantMoves.{due, name_at, of_node, seeker_not_core, way}
 use Rattle.tap_moves.proofs.MovesMade.{by_rule, is_found}
-use Rattle.tap_safety_moves.specs.Moves.{after_moves, may_run}
+use Rattle.tap_safety_moves.specs.SoundMoves.{after_moves, may_run}
 use Rattle.tap_safety_moves.specs.Sound.{Sound}
 use Rattle.tap_safety_moves.proofs.Members.{sound_at_rest}
-use Rattle.tap_safety_moves.proofs.Moves.{move_keeps}
+use Rattle.tap_safety_moves.proofs.SoundMoves.{move_keeps}
 use Rattle.tap_safety_moves.proofs.Delivered.{is_delivery}
-use Rattle.tap_bounds.specs.Moves.{traffic_of}
+use Rattle.tap_bounds.specs.FewSent.{traffic_of}
 use Rattle.tap_bounds.specs.Tells.{MoveKeepsTells, RunTellsFew, TellsAreFew, TellsAtRest, is_tell, most_tells, tells_sent}
 use Rattle.tap_bounds.specs.Traffic.{Traffic, no_traffic, sent_by, traffic_after}
 use Rattle.tap_bounds.proofs.Counting.{count-append, count-map_none, counted}

@@ -14,8 +14,8 @@ use Rattle.tap_name.specs.declared.slot.Slot.{Slot}
 use Rattle.tap_name.proofs.Membership.{are_distinct-Decides, has_name-Decides}
 use Rattle.tap_table.specs.Levels.{is_kept}
 use Rattle.tap_table.specs.Table.{IsTable, TableValue, pinned as table_pinned}
-use Rattle.tap_table.proofs.Kept.{IsTable-pinned}
-use Rattle.tap_multicast.specs.Covers.{begun, cover_of, level_kept, with_cover}
+use Rattle.tap_table.proofs.KeptTable.{IsTable-pinned}
+use Rattle.tap_multicast.specs.Covers.{begun_cover, cover_of, level_kept, with_cover}
 use Rattle.tap_multicast.specs.Offer.{left, offer}
 use Rattle.tap_multicast.specs.Targets.{targets}
 use Rattle.tap_multicast.specs.declared.covers.Covered.TheVariants.{Already}
@@ -27,7 +27,7 @@ use Rattle.tap_table.specs.declared.tie.Tie.{Tie}
 use Rattle.tap_wire.specs.declared.frame.Body.{Body}
 use Rattle.tap_rule.specs.Answers.{answer_for, next_number, with_session}
 use Rattle.tap_rule.specs.Covering.{Request, answers_awaited, covers_as, greeting, pins_and_covers, tell_for, with_level}
-use Rattle.tap_rule.specs.Kept.{IsNode}
+use Rattle.tap_rule.specs.KeptNode.{IsNode}
 use Rattle.tap_rule.specs.Node.{IsRunning, NodeState, level_of, name_of, settings_of}
 use Rattle.tap_rule.specs.Reaction.{Message, Reaction, message, pin_word, sends, with_pin, with_words}
 use Rattle.tap_rule.specs.Sending.{message_frame}
@@ -405,7 +405,7 @@ module _ (node : NodeState) (is : IsNode node) (request : Request) (named : IsNa
         omega (arith, all, few))
 
     covers_grow : (words : List Tie) (already : Bool) → is_kept kept request.level ≡ already → Grows node (with_words words (covers_as pinning request
-        (cond already Already (begun t request.watch (cover_of t kept request.joiner request.prefix request.level)))))
+        (cond already Already (begun_cover t request.watch (cover_of t kept request.joiner request.prefix request.level)))))
     covers_grow words true was =
         untold_grows node (with_words words (sends pinning answers))
         (record { messages = answer_plain request.parent; covers = inl refl; runs = λ runs. runs })

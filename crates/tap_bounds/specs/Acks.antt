@@ -15,9 +15,9 @@ use Rattle.tap_safety.specs.Move.{Move, may_move}
 use Rattle.tap_safety.specs.Moved.{moved}
 use Rattle.tap_safety.specs.AtRest.{AreMembers, system_at_rest}
 use Rattle.tap_safety.specs.System.{System}
-use Rattle.tap_safety_moves.specs.Moves.{after_moves, may_run}
+use Rattle.tap_safety_moves.specs.SoundMoves.{after_moves, may_run}
 use Rattle.tap_safety_moves.specs.Sound.{Sound}
-use Rattle.tap_bounds.specs.Moves.{traffic_of}
+use Rattle.tap_bounds.specs.FewSent.{traffic_of}
 use Rattle.tap_bounds.specs.Traffic.{Traffic, no_traffic, traffic_after}
 
 abbrev is_ack_kind : Kind → Bool
@@ -32,8 +32,8 @@ abbrev pub is_below_parent : Parent → Bool
 is_below_parent (Root joiner) = false
 is_below_parent (Node name session) = true
 
-abbrev pub is_below : Session → Bool
-is_below s = is_below_parent s.parent
+abbrev pub is_below_node : Session → Bool
+is_below_node s = is_below_parent s.parent
 
 abbrev is_tell_kind : Kind → Bool
 is_tell_kind Tell = true
@@ -53,7 +53,7 @@ is_tell_to x f = is_tell_body f.body && pointwise nat_eq f.to x
 -- name that is no node has sent none.
 pub record AcksAreFew (s : System) (r : Traffic) : Type 0 where
   pub each : (x : List ℕ) (node : NodeState) → s.node x ≡ Some node
-      → count_by (is_ack_from x) r.sent + count_by is_below node.sessions.sessions ≤ count_by (is_tell_to x) r.taken
+      → count_by (is_ack_from x) r.sent + count_by is_below_node node.sessions.sessions ≤ count_by (is_tell_to x) r.taken
   pub fresh : (x : List ℕ) → s.node x ≡ None → count_by (is_ack_from x) r.sent ≡ 0
 
 -- the members with which an overlay begins have sent none

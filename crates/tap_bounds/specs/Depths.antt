@@ -10,7 +10,7 @@ use Rattle.tap_safety.specs.Remembered.{OpenSession}
 use Rattle.tap_safety.specs.Sessions.{IsOpen}
 use Rattle.tap_safety.specs.System.{System, IsUnderWay}
 use Rattle.tap_session_moves.specs.FewMoves.{most_open}
-use Rattle.tap_safety_moves.specs.Moves.{after_moves, may_run}
+use Rattle.tap_safety_moves.specs.SoundMoves.{after_moves, may_run}
 use Rattle.tap_safety_moves.specs.Sound.{Sound}
 
 -- each open session has a depth below 10,752, which is 42 sessions at each of 256 nodes, and no Tell under way has a greater one

@@ -1,7 +1,7 @@
 pub mod Traffic
 pub mod Few
-pub mod Moves
-pub mod Lookups
+pub mod FewSent
+pub mod FewLookups
 pub mod Tells
 pub mod Hellos
 pub mod Taken

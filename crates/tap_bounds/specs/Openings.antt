@@ -14,7 +14,7 @@ use Rattle.tap_safety.specs.Moved.{moved, numbered_frame}
 use Rattle.tap_safety.specs.AtRest.{AreMembers, system_at_rest}
 use Rattle.tap_safety.specs.System.{System}
 use Rattle.tap_safety.specs.Turned.{joiner_of}
-use Rattle.tap_safety_moves.specs.Moves.{after_moves, may_run}
+use Rattle.tap_safety_moves.specs.SoundMoves.{after_moves, may_run}
 use Rattle.tap_safety_moves.specs.Sound.{Sound}
 
 -- ---- what is remembered of the sessions that were opened

@@ -5,11 +5,11 @@ use Rattle.tap_rule.specs.Event.Start.{Publish}
 use Rattle.tap_safety.specs.Move.{Move}
 use Rattle.tap_safety.specs.Move.Move.{Begins}
 use Rattle.tap_safety.specs.System.{System}
-use Rattle.tap_safety_moves.specs.Moves.{may_run}
+use Rattle.tap_safety_moves.specs.SoundMoves.{may_run}
 use Rattle.tap_safety_moves.specs.Sound.{Sound}
-use Rattle.tap_pointer_moves.specs.Told.{PointersStand}
-use Rattle.tap_bounds.specs.Lookups.{AreDeliveries}
-use Rattle.tap_bounds.specs.Moves.{traffic_of}
+use Rattle.tap_pointer_moves.specs.LaysTold.{PointersStand}
+use Rattle.tap_bounds.specs.FewLookups.{AreDeliveries}
+use Rattle.tap_bounds.specs.FewSent.{traffic_of}
 use Rattle.tap_bounds.specs.Traffic.{no_traffic}
 
 -- a publication that starts while no frame is under way, and all that is delivered after it: at most as many frames are sent as names have

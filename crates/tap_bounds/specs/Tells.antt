@@ -11,9 +11,9 @@ use Rattle.tap_safety.specs.Move.{Move, may_move}
 use Rattle.tap_safety.specs.Moved.{moved}
 use Rattle.tap_safety.specs.AtRest.{AreMembers, system_at_rest}
 use Rattle.tap_safety.specs.System.{System}
-use Rattle.tap_safety_moves.specs.Moves.{after_moves, may_run}
+use Rattle.tap_safety_moves.specs.SoundMoves.{after_moves, may_run}
 use Rattle.tap_safety_moves.specs.Sound.{Sound}
-use Rattle.tap_bounds.specs.Moves.{traffic_of}
+use Rattle.tap_bounds.specs.FewSent.{traffic_of}
 use Rattle.tap_bounds.specs.Traffic.{Traffic, no_traffic, traffic_after}
 
 -- whether a body is a Tell of this joiner

@@ -44,11 +44,11 @@ one_or_none None = []
 one_or_none (Some frame) = frame ∷ []
 
 -- the frame that it takes, if it takes one
-unfoldable pub taken_by : System → Move → List Frame
-taken_by s (Begins x start) = []
-taken_by s (Delivers number) = one_or_none (numbered_frame number s.frames)
+unfoldable pub frames_taken_by : System → Move → List Frame
+frames_taken_by s (Begins x start) = []
+frames_taken_by s (Delivers number) = one_or_none (numbered_frame number s.frames)
 
 -- ---- what is remembered after a move
 
 abbrev pub traffic_after : SettingsValue → System → Traffic → Move → Traffic
-traffic_after p s r move = record { sent = r.sent ++ sent_by p s move; taken = r.taken ++ taken_by s move }
+traffic_after p s r move = record { sent = r.sent ++ sent_by p s move; taken = r.taken ++ frames_taken_by s move }

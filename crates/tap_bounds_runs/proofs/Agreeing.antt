@@ -11,10 +11,10 @@ use Rattle.tap_wire.specs.Spelling.{spelling}
 use Rattle.tap_log.specs.Counts.{sent_count}
 use Rattle.tap_log.specs.Frames.{bytes_of}
 use Rattle.tap_log.specs.Kinds.{begins_group, sent_number, taken_number}
-use Rattle.tap_log.specs.Laws.{at_most_one, first_of_both}
+use Rattle.tap_log.specs.MoreRecords.{at_most_one, first_of_both}
 use Rattle.tap_log.specs.declared.record.Record.{Record}
 use Rattle.tap_log.specs.declared.record.Record.TheVariants.{Sent, Step as StepRecord, Taken}
-use Rattle.tap_log.proofs.Growing.{bytes_of-append}
+use Rattle.tap_log.proofs.MoreRecords.{bytes_of-append}
 use Rattle.tap_history.specs.Groups.{is_ended}
 use Rattle.tap_rule.specs.Act.{act}
 use Rattle.tap_rule.specs.Event.{Acted, News, Start}
@@ -25,24 +25,24 @@ use Rattle.tap_safety.specs.Move.{MayArrive, Move, may_move}
 use Rattle.tap_safety.specs.Move.Move.{Delivers}
 use Rattle.tap_safety.specs.Moved.{numbered_frame, starter}
 use Rattle.tap_safety.specs.System.{AmongFrames, System}
-use Rattle.tap_safety.proofs.Moves.{found}
+use Rattle.tap_safety.proofs.Moved.{found}
 use Rattle.tap_runs.specs.Acts.{acted_records, if_so, news_after, news_before, sent_records}
 use Rattle.tap_runs.specs.Beginning.{Beginning, begin_record}
 use Rattle.tap_runs.specs.Course.{Follows, IsCourse, MayFollow, move_of_group, system_of}
 use Rattle.tap_runs.specs.Group.{received_records, records_of_act}
-use Rattle.tap_runs.specs.Laws.{HasBytes}
+use Rattle.tap_runs.specs.CourseLaws.{HasBytes}
 use Rattle.tap_runs.specs.Named.{HaveNames}
 use Rattle.tap_runs.specs.Starts.{announced}
 use Rattle.tap_runs.proofs.Frames.{course_frames_holds, none_of, starting_moves, step_moves, taken_moves}
-use Rattle.tap_runs.proofs.Growing.{by_groups, grown}
+use Rattle.tap_runs.proofs.CourseGrows.{by_groups, grown}
 use Rattle.tap_runs.proofs.Within.{IsIdle, IsStarting, Within, step_kind, step_within, taken_within}
 use Rattle.tap_safe_runs.specs.Safe.{IsRun}
 use Rattle.tap_safe_runs.proofs.Possible.{group_may_move}
 use Rattle.tap_safe_runs.proofs.Safe.{run_begins, runs_are_sound, steps_after, steps_before}
-use Rattle.tap_bounds.specs.Moves.{traffic_of}
-use Rattle.tap_bounds.specs.Traffic.{Traffic, no_traffic, one_or_none, sent_at_delivery, sent_at_frame, sent_at_start, sent_by, taken_by}
+use Rattle.tap_bounds.specs.FewSent.{traffic_of}
+use Rattle.tap_bounds.specs.Traffic.{Traffic, frames_taken_by, no_traffic, one_or_none, sent_at_delivery, sent_at_frame, sent_at_start, sent_by}
 use Rattle.tap_bounds_runs.specs.Traffic.{TrafficAgrees, bytes_sent, moves_of, traffic_in}
-use Rattle.tap_bounds_runs.proofs.Moves.{grown_moves, rest, run_goes, start_moves, traffic_is, traffic_more}
+use Rattle.tap_bounds_runs.proofs.RunMoves.{grown_moves, rest, run_goes, start_moves, traffic_is, traffic_more}
 
 -- ---- the records of what a node does
 
@@ -119,7 +119,7 @@ sent_with p s (Some move) = sent_by p s move
 
 abbrev taken_with : System → Option Move → List Frame
 taken_with s None = []
-taken_with s (Some move) = taken_by s move
+taken_with s (Some move) = frames_taken_by s move
 
 sends_none : (item : Record) → sent_number item ≡ None → bytes_sent item ≡ None
 unfolding sent_number bytes_sent
@@ -202,14 +202,14 @@ module _ (b : Beginning) (log group : List Record) (run : IsRun b log) (follows 
 
   start_takes : (index : ℕ) (step : Step) (items : List Record) → All Within items
       → IsStarting b.settings log (system_of log) step items → TakesSo (StepRecord index step ∷ items)
-  unfolding taken_number taken_by
+  unfolding taken_number frames_taken_by
   start_takes index step items within starting =
       ap (map (bytes_of log)) (none_taken items within)
       ∙ ap (λ m. map (λ frame. Some (spelling b.settings frame)) (taken_with (system_of log) m))
       (sym (starting_moves b.settings log (system_of log) index step items starting))
 
   frame_takes : (number : ℕ) (items : List Record) → All Within items → MayArrive (system_of log) number → TakesSo (Taken number ∷ items)
-  unfolding taken_number taken_by
+  unfolding taken_number frames_taken_by
   frame_takes number items within may =
       let sound = runs_are_sound b log run in
       let frames = course_frames_holds b log run.course run.going in

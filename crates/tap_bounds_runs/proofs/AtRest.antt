@@ -10,26 +10,26 @@ use Rattle.tap_log.specs.Kinds.{accepts, begins_group, is_carried, sent_number}
 use Rattle.tap_log.specs.declared.record.Record.{Record}
 use Rattle.tap_log.specs.declared.record.Record.TheVariants.{Asked, Published}
 use Rattle.tap_history.specs.Moments.{awaiting, is_none, is_rest, is_still, under_way}
-use Rattle.tap_history.specs.Steps.{actor_of}
+use Rattle.tap_history.specs.StepAsks.{actor_of}
 use Rattle.tap_rule.specs.Event.{Start}
 use Rattle.tap_rule.specs.Event.Start.{Find as StartFind, Publish as StartPublish}
 use Rattle.tap_safety.specs.Move.Move.{Begins}
 use Rattle.tap_runs.specs.Beginning.{Beginning}
 use Rattle.tap_runs.specs.Course.{system_of}
 use Rattle.tap_runs.specs.Group.{start_at}
-use Rattle.tap_runs.specs.Laws.{frame_numbers}
+use Rattle.tap_runs.specs.CourseLaws.{frame_numbers}
 use Rattle.tap_runs.specs.Starts.{next_ticket, start_of_step}
 use Rattle.tap_runs.proofs.Frames.{course_frames_holds}
 use Rattle.tap_runs.proofs.Nodes.{name_at, start_in}
-use Rattle.tap_safety_moves.specs.Moves.{may_run}
+use Rattle.tap_safety_moves.specs.SoundMoves.{may_run}
 use Rattle.tap_lawful.specs.Next.{beginning_in}
-use Rattle.tap_safe_runs.specs.Headline.{OfLawfulLogs}
+use Rattle.tap_safe_runs.specs.SafeLogs.{OfLawfulLogs}
 use Rattle.tap_safe_runs.specs.Moments.{AtEachMoment}
 use Rattle.tap_safe_runs.specs.Safe.{IsRun}
 use Rattle.tap_safe_runs.proofs.Lawful.{lawful_logs_are_safe}
 use Rattle.tap_safe_runs.proofs.Safe.{run_at_moment, runs_are_sound}
 use Rattle.tap_pointer_runs.proofs.Runs.{run_grown}
-use Rattle.tap_bounds.specs.Moves.{traffic_of}
+use Rattle.tap_bounds.specs.FewSent.{traffic_of}
 use Rattle.tap_bounds.specs.Traffic.{no_traffic}
 use Rattle.tap_bounds.proofs.Lookups.{lookup_sends_few}
 use Rattle.tap_bounds.proofs.Publications.{publication_sends_few}

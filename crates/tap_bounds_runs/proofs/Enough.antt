@@ -11,10 +11,10 @@ use Rattle.tap_scenario.specs.declared.step.Step.TheVariants.{Abandon, Cast, Dep
 use Rattle.tap_wire.specs.Spelling.{spelling}
 use Rattle.tap_log.specs.Counts.{sent_count}
 use Rattle.tap_log.specs.Kinds.{is_carried}
-use Rattle.tap_log.specs.Laws.{at_most_one}
+use Rattle.tap_log.specs.MoreRecords.{at_most_one}
 use Rattle.tap_log.specs.declared.record.Record.{Record}
 use Rattle.tap_log.specs.declared.record.Record.TheVariants.{Step as StepRecord}
-use Rattle.tap_history.specs.Steps.{actor_of, join_name}
+use Rattle.tap_history.specs.StepAsks.{actor_of, join_name}
 use Rattle.tap_rule.specs.Act.{act}
 use Rattle.tap_rule.specs.Event.{Start}
 use Rattle.tap_rule.specs.Event.Event.{Starts}
@@ -30,27 +30,27 @@ use Rattle.tap_runs.specs.Group.{start_at}
 use Rattle.tap_runs.specs.Groups.{step_group}
 use Rattle.tap_runs.specs.Starts.{start_of_step}
 use Rattle.tap_runs.proofs.Frames.{starting_moves, step_moves, taken_moves}
-use Rattle.tap_runs.proofs.Growing.{course_grows_holds}
+use Rattle.tap_runs.proofs.CourseGrows.{course_grows_holds}
 use Rattle.tap_runs.proofs.Nodes.{start_in}
 use Rattle.tap_runs.proofs.Within.{step_kind}
 use Rattle.tap_lawful.specs.Lawful.{IsPlayed}
 use Rattle.tap_lawful.specs.Next.{beginning_in, begun_count}
 use Rattle.tap_lawful.proofs.Coming.{BeginsNext, TakesDue, comes_may, coming, due_waits}
-use Rattle.tap_lawful.proofs.Steps.{played_steps}
+use Rattle.tap_lawful.proofs.BegunSteps.{played_steps}
 use Rattle.tap_safe_runs.specs.Safe.{IsRun}
 use Rattle.tap_safe_runs.proofs.Lawful.{lawful_logs_are_safe}
 use Rattle.tap_safe_runs.proofs.Possible.{may_take}
 use Rattle.tap_safe_runs.proofs.Safe.{runs_are_sound}
-use Rattle.tap_bounds.specs.Moves.{traffic_of}
+use Rattle.tap_bounds.specs.FewSent.{traffic_of}
 use Rattle.tap_bounds.specs.Traffic.{Traffic, no_traffic, sent_by}
 use Rattle.tap_join_bounds.specs.OfJoins.{JoinsAlone}
 use Rattle.tap_bounds_runs.specs.Enough.{AsksForJoinsAlone, EndsFinished, HasEnoughFrames, NeverSpent, joined_by_steps}
 use Rattle.tap_bounds_runs.specs.Joins.{AcceptsJoinsAlone, joined_in, most_of_joins, is_other_start}
 use Rattle.tap_bounds_runs.specs.Traffic.{bytes_sent, moves_of, traffic_in}
 use Rattle.tap_bounds_runs.proofs.Agreeing.{group_sends, run_agrees, sent_is, sent_one, sent_with, traffic_with}
-use Rattle.tap_bounds_runs.proofs.Begun.{alone_begun, first_steps, joins_begun, joins_of_first, joins_with, most_grows, most_more, this_step}
+use Rattle.tap_bounds_runs.proofs.JoinsBegun.{alone_begun, first_steps, joins_begun, joins_of_first, joins_with, most_grows, most_more, this_step}
 use Rattle.tap_bounds_runs.proofs.JoinLogs.{alone_more, has_joins, joined_more}
-use Rattle.tap_bounds_runs.proofs.Moves.{may_both, rest, run_goes, traffic_is}
+use Rattle.tap_bounds_runs.proofs.RunMoves.{may_both, rest, run_goes, traffic_is}
 use Rattle.tap_bounds_runs.proofs.Sum.{run_joins_send_few}
 
 -- ---- the group of a step

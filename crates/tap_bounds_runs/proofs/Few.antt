@@ -5,10 +5,10 @@ use Rattle.tap_safety.specs.AtRest.{AreMembers}
 use Rattle.tap_safety.specs.System.{System}
 use Rattle.tap_runs.specs.Beginning.{Beginning}
 use Rattle.tap_runs.specs.Course.{system_of}
-use Rattle.tap_runs.proofs.Growing.{course_grows_holds}
-use Rattle.tap_safety_moves.specs.Moves.{after_moves}
+use Rattle.tap_runs.proofs.CourseGrows.{course_grows_holds}
+use Rattle.tap_safety_moves.specs.SoundMoves.{after_moves}
 use Rattle.tap_lawful.specs.Next.{beginning_in}
-use Rattle.tap_safe_runs.specs.Headline.{OfLawfulLogs}
+use Rattle.tap_safe_runs.specs.SafeLogs.{OfLawfulLogs}
 use Rattle.tap_safe_runs.specs.Moments.{AtEachMoment}
 use Rattle.tap_safe_runs.specs.Safe.{IsRun}
 use Rattle.tap_safe_runs.proofs.Lawful.{lawful_logs_are_safe}
@@ -17,20 +17,20 @@ use Rattle.tap_bounds.specs.Acks.{AcksAreFew}
 use Rattle.tap_bounds.specs.Dones.{DonesAreFew}
 use Rattle.tap_bounds.specs.Few.{FewAreSent}
 use Rattle.tap_bounds.specs.Hellos.{HellosAreFew}
-use Rattle.tap_bounds.specs.Moves.{traffic_of}
+use Rattle.tap_bounds.specs.FewSent.{traffic_of}
 use Rattle.tap_bounds.specs.Taken.{AllAreKnown}
 use Rattle.tap_bounds.specs.Tells.{TellsAreFew}
 use Rattle.tap_bounds.specs.Traffic.{Traffic, no_traffic}
 use Rattle.tap_bounds.proofs.AckMoves.{run_acks_few}
 use Rattle.tap_bounds.proofs.Dones.{run_dones_few}
 use Rattle.tap_bounds.proofs.HelloMoves.{run_hellos_few}
-use Rattle.tap_bounds.proofs.Moves.{run_sends_few}
-use Rattle.tap_bounds.proofs.Taken.{run_knows_all}
+use Rattle.tap_bounds.proofs.FewSent.{run_sends_few}
+use Rattle.tap_bounds.proofs.KnownTaken.{run_knows_all}
 use Rattle.tap_bounds.proofs.TellMoves.{run_tells_few}
 use Rattle.tap_bounds_runs.specs.Few.{FramesAreFew, FramesAreKnown}
 use Rattle.tap_bounds_runs.specs.Traffic.{moves_of, traffic_in}
 use Rattle.tap_bounds_runs.proofs.Agreeing.{run_agrees}
-use Rattle.tap_bounds_runs.proofs.Moves.{rest, run_goes, traffic_is}
+use Rattle.tap_bounds_runs.proofs.RunMoves.{rest, run_goes, traffic_is}
 
 module _ (b : Beginning) (log : List Record) (run : IsRun b log) where
   members : AreMembers b.settings b.members

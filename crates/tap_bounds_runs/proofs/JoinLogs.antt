@@ -9,36 +9,36 @@ use Rattle.tap_name.proofs.Membership.{among-append, are_distinct-Decides, has_n
 use Rattle.tap_scenario.specs.declared.step.Step.{Step}
 use Rattle.tap_log.specs.Counts.{sent_count}
 use Rattle.tap_log.specs.Kinds.{is_carried}
-use Rattle.tap_log.specs.Laws.{at_most_one}
+use Rattle.tap_log.specs.MoreRecords.{at_most_one}
 use Rattle.tap_log.specs.declared.record.Record.{Record}
 use Rattle.tap_history.specs.Core.{accepted_in, accepted_steps, joins_of}
 use Rattle.tap_history.specs.Groups.{is_ended}
 use Rattle.tap_history.specs.Names.{names_of, with_name}
-use Rattle.tap_history.specs.Steps.{join_name}
-use Rattle.tap_history.proofs.Growing.{record_changes_hold}
+use Rattle.tap_history.specs.StepAsks.{join_name}
+use Rattle.tap_history.proofs.RecordChanges.{record_changes_hold}
 use Rattle.tap_history.proofs.OneMoreGroup.{accepted_in-group, is_carried-group}
 use Rattle.tap_history.proofs.Telling.{names_of-group}
 use Rattle.tap_safety.specs.Move.{Move}
 use Rattle.tap_runs.specs.Beginning.{Beginning, IsWithinLimits, begin_record}
 use Rattle.tap_runs.specs.Course.{Follows, IsCourse, move_of_group, system_of}
 use Rattle.tap_runs.specs.Named.{HaveNames}
-use Rattle.tap_runs.proofs.Growing.{by_groups, course_grows_holds, starts_uncarried, whole}
+use Rattle.tap_runs.proofs.CourseGrows.{by_groups, course_grows_holds, starts_uncarried, whole}
 use Rattle.tap_runs.proofs.Within.{IsWhole}
 use Rattle.tap_lawful.specs.Next.{beginning_in}
-use Rattle.tap_safe_runs.specs.Headline.{OfLawfulLogs}
+use Rattle.tap_safe_runs.specs.SafeLogs.{OfLawfulLogs}
 use Rattle.tap_safe_runs.specs.Moments.{AtEachMoment}
 use Rattle.tap_safe_runs.specs.Safe.{IsRun}
 use Rattle.tap_safe_runs.proofs.Lawful.{lawful_logs_are_safe}
 use Rattle.tap_safe_runs.proofs.Possible.{group_may_move}
 use Rattle.tap_safe_runs.proofs.Safe.{run_at_moment, runs_are_sound, steps_after, steps_before}
-use Rattle.tap_bounds.specs.Moves.{traffic_of}
+use Rattle.tap_bounds.specs.FewSent.{traffic_of}
 use Rattle.tap_bounds.specs.Traffic.{Traffic, no_traffic}
 use Rattle.tap_join_bounds.specs.OfJoins.{JoinsAlone}
 use Rattle.tap_bounds_runs.specs.Joins.{AcceptsJoinsAlone, JoinsSendFew, joined_by, joined_in, most_of_joins, is_other_start}
 use Rattle.tap_bounds_runs.specs.Traffic.{moves_of, traffic_in}
 use Rattle.tap_bounds_runs.proofs.Accepts.{Accepts, group_accepts}
 use Rattle.tap_bounds_runs.proofs.Agreeing.{run_agrees, sent_is}
-use Rattle.tap_bounds_runs.proofs.Moves.{grown_moves, rest, run_goes, start_moves, traffic_is}
+use Rattle.tap_bounds_runs.proofs.RunMoves.{grown_moves, rest, run_goes, start_moves, traffic_is}
 use Rattle.tap_bounds_runs.proofs.Sum.{run_joins_send_few}
 
 -- ---- names, each once

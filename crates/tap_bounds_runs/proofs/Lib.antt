@@ -1,13 +1,13 @@
-pub mod Moves
+pub mod RunMoves
 pub mod Agreeing
 pub mod Few
 pub mod Sums
-pub mod Named
+pub mod NamedRuns
 pub mod ByKind
 pub mod Sum
 pub mod Accepts
 pub mod JoinLogs
-pub mod Begun
+pub mod JoinsBegun
 pub mod Enough
 pub mod Since
 pub mod AtRest

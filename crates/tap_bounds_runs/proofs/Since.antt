@@ -4,12 +4,12 @@ use Rattle.std.specs.Prelude.{is_some}
 use Rattle.tap_scenario.specs.declared.step.Step.{Step}
 use Rattle.tap_log.specs.Counts.{sent_count}
 use Rattle.tap_log.specs.Kinds.{accepts, begins_group, sent_number}
-use Rattle.tap_log.specs.Laws.{at_most_one}
+use Rattle.tap_log.specs.MoreRecords.{at_most_one}
 use Rattle.tap_log.specs.declared.record.Record.{Record}
 use Rattle.tap_log.specs.declared.record.Record.TheVariants.{Step as StepRecord, Taken}
-use Rattle.tap_log.proofs.Growing.{sent_count-append}
+use Rattle.tap_log.proofs.MoreRecords.{sent_count-append}
 use Rattle.tap_history.specs.Groups.{is_ended}
-use Rattle.tap_history.specs.Steps.{is_start}
+use Rattle.tap_history.specs.StepAsks.{is_start}
 use Rattle.tap_rule.specs.Event.{Start}
 use Rattle.tap_safety.specs.Move.{Move, may_move}
 use Rattle.tap_safety.specs.Move.Move.{Begins, Delivers}
@@ -18,23 +18,23 @@ use Rattle.tap_runs.specs.Beginning.{Beginning, begin_record}
 use Rattle.tap_runs.specs.Course.{Follows, IsCourse, MayFollow, move_of_group, moved_by, system_of}
 use Rattle.tap_runs.specs.Group.{start_at}
 use Rattle.tap_runs.specs.Named.{HaveNames}
-use Rattle.tap_runs.proofs.Growing.{by_groups, grown_system}
+use Rattle.tap_runs.proofs.CourseGrows.{by_groups, grown_system}
 use Rattle.tap_runs.proofs.Nodes.{HasNoStep}
 use Rattle.tap_runs.proofs.Within.{is_accepted, step_kind}
 use Rattle.tap_runs.proofs.Frames.{starting_moves}
-use Rattle.tap_safety_moves.specs.Moves.{after_moves, may_run}
+use Rattle.tap_safety_moves.specs.SoundMoves.{after_moves, may_run}
 use Rattle.tap_safe_runs.specs.Safe.{IsRun}
 use Rattle.tap_safe_runs.proofs.Possible.{group_may_move}
 use Rattle.tap_safe_runs.proofs.Safe.{runs_are_sound, steps_after, steps_before}
-use Rattle.tap_safe_runs.specs.Starts.{AcceptNoStart}
+use Rattle.tap_safe_runs.specs.Accepting.{AcceptNoStart}
 use Rattle.tap_safe_runs.proofs.GroupKinds.{IsKnownGroup, group_kind}
 use Rattle.tap_safe_runs.proofs.Splits.{no_step_among, none_in_first, none_in_second, parted_where}
 use Rattle.tap_safe_runs.proofs.Starting.{start_group_accepts}
-use Rattle.tap_bounds.specs.Lookups.{AreDeliveries}
-use Rattle.tap_bounds.specs.Moves.{traffic_of}
+use Rattle.tap_bounds.specs.FewLookups.{AreDeliveries}
+use Rattle.tap_bounds.specs.FewSent.{traffic_of}
 use Rattle.tap_bounds.specs.Traffic.{Traffic, no_traffic}
 use Rattle.tap_bounds_runs.proofs.Agreeing.{group_sends, sent_is, sent_one, sent_with}
-use Rattle.tap_bounds_runs.proofs.Moves.{after_more, after_one, may_more, may_one, traffic_more}
+use Rattle.tap_bounds_runs.proofs.RunMoves.{after_more, after_one, may_more, may_one, traffic_more}
 
 -- ---- deliveries
 

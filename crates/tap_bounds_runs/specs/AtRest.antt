@@ -8,7 +8,7 @@ use Rattle.tap_log.specs.Counts.{sent_count}
 use Rattle.tap_log.specs.declared.record.Record.{Record}
 use Rattle.tap_log.specs.declared.record.Record.TheVariants.{Published, Step as StepRecord}
 use Rattle.tap_history.specs.Moments.{is_rest}
-use Rattle.tap_safe_runs.specs.Starts.{AcceptNoStart, IsAskedAtRest}
+use Rattle.tap_safe_runs.specs.Accepting.{AcceptNoStart, IsAskedAtRest}
 
 -- a lookup that is accepted at a rest, and all records after it, of which none accepts a start: at most one `Sent` record more than names
 -- have digits

@@ -5,7 +5,7 @@ use Rattle.std.specs.Prelude.{◌≡◌, ℕ, ◌+◌, ◌≤◌, List, [], filt
 use Rattle.std.specs.List.{filter_map}
 use Rattle.tap_scenario.specs.Scenario.{IsScript, ScenarioValue}
 use Rattle.tap_log.specs.declared.record.Record.{Record}
-use Rattle.tap_history.specs.Steps.{join_name}
+use Rattle.tap_history.specs.StepAsks.{join_name}
 use Rattle.tap_lawful.specs.Lawful.{IsFinished, IsPlayed, IsSpent, IsWholeLogOf}
 use Rattle.tap_bounds_runs.specs.Joins.{most_of_joins, is_other_start}
 

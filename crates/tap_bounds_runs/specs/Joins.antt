@@ -9,13 +9,13 @@ use Rattle.tap_log.specs.Counts.{sent_count}
 use Rattle.tap_log.specs.declared.record.Record.{Record}
 use Rattle.tap_history.specs.Core.{accepted_steps}
 use Rattle.tap_history.specs.Names.{join_count, name_count}
-use Rattle.tap_history.specs.Steps.{is_start, join_name}
+use Rattle.tap_history.specs.StepAsks.{is_start, join_name}
 use Rattle.tap_rule.specs.Event.Start.{Join}
 use Rattle.tap_safety.specs.AtRest.{AreMembers, system_at_rest}
 use Rattle.tap_safety.specs.Move.{Move}
 use Rattle.tap_safety.specs.Move.Move.{Begins}
-use Rattle.tap_safety_moves.specs.Moves.{may_run}
-use Rattle.tap_bounds.specs.Moves.{traffic_of}
+use Rattle.tap_safety_moves.specs.SoundMoves.{may_run}
+use Rattle.tap_bounds.specs.FewSent.{traffic_of}
 use Rattle.tap_bounds.specs.Traffic.{no_traffic}
 use Rattle.tap_join_bounds.specs.OfJoins.{JoinsAlone}
 

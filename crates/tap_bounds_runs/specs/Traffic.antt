@@ -13,7 +13,7 @@ use Rattle.tap_history.specs.Groups.{beginning_of, groups_of}
 use Rattle.tap_safety.specs.AtRest.{system_at_rest}
 use Rattle.tap_safety.specs.Move.{Move}
 use Rattle.tap_runs.specs.Course.{move_of_group}
-use Rattle.tap_bounds.specs.Moves.{traffic_of}
+use Rattle.tap_bounds.specs.FewSent.{traffic_of}
 use Rattle.tap_bounds.specs.Traffic.{Traffic, no_traffic}
 
 -- ---- the moves of a log

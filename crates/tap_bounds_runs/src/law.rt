@@ -2,7 +2,7 @@ ghost use Rattle.tap_bounds_runs.specs.AtRest.{LookupsAtRestSendFew, Publication
 ghost use Rattle.tap_bounds_runs.specs.Enough.{EndsFinished, NeverSpent};
 ghost use Rattle.tap_bounds_runs.specs.Few.{FramesAreFew, FramesAreKnown};
 ghost use Rattle.tap_bounds_runs.specs.Joins.{JoinsSendFew, RunJoinsSendFew};
-ghost use Rattle.tap_safe_runs.specs.Headline.{OfLawfulLogs};
+ghost use Rattle.tap_safe_runs.specs.SafeLogs.{OfLawfulLogs};
 ghost use Rattle.tap_safe_runs.specs.Moments.{AtEachMoment};
 
 /// At each moment of a run the frames that its moves have sent and taken are those of its log: the log has a `Sent` record with the bytes

@@ -7,7 +7,7 @@ use Rattle.std.proofs.lemmas.List.Elements.{All-cons, All-head, All-nil, All-tai
 use Rattle.std.proofs.lemmas.List.Kept.{AllPairs-cons}
 use Rattle.tap_name.specs.declared.slot.Slot.{Slot}
 use Rattle.tap_name.specs.Order.{AreAscending, IsBelow}
-use Rattle.tap_link.specs.Entry.{Entry}
+use Rattle.tap_link.specs.Entry.{LinkEntry}
 use Rattle.tap_link.specs.LinkSet.{is_pinned, is_settled, least_settled}
 use Rattle.tap_table.specs.ByName.{slots_by_name, targets_of}
 use Rattle.tap_table.specs.Table.{IsTable, SlotLinks, TableValue, links_at}
@@ -99,7 +99,7 @@ module _ (t : TableValue) (from to : ℕ) where
     pub targets_ascend : AreAscending (told_names (cast_targets t from to))
     targets_ascend =
         let slots = slots_by_name t.settings t.owner in
-        let links = map-flat_map (λ (e : Entry (List ℕ)). e.target) (links_at t) slots in
+        let links = map-flat_map (λ (e : LinkEntry (List ℕ)). e.target) (links_at t) slots in
         let targets = map-flat_map (λ (target : CastTarget). target.to) (targets_between t from to) slots in
         subst AreAscending (sym targets)
         (AllPairs-thinned (λ slot. targets_of (links_at t slot)) told_in all_told_in IsBelow told_in_ascends slots

@@ -12,7 +12,7 @@ use Rattle.tap_name.specs.Prefix.{lcp}
 use Rattle.tap_name.proofs.Prefixes.{lcp-differs, lcp-is}
 use Rattle.tap_link.specs.declared.kind.Kind.{Kind}
 use Rattle.tap_link.specs.declared.kind.Kind.TheVariants.{Leaving, Pin, Settled}
-use Rattle.tap_link.specs.Entry.{Entry}
+use Rattle.tap_link.specs.Entry.{LinkEntry}
 use Rattle.tap_link.specs.LinkSet.{is_pinned, least_settled}
 use Rattle.tap_link.proofs.Least.{least_settled_is}
 use Rattle.tap_table.specs.ByName.{slots_by_name}
@@ -48,13 +48,13 @@ level_parts from to level is =
     let parts = and_parts (nat_le from level) (nat_lt level to) is in (leb-true from level parts.0, ltb-true level to parts.1)
 
 -- a pin is among the pins
-pin_listed : (links : SlotLinks) (i : ℕ) (e : Entry (List ℕ)) → slice_get links i ≡ Some e → is_pinned (Some e.kind) ≡ true
+pin_listed : (links : SlotLinks) (i : ℕ) (e : LinkEntry (List ℕ)) → slice_get links i ≡ Some e → is_pinned (Some e.kind) ≡ true
     → (j : ℕ) × (slice_get (pins_of links) j ≡ Some e.target)
 pin_listed [] i e got pinned = cc
 pin_listed (f ∷ links) zero e got pinned =
     let same : f ≡ e = cc in
-    let here : is_pinned (Some f.kind) ≡ true = ap (λ (x : Entry (List ℕ)). is_pinned (Some x.kind)) same ∙ pinned in
-    (0, rw here (ap (λ (x : Entry (List ℕ)). Some x.target) same))
+    let here : is_pinned (Some f.kind) ≡ true = ap (λ (x : LinkEntry (List ℕ)). is_pinned (Some x.kind)) same ∙ pinned in
+    (0, rw here (ap (λ (x : LinkEntry (List ℕ)). Some x.target) same))
 pin_listed (f ∷ links) (suc i) e got pinned =
     let rest = pin_listed links i e got pinned in
     elim (cases_Bool (is_pinned (Some f.kind))) [
@@ -64,7 +64,7 @@ pin_listed (f ∷ links) (suc i) e got pinned =
 
 module _ (t : TableValue) (valid : IsTable t) (from to : ℕ) where
   -- a link of a slot of these levels is a target, if it is the slot's primary or one of its pins without one
-  of_link : (slot : Slot) → slot.digit < t.settings.base → is_between from to slot.level ≡ true → (i : ℕ) (e : Entry (List ℕ))
+  of_link : (slot : Slot) → slot.digit < t.settings.base → is_between from to slot.level ≡ true → (i : ℕ) (e : LinkEntry (List ℕ))
       → slice_get (links_at t slot) i ≡ Some e
       → (least_settled (links_at t slot) ≡ Some e.target) ⊎ ((least_settled (links_at t slot) ≡ None) × (e.kind ≡ Pin))
       → IsTarget t from to (told_at (slot.level + 1) e.target)
@@ -96,13 +96,13 @@ module _ (t : TableValue) (valid : IsTable t) (from to : ℕ) where
       by_primary None none =
           let links = links_at t slot in
           let Told : List ℕ → Type 0 = λ name. IsTarget t from to (told_at (slot.level + 1) name) in
-          let Listed : Entry (List ℕ) → Type 0 = λ e. (i : ℕ) × (slice_get links i ≡ Some e) in
-          let pinned_links = filter (λ (e : Entry (List ℕ)). is_pinned (Some e.kind)) links in
+          let Listed : LinkEntry (List ℕ) → Type 0 = λ e. (i : ℕ) × (slice_get links i ≡ Some e) in
+          let pinned_links = filter (λ (e : LinkEntry (List ℕ)). is_pinned (Some e.kind)) links in
           let told = All-filtered (λ e. is_pinned (Some e.kind)) Listed (λ e. Told e.target) links
           (λ k d within. (k, slice_get-get_or links k d within))
           (λ e listed pinned. of_link slot below between listed.0 e listed.1 (inr (none, pinned_kind e.kind pinned))) in
           All-map (IsTarget t from to) (told_at (slot.level + 1)) (pins_of links)
-          (All-map Told (λ (e : Entry (List ℕ)). e.target) pinned_links told)
+          (All-map Told (λ (e : LinkEntry (List ℕ)). e.target) pinned_links told)
       by_primary (Some first) is =
           let links = links_at t slot in
           let least = least_settled_is name_cmp nat_list_cmp_total links first

@@ -5,13 +5,13 @@ use Rattle.std.proofs.lemmas.Option.{slice_get-get_or, slice_get-map}
 use Rattle.std.specs.Option.{option_map}
 use Rattle.tap_link.specs.declared.kind.Kind.{Kind}
 use Rattle.tap_link.specs.declared.kind.Kind.TheVariants.{Pin}
-use Rattle.tap_link.specs.Entry.{Entry}
+use Rattle.tap_link.specs.Entry.{LinkEntry}
 use Rattle.tap_link.specs.LinkSet.{is_pinned}
 use Rattle.tap_table.specs.Table.{SlotLinks}
 use Rattle.tap_cast.specs.Targets.{pins_of}
 
 module _ (links : SlotLinks) (i : ℕ) (inside : i < length links) where
-  abbrev here : Entry (List ℕ)
+  abbrev here : LinkEntry (List ℕ)
   here = get_or links i (record { target = []; kind = Pin })
 
   got : slice_get links i ≡ Some here
@@ -20,13 +20,13 @@ module _ (links : SlotLinks) (i : ℕ) (inside : i < length links) where
   kind_is : (kind : Kind) → slice_get (map (λ e. e.kind) links) i ≡ Some kind → here.kind ≡ kind
   kind_is kind is =
       let same : Some here.kind ≡ Some kind =
-      sym (slice_get-map (λ (e : Entry (List ℕ)). e.kind) links i ∙ ap (option_map (λ (e : Entry (List ℕ)). e.kind)) got) ∙ is in
+      sym (slice_get-map (λ (e : LinkEntry (List ℕ)). e.kind) links i ∙ ap (option_map (λ (e : LinkEntry (List ℕ)). e.kind)) got) ∙ is in
       cc
 
   target_is : (name : List ℕ) → slice_get (map (λ e. e.target) links) i ≡ Some name → here.target ≡ name
   target_is name is =
       let same : Some here.target ≡ Some name =
-      sym (slice_get-map (λ (e : Entry (List ℕ)). e.target) links i ∙ ap (option_map (λ (e : Entry (List ℕ)). e.target)) got) ∙ is in
+      sym (slice_get-map (λ (e : LinkEntry (List ℕ)). e.target) links i ∙ ap (option_map (λ (e : LinkEntry (List ℕ)). e.target)) got) ∙ is in
       cc
 
   parts : drop i links ≡ here ∷ drop (i + 1) links

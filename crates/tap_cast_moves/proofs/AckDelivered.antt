@@ -5,9 +5,9 @@ use Rattle.tap_cast.specs.Casts.{level_of_cast}
 use Rattle.tap_wire.specs.declared.frame.Body.TheVariants.{Cast, CastAck}
 use Rattle.tap_wire.specs.declared.frame.Frame.{Frame}
 use Rattle.tap_rule.specs.Event.{Acted}
-use Rattle.tap_rule.specs.Laws.{frame_to}
+use Rattle.tap_rule.specs.RuleLaws.{frame_to}
 use Rattle.tap_rule.specs.Node.{NodeState, name_of}
-use Rattle.tap_safety.specs.Step.{ChangesAt}
+use Rattle.tap_safety.specs.Exchanges.{ChangesAt}
 use Rattle.tap_safety.specs.System.{System, AmongFrames}
 use Rattle.tap_moves.specs.ByRule.{taken_at}
 use Rattle.tap_moves.specs.InvariantLaws.{IsDelivery}
@@ -24,7 +24,7 @@ use Rattle.tap_cast_moves.proofs.CastTaken.{nothing_true}
 use Rattle.tap_cast_moves.proofs.Noted.{RunsBecome, WillBecome}
 use Rattle.tap_safety.proofs.Chains.{no_session}
 use Rattle.tap_rule.specs.Casts.{cast_news}
-use Rattle.tap_cast_moves.specs.Seen.{cast_name, seen}
+use Rattle.tap_cast_moves.specs.SeenCasts.{cast_name, seen}
 
 module _ (p : SettingsValue) (s : System) (r : CastMemory) (number : ℕ) (node : NodeState) (from : List ℕ) (k : ℕ)
     (is : IsDelivery p s number node from (CastAck k)) (sound : CastsAreSound p s r) where

@@ -17,8 +17,8 @@ use Rattle.tap_rule.specs.Casts.{cast_answer, cast_news, cast_of, is_root, takes
 use Rattle.tap_rule.specs.CastSteps.{CastAckStep}
 use Rattle.tap_rule.specs.Event.{Acted}
 use Rattle.tap_rule.specs.FrameRules.{frame_at_core}
-use Rattle.tap_rule.specs.Kept.{IsNode}
-use Rattle.tap_rule.specs.Laws.{IsCarriedOut, frame_to}
+use Rattle.tap_rule.specs.KeptNode.{IsNode}
+use Rattle.tap_rule.specs.RuleLaws.{IsCarriedOut, frame_to}
 use Rattle.tap_rule.specs.Node.{NodeState, join_session_at, name_of}
 use Rattle.tap_rule.specs.Node.Status.{Core}
 use Rattle.tap_rule.specs.Reaction.{Reaction}
@@ -42,8 +42,8 @@ use Rattle.tap_moves.specs.SessionsLaws.{sent_at}
 use Rattle.tap_moves.proofs.SessionsMade.{node_parts, none_opened}
 use Rattle.tap_cast_moves.specs.Recalled.{runs_noted}
 use Rattle.tap_cast_moves.specs.Remembered.{CastMemory, CastRun}
-use Rattle.tap_cast_moves.specs.Seen.{cast_name, seen, seen_frame, seen_node, seen_parent, seen_session}
-use Rattle.tap_cast_moves.specs.Sessions.{AreSessionsOf, CastSessions, HasCastPlace}
+use Rattle.tap_cast_moves.specs.SeenCasts.{cast_name, seen, seen_frame, seen_node, seen_parent, seen_session}
+use Rattle.tap_cast_moves.specs.CastSessions.{AreSessionsOf, CastSessions, HasCastPlace}
 use Rattle.tap_cast_moves.proofs.AsideMade.{frames_swap, recalled_runs, recalled_sessions}
 use Rattle.tap_cast_moves.proofs.CastMade.{later, node_changes, recall, seen_changes, seen_new, seen_numbered, seen_sent, taking_seen}
 use Rattle.tap_cast_moves.proofs.CastPlaces.{RunGoesOn, StaysCasting, ends_on, places_on, run_goes_on, ways_on}

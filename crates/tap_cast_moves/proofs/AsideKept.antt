@@ -16,11 +16,11 @@ use Rattle.tap_safety.specs.SessionSteps.{LeavesSessions}
 use Rattle.tap_safety.specs.System.{System, AmongFrames, IsCoreNode}
 use Rattle.tap_cast_moves.specs.Audience.{CastAudience, CastsAreSound}
 use Rattle.tap_cast_moves.specs.Cover.{CastCover}
-use Rattle.tap_cast_moves.specs.Kept.{CastsKept, JoinsNoMore}
+use Rattle.tap_cast_moves.specs.KeptCasts.{CastsKept, JoinsNoMore}
 use Rattle.tap_cast_moves.specs.Recalled.{is_core_status}
 use Rattle.tap_cast_moves.specs.Remembered.{CastMemory, CastRun}
-use Rattle.tap_cast_moves.specs.Seen.{cast_name, seen, seen_frame, seen_node, seen_session}
-use Rattle.tap_cast_moves.specs.Sessions.{AreSessionsOf, CastSessions, HasCastEnd, HasCastPlace, IsCastWay, NoCastGoesOn, takes_casts}
+use Rattle.tap_cast_moves.specs.SeenCasts.{cast_name, seen, seen_frame, seen_node, seen_session}
+use Rattle.tap_cast_moves.specs.CastSessions.{AreSessionsOf, CastSessions, HasCastEnd, HasCastPlace, IsCastWay, NoCastGoesOn, takes_casts}
 use Rattle.tap_cast_moves.proofs.AsideRules.{GoesOn, HasNoCasts, KeepsCasts, StartsToLeave}
 use Rattle.tap_cast_moves.proofs.Turning.{left_parts}
 use Rattle.tap_cast_moves.proofs.View.{among_seen, session_seen}

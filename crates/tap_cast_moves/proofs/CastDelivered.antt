@@ -21,7 +21,7 @@ use Rattle.tap_wire.specs.declared.frame.Frame.{Frame}
 use Rattle.tap_rule.specs.Casts.{Copy, cast_for, cast_news, casts_as, takes_cast_outside}
 use Rattle.tap_rule.specs.Event.{Acted}
 use Rattle.tap_rule.specs.FrameRules.{frame_at_ceased, frame_at_core, frame_at_joining, rule_of_frame}
-use Rattle.tap_rule.specs.Laws.{IsCarriedOut, frame_to}
+use Rattle.tap_rule.specs.RuleLaws.{IsCarriedOut, frame_to}
 use Rattle.tap_rule.specs.Node.{NodeState, Status, name_of}
 use Rattle.tap_rule.specs.Node.Status.{Ceased, Core, Gone, Joining, Leaving}
 use Rattle.tap_rule.specs.Reaction.{Reaction}
@@ -30,20 +30,20 @@ use Rattle.tap_rule.proofs.Among.{among-map}
 use Rattle.tap_rule.proofs.CarriedOut.{frame_law}
 use Rattle.tap_safety.specs.Parts.{HoleFree}
 use Rattle.tap_safety.specs.Remembered.{Leaver}
-use Rattle.tap_safety.specs.Step.{ChangesAt}
+use Rattle.tap_safety.specs.Exchanges.{ChangesAt}
 use Rattle.tap_safety.specs.System.{System, AmongFrames, IsCoreNode}
-use Rattle.tap_safety.proofs.Told.{among_numbered}
+use Rattle.tap_safety.proofs.UnderWay.{among_numbered}
 use Rattle.tap_moves.specs.ByRule.{taken_at}
 use Rattle.tap_moves.specs.InvariantLaws.{IsDelivery}
 use Rattle.tap_moves.proofs.Got.{among_all}
 use Rattle.tap_moves.proofs.InvariantMoves.{core_name}
 use Rattle.tap_cast_moves.specs.Audience.{CastsAreSound}
 use Rattle.tap_cast_moves.specs.Cover.{IsCastDue, IsCastServed}
-use Rattle.tap_cast_moves.specs.Kept.{IsKeptCast}
+use Rattle.tap_cast_moves.specs.KeptCasts.{IsKeptCast}
 use Rattle.tap_cast_moves.specs.News.{NewsAreTrue}
 use Rattle.tap_cast_moves.specs.Recalled.{is_core_status}
 use Rattle.tap_cast_moves.specs.Remembered.{CastMemory, CastRun}
-use Rattle.tap_cast_moves.specs.Sessions.{IsCastWay, takes_casts}
+use Rattle.tap_cast_moves.specs.CastSessions.{IsCastWay, takes_casts}
 use Rattle.tap_cast_moves.proofs.AsideKept.{core_node, core_status}
 use Rattle.tap_cast_moves.proofs.AsideMade.{frames_swap}
 use Rattle.tap_cast_moves.proofs.CastKept.{CastMove, IsTakenFor, moved_both}
@@ -51,7 +51,7 @@ use Rattle.tap_cast_moves.proofs.CastMade.{later, node_changes, recall}
 use Rattle.tap_cast_moves.proofs.CastSent.{IsAnswer}
 use Rattle.tap_cast_moves.proofs.CastTaken.{answered_sessions, becomes, cast_parts, cast_way, nothing_true, spread_sessions}
 use Rattle.tap_cast_moves.proofs.Noted.{HasBecome, RunBecomes, RunsBecome}
-use Rattle.tap_cast_moves.proofs.Quiet.{casts_quiet}
+use Rattle.tap_cast_moves.proofs.CastsQuiet.{casts_quiet}
 use Rattle.tap_cast_moves.proofs.Targets.{TakesCasts, sent_on, target_takes}
 
 none_if : (kept : Option ℕ) → is_none kept ≡ true → kept ≡ None

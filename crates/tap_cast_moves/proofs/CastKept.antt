@@ -11,18 +11,18 @@ use Rattle.tap_rule.specs.Event.{News}
 use Rattle.tap_rule.specs.Event.News.{Cast as CastNews}
 use Rattle.tap_rule.specs.Node.{NodeState}
 use Rattle.tap_rule.specs.Node.Status.{Joining}
-use Rattle.tap_safety.specs.Step.{ChangesAt}
+use Rattle.tap_safety.specs.Exchanges.{ChangesAt}
 use Rattle.tap_safety.specs.System.{System, IsCoreNode}
 use Rattle.tap_safety.proofs.Chains.{no_session}
 use Rattle.tap_moves.proofs.Got.{same_name}
 use Rattle.tap_cast_moves.specs.Audience.{CastsAreSound, IsAudience}
 use Rattle.tap_cast_moves.specs.Cover.{CastCover, IsCastClaim, IsCastDue, IsCastServed}
-use Rattle.tap_cast_moves.specs.Kept.{CastsKept, JoinsNoMore, IsKeptCast}
+use Rattle.tap_cast_moves.specs.KeptCasts.{CastsKept, JoinsNoMore, IsKeptCast}
 use Rattle.tap_cast_moves.specs.News.{IsTrueNews, NewsAreTrue}
 use Rattle.tap_cast_moves.specs.Recalled.{audience_of, is_core, is_core_status}
 use Rattle.tap_cast_moves.specs.Remembered.{CastMemory, CastRun}
-use Rattle.tap_cast_moves.specs.Seen.{cast_name, seen, seen_frame}
-use Rattle.tap_cast_moves.specs.Sessions.{CastSessions}
+use Rattle.tap_cast_moves.specs.SeenCasts.{cast_name, seen, seen_frame}
+use Rattle.tap_cast_moves.specs.CastSessions.{CastSessions}
 use Rattle.tap_cast_moves.proofs.AsideKept.{core_node, core_status}
 use Rattle.tap_cast_moves.proofs.Noted.{HasBecome, RunBecomes}
 use Rattle.tap_cast_moves.proofs.View.{among_seen}

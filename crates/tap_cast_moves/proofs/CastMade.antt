@@ -12,8 +12,8 @@ use Rattle.tap_wire.specs.declared.frame.Frame.{Frame}
 use Rattle.tap_wire.specs.declared.frame.TellFields.{TellFields}
 use Rattle.tap_rule.specs.Casts.{Copy, cast_for}
 use Rattle.tap_rule.specs.Event.{Acted}
-use Rattle.tap_rule.specs.Kept.{IsNode}
-use Rattle.tap_rule.specs.Laws.{IsCarriedOut, frame_to}
+use Rattle.tap_rule.specs.KeptNode.{IsNode}
+use Rattle.tap_rule.specs.RuleLaws.{IsCarriedOut, frame_to}
 use Rattle.tap_rule.specs.Node.{NodeState, name_of}
 use Rattle.tap_rule.specs.Reaction.{Reaction}
 use Rattle.tap_rule.specs.Sent.{IsAmong}
@@ -23,7 +23,7 @@ use Rattle.tap_safety.specs.Remembered.{OpenSession}
 use Rattle.tap_safety.specs.Remembered.Token.{Way}
 use Rattle.tap_safety.specs.Sessions.{Awaits, IsOpen, ways_of}
 use Rattle.tap_safety.specs.SessionSteps.{HandsOn, OpensChild, child_of}
-use Rattle.tap_safety.specs.Step.{AreNumbered, Ascend, ChangesAt}
+use Rattle.tap_safety.specs.Exchanges.{AreNumbered, Ascend, ChangesAt}
 use Rattle.tap_safety.specs.System.{System}
 use Rattle.tap_safety.specs.Turned.{Taking}
 use Rattle.tap_safety.proofs.StepLaws.{numbers_new_law}
@@ -36,8 +36,8 @@ use Rattle.tap_moves.proofs.MovesMade.{by_rule}
 use Rattle.tap_moves.proofs.SessionsMade.{none_opened}
 use Rattle.tap_cast_moves.specs.Recalled.{recalled, seen_taking}
 use Rattle.tap_cast_moves.specs.Remembered.{CastMemory}
-use Rattle.tap_cast_moves.specs.Seen.{cast_name, seen, seen_frame, seen_frames, seen_node}
-use Rattle.tap_cast_moves.specs.Sessions.{AreSessionsOf, CastSessions}
+use Rattle.tap_cast_moves.specs.SeenCasts.{cast_name, seen, seen_frame, seen_frames, seen_node}
+use Rattle.tap_cast_moves.specs.CastSessions.{AreSessionsOf, CastSessions}
 use Rattle.tap_safety.specs.Move.Move.{Delivers}
 use Rattle.tap_cast_moves.proofs.AsideMade.{frames_swap, recalled_sessions}
 use Rattle.tap_cast_moves.proofs.CastSent.{IsAnswer, answer_about, answer_asks, answer_counts, answer_deeper, answer_in, copies_about, copies_ask, copies_deeper, copies_in, opened_here, opened_now, opened_session, others_stay}

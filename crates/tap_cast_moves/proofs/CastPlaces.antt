@@ -10,12 +10,12 @@ use Rattle.tap_rule.specs.Node.{NodeState}
 use Rattle.tap_safety.specs.Joins.{HasRoot}
 use Rattle.tap_safety.specs.Remembered.{OpenSession}
 use Rattle.tap_safety.specs.Sessions.{IsRootless}
-use Rattle.tap_safety.specs.Step.{ChangesAt}
+use Rattle.tap_safety.specs.Exchanges.{ChangesAt}
 use Rattle.tap_safety.specs.System.{System, AmongFrames}
 use Rattle.tap_safety.specs.Turns.{Turns}
 use Rattle.tap_cast_moves.specs.Remembered.{CastMemory, CastRun}
-use Rattle.tap_cast_moves.specs.Seen.{cast_name, seen}
-use Rattle.tap_cast_moves.specs.Sessions.{CastSessions, HasCastEnd, HasCastPlace, IsCastWay, takes_casts}
+use Rattle.tap_cast_moves.specs.SeenCasts.{cast_name, seen}
+use Rattle.tap_cast_moves.specs.CastSessions.{CastSessions, HasCastEnd, HasCastPlace, IsCastWay, takes_casts}
 use Rattle.tap_cast_moves.proofs.CastTurns.{ClosesRootOf, OpensRootOf, root_on, rootless_on}
 use Rattle.tap_cast_moves.proofs.Noted.{HasBecome, RunsBecome}
 

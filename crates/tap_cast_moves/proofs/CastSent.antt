@@ -29,10 +29,10 @@ use Rattle.tap_safety.specs.Frames.{tell_body}
 use Rattle.tap_safety.specs.Joins.{AreAbout, about}
 use Rattle.tap_safety.specs.Remembered.{OpenSession}
 use Rattle.tap_safety.specs.Sessions.{Belongs, IsOpen}
-use Rattle.tap_safety.specs.Step.{numbered_from}
+use Rattle.tap_safety.specs.Exchanges.{numbered_from}
 use Rattle.tap_safety.specs.System.{System, AmongFrames}
 use Rattle.tap_safety.proofs.SessionsKept.{same_place}
-use Rattle.tap_cast_moves.specs.Seen.{cast_name, seen_frame, seen_frames, seen_node, seen_parent, seen_session}
+use Rattle.tap_cast_moves.specs.SeenCasts.{cast_name, seen_frame, seen_frames, seen_node, seen_parent, seen_session}
 use Rattle.tap_cast_moves.proofs.View.{AreSeenIn, seen_message, session_seen}
 
 -- ---- an answer to a parent

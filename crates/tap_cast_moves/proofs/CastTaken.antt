@@ -14,8 +14,8 @@ use Rattle.tap_wire.specs.declared.frame.Body.TheVariants.{Cast, CastAck}
 use Rattle.tap_wire.specs.declared.frame.Frame.{Frame}
 use Rattle.tap_rule.specs.Casts.{Copy, cast_for, cast_news, cast_of}
 use Rattle.tap_rule.specs.Event.{Acted}
-use Rattle.tap_rule.specs.Kept.{IsNode}
-use Rattle.tap_rule.specs.Laws.{IsCarriedOut, frame_to}
+use Rattle.tap_rule.specs.KeptNode.{IsNode}
+use Rattle.tap_rule.specs.RuleLaws.{IsCarriedOut, frame_to}
 use Rattle.tap_rule.specs.Node.{NodeState, name_of}
 use Rattle.tap_rule.specs.Node.Status.{Core}
 use Rattle.tap_rule.specs.Reaction.{Message, Reaction, message}
@@ -26,7 +26,7 @@ use Rattle.tap_rule.proofs.OneName.{not_own}
 use Rattle.tap_safety.specs.Remembered.{OpenSession}
 use Rattle.tap_safety.specs.Sessions.{ways_of}
 use Rattle.tap_safety.specs.SessionSteps.{HandsOn, OpensChild, child_of}
-use Rattle.tap_safety.specs.Step.{numbered_from}
+use Rattle.tap_safety.specs.Exchanges.{numbered_from}
 use Rattle.tap_safety.specs.System.{System, AmongFrames}
 use Rattle.tap_safety.proofs.SessionsKept.{same_place}
 use Rattle.tap_safety.proofs.StepLaws.{handing_on_turns_law, opening_turns_law}
@@ -35,8 +35,8 @@ use Rattle.tap_moves.specs.InvariantLaws.{IsDelivery}
 use Rattle.tap_moves.proofs.Exchanged.{sent_numbered}
 use Rattle.tap_cast_moves.specs.Recalled.{runs_noted}
 use Rattle.tap_cast_moves.specs.Remembered.{CastMemory, CastRun}
-use Rattle.tap_cast_moves.specs.Seen.{cast_name, seen, seen_frame}
-use Rattle.tap_cast_moves.specs.Sessions.{CastSessions, HasCastPlace, IsCastWay}
+use Rattle.tap_cast_moves.specs.SeenCasts.{cast_name, seen, seen_frame}
+use Rattle.tap_cast_moves.specs.CastSessions.{CastSessions, HasCastPlace, IsCastWay}
 use Rattle.tap_cast_moves.proofs.AsideMade.{frames_swap, recalled_runs}
 use Rattle.tap_cast_moves.proofs.CastMade.{cast_answered, cast_hands, cast_opens, cast_spread, later, node_changes, of_cast, one_less, recall, seen_sent}
 use Rattle.tap_cast_moves.proofs.CastPlaces.{RunGoesOn, StaysCasting, ends_on, places_on, run_goes_on, ways_on}

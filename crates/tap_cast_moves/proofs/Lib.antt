@@ -3,7 +3,7 @@ pub mod Turning
 pub mod View
 pub mod AsideRules
 pub mod AsideKept
-pub mod Quiet
+pub mod CastsQuiet
 pub mod AsideMade
 pub mod Noted
 pub mod CastTurns
@@ -18,4 +18,4 @@ pub mod CastKept
 pub mod CastDelivered
 pub mod AckDelivered
 pub mod StartDelivered
-pub mod Moves
+pub mod SoundCasts

@@ -20,7 +20,7 @@ use Rattle.tap_rule.specs.Casts.{Copy, cast_for, cast_news, casts_as}
 use Rattle.tap_rule.specs.Event.{Acted, Start}
 use Rattle.tap_rule.specs.Event.Event.{Starts}
 use Rattle.tap_rule.specs.Event.Start.{Cast as StartCast}
-use Rattle.tap_rule.specs.Laws.{IsCarriedOut}
+use Rattle.tap_rule.specs.RuleLaws.{IsCarriedOut}
 use Rattle.tap_rule.specs.Node.{NodeState, name_of}
 use Rattle.tap_rule.specs.Reaction.{Reaction}
 use Rattle.tap_rule.specs.Sent.{IsAmong}
@@ -31,12 +31,12 @@ use Rattle.tap_safety.specs.Invariant.{Basis}
 use Rattle.tap_safety.specs.Move.{MayCast}
 use Rattle.tap_safety.specs.Move.Move.{Begins}
 use Rattle.tap_safety.specs.Parts.{HoleFree}
-use Rattle.tap_safety.specs.Step.{ChangesAt, numbered_from}
+use Rattle.tap_safety.specs.Exchanges.{ChangesAt, numbered_from}
 use Rattle.tap_safety.specs.System.{System, AmongFrames, IsCoreNode}
-use Rattle.tap_safety.proofs.Moves.{starts}
-use Rattle.tap_safety.proofs.Told.{among_numbered, among_right}
+use Rattle.tap_safety.proofs.Moved.{starts}
+use Rattle.tap_safety.proofs.UnderWay.{among_numbered, among_right}
 use Rattle.tap_moves.specs.Delivered.{after_start}
-use Rattle.tap_moves.specs.Spelled.{AreNodes}
+use Rattle.tap_moves.specs.KnownNames.{AreNodes}
 use Rattle.tap_moves.proofs.Got.{among_all}
 use Rattle.tap_moves.proofs.InvariantMoves.{core_name}
 use Rattle.tap_cast_moves.specs.Audience.{CastsAreSound}

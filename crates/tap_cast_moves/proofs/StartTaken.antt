@@ -19,8 +19,8 @@ use Rattle.tap_rule.specs.Casts.{Copy, cast_for, cast_news, cast_of}
 use Rattle.tap_rule.specs.Event.{Acted, Start}
 use Rattle.tap_rule.specs.Event.Event.{Starts}
 use Rattle.tap_rule.specs.Event.Start.{Cast as StartCast}
-use Rattle.tap_rule.specs.Kept.{IsNode}
-use Rattle.tap_rule.specs.Laws.{IsCarriedOut}
+use Rattle.tap_rule.specs.KeptNode.{IsNode}
+use Rattle.tap_rule.specs.RuleLaws.{IsCarriedOut}
 use Rattle.tap_rule.specs.Node.{NodeState, name_of}
 use Rattle.tap_rule.specs.Reaction.{Reaction}
 use Rattle.tap_rule.specs.Sending.{message_frame}
@@ -36,19 +36,19 @@ use Rattle.tap_safety.specs.Move.Move.{Begins}
 use Rattle.tap_safety.specs.Remembered.{OpenSession}
 use Rattle.tap_safety.specs.Sessions.{Belongs, IsRootless, session_named, ways_of}
 use Rattle.tap_safety.specs.SessionSteps.{Exchanges, LeavesSessions, OpensRoot}
-use Rattle.tap_safety.specs.Step.{Ascend, ChangesAt, numbered_from}
+use Rattle.tap_safety.specs.Exchanges.{Ascend, ChangesAt, numbered_from}
 use Rattle.tap_safety.specs.System.{System, AmongFrames}
 use Rattle.tap_safety.specs.Turned.{Taking, remembered_as}
-use Rattle.tap_safety.proofs.Moves.{ascend_numbered, ascend_one, ascend_under, numbers_sent, starts}
+use Rattle.tap_safety.proofs.Moved.{ascend_numbered, ascend_one, ascend_under, numbers_sent, starts}
 use Rattle.tap_moves.specs.Delivered.{after_start}
-use Rattle.tap_moves.specs.Spelled.{AreNodes}
+use Rattle.tap_moves.specs.KnownNames.{AreNodes}
 use Rattle.tap_moves.proofs.Exchanged.{in_either, in_first}
-use Rattle.tap_safety.proofs.Told.{among_right as in_second}
+use Rattle.tap_safety.proofs.UnderWay.{among_right as in_second}
 use Rattle.tap_moves.proofs.SessionsMade.{none_opened}
 use Rattle.tap_cast_moves.specs.Recalled.{recalled, run_begun, runs_begun, runs_noted, seen_taking, start_frame}
 use Rattle.tap_cast_moves.specs.Remembered.{CastMemory, CastRun}
-use Rattle.tap_cast_moves.specs.Seen.{cast_name, seen, seen_frame, seen_frames, seen_node}
-use Rattle.tap_cast_moves.specs.Sessions.{AreSessionsOf, CastSessions, HasCastEnd, HasCastPlace, IsCastWay}
+use Rattle.tap_cast_moves.specs.SeenCasts.{cast_name, seen, seen_frame, seen_frames, seen_node}
+use Rattle.tap_cast_moves.specs.CastSessions.{AreSessionsOf, CastSessions, HasCastEnd, HasCastPlace, IsCastWay}
 use Rattle.tap_cast_moves.proofs.AsideMade.{start_one, start_runs, start_sessions, start_still, start_was}
 use Rattle.tap_cast_moves.proofs.CastMade.{sessions_stay}
 use Rattle.tap_cast_moves.proofs.CastPlaces.{RunGoesOn, StaysCasting, place_on, ways_on}

@@ -25,7 +25,7 @@ use Rattle.tap_safety.specs.System.{System, HasLink, IsCoreNode}
 use Rattle.tap_safety.proofs.LinkKeeps.{status_seen}
 use Rattle.tap_moves.proofs.Got.{among_got}
 use Rattle.tap_moves.proofs.Nearness.{primary_stands_near}
-use Rattle.tap_cast_moves.specs.Sessions.{takes_casts}
+use Rattle.tap_cast_moves.specs.CastSessions.{takes_casts}
 
 -- there is a node of this name, which answers a Cast
 pub record TakesCasts (s : System) (x : List ℕ) : Type 0 where

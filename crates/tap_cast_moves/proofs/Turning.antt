@@ -11,7 +11,7 @@ use Rattle.tap_safety.specs.Remembered.{OpenSession, Token}
 use Rattle.tap_safety.specs.Remembered.Token.{Way}
 use Rattle.tap_safety.specs.Sessions.{AmongTokens, IsOpen, for_way, ways_of}
 use Rattle.tap_safety.specs.SessionSteps.{ClosesChild, ClosesRoot, HandsOn, LeavesSessions, OpensChild, OpensRoot, child_of}
-use Rattle.tap_safety.specs.Step.{AreNumbered, Ascend, ChangesAt}
+use Rattle.tap_safety.specs.Exchanges.{AreNumbered, Ascend, ChangesAt}
 use Rattle.tap_safety.specs.System.{System}
 use Rattle.tap_safety.specs.Turns.{Turns}
 use Rattle.tap_safety.proofs.CountedKept.{counted_answer, counted_answering, counted_closing, counted_last, counted_opening, counted_root, for_way-length}
@@ -19,7 +19,7 @@ use Rattle.tap_safety.proofs.PlacesKept.{deeper_kept}
 use Rattle.tap_safety.proofs.SessionLaws.{opened_law}
 use Rattle.tap_safety.proofs.StepLaws.{await_closing_law, await_handing_on_law, await_last_law, await_opening_law, await_others_law, await_root_law, awaited_closing_law, awaited_handing_on_law, awaited_last_law, awaited_opening_law, awaited_others_law, awaited_root_law, closing_law, closing_turns_law, handing_on_law, handing_on_turns_law, last_answer_law, last_turns_law, opening_turns_law, others_law, root_opened_law, root_turns_law}
 use Rattle.tap_moves.proofs.SessionMoves.{left_deeper}
-use Rattle.tap_cast_moves.specs.Sessions.{AreOfCasts, AreSessionsOf}
+use Rattle.tap_cast_moves.specs.CastSessions.{AreOfCasts, AreSessionsOf}
 
 -- ---- whose a frame is
 

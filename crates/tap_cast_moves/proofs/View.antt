@@ -9,7 +9,7 @@ use Rattle.tap_session.specs.Sessions.{session_of}
 use Rattle.tap_table.specs.declared.tie.Tie.{Tie}
 use Rattle.tap_pointer.specs.declared.lay.Lay.{Lay}
 use Rattle.tap_wire.specs.declared.frame.Frame.{Frame}
-use Rattle.tap_rule.specs.Laws.{IsCarriedOut}
+use Rattle.tap_rule.specs.RuleLaws.{IsCarriedOut}
 use Rattle.tap_rule.specs.Event.{Acted}
 use Rattle.tap_rule.specs.Node.{IsRunning, NodeState, Status, join_session_at, name_of}
 use Rattle.tap_rule.specs.Node.Status.{Ceased, Core, Gone, Joining, Leaving}
@@ -21,13 +21,13 @@ use Rattle.tap_safety.specs.Remembered.{Token}
 use Rattle.tap_safety.specs.Remembered.Token.{Child, Way}
 use Rattle.tap_safety.specs.Sessions.{AmongTokens, Belongs, is_placed, session_named, ways_of}
 use Rattle.tap_safety.specs.SessionSteps.{Exchanges}
-use Rattle.tap_safety.specs.Step.{AreNumbered, Ascend, ChangesAt, numbered_from}
+use Rattle.tap_safety.specs.Exchanges.{AreNumbered, Ascend, ChangesAt, numbered_from}
 use Rattle.tap_safety.specs.System.{System, AmongFrames}
 use Rattle.tap_safety.proofs.Apart.{ways_of-child}
 use Rattle.tap_safety.proofs.SessionsKept.{placed_at, ways_of-has}
 use Rattle.tap_moves.proofs.Exchanged.{sent_numbered}
 use Rattle.tap_cast_moves.specs.Remembered.{CastMemory}
-use Rattle.tap_cast_moves.specs.Seen.{seen, seen_frame, seen_frames, seen_node, seen_session}
+use Rattle.tap_cast_moves.specs.SeenCasts.{seen, seen_frame, seen_frames, seen_node, seen_session}
 
 -- ---- frames
 

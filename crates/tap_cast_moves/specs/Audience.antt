@@ -4,9 +4,9 @@ use Rattle.tap_name.specs.Prefix.{lcp}
 use Rattle.tap_name.specs.Settings.{SettingsValue}
 use Rattle.tap_safety.specs.System.{System, IsCoreNode}
 use Rattle.tap_cast_moves.specs.Cover.{CastCover}
-use Rattle.tap_cast_moves.specs.Kept.{CastsKept}
+use Rattle.tap_cast_moves.specs.KeptCasts.{CastsKept}
 use Rattle.tap_cast_moves.specs.Remembered.{CastMemory, CastRun}
-use Rattle.tap_cast_moves.specs.Sessions.{CastSessions}
+use Rattle.tap_cast_moves.specs.CastSessions.{CastSessions}
 
 -- until a cast is closed its audience is core, and then the cast has reached all of it; it begins with the prefix, and the caster is of it
 pub record IsAudience (s : System) (run : CastRun) : Type 0 where

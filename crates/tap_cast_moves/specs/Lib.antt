@@ -1,9 +1,9 @@
 pub mod Remembered
-pub mod Seen
+pub mod SeenCasts
 pub mod Recalled
-pub mod Sessions
-pub mod Kept
+pub mod CastSessions
+pub mod KeptCasts
 pub mod Cover
 pub mod Audience
-pub mod Moves
+pub mod SoundCasts
 pub mod News

@@ -14,7 +14,7 @@ use Rattle.tap_safety.specs.Moved.{numbered_frame, starter}
 use Rattle.tap_safety.specs.System.{System, IsCoreNode}
 use Rattle.tap_safety_moves.specs.Sound.{Sound}
 use Rattle.tap_cast_moves.specs.Audience.{CastsAreSound}
-use Rattle.tap_cast_moves.specs.Moves.{IsNewCast}
+use Rattle.tap_cast_moves.specs.SoundCasts.{IsNewCast}
 use Rattle.tap_cast_moves.specs.Recalled.{recalled}
 use Rattle.tap_cast_moves.specs.Remembered.{CastMemory, CastRun}
 
@@ -36,16 +36,16 @@ NewsAreTrue s r r' x news = (cast : ℕ) (reached closed : Bool) → news ≡ Ca
 
 -- ---- the news of a move, and whose they are
 
-abbrev pub news_of_frame : System → Option Frame → Option (List ℕ × News)
-news_of_frame s None = None
-news_of_frame s (Some frame) = option_map (λ node. (frame.to, (act node (Takes frame)).news)) (s.node frame.to)
+abbrev pub named_news_of_frame : System → Option Frame → Option (List ℕ × News)
+named_news_of_frame s None = None
+named_news_of_frame s (Some frame) = option_map (λ node. (frame.to, (act node (Takes frame)).news)) (s.node frame.to)
 
-abbrev pub news_of : SettingsValue → System → Move → Option (List ℕ × News)
-news_of p s (Begins x start) = option_map (λ node. (x, (act node (Starts start)).news)) (starter p s x start)
-news_of p s (Delivers number) = news_of_frame s (numbered_frame number s.frames)
+abbrev pub named_news_of : SettingsValue → System → Move → Option (List ℕ × News)
+named_news_of p s (Begins x start) = option_map (λ node. (x, (act node (Starts start)).news)) (starter p s x start)
+named_news_of p s (Delivers number) = named_news_of_frame s (numbered_frame number s.frames)
 
 -- what is said of casts at a possible move is so
 abbrev pub MoveNewsAreTrue : Type 0
 MoveNewsAreTrue = (p : SettingsValue) (s : System) (r : CastMemory) (move : Move) (x : List ℕ) (news : News) → may_move p s move
-    → IsNewCast r move → Sound p s → CastsAreSound p s r → news_of p s move ≡ Some (x, news)
+    → IsNewCast r move → Sound p s → CastsAreSound p s r → named_news_of p s move ≡ Some (x, news)
     → NewsAreTrue s r (recalled p s r move) x news

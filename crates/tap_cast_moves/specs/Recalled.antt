@@ -15,11 +15,11 @@ use Rattle.tap_rule.specs.Node.Status.{Core, Leaving}
 use Rattle.tap_safety.specs.Move.{Move}
 use Rattle.tap_safety.specs.Move.Move.{Begins, Delivers}
 use Rattle.tap_safety.specs.Moved.{numbered_frame, starter}
-use Rattle.tap_safety.specs.Step.{numbered_from}
+use Rattle.tap_safety.specs.Exchanges.{numbered_from}
 use Rattle.tap_safety.specs.System.{System}
 use Rattle.tap_safety.specs.Turned.{Taking, sessions_with}
 use Rattle.tap_cast_moves.specs.Remembered.{CastMemory, CastRun}
-use Rattle.tap_cast_moves.specs.Seen.{seen_frame, seen_frames, seen_node, seen_start}
+use Rattle.tap_cast_moves.specs.SeenCasts.{seen_frame, seen_frames, seen_node, seen_start}
 
 -- ---- casts
 

@@ -1,5 +1,5 @@
 ghost use Rattle.tap_cast_moves.specs.News.{MoveNewsAreTrue};
-ghost use Rattle.tap_cast_moves.specs.Moves.{CastsAtRest, CastsQuietly, MoveKeepsCasts, RestClosesCasts, RunCastsAreSound};
+ghost use Rattle.tap_cast_moves.specs.SoundCasts.{CastsAtRest, CastsQuietly, MoveKeepsCasts, RestClosesCasts, RunCastsAreSound};
 
 /// The members with which an overlay begins have started no cast: of no cast is anything kept, remembered or under way.
 ///

@@ -16,7 +16,7 @@ use Rattle.tap_log.specs.Kinds.{begun_cast, is_carried}
 use Rattle.tap_history.proofs.Ends.{log_in_groups_holds}
 use Rattle.tap_history.specs.Groups.{groups_of, is_ended, records_of}
 use Rattle.tap_history.specs.Moments.{awaiting, is_none, is_still, under_way}
-use Rattle.tap_history.specs.Steps.{actor_of}
+use Rattle.tap_history.specs.StepAsks.{actor_of}
 use Rattle.tap_rule.specs.Event.{News, Start}
 use Rattle.tap_rule.specs.Event.News.{Cast as CastNews}
 use Rattle.tap_rule.specs.Event.Start.{Abandon as StartAbandon, Cast as StartCast, Find as StartFind, Join as StartJoin, Leave as StartLeave, Publish as StartPublish, Withdraw as StartWithdraw}
@@ -31,22 +31,22 @@ use Rattle.tap_safety.specs.System.{System}
 use Rattle.tap_wire.specs.declared.frame.Frame.{Frame}
 use Rattle.tap_runs.specs.Beginning.{Beginning, IsWithinLimits, begin_record}
 use Rattle.tap_runs.specs.Course.{Follows, IsCourse, MayFollow, move_of_group, moved_by, system_after, system_from, system_of}
-use Rattle.tap_runs.specs.Laws.{frame_numbers}
+use Rattle.tap_runs.specs.CourseLaws.{frame_numbers}
 use Rattle.tap_runs.specs.Named.{HaveNames}
 use Rattle.tap_runs.specs.Starts.{announced, next_cast, next_ticket, start_of_step}
 use Rattle.tap_runs.proofs.Frames.{course_frames_holds, starting_moves, step_moves, taken_moves}
-use Rattle.tap_runs.proofs.Growing.{by_groups, course_grows_holds, grown, grown_groups, grown_system, log_is, start_system}
+use Rattle.tap_runs.proofs.CourseGrows.{by_groups, course_grows_holds, grown, grown_groups, grown_system, log_is, start_system}
 use Rattle.tap_runs.proofs.Within.{step_kind}
 use Rattle.tap_safety_moves.specs.Sound.{Sound}
 use Rattle.tap_safe_runs.specs.Safe.{IsRun}
 use Rattle.tap_safe_runs.proofs.Possible.{group_may_move}
 use Rattle.tap_safe_runs.proofs.Safe.{runs_are_sound, steps_after, steps_before}
 use Rattle.tap_cast_moves.specs.Audience.{CastsAreSound}
-use Rattle.tap_cast_moves.specs.Moves.{IsNewCast}
+use Rattle.tap_cast_moves.specs.SoundCasts.{IsNewCast}
 use Rattle.tap_cast_moves.specs.Recalled.{recalled, recalled_delivery, recalled_frame, recalled_start, run_marked, runs_begun, runs_noted}
 use Rattle.tap_cast_moves.specs.Remembered.{CastMemory, CastRun, no_casts}
-use Rattle.tap_cast_moves.proofs.Moves.{casts_at_rest, casts_quietly, move_keeps_casts, rest_closes}
-use Rattle.tap_cast_runs.specs.Casts.{AreNumberedCasts, RestHasNoCasts, RunCastsAreKept, RunCastsAreNumbered, RunCastsAreQuiet, casts_after, casts_from, casts_of, recalled_by}
+use Rattle.tap_cast_moves.proofs.SoundCasts.{casts_at_rest, casts_quietly, move_keeps_casts, rest_closes}
+use Rattle.tap_cast_runs.specs.RunCasts.{AreNumberedCasts, RestHasNoCasts, RunCastsAreKept, RunCastsAreNumbered, RunCastsAreQuiet, casts_after, casts_from, casts_of, recalled_by}
 
 -- ---- what is remembered after one more group
 

@@ -1,8 +1,8 @@
 pub mod Casts
 pub mod Plain
-pub mod Told
+pub mod ToldOnce
 pub mod Once
-pub mod Begun
+pub mod CastsBegun
 pub mod Said
 pub mod ReachAll
 pub mod Sessions

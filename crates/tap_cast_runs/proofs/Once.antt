@@ -25,21 +25,21 @@ use Rattle.tap_safety.specs.System.{System, IsCoreNode}
 use Rattle.tap_runs.specs.Beginning.{Beginning, IsWithinLimits, begin_record}
 use Rattle.tap_runs.specs.Course.{Follows, IsCourse, move_of_group, system_of}
 use Rattle.tap_runs.specs.Named.{HaveNames}
-use Rattle.tap_runs.proofs.Growing.{by_groups}
+use Rattle.tap_runs.proofs.CourseGrows.{by_groups}
 use Rattle.tap_safe_runs.specs.Safe.{IsRun}
 use Rattle.tap_safe_runs.proofs.Possible.{group_may_move}
 use Rattle.tap_safe_runs.proofs.Safe.{runs_are_sound, steps_after, steps_before}
 use Rattle.tap_safe_runs.proofs.Each.{each_of_run}
-use Rattle.tap_cast_moves.specs.Moves.{IsNewCast}
-use Rattle.tap_cast_moves.specs.News.{news_of, news_of_frame}
+use Rattle.tap_cast_moves.specs.SoundCasts.{IsNewCast}
+use Rattle.tap_cast_moves.specs.News.{named_news_of, named_news_of_frame}
 use Rattle.tap_cast_moves.specs.Recalled.{recalled, recalled_delivery, recalled_frame, recalled_start, runs_begun, runs_noted}
 use Rattle.tap_cast_moves.specs.Remembered.{CastMemory, CastRun}
-use Rattle.tap_cast_moves.proofs.Moves.{news_are_true}
-use Rattle.tap_cast_runs.specs.Casts.{casts_of, recalled_by}
-use Rattle.tap_cast_runs.specs.Told.{ClosedHasReachedAll, GroupsReachRight, IsReachedRight, IsToldOnce, ReachesRight, ReachesAtMostOnce, RestSaysClosed, RunIsToldOnce, is_closed, is_reached, says_closed, says_reached}
+use Rattle.tap_cast_moves.proofs.SoundCasts.{news_are_true}
+use Rattle.tap_cast_runs.specs.RunCasts.{casts_of, recalled_by}
+use Rattle.tap_cast_runs.specs.ReachedOnce.{ClosedHasReachedAll, GroupsReachRight, IsReachedRight, IsToldOnce, ReachesRight, ReachesAtMostOnce, RestSaysClosed, RunIsToldOnce, is_closed, is_reached, says_closed, says_reached}
 use Rattle.tap_cast_runs.proofs.Casts.{IsKept, fresh, grown_casts, rest_no_casts, runs_keep, start_casts}
 use Rattle.tap_cast_runs.proofs.Plain.{closed_on, closes_by, group_tells, news_by, reached_on, reaches, reaches_by}
-use Rattle.tap_cast_runs.proofs.Told.{closed_grows, one_if, reached_grows}
+use Rattle.tap_cast_runs.proofs.ToldOnce.{closed_grows, one_if, reached_grows}
 
 -- ---- what is noted at a move
 
@@ -106,12 +106,12 @@ frame_notes s r number frame (Some node) y news is =
     }
 
 delivery_notes : (s : System) (r : CastMemory) (number : ℕ) (frame : Option Frame) (y : List ℕ) (news : News)
-    → news_of_frame s frame ≡ Some (y, news) → IsNoted r (recalled_delivery s r number frame) y news
+    → named_news_of_frame s frame ≡ Some (y, news) → IsNoted r (recalled_delivery s r number frame) y news
 delivery_notes s r number None y news is = cc
 delivery_notes s r number (Some frame) y news is = frame_notes s r number frame (s.node frame.to) y news is
 
 move_notes : (p : SettingsValue) (s : System) (r : CastMemory) (move : Move) (y : List ℕ) (news : News) → IsNewCast r move
-    → news_of p s move ≡ Some (y, news) → IsNoted r (recalled p s r move) y news
+    → named_news_of p s move ≡ Some (y, news) → IsNoted r (recalled p s r move) y news
 unfolding recalled
 move_notes p s r (Begins x start) y news fresh is = start_notes s r x start (starter p s x start) fresh y news is
 move_notes p s r (Delivers number) y news fresh is = delivery_notes s r number (numbered_frame number s.frames) y news is
@@ -127,12 +127,12 @@ frame_still : (s : System) (r : CastMemory) (number : ℕ) (frame : Frame) (node
 frame_still s r number frame None is = refl
 frame_still s r number frame (Some node) is = absurd (cc)
 
-delivery_still : (s : System) (r : CastMemory) (number : ℕ) (frame : Option Frame) → news_of_frame s frame ≡ None
+delivery_still : (s : System) (r : CastMemory) (number : ℕ) (frame : Option Frame) → named_news_of_frame s frame ≡ None
     → recalled_delivery s r number frame ≡ r
 delivery_still s r number None is = refl
 delivery_still s r number (Some frame) is = frame_still s r number frame (s.node frame.to) is
 
-move_still : (p : SettingsValue) (s : System) (r : CastMemory) (move : Move) → news_of p s move ≡ None → recalled p s r move ≡ r
+move_still : (p : SettingsValue) (s : System) (r : CastMemory) (move : Move) → named_news_of p s move ≡ None → recalled p s r move ≡ r
 unfolding recalled
 move_still p s r (Begins x start) is = start_still s r x start (starter p s x start) is
 move_still p s r (Delivers number) is = delivery_still s r number (numbered_frame number s.frames) is
@@ -169,7 +169,7 @@ module _ (b : Beginning) where
     adds_nothing : Adds r None
     adds_nothing = record { reached = λ c x. omega arith; closed = λ c. omega arith }
 
-    move_adds : (move : Move) → move_of_group log group ≡ Some move → (news : Option (List ℕ × News)) → news_of p s move ≡ news
+    move_adds : (move : Move) → move_of_group log group ≡ Some move → (news : Option (List ℕ × News)) → named_news_of p s move ≡ news
         → Adds (recalled p s r move) news
     move_adds move is None none = subst (λ m. Adds m None) (sym (move_still p s r move none)) adds_nothing
     move_adds move is (Some (y, news)) there =
@@ -185,7 +185,7 @@ module _ (b : Beginning) where
 
     group_adds : (move : Option Move) → move_of_group log group ≡ move → Adds (recalled_by p s r move) (news_by p s move)
     group_adds None is = adds_nothing
-    group_adds (Some move) is = move_adds move is (news_of p s move) refl
+    group_adds (Some move) is = move_adds move is (named_news_of p s move) refl
 
     told_grows : IsToldOnce (log ++ group)
     told_grows =

@@ -18,7 +18,7 @@ use Rattle.tap_log.specs.declared.record.Record.{Record}
 use Rattle.tap_log.specs.declared.record.Record.TheVariants.{Step as StepRecord, Taken, Refused, Walked, RootOf, TableOf, Reached, Closed}
 use Rattle.tap_log.specs.declared.record.Refusal.{Refusal}
 use Rattle.tap_log.specs.Counts.{sent_count}
-use Rattle.tap_log.specs.Laws.{at_most_one}
+use Rattle.tap_log.specs.MoreRecords.{at_most_one}
 use Rattle.tap_history.specs.Core.{core_of}
 use Rattle.tap_history.specs.Refusals.{first_refusal}
 use Rattle.tap_rule.specs.Act.{act}
@@ -40,8 +40,8 @@ use Rattle.tap_runs.specs.Observed.{link_line, nodes_of, observed, pointers_reco
 use Rattle.tap_runs.specs.Starts.{announced}
 use Rattle.tap_runs.proofs.Frames.{starting_moves, step_moves, taken_moves}
 use Rattle.tap_runs.proofs.Within.{step_kind}
-use Rattle.tap_cast_moves.specs.News.{news_of, news_of_frame}
-use Rattle.tap_cast_runs.specs.Told.{closed_count, reached_count, says_closed, says_reached}
+use Rattle.tap_cast_moves.specs.News.{named_news_of, named_news_of_frame}
+use Rattle.tap_cast_runs.specs.ReachedOnce.{closed_count, reached_count, says_closed, says_reached}
 
 -- ---- records that say nothing of casts
 
@@ -234,7 +234,7 @@ closes_by c (Some told) = closes c told.1
 
 abbrev pub news_by : SettingsValue → System → Option Move → Option (List ℕ × News)
 news_by p s None = None
-news_by p s (Some move) = news_of p s move
+news_by p s (Some move) = named_news_of p s move
 
 -- these records say of casts what the news say
 pub record Tells (items : List Record) (told : Option (List ℕ × News)) : Type 0 where
@@ -277,7 +277,7 @@ module _ (p : SettingsValue) (log : List Record) (s : System) where
     closed = λ c. acted_closed p (sent_count log) frame.to (act node (Takes frame)) c;
   }
 
-  received_tells : (frame : Option Frame) → Tells (received_records p log s frame) (news_of_frame s frame)
+  received_tells : (frame : Option Frame) → Tells (received_records p log s frame) (named_news_of_frame s frame)
   received_tells None = plain_tells [] none_plain
   received_tells (Some frame) = receiver_tells frame (s.node frame.to)
 
@@ -324,14 +324,14 @@ module _ (p : SettingsValue) (log : List Record) (s : System) where
             (All-cons IsPlain (StepRecord index step) items (step_plain index step) (idle_plain index step items may idle.still)))
         | inr starting ↦
             subst (λ m. Tells (StepRecord index step ∷ items) (news_by p s m)) (sym (starting_moves p log s index step items starting))
-            (plain_then (StepRecord index step ∷ []) items (news_of p s (Begins starting.name starting.start))
+            (plain_then (StepRecord index step ∷ []) items (named_news_of p s (Begins starting.name starting.start))
             (one_plain _ (step_plain index step))
-            (subst (λ l. Tells l (news_of p s (Begins starting.name starting.start))) (sym starting.are)
-            (plain_then (announced log step) _ (news_of p s (Begins starting.name starting.start)) (announced_plain log step)
+            (subst (λ l. Tells l (named_news_of p s (Begins starting.name starting.start))) (sym starting.are)
+            (plain_then (announced log step) _ (named_news_of p s (Begins starting.name starting.start)) (announced_plain log step)
             (started_tells starting.name starting.start (starter p s starting.name starting.start)))))
       ]
   group_tells (Taken number ∷ items) may =
       subst (λ m. Tells (Taken number ∷ items) (news_by p s m)) (sym (taken_moves log number items))
-      (plain_then (Taken number ∷ []) items (news_of p s (Delivers number)) (one_plain _ (taken_plain number))
-      (subst (λ l. Tells l (news_of p s (Delivers number))) (sym may.are) (received_tells (numbered_frame number s.frames))))
+      (plain_then (Taken number ∷ []) items (named_news_of p s (Delivers number)) (one_plain _ (taken_plain number))
+      (subst (λ l. Tells l (named_news_of p s (Delivers number))) (sym may.are) (received_tells (numbered_frame number s.frames))))
   group_tells group may = absurd may

@@ -10,16 +10,16 @@ use Rattle.tap_history.specs.Core.{core_of}
 use Rattle.tap_rule.specs.Sent.{IsAmong}
 use Rattle.tap_runs.specs.Beginning.{Beginning}
 use Rattle.tap_lawful.specs.Next.{beginning_in}
-use Rattle.tap_safe_runs.specs.Headline.{OfLawfulLogs}
+use Rattle.tap_safe_runs.specs.SafeLogs.{OfLawfulLogs}
 use Rattle.tap_safe_runs.specs.Moments.{AtEachMoment}
 use Rattle.tap_safe_runs.specs.Safe.{IsRun}
 use Rattle.tap_safe_runs.proofs.Lawful.{lawful_logs_are_safe}
 use Rattle.tap_safe_runs.proofs.Safe.{run_at_moment, run_more}
 use Rattle.tap_safe_runs.proofs.Each.{StandsIn, each_of_run}
 use Rattle.tap_cast_runs.specs.Begun.{IsBegunRight}
-use Rattle.tap_cast_runs.specs.Casts.{casts_of}
+use Rattle.tap_cast_runs.specs.RunCasts.{casts_of}
 use Rattle.tap_cast_runs.specs.ReachAll.{CastsReachAll, IsOfAudience, ReachesWhomItHasTo, ReachesWhomItMay}
-use Rattle.tap_cast_runs.proofs.Begun.{begins_right}
+use Rattle.tap_cast_runs.proofs.CastsBegun.{begins_right}
 use Rattle.tap_cast_runs.proofs.Once.{closed_has_reached_all, reaches_at_most_once, rest_says_closed, right_group}
 use Rattle.tap_cast_runs.proofs.Said.{are_said, stays_to_end}
 

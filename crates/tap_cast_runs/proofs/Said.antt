@@ -9,13 +9,13 @@ use Rattle.tap_safety.specs.Move.{Move}
 use Rattle.tap_runs.specs.Beginning.{Beginning, IsWithinLimits, begin_record}
 use Rattle.tap_runs.specs.Course.{Follows, IsCourse, move_of_group, system_of}
 use Rattle.tap_runs.specs.Named.{HaveNames}
-use Rattle.tap_runs.proofs.Growing.{by_groups}
+use Rattle.tap_runs.proofs.CourseGrows.{by_groups}
 use Rattle.tap_safe_runs.specs.Safe.{IsRun}
 use Rattle.tap_safe_runs.proofs.Safe.{run_more, steps_after, steps_before}
 use Rattle.tap_cast_moves.specs.Remembered.{CastMemory, CastRun}
 use Rattle.tap_cast_runs.specs.Begun.{StaysBegun}
-use Rattle.tap_cast_runs.specs.Casts.{casts_of, recalled_by}
-use Rattle.tap_cast_runs.proofs.Begun.{begins_right, casts_stay_begun}
+use Rattle.tap_cast_runs.specs.RunCasts.{casts_of, recalled_by}
+use Rattle.tap_cast_runs.proofs.CastsBegun.{begins_right, casts_stay_begun}
 use Rattle.tap_cast_runs.proofs.Casts.{group_casts, grown_casts, recalled_some, start_casts}
 
 -- ---- up to the end of the log

@@ -15,17 +15,17 @@ use Rattle.tap_safety.specs.System.{IsUnderWay, System}
 use Rattle.tap_runs.specs.Beginning.{Beginning}
 use Rattle.tap_runs.specs.Course.{system_of}
 use Rattle.tap_lawful.specs.Next.{beginning_in}
-use Rattle.tap_safe_runs.specs.Headline.{OfLawfulLogs}
+use Rattle.tap_safe_runs.specs.SafeLogs.{OfLawfulLogs}
 use Rattle.tap_safe_runs.specs.Moments.{AtEachMoment}
 use Rattle.tap_safe_runs.specs.Safe.{IsRun}
 use Rattle.tap_safe_runs.proofs.Lawful.{lawful_logs_are_safe}
 use Rattle.tap_safe_runs.proofs.Safe.{run_at_moment, runs_are_sound}
 use Rattle.tap_cast_moves.specs.Remembered.{CastMemory}
-use Rattle.tap_cast_moves.specs.Seen.{seen_node, seen_session}
-use Rattle.tap_cast_moves.specs.Sessions.{CastSessions}
+use Rattle.tap_cast_moves.specs.SeenCasts.{seen_node, seen_session}
+use Rattle.tap_cast_moves.specs.CastSessions.{CastSessions}
 use Rattle.tap_cast_moves.proofs.View.{among_seen, session_seen}
-use Rattle.tap_cast_runs.specs.Casts.{casts_of}
-use Rattle.tap_cast_runs.specs.Sessions.{AnswersAreAwaited, HasCastSession, HasJoinSession, RestHasNoCastSessions}
+use Rattle.tap_cast_runs.specs.RunCasts.{casts_of}
+use Rattle.tap_cast_runs.specs.AwaitedAnswers.{AnswersAreAwaited, HasCastSession, HasJoinSession, RestHasNoCastSessions}
 use Rattle.tap_cast_runs.proofs.Casts.{rest_no_casts, run_casts_kept}
 
 -- ---- answers of joins

@@ -14,7 +14,7 @@ use Rattle.tap_runs.specs.Course.{Follows}
 use Rattle.tap_runs.specs.Named.{HaveNames}
 use Rattle.tap_safe_runs.specs.Safe.{IsRun}
 use Rattle.tap_cast_moves.specs.Remembered.{CastRun}
-use Rattle.tap_cast_runs.specs.Casts.{casts_of}
+use Rattle.tap_cast_runs.specs.RunCasts.{casts_of}
 
 -- Once the log has come so far, the cast is remembered with this caster and prefix. Its audience are the names that were core at the moment
 -- before it began, and begin with the prefix.

@@ -1,5 +1,5 @@
-pub mod Casts
-pub mod Told
+pub mod RunCasts
+pub mod ReachedOnce
 pub mod Begun
 pub mod ReachAll
-pub mod Sessions
+pub mod AwaitedAnswers

@@ -11,7 +11,7 @@ use Rattle.tap_history.specs.Core.{core_of}
 use Rattle.tap_history.specs.Groups.{EachGroup}
 use Rattle.tap_history.specs.Moments.{is_rest}
 use Rattle.tap_rule.specs.Sent.{IsAmong}
-use Rattle.tap_cast_runs.specs.Told.{closed_count, reached_count}
+use Rattle.tap_cast_runs.specs.ReachedOnce.{closed_count, reached_count}
 
 -- ---- whom a cast may reach
 

@@ -1,10 +1,10 @@
-ghost use Rattle.tap_safe_runs.specs.Headline.{OfLawfulLogs};
+ghost use Rattle.tap_safe_runs.specs.SafeLogs.{OfLawfulLogs};
 ghost use Rattle.tap_safe_runs.specs.Moments.{AtEachMoment};
 ghost use Rattle.tap_cast_runs.specs.Begun.{CastsStayBegun, GroupsBeginRight};
-ghost use Rattle.tap_cast_runs.specs.Casts.{RestHasNoCasts, RunCastsAreKept, RunCastsAreNumbered, RunCastsAreQuiet};
+ghost use Rattle.tap_cast_runs.specs.RunCasts.{RestHasNoCasts, RunCastsAreKept, RunCastsAreNumbered, RunCastsAreQuiet};
 ghost use Rattle.tap_cast_runs.specs.ReachAll.{CastsReachAll};
-ghost use Rattle.tap_cast_runs.specs.Sessions.{AnswersAreAwaited, RestHasNoCastSessions};
-ghost use Rattle.tap_cast_runs.specs.Told.{ClosedHasReachedAll, GroupsReachRight, ReachesAtMostOnce, RestSaysClosed, RunIsToldOnce};
+ghost use Rattle.tap_cast_runs.specs.AwaitedAnswers.{AnswersAreAwaited, RestHasNoCastSessions};
+ghost use Rattle.tap_cast_runs.specs.ReachedOnce.{ClosedHasReachedAll, GroupsReachRight, ReachesAtMostOnce, RestSaysClosed, RunIsToldOnce};
 
 /// In each run, whatever its steps are and in whichever order frames are taken, what is said of casts holds of the system that its log has
 /// come to: who keeps a cast is whom it has reached, whoever else is of its audience is reached or will be, and its sessions are exact. Each

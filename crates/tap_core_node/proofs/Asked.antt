@@ -21,13 +21,13 @@ use Rattle.tap_wire.specs.declared.frame.Body.TheVariants.{Seek, Tell, Cast}
 use Rattle.tap_wire.specs.Layout.{most_links, most_slots}
 use Rattle.tap_wire.specs.Spelling.{IsBody, IsTell}
 use Rattle.tap_rule.specs.Fit.{CouldLink, IsFit, IsFitBody, IsFitSeek, IsFitTell}
-use Rattle.tap_rule.specs.Laws.{frame_to}
+use Rattle.tap_rule.specs.RuleLaws.{frame_to}
 use Rattle.tap_rule.specs.Node.{NodeState, link_to, name_of, settings_of}
 use Rattle.tap_rule.specs.Strange.{is_no_pin, is_strange}
 use Rattle.tap_rule.proofs.CoverSteps.{seek_fits}
 use Rattle.tap_rule.proofs.Fit.{fit_law}
 use Rattle.tap_rule.proofs.JoinSteps.{IsTellFit}
-use Rattle.tap_node_common.specs.Sound.{IsParent, MayTake}
+use Rattle.tap_node_common.specs.SoundNode.{IsParent, MayTake}
 use Rattle.tap_core_node.proofs.Covers.{few_pinned, full_is_few, shared_within, surrogate_may_cover, told_may_cover}
 
 -- a link that is a pin or isn't there

@@ -8,7 +8,7 @@ use Rattle.std.proofs.lemmas.List.Elements.{All-map}
 use Rattle.tap_name.specs.declared.slot.Slot.{Slot}
 use Rattle.tap_name.specs.Name.{IsName}
 use Rattle.tap_name.specs.Word.{IsWord}
-use Rattle.tap_link.specs.Entry.{Entry}
+use Rattle.tap_link.specs.Entry.{LinkEntry}
 use Rattle.tap_link.specs.LinkSet.{is_pinned, least_settled}
 use Rattle.tap_session.specs.declared.parent.Parent.{Parent}
 use Rattle.tap_session.specs.declared.sessions.Answered.TheVariants.{Open, Closed, Unknown}
@@ -26,7 +26,7 @@ use Rattle.tap_cast.specs.Targets.{cast_targets, primary_or_pins, targets_betwee
 use Rattle.tap_cast.proofs.Casting.{targets_are}
 use Rattle.tap_wire.specs.Spelling.{IsBody, IsLevel}
 use Rattle.tap_node_common.specs.declared.cast_fields.CastFields.{CastFields}
-use Rattle.tap_node_common.specs.Spelled.{HaveSpellings}
+use Rattle.tap_node_common.specs.Spellings.{HaveSpellings}
 use Rattle.tap_node_common.specs.Targets.{cast_to}
 use Rattle.tap_rule.specs.Event.News.{Nothing as NothingNews}
 use Rattle.tap_rule.specs.Node.{NodeState}
@@ -36,7 +36,7 @@ use Rattle.tap_rule.specs.Sending.{message_frame}
 use Rattle.tap_node_common.specs.declared.news.News.TheVariants.{Nothing}
 use Rattle.tap_node_common.specs.declared.sender.Sender.{Sender}
 use Rattle.tap_node_common.specs.Sender.{message_bytes, node_sender}
-use Rattle.tap_node_common.specs.Step.{StepsAs, news_of}
+use Rattle.tap_node_common.specs.StepsAs.{StepsAs, news_seen}
 use Rattle.tap_node_common.proofs.Sending.{messages_spelled}
 use Rattle.tap_node_common.proofs.ReactionSteps.{messages_step, silent_step}
 use Rattle.tap_core_node.proofs.Covers.{few_filtered, shared_within}
@@ -79,7 +79,7 @@ module _ (node : NodeState) (copy : Copy) (kept : CastsValue) (before sent : Lis
   pub cast_alone : (first : Bool) (targets : List CastTarget) → turn ≡ Now first targets → (length targets == 0) ≡ true
       → sent ≡ before ++ message_bytes (node_sender node) (cast_answer copy.parent)
       → StepsAs node (casts node copy) (record node { casts = kept }) before sent
-      (news_of (cast_news copy.cast first (is_root copy.parent)))
+      (news_seen (cast_news copy.cast first (is_root copy.parent)))
   cast_alone first [] is none sends =
       rw (is, same) (messages_step node (record node { casts = with_cast node.casts copy.cast copy.level }) (cast_answer copy.parent)
       (cast_news copy.cast first (is_root copy.parent)) before sent sends)
@@ -89,7 +89,7 @@ module _ (node : NodeState) (copy : Copy) (kept : CastsValue) (before sent : Lis
   pub cast_goes_on : (first : Bool) (targets : List CastTarget) (after : NodeState) → turn ≡ Now first targets
       → (length targets == 0) ≡ false → after ≡ with_cast_session (record node { casts = kept }) copy (length targets)
       → sent ≡ before ++ message_bytes (node_sender node) (map (cast_for copy (next_cast_session node)) targets)
-      → StepsAs node (casts node copy) after before sent (news_of (cast_news copy.cast first false))
+      → StepsAs node (casts node copy) after before sent (news_seen (cast_news copy.cast first false))
   cast_goes_on first [] after is some opened sends = absurd (true≢false some)
   cast_goes_on first (target ∷ targets) after is some opened sends =
       rw (is, opened, same) (messages_step node
@@ -102,7 +102,7 @@ module _ (node : NodeState) (session : ℕ) (sessions : SessionsValue) (before :
   pub cast_closed : (parent : Parent) (sent : List (List ℕ)) → answer_to (session_of node.cast_sessions.sessions session) ≡ Closed parent
       → sent ≡ before ++ message_bytes (node_sender node) (cast_answer parent)
       → StepsAs node (takes_cast_ack node session) (record node { cast_sessions = sessions }) before sent
-      (news_of (cast_news (cast_of node session) false (is_root parent)))
+      (news_seen (cast_news (cast_of node session) false (is_root parent)))
   cast_closed parent sent is sends =
       rw (is, same) (messages_step node (record node { cast_sessions = answered_at node.cast_sessions session }) (cast_answer parent)
       (cast_news (cast_of node session) false (is_root parent)) before sent sends)
@@ -121,8 +121,8 @@ module _ (node : NodeState) (session : ℕ) (sessions : SessionsValue) (before :
 few_in_slot : (links : SlotLinks) (primary : Option (List ℕ)) → least_settled links ≡ primary
     → length (primary_or_pins primary links) ≤ length links
 few_in_slot links None is =
-    let some = few_filtered (λ (e : Entry (List ℕ)). is_pinned (Some e.kind)) links in
-    let len = length-map (filter (λ (e : Entry (List ℕ)). is_pinned (Some e.kind)) links) (λ (e : Entry (List ℕ)). e.target) in
+    let some = few_filtered (λ (e : LinkEntry (List ℕ)). is_pinned (Some e.kind)) links in
+    let len = length-map (filter (λ (e : LinkEntry (List ℕ)). is_pinned (Some e.kind)) links) (λ (e : LinkEntry (List ℕ)). e.target) in
     omega (arith, some, len)
 few_in_slot [] (Some primary) is = cc
 few_in_slot (e ∷ links) (Some primary) is = omega arith
@@ -181,6 +181,6 @@ module _ (t : TableValue) (valid : IsTable t) (kept : CastsValue) (cast level : 
   cast_few few =
       let same = ap length targets_is in
       let some = few_cast_targets t level (sent_from t.settings.digits (level_of_cast kept cast)) in
-      let links = length-map (by_name t) (λ (e : Entry (List ℕ)). e.target) in
+      let links = length-map (by_name t) (λ (e : LinkEntry (List ℕ)). e.target) in
       let all = few_by_name t valid in
       omega (arith, few, same, some, links, all)

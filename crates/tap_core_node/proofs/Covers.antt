@@ -18,11 +18,11 @@ use Rattle.tap_watch.proofs.Watches.{IsWatch-full}
 use Rattle.tap_link.specs.declared.kind.Kind.{Kind}
 use Rattle.tap_link.specs.declared.kind.Kind.TheVariants.{Pin, Settled, Leaving}
 use Rattle.tap_link.proofs.TargetKinds.{kind_pinned}
-use Rattle.tap_link.specs.Entry.{Entry}
+use Rattle.tap_link.specs.Entry.{LinkEntry}
 use Rattle.tap_table.specs.ByName.{by_name, targets_by_name}
 use Rattle.tap_table.specs.Table.{IsTable, TableValue, kind_in, pinned}
 use Rattle.tap_table.proofs.Found.{linked_is_name, linked_is_other}
-use Rattle.tap_table.proofs.Kept.{IsTable-pinned}
+use Rattle.tap_table.proofs.KeptTable.{IsTable-pinned}
 use Rattle.tap_table.proofs.LookUps.{kind_in-pinned, of_itself}
 use Rattle.tap_table.proofs.NewLinks.{pinned_rule_new}
 use Rattle.tap_table.proofs.Slots.{place_inside}
@@ -30,7 +30,7 @@ use Rattle.tap_table.proofs.Targets.{target_is_linked, targets-ascending}
 use Rattle.tap_multicast.specs.declared.covers.Covered.{Covered}
 use Rattle.tap_multicast.specs.declared.covers.Covered.TheVariants.{Already, Now}
 use Rattle.tap_multicast.specs.declared.target.Target.{Target}
-use Rattle.tap_multicast.specs.Covers.{CoversValue, MayCover, begun, cover_of, covered, level_kept, with_cover}
+use Rattle.tap_multicast.specs.Covers.{CoversValue, MayCover, begun_cover, cover_of, covered, level_kept, with_cover}
 use Rattle.tap_multicast.specs.Offer.{answers, is_offered, left, offer, offered_as}
 use Rattle.tap_multicast.specs.Targets.{is_told, target_of, targets}
 use Rattle.tap_multicast.proofs.Offers.{IsOffered, no_offer, offer_ascends, offers_are}
@@ -123,12 +123,12 @@ module _ (node : NodeState) (frame : Frame) (fit : IsFit node frame) (valid : Is
 -- a cover that is made now
 module _ (covers : CoversValue) (t : TableValue) (watch : List Slot) (joiner : List ℕ) (prefix level : ℕ) where
   begun_is : (found : Covered) → covered covers t watch joiner prefix level ≡ found → found ≢ Already
-      → found ≡ begun t watch (cover_of t (level_kept covers joiner) joiner prefix level)
+      → found ≡ begun_cover t watch (cover_of t (level_kept covers joiner) joiner prefix level)
   begun_is found is new =
       elim (cases_Bool (is_kept (level_kept covers joiner) level)) [
         | inl kept ↦ let same : Already ≡ found = rw kept at is in absurd (new (sym same))
         | inr anew ↦
-            let same : begun t watch (cover_of t (level_kept covers joiner) joiner prefix level) ≡ found = rw anew at is in sym same
+            let same : begun_cover t watch (cover_of t (level_kept covers joiner) joiner prefix level) ≡ found = rw anew at is in sym same
       ]
 
   -- one that is made already changes nothing
@@ -136,7 +136,7 @@ module _ (covers : CoversValue) (t : TableValue) (watch : List Slot) (joiner : L
   already_same is =
       elim (cases_Bool (is_kept (level_kept covers joiner) level)) [
         | inl kept ↦ rw kept refl
-        | inr anew ↦ let wrong : begun t watch (cover_of t (level_kept covers joiner) joiner prefix level) ≡ Already = rw anew at is in cc
+        | inr anew ↦ let wrong : begun_cover t watch (cover_of t (level_kept covers joiner) joiner prefix level) ≡ Already = rw anew at is in cc
       ]
 
   module _ (valid : IsTable t) (may : MayCover t watch joiner prefix level) where
@@ -152,7 +152,7 @@ module _ (covers : CoversValue) (t : TableValue) (watch : List Slot) (joiner : L
         let links = by_name t in
         let some = few_filtered (is_told t (cover_of t (level_kept covers joiner) joiner prefix level)) links in
         let len = length-map (filter (is_told t (cover_of t (level_kept covers joiner) joiner prefix level)) links) (target_of t.owner) in
-        let all = length-map links (λ (e : Entry (List ℕ)). e.target) in
+        let all = length-map links (λ (e : LinkEntry (List ℕ)). e.target) in
         omega (arith, some, len, all, few)
 
     -- the watch that is left
@@ -196,7 +196,7 @@ module _ (covers : CoversValue) (t : TableValue) (watch : List Slot) (joiner : L
               let all = by_name t in
               let some = few_filtered (is_offered t watch joiner) all in
               let len = length-map (filter (is_offered t watch joiner) all) offered_as in
-              let whole = length-map all (λ (e : Entry (List ℕ)). e.target) in
+              let whole = length-map all (λ (e : LinkEntry (List ℕ)). e.target) in
               rw first (omega (arith, some, len, whole, few));
         }
 
@@ -215,7 +215,7 @@ module _ (covers : CoversValue) (t : TableValue) (watch : List Slot) (joiner : L
     module _ (slots : length watch ≤ most_slots t.settings) (few : length (targets_by_name t) ≤ most_links) (first : Bool)
         (offered : List Offered) (told : List Target) (rest : List Slot)
         (is : covered covers t watch joiner prefix level ≡ Now first offered told rest) where
-      begun_now : begun t watch (cover_of t (level_kept covers joiner) joiner prefix level) ≡ Now first offered told rest
+      begun_now : begun_cover t watch (cover_of t (level_kept covers joiner) joiner prefix level) ≡ Now first offered told rest
       begun_now = sym (begun_is (Now first offered told rest) is (λ wrong. cc))
 
       told_is : targets t (cover_of t (level_kept covers joiner) joiner prefix level) ≡ told

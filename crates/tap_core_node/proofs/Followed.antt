@@ -27,8 +27,8 @@ use Rattle.tap_rule.specs.Covering.{Request, answers_awaited, covers, covers_as,
 use Rattle.tap_rule.specs.JoinSteps.{found_for}
 use Rattle.tap_rule.specs.Pointers.{starts_find, takes_find}
 use Rattle.tap_node_common.specs.declared.news.News.{News}
-use Rattle.tap_node_common.specs.Sound.{IsSoundNode}
-use Rattle.tap_node_common.specs.Step.{FollowsAs, StepsAs}
+use Rattle.tap_node_common.specs.SoundNode.{IsSoundNode}
+use Rattle.tap_node_common.specs.StepsAs.{FollowsAs, StepsAs}
 use Rattle.tap_node_common.proofs.Followed.{LeavesAlone, asks_alone, finds_alone, follows_quietly}
 use Rattle.tap_core_node.proofs.Laid.{laid-pinned}
 

@@ -12,7 +12,7 @@ use Rattle.tap_table.specs.Next.{primary_at}
 use Rattle.tap_table.specs.Table.{IsTable, TableValue, forgotten, marked, name_cmp, near, offered, pinned, place_of, released, removed, slot_number, slot_numbered, with_near}
 use Rattle.tap_table.specs.Ties.{TiesValue, marked as ties_marked}
 use Rattle.tap_table.proofs.Hops.{same_hops}
-use Rattle.tap_table.proofs.Kept.{IsTable-marked}
+use Rattle.tap_table.proofs.KeptTable.{IsTable-marked}
 use Rattle.tap_table.proofs.Near.{number_near}
 use Rattle.tap_table.proofs.Primaries.{primary_at-forgotten, primary_at-marked_other, primary_at-pinned, primary_elsewhere, primary_near}
 use Rattle.tap_table.proofs.Slots.{number_back, place_inside}
@@ -21,8 +21,8 @@ use Rattle.tap_pointer.specs.declared.state.PairState.{PairState}
 use Rattle.tap_pointer.specs.Pointers.{PointersValue, level_held}
 use Rattle.tap_pointer.specs.Reconcile.{AreLaid, AreLaidBeside, hop_from, hop_of, wanted_hop}
 use Rattle.tap_pointer.proofs.Beside.{laid_beside}
-use Rattle.tap_depart.specs.Told.{has_settled_near, offered_if, told_leave}
-use Rattle.tap_node_common.specs.Sound.{AreNamedPairs}
+use Rattle.tap_depart.specs.ToldLeave.{has_settled_near, offered_if, told_leave}
+use Rattle.tap_node_common.specs.SoundNode.{PairsHaveNames}
 use Rattle.tap_core_node.specs.Primaries.{IsLevelOfLeave, has_other_primary, is_another}
 
 -- tables of one owner and base, with the same primaries
@@ -123,7 +123,7 @@ module _ (t : TableValue) (name : List ℕ) (valid : IsTable t) (is_name : IsNam
       sym (primary_elsewhere t name valid is_name other (set_released name_cmp (near t name) name) level digit
       (apart_numbers level digit ne below))
 
-  pub laid-released_beside : (pointers : PointersValue) → AreNamedPairs t.settings pointers → AreLaid t pointers
+  pub laid-released_beside : (pointers : PointersValue) → PairsHaveNames t.settings pointers → AreLaid t pointers
       → AreLaidBeside (released t name) own_place.level pointers
   laid-released_beside pointers named laid =
       laid_beside t (released t name) refl refl own_place.level primary_at-released_beside pointers
@@ -170,7 +170,7 @@ module _ (ties : TiesValue) (name : List ℕ) (valid : IsTable ties.table) (is_n
       ∙ sym (primary_elsewhere after next valid_after fits.0 fits.1 (set_offered name_cmp (near after next) next) level digit
       (apart_numbers after next valid_after fits.0 fits.1 level digit apart below))
 
-  module _ (pointers : PointersValue) (named : AreNamedPairs ties.table.settings pointers) (laid : AreLaid ties.table pointers) where
+  module _ (pointers : PointersValue) (named : PairsHaveNames ties.table.settings pointers) (laid : AreLaid ties.table pointers) where
     by_taken : (taken : Option (List ℕ)) → Fits taken
         → AreLaidBeside (offered_if (ties_marked ties name) taken).table at_level pointers
     by_taken None fits =

@@ -3,6 +3,6 @@ pub mod Followed
 pub mod Covers
 pub mod Spreads
 pub mod CastSteps
-pub mod Steps
+pub mod CoreSteps
 pub mod Pins
 pub mod Asked

@@ -17,8 +17,8 @@ use Rattle.tap_rule.specs.Reaction.{message, pin_word, with_pin}
 use Rattle.tap_node_common.specs.declared.news.News.{News}
 use Rattle.tap_node_common.specs.declared.news.News.TheVariants.{Nothing}
 use Rattle.tap_node_common.specs.Sender.{message_bytes, node_sender, word_bytes}
-use Rattle.tap_node_common.specs.Sound.{IsSoundNode}
-use Rattle.tap_node_common.specs.Step.{FollowsAs, StepsAs}
+use Rattle.tap_node_common.specs.SoundNode.{IsSoundNode}
+use Rattle.tap_node_common.specs.StepsAs.{FollowsAs, StepsAs}
 use Rattle.tap_node_common.proofs.ReactionSteps.{messages_step}
 use Rattle.tap_core_node.proofs.Followed.{follows_quiet, pins_and_covers_quiet, seeks_quiet}
 use Rattle.tap_core_node.proofs.Spreads.{covers_no_words, words_first}

@@ -15,7 +15,7 @@ use Rattle.tap_multicast.specs.declared.target.Target.{Target}
 use Rattle.tap_multicast.specs.Covers.{CoversValue, covered, with_cover}
 use Rattle.tap_wire.specs.declared.frame.TellFields.{TellFields}
 use Rattle.tap_wire.specs.Spelling.{AreSlots, IsBody, spelling}
-use Rattle.tap_node_common.specs.Spelled.{HaveSpellings, spelled}
+use Rattle.tap_node_common.specs.Spellings.{HaveSpellings, spelled}
 use Rattle.tap_node_common.specs.Targets.{tell_to}
 use Rattle.tap_rule.specs.Event.News.{Nothing as NothingNews}
 use Rattle.tap_rule.specs.Node.{NodeState}
@@ -27,7 +27,7 @@ use Rattle.tap_node_common.specs.declared.news.News.{News}
 use Rattle.tap_node_common.specs.declared.news.News.TheVariants.{Nothing}
 use Rattle.tap_node_common.specs.declared.sender.Sender.{Sender}
 use Rattle.tap_node_common.specs.Sender.{lay_bytes, message_bytes, node_sender, word_bytes}
-use Rattle.tap_node_common.specs.Step.{StepsAs}
+use Rattle.tap_node_common.specs.StepsAs.{StepsAs}
 use Rattle.tap_node_common.proofs.Sending.{messages_spelled}
 use Rattle.tap_node_common.proofs.ReactionSteps.{messages_step, no_words}
 use Rattle.tap_core_node.proofs.Covers.{already_same}

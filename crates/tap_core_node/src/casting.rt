@@ -7,8 +7,8 @@ ghost use Rattle.tap_rule.specs.Casts.{cast_for, cast_news, casts, is_root, next
 ghost use Rattle.tap_rule.specs.Strange.{most_depth};
 ghost use Rattle.tap_wire.specs.Spelling.{IsLevel};
 ghost use Rattle.tap_node_common.specs.Sender.{message_bytes, sender_of};
-ghost use Rattle.tap_node_common.specs.Sound.{IsParent, IsSoundNode, has_numbers_left};
-ghost use Rattle.tap_node_common.specs.Step.{FollowsAs, news_of};
+ghost use Rattle.tap_node_common.specs.SoundNode.{IsParent, IsSoundNode, has_numbers_left};
+ghost use Rattle.tap_node_common.specs.StepsAs.{FollowsAs, news_seen};
 ghost use Rattle.tap_core_node.specs.Requests.{copied_with};
 ghost use Rattle.tap_core_node.specs.State.{core_state};
 
@@ -183,7 +183,7 @@ fn is_root(parent: &Parent) -> bool
 
 // The news of a cast, if it has reached the node or is closed.
 fn cast_news(cast: u32, reached: bool, closed: bool) -> News
-    ensures { result ≡ news_of (cast_news cast reached closed) }
+    ensures { result ≡ news_seen (cast_news cast reached closed) }
 {
     if reached || closed {
         News::Cast {

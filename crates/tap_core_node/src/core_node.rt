@@ -12,9 +12,9 @@ ghost use Rattle.tap_rule.specs.Node.{member_at_rest};
 ghost use Rattle.tap_rule.specs.Pointers.{lays_due, starts_find, starts_publish, starts_withdraw, takes_find, takes_lay, with_reconciled};
 ghost use Rattle.tap_wire.specs.Spelling.{IsLevel};
 ghost use Rattle.tap_node_common.specs.Sender.{lay_bytes, sender_of};
-ghost use Rattle.tap_node_common.specs.Sound.{AreNamedHops, AreNamedPairs, IsSoundNode, MayTake, has_numbers_left};
+ghost use Rattle.tap_node_common.specs.SoundNode.{AreNamedHops, IsSoundNode, MayTake, PairsHaveNames, has_numbers_left};
 ghost use Rattle.tap_node_common.specs.States.{newly_core};
-ghost use Rattle.tap_node_common.specs.Step.{FollowsAs};
+ghost use Rattle.tap_node_common.specs.StepsAs.{FollowsAs};
 ghost use Rattle.tap_core_node.specs.Primaries.{IsLevelOfLeave, has_other_primary};
 ghost use Rattle.tap_core_node.specs.State.{core_state};
 
@@ -241,7 +241,7 @@ impl CoreNode {
     // Lays all pairs as wanted, if no pair needs it but those whose way passes a level.
     fn reconcile_at(&mut self, sent: &mut FrameList, level: u8) -> Result<(), NoMemory>
         requires owner { self.old.core.table.owner ≡ self.old.parts.pointers.owner }
-        requires names { AreNamedPairs self.old.core.table.settings self.old.parts.pointers }
+        requires names { PairsHaveNames self.old.core.table.settings self.old.parts.pointers }
         requires hops { AreNamedHops self.old.core.table.settings self.old.parts.pointers }
         requires numbers { self.old.parts.stamp + 2 * held_or_laid_count self.old.parts.pointers.pairs ≤ u32.MAX }
         requires others { AreLaidBeside self.old.core.table level self.old.parts.pointers }
@@ -262,7 +262,7 @@ impl CoreNode {
     // Lays all pairs as wanted.
     fn reconcile(&mut self, sent: &mut FrameList) -> Result<(), NoMemory>
         requires owner { self.old.core.table.owner ≡ self.old.parts.pointers.owner }
-        requires names { AreNamedPairs self.old.core.table.settings self.old.parts.pointers }
+        requires names { PairsHaveNames self.old.core.table.settings self.old.parts.pointers }
         requires hops { AreNamedHops self.old.core.table.settings self.old.parts.pointers }
         requires numbers { self.old.parts.stamp + 2 * held_or_laid_count self.old.parts.pointers.pairs ≤ u32.MAX }
         ensures after { OnOk result (core_state self.new ≡ with_reconciled (core_state self.old)) }
@@ -276,7 +276,7 @@ impl CoreNode {
     // Lays all pairs as wanted. If a level is given, no pair needs it but those whose way passes this level.
     fn reconcile_beside(&mut self, sent: &mut FrameList, level: Option<u8>) -> Result<(), NoMemory>
         requires owner { self.old.core.table.owner ≡ self.old.parts.pointers.owner }
-        requires names { AreNamedPairs self.old.core.table.settings self.old.parts.pointers }
+        requires names { PairsHaveNames self.old.core.table.settings self.old.parts.pointers }
         requires hops { AreNamedHops self.old.core.table.settings self.old.parts.pointers }
         requires numbers { self.old.parts.stamp + 2 * held_or_laid_count self.old.parts.pointers.pairs ≤ u32.MAX }
         requires others { IfSome level (λ l. AreLaidBeside self.old.core.table l self.old.parts.pointers) }
@@ -293,7 +293,7 @@ impl CoreNode {
     // Lays the pair of an object that it serves itself as wanted, if no other pair needs it.
     fn reconcile_own(&mut self, sent: &mut FrameList, object: Name) -> Result<(), NoMemory>
         requires owner { self.old.core.table.owner ≡ self.old.parts.pointers.owner }
-        requires names { AreNamedPairs self.old.core.table.settings self.old.parts.pointers }
+        requires names { PairsHaveNames self.old.core.table.settings self.old.parts.pointers }
         requires hops { AreNamedHops self.old.core.table.settings self.old.parts.pointers }
         requires numbers { self.old.parts.stamp + 2 ≤ u32.MAX }
         requires others { AreLaidBut self.old.core.table (pair_of object self.old.core.table.owner) self.old.parts.pointers }

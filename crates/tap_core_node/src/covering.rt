@@ -11,8 +11,8 @@ ghost use Rattle.tap_rule.specs.Strange.{most_depth};
 ghost use Rattle.tap_wire.specs.Layout.{most_links, most_slots};
 ghost use Rattle.tap_wire.specs.Spelling.{AreLinks, AreSlots};
 ghost use Rattle.tap_node_common.specs.Sender.{message_bytes};
-ghost use Rattle.tap_node_common.specs.Sound.{IsParent, IsSoundNode, MayTake, has_numbers_left};
-ghost use Rattle.tap_node_common.specs.Step.{FollowsAs, StepsAs};
+ghost use Rattle.tap_node_common.specs.SoundNode.{IsParent, IsSoundNode, MayTake, has_numbers_left};
+ghost use Rattle.tap_node_common.specs.StepsAs.{FollowsAs, StepsAs};
 ghost use Rattle.tap_core_node.specs.Requests.{asked_with};
 ghost use Rattle.tap_core_node.specs.State.{core_state};
 

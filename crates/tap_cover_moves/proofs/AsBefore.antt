@@ -12,13 +12,13 @@ use Rattle.tap_safety.specs.Bookkeeping.{AreStamped, has_table}
 use Rattle.tap_safety.specs.Ceased.{Ceased, CoreOrJoining, IsRegistered, SaysSo}
 use Rattle.tap_safety.specs.FrameSteps.{TakesFrame}
 use Rattle.tap_safety.specs.Moved.{HasDone}
-use Rattle.tap_safety.specs.Remembered.{Word}
-use Rattle.tap_safety.specs.Step.{ChangesAt, IsTaken, with_at}
+use Rattle.tap_safety.specs.Remembered.{TieWord}
+use Rattle.tap_safety.specs.Exchanges.{ChangesAt, IsTaken, with_at}
 use Rattle.tap_safety.specs.System.{System, IsUnderWay}
-use Rattle.tap_safety.specs.Ties.{IsNoNewer, IsOnWay, LastIs, Stands, Ties, Versions, hears_words, link_in, link_of, register_in, register_of, release_frame, status_in, status_of, word_frame}
-use Rattle.tap_safety.specs.Words.{Pins}
+use Rattle.tap_safety.specs.Ties.{IsNoNewer, IsOnWay, LastIs, Stands, TiesAreTold, Versions, hears_words, link_in, link_of, register_in, register_of, release_frame, status_in, status_of, word_frame}
+use Rattle.tap_safety.specs.Regions.{Pins}
 use Rattle.tap_safety.specs.WordSteps.{SaysLinks, SaysNoMore}
-use Rattle.tap_safety.proofs.Moves.{with_at-here, with_at-others}
+use Rattle.tap_safety.proofs.Moved.{with_at-here, with_at-others}
 use Rattle.tap_safety.proofs.StepLaws.{ceased_words_law, ties_words_law, versions_words_law, words_said_law}
 use Rattle.tap_safety.proofs.WordsKept.{at_link, link_at}
 use Rattle.tap_moves.specs.TiesLaws.{WordsStand}
@@ -135,14 +135,14 @@ module _ (s s' : System) (number : ℕ) (frame : Frame) (before after : NodeStat
   pub way_there : (f : Frame) → IsOnWay s' f → IsOnWay as_before f
   way_there f way = record { number = way.number; among = way.among }
 
-  stands_back : (x t : List ℕ) (word : Word) → Stands as_before x t word → Stands s' x t word
+  stands_back : (x t : List ℕ) (word : TieWord) → Stands as_before x t word → Stands s' x t word
   stands_back x t word (inl way) = inl (way_back (word_frame x t word) way)
   stands_back x t word (inr stood) = inr (sym (register_seen t x) ∙ stood)
 
   pub last_back : (x t : List ℕ) (on : Bool) → LastIs as_before x t on → LastIs s' x t on
   last_back x t on l = record { last = l.last; is = l.is; on_is = l.on_is; stands = stands_back x t l.last l.stands }
 
-  within_back : (x t : List ℕ) (word : Word) → IsNoNewer as_before x t word → IsNoNewer s' x t word
+  within_back : (x t : List ℕ) (word : TieWord) → IsNoNewer as_before x t word → IsNoNewer s' x t word
   within_back x t word is = record { last = is.last; is = is.is; most = is.most; same = is.same }
 
   pub versions_back : Versions as_before → Versions s'
@@ -190,7 +190,7 @@ module _ (s s' : System) (number : ℕ) (frame : Frame) (before after : NodeStat
     either_there x (inl core) = inl (status_seen x ∙ core)
     either_there x (inr joins) = inr (status_seen x ∙ joins)
 
-    same_ties : Ties as_before → Ties s'
+    same_ties : TiesAreTold as_before → TiesAreTold s'
     same_ties ties = record {
       linked = λ x t kind hears link. last_back x t true (ties.linked x t kind (hears_there t hears) (link_seen x t ∙ link));
       dropped = λ x t word hears none last.

@@ -29,7 +29,7 @@ use Rattle.tap_rule.specs.Event.{Acted}
 use Rattle.tap_rule.specs.Event.Event.{Takes}
 use Rattle.tap_rule.specs.FrameRules.{frame_at_core}
 use Rattle.tap_rule.specs.JoinSteps.{CoverStep, DoneStep, PinStep}
-use Rattle.tap_rule.specs.Laws.{IsCarriedOut, frame_to, tell_of}
+use Rattle.tap_rule.specs.RuleLaws.{IsCarriedOut, frame_to, tell_of}
 use Rattle.tap_rule.specs.Node.{NodeState, level_of, link_to, name_of, settings_of}
 use Rattle.tap_rule.specs.Node.Status.{Core, Leaving}
 use Rattle.tap_rule.specs.Reaction.{Message, message, to_each}
@@ -48,12 +48,12 @@ use Rattle.tap_safety.specs.SeekerSteps.{IsCoverBody, SendsCovers}
 use Rattle.tap_safety.specs.SeekStep.{IsGreeted, SeatsJoiner}
 use Rattle.tap_safety.specs.Seeking.{IsSeeker}
 use Rattle.tap_safety.specs.Soft.{AddsSoundLinks, IsSoft, IsSoundBody, IsSoundLink, NamesSoft, SendsSound}
-use Rattle.tap_safety.specs.Step.{IsSent, with_at}
+use Rattle.tap_safety.specs.Exchanges.{IsSent, with_at}
 use Rattle.tap_safety.specs.System.{System, HasLink, IsCoreNode, IsJoiner}
 use Rattle.tap_safety.specs.TellStep.{CoversAnew, TakesTell}
 use Rattle.tap_safety.specs.Turned.{opened_by, surrogates_with}
 use Rattle.tap_safety.proofs.CoverSeeking.{cover_leaves_seekers, cover_leaves_tells, joiners_same}
-use Rattle.tap_safety.proofs.Moves.{with_at-here, with_at-others}
+use Rattle.tap_safety.proofs.Moved.{with_at-here, with_at-others}
 use Rattle.tap_safety.proofs.Peace.{peace_kept}
 use Rattle.tap_safety.proofs.SeatSoft.{joiner_is_new, seat_softs}
 use Rattle.tap_safety.proofs.SeekingKept.{seeker_not_soft, seekers_kept, seeking_kept, tells_kept}
@@ -61,7 +61,7 @@ use Rattle.tap_safety.proofs.SoftKept.{sent_each, soft_kept}
 use Rattle.tap_safety.proofs.SoftSteps.{links_sound, softs_same}
 use Rattle.tap_safety.proofs.StepLaws.{gives_quiet_law, seeking_done_law, seeking_seat_law, seeking_tell_law, soft_done_law, soft_seat_law, soft_tell_law}
 use Rattle.tap_safety.proofs.TellKeeps.{core_kept, joiner_after}
-use Rattle.tap_safety.proofs.Told.{was_under_way}
+use Rattle.tap_safety.proofs.UnderWay.{was_under_way}
 use Rattle.tap_safety.proofs.Said.{Said, said_of}
 use Rattle.tap_safety.proofs.Said.Said.{IsDone, IsSeek, IsTell}
 use Rattle.tap_moves.specs.ByRule.{StartsNone, TakesByRule, taken_at}

@@ -8,14 +8,14 @@ use Rattle.tap_rule.specs.Node.Status.{Leaving}
 use Rattle.tap_safety.specs.Departing.{Departure}
 use Rattle.tap_safety.specs.Notices.{IsAtPeace, IsNotice, Notices}
 use Rattle.tap_safety.specs.Soft.{AddsSoundLinks}
-use Rattle.tap_safety.specs.Step.{ChangesAt, IsSent, IsTaken}
+use Rattle.tap_safety.specs.Exchanges.{ChangesAt, IsSent, IsTaken}
 use Rattle.tap_safety.specs.System.{System, HasLink, IsUnderWay}
 use Rattle.tap_safety.specs.Ties.{status_of}
 use Rattle.tap_safety.proofs.LinkKeeps.{some_state, status_seen}
 use Rattle.tap_safety.proofs.Peace.{notices_law}
 use Rattle.tap_safety.proofs.SoftSteps.{links_sound}
 use Rattle.tap_safety.proofs.TellKeeps.{node_before}
-use Rattle.tap_safety.proofs.Told.{was_under_way}
+use Rattle.tap_safety.proofs.UnderWay.{was_under_way}
 use Rattle.tap_moves.specs.CalmMoves.{IsPeaceful}
 
 module _ (s s' : System) (number : ℕ) (frame : Frame) (sent : List Frame) (taken : IsTaken s s' number frame sent) (x : List ℕ)

@@ -17,13 +17,13 @@ use Rattle.tap_rule.specs.Answers.{answer_for, with_session}
 use Rattle.tap_rule.specs.Covering.{Request, answers_awaited, covers_as, greeting, pins_and_covers, tell_for, with_level}
 use Rattle.tap_rule.specs.Event.{Acted}
 use Rattle.tap_rule.specs.JoinSteps.{found_for}
-use Rattle.tap_rule.specs.Laws.{IsCarriedOut}
+use Rattle.tap_rule.specs.RuleLaws.{IsCarriedOut}
 use Rattle.tap_rule.specs.Node.{NodeState, level_of, name_of}
 use Rattle.tap_rule.specs.Reaction.{Message, Reaction, message, pin_word, sends, with_pin}
 use Rattle.tap_rule.specs.Sent.{IsAmong}
 use Rattle.tap_rule.specs.Hellos.{core_hello}
 use Rattle.tap_rule.proofs.Among.{among-either, among-map_from}
-use Rattle.tap_safety.specs.Step.{IsSent}
+use Rattle.tap_safety.specs.Exchanges.{IsSent}
 use Rattle.tap_safety.proofs.SoftKept.{only_message, sent_each}
 use Rattle.tap_moves.proofs.CoverMade.{hello_made, told_targets}
 

@@ -24,17 +24,17 @@ use Rattle.tap_join.specs.Hello.{hello_names}
 use Rattle.tap_rule.specs.Answers.{answer_for}
 use Rattle.tap_rule.specs.Covering.{Request, pins_and_covers}
 use Rattle.tap_rule.specs.Event.{Acted}
-use Rattle.tap_rule.specs.Laws.{IsCarriedOut}
+use Rattle.tap_rule.specs.RuleLaws.{IsCarriedOut}
 use Rattle.tap_rule.specs.Node.{NodeState, level_of, link_to, name_of, settings_of}
 use Rattle.tap_rule.specs.Sent.{IsAmong}
 use Rattle.tap_rule.proofs.JoinSteps.{IsTellFit}
 use Rattle.tap_safety.specs.Notices.{IsNotice}
 use Rattle.tap_safety.specs.SeekerSteps.{IsCoverBody, SendsCovers}
 use Rattle.tap_safety.specs.Soft.{IsSoft, IsSoundBody, IsSoundLink, IsSoundOffer, SendsSound}
-use Rattle.tap_safety.specs.Step.{IsSent}
-use Rattle.tap_safety.specs.System.{System, Covers, IsCoreNode, IsJoiner}
+use Rattle.tap_safety.specs.Exchanges.{IsSent}
+use Rattle.tap_safety.specs.System.{System, CoversAt, IsCoreNode, IsJoiner}
 use Rattle.tap_safety.specs.Tells.{IsSoundTell}
-use Rattle.tap_safety.specs.Words.{prefix_of}
+use Rattle.tap_safety.specs.Regions.{prefix_of}
 use Rattle.tap_wire.specs.declared.frame.Body.{Body}
 use Rattle.tap_moves.proofs.CoverMade.{hello_made, joiner_link, linked_inside, other_link, settled_before, told_targets, with_joiner, with_joiner_is}
 use Rattle.tap_moves.proofs.Got.{among_all}
@@ -52,7 +52,7 @@ pub record HasCovered (p : SettingsValue) (s : System) (node : NodeState) (reque
   pub links : (t : List ℕ) (kind : Kind) → link_to node t ≡ Some kind → IsSoundLink s t kind
   pub prefix : request.prefix ≡ prefix_of s request.joiner
   pub level : ℕ
-  pub covers : Covers s (name_of node) request.joiner level
+  pub covers : CoversAt s (name_of node) request.joiner level
   pub within : request.prefix ≤ request.level
   pub shared : request.prefix ≤ lcp (name_of node) request.joiner
   pub most : request.level ≤ (settings_of node).digits

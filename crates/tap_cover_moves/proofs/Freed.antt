@@ -11,12 +11,12 @@ use Rattle.tap_rule.specs.Event.{Acted}
 use Rattle.tap_rule.specs.Node.{NodeState, link_to, word_of}
 use Rattle.tap_safety.specs.Ceased.{Ceased, CoreOrJoining, SaysSo}
 use Rattle.tap_safety.specs.Moved.{HasDone}
-use Rattle.tap_safety.specs.Remembered.{Word}
-use Rattle.tap_safety.specs.Step.{ChangesAt, IsSent, IsTaken}
+use Rattle.tap_safety.specs.Remembered.{TieWord}
+use Rattle.tap_safety.specs.Exchanges.{ChangesAt, IsSent, IsTaken}
 use Rattle.tap_safety.specs.System.{System, IsUnderWay}
-use Rattle.tap_safety.specs.Ties.{IsNoNewer, IsOnWay, LastIs, Stands, Ties, Versions, hears_words, link_in, link_of, register_in, register_of, status_in, status_of, word_frame, word_kept}
-use Rattle.tap_safety.specs.Words.{Pins}
-use Rattle.tap_safety.proofs.Told.{still_under_way, was_under_way}
+use Rattle.tap_safety.specs.Ties.{IsNoNewer, IsOnWay, LastIs, Stands, TiesAreTold, Versions, hears_words, link_in, link_of, register_in, register_of, status_in, status_of, tie_word_kept, word_frame}
+use Rattle.tap_safety.specs.Regions.{Pins}
+use Rattle.tap_safety.proofs.UnderWay.{still_under_way, was_under_way}
 use Rattle.tap_safety.proofs.WordsKept.{at_link, link_at}
 use Rattle.tap_moves.specs.TiesLaws.{WordsStand}
 use Rattle.tap_cover_moves.proofs.Silent.{IsNoWord, last_stays, same_in}
@@ -68,7 +68,7 @@ module _ (s s' : System) (number : ℕ) (frame : Frame) (before : NodeState) (ac
   register_same : (t y : List ℕ) → register_of s' t y ≡ register_of s t y
   unfolding register_of
   register_same t y =
-      same_in s s' frame.to before acted.state at (λ node. register_in node y) (ap word_kept (step.register y)) t
+      same_in s s' frame.to before acted.state at (λ node. register_in node y) (ap tie_word_kept (step.register y)) t
 
   last_same : (y t : List ℕ) → s'.last y t ≡ s.last y t
   last_same y t =
@@ -102,7 +102,7 @@ module _ (s s' : System) (number : ℕ) (frame : Frame) (before : NodeState) (ac
       ]
 
   -- what isn't the frame stays
-  word_still : (y t : List ℕ) (word : Word) → IsOnWay s (word_frame y t word) → IsOnWay s' (word_frame y t word)
+  word_still : (y t : List ℕ) (word : TieWord) → IsOnWay s (word_frame y t word) → IsOnWay s' (word_frame y t word)
   word_still y t word way =
       elim (still_under_way s s' number frame acted.sent taken y t (Link word.version word.on) way) [
         | inl on ↦ on
@@ -111,7 +111,7 @@ module _ (s s' : System) (number : ℕ) (frame : Frame) (before : NodeState) (ac
             absurd never
       ]
 
-  word_was : (y t : List ℕ) (word : Word) → IsOnWay s' (word_frame y t word) → IsOnWay s (word_frame y t word)
+  word_was : (y t : List ℕ) (word : TieWord) → IsOnWay s' (word_frame y t word) → IsOnWay s (word_frame y t word)
   word_was y t word way =
       elim (was_under_way s s' number frame acted.sent taken y t (Link word.version word.on) way) [
         | inl old ↦ old
@@ -142,7 +142,7 @@ module _ (s s' : System) (number : ℕ) (frame : Frame) (before : NodeState) (ac
   hears_was : (t : List ℕ) → hears_words (status_of s' t) → hears_words (status_of s t)
   hears_was t hears = subst hears_words (status_same t) hears
 
-  stands_still : (y t : List ℕ) (word : Word) → Stands s y t word → Stands s' y t word
+  stands_still : (y t : List ℕ) (word : TieWord) → Stands s y t word → Stands s' y t word
   stands_still y t word (inl way) = inl (word_still y t word way)
   stands_still y t word (inr stood) = inr (register_same t y ∙ stood)
 
@@ -181,7 +181,7 @@ module _ (s s' : System) (number : ℕ) (frame : Frame) (before : NodeState) (ac
             ap (λ z. link_of s z t) here.0 ∙ ap (λ z. link_of s frame.to z) here.1 ∙ link_was frame.from ∙ had
       ]
 
-  freed_ties : Ties s → Ties s'
+  freed_ties : TiesAreTold s → TiesAreTold s'
   freed_ties ties = record {
     linked = λ y t kind hears link.
         let had = some_was y t kind (hears_was t hears) link in
@@ -195,7 +195,7 @@ module _ (s s' : System) (number : ℕ) (frame : Frame) (before : NodeState) (ac
     ];
   }
 
-  within_still : (y t : List ℕ) (word : Word) → IsNoNewer s y t word → IsNoNewer s' y t word
+  within_still : (y t : List ℕ) (word : TieWord) → IsNoNewer s y t word → IsNoNewer s' y t word
   within_still y t word is = record { last = is.last; is = last_same y t ∙ is.is; most = is.most; same = is.same }
 
   freed_versions : Versions s → Versions s'

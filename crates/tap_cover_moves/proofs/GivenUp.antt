@@ -19,7 +19,7 @@ use Rattle.tap_wire.specs.declared.kind.Kind.TheVariants as kind
 use Rattle.tap_wire.specs.Kind.{kind_of}
 use Rattle.tap_rule.specs.EndSteps.{EndStep, lays_at_end, words_at_end}
 use Rattle.tap_rule.specs.Event.{Acted}
-use Rattle.tap_rule.specs.Laws.{frame_to}
+use Rattle.tap_rule.specs.RuleLaws.{frame_to}
 use Rattle.tap_rule.specs.Node.{NodeState, link_to, name_of}
 use Rattle.tap_rule.specs.Node.Status.{Ceased as CeasedStatus, Joining, Leaving}
 use Rattle.tap_rule.specs.Reaction.{Message, message, to_each}
@@ -35,19 +35,19 @@ use Rattle.tap_safety.specs.SeekerSteps.{AmongSeeks, LeavesSeekers}
 use Rattle.tap_safety.specs.Seeking.{HasNode, IsSeeker}
 use Rattle.tap_safety.specs.SessionSteps.{Exchanges}
 use Rattle.tap_safety.specs.Soft.{IsCeased, IsSoft, IsSoundBody, NamesSoft}
-use Rattle.tap_safety.specs.Step.{IsSent, numbered_from}
-use Rattle.tap_safety.specs.System.{System, AmongFrames, Covers, HasLink, HelloNames, IsCoreNode, IsJoiner, IsTold, IsUnderWay}
+use Rattle.tap_safety.specs.Exchanges.{IsSent, numbered_from}
+use Rattle.tap_safety.specs.System.{System, AmongFrames, CoversAt, HasLink, HelloNames, IsCoreNode, IsJoiner, IsTold, IsUnderWay}
 use Rattle.tap_safety.specs.Tells.{IsSoundTell, TellsAreSound}
-use Rattle.tap_safety.specs.Words.{IsGiven, prefix_of}
+use Rattle.tap_safety.specs.Regions.{IsGiven, prefix_of}
 use Rattle.tap_safety.proofs.Calm.{AddsNoCover, filled_calm, still_told}
 use Rattle.tap_safety.proofs.CoverKept.{core_or_joiner}
 use Rattle.tap_safety.proofs.FrameKeeps.{core_not, joiner_not_ceased, one_state}
-use Rattle.tap_safety.proofs.Kept.{AddsNone, Keeps, TakesNoTell}
+use Rattle.tap_safety.proofs.KeptParts.{AddsNone, Keeps, TakesNoTell}
 use Rattle.tap_safety.proofs.Known.{ended_kept, stamps_frame}
 use Rattle.tap_safety.proofs.Peace.{peace_kept}
 use Rattle.tap_safety.proofs.SoftKept.{sent_each, soft_kept}
 use Rattle.tap_safety.proofs.StepLaws.{exchanged_law, gives_quiet_law, seeking_law}
-use Rattle.tap_safety.proofs.Told.{among_sent, still_under_way, told_by, was_under_way}
+use Rattle.tap_safety.proofs.UnderWay.{among_sent, still_under_way, told_by, was_under_way}
 use Rattle.tap_safety.proofs.Said.{Said, said_of}
 use Rattle.tap_safety.proofs.Said.Said.{IsHello, IsLeave, IsRelease}
 use Rattle.tap_moves.specs.ByRule.{StartsNone, TakesByRule, taken_at}
@@ -189,10 +189,10 @@ module _ (p : SettingsValue) (s : System) (number : ℕ) (node : NodeState) (fro
             absurd (cc)
       ]
 
-  covers_on : (y b : List ℕ) (level : ℕ) → (y ≡ own → ⊥) → Covers s y b level → Covers after y b level
+  covers_on : (y b : List ℕ) (level : ℕ) → (y ≡ own → ⊥) → CoversAt s y b level → CoversAt after y b level
   covers_on y b level apart cover = record { state = cover.state; is = there y cover.state apart cover.is; cover = cover.cover }
 
-  covers_was : (y b : List ℕ) (level : ℕ) → Covers after y b level → Covers s y b level
+  covers_was : (y b : List ℕ) (level : ℕ) → CoversAt after y b level → CoversAt s y b level
   covers_was y b level cover =
       elim (same_name y own) [
         | inr apart ↦ record { state = cover.state; is = before y cover.state apart cover.is; cover = cover.cover }

@@ -20,7 +20,7 @@ use Rattle.tap_wire.specs.declared.frame.Body.TheVariants.{Done, Forget, Link, R
 use Rattle.tap_wire.specs.declared.frame.Frame.{Frame}
 use Rattle.tap_rule.specs.EndSteps.{words_at_end}
 use Rattle.tap_rule.specs.Event.{Acted}
-use Rattle.tap_rule.specs.Laws.{frame_to}
+use Rattle.tap_rule.specs.RuleLaws.{frame_to}
 use Rattle.tap_rule.specs.Node.{NodeState, link_to, name_of, word_of}
 use Rattle.tap_rule.specs.Node.Status.{Ceased as CeasedStatus, Core, Joining}
 use Rattle.tap_rule.specs.Reaction.{Message, message}
@@ -28,13 +28,13 @@ use Rattle.tap_rule.specs.Sent.{IsAmong}
 use Rattle.tap_rule.proofs.Among.{among-map, among-map_from}
 use Rattle.tap_safety.specs.Bookkeeping.{has_table}
 use Rattle.tap_safety.specs.Ceased.{Ceased, CoreOrJoining, SaysSo}
-use Rattle.tap_safety.specs.Remembered.{Word}
-use Rattle.tap_safety.specs.Step.{IsSent}
+use Rattle.tap_safety.specs.Remembered.{TieWord}
+use Rattle.tap_safety.specs.Exchanges.{IsSent}
 use Rattle.tap_safety.specs.System.{System, IsUnderWay}
-use Rattle.tap_safety.specs.Ties.{IsNoNewer, IsOnWay, LastIs, Stands, Ties, Versions, hears_words, link_in, link_of, register_in, register_of, status_in, status_of, word_frame, word_kept}
-use Rattle.tap_safety.specs.Words.{Pins}
+use Rattle.tap_safety.specs.Ties.{IsNoNewer, IsOnWay, LastIs, Stands, TiesAreTold, Versions, hears_words, link_in, link_of, register_in, register_of, status_in, status_of, tie_word_kept, word_frame}
+use Rattle.tap_safety.specs.Regions.{Pins}
 use Rattle.tap_safety.proofs.FrameWords.{last_cases}
-use Rattle.tap_safety.proofs.Told.{sent_under_way, was_under_way}
+use Rattle.tap_safety.proofs.UnderWay.{sent_under_way, was_under_way}
 use Rattle.tap_safety.proofs.WordsKept.{at_link, link_at}
 use Rattle.tap_moves.specs.ByRule.{taken_at}
 use Rattle.tap_moves.specs.Delivered.{after_delivery}
@@ -93,7 +93,7 @@ off_once last names distinct one two first second same =
     ]
 
 -- a word of this node to t, as a tie
-record IsSaidTo (own : List ℕ) (words : List Tie) (y t : List ℕ) (word : Word) : Type 0 where
+record IsSaidTo (own : List ℕ) (words : List Tie) (y t : List ℕ) (word : TieWord) : Type 0 where
   from : y ≡ own
   tie : Tie
   among : IsAmong tie words
@@ -101,10 +101,10 @@ record IsSaidTo (own : List ℕ) (words : List Tie) (y t : List ℕ) (word : Wor
   version : word.version ≡ tie.version
   on : word.on ≡ tie.on
 
-same_word : (one two : Word) → one.version ≡ two.version → one.on ≡ two.on → one ≡ two
+same_word : (one two : TieWord) → one.version ≡ two.version → one.on ≡ two.on → one ≡ two
 same_word one two version on =
-    let by_version : ℕ → Word = λ n. record { version = n; on = one.on } in
-    let by_on : Bool → Word = λ b. record { version = two.version; on = b } in
+    let by_version : ℕ → TieWord = λ n. record { version = n; on = one.on } in
+    let by_on : Bool → TieWord = λ b. record { version = two.version; on = b } in
     ap by_version version ∙ ap by_on on
 
 module _ (p : SettingsValue) (s : System) (number : ℕ) (node : NodeState) (from : List ℕ) (is : IsDelivery p s number node from Done)
@@ -167,9 +167,9 @@ module _ (p : SettingsValue) (s : System) (number : ℕ) (node : NodeState) (fro
   unfolding register_of
   register_now y =
       ap (λ n. register_in n y) (taken p s number node from is given_up).at.is
-      ∙ ap (λ holders. word_kept (entry_of name_cmp holders y)) (step p s number node from is given_up).unheld
+      ∙ ap (λ holders. tie_word_kept (entry_of name_cmp holders y)) (step p s number node from is given_up).unheld
 
-  register_was : (y : List ℕ) → register_of s own y ≡ word_kept (word_of node y)
+  register_was : (y : List ℕ) → register_of s own y ≡ tie_word_kept (word_of node y)
   unfolding register_of
   register_was y = ap (λ n. register_in n y) is.at
 
@@ -191,10 +191,10 @@ module _ (p : SettingsValue) (s : System) (number : ℕ) (node : NodeState) (fro
 
   -- ---- words under way
 
-  word_still : (y t : List ℕ) (word : Word) → IsOnWay s (word_frame y t word) → IsOnWay after (word_frame y t word)
+  word_still : (y t : List ℕ) (word : TieWord) → IsOnWay s (word_frame y t word) → IsOnWay after (word_frame y t word)
   word_still y t word way = still p s number node from is given_up y t (Link word.version word.on) (λ same. cc) way
 
-  said_to : (y t : List ℕ) (word : Word) → IsSent acted.sent y t (Link word.version word.on) → IsSaidTo own words y t word
+  said_to : (y t : List ℕ) (word : TieWord) → IsSent acted.sent y t (Link word.version word.on) → IsSaidTo own words y t word
   said_to y t word sends =
       elim ((step p s number node from is given_up).sent.each (record { from = y; to = t; body = Link word.version word.on }) sends) [
         | inl link ↦
@@ -217,7 +217,7 @@ module _ (p : SettingsValue) (s : System) (number : ℕ) (node : NodeState) (fro
         | inr (inr lay) ↦ let wrong = ap (λ (f : Frame). f.body) lay.is in absurd (cc)
       ]
 
-  word_was : (y t : List ℕ) (word : Word) → IsOnWay after (word_frame y t word)
+  word_was : (y t : List ℕ) (word : TieWord) → IsOnWay after (word_frame y t word)
       → IsOnWay s (word_frame y t word) ⊎ IsSaidTo own words y t word
   word_was y t word way =
       elim (was_under_way s after number (frame_to node from Done) acted.sent (is_taken p s number node from Done is) y t
@@ -227,7 +227,7 @@ module _ (p : SettingsValue) (s : System) (number : ℕ) (node : NodeState) (fro
       ]
 
   -- a word that is said has a number that the stamp had not given
-  above_stamp : (y t : List ℕ) (word : Word) → IsSaidTo own words y t word → node.stamp < word.version
+  above_stamp : (y t : List ℕ) (word : TieWord) → IsSaidTo own words y t word → node.stamp < word.version
   above_stamp y t word said =
       let at = got_among said.tie words said.among in
       let number = off_numbered node.stamp (targets_by_name node.ties.table) at.0 said.tie at.1 in
@@ -235,11 +235,11 @@ module _ (p : SettingsValue) (s : System) (number : ℕ) (node : NodeState) (fro
       omega (arith, number, same)
 
   -- and the last word before has one that it had
-  below_stamp : (t : List ℕ) (word : Word) → s.last own t ≡ Some word → word.version ≤ node.stamp
+  below_stamp : (t : List ℕ) (word : TieWord) → s.last own t ≡ Some word → word.version ≤ node.stamp
   below_stamp t word last =
       is.invariant.stamped.stamp own t word node is.at (subst has_table (sym (joins p s number node from is given_up)) tt) last
 
-  said_once : (t : List ℕ) (one two : Word) → IsSaidTo own words own t one → IsSaidTo own words own t two → one ≡ two
+  said_once : (t : List ℕ) (one two : TieWord) → IsSaidTo own words own t one → IsSaidTo own words own t two → one ≡ two
   said_once t one two first second =
       let ties = (due p s number node from Done is).is_node.ties in
       let names = targets_by_name node.ties.table in
@@ -250,8 +250,8 @@ module _ (p : SettingsValue) (s : System) (number : ℕ) (node : NodeState) (fro
       (first.on ∙ ap (λ (w : Tie). w.on) tie ∙ sym second.on)
 
   -- the node's last word to t is the one before, if it says none, or the one that it says
-  last_now : (t : List ℕ) → ((after.last own t ≡ s.last own t) × ((word : Word) → IsSaidTo own words own t word → ⊥))
-      ⊎ ((word : Word) × (after.last own t ≡ Some word) × IsSaidTo own words own t word)
+  last_now : (t : List ℕ) → ((after.last own t ≡ s.last own t) × ((word : TieWord) → IsSaidTo own words own t word → ⊥))
+      ⊎ ((word : TieWord) × (after.last own t ≡ Some word) × IsSaidTo own words own t word)
   last_now t =
       let done = has_done p s number node from Done is in
       elim (last_cases acted.sent t (s.last own t)) [
@@ -272,12 +272,12 @@ module _ (p : SettingsValue) (s : System) (number : ℕ) (node : NodeState) (fro
             inr (some.0, done.words t ∙ some.1, mine)
       ]
     where
-      sent_of : (t : List ℕ) (word : Word) → IsSaidTo own words own t word → IsSent acted.sent own t (Link word.version word.on)
+      sent_of : (t : List ℕ) (word : TieWord) → IsSaidTo own words own t word → IsSent acted.sent own t (Link word.version word.on)
       sent_of t word said =
           let there = (step p s number node from is given_up).sent.links said.tie said.among in
           rw (said.to, said.version, said.on) there
 
-  way_of : (t : List ℕ) (word : Word) → IsSaidTo own words own t word → IsOnWay after (word_frame own t word)
+  way_of : (t : List ℕ) (word : TieWord) → IsSaidTo own words own t word → IsOnWay after (word_frame own t word)
   way_of t word said =
       let there = (step p s number node from is given_up).sent.links said.tie said.among in
       let sends : IsSent acted.sent own t (Link word.version word.on) = rw (said.to, said.version, said.on) there in
@@ -285,7 +285,7 @@ module _ (p : SettingsValue) (s : System) (number : ℕ) (node : NodeState) (fro
       (Link word.version word.on) sends
 
   -- a node to which it had a link is told
-  told_off : (t : List ℕ) (kind : Kind) → link_to node t ≡ Some kind → (word : Word) × IsSaidTo own words own t word
+  told_off : (t : List ℕ) (kind : Kind) → link_to node t ≡ Some kind → (word : TieWord) × IsSaidTo own words own t word
   told_off t kind link =
       let ties = (due p s number node from Done is).is_node.ties in
       let found = linked_is_let_go node.ties.table ties.table node.stamp t kind link in
@@ -303,7 +303,7 @@ module _ (p : SettingsValue) (s : System) (number : ℕ) (node : NodeState) (fro
 
   -- ---- ties
 
-  stands_on : (y t : List ℕ) (word : Word) → (t ≡ own → ⊥) → Stands s y t word → Stands after y t word
+  stands_on : (y t : List ℕ) (word : TieWord) → (t ≡ own → ⊥) → Stands s y t word → Stands after y t word
   stands_on y t word apart (inl way) = inl (word_still y t word way)
   stands_on y t word apart (inr stood) = inr (register_there t y apart ∙ stood)
 
@@ -312,7 +312,7 @@ module _ (p : SettingsValue) (s : System) (number : ℕ) (node : NodeState) (fro
       record { last = l.last; is = same ∙ l.is; on_is = l.on_is; stands = stands_on y t l.last apart l.stands }
 
   -- the node has no link to t any more
-  let_go : (t : List ℕ) (word : Word) → hears_words (status_of after t) → after.last own t ≡ Some word → LastIs after own t false
+  let_go : (t : List ℕ) (word : TieWord) → hears_words (status_of after t) → after.last own t ≡ Some word → LastIs after own t false
   let_go t word hears last =
       elim (last_now t) [
         | inr said ↦ record {
@@ -328,14 +328,14 @@ module _ (p : SettingsValue) (s : System) (number : ℕ) (node : NodeState) (fro
             (is.invariant.ties.dropped own t word (hears_was t hears) none (sym stays.0 ∙ last))
       ]
     where
-      by : (kind : Option Kind) → link_to node t ≡ kind → ((word : Word) → IsSaidTo own words own t word → ⊥) → link_to node t ≡ None
+      by : (kind : Option Kind) → link_to node t ≡ kind → ((word : TieWord) → IsSaidTo own words own t word → ⊥) → link_to node t ≡ None
       by None link silent = link
       by (Some kind) link silent = let said = told_off t kind link in absurd (silent said.0 said.1)
 
   core_hears : (t : List ℕ) → status_of after t ≡ Some Core → hears_words (status_of after t)
   core_hears t core = subst hears_words (sym core) tt
 
-  ties_stand : Ties after
+  ties_stand : TiesAreTold after
   ties_stand = record {
     linked = λ y t kind hears link.
         let apart = linked_apart y t kind link in
@@ -361,7 +361,7 @@ module _ (p : SettingsValue) (s : System) (number : ℕ) (node : NodeState) (fro
   -- ---- versions
 
   -- what was no newer than the last word is so
-  within_on : (y t : List ℕ) (word : Word) → IsNoNewer s y t word → IsNoNewer after y t word
+  within_on : (y t : List ℕ) (word : TieWord) → IsNoNewer s y t word → IsNoNewer after y t word
   within_on y t word old =
       elim (same_name y own) [
         | inr apart ↦ record { last = old.last; is = last_there y t apart ∙ old.is; most = old.most; same = old.same }
@@ -370,7 +370,7 @@ module _ (p : SettingsValue) (s : System) (number : ℕ) (node : NodeState) (fro
             (mine t word (subst (λ v. IsNoNewer s v t word) here old))
       ]
     where
-      mine : (t : List ℕ) (word : Word) → IsNoNewer s own t word → IsNoNewer after own t word
+      mine : (t : List ℕ) (word : TieWord) → IsNoNewer s own t word → IsNoNewer after own t word
       mine t word old =
           elim (last_now t) [
             | inl stays ↦ record { last = old.last; is = stays.0 ∙ old.is; most = old.most; same = old.same }
@@ -386,7 +386,7 @@ module _ (p : SettingsValue) (s : System) (number : ℕ) (node : NodeState) (fro
                 }
           ]
 
-  new_within : (t : List ℕ) (word : Word) → IsSaidTo own words own t word → IsNoNewer after own t word
+  new_within : (t : List ℕ) (word : TieWord) → IsSaidTo own words own t word → IsNoNewer after own t word
   new_within t word said =
       elim (last_now t) [
         | inl stays ↦ absurd (stays.1 word said)
@@ -395,7 +395,7 @@ module _ (p : SettingsValue) (s : System) (number : ℕ) (node : NodeState) (fro
             record { last = word; is = now.1 ∙ ap (λ w. Some w) same; most = omega arith; same = λ level. refl }
       ]
 
-  ways_within : (y t : List ℕ) (word : Word) → IsOnWay after (word_frame y t word) → IsNoNewer after y t word
+  ways_within : (y t : List ℕ) (word : TieWord) → IsOnWay after (word_frame y t word) → IsNoNewer after y t word
   ways_within y t word way =
       elim (word_was y t word way) [
         | inl old ↦ within_on y t word (is.invariant.versions.ways y t word old)
@@ -412,14 +412,14 @@ module _ (p : SettingsValue) (s : System) (number : ℕ) (node : NodeState) (fro
       ]
 
   -- a register that has a word is another node's
-  register_apart : (t y : List ℕ) (word : Word) → register_of after t y ≡ Some word → t ≡ own → ⊥
+  register_apart : (t y : List ℕ) (word : TieWord) → register_of after t y ≡ Some word → t ≡ own → ⊥
   register_apart t y word stood here =
       let wrong : None ≡ Some word = sym (register_now y) ∙ ap (λ v. register_of after v y) (sym here) ∙ stood in cc
 
-  register_had : (t y : List ℕ) (word : Word) → register_of after t y ≡ Some word → register_of s t y ≡ Some word
+  register_had : (t y : List ℕ) (word : TieWord) → register_of after t y ≡ Some word → register_of s t y ≡ Some word
   register_had t y word stood = sym (register_there t y (register_apart t y word stood)) ∙ stood
 
-  once_mine : (t : List ℕ) (word kept : Word) → after.last own t ≡ Some word → IsOnWay after (word_frame own t word)
+  once_mine : (t : List ℕ) (word kept : TieWord) → after.last own t ≡ Some word → IsOnWay after (word_frame own t word)
       → register_of s t own ≡ Some kept → kept.version < word.version
   once_mine t word kept last way stood =
       elim (last_now t) [
@@ -431,14 +431,14 @@ module _ (p : SettingsValue) (s : System) (number : ℕ) (node : NodeState) (fro
             let old = is.invariant.versions.registers own t kept stood in
             let both : Some said.0 ≡ Some word = sym said.1 ∙ last in
             let same : said.0 ≡ word = cc in
-            let level : said.0.version ≡ word.version = ap (λ (w : Word). w.version) same in
+            let level : said.0.version ≡ word.version = ap (λ (w : TieWord). w.version) same in
             let above = above_stamp own t said.0 said.2 in
             let below = below_stamp t old.last old.is in
             let most = old.most in
             omega (arith, above, below, most, level)
       ]
 
-  once_kept : (y t : List ℕ) (word kept : Word) → after.last y t ≡ Some word → IsOnWay after (word_frame y t word)
+  once_kept : (y t : List ℕ) (word kept : TieWord) → after.last y t ≡ Some word → IsOnWay after (word_frame y t word)
       → register_of after t y ≡ Some kept → kept.version < word.version
   once_kept y t word kept last way stood =
       let had = register_had t y kept stood in
@@ -462,7 +462,7 @@ module _ (p : SettingsValue) (s : System) (number : ℕ) (node : NodeState) (fro
   -- ---- nodes that have ceased
 
   -- a word that the register keeps is of a holder, and it is told to forget
-  forgotten : (y : List ℕ) (word : Word) → register_of s own y ≡ Some word → word.on ≡ true → IsUnderWay after own y Forget
+  forgotten : (y : List ℕ) (word : TieWord) → register_of s own y ≡ Some word → word.on ≡ true → IsUnderWay after own y Forget
   forgotten y word stood on =
       let ties = (due p s number node from Done is).is_node.ties in
       let holds = by (word_of node y) (sym (register_was y) ∙ stood) in
@@ -471,7 +471,7 @@ module _ (p : SettingsValue) (s : System) (number : ℕ) (node : NodeState) (fro
       sent_under_way s after number (frame_to node from Done) acted.sent (is_taken p s number node from Done is) own y Forget
       ((step p s number node from is given_up).sent.named (message y Forget) mine)
     where
-      by : (entry : Option (Entry (List ℕ) Bool)) → word_kept entry ≡ Some word → says_on entry ≡ true
+      by : (entry : Option (Entry (List ℕ) Bool)) → tie_word_kept entry ≡ Some word → says_on entry ≡ true
       by None kept = let no : None ≡ Some word = kept in absurd (cc)
       by (Some entry) kept =
           let same : Some (record { version = entry.version; on = entry.value }) ≡ Some word = kept in

@@ -13,13 +13,13 @@ use Rattle.tap_rule.specs.Node.{NodeState}
 use Rattle.tap_rule.specs.Node.Status.{Ceased as CeasedStatus, Core, Joining}
 use Rattle.tap_safety.specs.Ceased.{Ceased, CoreOrJoining, IsRegistered, SaysSo}
 use Rattle.tap_safety.specs.Moved.{HasDone, last_after}
-use Rattle.tap_safety.specs.Remembered.{Word}
-use Rattle.tap_safety.specs.Step.{ChangesAt, IsSent, IsTaken}
+use Rattle.tap_safety.specs.Remembered.{TieWord}
+use Rattle.tap_safety.specs.Exchanges.{ChangesAt, IsSent, IsTaken}
 use Rattle.tap_safety.specs.System.{System, IsUnderWay}
-use Rattle.tap_safety.specs.Ties.{IsNoNewer, IsOnWay, LastIs, Stands, TakesLink, Ties, Versions, hears_words, link_in, link_of, register_in, register_of, status_in, status_of, word_frame, word_kept}
-use Rattle.tap_safety.specs.Words.{Pins}
+use Rattle.tap_safety.specs.Ties.{IsNoNewer, IsOnWay, LastIs, Stands, TakesLink, TiesAreTold, Versions, hears_words, link_in, link_of, register_in, register_of, status_in, status_of, tie_word_kept, word_frame}
+use Rattle.tap_safety.specs.Regions.{Pins}
 use Rattle.tap_safety.proofs.FrameWords.{last_cases}
-use Rattle.tap_safety.proofs.Told.{sent_under_way, still_under_way, was_under_way}
+use Rattle.tap_safety.proofs.UnderWay.{sent_under_way, still_under_way, was_under_way}
 use Rattle.tap_safety.proofs.WordsKept.{at_link, link_at}
 use Rattle.tap_moves.specs.TiesLaws.{WordsStand}
 use Rattle.tap_cover_moves.proofs.Silent.{same_in}
@@ -34,15 +34,15 @@ said_of s x n l = by l.stands
     by (inl way) = inr (record { word = l.last; on = l.on_is; way = way })
     by (inr stood) = inl (record { word = l.last; on = l.on_is; is = stood })
 
-pub joining_said : (s : System) → Ties s → (x n : List ℕ) → Pins s x n → status_of s n ≡ Some Joining → IsRegistered s x n ⊎ SaysSo s x n
+pub joining_said : (s : System) → TiesAreTold s → (x n : List ℕ) → Pins s x n → status_of s n ≡ Some Joining → IsRegistered s x n ⊎ SaysSo s x n
 joining_said s ties x n pin joins =
     said_of s x n (ties.linked x n Pin (subst hears_words (sym joins) tt) (link_at s x n Pin pin))
 
 -- ---- a Link that is heard
 
-module _ (s s' : System) (x t : List ℕ) (word : Word) (step : TakesLink s s' x t word) (hears : hears_words (status_of s t)) where
+module _ (s s' : System) (x t : List ℕ) (word : TieWord) (step : TakesLink s s' x t word) (hears : hears_words (status_of s t)) where
   -- a word to a node that has ceased isn't the one that is taken
-  word_on : (y n : List ℕ) (w : Word) → status_of s n ≡ Some CeasedStatus → IsOnWay s (word_frame y n w) → IsOnWay s' (word_frame y n w)
+  word_on : (y n : List ℕ) (w : TieWord) → status_of s n ≡ Some CeasedStatus → IsOnWay s (word_frame y n w) → IsOnWay s' (word_frame y n w)
   word_on y n w ended way =
       elim (step.still (word_frame y n w) way) [
         | inr on ↦ on
@@ -70,7 +70,7 @@ module _ (s s' : System) (x t : List ℕ) (word : Word) (step : TakesLink s s' x
   either_was y (inl core) = inl (sym (step.status y) ∙ core)
   either_was y (inr joins) = inr (sym (step.status y) ∙ joins)
 
-  pub heard_ceased : Ties s' → Ceased s → Ceased s'
+  pub heard_ceased : TiesAreTold s' → Ceased s → Ceased s'
   heard_ceased ties ceased = record {
     joining = λ y n either pin joins. joining_said s' ties y n pin joins;
     ceased = λ y n either pin ended.
@@ -87,7 +87,7 @@ module _ (s s' : System) (x t : List ℕ) (word : Word) (step : TakesLink s s' x
 
 -- The node hears no words, and stays what it is; it sends no Link, and a Forget only to the sender, if it has ceased, and then if the word
 -- is that there is a link.
-pub record TakesUnheard (frame : Frame) (before : NodeState) (acted : Acted) (word : Word) : Type 0 where
+pub record TakesUnheard (frame : Frame) (before : NodeState) (acted : Acted) (word : TieWord) : Type 0 where
   pub body : frame.body ≡ Link word.version word.on
   pub unheard : hears_words (Some before.status) → ⊥
   pub status : acted.state.status ≡ before.status
@@ -97,7 +97,7 @@ pub record TakesUnheard (frame : Frame) (before : NodeState) (acted : Acted) (wo
   pub forgotten : (from to : List ℕ) → IsSent acted.sent from to Forget → (from ≡ frame.to) × (before.status ≡ CeasedStatus)
 
 module _ (s s' : System) (number : ℕ) (frame : Frame) (before : NodeState) (acted : Acted) (taken : IsTaken s s' number frame acted.sent)
-    (at : ChangesAt s s' frame.to before acted.state) (done : HasDone s s' frame.to acted.state acted.sent) (word : Word)
+    (at : ChangesAt s s' frame.to before acted.state) (done : HasDone s s' frame.to acted.state acted.sent) (word : TieWord)
     (step : TakesUnheard frame before acted word) where
   status_same : (y : List ℕ) → status_of s' y ≡ status_of s y
   unfolding status_of
@@ -111,7 +111,7 @@ module _ (s s' : System) (number : ℕ) (frame : Frame) (before : NodeState) (ac
   unfolding register_of
   register_same t y =
       same_in s s' frame.to before acted.state at (λ node. register_in node y)
-      (ap (λ (u : TiesValue). word_kept (entry_of name_cmp u.holders y)) step.ties) t
+      (ap (λ (u : TiesValue). tie_word_kept (entry_of name_cmp u.holders y)) step.ties) t
 
   link_same : (y t : List ℕ) → link_of s' y t ≡ link_of s y t
   unfolding link_of
@@ -133,14 +133,14 @@ module _ (s s' : System) (number : ℕ) (frame : Frame) (before : NodeState) (ac
       ]
 
   -- a word to another node stays
-  word_still : (y t : List ℕ) (w : Word) → (t ≡ frame.to → ⊥) → IsOnWay s (word_frame y t w) → IsOnWay s' (word_frame y t w)
+  word_still : (y t : List ℕ) (w : TieWord) → (t ≡ frame.to → ⊥) → IsOnWay s (word_frame y t w) → IsOnWay s' (word_frame y t w)
   word_still y t w apart way =
       elim (still_under_way s s' number frame acted.sent taken y t (Link w.version w.on) way) [
         | inl on ↦ on
         | inr is ↦ absurd (apart (ap (λ (f : Frame). f.to) is))
       ]
 
-  word_was : (y t : List ℕ) (w : Word) → IsOnWay s' (word_frame y t w) → IsOnWay s (word_frame y t w)
+  word_was : (y t : List ℕ) (w : TieWord) → IsOnWay s' (word_frame y t w) → IsOnWay s (word_frame y t w)
   word_was y t w way =
       elim (was_under_way s s' number frame acted.sent taken y t (Link w.version w.on) way) [
         | inl old ↦ old
@@ -162,7 +162,7 @@ module _ (s s' : System) (number : ℕ) (frame : Frame) (before : NodeState) (ac
   hearer_apart : (t : List ℕ) → hears_words (status_of s t) → t ≡ frame.to → ⊥
   hearer_apart t hears here = step.unheard (subst hears_words (ap (status_of s) here ∙ status_here) hears)
 
-  stands_still : (y t : List ℕ) (w : Word) → hears_words (status_of s t) → Stands s y t w → Stands s' y t w
+  stands_still : (y t : List ℕ) (w : TieWord) → hears_words (status_of s t) → Stands s y t w → Stands s' y t w
   stands_still y t w hears (inl way) = inl (word_still y t w (hearer_apart t hears) way)
   stands_still y t w hears (inr stood) = inr (register_same t y ∙ stood)
 
@@ -177,7 +177,7 @@ module _ (s s' : System) (number : ℕ) (frame : Frame) (before : NodeState) (ac
   core_hears : (t : List ℕ) → status_of s t ≡ Some Core → hears_words (status_of s t)
   core_hears t core = subst hears_words (sym core) tt
 
-  unheard_ties : Ties s → Ties s'
+  unheard_ties : TiesAreTold s → TiesAreTold s'
   unheard_ties ties = record {
     linked = λ y t kind hears link.
         let was = hears_was t hears in last_still y t true was (ties.linked y t kind was (sym (link_same y t) ∙ link));
@@ -193,7 +193,7 @@ module _ (s s' : System) (number : ℕ) (frame : Frame) (before : NodeState) (ac
         ];
   }
 
-  within_still : (y t : List ℕ) (w : Word) → IsNoNewer s y t w → IsNoNewer s' y t w
+  within_still : (y t : List ℕ) (w : TieWord) → IsNoNewer s y t w → IsNoNewer s' y t w
   within_still y t w is = record { last = is.last; is = last_same y t ∙ is.is; most = is.most; same = is.same }
 
   unheard_versions : Versions s → Versions s'
@@ -226,7 +226,7 @@ module _ (s s' : System) (number : ℕ) (frame : Frame) (before : NodeState) (ac
             inr (subst (λ z. IsUnderWay s' z y Forget) (sym to) (subst (λ z. IsUnderWay s' frame.to z Forget) (sym from) way))
       ]
 
-  unheard_ceased : Ties s' → Ceased s → Ceased s'
+  unheard_ceased : TiesAreTold s' → Ceased s → Ceased s'
   unheard_ceased ties ceased = record {
     joining = λ y n either pin joins. joining_said s' ties y n pin joins;
     ceased = λ y n either pin ended.

@@ -10,14 +10,14 @@ use Rattle.tap_wire.specs.declared.frame.Frame.{Frame}
 use Rattle.tap_rule.specs.Event.{Acted}
 use Rattle.tap_rule.specs.Node.{NodeState}
 use Rattle.tap_safety.specs.Moved.{HasDone, last_after}
-use Rattle.tap_safety.specs.Remembered.{Word}
-use Rattle.tap_safety.specs.Step.{ChangesAt, IsSent, IsTaken}
+use Rattle.tap_safety.specs.Remembered.{TieWord}
+use Rattle.tap_safety.specs.Exchanges.{ChangesAt, IsSent, IsTaken}
 use Rattle.tap_safety.specs.System.{System}
-use Rattle.tap_safety.specs.Ties.{link_in, link_of, register_in, register_of, status_in, status_of, word_kept}
+use Rattle.tap_safety.specs.Ties.{link_in, link_of, register_in, register_of, status_in, status_of, tie_word_kept}
 use Rattle.tap_safety.specs.WordSteps.{KeepsForgets, SaysWords}
 use Rattle.tap_safety.proofs.FrameWords.{last_cases}
 use Rattle.tap_safety.proofs.StepLaws.{ceased_words_law, ties_words_law, versions_words_law}
-use Rattle.tap_safety.proofs.Told.{still_under_way, was_under_way}
+use Rattle.tap_safety.proofs.UnderWay.{still_under_way, was_under_way}
 use Rattle.tap_moves.specs.TiesLaws.{WordsStand}
 use Rattle.tap_moves.proofs.WordsMade.{IsAside}
 
@@ -43,7 +43,7 @@ same_in s s' x before after at f same y =
     ]
 
 -- the last word stays, if none is sent
-pub last_stays : (sent : List Frame) (t : List ℕ) (before : Option Word)
+pub last_stays : (sent : List Frame) (t : List ℕ) (before : Option TieWord)
     → ((from to : List ℕ) (body : Body) → IsSent sent from to body → IsNoWord body) → last_after sent t before ≡ before
 last_stays sent t before no_word =
     elim (last_cases sent t before) [
@@ -64,7 +64,7 @@ module _ (s s' : System) (number : ℕ) (frame : Frame) (before : NodeState) (ac
   unfolding register_of
   register_same t y =
       same_in s s' frame.to before acted.state at (λ node. register_in node y)
-      (ap (λ (u : TiesValue). word_kept (entry_of name_cmp u.holders y)) silent.ties) t
+      (ap (λ (u : TiesValue). tie_word_kept (entry_of name_cmp u.holders y)) silent.ties) t
 
   link_same : (y t : List ℕ) → link_of s' y t ≡ link_of s y t
   unfolding link_of

@@ -13,7 +13,7 @@ use Rattle.tap_table.specs.Ties.{holders_on}
 use Rattle.tap_multicast.specs.declared.covers.Covered.{Covered}
 use Rattle.tap_multicast.specs.declared.covers.Covered.TheVariants.{Already, Now}
 use Rattle.tap_multicast.specs.declared.target.Target.{Target}
-use Rattle.tap_join.proofs.Told.{TellsNew, hello_tells_new}
+use Rattle.tap_join.proofs.TellsNew.{TellsNew, hello_tells_new}
 use Rattle.tap_join.specs.Hello.{after_hello}
 use Rattle.tap_join.specs.Seek.{sought}
 use Rattle.tap_join.specs.declared.sought.Sought.{Sought}
@@ -27,7 +27,7 @@ use Rattle.tap_rule.specs.Covering.{Request, answers_awaited, covers_as, first_r
 use Rattle.tap_rule.specs.FrameRules.{frame_at_ceased, frame_at_core, frame_at_joining, frame_at_leaving, rule_of_frame}
 use Rattle.tap_rule.specs.JoinSteps.{found_for}
 use Rattle.tap_rule.specs.Joining.{hello_words, takes_tell_joining, welcomes}
-use Rattle.tap_rule.specs.Laws.{frame_to}
+use Rattle.tap_rule.specs.RuleLaws.{frame_to}
 use Rattle.tap_rule.specs.Links.{is_new_link, takes_forget, takes_link, takes_link_joining, takes_release}
 use Rattle.tap_rule.specs.Node.{NodeState, Status, join_session_at, link_to, name_of, settings_of}
 use Rattle.tap_rule.specs.Node.Status.{Ceased as CeasedStatus, Core, Gone, Joining, Leaving}

@@ -8,7 +8,7 @@ use Rattle.tap_join.specs.Hello.{words_of}
 use Rattle.tap_wire.specs.declared.frame.Body.TheVariants.{Link}
 use Rattle.tap_wire.specs.declared.frame.Frame.{Frame}
 use Rattle.tap_rule.specs.Event.{Acted}
-use Rattle.tap_rule.specs.Laws.{IsCarriedOut, lays_for}
+use Rattle.tap_rule.specs.RuleLaws.{IsCarriedOut, lays_for}
 use Rattle.tap_rule.specs.Node.{NodeState, name_of}
 use Rattle.tap_rule.specs.Reaction.{Message, Reaction}
 use Rattle.tap_rule.specs.Sending.{by_receiver, inserted_by_receiver, lay_frame, link_frame, message_frame}
@@ -18,7 +18,7 @@ use Rattle.tap_rule.proofs.Completed.{runs_or_ended}
 use Rattle.tap_pointer.specs.declared.lay.Lay.{Lay}
 use Rattle.tap_safety.specs.Bookkeeping.{has_table}
 use Rattle.tap_safety.specs.KnownLaws.{LinksAreOnce, Stamps}
-use Rattle.tap_safety.specs.Step.{IsSent}
+use Rattle.tap_safety.specs.Exchanges.{IsSent}
 
 -- ---- words that differ
 

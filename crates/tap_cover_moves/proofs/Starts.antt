@@ -20,13 +20,13 @@ use Rattle.tap_safety.specs.Bookkeeping.{AreStamped, EndedHaveNoLinks}
 use Rattle.tap_safety.specs.Invariant.{Basis}
 use Rattle.tap_safety.specs.Move.{MayGiveUp}
 use Rattle.tap_safety.specs.Moved.{IsStarted, starter}
-use Rattle.tap_safety.specs.Step.{ChangesAt}
+use Rattle.tap_safety.specs.Exchanges.{ChangesAt}
 use Rattle.tap_safety.specs.System.{System}
 use Rattle.tap_safety.proofs.Known.{ended_kept, stamps_join, stamps_start}
 use Rattle.tap_safety.proofs.LinkKeeps.{status_seen}
-use Rattle.tap_safety.proofs.Moves.{starts}
+use Rattle.tap_safety.proofs.Moved.{starts}
 use Rattle.tap_moves.specs.Delivered.{after_start}
-use Rattle.tap_cover_moves.specs.Starts.{StartEnded, StartStamped}
+use Rattle.tap_cover_moves.specs.StartedNodes.{StartEnded, StartStamped}
 use Rattle.tap_cover_moves.proofs.Stamped.{NoLinks, silent_stamps}
 
 -- ---- what is sent

@@ -30,14 +30,14 @@ use Rattle.tap_rule.specs.Covering.{first_request, request_of}
 use Rattle.tap_rule.specs.Event.{Acted}
 use Rattle.tap_rule.specs.FrameRules.{frame_at_ceased, frame_at_core, frame_at_joining, frame_at_leaving, rule_of_frame}
 use Rattle.tap_rule.specs.JoinSteps.{CoverStep, SeekStep}
-use Rattle.tap_rule.specs.Laws.{frame_to}
+use Rattle.tap_rule.specs.RuleLaws.{frame_to}
 use Rattle.tap_rule.specs.Links.{release_word}
 use Rattle.tap_rule.specs.Node.{IsRunning, NodeState, Status, join_session_at, link_to, name_of}
 use Rattle.tap_rule.specs.Node.Status.{Ceased as CeasedStatus, Core, Gone, Joining, Leaving}
 use Rattle.tap_rule.specs.QuietSteps.{IsQuiet}
 use Rattle.tap_rule.specs.Reaction.{Message, Reaction, message}
 use Rattle.tap_rule.specs.Sent.{AreSent, IsAmong}
-use Rattle.tap_rule.specs.Steps.{ForgetStep, ReleaseStep}
+use Rattle.tap_rule.specs.LinkSteps.{ForgetStep, ReleaseStep}
 use Rattle.tap_rule.specs.Strange.{is_strange}
 use Rattle.tap_rule.proofs.CarriedOut.{frame_law, unruled_law}
 use Rattle.tap_rule.proofs.CoverSteps.{seek_fits, seek_law}
@@ -46,8 +46,8 @@ use Rattle.tap_rule.proofs.LinkSteps.{forget_law, release_law}
 use Rattle.tap_rule.proofs.QuietSteps.{quiet_law}
 use Rattle.tap_safety.specs.Bookkeeping.{has_table}
 use Rattle.tap_safety.specs.Frames.{tell_body, hello_body}
-use Rattle.tap_safety.specs.Remembered.{Word}
-use Rattle.tap_safety.specs.Step.{IsSent}
+use Rattle.tap_safety.specs.Remembered.{TieWord}
+use Rattle.tap_safety.specs.Exchanges.{IsSent}
 use Rattle.tap_safety.specs.System.{System}
 use Rattle.tap_safety.specs.Ties.{hears_words}
 use Rattle.tap_safety.proofs.LinkKeeps.{status_at}
@@ -202,7 +202,7 @@ module _ (p : SettingsValue) (s : System) (number : ℕ) (node : NodeState) (fro
 
   -- ---- a Link
 
-  heard_words : (word : Word) → IsDelivery p s number node from (Link word.version word.on) → hears_words (Some node.status)
+  heard_words : (word : TieWord) → IsDelivery p s number node from (Link word.version word.on) → hears_words (Some node.status)
       → IsRunning node.status → WordsStand after
   heard_words word is hears runs =
       let body = Link word.version word.on in
@@ -220,7 +220,7 @@ module _ (p : SettingsValue) (s : System) (number : ℕ) (node : NodeState) (fro
             both.0 is.invariant.ceased;
       }
 
-  gone_takes : (word : Word) → IsDelivery p s number node from (Link word.version word.on) → node.status ≡ Gone
+  gone_takes : (word : TieWord) → IsDelivery p s number node from (Link word.version word.on) → node.status ≡ Gone
       → TakesUnheard (frame_to node from (Link word.version word.on)) node (taken_at node from (Link word.version word.on)) word
   gone_takes word is at =
       let ignored = unruled_law node (frame_to node from (Link word.version word.on)) (rw at refl) in
@@ -245,7 +245,7 @@ module _ (p : SettingsValue) (s : System) (number : ℕ) (node : NodeState) (fro
   forgets_if true is = inl refl
   forgets_if false is = absurd (true≢false (sym is))
 
-  ceased_takes : (word : Word) → IsDelivery p s number node from (Link word.version word.on) → node.status ≡ CeasedStatus
+  ceased_takes : (word : TieWord) → IsDelivery p s number node from (Link word.version word.on) → node.status ≡ CeasedStatus
       → TakesUnheard (frame_to node from (Link word.version word.on)) node (taken_at node from (Link word.version word.on)) word
   unfolding frame_at_ceased
   ceased_takes word is at =
@@ -273,7 +273,7 @@ module _ (p : SettingsValue) (s : System) (number : ℕ) (node : NodeState) (fro
             ];
       }
 
-  unheard_words : (word : Word) → (is : IsDelivery p s number node from (Link word.version word.on))
+  unheard_words : (word : TieWord) → (is : IsDelivery p s number node from (Link word.version word.on))
       → TakesUnheard (frame_to node from (Link word.version word.on)) node (taken_at node from (Link word.version word.on)) word
       → WordsStand after
   unheard_words word is step =
@@ -281,7 +281,7 @@ module _ (p : SettingsValue) (s : System) (number : ℕ) (node : NodeState) (fro
       unheard_stand s after number (frame_to node from body) node (taken_at node from body) (is_taken p s number node from body is)
       (changes_at p s number node from body is) (has_done p s number node from body is) word step (stood p s number node from body is)
 
-  link_words : (word : Word) → IsDelivery p s number node from (Link word.version word.on) → (status : Status) → node.status ≡ status
+  link_words : (word : TieWord) → IsDelivery p s number node from (Link word.version word.on) → (status : Status) → node.status ≡ status
       → WordsStand after
   link_words word is Joining at = heard_words word is (rw at tt) (rw at tt)
   link_words word is Core at = heard_words word is (rw at tt) (rw at tt)
@@ -454,6 +454,6 @@ taken_words p s number node from body is there = by_said body (said_of body) is 
         silent_words p s number node from (Ack session) is
         (silent_by node from (Ack session) is.known (ack_silent node.status node from session)) tt
     by_said _ (IsLink version on) is there =
-        let word : Word = record { version = version; on = on } in
+        let word : TieWord = record { version = version; on = on } in
         link_words p s number node from word is node.status refl
     by_said body _ is there = silent_words p s number node from body is (quiet_silent node from body there) (quiet_aside (kind_of body) there)

@@ -21,7 +21,7 @@ use Rattle.tap_rule.specs.Answers.{answer_for}
 use Rattle.tap_rule.specs.Covering.{Request, pins_and_covers}
 use Rattle.tap_rule.specs.Event.{Acted}
 use Rattle.tap_rule.specs.JoinSteps.{CoverStep, DoneStep}
-use Rattle.tap_rule.specs.Laws.{IsCarriedOut, frame_to}
+use Rattle.tap_rule.specs.RuleLaws.{IsCarriedOut, frame_to}
 use Rattle.tap_rule.specs.Node.{NodeState, link_to, name_of, word_of}
 use Rattle.tap_rule.specs.Node.Status.{Ceased as CeasedStatus, Core, Joining}
 use Rattle.tap_rule.specs.Reaction.{Message, message, pin_word, to_each}
@@ -31,13 +31,13 @@ use Rattle.tap_rule.proofs.JoinSteps.{IsTellFit}
 use Rattle.tap_safety.specs.Bookkeeping.{has_table}
 use Rattle.tap_safety.specs.Ceased.{Ceased, CoreOrJoining}
 use Rattle.tap_safety.specs.Moved.{HasDone}
-use Rattle.tap_safety.specs.Remembered.{Word}
-use Rattle.tap_safety.specs.Step.{ChangesAt, IsTaken}
+use Rattle.tap_safety.specs.Remembered.{TieWord}
+use Rattle.tap_safety.specs.Exchanges.{ChangesAt, IsTaken}
 use Rattle.tap_safety.specs.System.{System}
-use Rattle.tap_safety.specs.Ties.{IsOnWay, LastIs, Ties, hears_words, link_of, register_in, register_of, release_frame, status_of, word_frame, word_kept}
+use Rattle.tap_safety.specs.Ties.{IsOnWay, LastIs, TiesAreTold, hears_words, link_of, register_in, register_of, release_frame, status_of, tie_word_kept, word_frame}
 use Rattle.tap_safety.specs.WordSteps.{SaysLinks, SaysNoMore}
-use Rattle.tap_safety.proofs.Moves.{delivers}
-use Rattle.tap_safety.proofs.Told.{sent_under_way}
+use Rattle.tap_safety.proofs.Moved.{delivers}
+use Rattle.tap_safety.proofs.UnderWay.{sent_under_way}
 use Rattle.tap_moves.specs.ByRule.{taken_at}
 use Rattle.tap_moves.specs.Delivered.{after_delivery}
 use Rattle.tap_moves.specs.InvariantLaws.{IsDelivery}
@@ -262,15 +262,15 @@ module _ (p : SettingsValue) (s : System) (number : ℕ) (node : NodeState) (fro
       (changes_at p s number node from Done is) (has_done p s number node from Done is)
 
   -- a word that the register keeps is of a holder
-  holder_of : (x : List ℕ) (word : Word) → register_of done_after own x ≡ Some word → word.on ≡ true
+  holder_of : (x : List ℕ) (word : TieWord) → register_of done_after own x ≡ Some word → word.on ≡ true
       → says_on (word_of node x) ≡ true
   unfolding register_of
   holder_of x word stood on =
       by (word_of node x)
-      (ap word_kept (sym (ap (λ (u : TiesValue). entry_of name_cmp u.holders x) step.ties))
+      (ap tie_word_kept (sym (ap (λ (u : TiesValue). entry_of name_cmp u.holders x) step.ties))
       ∙ sym (ap (λ state. register_in state x) (changes_at p s number node from Done is).is) ∙ stood)
     where
-      by : (entry : Option (Entry (List ℕ) Bool)) → word_kept entry ≡ Some word → says_on entry ≡ true
+      by : (entry : Option (Entry (List ℕ) Bool)) → tie_word_kept entry ≡ Some word → says_on entry ≡ true
       by None kept = let no : None ≡ Some word = kept in absurd (cc)
       by (Some entry) kept =
           let same : Some (record { version = entry.version; on = entry.value }) ≡ Some word = kept in
@@ -288,7 +288,7 @@ module _ (p : SettingsValue) (s : System) (number : ℕ) (node : NodeState) (fro
 
   -- who pins it has said so, or is released
   pinned_now : (x : List ℕ) → (last : LastIs done_after x own true)
-      → ((word : Word) × (done_after.last x own ≡ Some word) × IsOnWay done_after (word_frame x own word))
+      → ((word : TieWord) × (done_after.last x own ≡ Some word) × IsOnWay done_after (word_frame x own word))
       ⊎ IsOnWay done_after (release_frame own x)
   pinned_now x last =
       elim last.stands [
@@ -296,7 +296,7 @@ module _ (p : SettingsValue) (s : System) (number : ℕ) (node : NodeState) (fro
         | inr stood ↦ inr (released x (holder_of x last.last stood last.on_is))
       ]
 
-  done_ties : Ties done_after
+  done_ties : TiesAreTold done_after
   done_ties =
       let ties = yet_stand.ties in
       record {
@@ -311,7 +311,7 @@ module _ (p : SettingsValue) (s : System) (number : ℕ) (node : NodeState) (fro
           | inl here ↦
               let heard : hears_words (status_of joins_yet own) = subst hears_words (sym joins_then) tt in
               let link : link_of joins_yet x own ≡ Some Pin = link_yet x own ∙ ap (link_of done_after x) (sym here) ∙ pin in
-              subst (λ z. ((word : Word) × (done_after.last x z ≡ Some word) × IsOnWay done_after (word_frame x z word))
+              subst (λ z. ((word : TieWord) × (done_after.last x z ≡ Some word) × IsOnWay done_after (word_frame x z word))
               ⊎ IsOnWay done_after (release_frame z x)) (sym here)
               (pinned_now x (last_now x own true (ties.linked x own Pin heard link)))
         ];

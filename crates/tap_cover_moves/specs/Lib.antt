@@ -1,4 +1,4 @@
 pub mod CoverMoves
 pub mod WordMoves
 pub mod GivenUp
-pub mod Starts
+pub mod StartedNodes

@@ -1,6 +1,6 @@
 ghost use Rattle.tap_cover_moves.specs.CoverMoves.{TakenPeaceful, TakenSeeks, TakenSoft};
 ghost use Rattle.tap_cover_moves.specs.GivenUp.{GivenUpEnded, GivenUpFills, GivenUpPeaceful, GivenUpSeeks, GivenUpSoft, GivenUpStamped, GivenUpWords};
-ghost use Rattle.tap_cover_moves.specs.Starts.{StartEnded, StartStamped};
+ghost use Rattle.tap_cover_moves.specs.StartedNodes.{StartEnded, StartStamped};
 ghost use Rattle.tap_cover_moves.specs.WordMoves.{TakenStamped, TakenWords};
 
 /// If the invariant holds, and each node is one that steps keep valid, then after each frame of a join where a rule takes it, but the Done

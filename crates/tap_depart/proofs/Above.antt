@@ -6,7 +6,7 @@ use Rattle.std.proofs.lemmas.Bool.{cases_Bool, le-ltb, lt-ltb}
 use Rattle.std.proofs.lemmas.List.Elements.{All-head, All-tail}
 use Rattle.std.proofs.lemmas.List.Folds.{find-append}
 use Rattle.tap_name.specs.Prefix.{lcp}
-use Rattle.tap_link.specs.Entry.{Entry}
+use Rattle.tap_link.specs.Entry.{LinkEntry}
 use Rattle.tap_link.specs.LinkSet.{is_settled, least_settled}
 use Rattle.tap_table.specs.declared.slot_range.SlotRange.{SlotRange}
 use Rattle.tap_table.specs.ByName.{range_by_name}
@@ -34,8 +34,8 @@ module _ (owner : List ℕ) (level : ℕ) where
       → first_above owner level (links ++ others) ≡ option_or (first_above owner level links) (first_above owner level others)
   first_above-append links others =
       let test = is_settled_above owner level in
-      ap (option_map (λ (e : Entry (List ℕ)). e.target)) (find-append test links others)
-      ∙ option_map-or (λ (e : Entry (List ℕ)). e.target) (find test links) (find test others)
+      ap (option_map (λ (e : LinkEntry (List ℕ)). e.target)) (find-append test links others)
+      ∙ option_map-or (λ (e : LinkEntry (List ℕ)). e.target) (find test links) (find test others)
 
   -- of links at one level above, it is the least settled one; of others there is none
   above : (at : ℕ) (links : SlotLinks) → nat_lt level at ≡ true → All (λ e. lcp owner e.target ≡ at) links

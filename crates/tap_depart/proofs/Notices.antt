@@ -20,7 +20,7 @@ use Rattle.tap_table.proofs.LookUps.{by_rule, kind_in-marked, kind_in-offered, o
 use Rattle.tap_table.proofs.NewLinks.{link_word, offered_rule_new, word_given}
 use Rattle.tap_table.proofs.Primaries.{full_has_primary, primary_near, primary_near-offered}
 use Rattle.tap_table.proofs.TiesKept.{AreTies-marked, AreTies-offered}
-use Rattle.tap_depart.specs.Told.{has_settled_near, offer_tells_if, offered_if, taken_in, told_leave, told_leave_tells}
+use Rattle.tap_depart.specs.ToldLeave.{has_settled_near, offer_tells_if, offered_if, taken_in, told_leave, told_leave_tells}
 
 neither : (a b : Bool) → (a || b) ≡ false → (a ≡ false) × (b ≡ false)
 neither true b is = cc

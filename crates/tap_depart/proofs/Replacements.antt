@@ -12,7 +12,7 @@ use Rattle.tap_name.proofs.Orders.{below-cases, below-itself, below-one_way}
 use Rattle.tap_name.proofs.Prefixes.{lcp-sym}
 use Rattle.tap_link.specs.declared.kind.Kind.{Kind}
 use Rattle.tap_link.specs.declared.kind.Kind.TheVariants.{Leaving, Pin, Settled}
-use Rattle.tap_link.specs.Entry.{Entry}
+use Rattle.tap_link.specs.Entry.{LinkEntry}
 use Rattle.tap_link.specs.LinkSet.{LinksAscend, is_settled}
 use Rattle.tap_link.proofs.Least.{ascending_tail}
 use Rattle.tap_table.specs.ByName.{by_name}
@@ -27,20 +27,20 @@ settled_kind Settled is = refl
 settled_kind Leaving is = cc
 
 -- the first name is below a later one
-later_above : (e : Entry (List ℕ)) (links : SlotLinks) (i : ℕ) (f : Entry (List ℕ)) → LinksAscend name_cmp (e ∷ links)
+later_above : (e : LinkEntry (List ℕ)) (links : SlotLinks) (i : ℕ) (f : LinkEntry (List ℕ)) → LinksAscend name_cmp (e ∷ links)
     → slice_get links i ≡ Some f → IsBelow e.target f.target
 later_above e links i f ascending got =
     let read = get_or_from_slice_get links i f f got in
     let within = slice_get_within links i f got in
-    ap (λ (x : Entry (List ℕ)). name_cmp e.target x.target) (sym read) ∙ ascending 0 (suc i) f (omega arith) (omega arith)
+    ap (λ (x : LinkEntry (List ℕ)). name_cmp e.target x.target) (sym read) ∙ ascending 0 (suc i) f (omega arith) (omega arith)
 
 module _ (owner : List ℕ) (level : ℕ) where
-  abbrev passes : Entry (List ℕ) → Type 0
+  abbrev passes : LinkEntry (List ℕ) → Type 0
   passes e = is_settled_above owner level e ≡ true
 
   -- what is found is the target of a link that is settled above the level
-  found_link : (P : Entry (List ℕ) → Type 0) (links : SlotLinks) (name : List ℕ) → All P links
-      → first_above owner level links ≡ Some name → (e : Entry (List ℕ)) × P e × (e.target ≡ name) × passes e
+  found_link : (P : LinkEntry (List ℕ) → Type 0) (links : SlotLinks) (name : List ℕ) → All P links
+      → first_above owner level links ≡ Some name → (e : LinkEntry (List ℕ)) × P e × (e.target ≡ name) × passes e
   found_link P [] name all is = cc
   found_link P (e ∷ links) name all is =
       elim (cases_Bool (is_settled_above owner level e)) [
@@ -52,7 +52,7 @@ module _ (owner : List ℕ) (level : ℕ) where
       ]
 
   -- if there is such a link, one is found
-  given_where : (links : SlotLinks) (i : ℕ) (e : Entry (List ℕ)) → slice_get links i ≡ Some e → passes e
+  given_where : (links : SlotLinks) (i : ℕ) (e : LinkEntry (List ℕ)) → slice_get links i ≡ Some e → passes e
       → (name : List ℕ) × (first_above owner level links ≡ Some name)
   given_where [] i e got held = cc
   given_where (f ∷ links) zero e got held =
@@ -66,7 +66,7 @@ module _ (owner : List ℕ) (level : ℕ) where
       ]
 
   -- and no other is below it
-  least_where : (links : SlotLinks) (name : List ℕ) (i : ℕ) (e : Entry (List ℕ)) → LinksAscend name_cmp links
+  least_where : (links : SlotLinks) (name : List ℕ) (i : ℕ) (e : LinkEntry (List ℕ)) → LinksAscend name_cmp links
       → first_above owner level links ≡ Some name → slice_get links i ≡ Some e → passes e → IsBelow e.target name → ⊥
   least_where [] name i e ascending is got held lower = cc
   least_where (f ∷ links) name zero e ascending is got held lower =
@@ -74,7 +74,7 @@ module _ (owner : List ℕ) (level : ℕ) where
       let here : is_settled_above owner level f ≡ true = ap (is_settled_above owner level) same ∙ held in
       let found : Some f.target ≡ Some name = rw here at is in
       let named : f.target ≡ name = cc in
-      below-itself name (subst (λ n. IsBelow n name) (sym (ap (λ (x : Entry (List ℕ)). x.target) same) ∙ named) lower)
+      below-itself name (subst (λ n. IsBelow n name) (sym (ap (λ (x : LinkEntry (List ℕ)). x.target) same) ∙ named) lower)
   least_where (f ∷ links) name (suc i) e ascending is got held lower =
       elim (cases_Bool (is_settled_above owner level f)) [
         | inl here ↦

@@ -1,4 +1,4 @@
 pub mod Replacement
 pub mod Leaving
-pub mod Told
+pub mod ToldLeave
 pub mod Lending

@@ -2,13 +2,13 @@
 use Rattle.std.specs.Prelude.{ℕ, ◌&&◌, nat_lt, Bool, List, find, Option, Some}
 use Rattle.std.specs.Option.{option_map}
 use Rattle.tap_name.specs.Prefix.{lcp}
-use Rattle.tap_link.specs.Entry.{Entry}
+use Rattle.tap_link.specs.Entry.{LinkEntry}
 use Rattle.tap_link.specs.LinkSet.{is_settled}
 use Rattle.tap_table.specs.ByName.{by_name}
 use Rattle.tap_table.specs.Table.{SlotLinks, TableValue}
 
 -- a link of the owner that is settled, not leaving, and at a level above this one
-abbrev pub is_settled_above : List ℕ → ℕ → Entry (List ℕ) → Bool
+abbrev pub is_settled_above : List ℕ → ℕ → LinkEntry (List ℕ) → Bool
 is_settled_above owner level e = is_settled (Some e.kind) && nat_lt level (lcp owner e.target)
 
 -- the first of these links that is so

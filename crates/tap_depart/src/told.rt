@@ -1,7 +1,7 @@
 ghost use Rattle.std.specs.Prelude.{◌≡◌, ◌≢◌, ◌<◌, None, IsOk, IfOk, IfSome, OnOk, OnErr};
 ghost use Rattle.tap_name.specs.Name.{IsName};
 ghost use Rattle.tap_table.specs.Ties.{marked, stamp_after};
-ghost use Rattle.tap_depart.specs.Told.{taken_in, told_leave, told_leave_tells};
+ghost use Rattle.tap_depart.specs.ToldLeave.{taken_in, told_leave, told_leave_tells};
 
 use tap_name::Name;
 use tap_register::Stamp;

@@ -9,7 +9,7 @@ use Rattle.tap_safety.specs.System.{System, HasLink, IsCoreNode}
 use Rattle.tap_safety.specs.Departing.{Departs, FitsSlot, HasOther, HasReplaced, WhileLeaving}
 use Rattle.tap_safety.specs.Notices.{HasAnswered, IsAwaiting, UntilRest}
 use Rattle.tap_safety.specs.Remembered.{Leaver}
-use Rattle.tap_safety.specs.Step.{ChangesAt}
+use Rattle.tap_safety.specs.Exchanges.{ChangesAt}
 use Rattle.tap_safety.specs.Ties.{link_in, link_of, status_in, status_of}
 use Rattle.tap_safety.proofs.LinkKeeps.{some_state, status_seen}
 use Rattle.tap_safety.proofs.TellKeeps.{node_after, node_before}

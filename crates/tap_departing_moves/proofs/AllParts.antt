@@ -1,7 +1,7 @@
 -- The whole invariant after each notice, and once a node has started to leave.
 use Rattle.tap_name.specs.Settings.{SettingsValue}
 use Rattle.tap_rule.specs.Event.Start.{Leave}
-use Rattle.tap_rule.specs.Laws.{frame_to}
+use Rattle.tap_rule.specs.RuleLaws.{frame_to}
 use Rattle.tap_safety.specs.Bookkeeping.{AreStamped}
 use Rattle.tap_safety.specs.Invariant.{Invariant}
 use Rattle.tap_safety.specs.System.{System}

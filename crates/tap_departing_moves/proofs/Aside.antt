@@ -15,12 +15,12 @@ use Rattle.tap_safety.specs.System.{System, AmongFrames, HasLink, IsUnderWay}
 use Rattle.tap_safety.specs.Departing.{Departs, Departure, HasOther, HasReplaced, WhileDeparting, WhileLeaving, may_be_then}
 use Rattle.tap_safety.specs.FrameSteps.{LinksStay, TakesFrame}
 use Rattle.tap_safety.specs.Notices.{IsAwaiting, IsBetween, IsNotice, LeavesNotices, Notices, UntilRest}
-use Rattle.tap_safety.specs.Step.{IsSent}
+use Rattle.tap_safety.specs.Exchanges.{IsSent}
 use Rattle.tap_safety.specs.Ties.{status_of}
 use Rattle.tap_safety.proofs.LinkKeeps.{some_state}
 use Rattle.tap_safety.proofs.NoticesKept.{frame_leaves_law, notices_step_law}
 use Rattle.tap_safety.proofs.TellKeeps.{node_before}
-use Rattle.tap_safety.proofs.Told.{was_under_way}
+use Rattle.tap_safety.proofs.UnderWay.{was_under_way}
 use Rattle.tap_safety.proofs.WordsKept.{at_link, link_at}
 use Rattle.tap_departing_moves.specs.DepartingMoves.{DepartsInOrder}
 use Rattle.tap_departing_moves.proofs.Alike.{fits_on, leaver_stays, leaving_on, other_was, over_at_rest, replaced_on}

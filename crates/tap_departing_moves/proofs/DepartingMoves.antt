@@ -7,14 +7,14 @@ use Rattle.tap_wire.specs.declared.frame.Body.{Body}
 use Rattle.tap_wire.specs.declared.frame.Body.TheVariants.{Done, Forget, Gone, Lay, Leave, Left, Link, Release, Seek}
 use Rattle.tap_wire.specs.declared.frame.TellFields.{TellFields}
 use Rattle.tap_rule.specs.FrameRules.{frame_at_ceased, frame_at_core, frame_at_joining, frame_at_leaving, rule_of_frame}
-use Rattle.tap_rule.specs.Laws.{frame_to}
+use Rattle.tap_rule.specs.RuleLaws.{frame_to}
 use Rattle.tap_rule.specs.Node.{NodeState, Status, link_to, name_of}
 use Rattle.tap_rule.specs.Node.Status.{Ceased, Core, Gone as GoneStatus, Joining, Leaving}
 use Rattle.tap_rule.proofs.CarriedOut.{unruled_law}
 use Rattle.tap_safety.specs.Departing.{Departs}
 use Rattle.tap_safety.specs.Notices.{IsNotice}
 use Rattle.tap_safety.specs.Remembered.{Leaver}
-use Rattle.tap_safety.specs.Step.{IsSent}
+use Rattle.tap_safety.specs.Exchanges.{IsSent}
 use Rattle.tap_safety.specs.System.{System}
 use Rattle.tap_safety.proofs.NoticesKept.{until_rest_law}
 use Rattle.tap_safety.proofs.Peace.{peace_kept}

@@ -14,12 +14,12 @@ use Rattle.tap_safety.specs.Departing.{Departs, Departure, HasOther, HasReplaced
 use Rattle.tap_safety.specs.FrameSteps.{TakesFrame}
 use Rattle.tap_safety.specs.Notices.{HasAnswered, HasOneNotice, IsAwaiting, IsBetween, IsGoneLeaver, Notices, UntilRest}
 use Rattle.tap_safety.specs.Soft.{NamesSoft}
-use Rattle.tap_safety.specs.Step.{numbered_from}
+use Rattle.tap_safety.specs.Exchanges.{numbered_from}
 use Rattle.tap_safety.specs.Ties.{link_of, status_of}
 use Rattle.tap_safety.proofs.LinkKeeps.{some_state, status_seen}
 use Rattle.tap_safety.proofs.NoticesKept.{gone_leaver_stays}
 use Rattle.tap_safety.proofs.TellKeeps.{node_before}
-use Rattle.tap_safety.proofs.Told.{among_out, among_sent, among_was, still_under_way, taken_under_way, was_under_way}
+use Rattle.tap_safety.proofs.UnderWay.{among_out, among_sent, among_was, still_under_way, taken_under_way, was_under_way}
 use Rattle.tap_safety.proofs.WordsKept.{at_link, link_at}
 use Rattle.tap_departing_moves.specs.DepartingMoves.{DepartsInOrder}
 use Rattle.tap_departing_moves.proofs.Alike.{HaveAnswered, awaiting_leaves, awaits_on, awaits_was, core_on, core_was, fits_on, leaver_stays, leaving_on, link_apart, no_kind, one_kind, one_status, other_was, over_at_rest, replaced_on, status_same}

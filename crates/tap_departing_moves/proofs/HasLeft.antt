@@ -12,7 +12,7 @@ use Rattle.tap_safety.specs.Remembered.{Leaver}
 use Rattle.tap_safety.specs.System.{System, AmongFrames, HasLink, IsCoreNode, IsUnderWay}
 use Rattle.tap_safety.specs.Departing.{Departs, HasOther, HasReplaced, WhileDeparting, may_be_then}
 use Rattle.tap_safety.specs.Notices.{IsGoneLeaver}
-use Rattle.tap_safety.specs.Step.{ChangesAt}
+use Rattle.tap_safety.specs.Exchanges.{ChangesAt}
 use Rattle.tap_safety.specs.Ties.{link_of, status_of}
 use Rattle.tap_safety.proofs.LinkKeeps.{some_state, status_seen}
 use Rattle.tap_safety.proofs.TellKeeps.{node_before}

@@ -13,29 +13,29 @@ use Rattle.tap_rule.specs.Reaction.{Message, message, to_each}
 use Rattle.tap_rule.specs.Sent.{AreSent, IsAmong}
 use Rattle.tap_rule.proofs.Among.{among-map, among-map_from}
 use Rattle.tap_safety.specs.Ceased.{IsRegistered}
-use Rattle.tap_safety.specs.Remembered.{Leaver, Word}
-use Rattle.tap_safety.specs.Step.{IsSent}
+use Rattle.tap_safety.specs.Remembered.{Leaver, TieWord}
+use Rattle.tap_safety.specs.Exchanges.{IsSent}
 use Rattle.tap_safety.specs.System.{System}
-use Rattle.tap_safety.specs.Ties.{register_in, register_of, word_kept}
+use Rattle.tap_safety.specs.Ties.{register_in, register_of, tie_word_kept}
 use Rattle.tap_cover_moves.proofs.WordsAnew.{among_names}
 use Rattle.tap_departing_moves.proofs.HasLeft.{IsFarewell}
 
 -- ---- registers
 
 -- a word that is kept says whether its holder is on, and the other way round
-kept_says : (entry : Option (Entry (List ℕ) Bool)) (word : Word) → word_kept entry ≡ Some word → word.on ≡ true → says_on entry ≡ true
+kept_says : (entry : Option (Entry (List ℕ) Bool)) (word : TieWord) → tie_word_kept entry ≡ Some word → word.on ≡ true → says_on entry ≡ true
 kept_says None word is on = cc
 kept_says (Some e) word is on =
     let same : record { version = e.version; on = e.value } ≡ word = cc in
-    ap (λ (w : Word). w.on) same ∙ on
+    ap (λ (w : TieWord). w.on) same ∙ on
 
-says_kept : (entry : Option (Entry (List ℕ) Bool)) → says_on entry ≡ true → (word : Word) × (word_kept entry ≡ Some word) × (word.on ≡ true)
+says_kept : (entry : Option (Entry (List ℕ) Bool)) → says_on entry ≡ true → (word : TieWord) × (tie_word_kept entry ≡ Some word) × (word.on ≡ true)
 says_kept None says = cc
 says_kept (Some e) says = (record { version = e.version; on = e.value }, refl, says)
 
 -- what a register has
 register_is : (s : System) (x : List ℕ) (node : NodeState) (y : List ℕ) → s.node x ≡ Some node
-    → register_of s x y ≡ word_kept (word_of node y)
+    → register_of s x y ≡ tie_word_kept (word_of node y)
 unfolding register_of
 register_is s x node y at = ap (λ (found : Option NodeState). register_in found y) at
 

@@ -22,13 +22,13 @@ use Rattle.tap_safety.specs.Departing.{Departs, Departure, FitsSlot, HasOther, H
 use Rattle.tap_safety.specs.FrameSteps.{TakesFrame}
 use Rattle.tap_safety.specs.Notices.{HasAnswered, HasOneNotice, IsAwaiting, IsBetween, Notices, UntilRest}
 use Rattle.tap_safety.specs.Soft.{NamesSoft}
-use Rattle.tap_safety.specs.Step.{AreNumbered, IsSent, numbered_from}
+use Rattle.tap_safety.specs.Exchanges.{AreNumbered, IsSent, numbered_from}
 use Rattle.tap_safety.specs.Ties.{status_of}
 use Rattle.tap_safety.proofs.Exchanged.{exchanged}
 use Rattle.tap_safety.proofs.LinkKeeps.{status_seen}
 use Rattle.tap_safety.proofs.NoticesKept.{gone_leaver_stays}
 use Rattle.tap_safety.proofs.TellKeeps.{node_before}
-use Rattle.tap_safety.proofs.Told.{among_sent, among_there, was_under_way}
+use Rattle.tap_safety.proofs.UnderWay.{among_sent, among_there, was_under_way}
 use Rattle.tap_safety.proofs.WordsKept.{at_link, link_at}
 use Rattle.tap_moves.proofs.Got.{same_name}
 use Rattle.tap_departing_moves.specs.DepartingMoves.{DepartsInOrder}
@@ -41,7 +41,7 @@ use Rattle.tap_safety.specs.Frames.{hello_body}
 use Rattle.tap_safety.specs.Parts.{HoleFree}
 use Rattle.tap_departing_moves.specs.PartMoves.{HaveTables}
 use Rattle.tap_departing_moves.proofs.NobodyJoins.{filled_now, holes_stay}
-use Rattle.tap_safety.specs.Words.{Has}
+use Rattle.tap_safety.specs.Regions.{Has}
 
 -- A Leave of n at x: x stays what it is, with whom it awaits; its links are as the Leave has them; and it sends its word for the
 -- replacement, a Left to n, and Lays.

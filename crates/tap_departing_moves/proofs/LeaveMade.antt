@@ -11,7 +11,7 @@ use Rattle.tap_table.specs.Table.{kind_in}
 use Rattle.tap_table.specs.Ties.{AreTies, TiesValue}
 use Rattle.tap_table.proofs.Primaries.{primary_near}
 use Rattle.tap_join.specs.Hello.{words_of}
-use Rattle.tap_depart.specs.Told.{has_settled_near, told_leave}
+use Rattle.tap_depart.specs.ToldLeave.{has_settled_near, told_leave}
 use Rattle.tap_depart.proofs.Notices.{AreTies-told, leaver_marked, links_stay, new_is_told, slot_filled, told_is_new, told_owner, told_settings}
 use Rattle.tap_rule.specs.Leaving.{leave_word}
 use Rattle.tap_rule.specs.Node.{NodeState, link_to, name_of, settings_of}

@@ -14,12 +14,12 @@ use Rattle.tap_safety.specs.System.{System, AmongFrames, HasLink, IsCoreNode, Is
 use Rattle.tap_safety.specs.Departing.{Departs, Departure, HasOther, HasReplaced, WhileDeparting, WhileLeaving}
 use Rattle.tap_safety.specs.FrameSteps.{LinksStay, TakesFrame}
 use Rattle.tap_safety.specs.Notices.{HasOneNotice, IsAwaiting, IsBetween, Notices, UntilRest}
-use Rattle.tap_safety.specs.Step.{AreNumbered}
+use Rattle.tap_safety.specs.Exchanges.{AreNumbered}
 use Rattle.tap_safety.specs.Ties.{link_in, link_of, status_of}
 use Rattle.tap_safety.proofs.Exchanged.{exchanged}
 use Rattle.tap_safety.proofs.LinkKeeps.{some_state}
 use Rattle.tap_safety.proofs.NoticesKept.{gone_leaver_stays}
-use Rattle.tap_safety.proofs.Told.{among_sent, among_there, was_under_way}
+use Rattle.tap_safety.proofs.UnderWay.{among_sent, among_there, was_under_way}
 use Rattle.tap_safety.proofs.WordsKept.{at_link, link_at}
 use Rattle.tap_moves.proofs.Got.{same_name}
 use Rattle.tap_departing_moves.specs.DepartingMoves.{DepartsInOrder}

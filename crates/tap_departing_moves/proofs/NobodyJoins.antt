@@ -15,11 +15,11 @@ use Rattle.tap_safety.specs.Parts.{HoleFree}
 use Rattle.tap_safety.specs.Remembered.{Leaver, OpenSession}
 use Rattle.tap_safety.specs.Seeking.{HasNode, IsSeeker}
 use Rattle.tap_safety.specs.Sessions.{IsOpen, session_named}
-use Rattle.tap_safety.specs.Step.{AreNumbered}
-use Rattle.tap_safety.specs.System.{System, Covers, HasLink, IsCoreNode, IsJoiner}
-use Rattle.tap_safety.specs.Words.{Has}
+use Rattle.tap_safety.specs.Exchanges.{AreNumbered}
+use Rattle.tap_safety.specs.System.{System, CoversAt, HasLink, IsCoreNode, IsJoiner}
+use Rattle.tap_safety.specs.Regions.{Has}
 use Rattle.tap_safety.proofs.LinkKeeps.{status_seen}
-use Rattle.tap_safety.proofs.Moves.{ascend_one}
+use Rattle.tap_safety.proofs.Moved.{ascend_one}
 use Rattle.tap_safety.proofs.Said.{Said, said_of}
 use Rattle.tap_safety.proofs.Said.Said.{IsAck, IsHeard, IsHello, IsTell}
 use Rattle.tap_moves.specs.CalmMoves.{AreSought}
@@ -58,7 +58,7 @@ module _ (p : SettingsValue) (s : System) (leaver : Leaver) (during : WhileDepar
     hole_free = holes;
   }
 
-  pub sought_now : ((y b : List ℕ) (level : ℕ) → Covers s y b level → HasNode s b) → AreSought p s
+  pub sought_now : ((y b : List ℕ) (level : ℕ) → CoversAt s y b level → HasNode s b) → AreSought p s
   sought_now covers = record {
     seeking = record {
       seeks = λ x seeker. absurd (no_seeker x seeker);

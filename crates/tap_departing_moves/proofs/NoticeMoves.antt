@@ -20,7 +20,7 @@ use Rattle.tap_wire.specs.declared.frame.Frame.{Frame}
 use Rattle.tap_rule.specs.Completed.{lays_after}
 use Rattle.tap_rule.specs.EndSteps.{EndStep, LeftStep, words_at_end}
 use Rattle.tap_rule.specs.FrameRules.{frame_at_ceased, frame_at_core, frame_at_joining, frame_at_leaving, rule_of_frame}
-use Rattle.tap_rule.specs.Laws.{frame_to}
+use Rattle.tap_rule.specs.RuleLaws.{frame_to}
 use Rattle.tap_rule.specs.Leaving.{leave_word}
 use Rattle.tap_rule.specs.Event.{Acted}
 use Rattle.tap_rule.specs.Node.{NodeState, Status, link_to, name_of, settings_of}
@@ -32,13 +32,13 @@ use Rattle.tap_rule.proofs.EndSteps.{gone_law, leave_law, left_law}
 use Rattle.tap_safety.specs.Departing.{Departs, FitsSlot, HasReplaced, WhileDeparting}
 use Rattle.tap_safety.specs.Notices.{IsAwaiting, IsBetween, IsNotice}
 use Rattle.tap_safety.specs.Remembered.{Leaver}
-use Rattle.tap_safety.specs.Step.{ChangesAt}
+use Rattle.tap_safety.specs.Exchanges.{ChangesAt}
 use Rattle.tap_safety.specs.System.{System, AmongFrames, HasLink, IsUnderWay}
 use Rattle.tap_safety.specs.Ties.{hears_words, status_of}
 use Rattle.tap_safety.proofs.Exchanged.{exchanged}
 use Rattle.tap_safety.proofs.LinkKeeps.{status_seen}
 use Rattle.tap_safety.proofs.NoticesKept.{until_rest_law}
-use Rattle.tap_safety.proofs.Told.{among_sent, sent_under_way, was_under_way}
+use Rattle.tap_safety.proofs.UnderWay.{among_sent, sent_under_way, was_under_way}
 use Rattle.tap_safety.proofs.WordsKept.{link_at}
 use Rattle.tap_moves.specs.ByRule.{TakesByRule, taken_at}
 use Rattle.tap_moves.specs.Delivered.{after_delivery}

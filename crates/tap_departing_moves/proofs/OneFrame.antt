@@ -8,8 +8,8 @@ use Rattle.tap_name.proofs.Sorted.{ascending-first, ascending-others}
 use Rattle.tap_wire.specs.declared.frame.Frame.{Frame}
 use Rattle.tap_rule.specs.Sent.{IsAmong}
 use Rattle.tap_safety.specs.System.{AmongFrames}
-use Rattle.tap_safety.specs.Step.{numbered_from}
-use Rattle.tap_safety.proofs.Told.{among_sent}
+use Rattle.tap_safety.specs.Exchanges.{numbered_from}
+use Rattle.tap_safety.proofs.UnderWay.{among_sent}
 
 -- a frame that is sent after some others has the next number after theirs
 pub sent_after : (next : ℕ) (front : List Frame) (f : Frame) (back : List Frame)

@@ -16,7 +16,7 @@ use Rattle.tap_wire.specs.declared.frame.Body.TheVariants.{Gone, Leave, Left}
 use Rattle.tap_rule.specs.Act.{act}
 use Rattle.tap_rule.specs.Event.Event.{Starts}
 use Rattle.tap_rule.specs.Event.Start.{Leave as StartLeave}
-use Rattle.tap_rule.specs.Laws.{frame_to}
+use Rattle.tap_rule.specs.RuleLaws.{frame_to}
 use Rattle.tap_rule.specs.Node.{NodeState, Status, join_session_at, name_of}
 use Rattle.tap_rule.specs.Node.Status.{Ceased, Core, Gone as GoneStatus, Joining, Leaving}
 use Rattle.tap_rule.proofs.CarriedOut.{unruled_law}
@@ -29,10 +29,10 @@ use Rattle.tap_safety.specs.Move.{MayLeave}
 use Rattle.tap_safety.specs.Notices.{IsNotice}
 use Rattle.tap_safety.specs.Remembered.{Leaver}
 use Rattle.tap_safety.specs.Seeking.{HasNode}
-use Rattle.tap_safety.specs.Step.{AreNumbered, ChangesAt}
-use Rattle.tap_safety.specs.System.{System, Covers, HasLink, IsCoreNode, IsJoiner}
+use Rattle.tap_safety.specs.Exchanges.{AreNumbered, ChangesAt}
+use Rattle.tap_safety.specs.System.{System, CoversAt, HasLink, IsCoreNode, IsJoiner}
 use Rattle.tap_safety.proofs.LinkKeeps.{status_seen}
-use Rattle.tap_safety.proofs.Moves.{numbers_sent, numbers_taken}
+use Rattle.tap_safety.proofs.Moved.{numbers_sent, numbers_taken}
 use Rattle.tap_safety.proofs.NoticesKept.{until_rest_law}
 use Rattle.tap_safety.proofs.Rest.{rest_holds}
 use Rattle.tap_safety.proofs.TellKeeps.{node_before}
@@ -40,7 +40,7 @@ use Rattle.tap_moves.specs.ByRule.{taken_at}
 use Rattle.tap_moves.specs.CalmMoves.{AreSought}
 use Rattle.tap_moves.specs.Delivered.{after_delivery, after_start}
 use Rattle.tap_moves.specs.InvariantLaws.{IsDelivery}
-use Rattle.tap_moves.specs.Spelled.{AreNodes}
+use Rattle.tap_moves.specs.KnownNames.{AreNodes}
 use Rattle.tap_moves.proofs.InvariantMoves.{due, sender_name}
 use Rattle.tap_moves.proofs.MovesMade.{by_rule}
 use Rattle.tap_session_moves.proofs.NoticeMoves.{notice_joins}
@@ -105,7 +105,7 @@ module _ (p : SettingsValue) (s s' : System) (x : List ℕ) (node after : NodeSt
         | inr same ↦ record { state = has.state; is = same ∙ has.is }
       ]
 
-  cover_was : (y b : List ℕ) (level : ℕ) → Covers s' y b level → Covers s y b level
+  cover_was : (y b : List ℕ) (level : ℕ) → CoversAt s' y b level → CoversAt s y b level
   cover_was y b level covers =
       elim (node_before s s' x node after at y covers.state covers.is) [
         | inr there ↦ record { state = covers.state; is = there; cover = covers.cover }

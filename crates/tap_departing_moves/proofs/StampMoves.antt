@@ -6,7 +6,7 @@ use Rattle.tap_table.specs.declared.tie.Tie.{Tie}
 use Rattle.tap_table.specs.ByName.{targets_by_name}
 use Rattle.tap_table.specs.Ties.{TiesValue, holders_on, marked, stamp_after}
 use Rattle.tap_depart.specs.Leaving.{names_but, started_leaving}
-use Rattle.tap_depart.specs.Told.{offer_tells_if, taken_in}
+use Rattle.tap_depart.specs.ToldLeave.{offer_tells_if, taken_in}
 use Rattle.tap_join.specs.Hello.{words_of}
 use Rattle.tap_wire.specs.declared.frame.Body.{Body}
 use Rattle.tap_wire.specs.declared.frame.Body.TheVariants.{Gone, Leave, Left, Link}
@@ -17,7 +17,7 @@ use Rattle.tap_rule.specs.Event.{Acted}
 use Rattle.tap_rule.specs.Event.Event.{Starts}
 use Rattle.tap_rule.specs.Event.Start.{Leave as StartLeave}
 use Rattle.tap_rule.specs.FrameRules.{frame_at_core, rule_of_frame}
-use Rattle.tap_rule.specs.Laws.{frame_to}
+use Rattle.tap_rule.specs.RuleLaws.{frame_to}
 use Rattle.tap_rule.specs.Leaving.{leave_for, takes_leave}
 use Rattle.tap_rule.specs.Node.{NodeState, name_of}
 use Rattle.tap_rule.specs.Node.Status.{Gone as GoneStatus}
@@ -31,13 +31,13 @@ use Rattle.tap_safety.specs.Bookkeeping.{AreStamped, has_table}
 use Rattle.tap_safety.specs.Invariant.{Invariant}
 use Rattle.tap_safety.specs.KnownLaws.{LinksAreOnce, Stamps}
 use Rattle.tap_safety.specs.Move.{MayLeave}
-use Rattle.tap_safety.specs.Step.{IsSent}
+use Rattle.tap_safety.specs.Exchanges.{IsSent}
 use Rattle.tap_safety.specs.System.{System}
 use Rattle.tap_safety.proofs.Known.{stamps_frame, stamps_start}
 use Rattle.tap_moves.specs.ByRule.{taken_at}
 use Rattle.tap_moves.specs.Delivered.{after_delivery, after_start}
 use Rattle.tap_moves.specs.InvariantLaws.{IsDelivery}
-use Rattle.tap_moves.specs.Spelled.{AreNodes}
+use Rattle.tap_moves.specs.KnownNames.{AreNodes}
 use Rattle.tap_moves.proofs.InvariantMoves.{due, sender_name}
 use Rattle.tap_cover_moves.proofs.GivenUp.{off_numbered}
 use Rattle.tap_cover_moves.proofs.Stamped.{AreNewWords, NoLinks, in_order_once, none_new, numbered_new, one_new, rule_stamps, silent_stamps}

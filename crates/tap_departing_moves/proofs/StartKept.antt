@@ -17,10 +17,10 @@ use Rattle.tap_safety.specs.System.{System, AmongFrames, HasLink, IsCoreNode, Is
 use Rattle.tap_safety.specs.Departing.{Departs, FitsSlot, HasOther, WhileDeparting, WhileLeaving, may_be_then}
 use Rattle.tap_safety.specs.Notices.{HasOneNotice, IsAwaiting, IsBetween}
 use Rattle.tap_safety.specs.Rest.{Rest}
-use Rattle.tap_safety.specs.Step.{ChangesAt, HasSent, numbered_from}
+use Rattle.tap_safety.specs.Exchanges.{ChangesAt, HasSent, numbered_from}
 use Rattle.tap_safety.specs.Ties.{link_in, link_of, status_of}
 use Rattle.tap_safety.proofs.LinkKeeps.{some_state, status_seen}
-use Rattle.tap_safety.proofs.Told.{among_sent}
+use Rattle.tap_safety.proofs.UnderWay.{among_sent}
 use Rattle.tap_safety.proofs.WordsKept.{at_link, link_at}
 use Rattle.tap_departing_moves.specs.DepartingMoves.{DepartsInOrder}
 use Rattle.tap_departing_moves.proofs.Alike.{HaveAnswered, awaiting_leaves, fits_on, one_status, status_apart}

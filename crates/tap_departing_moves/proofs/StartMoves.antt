@@ -40,16 +40,16 @@ use Rattle.tap_safety.specs.Move.{MayLeave}
 use Rattle.tap_safety.specs.Moved.{IsStarted, departing_with, moved}
 use Rattle.tap_safety.specs.Remembered.{Leaver}
 use Rattle.tap_safety.specs.Rest.{Rest}
-use Rattle.tap_safety.specs.Step.{ChangesAt, numbered_from}
+use Rattle.tap_safety.specs.Exchanges.{ChangesAt, numbered_from}
 use Rattle.tap_safety.specs.System.{System, AmongFrames, HasLink, IsUnderWay}
 use Rattle.tap_safety.specs.Ties.{status_of}
 use Rattle.tap_safety.proofs.LinkKeeps.{status_seen}
-use Rattle.tap_safety.proofs.Moves.{starts}
+use Rattle.tap_safety.proofs.Moved.{starts}
 use Rattle.tap_safety.proofs.Names.{lcp_whole}
 use Rattle.tap_safety.proofs.Rest.{rest_holds}
-use Rattle.tap_safety.proofs.Told.{among_sent}
+use Rattle.tap_safety.proofs.UnderWay.{among_sent}
 use Rattle.tap_moves.specs.Delivered.{after_start}
-use Rattle.tap_moves.specs.Spelled.{AreNodes}
+use Rattle.tap_moves.specs.KnownNames.{AreNodes}
 use Rattle.tap_moves.proofs.InvariantMoves.{name_at}
 use Rattle.tap_departing_moves.specs.DepartingMoves.{DepartsInOrder}
 use Rattle.tap_departing_moves.specs.NoticeMoves.{LeavingInOrder}

@@ -27,7 +27,7 @@ use Rattle.tap_rule.specs.EndSteps.{EndStep, words_at_end}
 use Rattle.tap_rule.specs.Event.{Acted}
 use Rattle.tap_rule.specs.Event.Event.{Starts}
 use Rattle.tap_rule.specs.Event.Start.{Leave as StartLeave}
-use Rattle.tap_rule.specs.Laws.{frame_to}
+use Rattle.tap_rule.specs.RuleLaws.{frame_to}
 use Rattle.tap_rule.specs.Leaving.{leave_for, leave_word}
 use Rattle.tap_rule.specs.Node.{NodeState, link_to, name_of, word_of}
 use Rattle.tap_rule.specs.Node.Status.{Core, Gone as GoneStatus}
@@ -39,16 +39,16 @@ use Rattle.tap_safety.specs.Bookkeeping.{has_table}
 use Rattle.tap_safety.specs.Invariant.{Invariant}
 use Rattle.tap_safety.specs.Move.{MayLeave}
 use Rattle.tap_safety.specs.Notices.{IsNotice}
-use Rattle.tap_safety.specs.Remembered.{Word}
-use Rattle.tap_safety.specs.Step.{ChangesAt, IsSent, numbered_from}
+use Rattle.tap_safety.specs.Remembered.{TieWord}
+use Rattle.tap_safety.specs.Exchanges.{ChangesAt, IsSent, numbered_from}
 use Rattle.tap_safety.specs.System.{System, AmongFrames, IsUnderWay}
-use Rattle.tap_safety.specs.Ties.{IsOnWay, hears_words, register_in, register_of, status_of, word_frame, word_kept}
+use Rattle.tap_safety.specs.Ties.{IsOnWay, hears_words, register_in, register_of, status_of, tie_word_kept, word_frame}
 use Rattle.tap_safety.proofs.LinkKeeps.{status_seen}
-use Rattle.tap_safety.proofs.Told.{among_numbered, among_sent, sent_under_way, still_under_way, was_under_way}
+use Rattle.tap_safety.proofs.UnderWay.{among_numbered, among_sent, sent_under_way, still_under_way, was_under_way}
 use Rattle.tap_moves.specs.ByRule.{taken_at}
 use Rattle.tap_moves.specs.Delivered.{after_delivery, after_start}
 use Rattle.tap_moves.specs.InvariantLaws.{IsDelivery}
-use Rattle.tap_moves.specs.Spelled.{AreNodes}
+use Rattle.tap_moves.specs.KnownNames.{AreNodes}
 use Rattle.tap_moves.specs.TiesLaws.{WordsStand}
 use Rattle.tap_moves.proofs.Got.{among_got, same_name}
 use Rattle.tap_moves.proofs.InvariantMoves.{due, sender_name}
@@ -124,7 +124,7 @@ end_tells s' node acted ties end =
       register = λ holder word stood.
           let none : word_of acted.state holder ≡ None =
           ap (λ (words : List (Entry (List ℕ) Bool)). entry_of name_cmp words holder) end.unheld in
-          let wrong : None ≡ Some word = sym (ap word_kept none) ∙ stood in cc;
+          let wrong : None ≡ Some word = sym (ap tie_word_kept none) ∙ stood in cc;
     }
   where
     -- of whom nothing is said it had no link to
@@ -138,9 +138,9 @@ end_tells s' node acted ties end =
 
 -- the register of a node that keeps its holders
 same_words : (before after : NodeState) → after.ties.holders ≡ before.ties.holders → (holder : List ℕ)
-    → word_kept (word_of after holder) ≡ word_kept (word_of before holder)
+    → tie_word_kept (word_of after holder) ≡ tie_word_kept (word_of before holder)
 same_words before after same holder =
-    ap (λ (words : List (Entry (List ℕ) Bool)). word_kept (entry_of name_cmp words holder)) same
+    ap (λ (words : List (Entry (List ℕ) Bool)). tie_word_kept (entry_of name_cmp words holder)) same
 
 -- a node that says nothing, with the holders that it had, and the links to those that hear words
 silent_tells : (s' : System) (before after : NodeState) → after.ties.holders ≡ before.ties.holders
@@ -178,7 +178,7 @@ module _ (p : SettingsValue) (s : System) (number : ℕ) (node : NodeState) (fro
   abbrev own : List ℕ
   own = name_of node
 
-  word_still : (y t : List ℕ) (word : Word) → IsOnWay s (word_frame y t word) → IsOnWay after (word_frame y t word)
+  word_still : (y t : List ℕ) (word : TieWord) → IsOnWay s (word_frame y t word) → IsOnWay after (word_frame y t word)
   word_still y t word way =
       elim (still_under_way s after number (frame_to node from body) acted.sent (is_taken p s number node from body is) y t
       (Link word.version word.on) way) [
@@ -372,12 +372,12 @@ module _ (p : SettingsValue) (s : System) (x : List ℕ) (inv : Invariant p s) (
   frames_are : left.frames ≡ numbered_from s.next starts_acted.sent
   frames_are = (leaver_step p s x inv nodes may).sent.after ∙ ap (λ fs. fs ++ numbered_from s.next starts_acted.sent) may.rest
 
-  none_before : (y t : List ℕ) (word : Word) → IsOnWay s (word_frame y t word) → IsOnWay left (word_frame y t word)
+  none_before : (y t : List ℕ) (word : TieWord) → IsOnWay s (word_frame y t word) → IsOnWay left (word_frame y t word)
   none_before y t word way =
       let never : AmongFrames way.number (word_frame y t word) [] =
       subst (AmongFrames way.number (word_frame y t word)) may.rest way.among in absurd never
 
-  sent_now : (y t : List ℕ) (word : Word) → IsOnWay left (word_frame y t word) → IsSent starts_acted.sent y t (Link word.version word.on)
+  sent_now : (y t : List ℕ) (word : TieWord) → IsOnWay left (word_frame y t word) → IsSent starts_acted.sent y t (Link word.version word.on)
   sent_now y t word way =
       among_sent s.next starts_acted.sent way.number (word_frame y t word)
       (subst (AmongFrames way.number (word_frame y t word)) frames_are way.among)

@@ -4,10 +4,10 @@ use Rattle.std.proofs.Common.{◌≡◌, ◌⊎◌, inl, inr, ℕ, ◌<◌, Bool
 use Rattle.std.proofs.lemmas.Bool.{true≢false}
 use Rattle.tap_link.specs.declared.kind.Kind.{Kind}
 use Rattle.tap_link.specs.declared.kind.Kind.TheVariants.{Pin}
-use Rattle.tap_safety.specs.Remembered.{Leaver, Word}
+use Rattle.tap_safety.specs.Remembered.{Leaver, TieWord}
 use Rattle.tap_safety.specs.Departing.{WhileDeparting}
 use Rattle.tap_safety.specs.System.{System}
-use Rattle.tap_safety.specs.Ties.{IsNoNewer, IsOnWay, LastIs, Stands, Ties, Versions, hears_words, link_of, register_of, status_of, word_frame}
+use Rattle.tap_safety.specs.Ties.{IsNoNewer, IsOnWay, LastIs, Stands, TiesAreTold, Versions, hears_words, link_of, register_of, status_of, word_frame}
 use Rattle.tap_safety.specs.WordSteps.{IsSaid}
 use Rattle.tap_safety.proofs.WordsKept.{at_link}
 use Rattle.tap_moves.specs.TiesLaws.{WordsStand}
@@ -22,11 +22,11 @@ pub record IsUnsaid (s s' : System) (y t : List ℕ) : Type 0 where
 pub record SaysEnough (s s' : System) : Type 0 where
   pub hears : (t : List ℕ) → hears_words (status_of s' t) → hears_words (status_of s t)
   pub registers : (t y : List ℕ) → hears_words (status_of s' t) → register_of s' t y ≡ register_of s t y
-  pub kept : (t y : List ℕ) (word : Word) → register_of s' t y ≡ Some word → register_of s t y ≡ Some word
+  pub kept : (t y : List ℕ) (word : TieWord) → register_of s' t y ≡ Some word → register_of s t y ≡ Some word
   pub links : (y t : List ℕ) → hears_words (status_of s' t) → IsUnsaid s s' y t ⊎ IsSaid s s' y t
   pub lasts : (y t : List ℕ) → (s'.last y t ≡ s.last y t) ⊎ IsSaid s s' y t
-  pub still : (y t : List ℕ) (word : Word) → IsOnWay s (word_frame y t word) → IsOnWay s' (word_frame y t word)
-  pub was : (y t : List ℕ) (word : Word) → IsOnWay s' (word_frame y t word)
+  pub still : (y t : List ℕ) (word : TieWord) → IsOnWay s (word_frame y t word) → IsOnWay s' (word_frame y t word)
+  pub was : (y t : List ℕ) (word : TieWord) → IsOnWay s' (word_frame y t word)
       → IsOnWay s (word_frame y t word) ⊎ ((is : IsSaid s s' y t) × (is.word ≡ word))
 
 -- what isn't none is some
@@ -41,7 +41,7 @@ none_kind (Some k) none = absurd (true≢false (sym none))
 
 module _ (s s' : System) (says : SaysEnough s s') where
   -- a word that stands does so yet
-  stands_on : (y t : List ℕ) (word : Word) → hears_words (status_of s' t) → Stands s y t word → Stands s' y t word
+  stands_on : (y t : List ℕ) (word : TieWord) → hears_words (status_of s' t) → Stands s y t word → Stands s' y t word
   stands_on y t word hears (inl way) = inl (says.still y t word way)
   stands_on y t word hears (inr stood) = inr (says.registers t y hears ∙ stood)
 
@@ -55,7 +55,7 @@ module _ (s s' : System) (says : SaysEnough s s') where
   said_now y t on said is = record { last = said.word; is = said.last; on_is = is; stands = inl said.way }
 
   -- whoever has a link has said so
-  linked_on : (y t : List ℕ) (kind : Kind) → Ties s → hears_words (status_of s' t) → link_of s' y t ≡ Some kind → LastIs s' y t true
+  linked_on : (y t : List ℕ) (kind : Kind) → TiesAreTold s → hears_words (status_of s' t) → link_of s' y t ≡ Some kind → LastIs s' y t true
   linked_on y t kind ties hears link =
       elim (says.links y t hears) [
         | inr said ↦ said_now y t true said (said.on kind link)
@@ -65,7 +65,7 @@ module _ (s s' : System) (says : SaysEnough s s') where
       ]
 
   -- and whoever has none has said that
-  dropped_on : (y t : List ℕ) (word : Word) → Ties s → hears_words (status_of s' t) → link_of s' y t ≡ None → s'.last y t ≡ Some word
+  dropped_on : (y t : List ℕ) (word : TieWord) → TiesAreTold s → hears_words (status_of s' t) → link_of s' y t ≡ None → s'.last y t ≡ Some word
       → LastIs s' y t false
   dropped_on y t word ties hears none last =
       elim (says.links y t hears) [
@@ -76,7 +76,7 @@ module _ (s s' : System) (says : SaysEnough s s') where
       ]
 
   -- a word that is said is newer than what was no newer than the last one
-  within_on : (y t : List ℕ) (word : Word) → IsNoNewer s y t word → IsNoNewer s' y t word
+  within_on : (y t : List ℕ) (word : TieWord) → IsNoNewer s y t word → IsNoNewer s' y t word
   within_on y t word old =
       elim (says.lasts y t) [
         | inl same ↦ record { last = old.last; is = same ∙ old.is; most = old.most; same = old.same }
@@ -92,7 +92,7 @@ module _ (s s' : System) (says : SaysEnough s s') where
       ]
 
   -- no word under way is above the last one
-  ways_on : (y t : List ℕ) (word : Word) → Versions s → IsOnWay s' (word_frame y t word) → IsNoNewer s' y t word
+  ways_on : (y t : List ℕ) (word : TieWord) → Versions s → IsOnWay s' (word_frame y t word) → IsNoNewer s' y t word
   ways_on y t word versions way =
       elim (says.was y t word way) [
         | inl old ↦ within_on y t word (versions.ways y t word old)
@@ -101,17 +101,17 @@ module _ (s s' : System) (says : SaysEnough s s') where
       ]
 
   -- a register's word is below one that is said
-  below_said : (y t : List ℕ) (word kept : Word) → Versions s → (said : IsSaid s s' y t) → said.word ≡ word
+  below_said : (y t : List ℕ) (word kept : TieWord) → Versions s → (said : IsSaid s s' y t) → said.word ≡ word
       → register_of s t y ≡ Some kept → kept.version < word.version
   below_said y t word kept versions said same stood =
       let old = versions.registers y t kept stood in
       let newer = said.newer old.last old.is in
       let most = old.most in
-      let level : said.word.version ≡ word.version = ap (λ (w : Word). w.version) same in
+      let level : said.word.version ≡ word.version = ap (λ (w : TieWord). w.version) same in
       omega (arith, newer, most, level)
 
   -- and the last one is above that of a register, if it is under way
-  once_on : (y t : List ℕ) (word kept : Word) → Versions s → s'.last y t ≡ Some word → IsOnWay s' (word_frame y t word)
+  once_on : (y t : List ℕ) (word kept : TieWord) → Versions s → s'.last y t ≡ Some word → IsOnWay s' (word_frame y t word)
       → register_of s' t y ≡ Some kept → kept.version < word.version
   once_on y t word kept versions last way stood =
       let had = says.kept t y kept stood in
@@ -127,7 +127,7 @@ module _ (s s' : System) (says : SaysEnough s s') where
       ]
 
   -- without pins, and with no Forget under way, that is all that is said of links
-  pub enough_stand : (leaver : Leaver) → WhileDeparting s' leaver → Ties s → Versions s → WordsStand s'
+  pub enough_stand : (leaver : Leaver) → WhileDeparting s' leaver → TiesAreTold s → Versions s → WordsStand s'
   enough_stand leaver during ties versions = record {
     ties = record {
       linked = λ y t kind hears link. linked_on y t kind ties hears link;

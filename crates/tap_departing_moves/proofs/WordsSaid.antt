@@ -9,10 +9,10 @@ use Rattle.tap_rule.specs.Node.{NodeState, link_to, word_of}
 use Rattle.tap_rule.specs.Reaction.{Message}
 use Rattle.tap_rule.specs.Sent.{AreSent, IsAmong}
 use Rattle.tap_safety.specs.Moved.{HasDone}
-use Rattle.tap_safety.specs.Remembered.{Word}
-use Rattle.tap_safety.specs.Step.{ChangesAt, IsSent}
+use Rattle.tap_safety.specs.Remembered.{TieWord}
+use Rattle.tap_safety.specs.Exchanges.{ChangesAt, IsSent}
 use Rattle.tap_safety.specs.System.{System, IsUnderWay}
-use Rattle.tap_safety.specs.Ties.{IsOnWay, hears_words, link_in, link_of, register_in, register_of, status_of, word_frame, word_kept}
+use Rattle.tap_safety.specs.Ties.{IsOnWay, hears_words, link_in, link_of, register_in, register_of, status_of, tie_word_kept, word_frame}
 use Rattle.tap_safety.specs.WordSteps.{IsSaid}
 use Rattle.tap_safety.proofs.FrameWords.{last_cases}
 use Rattle.tap_departing_moves.proofs.WordsKept.{IsUnsaid, SaysEnough}
@@ -27,11 +27,11 @@ pub record TellsLinks (s' : System) (before after : NodeState) (words : List Tie
   pub once : (one two : Tie) → IsAmong one words → IsAmong two words → one.to ≡ two.to → one ≡ two
   pub unsaid : (t : List ℕ) → hears_words (status_of s' t) → ((word : Tie) → IsAmong word words → word.to ≡ t → ⊥)
       → is_none (link_to after t) ≡ is_none (link_to before t)
-  pub register : (holder : List ℕ) (word : Word) → word_kept (word_of after holder) ≡ Some word
-      → word_kept (word_of before holder) ≡ Some word
+  pub register : (holder : List ℕ) (word : TieWord) → tie_word_kept (word_of after holder) ≡ Some word
+      → tie_word_kept (word_of before holder) ≡ Some word
 
 -- a word of a node to t, as it is sent
-record IsSaidTo (own : List ℕ) (words : List Tie) (y t : List ℕ) (word : Word) : Type 0 where
+record IsSaidTo (own : List ℕ) (words : List Tie) (y t : List ℕ) (word : TieWord) : Type 0 where
   from : y ≡ own
   tie : Tie
   among : IsAmong tie words
@@ -40,21 +40,21 @@ record IsSaidTo (own : List ℕ) (words : List Tie) (y t : List ℕ) (word : Wor
   on : word.on ≡ tie.on
 
 -- words with one version and one meaning are one
-same_word : (one two : Word) → one.version ≡ two.version → one.on ≡ two.on → one ≡ two
+same_word : (one two : TieWord) → one.version ≡ two.version → one.on ≡ two.on → one ≡ two
 same_word one two version on =
-    let by_version : ℕ → Word = λ n. record { version = n; on = one.on } in
-    let by_on : Bool → Word = λ b. record { version = two.version; on = b } in
+    let by_version : ℕ → TieWord = λ n. record { version = n; on = one.on } in
+    let by_on : Bool → TieWord = λ b. record { version = two.version; on = b } in
     ap by_version version ∙ ap by_on on
 
 module _ (s s' : System) (x : List ℕ) (before after : NodeState) (words : List Tie) (messages : List Message) (sent : List Frame)
     (are : AreSent x words messages sent)
     (no_link : (m : Message) → IsAmong m messages → (version : ℕ) (on : Bool) → m.body ≡ Link version on → ⊥)
     (at : ChangesAt s s' x before after) (done : HasDone s s' x after sent) (tells : TellsLinks s' before after words)
-    (stamp : (t : List ℕ) (old : Word) → s.last x t ≡ Some old → old.version ≤ before.stamp)
+    (stamp : (t : List ℕ) (old : TieWord) → s.last x t ≡ Some old → old.version ≤ before.stamp)
     (hears : (t : List ℕ) → hears_words (status_of s' t) → hears_words (status_of s t))
     (registers : (y : List ℕ) → hears_words (status_of s' x) → register_of s' x y ≡ register_of s x y)
-    (word_still : (y t : List ℕ) (word : Word) → IsOnWay s (word_frame y t word) → IsOnWay s' (word_frame y t word))
-    (word_was : (y t : List ℕ) (word : Word) → IsOnWay s' (word_frame y t word)
+    (word_still : (y t : List ℕ) (word : TieWord) → IsOnWay s (word_frame y t word) → IsOnWay s' (word_frame y t word))
+    (word_was : (y t : List ℕ) (word : TieWord) → IsOnWay s' (word_frame y t word)
     → IsOnWay s (word_frame y t word) ⊎ IsSent sent y t (Link word.version word.on))
     (sent_way : (y t : List ℕ) (body : Body) → IsSent sent y t body → IsUnderWay s' y t body) where
   -- ---- look-ups
@@ -75,18 +75,18 @@ module _ (s s' : System) (x : List ℕ) (before after : NodeState) (words : List
   unfolding register_of
   register_there t y = elim (at.others t) [ inl here ↦ inl here | inr same ↦ inr (ap (λ node. register_in node y) same) ]
 
-  register_now : (y : List ℕ) → register_of s' x y ≡ word_kept (word_of after y)
+  register_now : (y : List ℕ) → register_of s' x y ≡ tie_word_kept (word_of after y)
   unfolding register_of
   register_now y = ap (λ node. register_in node y) at.is
 
-  register_was : (y : List ℕ) → register_of s x y ≡ word_kept (word_of before y)
+  register_was : (y : List ℕ) → register_of s x y ≡ tie_word_kept (word_of before y)
   unfolding register_of
   register_was y = ap (λ node. register_in node y) at.was
 
   -- ---- what is said
 
   -- a Link that is sent is one of the words
-  said_to : (y t : List ℕ) (word : Word) → IsSent sent y t (Link word.version word.on) → IsSaidTo x words y t word
+  said_to : (y t : List ℕ) (word : TieWord) → IsSent sent y t (Link word.version word.on) → IsSaidTo x words y t word
   said_to y t word sends =
       elim (are.each (record { from = y; to = t; body = Link word.version word.on }) sends) [
         | inl link ↦
@@ -107,20 +107,20 @@ module _ (s s' : System) (x : List ℕ) (before after : NodeState) (words : List
       ]
 
   -- and each of them is sent
-  sent_of : (t : List ℕ) (word : Word) → IsSaidTo x words x t word → IsSent sent x t (Link word.version word.on)
+  sent_of : (t : List ℕ) (word : TieWord) → IsSaidTo x words x t word → IsSent sent x t (Link word.version word.on)
   sent_of t word said =
       let there = are.links said.tie said.among in
       rw (said.to, said.version, said.on) there
 
   -- to each name one
-  said_once : (t : List ℕ) (one two : Word) → IsSaidTo x words x t one → IsSaidTo x words x t two → one ≡ two
+  said_once : (t : List ℕ) (one two : TieWord) → IsSaidTo x words x t one → IsSaidTo x words x t two → one ≡ two
   said_once t one two first second =
       let tie : first.tie ≡ second.tie = tells.once first.tie second.tie first.among second.among (sym first.to ∙ second.to) in
       same_word one two (first.version ∙ ap (λ (w : Tie). w.version) tie ∙ sym second.version)
       (first.on ∙ ap (λ (w : Tie). w.on) tie ∙ sym second.on)
 
   -- whoever says it is the node itself
-  own_said : (y t : List ℕ) (word : Word) → IsSaidTo x words y t word → IsSaidTo x words x t word
+  own_said : (y t : List ℕ) (word : TieWord) → IsSaidTo x words y t word → IsSaidTo x words x t word
   own_said y t word said = record {
     from = refl;
     tie = said.tie;
@@ -131,8 +131,8 @@ module _ (s s' : System) (x : List ℕ) (before after : NodeState) (words : List
   }
 
   -- the last word is the one before, if none is said, or the one that is said
-  last_now : (t : List ℕ) → ((s'.last x t ≡ s.last x t) × ((word : Word) → IsSaidTo x words x t word → ⊥))
-      ⊎ ((word : Word) × (s'.last x t ≡ Some word) × IsSaidTo x words x t word)
+  last_now : (t : List ℕ) → ((s'.last x t ≡ s.last x t) × ((word : TieWord) → IsSaidTo x words x t word → ⊥))
+      ⊎ ((word : TieWord) × (s'.last x t ≡ Some word) × IsSaidTo x words x t word)
   last_now t =
       elim (last_cases sent t (s.last x t)) [
         | inl none ↦ inl (done.words t ∙ none.0, λ word said. none.1 x word.version word.on (sent_of t word said))
@@ -141,7 +141,7 @@ module _ (s s' : System) (x : List ℕ) (before after : NodeState) (words : List
       ]
 
   -- a word that is said says so
-  is_said : (t : List ℕ) (word : Word) → s'.last x t ≡ Some word → IsSaidTo x words x t word → IsSaid s s' x t
+  is_said : (t : List ℕ) (word : TieWord) → s'.last x t ≡ Some word → IsSaidTo x words x t word → IsSaid s s' x t
   is_said t word last said = record {
     word = word;
     last = last;
@@ -176,7 +176,7 @@ module _ (s s' : System) (x : List ℕ) (before after : NodeState) (words : List
   last_here t = elim (last_now t) [ inl stays ↦ inl stays.0 | inr said ↦ inr (is_said t said.0 said.1 said.2) ]
 
   -- a word that is sent is the one that is said
-  was_here : (t : List ℕ) (word : Word) → IsSaidTo x words x t word → (is : IsSaid s s' x t) × (is.word ≡ word)
+  was_here : (t : List ℕ) (word : TieWord) → IsSaidTo x words x t word → (is : IsSaid s s' x t) × (is.word ≡ word)
   unfolding is_said
   was_here t word said =
       elim (last_now t) [
@@ -185,7 +185,7 @@ module _ (s s' : System) (x : List ℕ) (before after : NodeState) (words : List
       ]
 
   -- no register has a new word
-  kept_here : (t y : List ℕ) (word : Word) → register_of s' t y ≡ Some word → register_of s t y ≡ Some word
+  kept_here : (t y : List ℕ) (word : TieWord) → register_of s' t y ≡ Some word → register_of s t y ≡ Some word
   kept_here t y word stood =
       elim (register_there t y) [
         | inr same ↦ sym same ∙ stood

@@ -10,7 +10,7 @@ use Rattle.tap_safety.specs.Notices.{IsNotice}
 use Rattle.tap_safety.specs.System.{System}
 use Rattle.tap_moves.specs.Delivered.{after_delivery, after_start}
 use Rattle.tap_moves.specs.InvariantLaws.{IsDelivery}
-use Rattle.tap_moves.specs.Spelled.{AreNodes}
+use Rattle.tap_moves.specs.KnownNames.{AreNodes}
 use Rattle.tap_departing_moves.specs.DepartingMoves.{DepartsInOrder}
 
 -- after a Leave, a Left and a Gone, whatever the status of the receiver

@@ -17,7 +17,7 @@ use Rattle.tap_safety.specs.System.{System}
 use Rattle.tap_moves.specs.CalmMoves.{AreSought}
 use Rattle.tap_moves.specs.Delivered.{after_delivery, after_start}
 use Rattle.tap_moves.specs.InvariantLaws.{IsDelivery}
-use Rattle.tap_moves.specs.Spelled.{AreNodes}
+use Rattle.tap_moves.specs.KnownNames.{AreNodes}
 use Rattle.tap_moves.specs.TiesLaws.{WordsStand}
 use Rattle.tap_session_moves.specs.EndMoves.{HaveAskers}
 

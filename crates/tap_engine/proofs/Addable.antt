@@ -20,8 +20,8 @@ use Rattle.tap_log.specs.declared.record.Record.TheVariants.{Closed, Finished, R
 use Rattle.tap_log.specs.declared.record.Refusal.{Refusal}
 use Rattle.tap_log.specs.Counts.{sent_count, ticket_count}
 use Rattle.tap_log.specs.Kinds.{asked_ticket, sent_number, taken_number}
-use Rattle.tap_log.specs.Laws.{at_most_one}
-use Rattle.tap_log.proofs.Growing.{sent_count-append}
+use Rattle.tap_log.specs.MoreRecords.{at_most_one}
+use Rattle.tap_log.proofs.MoreRecords.{sent_count-append}
 use Rattle.tap_history.specs.Groups.{is_ended}
 use Rattle.tap_history.specs.Refusals.{first_refusal}
 use Rattle.tap_rule.specs.Act.{act}
@@ -40,7 +40,7 @@ use Rattle.tap_runs.specs.Observed.{link_line, observed, pointers_record, table_
 use Rattle.tap_runs.specs.Starts.{announced}
 use Rattle.tap_runs.proofs.Frames.{Exchanges, exchange, frames_kept}
 use Rattle.tap_history.specs.Core.{core_of}
-use Rattle.tap_ledger.specs.Added.{CanAdd, is_plain, most_frames}
+use Rattle.tap_ledger.specs.Added.{CanAdd, is_plain, most_ledger_frames}
 
 -- the record is no beginning, and is of no packet
 abbrev pub Plain : Record → Type 0
@@ -174,14 +174,14 @@ group_plain p log s group may = absurd may
 
 -- ---- how many frames
 
-few_frames : (digits : ℕ) → most_sent digits ≤ most_frames
+few_frames : (digits : ℕ) → most_sent digits ≤ most_ledger_frames
 few_frames digits = by_long (nat_le digits 8)
   where
-    by_long : (short : Bool) → (if short then 500000 else 100000) ≤ most_frames
+    by_long : (short : Bool) → (if short then 500000 else 100000) ≤ most_ledger_frames
     by_long true = omega arith
     by_long false = omega arith
 
-pub limit_fits : (b : Beginning) → IsWithinLimits b → b.frames ≤ most_frames
+pub limit_fits : (b : Beginning) → IsWithinLimits b → b.frames ≤ most_ledger_frames
 limit_fits b limits =
     let most = limits.frames_to in
     let few = few_frames b.settings.digits in
@@ -209,7 +209,7 @@ group_fits b log group course going follows =
 
 -- records that send, take and ask nothing
 pub silent_fits : (log items : List Record) → All Plain items → filter_map sent_number items ≡ [] → filter_map taken_number items ≡ []
-    → filter_map asked_ticket items ≡ [] → sent_count log ≤ most_frames → CanAdd log items
+    → filter_map asked_ticket items ≡ [] → sent_count log ≤ most_ledger_frames → CanAdd log items
 silent_fits log items plain sent taken asked few = record {
   plain = plain;
   numbers = record {
@@ -224,20 +224,20 @@ silent_fits log items plain sent taken asked few = record {
 }
 
 -- a step alone, a refusal, and an end
-pub step_fits : (log : List Record) (index : ℕ) (step : Step) → sent_count log ≤ most_frames → CanAdd log (StepRecord index step ∷ [])
+pub step_fits : (log : List Record) (index : ℕ) (step : Step) → sent_count log ≤ most_ledger_frames → CanAdd log (StepRecord index step ∷ [])
 unfolding is_plain sent_number taken_number asked_ticket
 step_fits log index step few = silent_fits log (StepRecord index step ∷ []) (one _ refl) refl refl refl few
 
-pub refused_fits : (log : List Record) (index : ℕ) (refusal : Refusal) → sent_count log ≤ most_frames
+pub refused_fits : (log : List Record) (index : ℕ) (refusal : Refusal) → sent_count log ≤ most_ledger_frames
     → CanAdd log (Refused index refusal ∷ [])
 unfolding is_plain sent_number taken_number asked_ticket
 refused_fits log index refusal few = silent_fits log (Refused index refusal ∷ []) (one _ refl) refl refl refl few
 
-pub spent_fits : (log : List Record) (limit : ℕ) → sent_count log ≤ most_frames → CanAdd log (Spent limit ∷ [])
+pub spent_fits : (log : List Record) (limit : ℕ) → sent_count log ≤ most_ledger_frames → CanAdd log (Spent limit ∷ [])
 unfolding is_plain sent_number taken_number asked_ticket
 spent_fits log limit few = silent_fits log (Spent limit ∷ []) (one _ refl) refl refl refl few
 
-pub finished_fits : (log : List Record) (steps : ℕ) → sent_count log ≤ most_frames → CanAdd log (Finished steps ∷ [])
+pub finished_fits : (log : List Record) (steps : ℕ) → sent_count log ≤ most_ledger_frames → CanAdd log (Finished steps ∷ [])
 unfolding is_plain sent_number taken_number asked_ticket
 finished_fits log steps few = silent_fits log (Finished steps ∷ []) (one _ refl) refl refl refl few
 

@@ -9,19 +9,19 @@ use Rattle.tap_log.specs.declared.record.Record.{Record}
 use Rattle.tap_log.specs.declared.record.Record.TheVariants.{Closed, Reached, Sent, Spent, Step as StepRecord, Taken}
 use Rattle.tap_log.specs.Counts.{sent_count}
 use Rattle.tap_log.specs.Kinds.{sent_number}
-use Rattle.tap_log.proofs.Growing.{sent_count-append}
+use Rattle.tap_log.proofs.MoreRecords.{sent_count-append}
 use Rattle.tap_node_common.specs.declared.news.News.{News}
 use Rattle.tap_node_common.specs.declared.news.News.TheVariants as seen_news
 use Rattle.tap_node.specs.declared.turn.Turn.{Turn}
 use Rattle.tap_runs.specs.Acts.{if_so, news_after, news_before}
 use Rattle.tap_runs.specs.Course.{MayFollow, system_of}
 use Rattle.tap_runs.specs.Starts.{announced}
-use Rattle.tap_ledger.specs.Added.{CanAdd, most_frames}
+use Rattle.tap_ledger.specs.Added.{CanAdd, most_ledger_frames}
 use Rattle.tap_ledger.proofs.Adding.{can_rest}
 use Rattle.tap_log.specs.Log.{last_of}
-use Rattle.tap_engine.specs.Kept.{AreReady, room_kept, room_of_record}
+use Rattle.tap_engine.specs.KeptEngine.{AreReady, room_kept, room_of_record}
 use Rattle.tap_engine.specs.Outcome.{adds, adds_within, is_within, spends}
-use Rattle.tap_engine.specs.Seen.{bytes_records, seen_after, seen_before, turn_records}
+use Rattle.tap_engine.specs.SeenTurns.{bytes_records, seen_after, seen_before, turn_records}
 use Rattle.tap_engine.specs.Working.{CanAddTurn, LogsAs}
 use Rattle.tap_engine.specs.declared.stop.Stop.{Stop}
 use Rattle.tap_engine.specs.declared.stop.Stop.TheVariants.{NoMemory, Spent as StopSpent}
@@ -30,7 +30,7 @@ use Rattle.tap_engine.specs.declared.engine.Engine.{Engine}
 use Rattle.tap_engine.proofs.Addable.{group_fits, limit_fits, spent_fits}
 use Rattle.tap_engine.proofs.Courses.{sent_within}
 use Rattle.tap_engine.proofs.Keeping.{on, seen}
-use Rattle.tap_engine.proofs.Steps.{follows_within}
+use Rattle.tap_engine.proofs.AddedGroups.{follows_within}
 
 -- ---- the records of a turn
 
@@ -118,10 +118,10 @@ taken_sent number = refl
 pub few_sent : (m : Engine) → AreReady m → sent_count m.ledger.records ≤ m.frames
 few_sent m ready = let goes = on m ready in sent_within (seen m).beginning m.ledger.records goes.course goes.going
 
-pub few_frames : (m : Engine) → AreReady m → m.frames ≤ most_frames
+pub few_frames : (m : Engine) → AreReady m → m.frames ≤ most_ledger_frames
 few_frames m ready = limit_fits (seen m).beginning (on m ready).course.limits
 
-pub few_sent_most : (m : Engine) → AreReady m → sent_count m.ledger.records ≤ most_frames
+pub few_sent_most : (m : Engine) → AreReady m → sent_count m.ledger.records ≤ most_ledger_frames
 few_sent_most m ready = let sent = few_sent m ready in let few = few_frames m ready in omega (arith, sent, few)
 
 -- a turn after these records, which make a group that may follow

@@ -15,7 +15,7 @@ use Rattle.tap_history.specs.Refusals.{begin_settings}
 use Rattle.tap_runs.specs.Beginning.{Beginning, begin_record}
 use Rattle.tap_runs.specs.Course.{Follows, IsCourse, MayFollow, system_of}
 use Rattle.tap_safety.specs.System.{System}
-use Rattle.tap_runs.proofs.Growing.{by_groups, starts_begun, starts_uncarried}
+use Rattle.tap_runs.proofs.CourseGrows.{by_groups, starts_begun, starts_uncarried}
 use Rattle.tap_runs.proofs.Nodes.{no_steps}
 use Rattle.tap_runs.proofs.Within.{step_within, taken_within}
 

@@ -15,7 +15,7 @@ use Rattle.tap_log.specs.declared.record.Refusal.TheVariants.{Readable}
 use Rattle.tap_history.specs.Flights.{bytes_at}
 use Rattle.tap_history.specs.Moments.{outstanding}
 use Rattle.tap_history.specs.Refusals.{begin_settings, damaged, first_refusal, is_and, is_readable, refusals, refuses_readable}
-use Rattle.tap_history.specs.Steps.{flight_place}
+use Rattle.tap_history.specs.StepAsks.{flight_place}
 use Rattle.tap_rule.specs.Node.{NodeState, settings_of}
 use Rattle.tap_node.specs.Node.{running}
 use Rattle.tap_node.specs.Outcome.{AnswersAs, MayWant, at_read, refused_by, take_outcome}
@@ -25,18 +25,18 @@ use Rattle.tap_runs.specs.Course.{system_of}
 use Rattle.tap_runs.specs.Damage.{copied_number, damage_record, fault_in, fault_of_copy, garbled}
 use Rattle.tap_runs.proofs.Nodes.{cause_fails}
 use Rattle.tap_overlay.specs.Overlay.{OverlayValue, node_at}
-use Rattle.tap_overlay.specs.Step.{HasAnswered, HasStepped, StepsAt, answer_given}
+use Rattle.tap_overlay.specs.Step.{HasStepped, NodeHasAnswered, StepsAt, answer_given}
 use Rattle.tap_overlay.specs.declared.fault.OverlayFault.{OverlayFault}
 use Rattle.tap_overlay.specs.declared.fault.OverlayFault.TheVariants.{NoNode, Node as NodeRefuses}
 use Rattle.tap_engine.specs.Damaged.{copy_damaged}
 use Rattle.tap_engine.specs.declared.damage.Damage.{Damage}
 use Rattle.tap_engine.specs.declared.damage.Damage.TheVariants.{Byte, Cut as Shorter}
-use Rattle.tap_engine.specs.Kept.{AreReady}
+use Rattle.tap_engine.specs.KeptEngine.{AreReady}
 use Rattle.tap_engine.specs.Working.{CopiesAt}
 use Rattle.tap_engine.specs.declared.engine.Engine.{Engine}
 use Rattle.tap_engine.proofs.Courses.{course_settings}
 use Rattle.tap_engine.proofs.Keeping.{on, seen}
-use Rattle.tap_engine.proofs.Sound.{IsSoundAt}
+use Rattle.tap_engine.proofs.SoundCourse.{IsSoundAt}
 use Rattle.tap_engine.proofs.Seeing.{none_at}
 use Rattle.tap_engine.proofs.Taking.{sound}
 
@@ -82,7 +82,7 @@ module _ (m : Engine) (after : OverlayValue) (ready : AreReady m) (name bytes : 
     has : HasStepped (take_outcome (running node) bytes) m.overlay.nodes after.nodes name (running node) given
     has = step.there (running node) (node_is (Some node) at)
 
-    answered : HasAnswered (take_outcome (running node) bytes) (running node) has.is given
+    answered : NodeHasAnswered (take_outcome (running node) bytes) (running node) has.is given
     answered = has.step.free facts.left
 
     answers : AnswersAs (refused_by (running node) (Wire fault)) (running node) answered.answer has.is

@@ -9,7 +9,7 @@ use Rattle.tap_log.specs.Kinds.{is_carried}
 use Rattle.tap_history.specs.Departing.{departing_of}
 use Rattle.tap_history.specs.Moments.{outstanding, under_way}
 use Rattle.tap_history.specs.Refusals.{damaged, first_some, packets_of_step, refused_if, refuses_already_abandoned, refuses_already_published, refuses_departing, refuses_last_node, refuses_name_taken, refuses_no_such_byte, refuses_no_such_flight, refuses_no_such_node, refuses_not_at_rest, refuses_not_core, refuses_not_in_prefix, refuses_not_joining, refuses_not_published, refuses_readable, refuses_too_many_nodes, refuses_too_many_packets, while_departing}
-use Rattle.tap_history.specs.Steps.{abandon_name, asked_node, depart_name, flight_place, join_name, publish_pair, suits_departure, suits_joining, withdraw_pair}
+use Rattle.tap_history.specs.StepAsks.{abandon_name, asked_node, depart_name, flight_place, join_name, publish_pair, suits_departure, suits_joining, withdraw_pair}
 use Rattle.tap_engine.specs.Growth.{DeliveriesRefused, place_refused}
 
 -- ---- places

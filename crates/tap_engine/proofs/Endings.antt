@@ -8,7 +8,7 @@ use Rattle.tap_log.specs.declared.record.Refusal.{Refusal}
 use Rattle.tap_log.specs.Counts.{ticket_count}
 use Rattle.tap_log.specs.Kinds.{asked_ticket, step_of}
 use Rattle.tap_log.specs.Log.{begun_steps}
-use Rattle.tap_log.proofs.Growing.{ticket_count-append}
+use Rattle.tap_log.proofs.MoreRecords.{ticket_count-append}
 use Rattle.tap_runs.specs.Beginning.{Beginning}
 use Rattle.tap_readable.proofs.RangeCourses.{numbers_in_range_holds}
 use Rattle.tap_engine.specs.Kinds.{most_index}

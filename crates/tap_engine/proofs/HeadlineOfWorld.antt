@@ -10,9 +10,9 @@ use Rattle.tap_safe_runs.proofs.Safe.{steps_before}
 use Rattle.tap_headline.specs.Headline.{HasHeadline}
 use Rattle.tap_headline.proofs.Ended.{may_cut, may_finish, may_refuse, may_spend}
 use Rattle.tap_headline.proofs.Headline.{ended_logs_have_headline}
-use Rattle.tap_engine.specs.Headline.{WorldHasHeadline}
+use Rattle.tap_engine.specs.WorldHeadline.{WorldHasHeadline}
 use Rattle.tap_engine.specs.Holders.{HoldersAreExactAtRest}
-use Rattle.tap_engine.specs.Kept.{AreKept, world_value}
+use Rattle.tap_engine.specs.KeptEngine.{AreKept, world_value}
 use Rattle.tap_engine.specs.World.{WorldValue}
 use Rattle.tap_engine.specs.WorldLog.{IsWorldLog}
 use Rattle.tap_engine.specs.declared.engine.Engine.{Engine}

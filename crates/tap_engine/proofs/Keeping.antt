@@ -20,11 +20,11 @@ use Rattle.tap_runs.specs.Course.{IsCourse, is_choice, system_of}
 use Rattle.tap_runs.proofs.Departing.{course_nodes_holds}
 use Rattle.tap_overlay.specs.Law.{HasNodesOf}
 use Rattle.tap_overlay.specs.Overlay.{OverlayValue, node_at}
-use Rattle.tap_engine.specs.Kept.{AreKept, AreReady, GoesOn, LeadsTo, room_kept, room_of_record, world_value}
+use Rattle.tap_engine.specs.KeptEngine.{AreKept, AreReady, EngineGoesOn, LeadsTo, room_kept, room_of_record, world_value}
 use Rattle.tap_runs.specs.Named.{HasNames, HaveNames}
 use Rattle.tap_engine.specs.Kinds.{is_finished}
-use Rattle.tap_engine.specs.Growth.{left_by}
-use Rattle.tap_engine.specs.Outcome.{IsNextIndex, Outcome, adds, refuses}
+use Rattle.tap_engine.specs.Growth.{left_by_outcome}
+use Rattle.tap_engine.specs.Outcome.{IsNextIndex, WorldOutcome, adds, refuses_step}
 use Rattle.tap_engine.specs.Working.{StillHas}
 use Rattle.tap_engine.specs.World.{WorldValue}
 use Rattle.tap_engine.specs.WorldLog.{HasGoneTo, HasIndices, IsWorldLog}
@@ -32,8 +32,8 @@ use Rattle.tap_engine.specs.declared.engine.Engine.{Engine}
 use Rattle.tap_engine.specs.declared.stop.Stop.{Stop}
 use Rattle.tap_engine.specs.declared.stop.Stop.TheVariants.{NoMemory, Refused}
 use Rattle.tap_engine.proofs.Courses.{course_begun, members_more}
-use Rattle.tap_engine.proofs.Grown.{end_names, end_system, pending_system, step_names}
-use Rattle.tap_engine.proofs.Named.{named_more, nothing_named, step_named}
+use Rattle.tap_engine.proofs.StandingAlone.{end_names, end_system, pending_system, step_names}
+use Rattle.tap_engine.proofs.NamedSteps.{named_more, nothing_named, step_named}
 use Rattle.tap_engine.proofs.WorldLogs.{IsAtCourse, goes_on, refuses_log, short_log}
 
 -- ---- an engine that is ready
@@ -81,10 +81,10 @@ same_beginning before after more first grown =
 -- the log of an outcome is that of the engine
 pub grown_log : (before after : Engine) (more : List Record) (refused : Option Refusal) (stopped : Bool) → AreReady before
     → HasGrown before after more
-    → IsWorldLog (left_by (seen before) (record (adds (seen before) more) { refused = refused; stopped = stopped }) (seen before).nodes)
+    → IsWorldLog (left_by_outcome (seen before) (record (adds (seen before) more) { refused = refused; stopped = stopped }) (seen before).nodes)
     → IsWorldLog (world_value after refused stopped)
 grown_log before after more refused stopped ready grown is =
-    as_log (left_by (seen before) (record (adds (seen before) more) { refused = refused; stopped = stopped }) (seen before).nodes)
+    as_log (left_by_outcome (seen before) (record (adds (seen before) more) { refused = refused; stopped = stopped }) (seen before).nodes)
     (world_value after refused stopped) (same_beginning before after more (begun before ready) grown) grown.log refl refl is
 
 -- ---- nodes and names
@@ -107,7 +107,7 @@ room_two (Some item) = omega arith
 
 -- an engine whose log is a course goes on, if its nodes are those of its system and there is room for two more records
 pub course_goes_on : (engine : Engine) (b : Beginning) → IsCourse b engine.ledger.records → is_ended engine.ledger.records ≡ false
-    → HasNodesOf (system_of engine.ledger.records) engine.overlay → 2 ≤ engine.ledger.spare → GoesOn engine
+    → HasNodesOf (system_of engine.ledger.records) engine.overlay → 2 ≤ engine.ledger.spare → EngineGoesOn engine
 course_goes_on engine b course going nodes two = record {
   nodes = nodes;
   ever = (course_nodes_holds b engine.ledger.records course going).ever;
@@ -227,7 +227,7 @@ all_still o o' same = record {
 -- ---- how a call goes
 
 -- a call that was not refused memory
-pub done : (outcome : Outcome) (before : Engine) (given : Result (Unit {0}) Stop) (after : Engine) → given ≢ Err NoMemory
+pub done : (outcome : WorldOutcome) (before : Engine) (given : Result (Unit {0}) Stop) (after : Engine) → given ≢ Err NoMemory
     → given ≡ outcome.answer → after.ledger.records ≡ outcome.log → AreKept after outcome.refused outcome.stopped
     → ((refusal : Refusal) → given ≡ Err (Refused refusal) → after.overlay ≡ before.overlay)
     → after.settings ≡ before.settings → after.frames ≡ before.frames → LeadsTo outcome before given after
@@ -243,7 +243,7 @@ done outcome before given after other answer log kept nodes settings frames = re
 }
 
 -- and one that was
-pub wanting : (outcome : Outcome) (before after : Engine) → AreReady before → after.settings ≡ before.settings → after.frames ≡ before.frames
+pub wanting : (outcome : WorldOutcome) (before after : Engine) → AreReady before → after.settings ≡ before.settings → after.frames ≡ before.frames
     → after.ledger.records ≡ before.ledger.records → StillHas before.overlay after.overlay
     → LeadsTo outcome before (Err NoMemory) after
 wanting outcome before after ready settings frames log still = record {
@@ -262,8 +262,8 @@ pub refused_leads : (before after : Engine) (index : ℕ) (step : Step) (refusal
     → HasGrown before after (StepRecord index step ∷ []) → after.overlay ≡ before.overlay
     → 2 ≤ after.ledger.spare → IsNextIndex (seen before) index → first_refusal before.ledger.records step ≡ Some refusal
     → is_choice step ≡ false → HasNames before.settings step
-    → LeadsTo (refuses (seen before) index step refusal) before (Err (Refused refusal)) after
+    → LeadsTo (refuses_step (seen before) index step refusal) before (Err (Refused refusal)) after
 refused_leads before after index step refusal ready grown overlay two next is unchosen named =
-    done (refuses (seen before) index step refusal) before (Err (Refused refusal)) after (λ never. cc) refl grown.log
+    done (refuses_step (seen before) index step refusal) before (Err (Refused refusal)) after (λ never. cc) refl grown.log
     (kept_pending before after index step refusal ready grown overlay two next is unchosen named) (λ _ _. overlay) grown.settings
     grown.frames

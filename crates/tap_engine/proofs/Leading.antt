@@ -13,13 +13,13 @@ use Rattle.tap_log.specs.declared.record.Record.TheVariants.{Spent, Step as Step
 use Rattle.tap_log.specs.declared.record.Refusal.{Refusal}
 use Rattle.tap_log.specs.Counts.{sent_count}
 use Rattle.tap_log.specs.Kinds.{step_of}
-use Rattle.tap_log.specs.Laws.{at_most_one}
+use Rattle.tap_log.specs.MoreRecords.{at_most_one}
 use Rattle.tap_log.specs.Log.{last_of}
 use Rattle.tap_history.specs.Groups.{is_ended}
 use Rattle.tap_history.specs.Moments.{has_number, outstanding}
 use Rattle.tap_history.specs.Names.{names_of}
 use Rattle.tap_history.specs.Refusals.{first_refusal}
-use Rattle.tap_history.specs.Steps.{actor_of, is_start}
+use Rattle.tap_history.specs.StepAsks.{actor_of, is_start}
 use Rattle.tap_rule.specs.Act.{act}
 use Rattle.tap_rule.specs.Event.{Event, Start as Begun}
 use Rattle.tap_rule.specs.Event.Event.{Starts, Takes}
@@ -29,7 +29,7 @@ use Rattle.tap_node.specs.Node.{running}
 use Rattle.tap_safety.specs.Move.{Move}
 use Rattle.tap_safety.specs.Move.Move.{Begins, Delivers}
 use Rattle.tap_safety.specs.Moved.{moved, numbered_frame, starter}
-use Rattle.tap_safety.specs.Step.{with_at}
+use Rattle.tap_safety.specs.Exchanges.{with_at}
 use Rattle.tap_safety.specs.System.{System}
 use Rattle.tap_runs.specs.Acts.{acted_records}
 use Rattle.tap_runs.specs.Beginning.{Beginning}
@@ -39,19 +39,19 @@ use Rattle.tap_runs.specs.Group.{accepted_records, received_records, records_of_
 use Rattle.tap_runs.specs.Observed.{observed}
 use Rattle.tap_runs.specs.Starts.{announced, start_of_step}
 use Rattle.tap_runs.proofs.Frames.{step_moves, taken_moves}
-use Rattle.tap_runs.proofs.Growing.{grown, grown_going, grown_system}
+use Rattle.tap_runs.proofs.CourseGrows.{grown, grown_going, grown_system}
 use Rattle.tap_runs.proofs.Nodes.{name_at, no_steps, start_in}
 use Rattle.tap_runs.proofs.Within.{IsStarting, Within, step_kind, step_within, taken_within}
 use Rattle.tap_overlay.specs.Law.{HasNodesOf}
 use Rattle.tap_overlay.specs.Overlay.{ChangesOnly, OverlayValue}
 use Rattle.tap_overlay.proofs.Systems.{same_changes}
-use Rattle.tap_engine.specs.Kept.{AreKept, AreReady, LeadsTo}
+use Rattle.tap_engine.specs.KeptEngine.{AreKept, AreReady, LeadsTo}
 use Rattle.tap_runs.specs.Named.{HasNames, HaveNames}
 use Rattle.tap_engine.specs.Kinds.{damages, is_finished, last_index, observes}
-use Rattle.tap_engine.specs.Growth.{left_by}
-use Rattle.tap_engine.specs.Outcome.{IsNextIndex, Outcome, adds, adds_within, is_within, spends, takes_number, unless_refused}
+use Rattle.tap_engine.specs.Growth.{left_by_outcome}
+use Rattle.tap_engine.specs.Outcome.{IsNextIndex, WorldOutcome, adds, adds_within, is_within, spends, takes_number, unless_refused}
 use Rattle.tap_runs.specs.Groups.{step_group, taken_group}
-use Rattle.tap_engine.specs.Seen.{turn_records}
+use Rattle.tap_engine.specs.SeenTurns.{turn_records}
 use Rattle.tap_engine.specs.Working.{HasActed, HasBegunAt, HasHeeded, HasTakenAt, LogsAs, StillHas}
 use Rattle.tap_engine.specs.World.{WorldValue}
 use Rattle.tap_engine.specs.WorldLog.{IsWorldLog}
@@ -59,12 +59,12 @@ use Rattle.tap_engine.specs.declared.engine.Acted.{Acted}
 use Rattle.tap_engine.specs.declared.engine.Engine.{Engine}
 use Rattle.tap_engine.specs.declared.stop.Stop.{Stop}
 use Rattle.tap_engine.specs.declared.stop.Stop.TheVariants.{NoMemory, Refused}
-use Rattle.tap_engine.proofs.Grown.{spent_names, step_names}
+use Rattle.tap_engine.proofs.StandingAlone.{spent_names, step_names}
 use Rattle.tap_engine.proofs.Keeping.{HasGrown, as_log, begun, course_goes_on, done, grown_log, grown_named, kept_same, kept_short, kept_stopped, on, room_two, same_beginning, seen, there}
 use Rattle.tap_engine.proofs.Indices.{indices_stay}
-use Rattle.tap_runs.proofs.Named.{step_has_names}
-use Rattle.tap_engine.proofs.Named.{nothing_named, spent_named, step_named, unbegun_named}
-use Rattle.tap_engine.proofs.Steps.{at_none, follows_within, no_choice, number_there, quiet_within, step_may, taken_may}
+use Rattle.tap_runs.proofs.StepNames.{step_has_names}
+use Rattle.tap_engine.proofs.NamedSteps.{nothing_named, spent_named, step_named, unbegun_named}
+use Rattle.tap_engine.proofs.AddedGroups.{at_none, follows_within, no_choice, number_there, quiet_within, step_may, taken_may}
 use Rattle.tap_engine.proofs.Taking.{sound}
 use Rattle.tap_engine.proofs.TurnRecords.{turns_are_told}
 use Rattle.tap_engine.proofs.WorldLogs.{adds_log, over_log, takes_over, within_log}
@@ -77,7 +77,7 @@ pub kept_group : (before after : Engine) (first : Record) (items : List Record) 
     → HasNodesOf (moved_by before.settings (system_of before.ledger.records) (move_of_group before.ledger.records (first ∷ items))) after.overlay
     → after.overlay.settings ≡ before.overlay.settings
     → 2 ≤ after.ledger.spare → HaveNames before.settings (first ∷ items)
-    → IsWorldLog (left_by (seen before) (adds (seen before) (first ∷ items)) (seen before).nodes) → AreKept after None false
+    → IsWorldLog (left_by_outcome (seen before) (adds (seen before) (first ∷ items)) (seen before).nodes) → AreKept after None false
 kept_group before after first items ready grows follows nodes settings two named log =
     let b = (seen before).beginning in
     let goes = on before ready in
@@ -221,7 +221,7 @@ never_refused w first all given refusal answer is =
     by_within false at = let both = sym is ∙ at in cc
 
 -- an engine that begins so leads where the other leads
-pub lead_from : (of : SettingsValue → ℕ → List Record → Outcome) (before now after : Engine) (given : Result (Unit {0}) Stop)
+pub lead_from : (of : SettingsValue → ℕ → List Record → WorldOutcome) (before now after : Engine) (given : Result (Unit {0}) Stop)
     → now.settings ≡ before.settings → now.frames ≡ before.frames → now.ledger.records ≡ before.ledger.records → now.overlay ≡ before.overlay
     → LeadsTo (of now.settings now.frames now.ledger.records) now given after
     → LeadsTo (of before.settings before.frames before.ledger.records) before given after
@@ -244,7 +244,7 @@ lead_from of before now after given settings frames log overlay leads =
 -- ---- a start
 
 -- the group, or its first records and `Spent`
-abbrev either : WorldValue → List Record → List Record → Bool → Outcome
+abbrev either : WorldValue → List Record → List Record → Bool → WorldOutcome
 either w first all within = if within then adds w all else spends w first
 
 -- a step alone and `Spent` add no name

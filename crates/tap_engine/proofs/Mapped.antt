@@ -1,6 +1,6 @@
 -- A list that is mapped element by element.
 use Rattle.std.proofs.Common.{◌≡◌, List, [], ◌∷◌, ◌++◌, map, ap, ◌∙◌}
-use Rattle.tap_table.proofs.Steps.{added}
+use Rattle.tap_table.proofs.OneAdded.{added}
 
 -- The first element left is mapped and added: what is done, and what is left, still make the whole.
 pub one_more : {X Y : Type 0} (f : X → Y) (x : X) (left rest : List X) (done more whole : List Y) → left ≡ x ∷ rest

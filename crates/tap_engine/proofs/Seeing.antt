@@ -15,7 +15,7 @@ use Rattle.tap_log.specs.declared.record.Record.TheVariants.{RootOf, Walked}
 use Rattle.tap_history.specs.Core.{core_of, present_of}
 use Rattle.tap_history.specs.Names.{names_of}
 use Rattle.tap_history.specs.Refusals.{first_refusal, first_some, is_joining, refusals, refuses_not_core}
-use Rattle.tap_history.specs.Steps.{asked_node, suits_joining}
+use Rattle.tap_history.specs.StepAsks.{asked_node, suits_joining}
 use Rattle.tap_rule.specs.Node.{NodeState, Status}
 use Rattle.tap_rule.specs.Node.Status.{Joining, Core, Leaving, Gone, Ceased}
 use Rattle.tap_surrogate.specs.Nodes.{IsCore, core_links}
@@ -23,15 +23,15 @@ use Rattle.tap_surrogate.specs.Walk.{walk}
 use Rattle.tap_node.specs.Node.{NodeValue, is_linked, running}
 use Rattle.tap_safety.specs.System.{System}
 use Rattle.tap_runs.specs.Course.{system_of}
-use Rattle.tap_runs.specs.Laws.{is_present_node}
+use Rattle.tap_runs.specs.CourseLaws.{is_present_node}
 use Rattle.tap_runs.specs.Observed.{has_ended, is_core_node, observed, pointers_record, table_record}
 use Rattle.tap_runs.proofs.Nodes.{asked_is_present, cause_fails, first_none}
 use Rattle.tap_overlay.specs.Overlay.{node_at, nodes_lent}
 use Rattle.tap_overlay.proofs.Systems.{same_walks}
-use Rattle.tap_engine.specs.Kept.{AreReady}
+use Rattle.tap_engine.specs.KeptEngine.{AreReady}
 use Rattle.tap_engine.specs.declared.engine.Engine.{Engine}
 use Rattle.tap_engine.proofs.Keeping.{on}
-use Rattle.tap_engine.proofs.Named.{all_named}
+use Rattle.tap_engine.proofs.NamedSteps.{all_named}
 use Rattle.tap_engine.proofs.Starting.{agrees}
 
 -- ---- the node that is asked

@@ -8,7 +8,7 @@ use Rattle.tap_scenario.specs.declared.step.Step.TheVariants.{Join}
 use Rattle.tap_log.specs.declared.record.Record.{Record}
 use Rattle.tap_log.specs.Counts.{cast_count, ticket_count}
 use Rattle.tap_history.specs.Refusals.{first_refusal}
-use Rattle.tap_history.specs.Steps.{actor_of}
+use Rattle.tap_history.specs.StepAsks.{actor_of}
 use Rattle.tap_rule.specs.Act.{act}
 use Rattle.tap_rule.specs.Event.{Acted as RuleActed, News}
 use Rattle.tap_rule.specs.Event.News.{Nothing as NothingNews}
@@ -23,8 +23,8 @@ use Rattle.tap_node.specs.Outcome.{AnswersAs, acted_as, start_outcome, turn_made
 use Rattle.tap_node.specs.declared.fault.NodeFault.{NodeFault}
 use Rattle.tap_node.specs.declared.fault.NodeFault.TheVariants.{NoMemory as OutOfMemory}
 use Rattle.tap_node.specs.declared.turn.Turn.{Turn}
-use Rattle.tap_node_common.specs.Step.{news_of}
-use Rattle.tap_node_common.specs.Spelled.{spelled}
+use Rattle.tap_node_common.specs.StepsAs.{news_seen}
+use Rattle.tap_node_common.specs.Spellings.{spelled}
 use Rattle.tap_wire.specs.declared.frame.Frame.{Frame}
 use Rattle.tap_runs.specs.Course.{system_of}
 use Rattle.tap_runs.specs.Group.{start_at}
@@ -32,20 +32,20 @@ use Rattle.tap_runs.specs.Starts.{start_of_step}
 use Rattle.tap_runs.proofs.Departing.{course_nodes_holds}
 use Rattle.tap_runs.proofs.Nodes.{Agree, IsThere, joiner_is_new, starts_of}
 use Rattle.tap_overlay.specs.Overlay.{ChangesOnly, OverlayValue, node_at}
-use Rattle.tap_overlay.specs.Start.{MayStart, begun}
-use Rattle.tap_overlay.specs.Step.{HasAnswered, HasJoined, HasStepped, StepsAt, answer_given}
+use Rattle.tap_overlay.specs.Start.{MayStart, rule_start}
+use Rattle.tap_overlay.specs.Step.{HasJoined, HasStepped, NodeHasAnswered, StepsAt, answer_given}
 use Rattle.tap_overlay.specs.declared.fault.OverlayFault.{OverlayFault}
 use Rattle.tap_overlay.specs.declared.fault.OverlayFault.TheVariants.{Node as NodeRefuses}
 use Rattle.tap_overlay.specs.declared.start.Start.{Start}
 use Rattle.tap_overlay.specs.declared.start.Start.TheVariants.{Abandon, Publish, Withdraw, Find, Leave, Cast}
-use Rattle.tap_engine.specs.Kept.{AreReady}
+use Rattle.tap_engine.specs.KeptEngine.{AreReady}
 use Rattle.tap_engine.specs.Kinds.{most_index}
-use Rattle.tap_engine.specs.Working.{CanBegin, HasBegunAt, HasBegunOf, IsNamed, is_seen_core, is_seen_joining, nothing_by, suits}
+use Rattle.tap_engine.specs.Working.{CanBegin, HasBegunAt, HasBegunOf, IsNextStart, is_seen_core, is_seen_joining, nothing_by, suits}
 use Rattle.tap_engine.specs.declared.engine.Acted.{Acted}
 use Rattle.tap_engine.specs.declared.engine.Engine.{Engine}
 use Rattle.tap_engine.proofs.Indices.{few_steps}
 use Rattle.tap_engine.proofs.Keeping.{on, seen}
-use Rattle.tap_engine.proofs.Sound.{IsSoundAt}
+use Rattle.tap_engine.proofs.SoundCourse.{IsSoundAt}
 use Rattle.tap_engine.proofs.Taking.{answer_ok, sound}
 
 -- who is core, present and gone, and who was ever there, of an engine that is ready
@@ -127,7 +127,7 @@ is_core Gone is = cc
 is_core Ceased is = cc
 
 may_start : (engine : Engine) (name : List ℕ) (start : Start) (node : NodeState) → engine.overlay.settings ≡ engine.settings
-    → IsSoundAt (seen engine).beginning engine.ledger.records name node → IsNamed engine.settings engine.ledger.records start
+    → IsSoundAt (seen engine).beginning engine.ledger.records name node → IsNextStart engine.settings engine.ledger.records start
     → suits (status_seen node.status) start ≡ true → MayStart engine.overlay.settings start (running node)
 may_start engine name Abandon node same sound named suited = λ runs. is_joining node.status suited
 may_start engine name (Publish object) node same sound named suited =
@@ -149,7 +149,7 @@ abbrev state_in : NodeState → Option NodeValue → NodeState
 state_in other None = other
 state_in other (Some node) = node.state
 
-no_join : (start : Start) (via : List ℕ) → begun start ≡ StartJoin via → ⊥
+no_join : (start : Start) (via : List ℕ) → rule_start start ≡ StartJoin via → ⊥
 no_join Abandon via is = cc
 no_join (Publish object) via is = cc
 no_join (Withdraw object) via is = cc
@@ -159,10 +159,10 @@ no_join (Cast cast level word) via is = cc
 
 -- the node of an accepted start is there, and may start it if it has the status that it wants
 module _ (engine : Engine) (ready : AreReady engine) (step : Step) (accepted : first_refusal engine.ledger.records step ≡ None)
-    (name : List ℕ) (start : Start) (at : start_at engine.ledger.records step ≡ Some (name, begun start))
-    (named : IsNamed engine.settings engine.ledger.records start) where
-  is_there : IsThere engine.settings (system_of engine.ledger.records) step name (begun start)
-  is_there = elim (starts_of engine.settings engine.ledger.records (system_of engine.ledger.records) (agrees engine ready) step name (begun start)
+    (name : List ℕ) (start : Start) (at : start_at engine.ledger.records step ≡ Some (name, rule_start start))
+    (named : IsNextStart engine.settings engine.ledger.records start) where
+  is_there : IsThere engine.settings (system_of engine.ledger.records) step name (rule_start start)
+  is_there = elim (starts_of engine.settings engine.ledger.records (system_of engine.ledger.records) (agrees engine ready) step name (rule_start start)
       accepted at) [
         | inl new ↦ absurd (no_join start new.via new.start_is)
         | inr is ↦ is
@@ -182,14 +182,14 @@ module _ (engine : Engine) (ready : AreReady engine) (step : Step) (accepted : f
   some_node node other same = ap (state_in node) same
 
   -- what it has started is what the step has it start
-  pub has_begun_at : (after : Engine) (acted : Acted) → HasBegunOf engine.overlay after.overlay name (begun start) acted
+  pub has_begun_at : (after : Engine) (acted : Acted) → HasBegunOf engine.overlay after.overlay name (rule_start start) acted
       → HasBegunAt engine after step acted
   unfolding is_there can_begin
   has_begun_at after acted has =
       let node : is_there.node ≡ has.node = some_node is_there.node has.node (sym can_begin.there ∙ has.was) in
       record {
         name = name;
-        start = begun start;
+        start = rule_start start;
         node = has.node;
         at = at;
         was = is_there.starts ∙ ap (λ n. Some n) node;
@@ -200,7 +200,7 @@ module _ (engine : Engine) (ready : AreReady engine) (step : Step) (accepted : f
 
 -- a node of another status has no rule for it
 no_rule : (node : NodeState) (status : Status) (start : Start) → suits (status_seen status) start ≡ false
-    → rule_of_start status node (begun start) ≡ None
+    → rule_of_start status node (rule_start start) ≡ None
 no_rule node Joining Abandon not = cc
 no_rule node Joining (Publish object) not = refl
 no_rule node Joining (Withdraw object) not = refl
@@ -220,42 +220,42 @@ no_rule node Ceased start not = refl
 nothing_told : (node : NodeState) (acted : RuleActed) (name : List ℕ) → acted.sent ≡ [] → acted.news ≡ NothingNews
     → (nothing_by name).turn ≡ turn_made node acted
 nothing_told node acted name sent news =
-    let frames : List Frame → Turn = λ l. record { sent = spelled (settings_of node) l; news = news_of acted.news } in
-    let tells : News → Turn = λ n. record { sent = []; news = news_of n } in
+    let frames : List Frame → Turn = λ l. record { sent = spelled (settings_of node) l; news = news_seen acted.news } in
+    let tells : News → Turn = λ n. record { sent = []; news = news_seen n } in
     sym (ap frames sent ∙ ap tells news)
 
 -- so it does nothing
 pub has_done_nothing : (o : OverlayValue) (name : List ℕ) (start : Start) (can : CanBegin o name start)
-    → suits (status_seen can.node.status) start ≡ false → HasBegunOf o o name (begun start) (nothing_by name)
+    → suits (status_seen can.node.status) start ≡ false → HasBegunOf o o name (rule_start start) (nothing_by name)
 has_done_nothing o name start can not =
-    let ignored = unruled_start_law can.node (begun start) (no_rule can.node can.node.status start not) in
-    let stays : running (act can.node (Starts (begun start))).state ≡ running can.node = ap running ignored.state in
+    let ignored = unruled_start_law can.node (rule_start start) (no_rule can.node can.node.status start not) in
+    let stays : running (act can.node (Starts (rule_start start))).state ≡ running can.node = ap running ignored.state in
     record {
       node = can.node;
       was = can.there;
       acts = record {
         name_is = refl;
-        turn_is = nothing_told can.node (act can.node (Starts (begun start))) name ignored.sent ignored.news;
+        turn_is = nothing_told can.node (act can.node (Starts (rule_start start))) name ignored.sent ignored.news;
         changes = subst (ChangesOnly o.nodes o.nodes name) (sym stays) (record { here = can.there; others = λ other apart. refl });
         settings = refl;
       };
     }
 
 module _ (before after : OverlayValue) (name : List ℕ) (start : Start) (can : CanBegin before name start)
-    (given : Result Turn OverlayFault) (step : StepsAt (λ node. start_outcome node (begun start)) before.nodes after.nodes name given)
+    (given : Result Turn OverlayFault) (step : StepsAt (λ node. start_outcome node (rule_start start)) before.nodes after.nodes name given)
     (settings : after.settings ≡ before.settings) where
-  has : HasStepped (start_outcome (running can.node) (begun start)) before.nodes after.nodes name (running can.node) given
+  has : HasStepped (start_outcome (running can.node) (rule_start start)) before.nodes after.nodes name (running can.node) given
   has = step.there (running can.node) can.there
 
-  answered : HasAnswered (start_outcome (running can.node) (begun start)) (running can.node) has.is given
+  answered : NodeHasAnswered (start_outcome (running can.node) (rule_start start)) (running can.node) has.is given
   answered = has.step.free can.room
 
-  by_answer : (answer : Result Turn NodeFault) → AnswersAs (acted_as can.node (act can.node (Starts (begun start)))) (running can.node) answer has.is
+  by_answer : (answer : Result Turn NodeFault) → AnswersAs (acted_as can.node (act can.node (Starts (rule_start start)))) (running can.node) answer has.is
       → (answer_given answer ≡ Err (NodeRefuses OutOfMemory)) ⊎ IsOk (answer_given answer)
   by_answer (Ok turn) answers = inr refl
   by_answer (Err OutOfMemory) answers = inl refl
   by_answer (Err fault) answers =
-      let never : Err fault ≡ Ok (turn_made can.node (act can.node (Starts (begun start)))) = answers.answer (λ memory. cc) in cc
+      let never : Err fault ≡ Ok (turn_made can.node (act can.node (Starts (rule_start start)))) = answers.answer (λ memory. cc) in cc
 
   -- want of memory is the one refusal
   pub only_memory : (given ≡ Err (NodeRefuses OutOfMemory)) ⊎ IsOk given
@@ -263,13 +263,13 @@ module _ (before after : OverlayValue) (name : List ℕ) (start : Start) (can : 
       subst (λ g. (g ≡ Err (NodeRefuses OutOfMemory)) ⊎ IsOk g) (sym answered.given_is) (by_answer answered.answer answered.answers)
 
   -- and else it has started it
-  pub has_started : (acted : Acted) → acted.name ≡ name → given ≡ Ok acted.turn → HasBegunOf before after name (begun start) acted
+  pub has_started : (acted : Acted) → acted.name ≡ name → given ≡ Ok acted.turn → HasBegunOf before after name (rule_start start) acted
   has_started acted named ok =
       let is_ok = answer_ok answered.answer acted.turn (sym answered.given_is ∙ ok) in
       let other : answered.answer ≢ Err OutOfMemory = λ memory. let never : Ok acted.turn ≡ Err OutOfMemory = sym is_ok ∙ memory in cc in
       let by_rule = answered.answers.answer other in
       let left = answered.answers.node other in
-      let both : Ok acted.turn ≡ Ok (turn_made can.node (act can.node (Starts (begun start)))) = sym is_ok ∙ by_rule in
+      let both : Ok acted.turn ≡ Ok (turn_made can.node (act can.node (Starts (rule_start start)))) = sym is_ok ∙ by_rule in
       record {
         node = can.node;
         was = can.there;

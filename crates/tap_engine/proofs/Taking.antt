@@ -24,24 +24,24 @@ use Rattle.tap_node.specs.declared.fault.NodeFault.TheVariants.{NoMemory as OutO
 use Rattle.tap_node.specs.declared.turn.Turn.{Turn}
 use Rattle.tap_safety.specs.Moved.{numbered_frame}
 use Rattle.tap_safety.specs.System.{AmongFrames, System}
-use Rattle.tap_safety.proofs.Moves.{found}
+use Rattle.tap_safety.proofs.Moved.{found}
 use Rattle.tap_runs.specs.Course.{system_of}
-use Rattle.tap_runs.specs.Laws.{HasBytes, frame_numbers}
+use Rattle.tap_runs.specs.CourseLaws.{HasBytes, frame_numbers}
 use Rattle.tap_runs.proofs.Frames.{frames_kept}
 use Rattle.tap_safety_moves.proofs.Consequences.{none_is_strange}
 use Rattle.tap_safe_runs.proofs.Safe.{runs_are_sound}
 use Rattle.tap_overlay.specs.Overlay.{ChangesOnly, OverlayValue, node_among, node_at}
-use Rattle.tap_overlay.specs.Step.{HasAnswered, HasStepped, StepsAt, answer_given}
+use Rattle.tap_overlay.specs.Step.{HasStepped, NodeHasAnswered, StepsAt, answer_given}
 use Rattle.tap_overlay.specs.declared.fault.OverlayFault.{OverlayFault}
 use Rattle.tap_overlay.specs.declared.fault.OverlayFault.TheVariants.{Node as NodeRefuses}
-use Rattle.tap_engine.specs.Kept.{AreReady}
+use Rattle.tap_engine.specs.KeptEngine.{AreReady}
 use Rattle.tap_engine.specs.Working.{HasTakenAt, IsActed, StillHas}
 use Rattle.tap_engine.specs.declared.engine.Acted.{Acted}
 use Rattle.tap_engine.specs.declared.engine.Engine.{Engine}
 use Rattle.tap_engine.specs.declared.stop.NoMemory.{NoMemory}
 use Rattle.tap_engine.proofs.Indices.{few_steps}
 use Rattle.tap_engine.proofs.Keeping.{on, seen}
-use Rattle.tap_engine.proofs.Sound.{IsSound, IsSoundAt, course_is_sound}
+use Rattle.tap_engine.proofs.SoundCourse.{IsSound, IsSoundAt, course_is_sound}
 
 -- ---- the frame at a place
 
@@ -216,7 +216,7 @@ module _ (before after : Engine) (ready : AreReady before) (place : ℕ) (o : Is
   has : HasStepped (take_outcome (running node) (spelling before.settings frame)) before.overlay.nodes after.overlay.nodes frame.to (running node) given
   has = step.there (running node) ((ready.kept.go_on refl).nodes.nodes_are frame.to ∙ ap (option_map running) receiver.at)
 
-  answered : HasAnswered (take_outcome (running node) (spelling before.settings frame)) (running node) has.is given
+  answered : NodeHasAnswered (take_outcome (running node) (spelling before.settings frame)) (running node) has.is given
   answered = has.step.free facts.left
 
   answers : AnswersAs (acted_as node (act node (Takes frame))) (running node) answered.answer has.is

@@ -10,21 +10,21 @@ use Rattle.tap_log.specs.declared.record.Refusal.{Refusal}
 use Rattle.tap_log.specs.declared.record.Refusal.TheVariants.{NoSuchFlight}
 use Rattle.tap_log.specs.Kinds.{sent_number, step_of}
 use Rattle.tap_log.specs.Log.{begun_steps, last_of}
-use Rattle.tap_log.proofs.Growing.{last_of-push}
+use Rattle.tap_log.proofs.MoreRecords.{last_of-push}
 use Rattle.tap_history.specs.Groups.{ends_log, is_ended}
 use Rattle.tap_history.specs.Moments.{has_number, outstanding}
 use Rattle.tap_history.specs.Refusals.{first_refusal}
-use Rattle.tap_history.specs.Steps.{is_start}
+use Rattle.tap_history.specs.StepAsks.{is_start}
 use Rattle.tap_node.specs.Node.{NodeValue}
 use Rattle.tap_runs.specs.Beginning.{Beginning, IsWithinLimits, begin_record}
 use Rattle.tap_runs.specs.Course.{FollowStep, Follows, IsCourse, MayFollow, is_choice, system_of}
 use Rattle.tap_runs.specs.Group.{records_unless, step_records, taken_records}
-use Rattle.tap_runs.proofs.Growing.{grown, grown_going, start_course}
+use Rattle.tap_runs.proofs.CourseGrows.{grown, grown_going, start_course}
 use Rattle.tap_runs.proofs.Nodes.{no_steps}
 use Rattle.tap_runs.proofs.Within.{step_within, taken_within}
-use Rattle.tap_engine.specs.Kinds.{begun_index, finishes, is_finished}
-use Rattle.tap_engine.specs.Growth.{WorldLogGrows, left_by}
-use Rattle.tap_engine.specs.Outcome.{IsNextIndex, MayGoOn, MayNote, Outcome, adds, adds_within, is_within, refuses, spends, stays, takes_number, unless_refused, unless_stopped}
+use Rattle.tap_engine.specs.Kinds.{begun_index, finishes_run, is_finished}
+use Rattle.tap_engine.specs.Growth.{WorldLogGrows, left_by_outcome}
+use Rattle.tap_engine.specs.Outcome.{IsNextIndex, MayGoOn, MayNote, WorldOutcome, adds, adds_within, is_within, refuses_step, spends, takes_number, unless_refused, unless_stopped, world_stays}
 use Rattle.tap_runs.specs.Groups.{step_group, taken_group}
 use Rattle.tap_engine.specs.World.{HasBegun, WorldValue}
 use Rattle.tap_engine.specs.WorldLog.{HasCome, HasGoneTo, HasIndices, HasStopped, IsCourseOrFinished, IsPending, IsWorldLog}
@@ -32,7 +32,7 @@ use Rattle.tap_engine.specs.declared.stop.Stop.{Stop}
 use Rattle.tap_engine.specs.declared.stop.Stop.TheVariants.{Ended, Refused as StopRefused}
 use Rattle.tap_engine.proofs.Courses.{last_step}
 use Rattle.tap_engine.proofs.Indices.{indices_next, indices_stay}
-use Rattle.tap_engine.proofs.Steps.{IsPlayed, choice_may, clash, follows_within, no_choice, number_there, quiet_within, refused_choice, silent_within, step_may, taken_may}
+use Rattle.tap_engine.proofs.AddedGroups.{IsPlayed, choice_may, clash, follows_within, no_choice, number_there, quiet_within, refused_choice, silent_within, step_may, taken_may}
 
 -- ---- where a world is
 
@@ -41,8 +41,8 @@ come_to : (b : Beginning) (stopped : Bool) (refused : Option Refusal) (course lo
 come_to b stopped refused course log runs none gone = rw (runs, none) at gone
 
 finished_so : (course : List Record) (steps : ℕ) → is_finished (course ++ Finished steps ∷ []) ≡ true
-unfolding finishes
-finished_so course steps = ap (λ last. option_map_or finishes last false) (last_of-push course (Finished steps))
+unfolding finishes_run
+finished_so course steps = ap (λ last. option_map_or finishes_run last false) (last_of-push course (Finished steps))
 
 unfinished_is : (course log : List Record) → IsCourseOrFinished course log → is_finished log ≡ false → log ≡ course
 unfinished_is course log (inl same) unfinished = same
@@ -89,7 +89,7 @@ goes_on w is may runs =
 -- ---- what a call leaves
 
 module _ (w : WorldValue) (nodes : List (List ℕ × NodeValue)) where
-  pub stays_log : (stop : Stop) → IsWorldLog w → IsWorldLog (left_by w (stays w stop) nodes)
+  pub stays_log : (stop : Stop) → IsWorldLog w → IsWorldLog (left_by_outcome w (world_stays w stop) nodes)
   stays_log stop is = record {
     course = is.course;
     is_course = is.is_course;
@@ -99,18 +99,18 @@ module _ (w : WorldValue) (nodes : List (List ℕ × NodeValue)) where
   }
 
   -- a world that was stopped stays, and another one is left as the outcome says
-  pub unless_log : (outcome : Outcome) → IsWorldLog w → (w.stopped ≡ false → IsWorldLog (left_by w outcome nodes))
-      → IsWorldLog (left_by w (unless_stopped w outcome) nodes)
+  pub unless_log : (outcome : WorldOutcome) → IsWorldLog w → (w.stopped ≡ false → IsWorldLog (left_by_outcome w outcome nodes))
+      → IsWorldLog (left_by_outcome w (unless_stopped w outcome) nodes)
   unless_log outcome is left = by_stopped w.stopped refl
     where
-      by_stopped : (stopped : Bool) → w.stopped ≡ stopped → IsWorldLog (left_by w (if stopped then stays w Ended else outcome) nodes)
+      by_stopped : (stopped : Bool) → w.stopped ≡ stopped → IsWorldLog (left_by_outcome w (if stopped then world_stays w Ended else outcome) nodes)
       by_stopped true at = stays_log Ended is
       by_stopped false at = left at
 
   module _ (on : IsAtCourse w) where
     -- a group that may follow is added
     pub adds_log : (group : List Record) → Follows w.beginning w.log group → HasIndices (w.log ++ group)
-        → IsWorldLog (left_by w (adds w group) nodes)
+        → IsWorldLog (left_by_outcome w (adds w group) nodes)
     adds_log group follows are = record {
       course = w.log ++ group;
       is_course = grown w.beginning w.log group on.course on.going follows;
@@ -131,7 +131,7 @@ module _ (w : WorldValue) (nodes : List (List ℕ × NodeValue)) where
 
       -- the step alone, whose refusal isn't noted yet
       pub refuses_log : (refusal : Refusal) → first_refusal w.log step ≡ Some refusal → is_choice step ≡ false
-          → IsWorldLog (left_by w (refuses w index step refusal) nodes)
+          → IsWorldLog (left_by_outcome w (refuses_step w index step refusal) nodes)
       refuses_log refusal is unchosen = record {
         course = w.log;
         is_course = on.course;
@@ -153,7 +153,7 @@ module _ (w : WorldValue) (nodes : List (List ℕ × NodeValue)) where
           no_steps items (step_within p w.log s index step items follow)
 
       -- the group of a step that isn't refused, if it is within the limit
-      pub within_log : is_choice step ≡ false → is_within w.beginning w.log group ≡ true → IsWorldLog (left_by w (adds w group) nodes)
+      pub within_log : is_choice step ≡ false → is_within w.beginning w.log group ≡ true → IsWorldLog (left_by_outcome w (adds w group) nodes)
       within_log unchosen within =
           adds_log group (follows_within w.beginning w.log group (step_may w.beginning w.log index step unchosen) within)
           (group_indices (step_records w.beginning.settings w.log (system_of w.log) index step) (items_begin_none unchosen))
@@ -164,7 +164,7 @@ module _ (w : WorldValue) (nodes : List (List ℕ × NodeValue)) where
           (All-cons (λ item. step_of item ≡ None) (Spent w.beginning.frames) [] refl (All-nil (λ item. step_of item ≡ None)))
 
       pub over_log : is_start step ≡ true → first_refusal w.log step ≡ None → is_within w.beginning w.log group ≡ false
-          → IsWorldLog (left_by w (spends w (StepRecord index step ∷ [])) nodes)
+          → IsWorldLog (left_by_outcome w (spends w (StepRecord index step ∷ [])) nodes)
       over_log starts accepted over = record {
         course = w.log;
         is_course = on.course;
@@ -175,22 +175,22 @@ module _ (w : WorldValue) (nodes : List (List ℕ × NodeValue)) where
       }
 
       accepted_log : IsPlayed step → first_refusal w.log step ≡ None
-          → IsWorldLog (left_by w (adds_within w (StepRecord index step ∷ []) group) nodes)
+          → IsWorldLog (left_by_outcome w (adds_within w (StepRecord index step ∷ []) group) nodes)
       accepted_log kind accepted = by_within (is_within w.beginning w.log group) refl
         where
           by_within : (within : Bool) → is_within w.beginning w.log group ≡ within
-              → IsWorldLog (left_by w (if within then adds w group else spends w (StepRecord index step ∷ [])) nodes)
+              → IsWorldLog (left_by_outcome w (if within then adds w group else spends w (StepRecord index step ∷ [])) nodes)
           by_within true at = within_log (no_choice step kind) at
           by_within false at = elim kind [
             | inl starts ↦ over_log starts accepted at
             | inr quiet ↦ absurd (clash (is_within w.beginning w.log group) (quiet_within w.beginning w.log on.course on.going index step quiet) at)
           ]
 
-      pub step_log : IsPlayed step → IsWorldLog (left_by w (unless_refused w index step (first_refusal w.log step)) nodes)
+      pub step_log : IsPlayed step → IsWorldLog (left_by_outcome w (unless_refused w index step (first_refusal w.log step)) nodes)
       step_log kind = by_refusal (first_refusal w.log step) refl
         where
           by_refusal : (refusal : Option Refusal) → first_refusal w.log step ≡ refusal
-              → IsWorldLog (left_by w (unless_refused w index step refusal) nodes)
+              → IsWorldLog (left_by_outcome w (unless_refused w index step refusal) nodes)
           by_refusal None at = accepted_log kind at
           by_refusal (Some refusal) at = refuses_log refusal at (no_choice step kind)
 
@@ -206,7 +206,7 @@ module _ (w : WorldValue) (nodes : List (List ℕ × NodeValue)) where
           let none = no_steps items (taken_within w.beginning.settings w.log (system_of w.log) number items may) in
           indices_stay w.log taking (All-cons (λ item. step_of item ≡ None) (Taken number) items refl none) on.indices
 
-      pub takes_over : is_within w.beginning w.log taking ≡ false → IsWorldLog (left_by w (spends w []) nodes)
+      pub takes_over : is_within w.beginning w.log taking ≡ false → IsWorldLog (left_by_outcome w (spends w []) nodes)
       takes_over over = record {
         course = w.log;
         is_course = on.course;
@@ -217,26 +217,26 @@ module _ (w : WorldValue) (nodes : List (List ℕ × NodeValue)) where
             (All-cons (λ item. step_of item ≡ None) (Spent w.beginning.frames) [] refl (All-nil (λ item. step_of item ≡ None))) on.indices;
       }
 
-      pub takes_log : IsWorldLog (left_by w (adds_within w [] taking) nodes)
+      pub takes_log : IsWorldLog (left_by_outcome w (adds_within w [] taking) nodes)
       takes_log = by_within (is_within w.beginning w.log taking) refl
         where
           by_within : (within : Bool) → is_within w.beginning w.log taking ≡ within
-              → IsWorldLog (left_by w (if within then adds w taking else spends w []) nodes)
+              → IsWorldLog (left_by_outcome w (if within then adds w taking else spends w []) nodes)
           by_within true at =
               let may = taken_may w.beginning w.log number waits in
               adds_log taking (follows_within w.beginning w.log taking may at) (taking_indices may)
           by_within false at = takes_over at
 
-    pub place_log : (place : ℕ) → IsWorldLog w → IsWorldLog (left_by w (takes_number w (slice_get (outstanding w.log) place)) nodes)
+    pub place_log : (place : ℕ) → IsWorldLog w → IsWorldLog (left_by_outcome w (takes_number w (slice_get (outstanding w.log) place)) nodes)
     place_log place is = by_number (slice_get (outstanding w.log) place) refl
       where
-        by_number : (number : Option ℕ) → slice_get (outstanding w.log) place ≡ number → IsWorldLog (left_by w (takes_number w number) nodes)
+        by_number : (number : Option ℕ) → slice_get (outstanding w.log) place ≡ number → IsWorldLog (left_by_outcome w (takes_number w number) nodes)
         by_number None at = stays_log (StopRefused (NoSuchFlight (length (outstanding w.log)))) is
         by_number (Some number) at = takes_log number (number_there (outstanding w.log) place number at)
 
     -- a choice alone
     pub mark_log : (index : ℕ) (step : Step) → IsNextIndex w index → is_choice step ≡ true
-        → IsWorldLog (left_by w (adds w (StepRecord index step ∷ [])) nodes)
+        → IsWorldLog (left_by_outcome w (adds w (StepRecord index step ∷ [])) nodes)
     mark_log index step next choice =
         adds_log (StepRecord index step ∷ [])
         (follows_within w.beginning w.log (StepRecord index step ∷ []) (choice_may w.beginning w.log index step choice)
@@ -244,7 +244,7 @@ module _ (w : WorldValue) (nodes : List (List ℕ × NodeValue)) where
         (step_indices index step next)
 
     -- the end of all steps
-    pub finish_log : (steps : ℕ) → steps ≡ length (begun_steps w.log) → IsWorldLog (left_by w (adds w (Finished steps ∷ [])) nodes)
+    pub finish_log : (steps : ℕ) → steps ≡ length (begun_steps w.log) → IsWorldLog (left_by_outcome w (adds w (Finished steps ∷ [])) nodes)
     finish_log steps all = record {
       course = w.log;
       is_course = on.course;
@@ -408,7 +408,7 @@ noted w index refusal is may runs =
     }
 
 pub note_log : (w : WorldValue) (nodes : List (List ℕ × NodeValue)) (index : ℕ) (refusal : Refusal) → IsWorldLog w → MayNote w index refusal
-    → w.stopped ≡ false → IsWorldLog (left_by w (record (adds w (Refused index refusal ∷ [])) { refused = None }) nodes)
+    → w.stopped ≡ false → IsWorldLog (left_by_outcome w (record (adds w (Refused index refusal ∷ [])) { refused = None }) nodes)
 note_log w nodes index refusal is may runs =
     let n = noted w index refusal is may runs in
     let group = StepRecord index n.step ∷ Refused index refusal ∷ [] in

@@ -10,12 +10,12 @@ use Rattle.tap_log.specs.Log.{begun_steps}
 use Rattle.tap_history.specs.Groups.{is_ended}
 use Rattle.tap_history.specs.Moments.{outstanding}
 use Rattle.tap_history.specs.Refusals.{first_refusal, refused_if}
-use Rattle.tap_history.specs.Steps.{is_start}
+use Rattle.tap_history.specs.StepAsks.{is_start}
 use Rattle.tap_node.specs.Node.{NodeValue}
 use Rattle.tap_runs.specs.Beginning.{Beginning, IsWithinLimits}
 use Rattle.tap_runs.specs.Course.{IsCourse, is_choice}
 use Rattle.tap_engine.specs.Kinds.{damages, observes}
-use Rattle.tap_engine.specs.Outcome.{IsNextIndex, MayGoOn, MayNote, Outcome, deliver_outcome, finish_outcome, is_within, mark_outcome, note_outcome, step_outcome}
+use Rattle.tap_engine.specs.Outcome.{IsNextIndex, MayGoOn, MayNote, WorldOutcome, deliver_outcome, finish_outcome, is_within, mark_outcome, note_outcome, step_outcome}
 use Rattle.tap_runs.specs.Groups.{step_group}
 use Rattle.tap_engine.specs.World.{HasBegun, WorldValue}
 use Rattle.tap_engine.specs.WorldLog.{IsWorldLog}
@@ -30,8 +30,8 @@ DeliveriesRefused = (log : List Record) (place : ℕ) → is_carried log ≡ fal
     → first_refusal log (Deliver place) ≡ place_refused (length (outstanding log)) place
 
 -- a world that is left by this outcome, with these nodes
-abbrev pub left_by : WorldValue → Outcome → List (List ℕ × NodeValue) → WorldValue
-left_by w outcome nodes = record {
+abbrev pub left_by_outcome : WorldValue → WorldOutcome → List (List ℕ × NodeValue) → WorldValue
+left_by_outcome w outcome nodes = record {
   beginning = w.beginning;
   log = outcome.log;
   refused = outcome.refused;
@@ -46,15 +46,15 @@ pub record WorldLogGrows : Type 0 where
   pub begins : (b : Beginning) (w : WorldValue) → IsWithinLimits b → HasBegun b w → IsWorldLog w
   pub steps : (w : WorldValue) (index : ℕ) (step : Step) (nodes : List (List ℕ × NodeValue)) → IsWorldLog w → MayGoOn w
       → IsNextIndex w index → (is_start step ≡ true) ⊎ ((observes step ≡ true) ⊎ (damages step ≡ true))
-      → IsWorldLog (left_by w (step_outcome w index step) nodes)
+      → IsWorldLog (left_by_outcome w (step_outcome w index step) nodes)
   pub takes : (w : WorldValue) (place : ℕ) (nodes : List (List ℕ × NodeValue)) → IsWorldLog w → MayGoOn w
-      → IsWorldLog (left_by w (deliver_outcome w place) nodes)
+      → IsWorldLog (left_by_outcome w (deliver_outcome w place) nodes)
   pub marks : (w : WorldValue) (index : ℕ) (step : Step) (nodes : List (List ℕ × NodeValue)) → IsWorldLog w → MayGoOn w
-      → IsNextIndex w index → is_choice step ≡ true → IsWorldLog (left_by w (mark_outcome w index step) nodes)
+      → IsNextIndex w index → is_choice step ≡ true → IsWorldLog (left_by_outcome w (mark_outcome w index step) nodes)
   pub notes : (w : WorldValue) (index : ℕ) (refusal : Refusal) (nodes : List (List ℕ × NodeValue)) → IsWorldLog w
-      → MayNote w index refusal → IsWorldLog (left_by w (note_outcome w index refusal) nodes)
+      → MayNote w index refusal → IsWorldLog (left_by_outcome w (note_outcome w index refusal) nodes)
   pub finishes : (w : WorldValue) (steps : ℕ) (nodes : List (List ℕ × NodeValue)) → IsWorldLog w → MayGoOn w
-      → steps ≡ length (begun_steps w.log) → IsWorldLog (left_by w (finish_outcome w steps) nodes)
+      → steps ≡ length (begun_steps w.log) → IsWorldLog (left_by_outcome w (finish_outcome w steps) nodes)
   pub stops : (w : WorldValue) → IsWorldLog w → MayGoOn w → IsWorldLog (record w { stopped = true })
   pub course : (w : WorldValue) → IsWorldLog w → MayGoOn w → w.stopped ≡ false
       → IsCourse w.beginning w.log × (is_ended w.log ≡ false)

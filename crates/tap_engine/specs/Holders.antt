@@ -8,9 +8,9 @@ use Rattle.tap_rule.specs.Node.Status.{Core}
 use Rattle.tap_safety.specs.Ceased.{IsRegistered}
 use Rattle.tap_safety.specs.System.{System}
 use Rattle.tap_safety.specs.Ties.{status_of}
-use Rattle.tap_safety.specs.Words.{Has}
+use Rattle.tap_safety.specs.Regions.{Has}
 use Rattle.tap_runs.specs.Course.{system_of}
-use Rattle.tap_safe_runs.specs.Headline.{AtMomentsOf}
+use Rattle.tap_safe_runs.specs.SafeLogs.{AtMomentsOf}
 
 -- of two core nodes, the first is a holder of the second that is on exactly if its table has a link to the second
 abbrev pub HoldersAreExact : System → Type 0

@@ -50,10 +50,10 @@ abbrev pub most_index : ℕ
 most_index = 1000000
 
 -- all steps were run
-unfoldable pub finishes : Record → Bool
-finishes (Finished steps) = true
-finishes other = false
+unfoldable pub finishes_run : Record → Bool
+finishes_run (Finished steps) = true
+finishes_run other = false
 
 -- the log ends with its `Finished`
 abbrev pub is_finished : List Record → Bool
-is_finished log = option_map_or finishes (last_of log) false
+is_finished log = option_map_or finishes_run (last_of log) false

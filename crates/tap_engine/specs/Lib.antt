@@ -1,13 +1,13 @@
 pub mod Kinds
 pub mod World
-pub mod Headline
+pub mod WorldHeadline
 pub mod Holders
 pub mod Outcome
 pub mod WorldLog
 pub mod Places
-pub mod Kept
+pub mod KeptEngine
 pub mod Working
 pub mod Growth
-pub mod Seen
+pub mod SeenTurns
 pub mod Damaged
 pub mod TurnRecords

@@ -25,36 +25,36 @@ is_within b log group = nat_le (sent_count (log ++ group)) b.frames
 -- ---- outcomes
 
 -- the answer of a call, and what is then seen of the world but for its nodes
-pub record Outcome : Type 0 where
+pub record WorldOutcome : Type 0 where
   pub answer : Result (Unit {0}) Stop
   pub log : List Record
   pub refused : Option Refusal
   pub stopped : Bool
 
 -- the world stays as it was
-abbrev pub stays : WorldValue → Stop → Outcome
-stays w stop = record { answer = Err stop; log = w.log; refused = w.refused; stopped = w.stopped }
+abbrev pub world_stays : WorldValue → Stop → WorldOutcome
+world_stays w stop = record { answer = Err stop; log = w.log; refused = w.refused; stopped = w.stopped }
 
 -- these records are added
-abbrev pub adds : WorldValue → List Record → Outcome
+abbrev pub adds : WorldValue → List Record → WorldOutcome
 adds w items = record { answer = Ok tt; log = w.log ++ items; refused = w.refused; stopped = w.stopped }
 
 -- the step is added, and its refusal isn't noted yet
-abbrev pub refuses : WorldValue → ℕ → Step → Refusal → Outcome
-refuses w index step refusal =
+abbrev pub refuses_step : WorldValue → ℕ → Step → Refusal → WorldOutcome
+refuses_step w index step refusal =
     record (adds w (StepRecord index step ∷ [])) { answer = Err (Refused refusal); refused = Some refusal }
 
 -- these records are added, and then `Spent`: the world is stopped
-abbrev pub spends : WorldValue → List Record → Outcome
+abbrev pub spends : WorldValue → List Record → WorldOutcome
 spends w first = record (adds w (first ++ SpentRecord w.beginning.frames ∷ [])) { answer = Err Spent; stopped = true }
 
 -- the group is added if no more frames are sent in all than may be; else the first of its records that are given, and `Spent`
-abbrev pub adds_within : WorldValue → List Record → List Record → Outcome
+abbrev pub adds_within : WorldValue → List Record → List Record → WorldOutcome
 adds_within w first group = if is_within w.beginning w.log group then adds w group else spends w first
 
 -- a world that was stopped does nothing
-abbrev pub unless_stopped : WorldValue → Outcome → Outcome
-unless_stopped w outcome = if w.stopped then stays w Ended else outcome
+abbrev pub unless_stopped : WorldValue → WorldOutcome → WorldOutcome
+unless_stopped w outcome = if w.stopped then world_stays w Ended else outcome
 
 -- the refusal of an answer, if it is one
 abbrev pub refusal_in : Result (Unit {0}) Stop → Option Refusal
@@ -72,33 +72,33 @@ stops (Err stop) = false
 -- ---- the calls
 
 -- a start, an observation or a damaged copy: refused for the first cause that holds, and else its group is added
-abbrev pub unless_refused : WorldValue → ℕ → Step → Option Refusal → Outcome
-unless_refused w index step (Some refusal) = refuses w index step refusal
+abbrev pub unless_refused : WorldValue → ℕ → Step → Option Refusal → WorldOutcome
+unless_refused w index step (Some refusal) = refuses_step w index step refusal
 unless_refused w index step None = adds_within w (StepRecord index step ∷ []) (step_group w.beginning.settings w.log index step)
 
-abbrev pub step_outcome : WorldValue → ℕ → Step → Outcome
+abbrev pub step_outcome : WorldValue → ℕ → Step → WorldOutcome
 step_outcome w index step = unless_stopped w (unless_refused w index step (first_refusal w.log step))
 
 -- the frame of this number is taken; without one the place is refused, with the number of those outstanding
-abbrev pub takes_number : WorldValue → Option ℕ → Outcome
+abbrev pub takes_number : WorldValue → Option ℕ → WorldOutcome
 takes_number w (Some number) = adds_within w [] (taken_group w.beginning.settings w.log number)
-takes_number w None = stays w (Refused (NoSuchFlight (length (outstanding w.log))))
+takes_number w None = world_stays w (Refused (NoSuchFlight (length (outstanding w.log))))
 
 -- the frame at this place of the outstanding ones is taken
-abbrev pub deliver_outcome : WorldValue → ℕ → Outcome
+abbrev pub deliver_outcome : WorldValue → ℕ → WorldOutcome
 deliver_outcome w place = unless_stopped w (takes_number w (slice_get (outstanding w.log) place))
 
 -- a choice: the step alone
-abbrev pub mark_outcome : WorldValue → ℕ → Step → Outcome
+abbrev pub mark_outcome : WorldValue → ℕ → Step → WorldOutcome
 mark_outcome w index step = unless_stopped w (adds w (StepRecord index step ∷ []))
 
 -- the refusal of the step with this index: none is left that isn't noted
-abbrev pub note_outcome : WorldValue → ℕ → Refusal → Outcome
+abbrev pub note_outcome : WorldValue → ℕ → Refusal → WorldOutcome
 note_outcome w index refusal =
     unless_stopped w (record (adds w (RefusedRecord index refusal ∷ [])) { refused = None })
 
 -- all steps were run, which were so many
-abbrev pub finish_outcome : WorldValue → ℕ → Outcome
+abbrev pub finish_outcome : WorldValue → ℕ → WorldOutcome
 finish_outcome w steps = unless_stopped w (adds w (Finished steps ∷ []))
 
 -- ---- how a call goes
@@ -111,7 +111,7 @@ pub record IsStoppedShort (before after : WorldValue) : Type 0 where
   pub refused : after.refused ≡ before.refused
 
 -- The answer and the world afterwards are those of the outcome, unless memory was refused. With what the log begins stays.
-pub record AnswersAs (outcome : Outcome) (before : WorldValue) (given : Result (Unit {0}) Stop) (after : WorldValue) : Type 0 where
+pub record WorldAnswersAs (outcome : WorldOutcome) (before : WorldValue) (given : Result (Unit {0}) Stop) (after : WorldValue) : Type 0 where
   pub answer : given ≢ Err NoMemory → given ≡ outcome.answer
   pub log : given ≢ Err NoMemory → after.log ≡ outcome.log
   pub refused : given ≢ Err NoMemory → after.refused ≡ outcome.refused

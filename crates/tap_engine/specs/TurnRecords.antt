@@ -4,7 +4,7 @@ use Rattle.tap_rule.specs.Event.{Acted}
 use Rattle.tap_rule.specs.Node.{NodeState, settings_of}
 use Rattle.tap_node.specs.Outcome.{turn_made}
 use Rattle.tap_runs.specs.Acts.{acted_records}
-use Rattle.tap_engine.specs.Seen.{turn_records}
+use Rattle.tap_engine.specs.SeenTurns.{turn_records}
 
 -- What the records of the turn of a node say is what a log says of what the node did.
 abbrev pub TurnsAreTold : Type 0

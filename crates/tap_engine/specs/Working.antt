@@ -14,7 +14,7 @@ use Rattle.tap_log.specs.Counts.{sent_count}
 use Rattle.tap_history.specs.Flights.{bytes_at}
 use Rattle.tap_history.specs.Moments.{outstanding}
 use Rattle.tap_history.specs.Refusals.{damaged}
-use Rattle.tap_history.specs.Steps.{flight_place}
+use Rattle.tap_history.specs.StepAsks.{flight_place}
 use Rattle.tap_rule.specs.Node.{NodeState}
 use Rattle.tap_rule.specs.Event.{Event, Start as Begun}
 use Rattle.tap_rule.specs.Event.Event.{Starts, Takes}
@@ -30,7 +30,7 @@ use Rattle.tap_safety.specs.Moved.{numbered_frame, starter}
 use Rattle.tap_runs.specs.Course.{system_of}
 use Rattle.tap_runs.specs.Group.{start_at}
 use Rattle.tap_runs.specs.Starts.{next_cast}
-use Rattle.tap_ledger.specs.Added.{CanAdd, most_frames}
+use Rattle.tap_ledger.specs.Added.{CanAdd, most_ledger_frames}
 use Rattle.tap_overlay.specs.declared.fault.OverlayFault.{OverlayFault}
 use Rattle.tap_overlay.specs.declared.start.Start.{Start}
 use Rattle.tap_overlay.specs.declared.start.Start.TheVariants.{Abandon, Publish, Withdraw, Find, Leave, Cast}
@@ -40,9 +40,9 @@ use Rattle.tap_engine.specs.declared.stop.Stop.{Stop}
 use Rattle.tap_engine.specs.declared.stop.Stop.TheVariants.{NoMemory}
 use Rattle.tap_engine.specs.declared.engine.Acted.{Acted}
 use Rattle.tap_engine.specs.declared.engine.Engine.{Engine}
-use Rattle.tap_engine.specs.Outcome.{Outcome}
+use Rattle.tap_engine.specs.Outcome.{WorldOutcome}
 use Rattle.tap_engine.specs.Damaged.{copy_damaged}
-use Rattle.tap_engine.specs.Seen.{turn_records}
+use Rattle.tap_engine.specs.SeenTurns.{turn_records}
 use Rattle.tap_engine.specs.declared.damage.Damage.{Damage}
 
 -- The node of this name has acted by its rule, and its turn says so; every other node is as it was.
@@ -69,11 +69,11 @@ pub record CanAddTurn (engine : Engine) (first : List Record) (acted : Acted) : 
       → CanAdd engine.ledger.records (first ++ turn_records (sent_count engine.ledger.records) acted.name acted.turn)
   pub spent : CanAdd engine.ledger.records (Spent engine.frames ∷ [])
   pub counts : sent_count (first ++ turn_records (sent_count engine.ledger.records) acted.name acted.turn) ≡ length acted.turn.sent
-  pub few : engine.frames ≤ most_frames
+  pub few : engine.frames ≤ most_ledger_frames
 
 -- The answer and the log are those of the outcome, with room for two more records unless the world is to stop; or memory was refused,
 -- when the log stays. All else stays.
-pub record LogsAs (outcome : Outcome) (before : Engine) (given : Result (Unit {0}) Stop) (after : Engine) : Type 0 where
+pub record LogsAs (outcome : WorldOutcome) (before : Engine) (given : Result (Unit {0}) Stop) (after : Engine) : Type 0 where
   pub answer : given ≢ Err NoMemory → given ≡ outcome.answer
   pub log : given ≢ Err NoMemory → after.ledger.records ≡ outcome.log
   pub room : given ≡ Ok tt → 2 ≤ after.ledger.spare
@@ -109,13 +109,13 @@ suits seen Leave = is_seen_core seen
 suits seen (Cast cast level word) = is_seen_core seen
 
 -- what is started is about names of the settings, and a cast is the next one after this log, of a word
-abbrev pub IsNamed : SettingsValue → List Record → Start → Type 0
-IsNamed p log Abandon = Unit {0}
-IsNamed p log (Publish object) = IsName p object
-IsNamed p log (Withdraw object) = IsName p object
-IsNamed p log (Find ticket object) = IsName p object
-IsNamed p log Leave = Unit {0}
-IsNamed p log (Cast cast level word) = (cast ≡ next_cast log) × (level ≤ p.digits) × IsWord word.now
+abbrev pub IsNextStart : SettingsValue → List Record → Start → Type 0
+IsNextStart p log Abandon = Unit {0}
+IsNextStart p log (Publish object) = IsName p object
+IsNextStart p log (Withdraw object) = IsName p object
+IsNextStart p log (Find ticket object) = IsName p object
+IsNextStart p log Leave = Unit {0}
+IsNextStart p log (Cast cast level word) = (cast ≡ next_cast log) × (level ≤ p.digits) × IsWord word.now
 
 -- the node is there, runs in this state, and has room for a step; and if it has the status that this wants, it may start it
 pub record CanBegin (o : OverlayValue) (name : List ℕ) (start : Start) : Type 0 where

@@ -10,7 +10,7 @@ use Rattle.tap_log.specs.Log.{begun_steps}
 use Rattle.tap_history.specs.Groups.{is_ended}
 use Rattle.tap_history.specs.Moments.{has_number, outstanding}
 use Rattle.tap_history.specs.Refusals.{first_refusal}
-use Rattle.tap_history.specs.Steps.{is_start}
+use Rattle.tap_history.specs.StepAsks.{is_start}
 use Rattle.tap_runs.specs.Beginning.{Beginning}
 use Rattle.tap_runs.specs.Course.{IsCourse, is_choice}
 use Rattle.tap_engine.specs.Kinds.{begun_indices, last_index, most_index}

@@ -17,7 +17,7 @@ use tap_wire::{WireFault, decode, decode_head};
 
 // The damaged copies.
 impl Engine {
-    ghost use Rattle.tap_engine.specs.Kept.{AreReady, LeadsTo, world_value};
+    ghost use Rattle.tap_engine.specs.KeptEngine.{AreReady, LeadsTo, world_value};
     ghost use Rattle.tap_engine.specs.Outcome.{IsNextIndex, unless_refused};
 
     /// A step offers a damaged copy of an outstanding frame to its receiver: its group is the step, and why the copy is no frame. The

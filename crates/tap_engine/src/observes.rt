@@ -20,7 +20,7 @@ use tap_surrogate::{root_of, walk_path};
 
 // The observations.
 impl Engine {
-    ghost use Rattle.tap_engine.specs.Kept.{AreReady, LeadsTo, world_value};
+    ghost use Rattle.tap_engine.specs.KeptEngine.{AreReady, LeadsTo, world_value};
     ghost use Rattle.tap_engine.specs.Outcome.{IsNextIndex, unless_refused};
 
     /// A step observes: its group is the step, and what it sees. No node changes.

@@ -1,8 +1,8 @@
 ghost use Rattle.std.specs.Prelude.{◌≡◌, ◌+◌, ◌≤◌, ◌++◌, length};
 ghost use Rattle.tap_log.specs.Counts.{sent_count};
-ghost use Rattle.tap_log.specs.Laws.{at_most_one};
+ghost use Rattle.tap_log.specs.MoreRecords.{at_most_one};
 ghost use Rattle.tap_ledger.specs.Added.{CanAdd};
-ghost use Rattle.tap_engine.specs.Seen.{bytes_records, seen_after, seen_before, turn_records};
+ghost use Rattle.tap_engine.specs.SeenTurns.{bytes_records, seen_after, seen_before, turn_records};
 
 use crate::turns::{record_after, record_before};
 use tap_ledger::Ledger;

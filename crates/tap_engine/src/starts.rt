@@ -2,16 +2,16 @@ ghost use Rattle.std.specs.Prelude.{◌≡◌, ◌≤◌, ◌∷◌, ◌++◌, [
 ghost use Rattle.std.specs.Option.{ForSome};
 ghost use Rattle.tap_scenario.specs.Step.{IsStep};
 ghost use Rattle.tap_log.specs.Counts.{sent_count};
-ghost use Rattle.tap_log.specs.Laws.{at_most_one};
+ghost use Rattle.tap_log.specs.MoreRecords.{at_most_one};
 ghost use Rattle.tap_history.specs.Refusals.{first_refusal};
-ghost use Rattle.tap_history.specs.Steps.{is_start};
+ghost use Rattle.tap_history.specs.StepAsks.{is_start};
 ghost use Rattle.tap_node.specs.Node.{node_status};
 ghost use Rattle.tap_overlay.specs.Overlay.{node_at};
-ghost use Rattle.tap_overlay.specs.Start.{begun};
+ghost use Rattle.tap_overlay.specs.Start.{rule_start};
 ghost use Rattle.tap_runs.specs.Starts.{announced, next_cast, next_ticket};
 ghost use Rattle.tap_runs.specs.Group.{start_at};
-ghost use Rattle.tap_engine.specs.Seen.{turn_records};
-ghost use Rattle.tap_engine.specs.Working.{CanBegin, HasBegunOf, IsNamed, nothing_by, suits};
+ghost use Rattle.tap_engine.specs.SeenTurns.{turn_records};
+ghost use Rattle.tap_engine.specs.Working.{CanBegin, HasBegunOf, IsNextStart, nothing_by, suits};
 
 use crate::engine::{Acted, Engine, acted_by};
 use crate::pushes::{push_some, push_turn};
@@ -31,7 +31,7 @@ const ROOM_BESIDE_FRAMES: usize = 6;
 // The starts.
 impl Engine {
     ghost use Rattle.tap_ledger.specs.Added.{CanAdd};
-    ghost use Rattle.tap_engine.specs.Kept.{AreReady, LeadsTo, world_value};
+    ghost use Rattle.tap_engine.specs.KeptEngine.{AreReady, LeadsTo, world_value};
     ghost use Rattle.tap_engine.specs.Outcome.{IsNextIndex, adds_within, unless_refused};
     ghost use Rattle.tap_engine.specs.Working.{CanAddTurn, HasBegunAt, LogsAs, StillHas};
 
@@ -165,12 +165,12 @@ impl Engine {
     }
 
     // What a step has a node start that is there; nothing of a join, and of a step that is no start.
-    #[tactic(auto, unfolding(tap_runs::specs::Starts::start_of_step, tap_history::specs::Steps::actor_of))]
+    #[tactic(auto, unfolding(tap_runs::specs::Starts::start_of_step, tap_history::specs::StepAsks::actor_of))]
     fn begun_by<'a>(&self, step: &'a Step) -> Option<Begun<'a>>
         requires ready { AreReady self.now }
         requires names { IsStep self.now.settings false step.now }
-        ensures start { IfSome result (λ b. start_at self.now.ledger.records step.now ≡ Some (b.name, begun b.start)) }
-        ensures named { IfSome result (λ b. IsNamed self.now.settings self.now.ledger.records b.start) }
+        ensures start { IfSome result (λ b. start_at self.now.ledger.records step.now ≡ Some (b.name, rule_start b.start)) }
+        ensures named { IfSome result (λ b. IsNextStart self.now.settings self.now.ledger.records b.start) }
     {
         match step {
             Step::Depart { name } => Some(Begun {
@@ -206,12 +206,12 @@ impl Engine {
     }
 
     // The next cast: a node sends this word to all names that begin so.
-    #[tactic(auto, unfolding(tap_runs::specs::Starts::start_of_step, tap_history::specs::Steps::actor_of))]
+    #[tactic(auto, unfolding(tap_runs::specs::Starts::start_of_step, tap_history::specs::StepAsks::actor_of))]
     fn cast_by<'a>(&self, word: &'a Word, prefix: &Prefix, asker: &Name) -> Begun<'a>
         requires ready { AreReady self.now }
         requires names { IsStep self.now.settings false (Step.Cast word.now prefix.now asker.now) }
-        ensures start { start_at self.now.ledger.records (Step.Cast word.now prefix.now asker.now) ≡ Some (result.name, begun result.start) }
-        ensures named { IsNamed self.now.settings self.now.ledger.records result.start }
+        ensures start { start_at self.now.ledger.records (Step.Cast word.now prefix.now asker.now) ≡ Some (result.name, rule_start result.start) }
+        ensures named { IsNextStart self.now.settings self.now.ledger.records result.start }
     {
         Begun {
             name: *asker,
@@ -226,7 +226,7 @@ impl Engine {
     // The node of a name, which is there, starts something. A node of another status than that wants does nothing.
     fn begin_at(&mut self, one: &Begun<'_>) -> Result<Acted, NoMemory>
         requires { CanBegin self.old.overlay one.now.name one.now.start }
-        ensures begun { IfOk result (HasBegunOf self.old.overlay self.new.overlay one.now.name (begun one.now.start)) }
+        ensures begun { IfOk result (HasBegunOf self.old.overlay self.new.overlay one.now.name (rule_start one.now.start)) }
         ensures same { self.new ≡ record self.old { overlay = self.new.overlay } }
         ensures still { StillHas self.old.overlay self.new.overlay }
     {

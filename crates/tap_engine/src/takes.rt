@@ -1,7 +1,7 @@
 ghost use Rattle.std.specs.Prelude.{◌<◌, ◌≤◌, ◌∷◌, [], false, slice_get, None};
 ghost use Rattle.tap_log.specs.Counts.{sent_count};
 ghost use Rattle.tap_history.specs.Moments.{outstanding};
-ghost use Rattle.tap_engine.specs.Seen.{turn_records};
+ghost use Rattle.tap_engine.specs.SeenTurns.{turn_records};
 
 use crate::engine::Engine;
 use crate::pushes::push_turn;
@@ -18,7 +18,7 @@ const ROOM_BESIDE_FRAMES: usize = 5;
 
 // The frames that are taken.
 impl Engine {
-    ghost use Rattle.tap_engine.specs.Kept.{AreReady, LeadsTo, world_value};
+    ghost use Rattle.tap_engine.specs.KeptEngine.{AreReady, LeadsTo, world_value};
     ghost use Rattle.tap_engine.specs.Outcome.{adds_within, takes_number};
     ghost use Rattle.tap_engine.specs.Working.{CanAddTurn, LogsAs};
 

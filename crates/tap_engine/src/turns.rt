@@ -1,6 +1,6 @@
 ghost use Rattle.std.specs.Prelude.{◌≡◌};
-ghost use Rattle.tap_log.specs.Laws.{at_most_one};
-ghost use Rattle.tap_engine.specs.Seen.{seen_after, seen_before};
+ghost use Rattle.tap_log.specs.MoreRecords.{at_most_one};
+ghost use Rattle.tap_engine.specs.SeenTurns.{seen_after, seen_before};
 
 use tap_log::Record;
 use tap_name::Name;

@@ -11,15 +11,15 @@ use Rattle.tap_history.specs.Groups.{beginning_of, groups_of}
 use Rattle.tap_history.specs.Moments.{is_moment}
 use Rattle.tap_history.specs.Published.{published_of}
 use Rattle.tap_history.specs.Refusals.{first_refusal}
-use Rattle.tap_history.specs.Steps.{is_start}
+use Rattle.tap_history.specs.StepAsks.{is_start}
 use Rattle.tap_runs.specs.Beginning.{Beginning}
 use Rattle.tap_runs.specs.Course.{move_of_group, move_of_start, system_of}
 use Rattle.tap_runs.specs.Group.{start_at}
 use Rattle.tap_runs.proofs.Frames.{step_moves}
 use Rattle.tap_safe_runs.specs.Safe.{IsRun}
-use Rattle.tap_safe_runs.proofs.Alone.{no_start_last}
+use Rattle.tap_safe_runs.proofs.NeverAlone.{no_start_last}
 use Rattle.tap_safe_runs.proofs.Ended.{IsOpen, SaysTheSame, cut_carried, cut_says, cut_system, finished_groups, finished_is_carried, finished_says, finished_system, no_start_after, nothing_moves, open_after_step, refused_system, run_is_open, same_beginning, spent_groups, spent_is_carried, spent_says, spent_system, start_groups, step_groups, step_is_carried, step_says}
-use Rattle.tap_safe_runs.proofs.Headline.{cut_last, one_more}
+use Rattle.tap_safe_runs.proofs.SafeLogs.{cut_last, one_more}
 use Rattle.tap_headline.specs.Endings.{ChangesNothing, EndingsChangeNothing, IsRefusedAfter, MayEnd}
 use Rattle.tap_headline.proofs.Starts.{IsIdle, finished_idle, idle_published, idle_starts, spent_idle, step_idle}
 

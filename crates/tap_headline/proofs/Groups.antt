@@ -18,9 +18,9 @@ use Rattle.tap_rule.specs.Event.{Start}
 use Rattle.tap_rule.specs.Event.Event.{Starts, Takes}
 use Rattle.tap_rule.specs.Act.{act}
 use Rattle.tap_safety.specs.Move.Move.{Begins, Delivers}
-use Rattle.tap_safety.specs.Moved.{delivered, has_begun, moved, numbered_frame, received, starter, without}
+use Rattle.tap_safety.specs.Moved.{delivered, has_begun, moved, numbered_frame, received, starter, without_number}
 use Rattle.tap_safety.specs.Spelled.{AreSpelled}
-use Rattle.tap_safety.specs.Step.{numbered_from}
+use Rattle.tap_safety.specs.Exchanges.{numbered_from}
 use Rattle.tap_safety.specs.System.{AmongFrames, System}
 use Rattle.tap_runs.specs.Beginning.{Beginning}
 use Rattle.tap_runs.specs.Course.{FollowStep, FollowTaken, Follows, MayFollow, is_choice, move_of_group, move_of_start, moved_by, system_of}
@@ -28,11 +28,11 @@ use Rattle.tap_runs.specs.Group.{accepted_records, received_records, records_of_
 use Rattle.tap_runs.specs.Observed.{nodes_of, observed}
 use Rattle.tap_runs.specs.Starts.{announced}
 use Rattle.tap_runs.proofs.Frames.{step_moves, taken_moves}
-use Rattle.tap_runs.proofs.Growing.{grown_system}
+use Rattle.tap_runs.proofs.CourseGrows.{grown_system}
 use Rattle.tap_runs.specs.Named.{HaveNames}
 use Rattle.tap_safe_runs.specs.Safe.{IsRun}
 use Rattle.tap_safe_runs.proofs.Safe.{run_more, runs_are_sound}
-use Rattle.tap_headline.proofs.Told.{AreTold, act_told, announced_told, both_told, damage_told, more_told, none_told, one_told, pointers_told, root_told, same_told, table_told, walked_told}
+use Rattle.tap_headline.proofs.PrintedRecords.{AreTold, act_told, announced_told, both_told, damage_told, more_told, none_told, one_told, pointers_told, root_told, same_told, table_told, walked_told}
 
 -- ---- the frames that a move sends have spellings
 
@@ -62,7 +62,7 @@ module _ (p : SettingsValue) (s : System) where
   taken_spelled number frame node is there spelled =
       let first : AreSpelled p (received s number frame (s.node frame.to)) = subst (λ f. AreSpelled p (delivered s number f)) is spelled in
       let so : AreSpelled p (received s number frame (Some node)) = subst (λ n. AreSpelled p (received s number frame n)) there first in
-      later_spelled p (without s number).frames s.next (act node (Takes frame)).sent so.each
+      later_spelled p (without_number s number).frames s.next (act node (Takes frame)).sent so.each
 
 -- ---- what follows a step
 

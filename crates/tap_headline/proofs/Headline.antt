@@ -3,20 +3,20 @@ use Rattle.std.proofs.Common.{List, [], ◌∷◌, ◌++◌}
 use Rattle.tap_log.specs.declared.record.Record.{Record}
 use Rattle.tap_log.specs.declared.record.Record.TheVariants.{Finished, Spent, Step as StepRecord}
 use Rattle.tap_runs.specs.Beginning.{Beginning}
-use Rattle.tap_safe_runs.specs.Headline.{IsSafeThroughout}
+use Rattle.tap_safe_runs.specs.SafeLogs.{IsSafeThroughout}
 use Rattle.tap_safe_runs.specs.Safe.{IsRun}
-use Rattle.tap_safe_runs.proofs.Headline.{ended_logs_are_safe}
+use Rattle.tap_safe_runs.proofs.SafeLogs.{ended_logs_are_safe}
 use Rattle.tap_pointer_runs.specs.Paths.{PointersOnTheirPaths}
 use Rattle.tap_pointer_runs.proofs.Runs.{on_paths_at}
 use Rattle.tap_lookup_runs.specs.Alone.{LookupsAloneAreExact}
-use Rattle.tap_lookup_runs.specs.Answers.{AnswersWerePublished}
+use Rattle.tap_lookup_runs.specs.LookupAnswers.{AnswersWerePublished}
 use Rattle.tap_lookup_runs.proofs.Alone.{alone_at}
 use Rattle.tap_lookup_runs.proofs.Runs.{answers_at}
 use Rattle.tap_lookup_runs.specs.NoServer.{AnsweredNoneWereDisturbed, LookupsEndWithoutServer}
 use Rattle.tap_lookup_runs.proofs.NoServer.{disturbed_at_moments, ends_at_moments}
 use Rattle.tap_cast_runs.specs.ReachAll.{CastsReachAll}
 use Rattle.tap_cast_runs.proofs.ReachAll.{reach_all_at}
-use Rattle.tap_cast_runs.specs.Sessions.{AnswersAreAwaited, RestHasNoCastSessions}
+use Rattle.tap_cast_runs.specs.AwaitedAnswers.{AnswersAreAwaited, RestHasNoCastSessions}
 use Rattle.tap_cast_runs.proofs.Sessions.{answers_awaited_at, rest_sessions_at}
 use Rattle.tap_watch_runs.specs.Clause.{WatchClauseHolds}
 use Rattle.tap_watch_runs.proofs.Clause.{clause_at}
@@ -26,11 +26,11 @@ use Rattle.tap_bounds_runs.specs.Joins.{JoinsSendFew}
 use Rattle.tap_bounds_runs.proofs.JoinLogs.{joins_at}
 use Rattle.tap_headline.specs.Endings.{MayEnd}
 use Rattle.tap_headline.specs.Headline.{EndedLogsHaveHeadline, HasHeadline}
-use Rattle.tap_headline.specs.Sound.{FramesAreReceivedIn, HasInvariant}
+use Rattle.tap_headline.specs.HasInvariant.{FramesAreReceivedIn, HasInvariant}
 use Rattle.tap_headline.proofs.Ended.{IsEnded, run_ended}
-use Rattle.tap_headline.proofs.Kept.{at_ended, at_run}
-use Rattle.tap_headline.proofs.Frames.{joins_stay, lookup_frames_stay, publication_frames_stay}
-use Rattle.tap_headline.proofs.Sound.{invariant_at, invariant_stays, received_at, received_stay}
+use Rattle.tap_headline.proofs.KeptByEnds.{at_ended, at_run}
+use Rattle.tap_headline.proofs.FewStay.{joins_stay, lookup_frames_stay, publication_frames_stay}
+use Rattle.tap_headline.proofs.HasInvariant.{invariant_at, invariant_stays, received_at, received_stay}
 use Rattle.tap_headline.proofs.Stays.{answers_stay, awaited_stay, cast_sessions_stay, casts_stay, disturbed_lookups_stay, lookup_ends_stay, lookups_stay, pointers_stay, watches_stay}
 
 -- by how it has ended it is safe throughout

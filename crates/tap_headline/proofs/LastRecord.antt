@@ -4,9 +4,9 @@ use Rattle.tap_scenario.specs.Scenario.{ScenarioValue}
 use Rattle.tap_log.specs.declared.record.Record.{Record}
 use Rattle.tap_log.specs.declared.record.Record.TheVariants.{Spent, Finished}
 use Rattle.tap_log.specs.Log.{begun_steps, last_of}
-use Rattle.tap_log.proofs.Growing.{begun_steps-push, last_of-push}
+use Rattle.tap_log.proofs.MoreRecords.{begun_steps-push, last_of-push}
 use Rattle.tap_lawful.specs.Lawful.{IsFinished, IsPlayed, IsSpent, step_alone}
-use Rattle.tap_lawful.proofs.Steps.{played_all}
+use Rattle.tap_lawful.proofs.BegunSteps.{played_all}
 use Rattle.tap_headline.specs.LastRecord.{HasAllSteps, LogsEndSo}
 
 all_steps : (s : ScenarioValue) (played : List Record) → begun_steps played ≡ s.steps

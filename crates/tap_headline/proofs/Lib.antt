@@ -1,13 +1,13 @@
 pub mod LastRecord
 pub mod Scripts
-pub mod Told
+pub mod PrintedRecords
 pub mod Groups
 pub mod Printable
 pub mod Starts
 pub mod Ended
 pub mod Memory
-pub mod Kept
+pub mod KeptByEnds
 pub mod Stays
-pub mod Frames
+pub mod FewStay
 pub mod Headline
-pub mod Sound
+pub mod HasInvariant

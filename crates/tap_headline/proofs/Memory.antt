@@ -9,7 +9,7 @@ use Rattle.tap_safety.specs.Move.{Move}
 use Rattle.tap_safety.specs.System.{System}
 use Rattle.tap_runs.specs.Beginning.{Beginning, begin_record}
 use Rattle.tap_runs.specs.Course.{move_of_group, moved_by}
-use Rattle.tap_runs.proofs.Growing.{log_is}
+use Rattle.tap_runs.proofs.CourseGrows.{log_is}
 use Rattle.tap_headline.proofs.Ended.{IsEnded, beginning_stays}
 
 -- What is remembered after some groups that follow a log: each recalls its move, and what makes none leaves it.

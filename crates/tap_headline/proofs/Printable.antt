@@ -14,10 +14,10 @@ use Rattle.tap_report.specs.Text.{ArePrintable}
 use Rattle.tap_report.proofs.TextLemmas.{same_settings}
 use Rattle.tap_runs.specs.Beginning.{Beginning, begin_record}
 use Rattle.tap_runs.specs.Course.{Follows}
-use Rattle.tap_runs.proofs.Growing.{log_is}
+use Rattle.tap_runs.proofs.CourseGrows.{log_is}
 use Rattle.tap_lawful.specs.Next.{begun_count, beginning_in}
 use Rattle.tap_lawful.specs.Lawful.{ComesNext, IsPlayed, IsSpent, step_alone}
-use Rattle.tap_lawful.specs.Laws.{left_of}
+use Rattle.tap_lawful.specs.PlayedLaws.{left_of}
 use Rattle.tap_lawful.proofs.Coming.{coming}
 use Rattle.tap_lawful.proofs.Less.{less_left}
 use Rattle.tap_lawful.proofs.Played.{sent_count-append, sent_no_fewer}
@@ -26,7 +26,7 @@ use Rattle.tap_safe_runs.specs.Safe.{IsRun}
 use Rattle.tap_safe_runs.proofs.Lawful.{lawful_logs_are_safe}
 use Rattle.tap_safe_runs.proofs.Safe.{run_begins, run_more, steps_after, steps_before}
 use Rattle.tap_headline.specs.Printable.{CanBePrinted, LogsCanBePrinted}
-use Rattle.tap_headline.proofs.Told.{AreTold, CanPrint, both_told, more_told, none_told}
+use Rattle.tap_headline.proofs.PrintedRecords.{AreTold, CanPrint, both_told, more_told, none_told}
 use Rattle.tap_headline.proofs.Groups.{group_told}
 use Rattle.tap_headline.proofs.Scripts.{begun_alone, taken_alone}
 

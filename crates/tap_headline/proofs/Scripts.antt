@@ -15,7 +15,7 @@ use Rattle.tap_lawful.specs.Next.{beginning_in, begun_count}
 use Rattle.tap_runs.specs.Groups.{step_group, taken_group}
 use Rattle.tap_lawful.specs.Lawful.{IsFinished, IsPlayed, IsSpent, step_alone}
 use Rattle.tap_lawful.proofs.Coming.{coming}
-use Rattle.tap_lawful.proofs.Steps.{played_steps}
+use Rattle.tap_lawful.proofs.BegunSteps.{played_steps}
 use Rattle.tap_safe_runs.specs.Safe.{IsRun}
 use Rattle.tap_safe_runs.proofs.Lawful.{lawful_logs_are_safe}
 use Rattle.tap_headline.specs.Headline.{HasHeadline}

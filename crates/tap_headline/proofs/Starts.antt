@@ -10,15 +10,15 @@ use Rattle.tap_log.specs.declared.record.Pair.{Pair}
 use Rattle.tap_log.specs.declared.record.Record.{Record}
 use Rattle.tap_log.specs.declared.record.Record.TheVariants.{Finished, Spent, Step as StepRecord}
 use Rattle.tap_log.specs.Kinds.{accepts, begins_group, is_carried, published_pair, step_of, withdrawn_pair}
-use Rattle.tap_log.specs.Laws.{at_most_one}
+use Rattle.tap_log.specs.MoreRecords.{at_most_one}
 use Rattle.tap_log.specs.Log.{last_of}
 use Rattle.tap_history.specs.Core.{accepted_step, accepted_steps, departures_of}
 use Rattle.tap_history.specs.Published.{pairs_less, published_of, same_pair, without_servers}
 use Rattle.tap_history.specs.RecordLaws.{accepted_by, accepted_next}
-use Rattle.tap_history.specs.Steps.{actor_of, depart_name, is_start}
-use Rattle.tap_history.proofs.Growing.{accepted_steps-push, published_of-push}
+use Rattle.tap_history.specs.StepAsks.{actor_of, depart_name, is_start}
+use Rattle.tap_history.proofs.RecordChanges.{accepted_steps-push, published_of-push}
 use Rattle.tap_history.proofs.Less.{less_by-none}
-use Rattle.tap_safe_runs.proofs.Alone.{HasNoStartLast}
+use Rattle.tap_safe_runs.proofs.NeverAlone.{HasNoStartLast}
 
 -- ---- records that accept no start and tell of no pair
 

@@ -20,28 +20,28 @@ use Rattle.tap_rule.specs.Sent.{IsAmong}
 use Rattle.tap_safe_runs.proofs.Ended.{run_is_open}
 use Rattle.tap_safe_runs.proofs.Splits.{all_at, parted_where}
 use Rattle.tap_safety.specs.AtRest.{system_at_rest}
-use Rattle.tap_safety.specs.System.{Covers, IsUnderWay, System}
+use Rattle.tap_safety.specs.System.{CoversAt, IsUnderWay, System}
 use Rattle.tap_runs.specs.Beginning.{Beginning, begin_record}
 use Rattle.tap_runs.specs.Course.{system_of}
 use Rattle.tap_runs.specs.Observed.{nodes_of, pair_line}
 use Rattle.tap_pointer_moves.specs.Paths.{HoldsPair}
 use Rattle.tap_pointer_runs.specs.Paths.{IsPublishedIn, PointersOnTheirPaths}
 use Rattle.tap_lookup_runs.specs.Alone.{LookupsAloneAreExact}
-use Rattle.tap_lookup_runs.specs.Answers.{AnswersWerePublished}
+use Rattle.tap_lookup_runs.specs.LookupAnswers.{AnswersWerePublished}
 use Rattle.tap_lookup_runs.specs.NoServer.{AnsweredNoneWereDisturbed, LookupsEndWithoutServer}
 use Rattle.tap_lookup_runs.proofs.Endings.{disturbed_kept, ends_kept}
 use Rattle.tap_lookup_runs.proofs.Unanswered.{IsUnanswered}
 use Rattle.tap_cast_runs.specs.ReachAll.{CastsReachAll, HasReachedAll, ReachesWhomItHasTo, ReachesWhomItMay}
-use Rattle.tap_cast_runs.specs.Sessions.{AnswersAreAwaited, HasCastSession, HasJoinSession, RestHasNoCastSessions}
-use Rattle.tap_cast_runs.specs.Told.{closed_count, reached_count, says_closed, says_reached}
-use Rattle.tap_watch_runs.specs.Answers.{FirstCover, WatchMemory, had_primary, none_answered}
-use Rattle.tap_watch_runs.specs.Chains.{LeadsTo}
+use Rattle.tap_cast_runs.specs.AwaitedAnswers.{AnswersAreAwaited, HasCastSession, HasJoinSession, RestHasNoCastSessions}
+use Rattle.tap_cast_runs.specs.ReachedOnce.{closed_count, reached_count, says_closed, says_reached}
+use Rattle.tap_watch_runs.specs.SlotAnswers.{FirstCover, WatchMemory, had_primary, none_answered}
+use Rattle.tap_watch_runs.specs.Chains.{ChainLeadsTo}
 use Rattle.tap_watch_runs.specs.Clause.{CoreHasAnswersNow, WatchClauseHolds}
-use Rattle.tap_watch_runs.specs.Runs.{recalled_by, watches_after, watches_from, watches_of}
+use Rattle.tap_watch_runs.specs.Runs.{watch_recalled_by, watches_after, watches_from, watches_of}
 use Rattle.tap_watch_runs.specs.Watched.{CoveredFirst, IsAnswered}
-use Rattle.tap_watch_runs.proofs.Told.{told_longer}
+use Rattle.tap_watch_runs.proofs.ChainsTold.{told_longer}
 use Rattle.tap_headline.proofs.Ended.{IsEnded, IsPlain, one_plain, step_plain}
-use Rattle.tap_headline.proofs.Kept.{IsKept, each_group, rest_before}
+use Rattle.tap_headline.proofs.KeptByEnds.{IsKept, each_group, rest_before}
 use Rattle.tap_headline.proofs.Memory.{Remembers, memory_stays}
 
 -- ---- pointers
@@ -223,7 +223,7 @@ cast_sessions_stay b log ending ended moment none rest x node number at =
 
 -- ---- watch lists
 
-watches_remember : Remembers WatchMemory (λ p s r move. recalled_by s r move) watches_after
+watches_remember : Remembers WatchMemory (λ p s r move. watch_recalled_by s r move) watches_after
 watches_remember = record {
   stays = λ p s r. refl;
   none = λ p before s r. refl;
@@ -237,7 +237,7 @@ watches_begin b groups = refl
 
 same_watches : (b : Beginning) (log ending : List Record) → IsEnded b log ending → watches_of (log ++ ending) ≡ watches_of log
 same_watches b log ending ended =
-    memory_stays WatchMemory (λ p s r move. recalled_by s r move) watches_after watches_remember b log ending ended watches_from none_answered
+    memory_stays WatchMemory (λ p s r move. watch_recalled_by s r move) watches_after watches_remember b log ending ended watches_from none_answered
     (watches_begin b)
 
 -- a step alone says of nobody that it is core
@@ -255,11 +255,11 @@ watches_stay b log ending ended moment clause =
     let p = b.settings in
     let watches = same_watches b log ending ended in
     record {
-      first = subst (λ s. (w n : List ℕ) (level : ℕ) → Covers s w n level → CoveredFirst (watches_of (log ++ ending)) w n)
+      first = subst (λ s. (w n : List ℕ) (level : ℕ) → CoversAt s w n level → CoveredFirst (watches_of (log ++ ending)) w n)
           (sym ended.same.system)
-          (subst (λ r. (w n : List ℕ) (level : ℕ) → Covers (system_of log) w n level → CoveredFirst r w n) (sym watches) clause.first);
+          (subst (λ r. (w n : List ℕ) (level : ℕ) → CoversAt (system_of log) w n level → CoveredFirst r w n) (sym watches) clause.first);
       led = λ cover among.
-          subst (λ s. LeadsTo s cover.chain cover.table.owner cover.joiner cover.prefix) (sym ended.same.system)
+          subst (λ s. ChainLeadsTo s cover.chain cover.table.owner cover.joiner cover.prefix) (sym ended.same.system)
           (clause.led cover (same_cover b log ending ended cover among));
       told = λ cover among.
           told_longer p log ending cover.joiner cover.chain (clause.told cover (same_cover b log ending ended cover among));

@@ -10,7 +10,7 @@ use Rattle.tap_history.specs.Core.{abandoned_of, accepted_steps, core_of, gone_o
 use Rattle.tap_history.specs.Moments.{outstanding}
 use Rattle.tap_history.specs.Published.{published_of}
 use Rattle.tap_history.specs.Refusals.{first_refusal}
-use Rattle.tap_history.specs.Steps.{is_start}
+use Rattle.tap_history.specs.StepAsks.{is_start}
 use Rattle.tap_runs.specs.Beginning.{Beginning}
 use Rattle.tap_runs.specs.Course.{system_of}
 use Rattle.tap_safe_runs.specs.Safe.{IsRun}

@@ -5,19 +5,19 @@ use Rattle.std.specs.Prelude.{List, ◌++◌}
 use Rattle.tap_name.specs.Settings.{SettingsValue}
 use Rattle.tap_log.specs.declared.record.Record.{Record}
 use Rattle.tap_runs.specs.Beginning.{Beginning}
-use Rattle.tap_safe_runs.specs.Headline.{AtMomentsOf, IsSafeThroughout}
+use Rattle.tap_safe_runs.specs.SafeLogs.{AtMomentsOf, IsSafeThroughout}
 use Rattle.tap_safe_runs.specs.Safe.{IsRun}
 use Rattle.tap_pointer_runs.specs.Paths.{PointersOnTheirPaths}
 use Rattle.tap_lookup_runs.specs.Alone.{LookupsAloneAreExact}
-use Rattle.tap_lookup_runs.specs.Answers.{AnswersWerePublished}
+use Rattle.tap_lookup_runs.specs.LookupAnswers.{AnswersWerePublished}
 use Rattle.tap_lookup_runs.specs.NoServer.{AnsweredNoneWereDisturbed, LookupsEndWithoutServer}
 use Rattle.tap_cast_runs.specs.ReachAll.{CastsReachAll}
-use Rattle.tap_cast_runs.specs.Sessions.{AnswersAreAwaited, RestHasNoCastSessions}
+use Rattle.tap_cast_runs.specs.AwaitedAnswers.{AnswersAreAwaited, RestHasNoCastSessions}
 use Rattle.tap_watch_runs.specs.Clause.{WatchClauseHolds}
 use Rattle.tap_bounds_runs.specs.AtRest.{LookupsAtRestSendFew, PublicationsAtRestSendFew}
 use Rattle.tap_bounds_runs.specs.Joins.{JoinsSendFew}
 use Rattle.tap_headline.specs.Endings.{MayEnd}
-use Rattle.tap_headline.specs.Sound.{FramesAreReceivedIn, HasInvariant}
+use Rattle.tap_headline.specs.HasInvariant.{FramesAreReceivedIn, HasInvariant}
 
 -- The headline, at each moment of the log. The whole invariant holds of its nodes, and each frame that was taken was received by a node to
 -- which it wasn't strange. It is safe: there is a core node, no table has a hole, walks lead to the one root, and at rest who is

@@ -3,4 +3,4 @@ pub mod LastRecord
 pub mod Printable
 pub mod Endings
 pub mod Headline
-pub mod Sound
+pub mod HasInvariant

@@ -6,8 +6,8 @@ use Rattle.std.proofs.lemmas.List.Folds.{list_any-append}
 use Rattle.tap_log.specs.declared.record.Record.{Record}
 use Rattle.tap_log.specs.declared.record.Record.TheVariants.{Arrived, Packet}
 use Rattle.tap_log.specs.Kinds.{arrived_number, sent_number}
-use Rattle.tap_log.specs.Laws.{at_most_one}
-use Rattle.tap_log.proofs.Growing.{filter_map-push, filter_map-same}
+use Rattle.tap_log.specs.MoreRecords.{at_most_one}
+use Rattle.tap_log.proofs.MoreRecords.{filter_map-push, filter_map-same}
 use Rattle.tap_history.specs.Moments.{acknowledged, acknowledged_by, acknowledged_by_all, awaiting, has_number, numbers_less}
 use Rattle.tap_history.proofs.Less.{filter-twice, less_by-more, not_or}
 

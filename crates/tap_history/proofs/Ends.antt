@@ -12,7 +12,7 @@ use Rattle.tap_log.specs.Kinds.{begins_group, is_carried}
 use Rattle.tap_history.specs.Moments.{beginning, ends_before, has_number, is_group_end, is_moment}
 use Rattle.tap_history.specs.Groups.{EachGroup, EachGroupFrom, after_beginning, beginning_of, ends_from, groups_of, is_ended, moments_of, parted, records_of, with_record}
 use Rattle.tap_history.specs.GroupLaws.{IsGroup, IsOpened, LogInGroups}
-use Rattle.tap_log.proofs.Growing.{carried_alone, carried_third}
+use Rattle.tap_log.proofs.MoreRecords.{carried_alone, carried_third}
 use Rattle.tap_history.proofs.OneMoreGroup.{beginning_size, carried_size, is_carried-group, is_moment-earlier, is_moment-end, is_moment-within}
 use Rattle.tap_history.proofs.Parts.{groups_of-ended, is_ended-drop, log_is_groups, log_is_parts, without_ending-all, groups_of-group}
 

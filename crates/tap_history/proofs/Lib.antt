@@ -1,5 +1,5 @@
 pub mod OneMoreGroup
-pub mod Growing
+pub mod RecordChanges
 pub mod Instants
 pub mod Less
 pub mod Acknowledging

@@ -15,11 +15,11 @@ use Rattle.tap_history.specs.GroupLaws.{IsNumbered, NumbersOn, ArePacketsNumbere
 use Rattle.tap_history.proofs.Less.{less_by-more}
 use Rattle.tap_log.specs.declared.record.Record.TheVariants.{Arrived, Lost, Packet}
 use Rattle.tap_log.specs.Frames.{bytes_of}
-use Rattle.tap_log.specs.Laws.{first_of_both}
-use Rattle.tap_log.proofs.Growing.{bytes_of-append, packet_count-append, sent_count-append}
+use Rattle.tap_log.specs.MoreRecords.{first_of_both}
+use Rattle.tap_log.proofs.MoreRecords.{bytes_of-append, packet_count-append, sent_count-append}
 use Rattle.tap_history.specs.Flights.{bytes_at}
 use Rattle.tap_history.proofs.Acknowledging.{unacknowledged-twice}
-use Rattle.tap_history.proofs.Growing.{bytes_at-by}
+use Rattle.tap_history.proofs.RecordChanges.{bytes_at-by}
 
 -- ---- numbers
 

@@ -12,13 +12,13 @@ use Rattle.std.proofs.lemmas.Option.{slice_get_cases, slice_get_past}
 use Rattle.tap_log.specs.declared.record.Record.{Record}
 use Rattle.tap_log.specs.declared.record.Record.TheVariants.{Begin, Carrier, Refused, Spent}
 use Rattle.tap_log.specs.Kinds.{accepts, begins_group, is_carried, step_of}
-use Rattle.tap_history.specs.Steps.{depart_name}
+use Rattle.tap_history.specs.StepAsks.{depart_name}
 use Rattle.tap_history.specs.Moments.{beginning, ends_before, is_moment, is_still}
 use Rattle.tap_history.specs.Core.{accepted_in, accepted_step}
 use Rattle.tap_history.specs.Departing.{departing_of, is_still_moment, last_still, still_moments}
 use Rattle.tap_history.specs.GroupLaws.{IsGroup, OneMoreGroup, departing_after}
-use Rattle.tap_log.proofs.Growing.{carried_alone, carried_none, carried_third}
-use Rattle.tap_history.proofs.Growing.{one_before}
+use Rattle.tap_log.proofs.MoreRecords.{carried_alone, carried_none, carried_third}
+use Rattle.tap_history.proofs.RecordChanges.{one_before}
 use Rattle.tap_history.proofs.Stepwise.{last_passes, last_stays, passing_more}
 
 -- ---- places of a longer list

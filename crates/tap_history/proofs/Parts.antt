@@ -11,7 +11,7 @@ use Rattle.tap_history.specs.Moments.{beginning, ends_before}
 use Rattle.tap_log.specs.Log.{last_of}
 use Rattle.tap_history.specs.Groups.{EachGroup, EachGroupFrom, after_beginning, beginning_of, can_be_cut, ending_of, ends_log, groups_of, is_ended, is_ending, is_lengthened, is_spent, parted, records_of, with_record, without_ending, ending_among}
 use Rattle.tap_history.specs.GroupLaws.{IsGroup}
-use Rattle.tap_log.proofs.Growing.{carried_alone, carried_second, carried_third}
+use Rattle.tap_log.proofs.MoreRecords.{carried_alone, carried_second, carried_third}
 use Rattle.tap_history.proofs.OneMoreGroup.{beginning_size, carried_size, is_carried-group}
 
 -- ---- the ending

@@ -9,13 +9,13 @@ use Rattle.tap_scenario.specs.declared.step.Step.{Step}
 use Rattle.tap_log.specs.declared.record.Pair.{Pair}
 use Rattle.tap_log.specs.declared.record.Record.{Record}
 use Rattle.tap_log.specs.Kinds.{abandoned_name, core_name, gone_name, is_carried, published_pair, withdrawn_pair}
-use Rattle.tap_history.specs.Steps.{depart_name, join_name}
+use Rattle.tap_history.specs.StepAsks.{depart_name, join_name}
 use Rattle.tap_history.specs.Core.{accepted_in, accepted_steps, core_of, departures_of, gone_of, present_of, joins_of, members_of}
 use Rattle.tap_name.specs.Names.{has_name, names_without}
 use Rattle.tap_history.specs.Published.{has_pair, pairs_less, published_of, same_pair, unwithdrawn_pair, unwithdrawn_pairs, without_servers}
 use Rattle.tap_history.specs.Names.{names_of, with_name}
 use Rattle.tap_history.specs.GroupLaws.{GroupChanges, IsGroup, accepted_of}
-use Rattle.tap_history.proofs.Growing.{came-push, one_before, pair_cases, servers-more}
+use Rattle.tap_history.proofs.RecordChanges.{came-push, one_before, pair_cases, servers-more}
 use Rattle.tap_history.proofs.Numbering.{awaiting-group, ceased-group, numbered-group, outstanding-group, packets_numbered-group, places-group, under_way-group}
 use Rattle.tap_history.proofs.Less.{filter-swaps}
 use Rattle.tap_history.proofs.OneMoreGroup.{accepted_in-group, is_carried-group}

@@ -5,7 +5,7 @@ use Rattle.tap_name.specs.Names.{has_name, names_without}
 use Rattle.tap_scenario.specs.declared.step.Step.{Step}
 use Rattle.tap_log.specs.declared.record.Record.{Record}
 use Rattle.tap_log.specs.Kinds.{abandoned_name, accepts, begin_members, core_name, gone_name, is_carried, step_of}
-use Rattle.tap_history.specs.Steps.{depart_name, join_name}
+use Rattle.tap_history.specs.StepAsks.{depart_name, join_name}
 
 -- each record with the next one
 abbrev pub neighbours : List Record → List (Record × Record)

@@ -3,7 +3,7 @@ use Rattle.std.specs.Prelude.{ℕ, Bool, ◌&&◌, List, length, take, drop, fil
 use Rattle.std.specs.List.{filter_map, last_or, range_with_len}
 use Rattle.tap_log.specs.declared.record.Record.{Record}
 use Rattle.tap_log.specs.Kinds.{is_carried}
-use Rattle.tap_history.specs.Steps.{depart_name}
+use Rattle.tap_history.specs.StepAsks.{depart_name}
 use Rattle.tap_history.specs.Moments.{is_moment, is_still}
 use Rattle.tap_history.specs.Core.{accepted_in}
 

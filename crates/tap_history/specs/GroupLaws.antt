@@ -6,7 +6,7 @@ use Rattle.tap_scenario.specs.declared.step.Step.{Step}
 use Rattle.tap_log.specs.declared.record.Record.{Record}
 use Rattle.tap_log.specs.declared.record.Record.TheVariants.{Begin, Carrier}
 use Rattle.tap_log.specs.Kinds.{arrived_number, asked_ticket, begins_group, core_name, ended_number, is_carried, packet_number, packet_frame, sent_number, taken_number, withdrawn_pair}
-use Rattle.tap_history.specs.Steps.{depart_name, join_name}
+use Rattle.tap_history.specs.StepAsks.{depart_name, join_name}
 use Rattle.tap_history.specs.Moments.{acknowledged_by_all, awaiting, ends_before, has_number, is_moment, is_still, numbers_less, outstanding, under_way}
 use Rattle.tap_log.specs.Log.{last_of}
 use Rattle.tap_history.specs.Core.{abandoned_of, accepted_in, ceased_of, core_of, departures_of, gone_of, present_of}
@@ -17,7 +17,7 @@ use Rattle.tap_log.specs.Counts.{packet_count, sent_count, ticket_count}
 use Rattle.tap_history.specs.Groups.{after_beginning, beginning_of, ending_of, groups_of, is_ended, is_ending, is_lengthened, moments_of, records_of}
 use Rattle.tap_history.specs.Names.{names_of, with_name}
 use Rattle.tap_log.specs.Frames.{bytes_of}
-use Rattle.tap_log.specs.Laws.{first_of_both}
+use Rattle.tap_log.specs.MoreRecords.{first_of_both}
 use Rattle.tap_history.specs.Flights.{bytes_at}
 
 -- the records of one group, after a log that has begun: the first one begins the group, and no later one begins another

@@ -4,7 +4,7 @@ use Rattle.tap_log.specs.declared.record.Record.{Record}
 use Rattle.tap_log.specs.declared.record.Record.TheVariants.{Step as StepRecord, Spent, Finished, Arrived}
 use Rattle.tap_log.specs.Kinds.{is_carried}
 use Rattle.tap_history.specs.Moments.{beginning, ends_before}
-use Rattle.tap_history.specs.Steps.{is_start}
+use Rattle.tap_history.specs.StepAsks.{is_start}
 
 -- the beginning: `Begin`, and `Carrier` if the log is carried
 abbrev pub beginning_of : List Record → List Record

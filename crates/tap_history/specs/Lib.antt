@@ -1,4 +1,4 @@
-pub mod Steps
+pub mod StepAsks
 pub mod Core
 pub mod Moments
 pub mod Groups

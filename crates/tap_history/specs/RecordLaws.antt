@@ -6,9 +6,9 @@ use Rattle.tap_scenario.specs.declared.step.Step.{Step}
 use Rattle.tap_log.specs.declared.record.Record.{Record}
 use Rattle.tap_log.specs.declared.record.Record.TheVariants.{Arrived, Begin, Carrier}
 use Rattle.tap_log.specs.Kinds.{abandoned_name, arrived_number, begin_members, core_name, ended_number, gone_name, is_carried, packet_number, published_pair, sent_number, taken_number, withdrawn_pair}
-use Rattle.tap_history.specs.Steps.{depart_name, join_name}
+use Rattle.tap_history.specs.StepAsks.{depart_name, join_name}
 use Rattle.tap_history.specs.Moments.{acknowledged, acknowledged_by, acknowledged_by_all, awaiting, numbers_less, outstanding, under_way}
-use Rattle.tap_log.specs.Laws.{at_most_one, first_of_both}
+use Rattle.tap_log.specs.MoreRecords.{at_most_one, first_of_both}
 use Rattle.tap_log.specs.Frames.{bytes_of, sent_bytes}
 use Rattle.tap_history.specs.Flights.{bytes_at}
 use Rattle.tap_log.specs.Log.{last_of}
@@ -28,7 +28,7 @@ abbrev pub accepted_by : List Record → Record → List Step
 accepted_by log item = accepted_next (is_carried log) (last_of log) item
 
 -- what holds of a log that has its beginning alone: the members are core and present, and nothing has happened
-pub record IsNew (members : List (List ℕ)) (log : List Record) : Type 0 where
+pub record IsNewLog (members : List (List ℕ)) (log : List Record) : Type 0 where
   pub accepted : accepted_steps log ≡ []
   pub core : core_of log ≡ members
   pub present : present_of log ≡ members
@@ -38,9 +38,9 @@ pub record IsNew (members : List (List ℕ)) (log : List Record) : Type 0 where
 
 -- The beginning gives the members. Of one more record, which gives none, what it tells is added, and what it ends is taken away.
 pub record RecordChanges : Type 0 where
-  pub begins : (settings : SettingsValue) (frames : ℕ) (members : List (List ℕ)) → IsNew members (Begin settings frames members ∷ [])
+  pub begins : (settings : SettingsValue) (frames : ℕ) (members : List (List ℕ)) → IsNewLog members (Begin settings frames members ∷ [])
   pub begins_carried : (settings : SettingsValue) (frames : ℕ) (members : List (List ℕ))
-      → IsNew members (Begin settings frames members ∷ Carrier ∷ [])
+      → IsNewLog members (Begin settings frames members ∷ Carrier ∷ [])
   pub accepted : (log : List Record) (item : Record)
       → accepted_steps (log ++ item ∷ []) ≡ accepted_steps log ++ accepted_by log item
   pub core : (log : List Record) (item : Record) → begin_members item ≡ []

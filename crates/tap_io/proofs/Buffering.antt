@@ -5,7 +5,7 @@ use Rattle.std.proofs.Math.Seq.{take-append_seam, take-length}
 use Rattle.std.proofs.lemmas.List.{append_cancel_left, take-take}
 use Rattle.std.specs.Io.KnownBytes.{Appends, append_known}
 use Rattle.tap_io.specs.BufferedSink.{Flushes, state_over}
-use Rattle.tap_io.specs.Sink.{AppendsPrefixOf, Follows, Grows, SinkState, Writes}
+use Rattle.tap_io.specs.Sink.{AppendsPrefixOf, Grows, IsAfterWrites, SinkState, Writes}
 use Rattle.tap_io.specs.declared.buffered_sink.Flushed.TheVariants.{All}
 use Rattle.tap_io.specs.declared.sink.Took.{Took}
 use Rattle.tap_io.specs.declared.sink.Took.TheVariants.{Took as TookBytes, Failed}
@@ -17,8 +17,8 @@ Grows-by_write old new bytes (TookBytes n) w = (take n bytes, w.answer.appends)
 Grows-by_write old new bytes Failed w = ([], Appends-kept old.held old.held new.held [] (Appends-nil old.held) w.answer.kept)
 
 -- A sink over another one goes on where that one does.
-pub Follows-over : (old new : SinkState) (name name_now : ℕ) (was is : List ℕ) → name_now ≡ name → Grows old.held new.held → Follows old new
-    → Follows (state_over old name was) (state_over new name_now is)
+pub Follows-over : (old new : SinkState) (name name_now : ℕ) (was is : List ℕ) → name_now ≡ name → Grows old.held new.held → IsAfterWrites old new
+    → IsAfterWrites (state_over old name was) (state_over new name_now is)
 Follows-over old new name name_now was is same grows follows = record { later = follows.later; behind = (same, grows, follows.behind) }
 
 -- Bytes that come to those that wait are taken.

@@ -1,7 +1,7 @@
 -- The states of a sink, one after another.
 use Rattle.std.proofs.Common.{ℕ, List, [], ◌∷◌, ◌++◌, Option, refl, ◌∙◌, arith}
 use Rattle.std.proofs.KnownBytes.{Appends-nil, Appends-trans}
-use Rattle.tap_io.specs.Sink.{EachGrows, Follows, Grows, SinkBehind, SinkState}
+use Rattle.tap_io.specs.Sink.{EachGrows, Grows, IsAfterWrites, SinkBehind, SinkState}
 
 -- Known bytes grow twice.
 pub Grows-trans : (old mid new : Option (List ℕ)) → Grows old mid → Grows mid new → Grows old new
@@ -21,10 +21,10 @@ EachGrows-trans (x ∷ xs) (y ∷ ys) (z ∷ zs) p q =
     (q.0 ∙ p.0, Grows-trans x.held y.held z.held p.1 q.1, EachGrows-trans xs ys zs p.2 q.2)
 
 -- A sink to which nothing was written goes on as it is.
-pub Follows-refl : (state : SinkState) → Follows state state
+pub Follows-refl : (state : SinkState) → IsAfterWrites state state
 Follows-refl state = record { later = omega arith; behind = EachGrows-refl state.behind }
 
 -- Some writes, and then some more.
-pub Follows-trans : (old mid new : SinkState) → Follows old mid → Follows mid new → Follows old new
+pub Follows-trans : (old mid new : SinkState) → IsAfterWrites old mid → IsAfterWrites mid new → IsAfterWrites old new
 Follows-trans old mid new p q =
     record { later = omega (arith, p.later, q.later); behind = EachGrows-trans old.behind mid.behind new.behind p.behind q.behind }

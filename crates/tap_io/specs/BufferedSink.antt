@@ -2,7 +2,7 @@
 use Rattle.std.specs.Prelude.{◌≡◌, ◌≤◌, ◌<◌, ℕ, List, [], ◌∷◌, ◌++◌, length, take}
 use Rattle.std.specs.Io.KnownBytes.{Appends, append_known}
 use Rattle.tap_io.specs.Faults.{HasRisen}
-use Rattle.tap_io.specs.Sink.{Follows, SinkState}
+use Rattle.tap_io.specs.Sink.{IsAfterWrites, SinkState}
 use Rattle.tap_io.specs.declared.buffered_sink.BufferedSink.{BufferedSink}
 use Rattle.tap_io.specs.declared.buffered_sink.Flushed.{Flushed}
 use Rattle.tap_io.specs.declared.buffered_sink.Flushed.TheVariants.{All, Failed}
@@ -25,7 +25,7 @@ buffered_state state b = state_over (state b.inner.now) b.inner.ghost_name b.wai
 pub record WritesFirst (old new : SinkState) (text : List ℕ) (count : ℕ) : Type 0 where
   pub within : count ≤ length text
   pub appends : Appends old.held new.held (take count text)
-  pub follows : Follows old new
+  pub follows : IsAfterWrites old new
   pub whole : count ≡ length text → new.faults ≡ old.faults
   pub short : count < length text → HasRisen old.faults new.faults
 
@@ -37,5 +37,5 @@ FlushesAs old new was is Failed =
 
 -- the sink goes on, and the answer says what else came about
 pub record Flushes (old new : SinkState) (was is : List ℕ) (flushed : Flushed) : Type 0 where
-  pub follows : Follows old new
+  pub follows : IsAfterWrites old new
   pub answer : FlushesAs old new was is flushed

@@ -30,7 +30,7 @@ EachGrows (x ∷ xs) (y ∷ ys) = (y.name ≡ x.name) × Grows x.held y.held × 
 
 -- The state of a sink after some writes, whatever came of them: the count of faults doesn't fall, and the sinks behind it
 -- are the same, and what they hold grows.
-pub record Follows (old new : SinkState) : Type 0 where
+pub record IsAfterWrites (old new : SinkState) : Type 0 where
   pub later : old.faults ≤ new.faults
   pub behind : EachGrows old.behind new.behind
 
@@ -48,7 +48,7 @@ WritesAs old new bytes Failed = Fails old.held new.held old.faults new.faults
 
 -- The sink goes on, and the answer says what else came about.
 pub record Writes (old new : SinkState) (bytes : List ℕ) (took : Took) : Type 0 where
-  pub follows : Follows old new
+  pub follows : IsAfterWrites old new
   pub answer : WritesAs old new bytes took
 
 -- the count of faults after an answer, of a sink that counts each failed write and nothing else

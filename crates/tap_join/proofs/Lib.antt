@@ -3,4 +3,4 @@ pub mod NewKinds
 pub mod Greetings
 pub mod Words
 pub mod Seeking
-pub mod Told
+pub mod TellsNew

@@ -8,7 +8,7 @@ use Rattle.tap_name.specs.declared.slot.Offered.{Offered}
 use Rattle.tap_table.specs.declared.tie.Tie.{Tie}
 use Rattle.tap_table.specs.Table.{has_room_near, kind_in}
 use Rattle.tap_table.specs.Ties.{TiesValue, stamp_after, tie_where}
-use Rattle.tap_table.proofs.Steps.{added, drop_got}
+use Rattle.tap_table.proofs.OneAdded.{added, drop_got}
 use Rattle.tap_join.specs.Hello.{after_links, is_own, links_tell, offered_tells, with_offered, words_of}
 
 -- the stamp after a word stands one further, and without one where it stood

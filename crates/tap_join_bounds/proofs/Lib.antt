@@ -1,6 +1,6 @@
-pub mod Alone
+pub mod JoinRules
 pub mod Made
-pub mod Kept
+pub mod JoinsKept
 pub mod OfJoins
 pub mod Words
 pub mod Links
@@ -8,5 +8,5 @@ pub mod LinkSteps
 pub mod LinkMoves
 pub mod Releases
 pub mod ReleaseMoves
-pub mod Named
+pub mod NamedFew
 pub mod LinkRuns

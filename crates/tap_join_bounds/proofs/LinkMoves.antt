@@ -22,8 +22,8 @@ use Rattle.tap_rule.proofs.Cases.IsParting.{OneLeft}
 use Rattle.tap_rule.proofs.Cases.RuleCase.{CoveredBefore, CoversAlone, CoversOn, DropsLeaver, GreetedBefore, Greets, HasCeased, IsForgottenBy, IsGoneNow, IsGreeted, IsReleased, MarksLeaver}
 use Rattle.tap_rule.proofs.EachRule.{each_rule}
 use Rattle.tap_rule.specs.Joining.{takes_hello}
-use Rattle.tap_rule.specs.Kept.{IsNode}
-use Rattle.tap_rule.specs.Laws.{frame_to}
+use Rattle.tap_rule.specs.KeptNode.{IsNode}
+use Rattle.tap_rule.specs.RuleLaws.{frame_to}
 use Rattle.tap_rule.specs.Node.{NodeState, Status, joiner, name_of}
 use Rattle.tap_rule.specs.Node.Status.{Core}
 use Rattle.tap_rule.specs.Reaction.{Reaction}
@@ -45,8 +45,8 @@ use Rattle.tap_safety_moves.proofs.Delivered.{is_delivery}
 use Rattle.tap_bounds.specs.Traffic.{Traffic, traffic_after}
 use Rattle.tap_bounds.proofs.Counting.{count-cons}
 use Rattle.tap_join_bounds.specs.OfJoins.{IsJoinBody}
-use Rattle.tap_join_bounds.proofs.Alone.{IsJoinStep, IsPlainNode, JoinsOrIsCore, rule_joins}
-use Rattle.tap_join_bounds.proofs.Kept.{AreOfJoins, joining_is_new, of_frame, of_joiner}
+use Rattle.tap_join_bounds.proofs.JoinRules.{IsJoinStep, IsPlainNode, JoinsOrIsCore, rule_joins}
+use Rattle.tap_join_bounds.proofs.JoinsKept.{AreOfJoins, joining_is_new, of_frame, of_joiner}
 use Rattle.tap_join_bounds.proofs.Links.{IsPinning, LinksStep, hello_links, is_naming, names_in, pins_links, releases_links, still}
 use Rattle.tap_join_bounds.proofs.LinkSteps.{ActsOnLinks, LinksAreFew, acts_on_links, ignored_on_links, links_kept, may_become}
 use Rattle.tap_join_bounds.proofs.Made.{delivery_made, join_made}

@@ -15,24 +15,24 @@ use Rattle.tap_safety.specs.Moved.{moved}
 use Rattle.tap_safety.specs.Seeking.{HasNode}
 use Rattle.tap_safety.specs.System.{System}
 use Rattle.tap_safety.specs.Ties.{link_in, status_in}
-use Rattle.tap_safety_moves.specs.Moves.{after_moves, may_run}
+use Rattle.tap_safety_moves.specs.SoundMoves.{after_moves, may_run}
 use Rattle.tap_safety_moves.specs.Sound.{Sound}
 use Rattle.tap_safety_moves.proofs.Consequences.{nothing_is_left}
 use Rattle.tap_safety_moves.proofs.Members.{sound_at_rest}
-use Rattle.tap_safety_moves.proofs.Moves.{move_keeps}
+use Rattle.tap_safety_moves.proofs.SoundMoves.{move_keeps}
 use Rattle.tap_bounds.specs.Hellos.{HellosOnce}
-use Rattle.tap_bounds.specs.Moves.{traffic_of}
+use Rattle.tap_bounds.specs.FewSent.{traffic_of}
 use Rattle.tap_bounds.specs.Taken.{AllAreKnown}
 use Rattle.tap_bounds.specs.Traffic.{Traffic, no_traffic, traffic_after}
 use Rattle.tap_bounds.proofs.HelloMoves.{few_are_once, run_hellos_few}
-use Rattle.tap_bounds.proofs.Taken.{run_knows_all}
+use Rattle.tap_bounds.proofs.KnownTaken.{run_knows_all}
 use Rattle.tap_join_bounds.specs.LinkBounds.{LinkFramesAreFew, RunLinksFew, is_link_on}
 use Rattle.tap_join_bounds.specs.OfJoins.{IsOfJoin, JoinsAlone}
-use Rattle.tap_join_bounds.proofs.Kept.{AreOfJoins}
+use Rattle.tap_join_bounds.proofs.JoinsKept.{AreOfJoins}
 use Rattle.tap_join_bounds.proofs.Links.{is_naming, most_for, most_new}
 use Rattle.tap_join_bounds.proofs.LinkMoves.{delivery_links, join_links}
 use Rattle.tap_join_bounds.proofs.LinkSteps.{LinksAreFew}
-use Rattle.tap_join_bounds.proofs.Named.{named_few}
+use Rattle.tap_join_bounds.proofs.NamedFew.{named_few}
 use Rattle.tap_join_bounds.proofs.OfJoins.{move_of_joins, of_joins_at_rest}
 use Rattle.tap_join_bounds.proofs.ReleaseMoves.{ReleasesAreFew, delivery_releases, join_releases, owed_in}
 use Rattle.tap_join_bounds.proofs.Words.{if_pinned, linked_most}

@@ -15,7 +15,7 @@ use Rattle.tap_wire.specs.declared.frame.Body.{Body}
 use Rattle.tap_wire.specs.declared.frame.Body.TheVariants.{Link}
 use Rattle.tap_wire.specs.declared.frame.Frame.{Frame}
 use Rattle.tap_rule.specs.Event.{Acted}
-use Rattle.tap_rule.specs.Laws.{IsCarriedOut, IsIgnored, lays_for}
+use Rattle.tap_rule.specs.RuleLaws.{IsCarriedOut, IsIgnored, lays_for}
 use Rattle.tap_rule.specs.Node.{IsRunning, NodeState, Status, link_to, name_of}
 use Rattle.tap_rule.specs.Node.Status.{Ceased, Core, Gone, Joining, Leaving}
 use Rattle.tap_rule.specs.Reaction.{Message, Reaction}
@@ -26,8 +26,8 @@ use Rattle.tap_moves.proofs.Got.{same_name}
 use Rattle.tap_bounds.specs.Traffic.{Traffic}
 use Rattle.tap_bounds.proofs.Counting.{count-append, count-cons, count-map_none, count-none}
 use Rattle.tap_join_bounds.specs.LinkBounds.{is_link_off, is_link_on, links_off, links_on}
-use Rattle.tap_join_bounds.proofs.Alone.{AreJoinMessages, IsJoinMessage, IsJoinStep, JoinsOrIsCore}
-use Rattle.tap_join_bounds.proofs.Kept.{runs_on}
+use Rattle.tap_join_bounds.proofs.JoinRules.{AreJoinMessages, IsJoinMessage, IsJoinStep, JoinsOrIsCore}
+use Rattle.tap_join_bounds.proofs.JoinsKept.{runs_on}
 use Rattle.tap_join_bounds.proofs.Links.{LinksStep, MayBecome, is_naming, more_for_status, most_for}
 use Rattle.tap_join_bounds.proofs.Made.{IsMade}
 use Rattle.tap_join_bounds.proofs.Words.{apart_test, if_pinned, off_to, on_to, same_test, says_off_to, says_on_to}

@@ -17,7 +17,7 @@ use Rattle.tap_rule.specs.Joining.{takes_hello}
 use Rattle.tap_rule.specs.Links.{takes_release}
 use Rattle.tap_rule.specs.Node.{NodeState, Status, link_to, name_of, settings_of}
 use Rattle.tap_rule.specs.Node.Status.{Ceased, Core, Gone, Joining, Leaving}
-use Rattle.tap_rule.specs.Kept.{IsNode}
+use Rattle.tap_rule.specs.KeptNode.{IsNode}
 use Rattle.tap_rule.specs.Reaction.{Reaction, pin_word}
 use Rattle.tap_safety.specs.System.{System}
 use Rattle.tap_safety.specs.Ties.{status_in}

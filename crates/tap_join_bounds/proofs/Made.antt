@@ -7,22 +7,22 @@ use Rattle.tap_rule.specs.Act.{act}
 use Rattle.tap_rule.specs.Event.{Acted}
 use Rattle.tap_rule.specs.Event.Event.{Starts}
 use Rattle.tap_rule.specs.Event.Start.{Join}
-use Rattle.tap_rule.specs.Laws.{frame_to}
+use Rattle.tap_rule.specs.RuleLaws.{frame_to}
 use Rattle.tap_rule.specs.Node.{NodeState, joiner, name_of}
 use Rattle.tap_rule.specs.Sent.{IsAmong}
 use Rattle.tap_safety.specs.Move.Move.{Begins, Delivers}
 use Rattle.tap_safety.specs.SessionSteps.{Exchanges}
-use Rattle.tap_safety.specs.Step.{HasSent, numbered_from}
+use Rattle.tap_safety.specs.Exchanges.{HasSent, numbered_from}
 use Rattle.tap_safety.specs.System.{System, AmongFrames}
-use Rattle.tap_safety.proofs.Moves.{starts}
-use Rattle.tap_safety.proofs.Told.{among_either, among_numbered, among_right, among_sent}
+use Rattle.tap_safety.proofs.Moved.{starts}
+use Rattle.tap_safety.proofs.UnderWay.{among_either, among_numbered, among_right, among_sent}
 use Rattle.tap_moves.specs.ByRule.{taken_at}
 use Rattle.tap_moves.specs.Delivered.{IsArriving, after_delivery, after_start}
 use Rattle.tap_moves.specs.InvariantLaws.{IsDelivery}
 use Rattle.tap_moves.proofs.Exchanged.{exchanges}
 use Rattle.tap_moves.proofs.InvariantMoves.{due}
 use Rattle.tap_moves.proofs.MovesMade.{by_rule, is_found}
-use Rattle.tap_bounds.specs.Traffic.{Traffic, sent_by, taken_by, traffic_after}
+use Rattle.tap_bounds.specs.Traffic.{Traffic, frames_taken_by, sent_by, traffic_after}
 
 -- The node of a name does this, no other changes; these frames are taken, and those that it sends are under way.
 pub record IsMade (s s' : System) (r r' : Traffic) (own : List ℕ) (acted : Acted) (frames : List Frame) : Type 0 where
@@ -47,8 +47,8 @@ module _ (p : SettingsValue) (s : System) (r : Traffic) (number : ℕ) (node : N
   unfolding sent_by
   sent_is = rw (is_found p s number node from body comes, is.at) refl
 
-  taken_is : taken_by s (Delivers number) ≡ frame_to node from body ∷ []
-  unfolding taken_by
+  taken_is : frames_taken_by s (Delivers number) ≡ frame_to node from body ∷ []
+  unfolding frames_taken_by
   taken_is = rw (is_found p s number node from body comes) refl
 
   exchange : Exchanges s (after_delivery p s number) number (frame_to node from body) (numbered_from s.next sent)
@@ -80,8 +80,8 @@ module _ (p : SettingsValue) (s : System) (r : Traffic) (x via : List ℕ) where
   unfolding sent_by
   begun_is = refl
 
-  none_taken : taken_by s (Begins x (Join via)) ≡ []
-  unfolding taken_by
+  none_taken : frames_taken_by s (Begins x (Join via)) ≡ []
+  unfolding frames_taken_by
   none_taken = refl
 
   has_sent : HasSent s (after_start p s x (Join via)) begun.sent

@@ -12,7 +12,7 @@ use Rattle.tap_rule.specs.Event.Event.{Starts, Takes}
 use Rattle.tap_rule.specs.Event.Start.{Join}
 use Rattle.tap_rule.specs.FrameRules.{rule_of_frame}
 use Rattle.tap_rule.specs.Joining.{starts_join}
-use Rattle.tap_rule.specs.Laws.{IsCarriedOut, frame_to}
+use Rattle.tap_rule.specs.RuleLaws.{IsCarriedOut, frame_to}
 use Rattle.tap_rule.specs.Node.{NodeState, joiner, member_at_rest, name_of}
 use Rattle.tap_rule.specs.Reaction.{Reaction, message}
 use Rattle.tap_rule.specs.Strange.{is_strange}
@@ -24,16 +24,16 @@ use Rattle.tap_safety.specs.Moved.{moved}
 use Rattle.tap_safety.specs.System.{System, AmongFrames}
 use Rattle.tap_safety.proofs.Said.{said_of}
 use Rattle.tap_moves.specs.ByRule.{taken_at}
-use Rattle.tap_safety_moves.specs.Moves.{after_moves, may_run}
+use Rattle.tap_safety_moves.specs.SoundMoves.{after_moves, may_run}
 use Rattle.tap_safety_moves.specs.Sound.{Sound}
 use Rattle.tap_safety_moves.proofs.Members.{sound_at_rest}
-use Rattle.tap_safety_moves.proofs.Moves.{move_keeps}
+use Rattle.tap_safety_moves.proofs.SoundMoves.{move_keeps}
 use Rattle.tap_safety_moves.proofs.Delivered.{is_delivery}
-use Rattle.tap_bounds.specs.Moves.{traffic_of}
+use Rattle.tap_bounds.specs.FewSent.{traffic_of}
 use Rattle.tap_bounds.specs.Traffic.{Traffic, no_traffic, traffic_after}
 use Rattle.tap_join_bounds.specs.OfJoins.{IsJoinBody, IsOfJoin, JoinsAlone, RunSentAreOfJoins}
-use Rattle.tap_join_bounds.proofs.Alone.{IsJoinMessage, IsJoinStep, IsPlainNode, IsUnreleasing, rule_joins}
-use Rattle.tap_join_bounds.proofs.Kept.{ActsInJoin, AreOfJoins, are_of_joins, carried_acts, ignored_acts, joins_kept, of_frame}
+use Rattle.tap_join_bounds.proofs.JoinRules.{IsJoinMessage, IsJoinStep, IsPlainNode, IsUnreleasing, rule_joins}
+use Rattle.tap_join_bounds.proofs.JoinsKept.{ActsInJoin, AreOfJoins, are_of_joins, carried_acts, ignored_acts, joins_kept, of_frame}
 use Rattle.tap_join_bounds.proofs.Made.{delivery_made, join_made}
 
 -- ---- what a node does

@@ -24,8 +24,8 @@ use Rattle.tap_rule.proofs.Cases.IsCast.{ByCopy}
 use Rattle.tap_rule.proofs.Cases.IsParting.{OneLeft}
 use Rattle.tap_rule.proofs.Cases.RuleCase.{CastBefore, CastsAlone, CastsOn, Closes, Counts, CoveredBefore, CoversAlone, CoversOn, DropsLeaver, HasCeased, HearsAlone, HearsNew, HearsOld, IsCoreNow, IsForgottenBy, IsGoneNow, IsGreeted, IsOff, MarksLeaver, WantsForgotten}
 use Rattle.tap_rule.proofs.EachRule.{each_rule}
-use Rattle.tap_rule.specs.Kept.{IsNode}
-use Rattle.tap_rule.specs.Laws.{IsCarriedOut, IsIgnored, frame_to}
+use Rattle.tap_rule.specs.KeptNode.{IsNode}
+use Rattle.tap_rule.specs.RuleLaws.{IsCarriedOut, IsIgnored, frame_to}
 use Rattle.tap_rule.specs.Node.{NodeState, Status, joiner, name_of}
 use Rattle.tap_rule.specs.Reaction.{Message, Reaction, message}
 use Rattle.tap_rule.specs.Sending.{message_frame}
@@ -43,8 +43,8 @@ use Rattle.tap_bounds.specs.Traffic.{Traffic, traffic_after}
 use Rattle.tap_bounds.proofs.Counting.{CountsMessages, count-append, count-cons, count-map_none, counted}
 use Rattle.tap_join_bounds.specs.LinkBounds.{is_link_on, is_release, links_on, releases_pin}
 use Rattle.tap_join_bounds.specs.OfJoins.{IsJoinBody}
-use Rattle.tap_join_bounds.proofs.Alone.{IsJoinStep, IsPlainNode, IsUnreleasing, JoinsOrIsCore, MayRelease, rule_joins}
-use Rattle.tap_join_bounds.proofs.Kept.{AreOfJoins, of_frame}
+use Rattle.tap_join_bounds.proofs.JoinRules.{IsJoinStep, IsPlainNode, IsUnreleasing, JoinsOrIsCore, MayRelease, rule_joins}
+use Rattle.tap_join_bounds.proofs.JoinsKept.{AreOfJoins, of_frame}
 use Rattle.tap_join_bounds.proofs.Made.{IsMade, delivery_made, join_made}
 use Rattle.tap_join_bounds.proofs.OfJoins.{begins, begins_so}
 use Rattle.tap_join_bounds.proofs.Releases.{ReleasesStep, answers_owed, hears_owed, owed, owed_by, pays_owed, stays_owed}

@@ -15,7 +15,7 @@ use Rattle.tap_table.proofs.HoldersFound.{entry_of-held_word}
 use Rattle.tap_table.proofs.Near.{apart_names, tied_itself}
 use Rattle.tap_wire.specs.declared.frame.Body.{Body}
 use Rattle.tap_wire.specs.declared.frame.Body.TheVariants.{Release}
-use Rattle.tap_rule.specs.Kept.{IsNode}
+use Rattle.tap_rule.specs.KeptNode.{IsNode}
 use Rattle.tap_rule.specs.Node.{NodeState, Status, name_of}
 use Rattle.tap_rule.specs.Node.Status.{Ceased, Core, Gone, Joining, Leaving}
 use Rattle.tap_rule.specs.Joining.{becomes_core}
@@ -25,7 +25,7 @@ use Rattle.tap_rule.specs.Sending.{message_frame}
 use Rattle.tap_moves.proofs.Got.{same_name}
 use Rattle.tap_bounds.proofs.Counting.{count-cons}
 use Rattle.tap_join_bounds.specs.LinkBounds.{is_release, releases_pin}
-use Rattle.tap_join_bounds.proofs.Alone.{AreUnreleasing, IsUnreleasing}
+use Rattle.tap_join_bounds.proofs.JoinRules.{AreUnreleasing, IsUnreleasing}
 use Rattle.tap_join_bounds.proofs.Words.{apart_test, same_test}
 
 -- ---- what is owed

@@ -9,8 +9,8 @@ use Rattle.tap_wire.specs.declared.frame.Frame.{Frame}
 use Rattle.tap_safety.specs.AtRest.{AreMembers, system_at_rest}
 use Rattle.tap_safety.specs.Move.{Move}
 use Rattle.tap_safety.specs.Seeking.{HasNode}
-use Rattle.tap_safety_moves.specs.Moves.{after_moves, may_run}
-use Rattle.tap_bounds.specs.Moves.{traffic_of}
+use Rattle.tap_safety_moves.specs.SoundMoves.{after_moves, may_run}
+use Rattle.tap_bounds.specs.FewSent.{traffic_of}
 use Rattle.tap_bounds.specs.Traffic.{Traffic, no_traffic}
 use Rattle.tap_join_bounds.specs.OfJoins.{JoinsAlone}
 

@@ -16,8 +16,8 @@ use Rattle.tap_safety.specs.Move.{Move}
 use Rattle.tap_safety.specs.Move.Move.{Begins, Delivers}
 use Rattle.tap_safety.specs.Seeking.{HasNode}
 use Rattle.tap_safety.specs.System.{System}
-use Rattle.tap_safety_moves.specs.Moves.{after_moves, may_run}
-use Rattle.tap_bounds.specs.Moves.{traffic_of}
+use Rattle.tap_safety_moves.specs.SoundMoves.{after_moves, may_run}
+use Rattle.tap_bounds.specs.FewSent.{traffic_of}
 use Rattle.tap_bounds.specs.Traffic.{Traffic, no_traffic}
 
 -- ---- runs

@@ -1,2 +1,2 @@
-pub mod Taken
-pub mod Named
+pub mod JoiningTakes
+pub mod HelloNamed

@@ -16,10 +16,10 @@ ghost use Rattle.tap_rule.specs.Reaction.{message};
 ghost use Rattle.tap_wire.specs.Spelling.{AreLinks};
 ghost use Rattle.tap_wire.specs.declared.frame.Body.TheVariants as bodies;
 ghost use Rattle.tap_node_common.specs.Sender.{message_bytes, sender_of};
-ghost use Rattle.tap_node_common.specs.Sound.{HaveParents, MayTake};
+ghost use Rattle.tap_node_common.specs.SoundNode.{HaveParents, MayTake};
 ghost use Rattle.tap_node_common.specs.States.{ended_state};
 ghost use Rattle.tap_joining_node.specs.State.{core_joined, joining_state};
-ghost use Rattle.tap_node_common.specs.Step.{FollowsAs, StepsAs};
+ghost use Rattle.tap_node_common.specs.StepsAs.{FollowsAs, StepsAs};
 
 use std::alloc::Global;
 use tap_join::{Core, Joining};

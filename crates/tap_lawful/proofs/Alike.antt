@@ -16,7 +16,7 @@ use Rattle.tap_runs.specs.Group.{step_records}
 use Rattle.tap_lawful.specs.Next.{begun_count, group_after, next_step}
 use Rattle.tap_runs.specs.Groups.{step_group, taken_group}
 use Rattle.tap_lawful.specs.Lawful.{ComesNext, IsPlayed}
-use Rattle.tap_lawful.specs.Laws.{BeginsAlike}
+use Rattle.tap_lawful.specs.PlayedLaws.{BeginsAlike}
 use Rattle.tap_lawful.proofs.Coming.{BeginsNext, TakesDue, coming}
 
 -- the element at a place of the first ones

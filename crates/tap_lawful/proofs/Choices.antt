@@ -15,7 +15,7 @@ use Rattle.tap_history.specs.Moments.{outstanding, under_way}
 use Rattle.tap_history.specs.Names.{name_count, names_of}
 use Rattle.tap_history.specs.Published.{has_pair, published_of}
 use Rattle.tap_history.specs.Refusals.{begin_settings, damaged, first_refusal, first_some, is_and, is_joining, is_only_core, is_readable, packets_of_step, refused_if, refuses_already_abandoned, refuses_already_published, refuses_departing, refuses_last_node, refuses_name_taken, refuses_no_such_byte, refuses_no_such_flight, refuses_no_such_node, refuses_not_at_rest, refuses_not_core, refuses_not_in_prefix, refuses_not_joining, refuses_not_published, refuses_readable, refuses_too_many_nodes, refuses_too_many_packets, while_departing}
-use Rattle.tap_history.specs.Steps.{abandon_name, asked_node, depart_name, flight_place, join_name, publish_pair, suits_departure, suits_joining, withdraw_pair}
+use Rattle.tap_history.specs.StepAsks.{abandon_name, asked_node, depart_name, flight_place, join_name, publish_pair, suits_departure, suits_joining, withdraw_pair}
 
 -- the step asks for no node and no pair, and may be run while a node departs
 record AsksNothing (step : Step) : Type 0 where

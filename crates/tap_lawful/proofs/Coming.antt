@@ -13,7 +13,7 @@ use Rattle.tap_log.specs.declared.record.Refusal.{Refusal}
 use Rattle.tap_log.specs.Counts.{sent_count}
 use Rattle.tap_history.specs.Moments.{has_number, outstanding}
 use Rattle.tap_history.specs.Refusals.{first_refusal}
-use Rattle.tap_history.specs.Steps.{actor_of}
+use Rattle.tap_history.specs.StepAsks.{actor_of}
 use Rattle.tap_safety.specs.System.{System}
 use Rattle.tap_runs.specs.Starts.{start_of_step}
 use Rattle.tap_runs.specs.Group.{accepted_records, records_unless, step_records}

@@ -17,7 +17,7 @@ use Rattle.tap_history.proofs.Less.{filter_within, less_by-more}
 use Rattle.tap_lawful.specs.Next.{begun_count}
 use Rattle.tap_runs.specs.Groups.{step_group, taken_group}
 use Rattle.tap_lawful.specs.Lawful.{ComesNext}
-use Rattle.tap_lawful.specs.Laws.{left_of}
+use Rattle.tap_lawful.specs.PlayedLaws.{left_of}
 use Rattle.tap_lawful.proofs.Coming.{coming, due_waits}
 use Rattle.tap_lawful.proofs.Played.{sent_count-append}
 

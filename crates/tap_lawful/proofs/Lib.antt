@@ -1,7 +1,7 @@
 pub mod Coming
 pub mod Played
 pub mod Less
-pub mod Steps
+pub mod BegunSteps
 pub mod Alike
 pub mod OneLog
 pub mod Choosing

@@ -10,7 +10,7 @@ use Rattle.tap_history.proofs.Parts.{log_is_groups}
 use Rattle.tap_runs.specs.Beginning.{begin_record}
 use Rattle.tap_lawful.specs.Next.{beginning_in}
 use Rattle.tap_lawful.specs.Lawful.{ComesNext, IsLogOf, IsOver, IsPlayed, IsWholeLogOf, step_alone}
-use Rattle.tap_lawful.specs.Laws.{BeginsWith, OneLog}
+use Rattle.tap_lawful.specs.PlayedLaws.{BeginsWith, OneLog}
 use Rattle.tap_lawful.proofs.Played.{sent_no_fewer}
 
 module _ (s : ScenarioValue) where

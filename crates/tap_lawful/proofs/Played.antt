@@ -7,13 +7,13 @@ use Rattle.tap_scenario.specs.Scenario.{IsScript, ScenarioValue}
 use Rattle.tap_log.specs.declared.record.Record.{Record}
 use Rattle.tap_log.specs.Counts.{sent_count}
 use Rattle.tap_log.specs.Kinds.{sent_number}
-use Rattle.tap_log.proofs.Growing.{carried_alone}
+use Rattle.tap_log.proofs.MoreRecords.{carried_alone}
 use Rattle.tap_history.specs.Groups.{EachGroupFrom, beginning_of, ends_log, groups_of, records_of}
 use Rattle.tap_history.proofs.Ends.{log_in_groups_holds}
 use Rattle.tap_history.proofs.Parts.{EachGroup-push, beginning_of-group, is_ended-append, log_is_groups}
 use Rattle.tap_runs.specs.Beginning.{IsWithinLimits, begin_record}
 use Rattle.tap_runs.specs.Course.{Follows, IsCourse, system_of}
-use Rattle.tap_runs.proofs.Growing.{starts_begun, starts_uncarried}
+use Rattle.tap_runs.proofs.CourseGrows.{starts_begun, starts_uncarried}
 use Rattle.tap_runs.proofs.Within.{IsWhole, whole_group}
 use Rattle.tap_lawful.specs.Next.{beginning_in}
 use Rattle.tap_lawful.specs.Lawful.{ComesNext, IsPlayed}

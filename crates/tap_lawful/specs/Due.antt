@@ -31,16 +31,16 @@ chosen_in log = fold chosen_after nothing_chosen log
 -- ---- the frame that is due
 
 -- the place, if there is one of so many
-abbrev pub place_of : ℕ → ℕ → Option ℕ
-place_of count place = if nat_lt place count then Some place else None
+abbrev pub place_below : ℕ → ℕ → Option ℕ
+place_below count place = if nat_lt place count then Some place else None
 
 -- The place of the frame that a step has taken next, if so many were taken since it and so many are outstanding. `deliver` takes one
 -- frame. A settle takes frames until none is outstanding: that which was sent first, or last, or at the place that the mixer draws.
 unfoldable pub place_chosen : Step → ℕ → ℕ → Option ℕ
-place_chosen (Deliver place) taken count = if nat_eq taken 0 then place_of count place else None
-place_chosen Settle taken count = place_of count 0
-place_chosen SettleNewest taken count = place_of count (count - 1)
-place_chosen (SettleMixed seed) taken count = place_of count (drawn seed taken % count)
+place_chosen (Deliver place) taken count = if nat_eq taken 0 then place_below count place else None
+place_chosen Settle taken count = place_below count 0
+place_chosen SettleNewest taken count = place_below count (count - 1)
+place_chosen (SettleMixed seed) taken count = place_below count (drawn seed taken % count)
 place_chosen other taken count = None
 
 abbrev pub place_by : Chosen → ℕ → Option ℕ

@@ -1,4 +1,4 @@
 pub mod Due
 pub mod Next
 pub mod Lawful
-pub mod Laws
+pub mod PlayedLaws

@@ -1,4 +1,4 @@
-ghost use Rattle.tap_lawful.specs.Laws.{OneLog, PlayedGrows};
+ghost use Rattle.tap_lawful.specs.PlayedLaws.{OneLog, PlayedGrows};
 
 /// The log of a run grows group by group, and each time less is left of the run. It is the course of a run. Its steps are the first
 /// ones of the scenario, numbered from 1, and all of them once no group comes next.

@@ -9,7 +9,7 @@ use Rattle.tap_pointer.specs.Pointers.{PointersValue}
 use Rattle.tap_pointer.specs.Reconcile.{clear_lays, reconciled}
 use Rattle.tap_wire.specs.declared.frame.Body.TheVariants.{Gone}
 use Rattle.tap_wire.specs.declared.frame.Frame.{Frame}
-use Rattle.tap_node_common.proofs.Steps.{all_sent, one_sent}
+use Rattle.tap_node_common.proofs.OneSent.{all_sent, one_sent}
 use Rattle.tap_rule.specs.Event.News.{Nothing as NothingNews}
 use Rattle.tap_rule.specs.Leaving.{finishes, last_words, leave_for}
 use Rattle.tap_rule.specs.Node.{NodeState, name_of, settings_of}
@@ -21,7 +21,7 @@ use Rattle.tap_node_common.specs.declared.news.News.TheVariants.{Gone as GoneNew
 use Rattle.tap_node_common.specs.declared.sender.Sender.{Sender}
 use Rattle.tap_node_common.specs.Sender.{lay_bytes, message_bytes, node_sender, word_bytes}
 use Rattle.tap_node_common.specs.States.{ended_state}
-use Rattle.tap_node_common.specs.Step.{StepsAs}
+use Rattle.tap_node_common.specs.StepsAs.{StepsAs}
 use Rattle.tap_node_common.proofs.ReactionSteps.{messages_step, reconciled_is, reconciled_step}
 
 -- the Leave of one more notice is sent, and at last all are

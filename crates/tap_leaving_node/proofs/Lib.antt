@@ -1,3 +1,3 @@
-pub mod Named
-pub mod Taken
+pub mod NoticeNamed
+pub mod LeavingTakes
 pub mod Ends

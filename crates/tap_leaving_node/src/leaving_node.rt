@@ -14,9 +14,9 @@ ghost use Rattle.tap_wire.specs.declared.frame.Body.TheVariants as bodies;
 ghost use Rattle.tap_wire.specs.Spelling.{IsLevel};
 ghost use Rattle.tap_node_common.specs.Pointing.{IsFindBody, IsLayBody};
 ghost use Rattle.tap_node_common.specs.Sender.{message_bytes, sender_of};
-ghost use Rattle.tap_node_common.specs.Sound.{AreNamedHops, AreNamedPairs, IsSoundNode, MayTake, has_numbers_left};
+ghost use Rattle.tap_node_common.specs.SoundNode.{AreNamedHops, IsSoundNode, MayTake, PairsHaveNames, has_numbers_left};
 ghost use Rattle.tap_node_common.specs.States.{core_state_of, ended_state};
-ghost use Rattle.tap_node_common.specs.Step.{FollowsAs, StepsAs};
+ghost use Rattle.tap_node_common.specs.StepsAs.{FollowsAs, StepsAs};
 ghost use Rattle.tap_leaving_node.specs.State.{leaving_state};
 
 use std::alloc::Global;
@@ -253,7 +253,7 @@ impl LeavingNode {
     pub fn send_notices(&mut self, sent: &mut FrameList) -> Result<(), NoMemory>
         requires notices { self.old.leaving.notices ≡ (started_leaving self.old.leaving.ties).notices }
         requires owner { self.old.parts.pointers.owner ≡ self.old.leaving.ties.table.owner }
-        requires pairs { AreNamedPairs self.old.leaving.ties.table.settings self.old.parts.pointers }
+        requires pairs { PairsHaveNames self.old.leaving.ties.table.settings self.old.parts.pointers }
         requires hops { AreNamedHops self.old.leaving.ties.table.settings self.old.parts.pointers }
         requires numbers { self.old.parts.stamp + 2 * held_or_laid_count self.old.parts.pointers.pairs ≤ u32.MAX }
         ensures { OnOk result (StepsAs (leaving_state self.old)
@@ -291,7 +291,7 @@ impl LeavingNode {
     /// Rule: docs/PROTOCOL.md, "Left".
     pub fn finish(self, sent: &mut FrameList) -> Result<Sessions, NoMemory>
         requires awaits { length self.leaving.awaited ≡ 0 }
-        requires pairs { AreNamedPairs self.leaving.ties.table.settings self.parts.pointers }
+        requires pairs { PairsHaveNames self.leaving.ties.table.settings self.parts.pointers }
         requires hops { AreNamedHops self.leaving.ties.table.settings self.parts.pointers }
         requires numbers { self.parts.stamp + length (rows self.leaving.ties.table) + held_or_laid_count self.parts.pointers.pairs ≤ u32.MAX }
         ensures { IfOk result (λ sessions. StepsAs (leaving_state self) (finishes (leaving_state self))

@@ -7,15 +7,15 @@ use Rattle.tap_name.specs.Names.{names_without}
 use Rattle.tap_scenario.specs.declared.step.Step.{Step}
 use Rattle.tap_log.specs.declared.record.Record.{Record}
 use Rattle.tap_log.specs.Kinds.{abandoned_name, begin_members, gone_name, is_carried}
-use Rattle.tap_log.specs.Laws.{at_most_one}
+use Rattle.tap_log.specs.MoreRecords.{at_most_one}
 use Rattle.tap_log.specs.Log.{last_of}
 use Rattle.tap_log.proofs.Gathering.{last_is}
-use Rattle.tap_log.proofs.Growing.{filter_map-push}
+use Rattle.tap_log.proofs.MoreRecords.{filter_map-push}
 use Rattle.tap_history.specs.Core.{abandoned_of, accepted_step, accepted_steps, departures_of, gone_of, present_of}
 use Rattle.tap_history.specs.Names.{names_of, with_name}
 use Rattle.tap_history.specs.RecordLaws.{accepted_by, accepted_next}
-use Rattle.tap_history.specs.Steps.{depart_name, join_name}
-use Rattle.tap_history.proofs.Growing.{accepted_steps-push, core_of-push, names_of-push, present_of-push}
+use Rattle.tap_history.specs.StepAsks.{depart_name, join_name}
+use Rattle.tap_history.proofs.RecordChanges.{accepted_steps-push, core_of-push, names_of-push, present_of-push}
 use Rattle.tap_ledger.specs.NameLists.{NameLists, accepted_after, lists_after, lists_of}
 
 -- the last one of some records, the first of them given

@@ -7,9 +7,9 @@ use Rattle.std.proofs.lemmas.List.FromFn.{length-range_with_len}
 use Rattle.tap_log.specs.declared.record.Record.{Record}
 use Rattle.tap_log.specs.Counts.{sent_count, ticket_count}
 use Rattle.tap_log.specs.Kinds.{asked_ticket, sent_number, taken_number}
-use Rattle.tap_log.proofs.Growing.{sent_count-append, ticket_count-append}
+use Rattle.tap_log.proofs.MoreRecords.{sent_count-append, ticket_count-append}
 use Rattle.tap_history.proofs.Numbering.{range-append}
-use Rattle.tap_ledger.specs.Added.{CanAdd, is_plain, most_frames}
+use Rattle.tap_ledger.specs.Added.{CanAdd, is_plain, most_ledger_frames}
 
 -- what holds of each element of two lists holds of each element of the first
 All-first : {X : Type 0} (P : X → Type 0) (xs ys : List X) → All P (xs ++ ys) → All P xs
@@ -101,7 +101,7 @@ can_rest log xs ys can =
     let asked = ticket_count-append log xs in
     let next : 1 + ticket_count log + ticket_count xs ≡ 1 + ticket_count (log ++ xs) = omega (arith, asked) in
     let more : sent_count log ≤ sent_count (log ++ xs) = omega (arith, first) in
-    let Within : List Record → Type 0 = λ l. sent_count l ≤ most_frames in
+    let Within : List Record → Type 0 = λ l. sent_count l ≤ most_ledger_frames in
     record {
       plain = All-rest (λ item. is_plain item ≡ true) xs ys can.plain;
       numbers = record {

@@ -15,7 +15,7 @@ use Rattle.tap_history.specs.Flights.{bytes_at, flight_count}
 use Rattle.tap_history.specs.Moments.{awaiting, is_none, is_rest, is_still, outstanding, under_way}
 use Rattle.tap_ledger.specs.declared.flights.OutstandingFrame.{OutstandingFrame}
 use Rattle.tap_ledger.specs.Flights.{sent_payload}
-use Rattle.tap_ledger.specs.Kept.{AreFlights, IsFlight, IsKeepable, Leaves, flight_numbers}
+use Rattle.tap_ledger.specs.KeptLedger.{AreFlights, IsFlight, IsKeepable, Leaves, flight_numbers}
 use Rattle.tap_ledger.proofs.Conditions.{and_yes}
 use Rattle.tap_ledger.proofs.Departing.{departing_is}
 use Rattle.tap_ledger.proofs.Frames.{eq_swaps}

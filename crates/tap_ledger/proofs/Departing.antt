@@ -7,16 +7,16 @@ use Rattle.tap_scenario.specs.declared.step.Step.{Step}
 use Rattle.tap_log.specs.declared.record.Record.{Record}
 use Rattle.tap_log.specs.declared.record.Record.TheVariants.{Step as StepRecord}
 use Rattle.tap_log.specs.Kinds.{accepts, begins_group, is_carried, step_of}
-use Rattle.tap_log.specs.Laws.{at_most_one, first_of_both}
+use Rattle.tap_log.specs.MoreRecords.{at_most_one, first_of_both}
 use Rattle.tap_log.specs.Log.{last_of}
 use Rattle.tap_history.specs.Core.{accepted_in, accepted_step}
 use Rattle.tap_history.specs.Departing.{departing_of, last_still}
 use Rattle.tap_history.specs.Moments.{is_still}
 use Rattle.tap_history.specs.RecordLaws.{accepted_next}
-use Rattle.tap_history.specs.Steps.{depart_name}
-use Rattle.tap_history.proofs.Growing.{one_before}
+use Rattle.tap_history.specs.StepAsks.{depart_name}
+use Rattle.tap_history.proofs.RecordChanges.{one_before}
 use Rattle.tap_history.proofs.OneMoreGroup.{one_more_group_holds}
-use Rattle.tap_ledger.specs.Kept.{HasNoStep, Leaves, LeavesInGroup, leaver_next}
+use Rattle.tap_ledger.specs.KeptLedger.{HasNoStep, Leaves, LeavesInGroup, leaver_next}
 use Rattle.tap_ledger.specs.NameLists.{accepted_after}
 use Rattle.tap_ledger.proofs.Accepted.{named_by}
 

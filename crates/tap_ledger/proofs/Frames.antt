@@ -14,14 +14,14 @@ use Rattle.tap_log.specs.declared.record.Record.TheVariants.{Sent, Taken}
 use Rattle.tap_log.specs.Counts.{sent_count}
 use Rattle.tap_log.specs.Frames.{bytes_of, sent_bytes}
 use Rattle.tap_log.specs.Kinds.{sent_number, taken_number}
-use Rattle.tap_log.specs.Laws.{at_most_one, first_of_both}
-use Rattle.tap_log.proofs.Growing.{bytes_of-push, one_more_record_holds}
+use Rattle.tap_log.specs.MoreRecords.{at_most_one, first_of_both}
+use Rattle.tap_log.proofs.MoreRecords.{bytes_of-push, one_more_record_holds}
 use Rattle.tap_history.specs.GroupLaws.{IsNumbered, NumbersOn}
 use Rattle.tap_history.specs.Moments.{numbers_less, outstanding}
 use Rattle.tap_history.proofs.Less.{less_by-none}
 use Rattle.tap_history.proofs.Numbering.{outstanding-group}
-use Rattle.tap_ledger.specs.Flights.{followed, taken_by}
-use Rattle.tap_ledger.specs.Kept.{AreFlights, IsFlight, flight_numbers}
+use Rattle.tap_ledger.specs.Flights.{followed, taken_by_number}
+use Rattle.tap_ledger.specs.KeptLedger.{AreFlights, IsFlight, flight_numbers}
 use Rattle.tap_ledger.proofs.Conditions.{or_no}
 
 -- ---- the first one that passes a test is taken out
@@ -241,7 +241,7 @@ taken_push log frames n numbered on ascending are =
     let new = log ++ item ∷ [] in
     let place = place_of_number frames.frames n in
     let left = filter (λ f. not (f.number == n)) frames.frames in
-    let is : (taken_by frames n).frames ≡ left = taken_frames frames n place
+    let is : (taken_by_number frames n).frames ≡ left = taken_frames frames n place
     ∙ take_first (λ f. f.number == n) frames.frames (ascending_one n frames.frames ascending) in
     record {
       sent = taken_sent frames place ∙ are.sent ∙ sym (one_more_record_holds.sent log item ∙ (omega arith));

@@ -10,20 +10,20 @@ use Rattle.tap_log.specs.declared.record.Pair.{Pair}
 use Rattle.tap_log.specs.declared.record.Record.{Record}
 use Rattle.tap_log.specs.declared.record.Record.TheVariants.{Begin, Carrier, Packet}
 use Rattle.tap_log.specs.Kinds.{asked_ticket, begin_members, begins_group, begun_cast, packet_number, published_pair, withdrawn_pair}
-use Rattle.tap_log.specs.Laws.{at_most_one}
+use Rattle.tap_log.specs.MoreRecords.{at_most_one}
 use Rattle.tap_log.specs.Log.{last_of}
-use Rattle.tap_log.proofs.Growing.{filter_map-push, one_more_record_holds}
+use Rattle.tap_log.proofs.MoreRecords.{filter_map-push, one_more_record_holds}
 use Rattle.tap_history.specs.Departing.{departing_of}
 use Rattle.tap_history.specs.Published.{has_pair, published_of}
 use Rattle.tap_history.specs.Refusals.{begin_settings}
-use Rattle.tap_history.specs.Steps.{depart_name}
+use Rattle.tap_history.specs.StepAsks.{depart_name}
 use Rattle.tap_history.proofs.Numbering.{numbered-group}
 use Rattle.tap_ledger.specs.Added.{CanAdd, is_plain}
 use Rattle.tap_ledger.specs.Flights.{followed}
-use Rattle.tap_ledger.specs.Kept.{AreFlights, IsKeepable, Kept, Leaves, leaver_next}
+use Rattle.tap_ledger.specs.KeptLedger.{AreFlights, IsKeepable, Kept, Leaves, leaver_next}
 use Rattle.tap_ledger.specs.NameLists.{NameLists, accepted_after, lists_after}
 use Rattle.tap_name.specs.Names.{has_name}
-use Rattle.tap_ledger.specs.Pairs.{has_after, has_key, is_name, is_pair, key_after, stays_published}
+use Rattle.tap_ledger.specs.Pairs.{has_after, has_key, is_name, is_this_pair, key_after, stays_published}
 use Rattle.tap_ledger.proofs.Accepted.{lists_push}
 use Rattle.tap_ledger.proofs.Conditions.{stays_or_comes}
 use Rattle.tap_ledger.proofs.Departing.{leaves_push}
@@ -83,7 +83,7 @@ has_after-same : (has other : Pair → Bool) (withdrawn published : Option Pair)
     → has q ≡ other q → has_after has withdrawn published departed departs q ≡ has_after other withdrawn published departed departs q
 has_after-same has other withdrawn published departed departs q same =
     ap (λ b. not (is_name departs q.server)
-    && ((not (is_pair withdrawn q) && b) || (not (has_name departed q.server) && is_pair published q))) same
+    && ((not (is_this_pair withdrawn q) && b) || (not (has_name departed q.server) && is_this_pair published q))) same
 
 -- A pair stays published if it was and isn't withdrawn, or is published now, and its server neither departed nor departs.
 stays_after : (has : Pair → Bool) (withdrawn published : Option Pair) (departed : List (List ℕ)) (departs : Option (List ℕ)) (q : Pair)
@@ -93,7 +93,7 @@ stays_after has withdrawn published departed departs q =
     ap (λ b. key_after has withdrawn published q && not b)
     (list_any-append (λ other. pointwise nat_eq other q.server) departed (at_most_one departs)
     ∙ ap (λ b. has_name departed q.server || b) (has_one_name departs q.server))
-    ∙ stays_or_comes (is_pair published q) (is_pair withdrawn q) (has q) (has_name departed q.server) (is_name departs q.server)
+    ∙ stays_or_comes (is_this_pair published q) (is_this_pair withdrawn q) (has q) (has_name departed q.server) (is_name departs q.server)
 
 -- all that is kept, after one more record
 pub kept_push : (log : List Record) (settings : SettingsValue) (frames : OutstandingValue) (lists : NameLists)

@@ -9,7 +9,7 @@ pub mod Keys
 pub mod Uncarried
 pub mod Adding
 pub mod Single
-pub mod Begun
+pub mod LedgerBegun
 pub mod Asked
 pub mod Staying
 pub mod Sending

@@ -8,14 +8,14 @@ use Rattle.tap_name.specs.Names.{has_name}
 use Rattle.tap_log.specs.declared.record.Pair.{Pair}
 use Rattle.tap_log.specs.declared.record.Record.{Record}
 use Rattle.tap_log.specs.Kinds.{is_carried, published_pair, withdrawn_pair}
-use Rattle.tap_log.specs.Laws.{at_most_one}
+use Rattle.tap_log.specs.MoreRecords.{at_most_one}
 use Rattle.tap_log.specs.Log.{last_of}
 use Rattle.tap_history.specs.Core.{departures_of}
 use Rattle.tap_history.specs.Published.{has_pair, pairs_less, published_of, same_pair, without_servers}
-use Rattle.tap_history.specs.Steps.{depart_name}
-use Rattle.tap_history.proofs.Growing.{published_of-push}
+use Rattle.tap_history.specs.StepAsks.{depart_name}
+use Rattle.tap_history.proofs.RecordChanges.{published_of-push}
 use Rattle.tap_ledger.specs.NameLists.{accepted_after}
-use Rattle.tap_ledger.specs.Pairs.{has_after, is_name, is_pair}
+use Rattle.tap_ledger.specs.Pairs.{has_after, is_name, is_this_pair}
 use Rattle.tap_ledger.proofs.Accepted.{named}
 use Rattle.tap_ledger.proofs.Conditions.{and_no, both_left, both_right, or_no, passes_or}
 
@@ -48,7 +48,7 @@ has_filter p (x ∷ pairs) q =
     ∙ passes_or (p x) (same_pair x q) (p q) (has_pair pairs q) (λ same. ap p (same_pair_is x q same))
 
 -- a pair is among at most one if it is that one
-has_one : (one : Option Pair) (q : Pair) → has_pair (at_most_one one) q ≡ is_pair one q
+has_one : (one : Option Pair) (q : Pair) → has_pair (at_most_one one) q ≡ is_this_pair one q
 has_one None q = refl
 has_one (Some x) q = or_no (same_pair x q)
 
@@ -80,7 +80,7 @@ has_all published departed departs withdrawn one q =
     ∙ ap (λ b. goes && b) (list_any-append (λ other. same_pair other q) left new)
     ∙ ap (λ b. goes && (b || has_pair new q)) (has_less (at_most_one withdrawn) published q
     ∙ ap (λ b. not b && has_pair published q) (has_one withdrawn q))
-    ∙ ap (λ b. goes && ((not (is_pair withdrawn q) && has_pair published q) || b)) (has_without departed (at_most_one one) q
+    ∙ ap (λ b. goes && ((not (is_this_pair withdrawn q) && has_pair published q) || b)) (has_without departed (at_most_one one) q
     ∙ ap (λ b. not (has_name departed q.server) && b) (has_one one q))
 
 -- which pairs are published after one more record of a log that isn't carried

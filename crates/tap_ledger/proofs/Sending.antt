@@ -6,11 +6,11 @@ use Rattle.tap_log.specs.declared.record.Record.{Record}
 use Rattle.tap_log.specs.declared.record.Record.TheVariants.{Sent}
 use Rattle.tap_log.specs.Counts.{sent_count}
 use Rattle.tap_log.specs.Kinds.{begins_group, sent_number}
-use Rattle.tap_log.proofs.Growing.{one_more_record_holds}
-use Rattle.tap_history.specs.Steps.{depart_name}
-use Rattle.tap_ledger.specs.Added.{CanAdd, most_frames}
+use Rattle.tap_log.proofs.MoreRecords.{one_more_record_holds}
+use Rattle.tap_history.specs.StepAsks.{depart_name}
+use Rattle.tap_ledger.specs.Added.{CanAdd, most_ledger_frames}
 use Rattle.tap_ledger.specs.Flights.{followed}
-use Rattle.tap_ledger.specs.Kept.{leaver_next}
+use Rattle.tap_ledger.specs.KeptLedger.{leaver_next}
 use Rattle.tap_ledger.specs.NameLists.{accepted_after}
 use Rattle.tap_ledger.specs.Quiet.{is_moving_step, is_quiet, tells_more}
 use Rattle.tap_ledger.proofs.Staying.{TellsNothing, quiet_tells}
@@ -38,7 +38,7 @@ unfolding begins_group
 sent_leaves last number bytes departing leaver tells = sym (ap (λ d. leaver_next false departing d leaver) tells.nobody.departs)
 
 -- before it may be sent, fewer were sent than may be
-pub few_sent : (log : List Record) (number : ℕ) (bytes : List ℕ) → CanAdd log (Sent number bytes ∷ []) → sent_count log < most_frames
+pub few_sent : (log : List Record) (number : ℕ) (bytes : List ℕ) → CanAdd log (Sent number bytes ∷ []) → sent_count log < most_ledger_frames
 unfolding sent_number
 few_sent log number bytes can =
     let within = can.within in

@@ -7,10 +7,10 @@ use Rattle.std.proofs.lemmas.List.Elements.{All-cons}
 use Rattle.tap_log.specs.declared.record.Record.{Record}
 use Rattle.tap_log.specs.Counts.{sent_count, ticket_count}
 use Rattle.tap_log.specs.Kinds.{asked_ticket, sent_number, taken_number}
-use Rattle.tap_log.specs.Laws.{at_most_one}
-use Rattle.tap_log.proofs.Growing.{one_more_record_holds}
-use Rattle.tap_ledger.specs.Added.{CanAdd, is_plain, most_frames}
-use Rattle.tap_ledger.specs.Single.{can_add_one, is_below, is_next}
+use Rattle.tap_log.specs.MoreRecords.{at_most_one}
+use Rattle.tap_log.proofs.MoreRecords.{one_more_record_holds}
+use Rattle.tap_ledger.specs.Added.{CanAdd, is_plain, most_ledger_frames}
+use Rattle.tap_ledger.specs.Single.{can_add_one, is_next, number_is_below}
 use Rattle.tap_ledger.proofs.Conditions.{both_left, both_right}
 use Rattle.tap_ledger.proofs.Departing.{All-none}
 use Rattle.tap_ledger.proofs.Uncarried.{at_most}
@@ -21,7 +21,7 @@ goes_on None n is = refl
 goes_on (Some m) n is = ap (λ k. k ∷ []) (eqb-true m n is)
 
 -- at most one number is below another
-all_below : (one : Option ℕ) (n : ℕ) → is_below one n ≡ true → All (λ k. k < n) (at_most_one one)
+all_below : (one : Option ℕ) (n : ℕ) → number_is_below one n ≡ true → All (λ k. k < n) (at_most_one one)
 all_below None n is = All-none (λ k. k < n)
 all_below (Some m) n is = All-cons (λ k. k < n) m [] (ltb-true m n is) (All-none (λ k. k < n))
 
@@ -35,13 +35,13 @@ pub can_add_is : (log : List Record) (item : Record) → can_add_one log item �
 can_add_is log item is =
     let plain = is_plain item in
     let next = is_next (sent_number item) (sent_count log) in
-    let few = nat_lt (sent_count log) most_frames in
-    let taken = is_below (taken_number item) (sent_count log) in
+    let few = nat_lt (sent_count log) most_ledger_frames in
+    let taken = number_is_below (taken_number item) (sent_count log) in
     let silent = not (is_some (asked_ticket item)) in
     let sends = both_left (plain && (next && few)) (taken && silent) is in
     let takes = both_right (plain && (next && few)) (taken && silent) is in
     let numbered = both_right plain (next && few) sends in
-    let bound = ltb-true (sent_count log) most_frames (both_right next few numbered) in
+    let bound = ltb-true (sent_count log) most_ledger_frames (both_right next few numbered) in
     let size = one_more_record_holds.sent log item in
     let most = at_most (sent_number item) in
     record {

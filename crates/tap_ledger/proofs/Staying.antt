@@ -6,12 +6,12 @@ use Rattle.tap_scenario.specs.declared.step.Step.TheVariants.{Join, Depart}
 use Rattle.tap_log.specs.declared.record.Record.{Record}
 use Rattle.tap_log.specs.declared.record.Record.TheVariants.{Step as StepRecord, Taken, Core, Gone, Abandoned, Published, Withdrawn, Asked, CastFrom}
 use Rattle.tap_log.specs.Kinds.{abandoned_name, accepts, asked_ticket, begins_group, begun_cast, core_name, gone_name, published_pair, step_of, withdrawn_pair}
-use Rattle.tap_log.specs.Laws.{at_most_one}
+use Rattle.tap_log.specs.MoreRecords.{at_most_one}
 use Rattle.tap_history.specs.Core.{accepted_step}
 use Rattle.tap_history.specs.Names.{with_name}
-use Rattle.tap_history.specs.Steps.{depart_name, join_name}
+use Rattle.tap_history.specs.StepAsks.{depart_name, join_name}
 use Rattle.tap_ledger.specs.NameLists.{NameLists, accepted_after, lists_after, names_changed}
-use Rattle.tap_ledger.specs.Kept.{leaver_next}
+use Rattle.tap_ledger.specs.KeptLedger.{leaver_next}
 use Rattle.tap_ledger.specs.Quiet.{is_coming_or_going, is_moving_step, is_quiet, is_request, moves_node, tells_more, tells_of_request}
 use Rattle.tap_ledger.proofs.Accepted.{make_lists}
 use Rattle.tap_ledger.proofs.Conditions.{both_left, both_right}

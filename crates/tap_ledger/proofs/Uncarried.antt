@@ -5,7 +5,7 @@ use Rattle.std.specs.List.{filter_map, cons_option}
 use Rattle.tap_log.specs.declared.record.Record.{Record}
 use Rattle.tap_name.specs.Settings.{SettingsValue}
 use Rattle.tap_log.specs.declared.record.Record.TheVariants.{Begin, Packet}
-use Rattle.tap_log.specs.Laws.{at_most_one}
+use Rattle.tap_log.specs.MoreRecords.{at_most_one}
 use Rattle.tap_history.specs.Refusals.{begin_settings}
 use Rattle.tap_log.specs.Counts.{cast_count, resends_after, resent_count, resent_from, sent_count, ticket_count}
 use Rattle.tap_log.specs.Kinds.{arrived_number, asked_ticket, begun_cast, packet_number, sent_number}

@@ -16,12 +16,12 @@ is_plain (Lost packet) = false
 is_plain other = true
 
 -- how many frames a ledger may have seen sent
-abbrev pub most_frames : ℕ
-most_frames = 4000000000
+abbrev pub most_ledger_frames : ℕ
+most_ledger_frames = 4000000000
 
 -- These records may be added to the log: they are plain, frames and tickets are numbered on, each frame that is taken was sent before
 -- them, and no more frames are sent in all than may be.
 pub record CanAdd (log more : List Record) : Type 0 where
   pub plain : All (λ item. is_plain item ≡ true) more
   pub numbers : NumbersOn log more
-  pub within : sent_count (log ++ more) ≤ most_frames
+  pub within : sent_count (log ++ more) ≤ most_ledger_frames

@@ -4,5 +4,5 @@ pub mod Single
 pub mod NameLists
 pub mod Pairs
 pub mod Flights
-pub mod Kept
+pub mod KeptLedger
 pub mod Quiet

@@ -6,10 +6,10 @@ use Rattle.tap_name.specs.Names.{has_name, names_without}
 use Rattle.tap_scenario.specs.declared.step.Step.{Step}
 use Rattle.tap_log.specs.declared.record.Record.{Record}
 use Rattle.tap_log.specs.Kinds.{abandoned_name, core_name, gone_name}
-use Rattle.tap_log.specs.Laws.{at_most_one}
+use Rattle.tap_log.specs.MoreRecords.{at_most_one}
 use Rattle.tap_history.specs.Core.{abandoned_of, accepted_step, core_of, departures_of, gone_of, present_of}
 use Rattle.tap_history.specs.Names.{names_of, with_name}
-use Rattle.tap_history.specs.Steps.{depart_name, join_name}
+use Rattle.tap_history.specs.StepAsks.{depart_name, join_name}
 
 -- the nodes that are core, those that are present, all names that there ever were, the nodes that are gone, those that are to give up
 -- joining, and those whose departure was accepted

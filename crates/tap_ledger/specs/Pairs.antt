@@ -17,9 +17,9 @@ has_key keys pair =
     list_any (λ key. pointwise nat_eq pair.object key.0 && pointwise nat_eq pair.server key.1) keys
 
 -- the pair is this one, if there is one
-abbrev pub is_pair : Option Pair → Pair → Bool
-is_pair None pair = false
-is_pair (Some one) pair = same_pair one pair
+abbrev pub is_this_pair : Option Pair → Pair → Bool
+is_this_pair None pair = false
+is_this_pair (Some one) pair = same_pair one pair
 
 -- the name is this one, if there is one
 abbrev pub is_name : Option (List ℕ) → List ℕ → Bool
@@ -32,10 +32,10 @@ stays_published keys departed pair = has_key keys pair && not (has_name departed
 
 -- whether a pair is among these once one is withdrawn and one is published
 abbrev pub key_after : (Pair → Bool) → Option Pair → Option Pair → Pair → Bool
-key_after has withdrawn published pair = is_pair published pair || (not (is_pair withdrawn pair) && has pair)
+key_after has withdrawn published pair = is_this_pair published pair || (not (is_this_pair withdrawn pair) && has pair)
 
 -- Whether a pair is there once this one is withdrawn, that one is published, unless its server has departed, and this server departs.
 abbrev pub has_after : (Pair → Bool) → Option Pair → Option Pair → List (List ℕ) → Option (List ℕ) → Pair → Bool
 has_after has withdrawn published departed departs pair =
     not (is_name departs pair.server)
-    && ((not (is_pair withdrawn pair) && has pair) || (not (has_name departed pair.server) && is_pair published pair))
+    && ((not (is_this_pair withdrawn pair) && has pair) || (not (has_name departed pair.server) && is_this_pair published pair))

@@ -1,8 +1,8 @@
 ghost use Rattle.std.specs.Prelude.{◌≡◌, ◌≤◌, ◌+◌, length, option_copied, option_map, option_and_then, slice_get, IfSome};
 ghost use Rattle.tap_log.specs.Kinds.{sent_number};
-ghost use Rattle.tap_log.specs.Laws.{at_most_one};
+ghost use Rattle.tap_log.specs.MoreRecords.{at_most_one};
 ghost use Rattle.tap_outstanding.specs.Outstanding.{AreOutstanding, most_sent};
-ghost use Rattle.tap_ledger.specs.Flights.{followed, sent_payload, taken_by};
+ghost use Rattle.tap_ledger.specs.Flights.{followed, sent_payload, taken_by_number};
 
 use tap_log::Record;
 use tap_outstanding::{Flight, Outstanding};
@@ -44,7 +44,7 @@ pub(crate) fn follow(frames: &mut Outstanding, item: &Record, record_place: usiz
 // Takes the frame with this number, if it is outstanding.
 #[inline(always)]
 fn take(frames: &mut Outstanding, number: u32)
-    ensures { frames.new ≡ taken_by frames.old number }
+    ensures { frames.new ≡ taken_by_number frames.old number }
 {
     frames.take_number(number);
 }

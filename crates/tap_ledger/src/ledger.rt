@@ -13,7 +13,7 @@ ghost use Rattle.tap_history.specs.Names.{name_count, names_of};
 ghost use Rattle.tap_history.specs.Published.{has_pair, published_of};
 ghost use Rattle.tap_history.specs.Refusals.{begin_settings};
 ghost use Rattle.tap_ledger.specs.Added.{CanAdd};
-ghost use Rattle.tap_ledger.specs.Kept.{leaver_next};
+ghost use Rattle.tap_ledger.specs.KeptLedger.{leaver_next};
 ghost use Rattle.tap_ledger.specs.NameLists.{accepted_after};
 ghost use Rattle.tap_ledger.specs.Quiet.{is_moving_step, is_quiet, is_request};
 
@@ -59,7 +59,7 @@ pub struct Ledger {
 
 impl Model for Ledger {
     ghost use Rattle.std.specs.Prelude.{◌≤◌};
-    ghost use Rattle.tap_ledger.specs.Kept.{HasRoom, Kept};
+    ghost use Rattle.tap_ledger.specs.KeptLedger.{Kept, LedgerHasRoom};
     ghost use Rattle.tap_ledger.specs.Ledger.{LedgerValue};
 
     ghost Value = { LedgerValue };
@@ -69,7 +69,7 @@ impl Model for Ledger {
     ghost invariant = { λ l. record {
       kept : Kept l.log.records l.settings l.frames l.roll.lists l.pairs.keys l.tickets l.casts l.leaver;
       within : l.room ≤ l.made;
-      room : HasRoom l.made l.log.spare l.frames.room l.roll.room l.pairs.room;
+      room : LedgerHasRoom l.made l.log.spare l.frames.room l.roll.room l.pairs.room;
     } };
 }
 

@@ -1,6 +1,6 @@
 ghost use Rattle.std.specs.Prelude.{◌≡◌, ◌≤◌, ◌+◌, max, [], ◌∷◌, ◌++◌, fold, length, IfOk, OnOk, OnErr};
 ghost use Rattle.tap_name.specs.Names.{has_name, names_without};
-ghost use Rattle.tap_log.specs.Laws.{at_most_one};
+ghost use Rattle.tap_log.specs.MoreRecords.{at_most_one};
 ghost use Rattle.tap_history.specs.Names.{with_name};
 ghost use Rattle.tap_ledger.specs.NameLists.{NamesValue, names_changed};
 

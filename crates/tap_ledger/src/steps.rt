@@ -1,13 +1,13 @@
 ghost use Rattle.std.specs.Prelude.{◌≡◌, false, option_and_then, option_copied};
 ghost use Rattle.tap_history.specs.Core.{accepted_step};
-ghost use Rattle.tap_history.specs.Steps.{abandon_name, asked_node, depart_name, flight_place, join_name, publish_pair, suits_departure, suits_joining, withdraw_pair};
+ghost use Rattle.tap_history.specs.StepAsks.{abandon_name, asked_node, depart_name, flight_place, join_name, publish_pair, suits_departure, suits_joining, withdraw_pair};
 
 use tap_log::{Pair, Record, accepts, step_of};
 use tap_name::Name;
 use tap_scenario::Step;
 
 // The node that has to be there for the step.
-#[tactic(auto, unfolding(tap_history::specs::Steps::asked_node))]
+#[tactic(auto, unfolding(tap_history::specs::StepAsks::asked_node))]
 pub(crate) fn asked_node(step: &Step) -> Option<&Name>
     ensures { option_copied result ≡ asked_node step.now }
 {
@@ -23,7 +23,7 @@ pub(crate) fn asked_node(step: &Step) -> Option<&Name>
 }
 
 // Whether a node that is joining can answer the step.
-#[tactic(auto, unfolding(tap_history::specs::Steps::suits_joining))]
+#[tactic(auto, unfolding(tap_history::specs::StepAsks::suits_joining))]
 pub(crate) fn suits_joining(step: &Step) -> bool
     ensures { result ≡ suits_joining step.now }
 {
@@ -34,7 +34,7 @@ pub(crate) fn suits_joining(step: &Step) -> bool
 }
 
 // Whether the step can be run while a node departs.
-#[tactic(auto, unfolding(tap_history::specs::Steps::suits_departure))]
+#[tactic(auto, unfolding(tap_history::specs::StepAsks::suits_departure))]
 pub(crate) fn suits_departure(step: &Step) -> bool
     ensures { result ≡ suits_departure step.now }
 {
@@ -46,7 +46,7 @@ pub(crate) fn suits_departure(step: &Step) -> bool
 }
 
 // The pair that a step has published.
-#[tactic(auto, unfolding(tap_history::specs::Steps::publish_pair))]
+#[tactic(auto, unfolding(tap_history::specs::StepAsks::publish_pair))]
 pub(crate) fn publish_pair(step: &Step) -> Option<Pair>
     ensures { result ≡ publish_pair step.now }
 {
@@ -60,7 +60,7 @@ pub(crate) fn publish_pair(step: &Step) -> Option<Pair>
 }
 
 // The pair that a step has withdrawn.
-#[tactic(auto, unfolding(tap_history::specs::Steps::withdraw_pair))]
+#[tactic(auto, unfolding(tap_history::specs::StepAsks::withdraw_pair))]
 pub(crate) fn withdraw_pair(step: &Step) -> Option<Pair>
     ensures { result ≡ withdraw_pair step.now }
 {
@@ -74,7 +74,7 @@ pub(crate) fn withdraw_pair(step: &Step) -> Option<Pair>
 }
 
 // The name of the node that a step has give up joining.
-#[tactic(auto, unfolding(tap_history::specs::Steps::abandon_name))]
+#[tactic(auto, unfolding(tap_history::specs::StepAsks::abandon_name))]
 pub(crate) fn abandon_name(step: &Step) -> Option<Name>
     ensures { result ≡ abandon_name step.now }
 {
@@ -85,7 +85,7 @@ pub(crate) fn abandon_name(step: &Step) -> Option<Name>
 }
 
 // The place, among the frames or packets, of the one that the step takes, copies, loses or repeats.
-#[tactic(auto, unfolding(tap_history::specs::Steps::flight_place))]
+#[tactic(auto, unfolding(tap_history::specs::StepAsks::flight_place))]
 pub(crate) fn flight_place(step: &Step) -> Option<u32>
     ensures { result ≡ flight_place step.now }
 {
@@ -97,7 +97,7 @@ pub(crate) fn flight_place(step: &Step) -> Option<u32>
 }
 
 // The name of the node that a step has join.
-#[tactic(auto, unfolding(tap_history::specs::Steps::join_name))]
+#[tactic(auto, unfolding(tap_history::specs::StepAsks::join_name))]
 pub(crate) fn join_name(step: &Step) -> Option<Name>
     ensures { result ≡ join_name step.now }
 {

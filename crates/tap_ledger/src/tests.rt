@@ -2,8 +2,8 @@
 ghost use Rattle.std.specs.Prelude.{◌≡◌, ◌&&◌, nat_lt};
 ghost use Rattle.tap_log.specs.Counts.{sent_count};
 ghost use Rattle.tap_log.specs.Kinds.{sent_number};
-ghost use Rattle.tap_ledger.specs.Added.{is_plain, most_frames};
-ghost use Rattle.tap_ledger.specs.Single.{can_add_one, can_send, can_take, is_below, is_next};
+ghost use Rattle.tap_ledger.specs.Added.{is_plain, most_ledger_frames};
+ghost use Rattle.tap_ledger.specs.Single.{can_add_one, can_send, can_take_record, is_next, number_is_below};
 
 use crate::Ledger;
 use std::alloc::Global;
@@ -48,7 +48,7 @@ fn is_next(number: Option<u32>, count: u32) -> bool
 
 // Whether the number, if there is one, is below the bound.
 fn is_below(number: Option<u32>, bound: u32) -> bool
-    ensures { result ≡ is_below number bound }
+    ensures { result ≡ number_is_below number bound }
 {
     match number {
         Some(number) => number < bound,
@@ -59,7 +59,7 @@ fn is_below(number: Option<u32>, bound: u32) -> bool
 // Whether the frame that the record sends, if it sends one, is the next one, and one more may be sent.
 fn is_numbered(ledger: &Ledger, item: &Record) -> bool
     ensures { result ≡ (is_next (sent_number item.now) (sent_count ledger.now.records)
-        && nat_lt (sent_count ledger.now.records) most_frames) }
+        && nat_lt (sent_count ledger.now.records) most_ledger_frames) }
 {
     is_next(number_in(NumberKind::Sent, item), ledger.sent()) && ledger.sent() < 4_000_000_000
 }
@@ -73,7 +73,7 @@ fn can_send(ledger: &Ledger, item: &Record) -> bool
 
 // Whether what the record takes was sent, and it asks no lookup.
 fn can_take(ledger: &Ledger, item: &Record) -> bool
-    ensures { result ≡ can_take ledger.now.records item.now }
+    ensures { result ≡ can_take_record ledger.now.records item.now }
 {
     is_below(number_in(NumberKind::Taken, item), ledger.sent())
         && number_in(NumberKind::Asked, item).is_none()

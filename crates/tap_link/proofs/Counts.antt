@@ -9,25 +9,25 @@ use Rattle.std.proofs.lemmas.Bool.{cases_Bool}
 use Rattle.std.proofs.lemmas.List.{length-map}
 use Rattle.std.proofs.lemmas.List.Sums.{sum_by-append, sum_by-cons}
 use Rattle.tap_link.specs.declared.kind.Kind.{Kind}
-use Rattle.tap_link.specs.Entry.{Entry}
+use Rattle.tap_link.specs.Entry.{LinkEntry}
 use Rattle.tap_link.specs.LinkSet.{LinksAscend, kind_of, with_link, with_kind, without, settled_count, is_settled}
 use Rattle.tap_link.proofs.Least.{tied_is, ascending_tail}
 use Rattle.tap_link.proofs.Search.{AreAbove, above-without, above-with_kind}
 
 module _ {K : Type 0} where
   -- a number for each link by its kind, added up
-  abbrev pub kind_sum : (Kind → ℕ) → List (Entry K) → ℕ
+  abbrev pub kind_sum : (Kind → ℕ) → List (LinkEntry K) → ℕ
   kind_sum weight links = sum_by (λ e. weight e.kind) links
 
-  kind_sum-cons : (weight : Kind → ℕ) (e : Entry K) (es : List (Entry K)) → kind_sum weight (e ∷ es) ≡ weight e.kind + kind_sum weight es
+  kind_sum-cons : (weight : Kind → ℕ) (e : LinkEntry K) (es : List (LinkEntry K)) → kind_sum weight (e ∷ es) ≡ weight e.kind + kind_sum weight es
   kind_sum-cons weight e es = sum_by-cons (λ f. weight f.kind) e es
 
-  kind_sum-ones : (links : List (Entry K)) → kind_sum (λ _. 1) links ≡ length links
+  kind_sum-ones : (links : List (LinkEntry K)) → kind_sum (λ _. 1) links ≡ length links
   kind_sum-ones [] = refl
   kind_sum-ones (e ∷ es) = rw kind_sum-cons (omega (arith, kind_sum-ones es))
 
 module _ {K : Type 0} (cmp : K → K → Ordering) where
-  one_side : (weight : Kind → ℕ) (e : Entry K) (es : List (Entry K)) (target : K) (r : Ordering) → cmp target e.target ≡ r
+  one_side : (weight : Kind → ℕ) (e : LinkEntry K) (es : List (LinkEntry K)) (target : K) (r : Ordering) → cmp target e.target ≡ r
       → is_eq (cmp target e.target) ≡ false
       → kind_sum weight (filter (λ f. is_gt (cmp target f.target)) es) + kind_sum weight (filter (λ f. is_lt (cmp target f.target)) es)
       ≡ kind_sum weight es
@@ -40,7 +40,7 @@ module _ {K : Type 0} (cmp : K → K → Ordering) where
   one_side weight e es target Greater is apart ih =
       rw (is, kind_sum-cons weight e (filter (λ f. is_gt (cmp target f.target)) es), kind_sum-cons weight e es) (omega arith)
 
-  both_sides : (weight : Kind → ℕ) (links : List (Entry K)) (target : K) → kind_of cmp links target ≡ None
+  both_sides : (weight : Kind → ℕ) (links : List (LinkEntry K)) (target : K) → kind_of cmp links target ≡ None
       → kind_sum weight (filter (λ f. is_gt (cmp target f.target)) links)
       + kind_sum weight (filter (λ f. is_lt (cmp target f.target)) links)
       ≡ kind_sum weight links
@@ -54,22 +54,22 @@ module _ {K : Type 0} (cmp : K → K → Ordering) where
       ]
 
   -- a link more
-  pub kind_sum-with_link : (weight : Kind → ℕ) (links : List (Entry K)) (target : K) (kind : Kind) → kind_of cmp links target ≡ None
+  pub kind_sum-with_link : (weight : Kind → ℕ) (links : List (LinkEntry K)) (target : K) (kind : Kind) → kind_of cmp links target ≡ None
       → kind_sum weight (with_link cmp links target kind) ≡ weight kind + kind_sum weight links
   kind_sum-with_link weight links target kind absent =
       let lesser = filter (λ f. is_gt (cmp target f.target)) links in
       let greater = filter (λ f. is_lt (cmp target f.target)) links in
-      let new : Entry K = record { target = target; kind = kind } in
+      let new : LinkEntry K = record { target = target; kind = kind } in
       rw (sum_by-append (λ f. weight f.kind) lesser (new ∷ greater), kind_sum-cons weight new greater)
       (omega (arith, both_sides weight links target absent))
 
-  above_all : IsTotalOrder cmp → (e : Entry K) (es : List (Entry K)) (target : K) → LinksAscend cmp (e ∷ es)
+  above_all : IsTotalOrder cmp → (e : LinkEntry K) (es : List (LinkEntry K)) (target : K) → LinksAscend cmp (e ∷ es)
       → is_eq (cmp target e.target) ≡ true → AreAbove cmp es target 0
   above_all o e es target ascending tied k d ge h =
       o.congr target e.target _ (tied_is (cmp target e.target) tied) ∙ ascending 0 (suc k) d (omega arith) (omega arith)
 
   -- a link less
-  pub kind_sum-without : IsTotalOrder cmp → (weight : Kind → ℕ) (links : List (Entry K)) (target : K) (kind : Kind)
+  pub kind_sum-without : IsTotalOrder cmp → (weight : Kind → ℕ) (links : List (LinkEntry K)) (target : K) (kind : Kind)
       → LinksAscend cmp links → kind_of cmp links target ≡ Some kind
       → kind_sum weight (without cmp links target) + weight kind ≡ kind_sum weight links
   kind_sum-without o weight [] target kind ascending found = cc
@@ -87,7 +87,7 @@ module _ {K : Type 0} (cmp : K → K → Ordering) where
       ]
 
   -- a link of another kind
-  pub kind_sum-with_kind : IsTotalOrder cmp → (weight : Kind → ℕ) (links : List (Entry K)) (target : K) (old new : Kind)
+  pub kind_sum-with_kind : IsTotalOrder cmp → (weight : Kind → ℕ) (links : List (LinkEntry K)) (target : K) (old new : Kind)
       → LinksAscend cmp links → kind_of cmp links target ≡ Some old
       → kind_sum weight (with_kind cmp links target new) + weight old ≡ kind_sum weight links + weight new
   kind_sum-with_kind o weight [] target old new ascending found = cc
@@ -109,24 +109,24 @@ module _ {K : Type 0} (cmp : K → K → Ordering) where
             rw (apart, kind_sum-cons weight e (with_kind cmp es target new), kind_sum-cons weight e es) (omega arith)
       ]
 
-  pub settled_count-with_link : (links : List (Entry K)) (target : K) (kind : Kind) → kind_of cmp links target ≡ None
+  pub settled_count-with_link : (links : List (LinkEntry K)) (target : K) (kind : Kind) → kind_of cmp links target ≡ None
       → settled_count (with_link cmp links target kind) ≡ cond {A = ℕ} (is_settled (Some kind)) 1 0 + settled_count links
   settled_count-with_link links target kind absent = kind_sum-with_link (λ k. cond (is_settled (Some k)) 1 0) links target kind absent
 
-  pub settled_count-without : IsTotalOrder cmp → (links : List (Entry K)) (target : K) (kind : Kind)
+  pub settled_count-without : IsTotalOrder cmp → (links : List (LinkEntry K)) (target : K) (kind : Kind)
       → LinksAscend cmp links → kind_of cmp links target ≡ Some kind
       → settled_count (without cmp links target) + cond {A = ℕ} (is_settled (Some kind)) 1 0 ≡ settled_count links
   settled_count-without o links target kind ascending found =
       kind_sum-without o (λ k. cond (is_settled (Some k)) 1 0) links target kind ascending found
 
-  pub settled_count-with_kind : IsTotalOrder cmp → (links : List (Entry K)) (target : K) (old new : Kind)
+  pub settled_count-with_kind : IsTotalOrder cmp → (links : List (LinkEntry K)) (target : K) (old new : Kind)
       → LinksAscend cmp links → kind_of cmp links target ≡ Some old
       → settled_count (with_kind cmp links target new) + cond {A = ℕ} (is_settled (Some old)) 1 0
       ≡ settled_count links + cond {A = ℕ} (is_settled (Some new)) 1 0
   settled_count-with_kind o links target old new ascending found =
       kind_sum-with_kind o (λ k. cond (is_settled (Some k)) 1 0) links target old new ascending found
 
-  pub length-with_link : (links : List (Entry K)) (target : K) (kind : Kind) → kind_of cmp links target ≡ None
+  pub length-with_link : (links : List (LinkEntry K)) (target : K) (kind : Kind) → kind_of cmp links target ≡ None
       → length (with_link cmp links target kind) ≡ 1 + length links
   length-with_link links target kind absent =
       omega (
@@ -136,10 +136,10 @@ module _ {K : Type 0} (cmp : K → K → Ordering) where
         kind_sum-with_link (λ _. 1) links target kind absent,
       )
 
-  pub length-with_kind : (links : List (Entry K)) (target : K) (kind : Kind) → length (with_kind cmp links target kind) ≡ length links
+  pub length-with_kind : (links : List (LinkEntry K)) (target : K) (kind : Kind) → length (with_kind cmp links target kind) ≡ length links
   length-with_kind links target kind = length-map links _
 
-  pub length-without : IsTotalOrder cmp → (links : List (Entry K)) (target : K) (kind : Kind)
+  pub length-without : IsTotalOrder cmp → (links : List (LinkEntry K)) (target : K) (kind : Kind)
       → LinksAscend cmp links → kind_of cmp links target ≡ Some kind → length (without cmp links target) + 1 ≡ length links
   length-without o links target kind ascending found =
       omega (

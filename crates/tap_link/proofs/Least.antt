@@ -10,7 +10,7 @@ use Rattle.std.proofs.lemmas.List.{at_drop_more}
 use Rattle.std.proofs.lemmas.List.Sums.{sum_by-cons}
 use Rattle.tap_link.specs.declared.kind.Kind.{Kind}
 use Rattle.tap_link.specs.declared.kind.Kind.TheVariants.{Pin, Settled, Leaving}
-use Rattle.tap_link.specs.Entry.{Entry}
+use Rattle.tap_link.specs.Entry.{LinkEntry}
 use Rattle.tap_link.specs.LinkSet.{LinksAscend, IsLeastSettled, kind_of, is_settled, settled_count, least_settled}
 use Rattle.tap_link.proofs.Present.{get_or_from_got, within_from_got}
 
@@ -27,26 +27,26 @@ tied_is Greater tied = cc
 
 module _ {K : Type 0} where
   -- the steps of a loop over the links
-  least_settled-drop : (links : List (Entry K)) (at : ℕ) (x : Entry K) → slice_get links at ≡ Some x
+  least_settled-drop : (links : List (LinkEntry K)) (at : ℕ) (x : LinkEntry K) → slice_get links at ≡ Some x
       → least_settled (drop at links) ≡ least_settled (x ∷ drop (at + 1) links)
   least_settled-drop links at x got =
       at_drop_more least_settled links at x (within_from_got links at x got)
-      ∙ ap (λ (e : Entry K). least_settled (e ∷ drop (at + 1) links)) (get_or_from_got links at x x got)
+      ∙ ap (λ (e : LinkEntry K). least_settled (e ∷ drop (at + 1) links)) (get_or_from_got links at x x got)
 
-  pub least_settled-drop_other : (links : List (Entry K)) (at : ℕ) (x : Entry K) → slice_get links at ≡ Some x
+  pub least_settled-drop_other : (links : List (LinkEntry K)) (at : ℕ) (x : LinkEntry K) → slice_get links at ≡ Some x
       → is_settled (Some x.kind) ≡ false → least_settled (drop at links) ≡ least_settled (drop (at + 1) links)
   least_settled-drop_other links at x got other = least_settled-drop links at x got ∙ rw other refl
 
-  pub least_settled-drop_settled : (links : List (Entry K)) (at : ℕ) (x : Entry K) → slice_get links at ≡ Some x
+  pub least_settled-drop_settled : (links : List (LinkEntry K)) (at : ℕ) (x : LinkEntry K) → slice_get links at ≡ Some x
       → is_settled (Some x.kind) ≡ true → least_settled (drop at links) ≡ Some x.target
   least_settled-drop_settled links at x got settled = least_settled-drop links at x got ∙ rw settled refl
 
-  settled_count-cons : (e : Entry K) (es : List (Entry K))
+  settled_count-cons : (e : LinkEntry K) (es : List (LinkEntry K))
       → settled_count (e ∷ es) ≡ cond {A = ℕ} (is_settled (Some e.kind)) 1 0 + settled_count es
   settled_count-cons e es = sum_by-cons (λ f. cond (is_settled (Some f.kind)) 1 0) e es
 
   -- there is a least settled link exactly where some link is settled and not leaving
-  pub counted_some : (links : List (Entry K)) (target : K) → least_settled links ≡ Some target → 0 < settled_count links
+  pub counted_some : (links : List (LinkEntry K)) (target : K) → least_settled links ≡ Some target → 0 < settled_count links
   counted_some [] target some = cc
   counted_some (e ∷ es) target some =
       elim (cases_Bool (is_settled (Some e.kind))) [
@@ -56,7 +56,7 @@ module _ {K : Type 0} where
             rw (settled_count-cons e es, is) (omega (arith, counted_some es target rest))
       ]
 
-  pub counted_none : (links : List (Entry K)) → least_settled links ≡ None → settled_count links ≡ 0
+  pub counted_none : (links : List (LinkEntry K)) → least_settled links ≡ None → settled_count links ≡ 0
   counted_none [] none = refl
   counted_none (e ∷ es) none =
       elim (cases_Bool (is_settled (Some e.kind))) [
@@ -67,7 +67,7 @@ module _ {K : Type 0} where
       ]
 
   -- there is a least one exactly if some are counted
-  pub some_counted : (links : List (Entry K)) (count : ℕ) → count ≡ settled_count links → nat_lt 0 count ≡ is_some (least_settled links)
+  pub some_counted : (links : List (LinkEntry K)) (count : ℕ) → count ≡ settled_count links → nat_lt 0 count ≡ is_some (least_settled links)
   some_counted links count is = go (least_settled links) refl
     where
       go : (least : Option K) → least_settled links ≡ least → nat_lt 0 count ≡ is_some (least_settled links)
@@ -78,20 +78,20 @@ module _ {K : Type 0} where
 
 module _ {K : Type 0} (cmp : K → K → Ordering) where
   -- the target is below each of these
-  abbrev IsBelowAll : K → List (Entry K) → Type 0
-  IsBelowAll target links = (k : ℕ) (d : Entry K) → k < length links → cmp target (get_or links k d).target ≡ Less
+  abbrev IsBelowAll : K → List (LinkEntry K) → Type 0
+  IsBelowAll target links = (k : ℕ) (d : LinkEntry K) → k < length links → cmp target (get_or links k d).target ≡ Less
 
-  below_rest : (e : Entry K) (es : List (Entry K)) → LinksAscend cmp (e ∷ es) → IsBelowAll e.target es
+  below_rest : (e : LinkEntry K) (es : List (LinkEntry K)) → LinksAscend cmp (e ∷ es) → IsBelowAll e.target es
   below_rest e es ascending k d h = ascending 0 (suc k) d (omega arith) (omega arith)
 
-  below_tail : (target : K) (e : Entry K) (es : List (Entry K)) → IsBelowAll target (e ∷ es) → IsBelowAll target es
+  below_tail : (target : K) (e : LinkEntry K) (es : List (LinkEntry K)) → IsBelowAll target (e ∷ es) → IsBelowAll target es
   below_tail target e es below k d h = below (suc k) d (omega arith)
 
-  pub ascending_tail : (e : Entry K) (es : List (Entry K)) → LinksAscend cmp (e ∷ es) → LinksAscend cmp es
+  pub ascending_tail : (e : LinkEntry K) (es : List (LinkEntry K)) → LinksAscend cmp (e ∷ es) → LinksAscend cmp es
   ascending_tail e es ascending i j d lt h = ascending (suc i) (suc j) d (omega arith) (omega arith)
 
   -- what is below all links is below the least settled one
-  below_least : (below : K) (links : List (Entry K)) (target : K) → IsBelowAll below links → least_settled links ≡ Some target
+  below_least : (below : K) (links : List (LinkEntry K)) (target : K) → IsBelowAll below links → least_settled links ≡ Some target
       → cmp below target ≡ Less
   below_least below [] target all some = cc
   below_least below (e ∷ es) target all some =
@@ -106,7 +106,7 @@ module _ {K : Type 0} (cmp : K → K → Ordering) where
       ]
 
   -- and below each target that is linked to
-  below_linked : IsTotalOrder cmp → (below : K) (links : List (Entry K)) (target : K) (kind : Kind) → IsBelowAll below links
+  below_linked : IsTotalOrder cmp → (below : K) (links : List (LinkEntry K)) (target : K) (kind : Kind) → IsBelowAll below links
       → kind_of cmp links target ≡ Some kind → cmp below target ≡ Less
   below_linked o below [] target kind all some = cc
   below_linked o below (e ∷ es) target kind all some =
@@ -118,7 +118,7 @@ module _ {K : Type 0} (cmp : K → K → Ordering) where
       ]
 
   -- the first settled link of an ascending list is the least one
-  pub least_settled_is : IsTotalOrder cmp → (links : List (Entry K)) (target : K) → LinksAscend cmp links
+  pub least_settled_is : IsTotalOrder cmp → (links : List (LinkEntry K)) (target : K) → LinksAscend cmp links
       → least_settled links ≡ Some target → IsLeastSettled cmp links target
   least_settled_is o [] target ascending some = cc
   least_settled_is o (e ∷ es) target ascending some =
@@ -156,7 +156,7 @@ module _ {K : Type 0} (cmp : K → K → Ordering) where
       ]
 
   -- where there is no least settled link, no target is settled
-  pub never_settled : (links : List (Entry K)) (target : K) → least_settled links ≡ None → kind_of cmp links target ≢ Some Settled
+  pub never_settled : (links : List (LinkEntry K)) (target : K) → least_settled links ≡ None → kind_of cmp links target ≢ Some Settled
   never_settled [] target none settled = cc
   never_settled (e ∷ es) target none settled =
       elim (cases_Bool (is_settled (Some e.kind))) [

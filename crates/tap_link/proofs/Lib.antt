@@ -1,6 +1,6 @@
 pub mod Present
 pub mod Search
-pub mod Kept
+pub mod KeptLinks
 pub mod Least
 pub mod LookUps
 pub mod Counts

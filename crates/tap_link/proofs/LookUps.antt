@@ -12,7 +12,7 @@ use Rattle.tap_link.specs.declared.kind.Kind.{Kind}
 use Rattle.tap_link.specs.declared.kind.Kind.TheVariants.{Settled}
 use Rattle.tap_link.specs.declared.kind.Released.{Released}
 use Rattle.tap_link.specs.declared.kind.Released.TheVariants.{Settled as ReleasedSettled, Dropped, Nothing}
-use Rattle.tap_link.specs.Entry.{Entry}
+use Rattle.tap_link.specs.Entry.{LinkEntry}
 use Rattle.tap_link.specs.LinkSet.{kind_of, with_link, with_kind, without, after_release}
 use Rattle.tap_link.proofs.Least.{tied_is}
 
@@ -55,15 +55,15 @@ module _ {X : Type 0} where
       ]
 
 module _ {K : Type 0} (cmp : K → K → Ordering) where
-  abbrev names : K → Entry K → Bool
+  abbrev names : K → LinkEntry K → Bool
   names target e = is_eq (cmp target e.target)
 
   -- where a link names one of two targets, it stands to the other as they stand to one another
-  alike : IsTotalOrder cmp → (target other : K) (e : Entry K) → names other e ≡ true → cmp target e.target ≡ cmp target other
+  alike : IsTotalOrder cmp → (target other : K) (e : LinkEntry K) → names other e ≡ true → cmp target e.target ≡ cmp target other
   alike o target other e named = sym (alike_right o other e.target target (tied_is (cmp other e.target) named))
 
   -- a look-up sees equal targets as one
-  pub kind_of-tied : IsTotalOrder cmp → (links : List (Entry K)) (target other : K) → cmp other target ≡ Equal
+  pub kind_of-tied : IsTotalOrder cmp → (links : List (LinkEntry K)) (target other : K) → cmp other target ≡ Equal
       → kind_of cmp links other ≡ kind_of cmp links target
   kind_of-tied o [] target other tied = refl
   kind_of-tied o (e ∷ es) target other tied =
@@ -76,21 +76,21 @@ module _ {K : Type 0} (cmp : K → K → Ordering) where
   same_test : IsTotalOrder cmp → (target other : K) → is_eq (cmp target other) ≡ is_eq (cmp other target)
   same_test o target other = ap is_eq (o.antisymm target other) ∙ is_eq-reverse (cmp other target)
 
-  pub kind_of-without : IsTotalOrder cmp → (links : List (Entry K)) (target other : K)
+  pub kind_of-without : IsTotalOrder cmp → (links : List (LinkEntry K)) (target other : K)
       → kind_of cmp (without cmp links target) other ≡ (if is_eq (cmp other target) then None else kind_of cmp links other)
   kind_of-without o links target other =
-      let test : (e : Entry K) → names other e ≡ true → not (names target e) ≡ not (is_eq (cmp other target)) =
+      let test : (e : LinkEntry K) → names other e ≡ true → not (names target e) ≡ not (is_eq (cmp other target)) =
       λ e named. ap (λ r. not (is_eq r)) (alike o target other e named) ∙ ap not (same_test o target other) in
       elim (cases_Bool (is_eq (cmp other target))) [
         | inl tied ↦
-            rw tied (ap (option_map (λ (e : Entry K). e.kind))
+            rw tied (ap (option_map (λ (e : LinkEntry K). e.kind))
             (find-filter_lost (names other) (λ e. not (names target e)) (λ e named. test e named ∙ ap not tied) links))
         | inr apart ↦
-            rw apart (ap (option_map (λ (e : Entry K). e.kind))
+            rw apart (ap (option_map (λ (e : LinkEntry K). e.kind))
             (find-filter_kept (names other) (λ e. not (names target e)) (λ e named. test e named ∙ ap not apart) links))
       ]
 
-  pub kind_of-with_kind : IsTotalOrder cmp → (links : List (Entry K)) (target other : K) (kind : Kind)
+  pub kind_of-with_kind : IsTotalOrder cmp → (links : List (LinkEntry K)) (target other : K) (kind : Kind)
       → kind_of cmp (with_kind cmp links target kind) other
       ≡ (if is_eq (cmp other target) then option_map (λ _. kind) (kind_of cmp links other) else kind_of cmp links other)
   kind_of-with_kind o [] target other kind =
@@ -112,7 +112,7 @@ module _ {K : Type 0} (cmp : K → K → Ordering) where
       ]
 
   -- how the other target stands to the one that is added decides where it may be found
-  found_among : IsTotalOrder cmp → (links : List (Entry K)) (target other : K) (kind : Kind) (r : Ordering) → cmp target other ≡ r
+  found_among : IsTotalOrder cmp → (links : List (LinkEntry K)) (target other : K) (kind : Kind) (r : Ordering) → cmp target other ≡ r
       → kind_of cmp (with_link cmp links target kind) other ≡ (if is_eq (cmp other target) then Some kind else kind_of cmp links other)
   found_among o links target other kind Less is =
       let back : cmp other target ≡ Greater = o.antisymm other target ∙ ap ordering_reverse is in
@@ -134,7 +134,7 @@ module _ {K : Type 0} (cmp : K → K → Ordering) where
       (λ e named. ap is_lt (alike o target other e named ∙ is)) links in
       rw (find-append (names other) (filter (λ e. is_gt (cmp target e.target)) links), lesser, back, greater, option_or-none) refl
 
-  pub kind_of-with_link : IsTotalOrder cmp → (links : List (Entry K)) (target other : K) (kind : Kind)
+  pub kind_of-with_link : IsTotalOrder cmp → (links : List (LinkEntry K)) (target other : K) (kind : Kind)
       → kind_of cmp (with_link cmp links target kind) other ≡ (if is_eq (cmp other target) then Some kind else kind_of cmp links other)
   kind_of-with_link o links target other kind = found_among o links target other kind (cmp target other) refl
 
@@ -144,7 +144,7 @@ module _ {K : Type 0} (cmp : K → K → Ordering) where
   kind_after Dropped before = None
   kind_after Nothing before = before
 
-  pub kind_of-after_release : IsTotalOrder cmp → (links : List (Entry K)) (target other : K) (answer : Released)
+  pub kind_of-after_release : IsTotalOrder cmp → (links : List (LinkEntry K)) (target other : K) (answer : Released)
       → kind_of cmp (after_release cmp links target answer) other
       ≡ (if is_eq (cmp other target) then kind_after answer (kind_of cmp links other) else kind_of cmp links other)
   kind_of-after_release o links target other ReleasedSettled = kind_of-with_kind o links target other Settled

@@ -10,7 +10,7 @@ use Rattle.std.proofs.lemmas.Bool.{cases_Bool, ltb-true}
 use Rattle.std.proofs.lemmas.Cmp.{alike_right, tied_itself}
 use Rattle.tap_link.specs.declared.kind.Kind.{Kind}
 use Rattle.tap_link.specs.declared.kind.Kind.TheVariants.{Pin, Settled, Leaving}
-use Rattle.tap_link.specs.Entry.{Entry}
+use Rattle.tap_link.specs.Entry.{LinkEntry}
 use Rattle.tap_link.specs.LinkSet.{LinksAscend, IsLeastSettled, IsLinkSet, LinkSetValue, forgotten, has_room, is_pinned, kind_of, least_settled, marked, offered, pinned, released, removed, with_kind, with_link, without}
 use Rattle.tap_link.proofs.Least.{least_settled_is, never_settled, tied_is}
 use Rattle.tap_link.proofs.LookUps.{kind_of-with_kind, kind_of-with_link, kind_of-without}
@@ -28,7 +28,7 @@ module _ {K : Type 0} (cmp : K → K → Ordering) where
   lesser_of (Some primary) target = if is_lt (cmp primary target) then Some primary else Some target
 
   -- the same targets are settled and not leaving
-  abbrev pub SameSettled : List (Entry K) → List (Entry K) → Type 0
+  abbrev pub SameSettled : List (LinkEntry K) → List (LinkEntry K) → Type 0
   SameSettled links others = (t : K) → (kind_of cmp links t ≡ Some Settled) ↔ (kind_of cmp others t ≡ Some Settled)
 
 module _ {K : Type 0} (cmp : K → K → Ordering) (o : IsTotalOrder cmp) (apart : TellsApart cmp) where
@@ -38,7 +38,7 @@ module _ {K : Type 0} (cmp : K → K → Ordering) (o : IsTotalOrder cmp) (apart
   neither_less a b Greater is not_less not_greater = absurd (not_greater (o.antisymm b a ∙ ap ordering_reverse is))
 
   -- a set has one least settled link
-  pub least_settled-from : (links : List (Entry K)) (target : K) → LinksAscend cmp links → IsLeastSettled cmp links target
+  pub least_settled-from : (links : List (LinkEntry K)) (target : K) → LinksAscend cmp links → IsLeastSettled cmp links target
       → least_settled links ≡ Some target
   least_settled-from links target ascending least = by_found (least_settled links) refl
     where
@@ -50,7 +50,7 @@ module _ {K : Type 0} (cmp : K → K → Ordering) (o : IsTotalOrder cmp) (apart
           is ∙ ap Some (neither_less first target (cmp first target) refl (least.least first found.settled) not_above)
 
   -- it is told by which targets are settled
-  pub least_settled-same : (links others : List (Entry K)) → LinksAscend cmp links → LinksAscend cmp others
+  pub least_settled-same : (links others : List (LinkEntry K)) → LinksAscend cmp links → LinksAscend cmp others
       → SameSettled cmp links others → least_settled links ≡ least_settled others
   least_settled-same links others ascending ascending' same = by_found (least_settled others) refl
     where
@@ -88,15 +88,15 @@ module _ {K : Type 0} (cmp : K → K → Ordering) (o : IsTotalOrder cmp) (apart
   forgotten_settled (Some Leaving) = ((λ is. is), (λ is. is))
 
   -- the target is now settled, and the others are as they were
-  abbrev pub AddsSettled : List (Entry K) → List (Entry K) → K → Type 0
+  abbrev pub AddsSettled : List (LinkEntry K) → List (LinkEntry K) → K → Type 0
   AddsSettled links new target =
       (t : K) → kind_of cmp new t ≡ (if is_eq (cmp t target) then Some Settled else kind_of cmp links t)
 
-  added_here : (links new : List (Entry K)) (target : K) → AddsSettled links new target → kind_of cmp new target ≡ Some Settled
+  added_here : (links new : List (LinkEntry K)) (target : K) → AddsSettled links new target → kind_of cmp new target ≡ Some Settled
   added_here links new target adds = adds target ∙ rw (tied_itself o target) refl
 
   -- whom a list names as settled after the target was added: it, or one that was
-  from_added : (links new : List (Entry K)) (target other : K) → AddsSettled links new target → kind_of cmp new other ≡ Some Settled
+  from_added : (links new : List (LinkEntry K)) (target other : K) → AddsSettled links new target → kind_of cmp new other ≡ Some Settled
       → (cmp other target ≡ Equal) ⊎ (kind_of cmp links other ≡ Some Settled)
   from_added links new target other adds settled =
       elim (cases_Bool (is_eq (cmp other target))) [
@@ -106,7 +106,7 @@ module _ {K : Type 0} (cmp : K → K → Ordering) (o : IsTotalOrder cmp) (apart
       ]
 
   -- the new least one is the target, where nothing that was settled is below it
-  least_added : (links new : List (Entry K)) (target : K) → LinksAscend cmp new → AddsSettled links new target
+  least_added : (links new : List (LinkEntry K)) (target : K) → LinksAscend cmp new → AddsSettled links new target
       → ((other : K) → kind_of cmp links other ≡ Some Settled → cmp other target ≢ Less) → least_settled new ≡ Some target
   least_added links new target ascending adds above =
       least_settled-from new target ascending (record {
@@ -119,7 +119,7 @@ module _ {K : Type 0} (cmp : K → K → Ordering) (o : IsTotalOrder cmp) (apart
       })
 
   -- and the least one stays where it is below the target
-  least_stays : (links new : List (Entry K)) (target first : K) → LinksAscend cmp new → AddsSettled links new target
+  least_stays : (links new : List (LinkEntry K)) (target first : K) → LinksAscend cmp new → AddsSettled links new target
       → IsLeastSettled cmp links first → cmp first target ≡ Less → least_settled new ≡ Some first
   least_stays links new target first ascending adds found below =
       let above : cmp target first ≡ Greater = o.antisymm target first ∙ ap ordering_reverse below in
@@ -132,7 +132,7 @@ module _ {K : Type 0} (cmp : K → K → Ordering) (o : IsTotalOrder cmp) (apart
             ];
       })
 
-  not_below : (links : List (Entry K)) (target first : K) (r : Ordering) → cmp first target ≡ r → r ≢ Less → IsLeastSettled cmp links first
+  not_below : (links : List (LinkEntry K)) (target first : K) (r : Ordering) → cmp first target ≡ r → r ≢ Less → IsLeastSettled cmp links first
       → (other : K) → kind_of cmp links other ≡ Some Settled → cmp other target ≢ Less
   not_below links target first Less is not_less found other settled less = not_less refl
   not_below links target first Equal is not_less found other settled less =
@@ -141,7 +141,7 @@ module _ {K : Type 0} (cmp : K → K → Ordering) (o : IsTotalOrder cmp) (apart
       let below : cmp target first ≡ Less = o.antisymm target first ∙ ap ordering_reverse is in
       found.least other settled (o.trans other target first less below)
 
-  added_by : (links new : List (Entry K)) (target first : K) (r : Ordering) → cmp first target ≡ r → LinksAscend cmp new
+  added_by : (links new : List (LinkEntry K)) (target first : K) (r : Ordering) → cmp first target ≡ r → LinksAscend cmp new
       → AddsSettled links new target → IsLeastSettled cmp links first
       → least_settled new ≡ (if is_lt (cmp first target) then Some first else Some target)
   added_by links new target first Less is ascending adds found = rw is (least_stays links new target first ascending adds found is)
@@ -151,7 +151,7 @@ module _ {K : Type 0} (cmp : K → K → Ordering) (o : IsTotalOrder cmp) (apart
       rw is (least_added links new target ascending adds (not_below links target first Greater is (λ wrong. cc) found))
 
   -- the primary after one more target is settled
-  pub least_settled-added : (links new : List (Entry K)) (target : K) → LinksAscend cmp links → LinksAscend cmp new
+  pub least_settled-added : (links new : List (LinkEntry K)) (target : K) → LinksAscend cmp links → LinksAscend cmp new
       → AddsSettled links new target → least_settled new ≡ lesser_of cmp (least_settled links) target
   least_settled-added links new target ascending ascending' adds = by_found (least_settled links) refl
     where
@@ -164,7 +164,7 @@ module _ {K : Type 0} (cmp : K → K → Ordering) (o : IsTotalOrder cmp) (apart
           (least_settled_is cmp o links first ascending is))
 
   -- the target is settled no more, and the others are as they were
-  abbrev pub LosesSettled : List (Entry K) → List (Entry K) → K → Type 0
+  abbrev pub LosesSettled : List (LinkEntry K) → List (LinkEntry K) → K → Type 0
   LosesSettled links new target =
       (t : K) → (kind_of cmp new t ≡ Some Settled) ↔ ((cmp t target ≢ Equal) × (kind_of cmp links t ≡ Some Settled))
 
@@ -196,7 +196,7 @@ module _ {K : Type 0} (cmp : K → K → Ordering) (o : IsTotalOrder cmp) (apart
   removed_never (Some Leaving) settled = cc
 
   -- where another target is the primary, or none, so it stays
-  pub least_settled-lost_other : (links new : List (Entry K)) (target : K) → LinksAscend cmp links → LinksAscend cmp new
+  pub least_settled-lost_other : (links new : List (LinkEntry K)) (target : K) → LinksAscend cmp links → LinksAscend cmp new
       → LosesSettled links new target → least_settled links ≢ Some target → least_settled new ≡ least_settled links
   least_settled-lost_other links new target ascending ascending' loses other = by_found (least_settled links) refl
     where
@@ -221,7 +221,7 @@ module _ {K : Type 0} (cmp : K → K → Ordering) (o : IsTotalOrder cmp) (apart
   above_lost target next Greater is not_less not_equal = o.antisymm target next ∙ ap ordering_reverse is
 
   -- where the target was the primary, the next one is above it
-  pub least_settled-lost : (links new : List (Entry K)) (target next : K) → LinksAscend cmp links → LinksAscend cmp new
+  pub least_settled-lost : (links new : List (LinkEntry K)) (target next : K) → LinksAscend cmp links → LinksAscend cmp new
       → LosesSettled links new target → least_settled links ≡ Some target → least_settled new ≡ Some next → cmp target next ≡ Less
   least_settled-lost links new target next ascending ascending' loses is next_is =
       let first = least_settled_is cmp o links target ascending is in

@@ -6,7 +6,7 @@ use Rattle.std.specs.declared.cmp.Ordering.{Ordering}
 use Rattle.std.proofs.lemmas.Bool.{ltb-false}
 use Rattle.tap_link.specs.declared.kind.Kind.{Kind}
 use Rattle.tap_link.specs.declared.kind.Kind.TheVariants.{Pin, Settled, Leaving}
-use Rattle.tap_link.specs.Entry.{Entry}
+use Rattle.tap_link.specs.Entry.{LinkEntry}
 use Rattle.tap_link.specs.LinkSet.{LinksAscend, IsLinkSet, LinkSetValue, forgotten, has_room, is_pinned, is_settled, is_settled_or_leaving, kind_of, least_settled, marked, offered, pinned, released, removed, settled_count, with_kind, with_link, without}
 use Rattle.tap_link.proofs.Counts.{length-with_kind, length-with_link, length-without, settled_count-with_kind, settled_count-with_link, settled_count-without}
 use Rattle.tap_link.proofs.Least.{counted_none}
@@ -15,7 +15,7 @@ use Rattle.tap_link.proofs.Least.{counted_none}
 abbrev pub one_if : Bool → ℕ
 one_if holds = cond holds 1 0
 
-width_if : {K : Type 0} (changes : Bool) (set : LinkSetValue K) (links : List (Entry K))
+width_if : {K : Type 0} (changes : Bool) (set : LinkSetValue K) (links : List (LinkEntry K))
     → (if changes then record set { links = links } else set).width ≡ set.width
 width_if true set links = refl
 width_if false set links = refl

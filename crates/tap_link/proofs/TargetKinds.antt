@@ -7,7 +7,7 @@ use Rattle.std.specs.declared.cmp.Ordering.{Ordering}
 use Rattle.std.proofs.lemmas.Bool.{cases_Bool}
 use Rattle.tap_link.specs.declared.kind.Kind.{Kind}
 use Rattle.tap_link.specs.declared.kind.Kind.TheVariants.{Pin, Settled, Leaving}
-use Rattle.tap_link.specs.Entry.{Entry}
+use Rattle.tap_link.specs.Entry.{LinkEntry}
 use Rattle.tap_link.specs.LinkSet.{LinkSetValue, forgotten, has_room, is_pinned, is_settled, is_settled_or_leaving, kind_of, marked, offered, pinned, released, removed, with_kind, with_link, without}
 use Rattle.tap_link.proofs.Least.{tied_is}
 use Rattle.tap_link.proofs.LookUps.{kind_of-tied, kind_of-with_kind, kind_of-with_link, kind_of-without}
@@ -47,7 +47,7 @@ settled_given (Some k) kind is = refl
 
 module _ {K : Type 0} (cmp : K → K → Ordering) (o : IsTotalOrder cmp) where
   -- two rules that agree on the kind of a target agree on each target that is equal to it
-  pub by_rule : (links new : List (Entry K)) (target other : K) (made rule : Option Kind → Option Kind)
+  pub by_rule : (links new : List (LinkEntry K)) (target other : K) (made rule : Option Kind → Option Kind)
       → kind_of cmp new other ≡ (if is_eq (cmp other target) then made (kind_of cmp links other) else kind_of cmp links other)
       → made (kind_of cmp links target) ≡ rule (kind_of cmp links target)
       → kind_of cmp new other ≡ (if is_eq (cmp other target) then rule (kind_of cmp links other) else kind_of cmp links other)
@@ -58,7 +58,7 @@ module _ {K : Type 0} (cmp : K → K → Ordering) (o : IsTotalOrder cmp) where
       ]
 
   -- where nothing changes
-  by_none : (links : List (Entry K)) (target other : K) (rule : Option Kind → Option Kind)
+  by_none : (links : List (LinkEntry K)) (target other : K) (rule : Option Kind → Option Kind)
       → kind_of cmp links target ≡ rule (kind_of cmp links target)
       → kind_of cmp links other ≡ (if is_eq (cmp other target) then rule (kind_of cmp links other) else kind_of cmp links other)
   by_none links target other rule same =
@@ -67,7 +67,7 @@ module _ {K : Type 0} (cmp : K → K → Ordering) (o : IsTotalOrder cmp) where
       by_rule links links target other (λ k. k) rule is same
 
   -- a change that is made or not
-  by_if : (set : LinkSetValue K) (new : List (Entry K)) (target other : K) (changes : Bool) (made rule : Option Kind → Option Kind)
+  by_if : (set : LinkSetValue K) (new : List (LinkEntry K)) (target other : K) (changes : Bool) (made rule : Option Kind → Option Kind)
       → kind_of cmp new other ≡ (if is_eq (cmp other target) then made (kind_of cmp set.links other) else kind_of cmp set.links other)
       → (changes ≡ true → made (kind_of cmp set.links target) ≡ rule (kind_of cmp set.links target))
       → (changes ≡ false → kind_of cmp set.links target ≡ rule (kind_of cmp set.links target))

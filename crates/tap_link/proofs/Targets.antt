@@ -7,7 +7,7 @@ use Rattle.std.specs.declared.cmp.Ordering.{Ordering}
 use Rattle.std.proofs.lemmas.Bool.{cases_Bool}
 use Rattle.std.proofs.lemmas.List.Elements.{All-append, All-cons, All-filter, All-map}
 use Rattle.tap_link.specs.declared.kind.Kind.{Kind}
-use Rattle.tap_link.specs.Entry.{Entry}
+use Rattle.tap_link.specs.Entry.{LinkEntry}
 use Rattle.tap_link.specs.declared.kind.Kind.TheVariants.{Pin, Settled, Leaving}
 use Rattle.tap_link.specs.declared.kind.Released.{Released}
 use Rattle.tap_link.specs.declared.kind.Released.TheVariants.{Settled as ReleasedSettled, Dropped, Nothing}
@@ -15,23 +15,23 @@ use Rattle.tap_link.specs.LinkSet.{LinkSetValue, after_release, forgotten, has_r
 
 module _ {K : Type 0} (cmp : K → K → Ordering) (P : K → Type 0) where
   -- it holds of each target
-  abbrev pub AllTargets : List (Entry K) → Type 0
+  abbrev pub AllTargets : List (LinkEntry K) → Type 0
   AllTargets links = All (λ e. P e.target) links
 
-  pub all_targets-with_link : (links : List (Entry K)) (target : K) (kind : Kind) → AllTargets links → P target
+  pub all_targets-with_link : (links : List (LinkEntry K)) (target : K) (kind : Kind) → AllTargets links → P target
       → AllTargets (with_link cmp links target kind)
   all_targets-with_link links target kind all new =
-      let added : Entry K = record { target = target; kind = kind } in
+      let added : LinkEntry K = record { target = target; kind = kind } in
       let lesser = filter (λ e. is_gt (cmp target e.target)) links in
       let greater = filter (λ e. is_lt (cmp target e.target)) links in
       All-append (λ e. P e.target) lesser (added ∷ greater)
       (All-filter (λ e. is_gt (cmp target e.target)) (λ e. P e.target) links all)
       (All-cons (λ e. P e.target) added greater new (All-filter (λ e. is_lt (cmp target e.target)) (λ e. P e.target) links all))
 
-  pub all_targets-without : (links : List (Entry K)) (target : K) → AllTargets links → AllTargets (without cmp links target)
+  pub all_targets-without : (links : List (LinkEntry K)) (target : K) → AllTargets links → AllTargets (without cmp links target)
   all_targets-without links target all = All-filter (λ e. not (is_eq (cmp target e.target))) (λ e. P e.target) links all
 
-  pub all_targets-with_kind : (links : List (Entry K)) (target : K) (kind : Kind) → AllTargets links
+  pub all_targets-with_kind : (links : List (LinkEntry K)) (target : K) (kind : Kind) → AllTargets links
       → AllTargets (with_kind cmp links target kind)
   all_targets-with_kind links target kind all =
       All-map (λ e. P e.target) (λ e. if is_eq (cmp target e.target) then record e { kind = kind } else e) links
@@ -41,12 +41,12 @@ module _ {K : Type 0} (cmp : K → K → Ordering) (P : K → Type 0) where
         | inr apart ↦ rw apart (all k d h)
       ])
 
-  all_if : (changes : Bool) (set : LinkSetValue K) (links : List (Entry K)) → AllTargets links → AllTargets set.links
+  all_if : (changes : Bool) (set : LinkSetValue K) (links : List (LinkEntry K)) → AllTargets links → AllTargets set.links
       → AllTargets (if changes then record set { links = links } else set).links
   all_if true set links new old = new
   all_if false set links new old = old
 
-  all-after_release : (links : List (Entry K)) (target : K) (answer : Released) → AllTargets links
+  all-after_release : (links : List (LinkEntry K)) (target : K) (answer : Released) → AllTargets links
       → AllTargets (after_release cmp links target answer)
   all-after_release links target ReleasedSettled all = all_targets-with_kind links target Settled all
   all-after_release links target Dropped all = all_targets-without links target all

@@ -6,10 +6,10 @@ use Rattle.std.specs.declared.cmp.Ordering.TheVariants.{Less, Equal, Greater}
 use Rattle.std.proofs.lemmas.Bool.{ltb-true}
 use Rattle.tap_link.specs.declared.kind.Kind.{Kind}
 use Rattle.tap_link.specs.declared.kind.Kind.TheVariants.{Pin, Settled, Leaving}
-use Rattle.tap_link.specs.Entry.{Entry}
+use Rattle.tap_link.specs.Entry.{LinkEntry}
 use Rattle.tap_link.specs.LinkSet.{LinksAscend, IsLinkSet, LinkSetValue, forgotten, has_room, is_settled, kind_of, marked, offered, pinned, released, removed, settled_count, with_kind, with_link, without}
 use Rattle.tap_link.specs.Places.{StandsAt, IsGapFor}
-use Rattle.tap_link.proofs.Kept.{kept-insert, kept-remove, kept-set}
+use Rattle.tap_link.proofs.KeptLinks.{kept-insert, kept-remove, kept-set}
 use Rattle.tap_link.proofs.Least.{ascending_tail}
 use Rattle.tap_link.proofs.Search.{absent-kind_of, found-is_some, found_here, above_from, insert-with_link, remove-without, set-with_kind}
 
@@ -21,37 +21,37 @@ module _ {X : Type 0} where
   got (x ∷ xs) (suc at) within = got xs at (omega arith)
 
 module _ {K : Type 0} (cmp : K → K → Ordering) where
-  at_later : (e : Entry K) (es : List (Entry K)) (target : K) (at : ℕ) → cmp target e.target ≡ Greater
+  at_later : (e : LinkEntry K) (es : List (LinkEntry K)) (target : K) (at : ℕ) → cmp target e.target ≡ Greater
       → StandsAt cmp es target at → StandsAt cmp (e ∷ es) target (suc at)
   at_later e es target at greater found =
       record { within = omega (arith, found.within); below = below; here = found.here; above = above }
     where
-      below : (k : ℕ) (d : Entry K) → k < suc at → cmp target (slice_index_or (e ∷ es) k d).target ≡ Greater
+      below : (k : ℕ) (d : LinkEntry K) → k < suc at → cmp target (slice_index_or (e ∷ es) k d).target ≡ Greater
       below zero d h = greater
       below (suc k) d h = found.below k d (omega arith)
 
-      above : (k : ℕ) (d : Entry K) → suc at < k → k < length (e ∷ es) → cmp target (slice_index_or (e ∷ es) k d).target ≡ Less
+      above : (k : ℕ) (d : LinkEntry K) → suc at < k → k < length (e ∷ es) → cmp target (slice_index_or (e ∷ es) k d).target ≡ Less
       above zero d gt h = absurd (omega arith)
       above (suc k) d gt h = found.above k d (omega arith) (omega arith)
 
-  gap_later : (e : Entry K) (es : List (Entry K)) (target : K) (at : ℕ) → cmp target e.target ≡ Greater
+  gap_later : (e : LinkEntry K) (es : List (LinkEntry K)) (target : K) (at : ℕ) → cmp target e.target ≡ Greater
       → IsGapFor cmp es target at → IsGapFor cmp (e ∷ es) target (suc at)
   gap_later e es target at greater gap =
       record { within = omega (arith, gap.within); below = below; above = above }
     where
-      below : (k : ℕ) (d : Entry K) → k < suc at → cmp target (slice_index_or (e ∷ es) k d).target ≡ Greater
+      below : (k : ℕ) (d : LinkEntry K) → k < suc at → cmp target (slice_index_or (e ∷ es) k d).target ≡ Greater
       below zero d h = greater
       below (suc k) d h = gap.below k d (omega arith)
 
-      above : (k : ℕ) (d : Entry K) → suc at ≤ k → k < length (e ∷ es) → cmp target (slice_index_or (e ∷ es) k d).target ≡ Less
+      above : (k : ℕ) (d : LinkEntry K) → suc at ≤ k → k < length (e ∷ es) → cmp target (slice_index_or (e ∷ es) k d).target ≡ Less
       above zero d ge h = absurd (omega arith)
       above (suc k) d ge h = gap.above k d (omega arith) (omega arith)
 
   -- a target stands somewhere, or would go somewhere
-  abbrev pub Stands : List (Entry K) → K → Type 0
+  abbrev pub Stands : List (LinkEntry K) → K → Type 0
   Stands links target = ((at : ℕ) × StandsAt cmp links target at) ⊎ ((at : ℕ) × IsGapFor cmp links target at)
 
-  gap_first : IsTotalOrder cmp → (e : Entry K) (es : List (Entry K)) (target : K) → LinksAscend cmp (e ∷ es)
+  gap_first : IsTotalOrder cmp → (e : LinkEntry K) (es : List (LinkEntry K)) (target : K) → LinksAscend cmp (e ∷ es)
       → cmp target e.target ≡ Less → IsGapFor cmp (e ∷ es) target 0
   gap_first o e es target ascending less =
       record {
@@ -60,7 +60,7 @@ module _ {K : Type 0} (cmp : K → K → Ordering) where
         above = above_from cmp o (e ∷ es) target 0 e ascending refl less;
       }
 
-  stands_by : IsTotalOrder cmp → (e : Entry K) (es : List (Entry K)) (target : K) → LinksAscend cmp (e ∷ es)
+  stands_by : IsTotalOrder cmp → (e : LinkEntry K) (es : List (LinkEntry K)) (target : K) → LinksAscend cmp (e ∷ es)
       → (r : Ordering) → cmp target e.target ≡ r → Stands es target → Stands (e ∷ es) target
   stands_by o e es target ascending Less is later =
       inr (0, gap_first o e es target ascending is)
@@ -73,7 +73,7 @@ module _ {K : Type 0} (cmp : K → K → Ordering) where
       ]
 
   -- so each target does in an ascending list
-  pub stands : IsTotalOrder cmp → (links : List (Entry K)) (target : K) → LinksAscend cmp links → Stands links target
+  pub stands : IsTotalOrder cmp → (links : List (LinkEntry K)) (target : K) → LinksAscend cmp links → Stands links target
   stands o [] target ascending =
       inr (
         0,
@@ -87,14 +87,14 @@ module _ {K : Type 0} (cmp : K → K → Ordering) where
       stands_by o e es target ascending (cmp target e.target) refl (stands o es target (ascending_tail cmp e es ascending))
 
 module _ {K : Type 0} (cmp : K → K → Ordering) (o : IsTotalOrder cmp) (set : LinkSetValue K) (target : K) (valid : IsLinkSet cmp set) where
-  abbrev IsSetWith : List (Entry K) → Type 0
+  abbrev IsSetWith : List (LinkEntry K) → Type 0
   IsSetWith links = IsLinkSet cmp (record set { links = links })
 
   -- a link more to a target that has none; a settled one where there is room
   pub valid-with_link : (kind : Kind) → kind_of cmp set.links target ≡ None
       → (is_settled (Some kind) ≡ true → settled_count set.links < set.width) → IsSetWith (with_link cmp set.links target kind)
   valid-with_link kind absent room =
-      let e : Entry K = record { target = target; kind = kind } in
+      let e : LinkEntry K = record { target = target; kind = kind } in
       elim (stands cmp o set.links target valid.ascending) [
         | inl found ↦
             let there = found-is_some cmp set.links target found.0 found.1 in

@@ -8,12 +8,12 @@ use Rattle.tap_link.specs.declared.kind.Kind.{Kind}
 use Rattle.tap_link.specs.declared.kind.Kind.TheVariants.{Pin, Settled, Leaving}
 use Rattle.tap_link.specs.declared.kind.Released.{Released}
 use Rattle.tap_link.specs.declared.kind.Released.TheVariants.{Settled as ReleasedSettled, Dropped, Nothing}
-use Rattle.tap_link.specs.Entry.{Entry}
+use Rattle.tap_link.specs.Entry.{LinkEntry}
 
 -- what a link set is seen as: how many of its links may be settled and not leaving, and its links
 pub record LinkSetValue (K : Type 0) : Type 0 where
   pub width : ℕ
-  pub links : List (Entry K)
+  pub links : List (LinkEntry K)
 
 -- the target, if there is one, is pinned
 abbrev pub is_pinned : Option Kind → Bool
@@ -42,7 +42,7 @@ released_as pinned room = if pinned then (if room then ReleasedSettled else Drop
 
 module _ {K : Type 0} where
   -- how many links are settled and not leaving
-  abbrev pub settled_count : List (Entry K) → ℕ
+  abbrev pub settled_count : List (LinkEntry K) → ℕ
   settled_count links = count_by (λ e. is_settled (Some e.kind)) links
 
   -- one more link may be settled
@@ -50,12 +50,12 @@ module _ {K : Type 0} where
   has_room set = nat_lt (settled_count set.links) set.width
 
   -- the first target in the list that is settled and not leaving
-  abbrev pub least_settled : List (Entry K) → Option K
+  abbrev pub least_settled : List (LinkEntry K) → Option K
   least_settled links = option_map (λ e. e.target) (find (λ e. is_settled (Some e.kind)) links)
 
 module _ {K : Type 0} (cmp : K → K → Ordering) where
   -- each target is below each later one
-  abbrev pub LinksAscend : List (Entry K) → Type 0
+  abbrev pub LinksAscend : List (LinkEntry K) → Type 0
   LinksAscend links = AllPairs (λ e f. cmp e.target f.target ≡ Less) links
 
   -- what each link set keeps
@@ -69,26 +69,26 @@ module _ {K : Type 0} (cmp : K → K → Ordering) where
     pub count : settled ≡ settled_count set.links
 
   -- the kind of the link to the target, if there is one
-  abbrev pub kind_of : List (Entry K) → K → Option Kind
+  abbrev pub kind_of : List (LinkEntry K) → K → Option Kind
   kind_of links target = option_map (λ e. e.kind) (find (λ e. is_eq (cmp target e.target)) links)
 
   -- a link more, after the links to lesser targets and before those to greater ones
-  abbrev pub with_link : List (Entry K) → K → Kind → List (Entry K)
+  abbrev pub with_link : List (LinkEntry K) → K → Kind → List (LinkEntry K)
   with_link links target kind =
       filter (λ e. is_gt (cmp target e.target)) links
       ++ record { target = target; kind = kind } ∷ filter (λ e. is_lt (cmp target e.target)) links
 
   -- the link to the target has this kind, and the others are as they were
-  abbrev pub with_kind : List (Entry K) → K → Kind → List (Entry K)
+  abbrev pub with_kind : List (LinkEntry K) → K → Kind → List (LinkEntry K)
   with_kind links target kind =
-      map {A = Entry K} (λ e. if is_eq (cmp target e.target) then record e { kind = kind } else e) links
+      map {A = LinkEntry K} (λ e. if is_eq (cmp target e.target) then record e { kind = kind } else e) links
 
   -- all links but the one to the target
-  abbrev pub without : List (Entry K) → K → List (Entry K)
+  abbrev pub without : List (LinkEntry K) → K → List (LinkEntry K)
   without links target = filter (λ e. not (is_eq (cmp target e.target))) links
 
   -- the links after a release that was answered so
-  abbrev pub after_release : List (Entry K) → K → Released → List (Entry K)
+  abbrev pub after_release : List (LinkEntry K) → K → Released → List (LinkEntry K)
   after_release links target ReleasedSettled = with_kind links target Settled
   after_release links target Dropped = without links target
   after_release links target Nothing = links
@@ -124,6 +124,6 @@ module _ {K : Type 0} (cmp : K → K → Ordering) where
       if is_settled_or_leaving (kind_of set.links target) then record set { links = without set.links target } else set
 
   -- the target is settled and not leaving, and no lesser one is
-  pub record IsLeastSettled (links : List (Entry K)) (target : K) : Type 0 where
+  pub record IsLeastSettled (links : List (LinkEntry K)) (target : K) : Type 0 where
     pub settled : kind_of links target ≡ Some Settled
     pub least : (other : K) → kind_of links other ≡ Some Settled → cmp other target ≢ Less

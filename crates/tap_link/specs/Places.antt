@@ -3,7 +3,7 @@ use Rattle.std.specs.Prelude.{◌≡◌, ℕ, ◌<◌, ◌≤◌, List, [], ◌�
 use Rattle.std.specs.declared.cmp.Ordering.{Ordering}
 use Rattle.std.specs.declared.cmp.Ordering.TheVariants.{Less, Equal, Greater}
 use Rattle.smallvec.specs.SmallVec.{SmallVec}
-use Rattle.tap_link.specs.Entry.{Entry}
+use Rattle.tap_link.specs.Entry.{LinkEntry}
 
 module _ {X : Type 0} where
   -- what stands in the places
@@ -17,16 +17,16 @@ module _ {X : Type 0} where
     pub full : places.items ≡ map Some (present places.items)
     pub inline : 4 ≤ places.capacity
 
-module _ {K : Type 0} (cmp : K → K → Ordering) (links : List (Entry K)) (target : K) where
+module _ {K : Type 0} (cmp : K → K → Ordering) (links : List (LinkEntry K)) (target : K) where
   -- the target goes here: what stands before is below it, and what stands from here on is above it
   pub record IsGapFor (at : ℕ) : Type 0 where
     pub within : at ≤ length links
-    pub below : (k : ℕ) (d : Entry K) → k < at → cmp target (slice_index_or links k d).target ≡ Greater
-    pub above : (k : ℕ) (d : Entry K) → at ≤ k → k < length links → cmp target (slice_index_or links k d).target ≡ Less
+    pub below : (k : ℕ) (d : LinkEntry K) → k < at → cmp target (slice_index_or links k d).target ≡ Greater
+    pub above : (k : ℕ) (d : LinkEntry K) → at ≤ k → k < length links → cmp target (slice_index_or links k d).target ≡ Less
 
   -- the link here names the target: what stands before is below it, and what stands after it is above it
   pub record StandsAt (at : ℕ) : Type 0 where
     pub within : at < length links
-    pub below : (k : ℕ) (d : Entry K) → k < at → cmp target (slice_index_or links k d).target ≡ Greater
-    pub here : (d : Entry K) → cmp target (slice_index_or links at d).target ≡ Equal
-    pub above : (k : ℕ) (d : Entry K) → at < k → k < length links → cmp target (slice_index_or links k d).target ≡ Less
+    pub below : (k : ℕ) (d : LinkEntry K) → k < at → cmp target (slice_index_or links k d).target ≡ Greater
+    pub here : (d : LinkEntry K) → cmp target (slice_index_or links at d).target ≡ Equal
+    pub above : (k : ℕ) (d : LinkEntry K) → at < k → k < length links → cmp target (slice_index_or links k d).target ≡ Less

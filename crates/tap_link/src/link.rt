@@ -31,9 +31,9 @@ impl<K: Ord + Copy> Drop for Link<K> {
 }
 
 impl<K: Ord + Copy> Model for Link<K> {
-    ghost use Rattle.tap_link.specs.Entry.{Entry};
+    ghost use Rattle.tap_link.specs.Entry.{LinkEntry};
 
-    ghost Value = { Entry K };
+    ghost Value = { LinkEntry K };
 
     ghost use Rattle.tap_link.specs.Link.{entry_held};
 

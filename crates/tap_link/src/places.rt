@@ -23,10 +23,10 @@ pub(crate) struct Places<K: Ord + Copy> {
 
 impl<K: Ord + Copy> Model for Places<K> {
     ghost use Rattle.std.specs.Prelude.{List};
-    ghost use Rattle.tap_link.specs.Entry.{Entry};
+    ghost use Rattle.tap_link.specs.Entry.{LinkEntry};
     ghost use Rattle.tap_link.specs.Places.{present, IsFull};
 
-    ghost Value = { List (Entry K) };
+    ghost Value = { List (LinkEntry K) };
 
     ghost view = { λ p. present p.links.items };
 

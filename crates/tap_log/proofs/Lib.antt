@@ -1,3 +1,3 @@
 pub mod Gathering
 pub mod Equality
-pub mod Growing
+pub mod MoreRecords

@@ -4,4 +4,4 @@ pub mod Asked
 pub mod Frames
 pub mod Counts
 pub mod Reduced
-pub mod Laws
+pub mod MoreRecords

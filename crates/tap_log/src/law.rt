@@ -1,4 +1,4 @@
-ghost use Rattle.tap_log.specs.Laws.{MoreRecords, OneMoreRecord};
+ghost use Rattle.tap_log.specs.MoreRecords.{MoreRecords, OneMoreRecord};
 
 /// What one more record changes: whether the log is carried, the steps that were begun, how many frames were sent, packets
 /// made, lookups asked, casts begun and packets made once more, and the bytes of a frame.

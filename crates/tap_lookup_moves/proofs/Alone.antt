@@ -17,7 +17,7 @@ use Rattle.tap_rule.specs.Event.{Acted, News}
 use Rattle.tap_rule.specs.Event.Event.{Starts, Takes}
 use Rattle.tap_rule.specs.Event.News.{Answered}
 use Rattle.tap_rule.specs.Event.Start.{Find as StartFind}
-use Rattle.tap_rule.specs.Laws.{frame_to}
+use Rattle.tap_rule.specs.RuleLaws.{frame_to}
 use Rattle.tap_rule.specs.Node.{IsRunning, NodeState, Status, name_of}
 use Rattle.tap_rule.specs.Node.Status.{Core, Leaving}
 use Rattle.tap_rule.specs.PointerSteps.{FindStep, FoundStep, LookupStep}
@@ -25,28 +25,28 @@ use Rattle.tap_rule.specs.Pointers.{next_hop}
 use Rattle.tap_rule.specs.Reaction.{Message, message}
 use Rattle.tap_rule.specs.Sending.{by_receiver, lay_frame, message_frame}
 use Rattle.tap_rule.specs.Sent.{IsAmong}
-use Rattle.tap_rule.specs.Steps.{AllAlike}
+use Rattle.tap_rule.specs.LinkSteps.{AllAlike}
 use Rattle.tap_rule.specs.Strange.{is_strange}
 use Rattle.tap_rule.proofs.Among.{among-either, among-map_from}
 use Rattle.tap_rule.proofs.PointerSteps.{find_law, found_law, lookup_law}
 use Rattle.tap_safety.specs.Move.{may_start}
-use Rattle.tap_safety.specs.Step.{numbered_from}
+use Rattle.tap_safety.specs.Exchanges.{numbered_from}
 use Rattle.tap_safety.specs.System.{System, AmongFrames, IsCoreNode, IsUnderWay}
-use Rattle.tap_safety.proofs.Moves.{delivers, found, starts}
+use Rattle.tap_safety.proofs.Moved.{delivers, found, starts}
 use Rattle.tap_moves.specs.Delivered.{after_delivery, after_start}
 use Rattle.tap_moves.proofs.Exchanged.{exchanges, in_either, sent_numbered}
 use Rattle.tap_moves.proofs.Got.{among_all}
 use Rattle.tap_safety_moves.specs.Sound.{Sound}
 use Rattle.tap_safety_moves.proofs.Consequences.{none_is_strange}
-use Rattle.tap_pointer_moves.specs.Told.{PointersStand}
+use Rattle.tap_pointer_moves.specs.LaysTold.{PointersStand}
 use Rattle.tap_lookup_moves.specs.Alone.{GoesAlone, IsAlike, IsExact, IsOfLookup, IsOnWalk, LookupBeginsAlone, LookupGoesOnAlone, WasAlike}
-use Rattle.tap_lookup_moves.specs.Answers.{news_of_frame}
+use Rattle.tap_lookup_moves.specs.LookupAnswers.{news_of_frame}
 use Rattle.tap_lookup_moves.specs.Lookups.{LookupsGoToCore}
-use Rattle.tap_lookup_moves.proofs.Acts.{frame_acts, only_core, start_acts}
-use Rattle.tap_lookup_moves.proofs.Moves.{none_departs}
-use Rattle.tap_lookup_moves.proofs.Answers.{some_news}
+use Rattle.tap_lookup_moves.proofs.LookupActs.{frame_acts, only_core, start_acts}
+use Rattle.tap_lookup_moves.proofs.LookupsKept.{none_departs}
+use Rattle.tap_lookup_moves.proofs.LookupAnswers.{some_news}
 use Rattle.tap_lookup_moves.proofs.Rest.{answers_exactly, walk_begins, walk_on}
-use Rattle.tap_lookup_moves.proofs.Rules.{AnsweredAtOnce, AskNotes, AskSays, FoundNotes, FoundSays}
+use Rattle.tap_lookup_moves.proofs.LookupRules.{AnsweredAtOnce, AskNotes, AskSays, FoundNotes, FoundSays}
 
 -- ---- a step that is about lookups alone
 

@@ -16,11 +16,11 @@ use Rattle.tap_safety.proofs.LinkKeeps.{status_seen}
 use Rattle.tap_safety.proofs.Rest.{rest_holds}
 use Rattle.tap_safety_moves.specs.Sound.{Sound}
 use Rattle.tap_pointer_moves.specs.Said.{IsLastLay, IsLaySaid, LayWord, laid_of, pointer_register_of}
-use Rattle.tap_pointer_moves.specs.Told.{AreLaysStamped, AreTold, PointersStand}
+use Rattle.tap_pointer_moves.specs.LaysTold.{AreLaysStamped, AreTold, PointersStand}
 use Rattle.tap_pointer_moves.proofs.Paths.{pointers_on_paths}
 use Rattle.tap_lookup_moves.specs.NoServer.{AreLookups, PointersOnPathsBeside}
 use Rattle.tap_lookup_moves.proofs.Emptied.{core_on, core_was, emptied, emptied_basis, link_on, lookup_calm, node_on}
-use Rattle.tap_lookup_moves.proofs.Moves.{none_departs}
+use Rattle.tap_lookup_moves.proofs.LookupsKept.{none_departs}
 
 -- ---- the whole invariant
 

@@ -6,7 +6,7 @@ use Rattle.tap_wire.specs.declared.frame.Body.{Body}
 use Rattle.tap_wire.specs.declared.frame.Body.TheVariants.{Answer, Find, Seek}
 use Rattle.tap_rule.specs.Node.Status.{Leaving}
 use Rattle.tap_safety.specs.Awaited.{AreAwaitedOnce}
-use Rattle.tap_safety.specs.Bookkeeping.{EndedHaveNoLinks, HasCore, HaveEnds, HaveNames, HavePlaces}
+use Rattle.tap_safety.specs.Bookkeeping.{EndedHaveNoLinks, HasCore, HaveEnds, HavePlaces, NodesHaveNames}
 use Rattle.tap_safety.specs.Ceased.{Ceased, IsRegistered}
 use Rattle.tap_safety.specs.Departing.{Departure, may_be_then}
 use Rattle.tap_safety.specs.Invariant.{Basis}
@@ -17,8 +17,8 @@ use Rattle.tap_safety.specs.Seeking.{HasNode, IsSeeker, Seeking}
 use Rattle.tap_safety.specs.Sessions.{AreExact, Awaits, session_named}
 use Rattle.tap_safety.specs.Soft.{IsSoft, NamesSoft}
 use Rattle.tap_safety.specs.Spelled.{AreAtMost, most_names}
-use Rattle.tap_safety.specs.System.{System, AmongFrames, Covers, HasLink, IsCoreNode, IsJoiner, IsUnderWay}
-use Rattle.tap_safety.specs.Ties.{LastIs, Ties, Versions, link_of, register_of, status_of}
+use Rattle.tap_safety.specs.System.{System, AmongFrames, CoversAt, HasLink, IsCoreNode, IsJoiner, IsUnderWay}
+use Rattle.tap_safety.specs.Ties.{LastIs, TiesAreTold, Versions, link_of, register_of, status_of}
 use Rattle.tap_safety.proofs.LinkKeeps.{status_seen}
 use Rattle.tap_lookup_moves.specs.NoServer.{AreLookups, IsLookup}
 
@@ -74,7 +74,7 @@ module _ (s : System) where
   soft_on x (inr (inl core)) = inr (inl (core_on x core))
   soft_on x (inr (inr one)) = inr (inr (record { state = one.state; is = one.is; ceased = one.ceased }))
 
-  cover_was : (x b : List ℕ) (level : ℕ) → Covers (emptied s) x b level → Covers s x b level
+  cover_was : (x b : List ℕ) (level : ℕ) → CoversAt (emptied s) x b level → CoversAt s x b level
   cover_was x b level covers = record { state = covers.state; is = covers.is; cover = covers.cover }
 
   awaits_was : (x : List ℕ) (k : ℕ) (token : Token) → Awaits (emptied s) x k token → Awaits s x k token
@@ -193,7 +193,7 @@ module _ (p : SettingsValue) (s : System) (basis : Basis p s) (lookups : AreLook
     ];
   }
 
-  ties : Ties (emptied s)
+  ties : TiesAreTold (emptied s)
   unfolding status_of link_of
   ties = record {
     linked = λ x t kind hears link. last_on x t _ (basis.ties.linked x t kind hears link);
@@ -266,7 +266,7 @@ module _ (p : SettingsValue) (s : System) (basis : Basis p s) (lookups : AreLook
   has_core : HasCore (emptied s)
   has_core = record { name = basis.has_core.name; core = core_on s basis.has_core.name basis.has_core.core }
 
-  names : HaveNames p (emptied s)
+  names : NodesHaveNames p (emptied s)
   names = record { each = λ x node. basis.names.each x (node_was s x node) }
 
   few : AreAtMost (emptied s) most_names

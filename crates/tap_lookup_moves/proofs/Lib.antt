@@ -1,8 +1,8 @@
-pub mod Rules
-pub mod Acts
-pub mod Moves
+pub mod LookupRules
+pub mod LookupActs
+pub mod LookupsKept
 pub mod Held
-pub mod Answers
+pub mod LookupAnswers
 pub mod Rest
 pub mod Alone
 pub mod Emptied

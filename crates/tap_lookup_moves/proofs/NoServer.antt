@@ -24,21 +24,21 @@ use Rattle.tap_safety.specs.System.{System, AmongFrames, IsCoreNode, IsUnderWay}
 use Rattle.tap_moves.specs.Delivered.{after_delivery, after_start}
 use Rattle.tap_safety_moves.specs.Sound.{Sound}
 use Rattle.tap_pointer_moves.specs.Paths.{IsPublished}
-use Rattle.tap_pointer_moves.specs.Told.{PointersStand}
+use Rattle.tap_pointer_moves.specs.LaysTold.{PointersStand}
 use Rattle.tap_pointer_moves.proofs.Chains.{entry_at}
 use Rattle.tap_pointer_moves.proofs.Paths.{core_at_rest}
 use Rattle.tap_pointer_moves.proofs.Publications.{starter_of}
 use Rattle.tap_lookup_moves.specs.Alone.{IsOnWalk}
 use Rattle.tap_lookup_moves.specs.Lookups.{LookupsGoToCore}
 use Rattle.tap_lookup_moves.specs.NoServer.{AreLookups, ComesOn, EndsAt, EndsOfWalksAreExact, FindsStayOnWalks, NoneComesFromEnds, NoneIsNotedAtEnds}
-use Rattle.tap_lookup_moves.proofs.Acts.{frame_step, only_core, start_acts, start_came}
-use Rattle.tap_lookup_moves.proofs.Answers.{some_news}
+use Rattle.tap_lookup_moves.proofs.LookupActs.{frame_step, only_core, start_acts, start_came}
+use Rattle.tap_lookup_moves.proofs.LookupAnswers.{some_news}
 use Rattle.tap_lookup_moves.proofs.AsAtRest.{as_at_rest}
 use Rattle.tap_lookup_moves.proofs.Emptied.{core_on, emptied}
 use Rattle.tap_lookup_moves.proofs.Held.{none_held}
-use Rattle.tap_lookup_moves.proofs.Moves.{find_spelled, none_departs}
+use Rattle.tap_lookup_moves.proofs.LookupsKept.{find_spelled, none_departs}
 use Rattle.tap_lookup_moves.proofs.Rest.{ends_at, walk_begins, walk_on}
-use Rattle.tap_lookup_moves.proofs.Rules.{AnsweredAtOnce, AskNotes, AskSays, IsNoLeave}
+use Rattle.tap_lookup_moves.proofs.LookupRules.{AnsweredAtOnce, AskNotes, AskSays, IsNoLeave}
 use Rattle.tap_lookup_moves.proofs.Walks.{delivered_nodes, joins_aloud, lookups_before, started_nodes}
 
 -- ---- where a lookup ends

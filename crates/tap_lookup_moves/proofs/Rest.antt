@@ -12,7 +12,7 @@ use Rattle.tap_pointer.specs.declared.pair.Pair.{Pair}
 use Rattle.tap_pointer.specs.Pair.{pair_cmp}
 use Rattle.tap_pointer.specs.Pointers.{is_held, pair_of, server_for, state_of}
 use Rattle.tap_surrogate.specs.Entered.{AreEntered, Entered, IsChain, next_of, walk_entered}
-use Rattle.tap_surrogate.specs.Laws.{LeadsToRoot}
+use Rattle.tap_surrogate.specs.WalkLaws.{LeadsToRoot}
 use Rattle.tap_surrogate.specs.Nodes.{core_links}
 use Rattle.tap_surrogate.specs.Walk.{walk, walk_end}
 use Rattle.tap_surrogate.proofs.Chains.{chain_law_holds}
@@ -26,10 +26,10 @@ use Rattle.tap_safety.specs.System.{System, IsCoreNode}
 use Rattle.tap_safety_moves.specs.Sound.{Sound}
 use Rattle.tap_safety_moves.proofs.Walks.{core_listed, read_core, tables_hole_free, walks_lead}
 use Rattle.tap_pointer_moves.specs.Paths.{HoldsPair, IsPublished, path_of}
-use Rattle.tap_pointer_moves.specs.Told.{PointersStand}
+use Rattle.tap_pointer_moves.specs.LaysTold.{PointersStand}
 use Rattle.tap_pointer_moves.proofs.Chains.{chain_next, entry_at}
 use Rattle.tap_pointer_moves.proofs.Paths.{held_status, pointers_on_paths, table_at, tables_settled}
-use Rattle.tap_pointer_moves.proofs.Rules.{nothing_published}
+use Rattle.tap_pointer_moves.proofs.PointerRules.{nothing_published}
 use Rattle.tap_lookup_moves.specs.Alone.{IsExact, IsOnWalk, WasAlike}
 use Rattle.tap_lookup_moves.proofs.Held.{none_held, server_held}
 

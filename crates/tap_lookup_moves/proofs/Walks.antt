@@ -20,15 +20,15 @@ use Rattle.tap_rule.proofs.QuietSteps.{quiet_law, quiet_start_law}
 use Rattle.tap_rule.proofs.StartSteps.{give_up_law, seek_start_law}
 use Rattle.tap_safety.specs.Move.{may_start}
 use Rattle.tap_safety.specs.Moved.{starter}
-use Rattle.tap_safety.specs.Step.{numbered_from}
+use Rattle.tap_safety.specs.Exchanges.{numbered_from}
 use Rattle.tap_safety.specs.System.{System, AmongFrames, IsUnderWay}
-use Rattle.tap_safety.proofs.Moves.{delivers, found, starts}
-use Rattle.tap_safety.proofs.Told.{among_left, among_numbered, among_right}
+use Rattle.tap_safety.proofs.Moved.{delivers, found, starts}
+use Rattle.tap_safety.proofs.UnderWay.{among_left, among_numbered, among_right}
 use Rattle.tap_runs.specs.Observed.{nodes_of, is_core_node, counts_as_core, table_of_node, word_of_status}
 use Rattle.tap_moves.specs.Delivered.{after_delivery, after_start}
 use Rattle.tap_safety_moves.specs.Sound.{Sound}
 use Rattle.tap_lookup_moves.specs.NoServer.{AreLookups, IsLookup}
-use Rattle.tap_lookup_moves.proofs.Rules.{IsNoLeave}
+use Rattle.tap_lookup_moves.proofs.LookupRules.{IsNoLeave}
 
 -- ---- one node changes
 

@@ -17,8 +17,8 @@ use Rattle.tap_runs.specs.Observed.{nodes_of}
 use Rattle.tap_moves.specs.Delivered.{after_delivery, after_start}
 use Rattle.tap_safety_moves.specs.Sound.{Sound}
 use Rattle.tap_pointer_moves.specs.Paths.{IsPublished}
-use Rattle.tap_pointer_moves.specs.Told.{PointersStand}
-use Rattle.tap_lookup_moves.specs.Answers.{news_of}
+use Rattle.tap_pointer_moves.specs.LaysTold.{PointersStand}
+use Rattle.tap_lookup_moves.specs.LookupAnswers.{news_of}
 use Rattle.tap_lookup_moves.specs.Lookups.{LookupsGoToCore}
 
 -- The answer is exact: it names a server that publishes the object, and none only if no server does.

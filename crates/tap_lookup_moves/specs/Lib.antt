@@ -1,4 +1,4 @@
 pub mod Lookups
-pub mod Answers
+pub mod LookupAnswers
 pub mod Alone
 pub mod NoServer

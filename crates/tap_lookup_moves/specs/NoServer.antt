@@ -22,9 +22,9 @@ use Rattle.tap_safety.specs.System.{System, AmongFrames, IsCoreNode, IsUnderWay}
 use Rattle.tap_moves.specs.Delivered.{after_delivery}
 use Rattle.tap_safety_moves.specs.Sound.{Sound}
 use Rattle.tap_pointer_moves.specs.Paths.{HoldsPair, IsPublished, path_of}
-use Rattle.tap_pointer_moves.specs.Told.{PointersStand}
+use Rattle.tap_pointer_moves.specs.LaysTold.{PointersStand}
 use Rattle.tap_lookup_moves.specs.Alone.{IsOnWalk}
-use Rattle.tap_lookup_moves.specs.Answers.{news_of}
+use Rattle.tap_lookup_moves.specs.LookupAnswers.{news_of}
 use Rattle.tap_lookup_moves.specs.Lookups.{LookupsGoToCore}
 
 -- ---- the last node reached

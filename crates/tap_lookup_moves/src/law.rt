@@ -1,5 +1,5 @@
 ghost use Rattle.tap_lookup_moves.specs.Alone.{LookupBeginsAlone, LookupGoesOnAlone};
-ghost use Rattle.tap_lookup_moves.specs.Answers.{LookupsStayOf, NoLookupsAtRest, NotedAnswersAreOf};
+ghost use Rattle.tap_lookup_moves.specs.LookupAnswers.{LookupsStayOf, NoLookupsAtRest, NotedAnswersAreOf};
 ghost use Rattle.tap_lookup_moves.specs.Lookups.{LookupsAtRest, LookupsKept, NeverComesBack};
 ghost use Rattle.tap_lookup_moves.specs.NoServer.{
   EndsOfWalksAreExact,

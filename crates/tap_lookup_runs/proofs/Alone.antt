@@ -12,7 +12,7 @@ use Rattle.tap_log.specs.declared.record.Record.TheVariants.{Answered, Asked, St
 use Rattle.tap_history.specs.Groups.{is_ended}
 use Rattle.tap_history.specs.Moments.{is_rest}
 use Rattle.tap_history.specs.Published.{has_pair, published_of}
-use Rattle.tap_history.specs.Steps.{actor_of}
+use Rattle.tap_history.specs.StepAsks.{actor_of}
 use Rattle.tap_rule.specs.Event.{Start}
 use Rattle.tap_rule.specs.Event.Event.{Starts}
 use Rattle.tap_rule.specs.Event.Start.{Find as StartFind}
@@ -26,27 +26,27 @@ use Rattle.tap_runs.specs.Group.{records_of_act, start_at}
 use Rattle.tap_runs.specs.Named.{HaveNames}
 use Rattle.tap_runs.specs.Observed.{pair_line}
 use Rattle.tap_runs.specs.Starts.{announced, next_ticket, start_of_step}
-use Rattle.tap_runs.proofs.Growing.{by_groups}
+use Rattle.tap_runs.proofs.CourseGrows.{by_groups}
 use Rattle.tap_runs.proofs.Nodes.{name_at, start_in}
 use Rattle.tap_runs.proofs.Within.{is_accepted}
 use Rattle.tap_safety_moves.specs.Sound.{Sound}
 use Rattle.tap_lawful.specs.Next.{beginning_in}
-use Rattle.tap_safe_runs.specs.Headline.{OfLawfulLogs}
+use Rattle.tap_safe_runs.specs.SafeLogs.{OfLawfulLogs}
 use Rattle.tap_safe_runs.specs.Moments.{AtEachMoment}
 use Rattle.tap_safe_runs.specs.Safe.{IsRun}
-use Rattle.tap_safe_runs.specs.Starts.{AcceptNoStart, IsAskedAtRest}
+use Rattle.tap_safe_runs.specs.Accepting.{AcceptNoStart, IsAskedAtRest}
 use Rattle.tap_safe_runs.proofs.GroupKinds.{IsIdleGroup, IsKnownGroup, IsStartGroup, IsTakenGroup, run_kind, run_moves}
 use Rattle.tap_safe_runs.proofs.Lawful.{lawful_logs_are_safe}
 use Rattle.tap_safe_runs.proofs.Safe.{run_at_moment, runs_are_sound, steps_after, steps_before}
 use Rattle.tap_safe_runs.proofs.Splits.{all_at, no_step_among, none_in_first, none_in_second, parted_where, start_accepted}
 use Rattle.tap_safe_runs.proofs.Starting.{start_group_accepts, starting_accepted, starts_is_start}
 use Rattle.tap_pointer_moves.specs.Publications.{is_served, publishes_in}
-use Rattle.tap_pointer_moves.specs.Told.{PointersStand}
+use Rattle.tap_pointer_moves.specs.LaysTold.{PointersStand}
 use Rattle.tap_pointer_runs.proofs.Runs.{run_grown, run_rests, served_is}
 use Rattle.tap_lookup_moves.specs.Alone.{GoesAlone, IsExact}
 use Rattle.tap_lookup_moves.proofs.Alone.{lookup_begins_alone, lookup_goes_on_alone}
 use Rattle.tap_lookup_runs.specs.Alone.{IsExactIn, LookupsAloneAreExact}
-use Rattle.tap_lookup_runs.proofs.Growing.{act_all, receive_all}
+use Rattle.tap_lookup_runs.proofs.LookupsGrow.{act_all, receive_all}
 use Rattle.tap_lookup_runs.proofs.Runs.{run_looked}
 use Rattle.tap_lookup_runs.proofs.Starting.{starting_unanswered}
 use Rattle.tap_lookup_runs.proofs.Unanswered.{IsUnanswered, idle_unanswered}

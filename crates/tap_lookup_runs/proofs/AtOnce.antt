@@ -16,7 +16,7 @@ use Rattle.tap_runs.specs.Course.{Follows, system_of}
 use Rattle.tap_runs.specs.Group.{records_of_act}
 use Rattle.tap_runs.specs.Named.{HaveNames}
 use Rattle.tap_runs.specs.Starts.{announced}
-use Rattle.tap_runs.proofs.Growing.{whole}
+use Rattle.tap_runs.proofs.CourseGrows.{whole}
 use Rattle.tap_runs.proofs.Within.{IsWhole}
 use Rattle.tap_safety_moves.specs.Sound.{Sound}
 use Rattle.tap_safe_runs.specs.Safe.{IsRun}
@@ -24,16 +24,16 @@ use Rattle.tap_safe_runs.proofs.Safe.{run_more, runs_are_sound}
 use Rattle.tap_safe_runs.proofs.GroupKinds.{IsStartGroup, run_moves}
 use Rattle.tap_pointer_moves.specs.Publications.{is_served}
 use Rattle.tap_pointer_moves.proofs.Publications.{start_serves}
-use Rattle.tap_pointer_runs.proofs.Growing.{Grown}
+use Rattle.tap_pointer_runs.proofs.ServersGrow.{Grown}
 use Rattle.tap_pointer_runs.proofs.Runs.{run_grown, served_is}
-use Rattle.tap_lookup_moves.specs.Answers.{news_of}
+use Rattle.tap_lookup_moves.specs.LookupAnswers.{news_of}
 use Rattle.tap_lookup_moves.specs.NoServer.{AreLookups, EndsAt}
 use Rattle.tap_lookup_moves.proofs.NoServer.{ends_at_once_are_exact, none_is_noted_at_ends}
 use Rattle.tap_lookup_moves.proofs.Walks.{lookups_before}
-use Rattle.tap_lookup_runs.specs.Answers.{was_asked}
+use Rattle.tap_lookup_runs.specs.LookupAnswers.{was_asked}
 use Rattle.tap_lookup_runs.specs.NoServer.{EndsAsAsked}
 use Rattle.tap_lookup_runs.proofs.Failing.{HasFailed}
-use Rattle.tap_lookup_runs.proofs.Growing.{asked_grows}
+use Rattle.tap_lookup_runs.proofs.LookupsGrow.{asked_grows}
 use Rattle.tap_lookup_runs.proofs.Moments.{IsClear, disturbed_by, end_moment, ends_now, now_disturbed}
 use Rattle.tap_lookup_runs.proofs.Runs.{asked_first, find_step, finds_asked}
 

@@ -16,9 +16,9 @@ use Rattle.tap_history.proofs.Instants.{moment-within}
 use Rattle.tap_history.proofs.OneMoreGroup.{moment_by}
 use Rattle.tap_runs.specs.Course.{system_of}
 use Rattle.tap_runs.specs.Observed.{pair_line}
-use Rattle.tap_lookup_runs.specs.Answers.{was_asked}
+use Rattle.tap_lookup_runs.specs.LookupAnswers.{was_asked}
 use Rattle.tap_lookup_runs.specs.NoServer.{AnsweredNoneWereDisturbed, IsBusy, IsDisturbed, LookupsEndWithoutServer, WasDisturbed}
-use Rattle.tap_lookup_runs.proofs.Growing.{asked_grows}
+use Rattle.tap_lookup_runs.proofs.LookupsGrow.{asked_grows}
 use Rattle.tap_lookup_runs.proofs.Moments.{ends_longer}
 use Rattle.tap_safe_runs.proofs.Splits.{all_at, parted_where}
 use Rattle.tap_lookup_runs.proofs.Unanswered.{IsUnanswered}

@@ -15,22 +15,22 @@ use Rattle.tap_safety.specs.System.{System, IsUnderWay}
 use Rattle.tap_runs.specs.Beginning.{Beginning}
 use Rattle.tap_runs.specs.Course.{Follows, move_of_group, moved_by, system_of}
 use Rattle.tap_runs.specs.Named.{HaveNames}
-use Rattle.tap_runs.proofs.Growing.{whole}
+use Rattle.tap_runs.proofs.CourseGrows.{whole}
 use Rattle.tap_runs.proofs.Within.{IsWhole}
 use Rattle.tap_safety_moves.specs.Sound.{Sound}
 use Rattle.tap_safe_runs.specs.Safe.{IsRun}
 use Rattle.tap_safe_runs.proofs.Safe.{run_more, runs_are_sound}
 use Rattle.tap_safe_runs.proofs.GroupKinds.{IsKnownGroup, IsTakenGroup, run_kind, run_moves}
-use Rattle.tap_pointer_runs.proofs.Growing.{Grown}
+use Rattle.tap_pointer_runs.proofs.ServersGrow.{Grown}
 use Rattle.tap_pointer_runs.proofs.Runs.{run_grown, served_is}
 use Rattle.tap_lookup_moves.specs.Alone.{IsOnWalk}
 use Rattle.tap_lookup_moves.specs.NoServer.{AreLookups, EndsWith}
-use Rattle.tap_lookup_moves.proofs.Moves.{find_spelled}
-use Rattle.tap_lookup_moves.proofs.Answers.{started_answer}
+use Rattle.tap_lookup_moves.proofs.LookupsKept.{find_spelled}
+use Rattle.tap_lookup_moves.proofs.LookupAnswers.{started_answer}
 use Rattle.tap_lookup_moves.proofs.NoServer.{ends_of_walks_are_exact, finds_stay_on_walks, none_comes_from_ends}
-use Rattle.tap_lookup_runs.specs.Answers.{was_asked}
+use Rattle.tap_lookup_runs.specs.LookupAnswers.{was_asked}
 use Rattle.tap_lookup_runs.specs.NoServer.{HasEndedBy, WasDisturbed}
-use Rattle.tap_lookup_runs.proofs.Growing.{asked_grows}
+use Rattle.tap_lookup_runs.proofs.LookupsGrow.{asked_grows}
 use Rattle.tap_lookup_runs.proofs.Moments.{HasBeenDisturbed, disturbed_by, disturbed_still, end_moment, ended_later, ended_still, answered_still, ends_now, now_disturbed}
 use Rattle.tap_lookup_runs.proofs.Runs.{Looked, run_looked}
 use Rattle.tap_lookup_runs.proofs.Unanswered.{IsUnanswered}

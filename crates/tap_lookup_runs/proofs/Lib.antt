@@ -1,5 +1,5 @@
 pub mod Unanswered
-pub mod Growing
+pub mod LookupsGrow
 pub mod Runs
 pub mod Starting
 pub mod Alone

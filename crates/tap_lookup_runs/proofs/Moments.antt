@@ -22,7 +22,7 @@ use Rattle.tap_runs.specs.Observed.{pair_line}
 use Rattle.tap_runs.proofs.Within.{IsWhole}
 use Rattle.tap_pointer_runs.specs.Paths.{IsPublishedIn}
 use Rattle.tap_lookup_moves.specs.NoServer.{AreLookups, IsLookup}
-use Rattle.tap_lookup_runs.specs.Answers.{was_asked}
+use Rattle.tap_lookup_runs.specs.LookupAnswers.{was_asked}
 use Rattle.tap_lookup_runs.specs.NoServer.{EndsAsAsked, EndsAsTaken, HasEndedBy, IsDisturbed, WasDisturbed}
 
 -- ---- one more group

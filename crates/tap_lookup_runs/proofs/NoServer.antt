@@ -5,7 +5,7 @@ use Rattle.std.proofs.lemmas.List.Elements.{All-append, All-cons, All-weaker}
 use Rattle.tap_name.specs.Settings.{SettingsValue}
 use Rattle.tap_log.specs.declared.record.Record.{Record}
 use Rattle.tap_log.specs.declared.record.Record.TheVariants.{Answered, Step as StepRecord, Taken}
-use Rattle.tap_log.proofs.Growing.{carried_alone}
+use Rattle.tap_log.proofs.MoreRecords.{carried_alone}
 use Rattle.tap_history.specs.Groups.{is_ended}
 use Rattle.tap_history.specs.Moments.{is_group_end, is_moment}
 use Rattle.tap_rule.specs.Event.Event.{Starts}
@@ -17,23 +17,23 @@ use Rattle.tap_runs.specs.Course.{Follows, IsCourse, system_of}
 use Rattle.tap_runs.specs.Group.{records_of_act}
 use Rattle.tap_runs.specs.Named.{HaveNames}
 use Rattle.tap_runs.specs.Starts.{announced}
-use Rattle.tap_runs.proofs.Growing.{by_groups, start_system, whole}
+use Rattle.tap_runs.proofs.CourseGrows.{by_groups, start_system, whole}
 use Rattle.tap_runs.proofs.Within.{IsWhole}
 use Rattle.tap_lawful.specs.Next.{beginning_in}
-use Rattle.tap_safe_runs.specs.Headline.{OfLawfulLogs}
+use Rattle.tap_safe_runs.specs.SafeLogs.{OfLawfulLogs}
 use Rattle.tap_safe_runs.specs.Moments.{AtEachMoment}
 use Rattle.tap_safe_runs.specs.Safe.{IsRun}
 use Rattle.tap_safe_runs.proofs.Lawful.{lawful_logs_are_safe}
 use Rattle.tap_safe_runs.proofs.Safe.{run_at_moment, runs_are_sound, steps_after, steps_before}
 use Rattle.tap_safe_runs.proofs.GroupKinds.{IsKnownGroup, IsStartGroup, IsTakenGroup, run_kind}
 use Rattle.tap_safe_runs.proofs.Splits.{all_at, parted_where}
-use Rattle.tap_lookup_moves.specs.Answers.{news_of, news_of_frame}
-use Rattle.tap_lookup_moves.proofs.Answers.{noted_delivery, noted_start}
-use Rattle.tap_lookup_runs.specs.Answers.{was_asked}
+use Rattle.tap_lookup_moves.specs.LookupAnswers.{news_of, news_of_frame}
+use Rattle.tap_lookup_moves.proofs.LookupAnswers.{noted_delivery, noted_start}
+use Rattle.tap_lookup_runs.specs.LookupAnswers.{was_asked}
 use Rattle.tap_lookup_runs.specs.NoServer.{AnsweredNoneWereDisturbed, HasEndedBy, LookupsEndWithoutServer, WasDisturbed}
 use Rattle.tap_lookup_runs.proofs.AtOnce.{start_failed}
 use Rattle.tap_lookup_runs.proofs.Failing.{HasFailed, IsNoted, Watched, answer_watched, failed_still, fails_by, find_watched, free_noted}
-use Rattle.tap_lookup_runs.proofs.Growing.{act_all, asked_grows, receive_all}
+use Rattle.tap_lookup_runs.proofs.LookupsGrow.{act_all, asked_grows, receive_all}
 use Rattle.tap_lookup_runs.proofs.Moments.{end_moment}
 use Rattle.tap_lookup_runs.proofs.Tickets.{asked_once}
 use Rattle.tap_lookup_runs.proofs.Unanswered.{IsUnanswered, announced_unanswered, idle_unanswered}

@@ -12,7 +12,7 @@ use Rattle.tap_scenario.specs.declared.step.Step.TheVariants.{Abandon, Cast, Dep
 use Rattle.tap_log.specs.declared.record.Record.{Record}
 use Rattle.tap_log.specs.declared.record.Record.TheVariants.{Asked, Step as StepRecord, Taken}
 use Rattle.tap_history.specs.Groups.{is_ended}
-use Rattle.tap_history.specs.Steps.{actor_of}
+use Rattle.tap_history.specs.StepAsks.{actor_of}
 use Rattle.tap_rule.specs.Event.{Start}
 use Rattle.tap_rule.specs.Event.Event.{Starts}
 use Rattle.tap_rule.specs.Event.Start.{Abandon as StartAbandon, Cast as StartCast, Find as StartFind, Join as StartJoin, Leave as StartLeave, Publish as StartPublish, Withdraw as StartWithdraw}
@@ -27,28 +27,28 @@ use Rattle.tap_runs.specs.Group.{received_records, records_of_act, start_at}
 use Rattle.tap_runs.specs.Named.{HaveNames}
 use Rattle.tap_runs.specs.Starts.{announced, next_cast, next_ticket, start_of_step}
 use Rattle.tap_runs.proofs.Frames.{starting_moves, step_moves, taken_moves}
-use Rattle.tap_runs.proofs.Growing.{by_groups, course_grows_holds, grown_system, start_system}
+use Rattle.tap_runs.proofs.CourseGrows.{by_groups, course_grows_holds, grown_system, start_system}
 use Rattle.tap_runs.proofs.Nodes.{name_at, start_in}
 use Rattle.tap_runs.proofs.Within.{IsStarting, step_kind}
 use Rattle.tap_safety_moves.specs.Sound.{Sound}
 use Rattle.tap_lawful.specs.Next.{beginning_in}
-use Rattle.tap_safe_runs.specs.Headline.{OfLawfulLogs}
+use Rattle.tap_safe_runs.specs.SafeLogs.{OfLawfulLogs}
 use Rattle.tap_safe_runs.specs.Moments.{AtEachMoment}
 use Rattle.tap_safe_runs.specs.Safe.{IsRun}
 use Rattle.tap_safe_runs.proofs.Lawful.{lawful_logs_are_safe}
 use Rattle.tap_safe_runs.proofs.Possible.{group_may_move}
 use Rattle.tap_safe_runs.proofs.Safe.{run_at_moment, runs_are_sound, steps_after, steps_before}
 use Rattle.tap_pointer_moves.specs.Ever.{AreOfPublished}
-use Rattle.tap_pointer_moves.specs.Told.{PointersStand}
+use Rattle.tap_pointer_moves.specs.LaysTold.{PointersStand}
 use Rattle.tap_pointer_runs.specs.Paths.{was_published}
-use Rattle.tap_pointer_runs.proofs.Growing.{ever_grows}
+use Rattle.tap_pointer_runs.proofs.ServersGrow.{ever_grows}
 use Rattle.tap_pointer_runs.proofs.Runs.{idle_starts_none, run_grown}
-use Rattle.tap_lookup_moves.specs.Answers.{IsAskedFor, LookupsAreOf}
+use Rattle.tap_lookup_moves.specs.LookupAnswers.{IsAskedFor, LookupsAreOf}
 use Rattle.tap_lookup_moves.specs.Lookups.{LookupsGoToCore}
-use Rattle.tap_lookup_moves.proofs.Answers.{lookups_stay_of, no_lookups_at_rest, noted_answers_are_of}
-use Rattle.tap_lookup_moves.proofs.Moves.{lookups_at_rest, lookups_kept}
-use Rattle.tap_lookup_runs.specs.Answers.{AnswersWerePublished, LookupsGoToCoreIn, asks_for, was_asked}
-use Rattle.tap_lookup_runs.proofs.Growing.{AnswerHolds, EachHolds, act_all, all_unanswered, each_all, each_append, each_split, lookups_grow, receive_all, unanswered_holds}
+use Rattle.tap_lookup_moves.proofs.LookupAnswers.{lookups_stay_of, no_lookups_at_rest, noted_answers_are_of}
+use Rattle.tap_lookup_moves.proofs.LookupsKept.{lookups_at_rest, lookups_kept}
+use Rattle.tap_lookup_runs.specs.LookupAnswers.{AnswersWerePublished, LookupsGoToCoreIn, asks_for, was_asked}
+use Rattle.tap_lookup_runs.proofs.LookupsGrow.{AnswerHolds, EachHolds, act_all, all_unanswered, each_all, each_append, each_split, lookups_grow, receive_all, unanswered_holds}
 use Rattle.tap_lookup_runs.proofs.Unanswered.{IsUnanswered, announced_unanswered, follow_unanswered}
 
 -- what is so of lookups after a log: where they go, what they say, and what the log has answered

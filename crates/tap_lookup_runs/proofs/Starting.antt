@@ -7,7 +7,7 @@ use Rattle.tap_scenario.specs.declared.step.Step.TheVariants.{Abandon, Cast, Dep
 use Rattle.tap_log.specs.Counts.{sent_count}
 use Rattle.tap_log.specs.declared.record.Record.{Record}
 use Rattle.tap_log.specs.declared.record.Record.TheVariants.{Answered}
-use Rattle.tap_history.specs.Steps.{actor_of}
+use Rattle.tap_history.specs.StepAsks.{actor_of}
 use Rattle.tap_rule.specs.Act.{act}
 use Rattle.tap_rule.specs.Event.{Start}
 use Rattle.tap_rule.specs.Event.Event.{Starts}
@@ -19,10 +19,10 @@ use Rattle.tap_runs.specs.Group.{records_of_act, start_at}
 use Rattle.tap_runs.specs.Starts.{announced, start_of_step}
 use Rattle.tap_runs.proofs.Nodes.{start_in}
 use Rattle.tap_runs.proofs.Within.{IsStarting}
-use Rattle.tap_lookup_moves.proofs.Acts.{start_acts}
-use Rattle.tap_lookup_moves.proofs.Rules.{AnsweredAtOnce, AskNotes}
+use Rattle.tap_lookup_moves.proofs.LookupActs.{start_acts}
+use Rattle.tap_lookup_moves.proofs.LookupRules.{AnsweredAtOnce, AskNotes}
 use Rattle.tap_lookup_runs.proofs.Unanswered.{IsUnanswered}
-use Rattle.tap_lookup_runs.proofs.Growing.{acted_unanswered}
+use Rattle.tap_lookup_runs.proofs.LookupsGrow.{acted_unanswered}
 
 module _ (p : SettingsValue) (log : List Record) (s : System) (name : List ℕ) (start : Start) where
   abbrev done : List Record

@@ -11,7 +11,7 @@ use Rattle.tap_log.specs.declared.record.Record.TheVariants.{Asked}
 use Rattle.tap_runs.specs.Beginning.{Beginning}
 use Rattle.tap_runs.proofs.Frames.{frames_kept}
 use Rattle.tap_safe_runs.specs.Safe.{IsRun}
-use Rattle.tap_lookup_runs.specs.Answers.{asks_for, was_asked}
+use Rattle.tap_lookup_runs.specs.LookupAnswers.{asks_for, was_asked}
 
 -- a record that asks for a lookup, or one that asks for none
 record IsAsk (item : Record) : Type 0 where

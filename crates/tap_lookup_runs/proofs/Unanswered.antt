@@ -11,7 +11,7 @@ use Rattle.tap_scenario.specs.declared.step.Step.TheVariants.{Abandon, Cast, Cut
 use Rattle.tap_surrogate.specs.Nodes.{core_links}
 use Rattle.tap_surrogate.specs.Walk.{walk}
 use Rattle.tap_wire.specs.declared.fault.WireFault.{WireFault}
-use Rattle.tap_log.specs.Laws.{at_most_one}
+use Rattle.tap_log.specs.MoreRecords.{at_most_one}
 use Rattle.tap_log.specs.declared.record.LinkLine.{LinkLine}
 use Rattle.tap_log.specs.declared.record.NodeWord.{NodeWord}
 use Rattle.tap_log.specs.declared.record.Record.{Record}

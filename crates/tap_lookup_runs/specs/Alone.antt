@@ -6,7 +6,7 @@ use Rattle.tap_name.specs.Settings.{SettingsValue}
 use Rattle.tap_pointer.specs.Pointers.{pair_of}
 use Rattle.tap_log.specs.declared.record.Record.{Record}
 use Rattle.tap_log.specs.declared.record.Record.TheVariants.{Answered}
-use Rattle.tap_safe_runs.specs.Starts.{AcceptNoStart, IsAskedAtRest}
+use Rattle.tap_safe_runs.specs.Accepting.{AcceptNoStart, IsAskedAtRest}
 use Rattle.tap_pointer_runs.specs.Paths.{IsPublishedIn}
 
 -- The answer is exact by the log: it names the server of a pair of the object that is published, and none only if no such pair is.

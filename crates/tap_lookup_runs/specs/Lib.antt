@@ -1,3 +1,3 @@
-pub mod Answers
+pub mod LookupAnswers
 pub mod Alone
 pub mod NoServer

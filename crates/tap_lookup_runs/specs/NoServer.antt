@@ -13,7 +13,7 @@ use Rattle.tap_safety.specs.System.{System, IsUnderWay}
 use Rattle.tap_runs.specs.Course.{system_of}
 use Rattle.tap_pointer_runs.specs.Paths.{IsPublishedIn}
 use Rattle.tap_lookup_moves.specs.NoServer.{EndsAt, EndsWith, IsLookup}
-use Rattle.tap_lookup_runs.specs.Answers.{was_asked}
+use Rattle.tap_lookup_runs.specs.LookupAnswers.{was_asked}
 
 -- ---- the last node reached
 

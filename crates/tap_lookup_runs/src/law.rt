@@ -1,7 +1,7 @@
-ghost use Rattle.tap_safe_runs.specs.Headline.{OfLawfulLogs};
+ghost use Rattle.tap_safe_runs.specs.SafeLogs.{OfLawfulLogs};
 ghost use Rattle.tap_safe_runs.specs.Moments.{AtEachMoment};
 ghost use Rattle.tap_lookup_runs.specs.Alone.{LookupsAloneAreExact};
-ghost use Rattle.tap_lookup_runs.specs.Answers.{AnswersWerePublished, LookupsGoToCoreIn};
+ghost use Rattle.tap_lookup_runs.specs.LookupAnswers.{AnswersWerePublished, LookupsGoToCoreIn};
 ghost use Rattle.tap_lookup_runs.specs.NoServer.{AnsweredNoneWereDisturbed, LookupsEndWithoutServer};
 
 /// At each moment of a run the lookups that are under way in its system go to core nodes.

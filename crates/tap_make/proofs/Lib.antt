@@ -1,4 +1,4 @@
-pub mod Growing
+pub mod LoopLists
 pub mod Naming
 pub mod Scripted
 pub mod Marked

@@ -10,8 +10,8 @@ use Rattle.tap_scenario.specs.declared.step.Step.{Step}
 use Rattle.tap_scenario.specs.declared.step.Step.TheVariants.{Depart, Find, Join, Publish, Settle, SettleMixed, Walk}
 use Rattle.tap_scenario.specs.Scenario.{EachStepIsPlayed, IsScript, ScenarioValue}
 use Rattle.tap_scenario.specs.Step.{IsStep, is_played}
-use Rattle.tap_scenario.proofs.Steps.{step_of_text-text}
-use Rattle.tap_make.specs.Laws.{IsWellMade}
+use Rattle.tap_scenario.proofs.StepTexts.{step_of_text-text}
+use Rattle.tap_make.specs.WellMade.{IsWellMade}
 use Rattle.tap_make.specs.Made.{made, made_settings}
 use Rattle.tap_make.specs.MadeNames.{made_members, made_node, marked_name, member_count, newcomer, object_count}
 use Rattle.tap_make.specs.MadeSteps.{lookup_count, made_departures, made_join, made_lookup, made_lookups, made_publication, made_publications, made_steps, made_walk, made_wave, made_waves, wave_count, wave_size, wave_walks}

@@ -7,7 +7,7 @@ use Rattle.tap_make.specs.declared.names.Names.{Names}
 use Rattle.tap_make.specs.Draws.{DrawsValue, further}
 use Rattle.tap_make.specs.MadeNames.{HasMadeNames, made_node, made_object, marked_name, newcomer}
 use Rattle.tap_make.specs.Mixer.{drawn}
-use Rattle.tap_make.proofs.Growing.{made_at}
+use Rattle.tap_make.proofs.LoopLists.{made_at}
 
 -- ---- how far a mixer is
 

@@ -6,7 +6,7 @@ use Rattle.tap_scenario.specs.declared.step.Step.TheVariants.{Find, Join, Publis
 use Rattle.tap_make.specs.Draws.{DrawsValue, further}
 use Rattle.tap_make.specs.MadeNames.{drawn_member, drawn_object, made_newcomers, made_object, made_objects, newcomer, object_count}
 use Rattle.tap_make.specs.MadeSteps.{drawn_walk, lookups_from, made_departures, made_join, made_lookup, made_lookups, made_publication, made_publications, made_steps, made_walk, made_wave, made_waves, publications_from, wave_from, wave_size}
-use Rattle.tap_make.proofs.Growing.{made_at}
+use Rattle.tap_make.proofs.LoopLists.{made_at}
 
 -- ---- names at a place
 

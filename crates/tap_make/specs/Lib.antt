@@ -3,4 +3,4 @@ pub mod Draws
 pub mod MadeNames
 pub mod MadeSteps
 pub mod Made
-pub mod Laws
+pub mod WellMade

@@ -1,4 +1,4 @@
-ghost use Rattle.tap_make.specs.Laws.{MadeLaw};
+ghost use Rattle.tap_make.specs.WellMade.{MadeLaw};
 
 /// A scenario that is made is within the limits of a scenario, the text of each of its steps is read as that step, a run takes each of
 /// them, and no two of its nodes have one name, nor two of its objects.

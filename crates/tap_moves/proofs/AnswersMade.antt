@@ -10,12 +10,12 @@ use Rattle.tap_wire.specs.declared.frame.Body.TheVariants.{Ack, Heard}
 use Rattle.tap_wire.specs.declared.frame.Frame.{Frame}
 use Rattle.tap_rule.specs.Answers.{answer_for, answer_sends}
 use Rattle.tap_rule.specs.Event.{Acted}
-use Rattle.tap_rule.specs.Laws.{AnswerLaw, frame_to}
+use Rattle.tap_rule.specs.RuleLaws.{AnswerLaw, frame_to}
 use Rattle.tap_rule.specs.Node.{NodeState, Status, join_session_at, name_of}
 use Rattle.tap_rule.specs.Node.Status.{Ceased, Core, Gone, Joining, Leaving}
 use Rattle.tap_rule.specs.Reaction.{Message}
 use Rattle.tap_rule.specs.Sent.{AreSent, IsAmong}
-use Rattle.tap_rule.specs.Steps.{AnswerStep}
+use Rattle.tap_rule.specs.LinkSteps.{AnswerStep}
 use Rattle.tap_rule.proofs.AnswerSteps.{ack_law, heard_law, other_number}
 use Rattle.tap_safety.specs.Bookkeeping.{holds_sessions}
 use Rattle.tap_safety.specs.Counted.{AreCountedSo, kept_parent, parent_at}

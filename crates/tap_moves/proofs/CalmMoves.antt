@@ -20,7 +20,7 @@ use Rattle.tap_wire.specs.declared.kind.Kind.TheVariants as kind
 use Rattle.tap_wire.specs.Kind.{kind_of}
 use Rattle.tap_rule.specs.Answers.{answer_sends}
 use Rattle.tap_rule.specs.FrameRules.{frame_at_ceased, frame_at_core, frame_at_joining, frame_at_leaving, rule_of_frame}
-use Rattle.tap_rule.specs.Laws.{frame_to}
+use Rattle.tap_rule.specs.RuleLaws.{frame_to}
 use Rattle.tap_rule.specs.Joining.{hello_words}
 use Rattle.tap_rule.specs.Links.{is_new_link, release_word}
 use Rattle.tap_rule.specs.Node.{NodeState, Status, join_session_at, name_of}
@@ -39,12 +39,12 @@ use Rattle.tap_safety.specs.FrameSteps.{TakesFrame}
 use Rattle.tap_safety.specs.Frames.{HelloFields, hello_body, tell_body}
 use Rattle.tap_safety.specs.Notices.{AreNoNotices, IsNotice, IsNoticeKind}
 use Rattle.tap_safety.specs.Soft.{AddsSoundLinks, IsQuietBody, IsSoft}
-use Rattle.tap_safety.specs.Step.{IsSent, numbered_from}
+use Rattle.tap_safety.specs.Exchanges.{IsSent, numbered_from}
 use Rattle.tap_safety.specs.System.{System, AmongFrames}
 use Rattle.tap_safety.proofs.Peace.{frame_peace_law, notices_law, peace_kept}
 use Rattle.tap_safety.proofs.SoftKept.{forget_links, frame_softs, hello_links, joining_links, not_new, only_message, release_links, sent_each}
 use Rattle.tap_safety.proofs.StepLaws.{depths_law, seek_on_law, seeking_frame_law, tells_frame_law}
-use Rattle.tap_safety.proofs.Told.{was_under_way}
+use Rattle.tap_safety.proofs.UnderWay.{was_under_way}
 use Rattle.tap_safety.proofs.FrameKeeps.{covers_on, frame_cores}
 use Rattle.tap_safety.proofs.FrameSeeking.{frame_joiners}
 use Rattle.tap_safety.proofs.SeekingKept.{tells_kept}

@@ -16,11 +16,11 @@ use Rattle.tap_wire.specs.declared.frame.Body.TheVariants.{Ack, Heard, Seek}
 use Rattle.tap_wire.specs.declared.frame.Frame.{Frame}
 use Rattle.tap_wire.specs.declared.frame.TellFields.{TellFields}
 use Rattle.tap_rule.specs.Event.{Acted}
-use Rattle.tap_rule.specs.Laws.{AnswerLaw, frame_to}
+use Rattle.tap_rule.specs.RuleLaws.{AnswerLaw, frame_to}
 use Rattle.tap_rule.specs.Node.{NodeState, join_session_at, name_of}
 use Rattle.tap_rule.specs.Node.Status.{Ceased, Core, Joining}
 use Rattle.tap_rule.specs.Reaction.{message}
-use Rattle.tap_rule.specs.Steps.{AnswerStep}
+use Rattle.tap_rule.specs.LinkSteps.{AnswerStep}
 use Rattle.tap_rule.proofs.AnswerSteps.{ack_law, heard_law, same_number}
 use Rattle.tap_rule.proofs.JoinSteps.{hello_law}
 use Rattle.tap_safety.specs.Bookkeeping.{SendsIn}
@@ -32,7 +32,7 @@ use Rattle.tap_safety.specs.Remembered.{OpenSession, Token}
 use Rattle.tap_safety.specs.Remembered.Token.{Child, Way}
 use Rattle.tap_safety.specs.Sessions.{AmongTokens, IsOpen, for_way, ways_of}
 use Rattle.tap_safety.specs.SessionSteps.{ClosesChild, ClosesRoot, HandsOn}
-use Rattle.tap_safety.specs.Step.{ChangesAt}
+use Rattle.tap_safety.specs.Exchanges.{ChangesAt}
 use Rattle.tap_safety.specs.System.{System}
 use Rattle.tap_safety.proofs.Apart.{ways_of-child}
 use Rattle.tap_safety.proofs.CountedKept.{counted_answer, counted_answering, counted_closing, counted_last, counted_opening, counted_root, for_way-length}

@@ -7,7 +7,7 @@ use Rattle.tap_pointer.specs.declared.lay.Lay.{Lay}
 use Rattle.tap_wire.specs.declared.frame.Frame.{Frame}
 use Rattle.tap_rule.specs.Completed.{SendsAt}
 use Rattle.tap_rule.specs.Event.{Acted}
-use Rattle.tap_rule.specs.Laws.{IsCarriedOut}
+use Rattle.tap_rule.specs.RuleLaws.{IsCarriedOut}
 use Rattle.tap_rule.specs.Node.{IsRunning, NodeState, Status, name_of}
 use Rattle.tap_rule.specs.Node.Status.{Ceased, Core, Gone, Joining, Leaving}
 use Rattle.tap_rule.specs.Reaction.{Message, Reaction}
@@ -16,7 +16,7 @@ use Rattle.tap_rule.specs.Sent.{AreSentInOrder, IsAmong}
 use Rattle.tap_safety.specs.Remembered.{Token}
 use Rattle.tap_safety.specs.Remembered.Token.{Way}
 use Rattle.tap_safety.specs.Sessions.{Belongs, is_placed, session_named, ways_of}
-use Rattle.tap_safety.specs.Step.{numbered_from}
+use Rattle.tap_safety.specs.Exchanges.{numbered_from}
 use Rattle.tap_safety.proofs.SessionsKept.{placed_at}
 
 -- one for a frame of this session, and none for another

@@ -13,7 +13,7 @@ use Rattle.tap_link.proofs.TargetKinds.{kind_pinned}
 use Rattle.tap_table.specs.Table.{IsTable, TableValue, kind_in, links_near, name_cmp}
 use Rattle.tap_table.specs.Ties.{AreTies, pinned}
 use Rattle.tap_table.proofs.Found.{linked_is_name, linked_is_other}
-use Rattle.tap_table.proofs.Kept.{IsTable-pinned}
+use Rattle.tap_table.proofs.KeptTable.{IsTable-pinned}
 use Rattle.tap_table.proofs.LookUps.{kind_in-pinned, of_itself, of_others}
 use Rattle.tap_table.proofs.Primaries.{primary_near}
 use Rattle.tap_multicast.specs.declared.target.Target.{Target}
@@ -33,9 +33,9 @@ use Rattle.tap_rule.specs.Strange.{is_no_pin}
 use Rattle.tap_rule.proofs.JoinSteps.{IsTellFit}
 use Rattle.tap_safety.specs.Frames.{HelloFields, hello_body, tell_body}
 use Rattle.tap_safety.specs.System.{AmongOffered}
-use Rattle.tap_safety.specs.Step.{IsSent}
+use Rattle.tap_safety.specs.Exchanges.{IsSent}
 use Rattle.tap_safety.specs.TellStep.{CoversAnew, Greets, IsNewlyCovered, Tells, TellsPrimary}
-use Rattle.tap_moves.specs.Laws.{IsAnew}
+use Rattle.tap_moves.specs.StepsMade.{IsAnew}
 use Rattle.tap_moves.proofs.Nearness.{name_inside, primary_stands_near}
 use Rattle.tap_moves.proofs.Got.{among_got, offered_got, same_name, sent_among}
 

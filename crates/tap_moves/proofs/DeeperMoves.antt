@@ -32,7 +32,7 @@ use Rattle.tap_rule.specs.Covering.{Request, answers_awaited, covers_as, first_r
 use Rattle.tap_rule.specs.Event.{Acted}
 use Rattle.tap_rule.specs.FrameRules.{frame_at_core}
 use Rattle.tap_rule.specs.JoinSteps.{found_for}
-use Rattle.tap_rule.specs.Laws.{IsCarriedOut, frame_to, tell_of}
+use Rattle.tap_rule.specs.RuleLaws.{IsCarriedOut, frame_to, tell_of}
 use Rattle.tap_rule.specs.Node.{NodeState, level_of, name_of, settings_of}
 use Rattle.tap_rule.specs.Node.Status.{Core}
 use Rattle.tap_rule.specs.Reaction.{Message, Reaction, pin_word, sends, with_pin, with_words}
@@ -49,7 +49,7 @@ use Rattle.tap_safety.specs.Frames.{tell_body, hello_body}
 use Rattle.tap_safety.specs.Remembered.{OpenSession}
 use Rattle.tap_safety.specs.Sessions.{IsOpen, ways_of}
 use Rattle.tap_safety.specs.SessionSteps.{child_of}
-use Rattle.tap_safety.specs.Step.{IsSent}
+use Rattle.tap_safety.specs.Exchanges.{IsSent}
 use Rattle.tap_safety.specs.System.{System, AmongFrames}
 use Rattle.tap_safety.proofs.StepLaws.{depths_law, handing_on_turns_law, opening_turns_law, root_turns_law}
 use Rattle.tap_safety.proofs.Said.{Said, said_of}

@@ -15,7 +15,7 @@ use Rattle.tap_rule.specs.Ceasing.{takes_tell_ceased}
 use Rattle.tap_rule.specs.Event.{Acted}
 use Rattle.tap_rule.specs.FrameRules.{frame_at_ceased}
 use Rattle.tap_rule.specs.JoinSteps.{SeeksAs}
-use Rattle.tap_rule.specs.Laws.{frame_to}
+use Rattle.tap_rule.specs.RuleLaws.{frame_to}
 use Rattle.tap_rule.specs.Node.{NodeState, Status, link_to, name_of}
 use Rattle.tap_rule.specs.Node.Status.{Ceased, Core, Gone, Joining}
 use Rattle.tap_rule.proofs.CarriedOut.{frame_law}
@@ -27,7 +27,7 @@ use Rattle.tap_safety.specs.Frames.{tell_body, hello_body}
 use Rattle.tap_safety.specs.System.{System}
 use Rattle.tap_safety.specs.Ties.{status_of}
 use Rattle.tap_safety.proofs.Known.{ended_kept}
-use Rattle.tap_safety.proofs.Moves.{delivers, found}
+use Rattle.tap_safety.proofs.Moved.{delivers, found}
 use Rattle.tap_safety.proofs.Said.{Said, said_of}
 use Rattle.tap_safety.proofs.Said.Said.{IsDone, IsForget, IsHello, IsRelease, IsSeek, IsTell}
 use Rattle.tap_moves.specs.ByRule.{taken_at}

@@ -4,8 +4,8 @@ use Rattle.tap_wire.specs.declared.frame.Frame.{Frame}
 use Rattle.tap_rule.specs.Sent.{IsAmong}
 use Rattle.tap_safety.specs.System.{System, AmongFrames}
 use Rattle.tap_safety.specs.SessionSteps.{Exchanges}
-use Rattle.tap_safety.specs.Step.{AreNumbered, Ascend, IsTaken, numbered_from}
-use Rattle.tap_safety.proofs.Moves.{ascend_from, ascend_numbered, ascend_one, ascend_under, numbers_taken}
+use Rattle.tap_safety.specs.Exchanges.{AreNumbered, Ascend, IsTaken, numbered_from}
+use Rattle.tap_safety.proofs.Moved.{ascend_from, ascend_numbered, ascend_one, ascend_under, numbers_taken}
 
 -- ---- frames in two lists
 

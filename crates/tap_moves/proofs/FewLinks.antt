@@ -15,18 +15,18 @@ use Rattle.tap_table.specs.ByName.{targets_by_name}
 use Rattle.tap_table.specs.Table.{IsTable, TableValue, empty_table, forgotten, has_room_near, kind_in, pinned, released, removed}
 use Rattle.tap_table.specs.Ties.{AreTies}
 use Rattle.tap_table.proofs.Found.{linked_is_name, linked_is_other}
-use Rattle.tap_table.proofs.Kept.{IsTable-forgotten, IsTable-pinned, IsTable-released, IsTable-removed}
+use Rattle.tap_table.proofs.KeptTable.{IsTable-forgotten, IsTable-pinned, IsTable-released, IsTable-removed}
 use Rattle.tap_table.proofs.LookUps.{by_rule, kind_in-forgotten, kind_in-pinned, kind_in-released, kind_in-removed}
 use Rattle.tap_table.proofs.NewLinks.{pinned_rule_new}
 use Rattle.tap_table.proofs.Targets.{target_is_linked, targets-ascending}
 use Rattle.tap_join.specs.Hello.{after_hello, hello_names}
 use Rattle.tap_join.proofs.Hellos.{AreTies-after_hello, hello_new_links, owner_stays}
-use Rattle.tap_depart.specs.Told.{told_leave}
+use Rattle.tap_depart.specs.ToldLeave.{told_leave}
 use Rattle.tap_depart.proofs.Notices.{AreTies-told, new_is_told, told_is_new, told_owner}
 use Rattle.tap_wire.specs.declared.frame.Body.TheVariants.{Hello}
 use Rattle.tap_wire.specs.declared.frame.Frame.{Frame}
 use Rattle.tap_rule.specs.Fit.{CouldLink, IsFit}
-use Rattle.tap_rule.specs.Laws.{frame_to}
+use Rattle.tap_rule.specs.RuleLaws.{frame_to}
 use Rattle.tap_rule.specs.Node.{NodeState, link_to, name_of, settings_of}
 use Rattle.tap_rule.specs.Strange.{is_strange}
 use Rattle.tap_rule.proofs.EndSteps.{unlinked}

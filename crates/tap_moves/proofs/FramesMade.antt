@@ -20,10 +20,10 @@ use Rattle.tap_wire.specs.declared.frame.Frame.{Frame}
 use Rattle.tap_wire.specs.declared.frame.TellFields.{TellFields}
 use Rattle.tap_rule.specs.Event.{Acted}
 use Rattle.tap_rule.specs.Joining.{hello_words, takes_tell_joining, welcomes}
-use Rattle.tap_rule.specs.Laws.{IsCarriedOut, frame_to}
+use Rattle.tap_rule.specs.RuleLaws.{IsCarriedOut, frame_to}
 use Rattle.tap_rule.specs.Links.{release_word}
 use Rattle.tap_rule.specs.Reaction.{Message, message, pin_word, sends, with_pin, with_words}
-use Rattle.tap_rule.specs.Steps.{ForgetStep, ReleaseStep}
+use Rattle.tap_rule.specs.LinkSteps.{ForgetStep, ReleaseStep}
 use Rattle.tap_rule.specs.Node.{NodeState, link_to, name_of, settings_of}
 use Rattle.tap_rule.specs.Sent.{AreSent, IsAmong}
 use Rattle.tap_rule.proofs.CarriedOut.{frame_law}

@@ -22,7 +22,7 @@ use Rattle.tap_rule.specs.FrameRules.{frame_at_ceased, frame_at_core, frame_at_j
 use Rattle.tap_rule.specs.Joining.{takes_tell_joining, welcomes}
 use Rattle.tap_rule.specs.Event.{Acted}
 use Rattle.tap_rule.specs.JoinSteps.{found_for}
-use Rattle.tap_rule.specs.Laws.{IsCarriedOut, frame_to, tell_of}
+use Rattle.tap_rule.specs.RuleLaws.{IsCarriedOut, frame_to, tell_of}
 use Rattle.tap_rule.specs.Node.{NodeState, name_of}
 use Rattle.tap_rule.specs.Reaction.{Message, Reaction, message, pin_word, sends, with_pin, with_words}
 use Rattle.tap_rule.specs.Sending.{link_frame, lay_frame, message_frame}
@@ -34,7 +34,7 @@ use Rattle.tap_rule.proofs.OneName.{parent_told}
 use Rattle.tap_safety.specs.Sessions.{Belongs}
 use Rattle.tap_moves.specs.ByRule.{taken_at}
 use Rattle.tap_moves.specs.InSession.{AnswersAtOnce, OpensNext, OpensOrAnswers}
-use Rattle.tap_moves.specs.Laws.{CeasedAnswers, SeekOpens, TellInSession}
+use Rattle.tap_moves.specs.StepsMade.{CeasedAnswers, SeekOpens, TellInSession}
 use Rattle.tap_moves.proofs.Counts.{AreIn, ways_by_rule}
 use Rattle.tap_moves.proofs.SeekMade.{uncovered}
 

@@ -11,7 +11,7 @@ use Rattle.tap_link.specs.declared.kind.Kind.TheVariants.{Leaving as LeavingKind
 use Rattle.tap_wire.specs.declared.frame.Body.{Body}
 use Rattle.tap_wire.specs.declared.frame.Body.TheVariants.{Ack, Done, Forget, Heard, Link, Release, Seek}
 use Rattle.tap_wire.specs.declared.frame.TellFields.{TellFields}
-use Rattle.tap_rule.specs.Laws.{frame_to}
+use Rattle.tap_rule.specs.RuleLaws.{frame_to}
 use Rattle.tap_rule.specs.Node.{IsRunning, NodeState, Status, level_of, link_to, name_of, settings_of}
 use Rattle.tap_rule.specs.Node.Status.{Ceased as CeasedStatus, Core, Gone, Joining, Leaving}
 use Rattle.tap_safety.specs.Departing.{may_be_then}
@@ -24,11 +24,11 @@ use Rattle.tap_safety.specs.Sessions.{AreExact}
 use Rattle.tap_safety.specs.Remembered.{Leaver}
 use Rattle.tap_safety.specs.Seeking.{HasNode, IsSeeker}
 use Rattle.tap_safety.specs.Soft.{IsSoft, NamesSoft}
-use Rattle.tap_safety.specs.System.{System, Covers, HasLink, IsCoreNode, IsJoiner, IsTold, IsUnderWay}
+use Rattle.tap_safety.specs.System.{System, CoversAt, HasLink, IsCoreNode, IsJoiner, IsTold, IsUnderWay}
 use Rattle.tap_safety.specs.Tells.{IsSoundTell}
 use Rattle.tap_safety.specs.TellStep.{BeforeTell, IsTellOf}
 use Rattle.tap_safety.specs.Ties.{hears_words}
-use Rattle.tap_safety.specs.Words.{Pins}
+use Rattle.tap_safety.specs.Regions.{Pins}
 use Rattle.tap_safety.proofs.CoverKept.{core_or_joiner}
 use Rattle.tap_safety.proofs.SeekLaws.{low_law}
 use Rattle.tap_safety.proofs.SessionLaws.{quiet_law}
@@ -42,8 +42,8 @@ use Rattle.tap_moves.specs.Delivered.{IsArriving, after_delivery}
 use Rattle.tap_moves.specs.SessionsLaws.{BeforeTaking}
 use Rattle.tap_moves.specs.InvariantLaws.{FrameExact, FrameFills, FrameSays, FrameSoft, IsDelivery, LinkTies, SeekGives, IsFilledThere, IsSaidThere, IsSoftThere, IsTakenThere}
 use Rattle.tap_moves.specs.FrameLaws.{IsPlain}
-use Rattle.tap_moves.specs.Laws.{IsAnew}
-use Rattle.tap_moves.specs.Spelled.{AreNodes}
+use Rattle.tap_moves.specs.StepsMade.{IsAnew}
+use Rattle.tap_moves.specs.KnownNames.{AreNodes}
 use Rattle.tap_moves.proofs.Got.{all_among}
 use Rattle.tap_moves.proofs.MovesMade.{ack_keeps_sessions, by_rule, ceased_tell_keeps, done_keeps, forget_keeps, heard_keeps_sessions, hello_keeps, hello_keeps_sessions, joining_tell_keeps, known_tell_keeps, link_keeps, outside_keeps_sessions, plain_keeps, release_keeps, seek_keeps, seek_keeps_sessions, tell_keeps, tell_keeps_sessions}
 use Rattle.tap_moves.specs.TiesLaws.{WordsStand}
@@ -131,7 +131,7 @@ sound_tell p s b x level told sound = record {
   from = told.from;
   core = sound.core;
   cover = sound.cover;
-  covers = subst (λ joiner. Covers s told.from joiner sound.cover) told.joiner sound.covers;
+  covers = subst (λ joiner. CoversAt s told.from joiner sound.cover) told.joiner sound.covers;
   level_is = sym told.level_is ∙ sound.level;
   apart = sound.near;
 }
@@ -208,7 +208,7 @@ module _ (p : SettingsValue) (s : System) (number : ℕ) (node : NodeState) (fro
       tell_known : node.status ≡ Core → (kept : ℕ) → level_of node tell.joiner ≡ Some kept → kept ≤ tell.level → AreFilled p after
       tell_known at kept level most =
           let core : IsCoreNode s (name_of node) = record { state = node; is = is.at; core = inl at } in
-          let covers : Covers s (name_of node) tell.joiner kept = record { state = node; is = is.at; cover = level } in
+          let covers : CoversAt s (name_of node) tell.joiner kept = record { state = node; is = is.at; cover = level } in
           let pin = (filled.covered.each (name_of node) tell.joiner kept core told.joiner covers).pin in
           let found = pin.is in
           let here = is.at in

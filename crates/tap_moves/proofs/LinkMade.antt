@@ -15,25 +15,25 @@ use Rattle.tap_wire.specs.declared.frame.Frame.{Frame}
 use Rattle.tap_rule.specs.Act.{act, completed}
 use Rattle.tap_rule.specs.Event.{Acted}
 use Rattle.tap_rule.specs.FrameRules.{frame_at_core, frame_at_joining, frame_at_leaving, rule_of_frame}
-use Rattle.tap_rule.specs.Laws.{IsRunning, frame_to}
+use Rattle.tap_rule.specs.RuleLaws.{IsRunning, frame_to}
 use Rattle.tap_rule.specs.Links.{is_new_link, release_answer, takes_link, takes_link_joining}
 use Rattle.tap_rule.specs.Node.{NodeState, Status, link_to, name_of, word_of}
 use Rattle.tap_rule.specs.Node.Status.{Ceased, Core, Gone, Joining, Leaving}
 use Rattle.tap_rule.specs.Reaction.{Reaction, message}
 use Rattle.tap_rule.specs.Sending.{by_receiver, frames_of, lay_frame, link_frame, message_frame}
 use Rattle.tap_rule.specs.Sent.{IsAmong, IsLink, IsNamed}
-use Rattle.tap_rule.specs.Steps.{LinkStep}
+use Rattle.tap_rule.specs.LinkSteps.{LinkStep}
 use Rattle.tap_rule.specs.Strange.{is_strange}
 use Rattle.tap_rule.proofs.Among.{among-by_receiver_from, among-either, among-map_from}
 use Rattle.tap_rule.proofs.LinkSteps.{link_law}
 use Rattle.tap_safety.specs.Moved.{last_after, word_after}
-use Rattle.tap_safety.specs.Remembered.{Word}
+use Rattle.tap_safety.specs.Remembered.{TieWord}
 use Rattle.tap_safety.specs.System.{System, AmongFrames}
 use Rattle.tap_safety.specs.Bookkeeping.{AreStamped}
 use Rattle.tap_safety.specs.SessionSteps.{Exchanges}
-use Rattle.tap_safety.specs.Step.{AreNumbered, ChangesAt, numbered_from}
+use Rattle.tap_safety.specs.Exchanges.{AreNumbered, ChangesAt, numbered_from}
 use Rattle.tap_safety.specs.Ties.{IsNewer, IsOnWay, TakesLink, hears_words, link_in, link_of, register_in, register_of, release_frame, status_in, status_of, word_frame}
-use Rattle.tap_safety.proofs.Told.{sent_under_way}
+use Rattle.tap_safety.proofs.UnderWay.{sent_under_way}
 use Rattle.tap_moves.specs.ByRule.{TakesByRule, taken_at}
 use Rattle.tap_moves.specs.TiesLaws.{LinkIsMade, RemembersWords}
 use Rattle.tap_moves.proofs.Exchanged.{exchanges, sent_numbered}
@@ -124,7 +124,7 @@ release_by node from version on known laid f among Gone at heard = absurd heard
 release_by node from version on known laid f among Ceased at heard = absurd heard
 
 -- who sends Releases alone says nothing of its links
-last_same : (own from : List ℕ) (sent : List Frame) (t : List ℕ) (before : Option Word)
+last_same : (own from : List ℕ) (sent : List Frame) (t : List ℕ) (before : Option TieWord)
     → ((f : Frame) → IsAmong f sent → f ≡ release_frame own from) → last_after sent t before ≡ before
 unfolding last_after
 last_same own from [] t before each = refl
@@ -135,13 +135,13 @@ last_same own from (frame ∷ frames) t before each =
     either_way (bytes_eq t frame.to) (word_after frame.body before) before stays in
     ap (last_after frames t) same ∙ last_same own from frames t before (λ f among. each f (inr among))
   where
-    either_way : (test : Bool) (one other : Option Word) → one ≡ other → (if test then one else other) ≡ other
+    either_way : (test : Bool) (one other : Option TieWord) → one ≡ other → (if test then one else other) ≡ other
     either_way true one other same = same
     either_way false one other same = refl
 
 -- ---- registers
 
-abbrev entry_word : Entry (List ℕ) Bool → Word
+abbrev entry_word : Entry (List ℕ) Bool → TieWord
 entry_word e = record { version = e.version; on = e.value }
 
 newest_new : (old : Option (Entry (List ℕ) Bool)) (e : Entry (List ℕ) Bool) → IsNewer e.version (option_map entry_word old)
@@ -149,12 +149,12 @@ newest_new : (old : Option (Entry (List ℕ) Bool)) (e : Entry (List ℕ) Bool) 
 newest_new None e newer = refl
 newest_new (Some c) e newer = rw (lt-ltb c.version e.version newer) refl
 
-newest_old : (old : Option (Entry (List ℕ) Bool)) (e : Entry (List ℕ) Bool) (kept : Word) → option_map entry_word old ≡ Some kept
+newest_old : (old : Option (Entry (List ℕ) Bool)) (e : Entry (List ℕ) Bool) (kept : TieWord) → option_map entry_word old ≡ Some kept
     → e.version ≤ kept.version → option_map entry_word (Some (newest old e)) ≡ Some kept
 newest_old None e kept is most = cc
 newest_old (Some c) e kept is most =
     let same : entry_word c ≡ kept = cc in
-    let version : c.version ≡ kept.version = ap (λ (w : Word). w.version) same in
+    let version : c.version ≡ kept.version = ap (λ (w : TieWord). w.version) same in
     rw (le-ltb c.version e.version (omega (arith, version, most))) is
 
 newer_is : (old : Option (Entry (List ℕ) Bool)) (version : ℕ) → IsNewer version (option_map entry_word old)
@@ -214,7 +214,7 @@ hearing Leaving heard = inr (inr refl)
 hearing Gone heard = absurd heard
 hearing Ceased heard = absurd heard
 
-module _ (s s' : System) (number : ℕ) (node : NodeState) (from : List ℕ) (word : Word)
+module _ (s s' : System) (number : ℕ) (node : NodeState) (from : List ℕ) (word : TieWord)
     (taken : TakesByRule s s' number node from (Link word.version word.on)) (remembers : RemembersWords s s' node from word)
     (numbers : AreNumbered s) (stamped : AreStamped s) (heard : hears_words (Some node.status))
     (laid : AreLaid node.ties.table node.pointers) where
@@ -284,7 +284,7 @@ module _ (s s' : System) (number : ℕ) (node : NodeState) (from : List ℕ) (wo
       register_is s s' own node acted.state taken.at from ∙ ap (option_map entry_word) step.word
       ∙ ap (λ e. option_map entry_word (Some e)) (newest_new (word_of node from) entry old)
 
-  old : (kept : Word) → register_of s own from ≡ Some kept → word.version ≤ kept.version → register_of s' own from ≡ Some kept
+  old : (kept : TieWord) → register_of s own from ≡ Some kept → word.version ≤ kept.version → register_of s' own from ≡ Some kept
   old kept is most =
       register_is s s' own node acted.state taken.at from ∙ ap (option_map entry_word) step.word
       ∙ newest_old (word_of node from) entry kept (sym (register_was s s' own node acted.state taken.at from) ∙ is) most

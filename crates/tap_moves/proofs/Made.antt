@@ -16,7 +16,7 @@ use Rattle.tap_rule.proofs.JoinSteps.{done_law, tell_fits}
 use Rattle.tap_safety.specs.Frames.{tell_body}
 use Rattle.tap_wire.specs.declared.frame.Body.TheVariants.{Done}
 use Rattle.tap_moves.specs.ByRule.{taken_at}
-use Rattle.tap_moves.specs.Laws.{DoneIsMade, KnownTellIsMade, NewTellIsMade}
+use Rattle.tap_moves.specs.StepsMade.{DoneIsMade, KnownTellIsMade, NewTellIsMade}
 use Rattle.tap_moves.proofs.CoverMade.{covers_anew}
 
 pub done_is_made : DoneIsMade

@@ -12,7 +12,7 @@ use Rattle.tap_wire.specs.declared.frame.TellFields.{TellFields}
 use Rattle.tap_wire.specs.declared.frame.Frame.{Frame}
 use Rattle.tap_rule.specs.Act.{act}
 use Rattle.tap_rule.specs.Event.Event.{Takes}
-use Rattle.tap_rule.specs.Laws.{frame_to}
+use Rattle.tap_rule.specs.RuleLaws.{frame_to}
 use Rattle.tap_rule.specs.Node.{NodeState, name_of, settings_of}
 use Rattle.tap_safety.specs.Frames.{hello_body, tell_body}
 use Rattle.tap_safety.specs.Moved.{moved, numbered_frame, taking}
@@ -20,11 +20,11 @@ use Rattle.tap_safety.specs.Move.Move.{Delivers}
 use Rattle.tap_safety.specs.System.{System}
 use Rattle.tap_safety.specs.Turned.{opened_by, seated, sessions_with, surrogates_with}
 use Rattle.tap_safety.specs.DoneStep.{DoneIsTaken}
-use Rattle.tap_safety.specs.Remembered.{Word}
+use Rattle.tap_safety.specs.Remembered.{TieWord}
 use Rattle.tap_safety.specs.Sessions.{AreExact}
-use Rattle.tap_safety.specs.Step.{with_at}
+use Rattle.tap_safety.specs.Exchanges.{with_at}
 use Rattle.tap_safety.specs.TellStep.{CoversAnew, KnownTellIsTaken, TellIsTaken}
-use Rattle.tap_safety.proofs.Moves.{delivers, found, with_at-here, with_at-others}
+use Rattle.tap_safety.proofs.Moved.{delivers, found, with_at-here, with_at-others}
 use Rattle.tap_safety.proofs.SessionLaws.{opened_law}
 use Rattle.tap_safety.proofs.StepLaws.{filled_done_law, filled_known_law, filled_seat_law, filled_tell_law, forget_filled_law, handing_on_law, hello_filled_law, others_law, plain_law, release_filled_law, root_opened_law, tell_ceased_law, tell_joining_law}
 use Rattle.tap_safety.proofs.TiesLaws.{ties_law, versions_law}
@@ -279,7 +279,7 @@ forget_keeps p s number node from due at name ceased filled =
 
 -- ---- Link, and sessions
 
-remembers_words : (p : SettingsValue) (s : System) (number : ℕ) (node : NodeState) (from : List ℕ) (word : Word)
+remembers_words : (p : SettingsValue) (s : System) (number : ℕ) (node : NodeState) (from : List ℕ) (word : TieWord)
     → IsArriving s number node from (Link word.version word.on) → RemembersWords s (after_delivery p s number) node from word
 remembers_words p s number node from word due =
     let frame = frame_to node from (Link word.version word.on) in

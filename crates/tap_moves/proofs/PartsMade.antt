@@ -16,7 +16,7 @@ use Rattle.tap_rule.specs.Event.{Acted, Event, Start}
 use Rattle.tap_rule.specs.Event.Event.{Starts, Takes}
 use Rattle.tap_rule.specs.Event.Start.{Abandon, Cast as StartCast, Find, Join, Leave, Publish, Withdraw}
 use Rattle.tap_rule.specs.FrameRules.{frame_at_ceased, rule_of_frame}
-use Rattle.tap_rule.specs.Kept.{IsNode, IsStart, KeepsNode}
+use Rattle.tap_rule.specs.KeptNode.{IsNode, IsStart, KeepsNode}
 use Rattle.tap_rule.specs.Node.{IsRunning, NodeState, Status, joiner, name_of, settings_of}
 use Rattle.tap_rule.specs.Node.Status.{Ceased, Core, Gone, Joining, Leaving}
 use Rattle.tap_rule.specs.Pointers.{reconciles, with_reconciled}
@@ -27,19 +27,19 @@ use Rattle.tap_rule.specs.Strange.{is_strange}
 use Rattle.tap_rule.proofs.Among.{among-by_receiver_from}
 use Rattle.tap_rule.proofs.Completed.{runs_or_ended}
 use Rattle.tap_rule.proofs.CarriedOut.{frame_law, strange_law, unruled_law, unruled_start_law}
-use Rattle.tap_rule.proofs.Kept.{joiner_law, kept_law, start_kept_law}
+use Rattle.tap_rule.proofs.KeptNode.{joiner_law, kept_law, start_kept_law}
 use Rattle.tap_rule.proofs.Laid.{laid_law}
 use Rattle.tap_safety.specs.Move.Move.{Begins, Delivers}
 use Rattle.tap_safety.specs.Moved.{starter}
 use Rattle.tap_safety.specs.Spelled.{AreSpelled}
-use Rattle.tap_safety.specs.Step.{numbered_from}
+use Rattle.tap_safety.specs.Exchanges.{numbered_from}
 use Rattle.tap_safety.specs.System.{System, AmongFrames}
-use Rattle.tap_safety.proofs.Moves.{delivers, found, starts}
+use Rattle.tap_safety.proofs.Moved.{delivers, found, starts}
 use Rattle.tap_safety.proofs.Said.{Said, said_of}
 use Rattle.tap_safety.proofs.Said.Said.{IsAck, IsCast, IsHeard, IsLink, IsTell}
 use Rattle.tap_moves.specs.Delivered.{after_delivery, after_start}
 use Rattle.tap_moves.specs.InvariantLaws.{MoveKeepsParts, PartsKept, StartKeepsParts}
-use Rattle.tap_moves.specs.Spelled.{AreNamedPairs, AreNodes, IsNamedPair, IsNodeOf, IsParent, KnowsNames}
+use Rattle.tap_moves.specs.KnownNames.{AreNamedPairs, AreNodes, IsNamedPair, IsNodeOf, IsParent, KnowsNames}
 use Rattle.tap_moves.proofs.Exchanged.{exchanges, in_either, sent_numbered}
 use Rattle.tap_moves.proofs.FewLinks.{none_linked}
 use Rattle.tap_moves.proofs.Got.{all_among, among_all}

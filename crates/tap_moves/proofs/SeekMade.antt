@@ -28,7 +28,7 @@ use Rattle.tap_join.specs.Seek.{sought, sought_by}
 use Rattle.tap_rule.specs.Covering.{first_request}
 use Rattle.tap_rule.specs.Event.{Acted}
 use Rattle.tap_rule.specs.JoinSteps.{CoverStep, SeekStep}
-use Rattle.tap_rule.specs.Laws.{frame_to}
+use Rattle.tap_rule.specs.RuleLaws.{frame_to}
 use Rattle.tap_rule.specs.Node.{NodeState, level_of, link_to, name_of, settings_of}
 use Rattle.tap_rule.specs.Strange.{is_leaving, is_own_name, is_strange, is_strange_body, is_strange_seek, is_too_many, names_to_link}
 use Rattle.tap_wire.specs.declared.frame.Body.TheVariants.{Seek}
@@ -37,9 +37,9 @@ use Rattle.tap_rule.proofs.JoinSteps.{IsTellFit}
 use Rattle.tap_safety.specs.Frames.{hello_body}
 use Rattle.tap_safety.specs.SeekStep.{OffersPrimary}
 use Rattle.tap_safety.proofs.TellKeeps.{core_kept}
-use Rattle.tap_safety.proofs.Told.{sent_under_way}
+use Rattle.tap_safety.proofs.UnderWay.{sent_under_way}
 use Rattle.tap_moves.specs.ByRule.{taken_at}
-use Rattle.tap_moves.specs.Laws.{SeekCovers, SeekGreets}
+use Rattle.tap_moves.specs.StepsMade.{SeekCovers, SeekGreets}
 use Rattle.tap_moves.proofs.Got.{offered_got}
 use Rattle.tap_moves.proofs.CoverMade.{covers_anew, has_primary, hello_made, hello_sent, linked_inside, pins_offered, with_joiner, with_joiner_is}
 

@@ -20,7 +20,7 @@ use Rattle.tap_rule.specs.Event.Start.{Abandon, Cast, Find, Join, Leave, Publish
 use Rattle.tap_rule.specs.FrameRules.{frame_at_ceased, frame_at_core, frame_at_joining, frame_at_leaving, rule_of_frame}
 use Rattle.tap_rule.specs.Joining.{becomes_core}
 use Rattle.tap_rule.specs.JoinSteps.{SeeksAs}
-use Rattle.tap_rule.specs.Laws.{AnswerLaw, frame_to}
+use Rattle.tap_rule.specs.RuleLaws.{AnswerLaw, frame_to}
 use Rattle.tap_rule.specs.Node.{NodeState, Status, joiner, name_of}
 use Rattle.tap_rule.specs.Node.Status.{Ceased, Core, Gone, Joining, Leaving}
 use Rattle.tap_rule.specs.Reaction.{Reaction}
@@ -42,12 +42,12 @@ use Rattle.tap_safety.specs.Seeking.{HasNode}
 use Rattle.tap_safety.specs.Spelled.{most_names}
 use Rattle.tap_safety.specs.Sessions.{AreExact, IsOpen, ways_of}
 use Rattle.tap_safety.specs.SessionSteps.{LeavesSessions, OpensChild, OpensRoot, child_of}
-use Rattle.tap_safety.specs.Step.{AreNumbered, Ascend, ChangesAt}
+use Rattle.tap_safety.specs.Exchanges.{AreNumbered, Ascend, ChangesAt}
 use Rattle.tap_safety.specs.System.{System, IsCoreNode, IsUnderWay}
 use Rattle.tap_safety.specs.Turns.{Turns}
 use Rattle.tap_safety.proofs.CountedKept.{counted_others}
 use Rattle.tap_safety.proofs.Known.{core_kept, few_join, few_kept, names_kept}
-use Rattle.tap_safety.proofs.Moves.{delivers, found, numbers_sent, numbers_taken, starts}
+use Rattle.tap_safety.proofs.Moved.{delivers, found, numbers_sent, numbers_taken, starts}
 use Rattle.tap_safety.proofs.StepLaws.{await_others_law, awaited_closing_law, awaited_handing_on_law, awaited_last_law, awaited_opening_law, awaited_others_law, awaited_root_law, closing_turns_law, handing_on_turns_law, last_turns_law, numbers_new_law, opening_turns_law, places_law, root_turns_law}
 use Rattle.tap_safety.proofs.Said.{Said, said_of}
 use Rattle.tap_safety.proofs.Said.Said.{IsAck, IsHeard, IsHello, IsSeek, IsTell}
@@ -58,7 +58,7 @@ use Rattle.tap_moves.specs.InvariantLaws.{IsDelivery, IsTakenThere}
 use Rattle.tap_moves.specs.SessionMoves.{AreNamed, FrameAwaits, FrameCore, FrameNames, FramePlaces, FrameSteps, GoesOnAs, IsLastOpened, IsOfAnother, IsOfKind, OutsideBooks, SessionStep, StartNames, StepsSessions}
 use Rattle.tap_moves.specs.SessionMoves.SessionStep.{ClosesBelow, ClosesTop, Hands, LeavesAll, OpensBelow, OpensTop}
 use Rattle.tap_moves.specs.SessionsLaws.{IsOutside, sent_at}
-use Rattle.tap_moves.specs.Spelled.{AreNodes, IsNamedStart}
+use Rattle.tap_moves.specs.KnownNames.{AreNodes, IsNamedStart}
 use Rattle.tap_moves.proofs.AnswersMade.{AnswerIsTaken, IsAnswered, ack_is_taken, heard_is_taken}
 use Rattle.tap_moves.proofs.InSession.{ceased_answers, one_place, seek_opens, tell_in_session}
 use Rattle.tap_moves.proofs.InvariantMoves.{before_taking, due, name_at, of_node, seeker_not_core, told, told_name, way}

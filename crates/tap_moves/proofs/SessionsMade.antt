@@ -11,7 +11,7 @@ use Rattle.tap_wire.specs.declared.frame.Body.TheVariants.{Seek}
 use Rattle.tap_wire.specs.declared.frame.Frame.{Frame}
 use Rattle.tap_rule.specs.Event.{Acted}
 use Rattle.tap_rule.specs.Sent.{IsAmong}
-use Rattle.tap_rule.specs.Laws.{frame_to}
+use Rattle.tap_rule.specs.RuleLaws.{frame_to}
 use Rattle.tap_rule.specs.Node.{NodeState, name_of}
 use Rattle.tap_rule.proofs.AnswerSteps.{same_number}
 use Rattle.tap_rule.proofs.OneName.{not_own}

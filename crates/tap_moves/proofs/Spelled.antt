@@ -32,7 +32,7 @@ use Rattle.tap_pointer.proofs.Entries.{All-put}
 use Rattle.tap_pointer.proofs.Known.{All-found, pair_cmp-equal}
 use Rattle.tap_pointer.proofs.Levels.{level_most}
 use Rattle.tap_wire.specs.Spelling.{IsLevel}
-use Rattle.tap_moves.specs.Spelled.{AreNamedPairs, HaveParents, IsHopOf, IsNamedPair, IsParent}
+use Rattle.tap_moves.specs.KnownNames.{AreNamedPairs, HaveParents, IsHopOf, IsNamedPair, IsParent}
 
 -- ---- sessions
 

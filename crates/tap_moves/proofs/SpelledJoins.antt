@@ -13,7 +13,7 @@ use Rattle.tap_name.specs.Prefix.{lcp}
 use Rattle.tap_name.specs.Settings.{SettingsValue}
 use Rattle.tap_name.specs.declared.slot.Offered.{Offered}
 use Rattle.tap_name.specs.declared.slot.Slot.{Slot}
-use Rattle.tap_link.specs.Entry.{Entry as LinkEntry}
+use Rattle.tap_link.specs.Entry.{LinkEntry}
 use Rattle.tap_link.specs.declared.kind.Kind.{Kind}
 use Rattle.tap_link.specs.declared.kind.Kind.TheVariants.{Leaving as LeavingKind, Pin, Settled}
 use Rattle.tap_link.proofs.TargetKinds.{kind_pinned}
@@ -23,12 +23,12 @@ use Rattle.tap_table.specs.Levels.{is_kept}
 use Rattle.tap_table.specs.Table.{IsTable, TableValue, pinned as table_pinned}
 use Rattle.tap_table.specs.declared.tie.Tie.{Tie}
 use Rattle.tap_table.specs.Ties.{AreTies, TiesValue, holders_on, off_ties, stamp_after, tie_where}
-use Rattle.tap_table.proofs.Kept.{IsTable-pinned}
+use Rattle.tap_table.proofs.KeptTable.{IsTable-pinned}
 use Rattle.tap_table.proofs.LookUps.{kind_in-pinned, of_itself}
 use Rattle.tap_multicast.specs.declared.covers.Covered.{Covered}
 use Rattle.tap_multicast.specs.declared.covers.Covered.TheVariants.{Already, Now}
 use Rattle.tap_multicast.specs.declared.target.Target.{Target}
-use Rattle.tap_multicast.specs.Covers.{MayCover, begun, cover_of, level_kept}
+use Rattle.tap_multicast.specs.Covers.{MayCover, begun_cover, cover_of, level_kept}
 use Rattle.tap_multicast.specs.Offer.{answers, is_offered, left, offer, offered_as}
 use Rattle.tap_multicast.specs.Targets.{targets}
 use Rattle.tap_multicast.proofs.Offers.{IsOffered, offer_ascends, offers_are}
@@ -39,13 +39,13 @@ use Rattle.tap_join.specs.Hello.{is_own, links_tell, offered_tells, with_offered
 use Rattle.tap_wire.specs.Spelling.{AreLinks, AreSlots, IsBody, IsTell}
 use Rattle.tap_rule.specs.Answers.{next_number}
 use Rattle.tap_rule.specs.Covering.{Request}
-use Rattle.tap_rule.specs.Kept.{IsNode}
+use Rattle.tap_rule.specs.KeptNode.{IsNode}
 use Rattle.tap_rule.specs.Node.{NodeState, Status, ended, link_to, name_of, settings_of}
 use Rattle.tap_rule.specs.Reaction.{Message, Reaction}
 use Rattle.tap_rule.specs.Strange.{is_no_pin}
 use Rattle.tap_rule.proofs.Cases.{turn_for}
-use Rattle.tap_rule.proofs.Kept.{joiner_law}
-use Rattle.tap_moves.specs.Spelled.{IsNamedPair, IsParent, KnowsNames}
+use Rattle.tap_rule.proofs.KeptNode.{joiner_law}
+use Rattle.tap_moves.specs.KnownNames.{IsNamedPair, IsParent, KnowsNames}
 use Rattle.tap_moves.proofs.FewLinks.{none_linked}
 use Rattle.tap_moves.proofs.Spelled.{IsNamedLay}
 
@@ -252,6 +252,6 @@ module _ (node : NodeState) (is : IsNode node) (request : Request) (fits : IsSpe
   turn_spelled = by_kept (level_kept node.covers request.joiner) (is_kept (level_kept node.covers request.joiner) request.level)
     where
       by_kept : (kept : Option ℕ) (already : Bool) → IsSpelledTurn
-          (cond already Already (begun t request.watch (cover_of t kept request.joiner request.prefix request.level)))
+          (cond already Already (begun_cover t request.watch (cover_of t kept request.joiner request.prefix request.level)))
       by_kept kept true = tt
       by_kept kept false = (links_are kept, tells_are kept)

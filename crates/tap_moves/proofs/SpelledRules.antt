@@ -35,8 +35,8 @@ use Rattle.tap_rule.specs.Casts.{Copy}
 use Rattle.tap_rule.specs.Event.{Start}
 use Rattle.tap_rule.specs.Event.Start.{Join}
 use Rattle.tap_rule.specs.FrameRules.{rule_of_frame}
-use Rattle.tap_rule.specs.Kept.{IsNode}
-use Rattle.tap_rule.specs.Laws.{frame_to, tell_of}
+use Rattle.tap_rule.specs.KeptNode.{IsNode}
+use Rattle.tap_rule.specs.RuleLaws.{frame_to, tell_of}
 use Rattle.tap_rule.specs.Leaving.{leave_for, leave_word}
 use Rattle.tap_rule.specs.Node.{NodeState, Status, joiner, name_of, settings_of}
 use Rattle.tap_rule.specs.Node.Status.{Ceased, Gone as GoneStatus}
@@ -45,7 +45,7 @@ use Rattle.tap_rule.specs.Reaction.{Message, Reaction, pin_word}
 use Rattle.tap_rule.specs.StartRules.{rule_of_start}
 use Rattle.tap_rule.specs.Strange.{is_strange}
 use Rattle.tap_rule.proofs.OneName.{not_own}
-use Rattle.tap_moves.specs.Spelled.{AreNamedPairs, IsNamedPair, IsNamedStart, IsParent, KnowsNames, HaveParents}
+use Rattle.tap_moves.specs.KnownNames.{AreNamedPairs, IsNamedPair, IsNamedStart, IsParent, KnowsNames, HaveParents}
 use Rattle.tap_moves.proofs.FewLinks.{few-forgotten, few-released, few-removed, few-told, targets_named, few-pinned, few-hello}
 use Rattle.tap_moves.proofs.Spelled.{cleared_named, closed_parent, laid_among, named-published, named-put, named-withdrawn, next_named, parents-answered, parents-opened, server_named, IsNamedLay}
 use Rattle.std.proofs.Math.Nat.{mul-le-mul_right}

@@ -18,16 +18,16 @@ use Rattle.tap_safety.specs.Invariant.{Basis}
 use Rattle.tap_safety.specs.Moved.{IsStarted, starter}
 use Rattle.tap_safety.specs.Sessions.{AreExact, Belongs}
 use Rattle.tap_safety.specs.SessionSteps.{LeavesSessions}
-use Rattle.tap_safety.specs.Step.{AreNumbered, HasSent, numbered_from}
+use Rattle.tap_safety.specs.Exchanges.{AreNumbered, HasSent, numbered_from}
 use Rattle.tap_safety.specs.System.{System}
-use Rattle.tap_safety.proofs.Moves.{ascend_one, numbers_sent, starts}
+use Rattle.tap_safety.proofs.Moved.{ascend_one, numbers_sent, starts}
 use Rattle.tap_safety.proofs.StepLaws.{join_filled_law, others_law, start_filled_law}
 use Rattle.tap_safety.proofs.Said.{said_of}
 use Rattle.tap_moves.specs.ByRule.{BeginsByRule, StartsByRule}
 use Rattle.tap_moves.specs.Delivered.{after_start}
 use Rattle.tap_moves.specs.InvariantLaws.{StartFills}
 use Rattle.tap_moves.specs.MovesLaws.{GivingUpKeeps, JoinKeeps, KeepsBoth, QuietStartKeeps}
-use Rattle.tap_moves.specs.Spelled.{IsNodeOf}
+use Rattle.tap_moves.specs.KnownNames.{IsNodeOf}
 use Rattle.tap_moves.proofs.Exchanged.{in_either, in_first, sent_numbered}
 use Rattle.tap_moves.proofs.InSession.{sent_in}
 use Rattle.tap_moves.proofs.OutsideMade.{quiet_none, seek_none}

@@ -19,7 +19,7 @@ use Rattle.tap_table.specs.Ties.{AreTies, TiesValue, tie_where}
 use Rattle.tap_table.specs.declared.tie.Tie.{Tie}
 use Rattle.tap_join.specs.Hello.{after_hello, hello_names, hello_tells, words_of}
 use Rattle.tap_join.proofs.Hellos.{hello_links_stay, holders_stay}
-use Rattle.tap_join.proofs.Told.{TellsNew, hello_tells_new}
+use Rattle.tap_join.proofs.TellsNew.{TellsNew, hello_tells_new}
 use Rattle.tap_join.specs.Seek.{sought}
 use Rattle.tap_join.specs.declared.sought.Sought.TheVariants.{Forward}
 use Rattle.tap_wire.specs.declared.frame.Body.{Body}
@@ -31,7 +31,7 @@ use Rattle.tap_wire.specs.declared.kind.Kind.TheVariants as kind
 use Rattle.tap_wire.specs.Kind.{kind_of}
 use Rattle.tap_rule.specs.Answers.{answer_sends}
 use Rattle.tap_rule.specs.FrameRules.{frame_at_core, rule_of_frame}
-use Rattle.tap_rule.specs.Laws.{AnswerLaw, frame_to}
+use Rattle.tap_rule.specs.RuleLaws.{AnswerLaw, frame_to}
 use Rattle.tap_rule.specs.Node.{NodeState, Status, join_session_at, level_of, link_to, name_of, settings_of}
 use Rattle.tap_rule.specs.Node.Status.{Ceased as CeasedStatus, Core, Joining}
 use Rattle.tap_rule.specs.QuietSteps.{IsQuiet, IsQuietKind}
@@ -47,7 +47,7 @@ use Rattle.tap_safety.specs.Bookkeeping.{AreStamped, has_table}
 use Rattle.tap_safety.specs.Frames.{HelloFields, hello_body, tell_body}
 use Rattle.tap_safety.specs.System.{System}
 use Rattle.tap_safety.specs.WordSteps.{SaysLinks, SaysNoMore}
-use Rattle.tap_safety.proofs.Moves.{delivers}
+use Rattle.tap_safety.proofs.Moved.{delivers}
 use Rattle.tap_safety.proofs.StepLaws.{ceased_words_law, ties_words_law, versions_words_law, words_said_law}
 use Rattle.tap_moves.specs.ByRule.{StartsNone, taken_at}
 use Rattle.tap_moves.specs.Delivered.{IsArriving, after_delivery}

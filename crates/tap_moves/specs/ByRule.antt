@@ -6,12 +6,12 @@ use Rattle.tap_rule.specs.Act.{act}
 use Rattle.tap_rule.specs.Event.{Acted, Start}
 use Rattle.tap_rule.specs.Event.Event.{Starts, Takes}
 use Rattle.tap_rule.specs.Event.Start.{Join}
-use Rattle.tap_rule.specs.Kept.{IsNode}
-use Rattle.tap_rule.specs.Laws.{frame_to}
+use Rattle.tap_rule.specs.KeptNode.{IsNode}
+use Rattle.tap_rule.specs.RuleLaws.{frame_to}
 use Rattle.tap_rule.specs.Node.{NodeState, joiner, name_of}
 use Rattle.tap_rule.specs.Strange.{is_strange}
 use Rattle.tap_safety.specs.System.{System}
-use Rattle.tap_safety.specs.Step.{ChangesAt, HasSent, IsTaken}
+use Rattle.tap_safety.specs.Exchanges.{ChangesAt, HasSent, IsTaken}
 
 -- what comes of a frame with this sender and this body at a node
 abbrev pub taken_at : NodeState → List ℕ → Body → Acted

@@ -2,14 +2,14 @@
 use Rattle.std.specs.Prelude.{◌≡◌, ℕ, false, List, Some}
 use Rattle.tap_name.specs.Settings.{SettingsValue}
 use Rattle.tap_wire.specs.declared.frame.Body.{Body}
-use Rattle.tap_rule.specs.Kept.{IsNode}
-use Rattle.tap_rule.specs.Laws.{frame_to}
+use Rattle.tap_rule.specs.KeptNode.{IsNode}
+use Rattle.tap_rule.specs.RuleLaws.{frame_to}
 use Rattle.tap_rule.specs.Node.{NodeState, name_of}
 use Rattle.tap_rule.specs.Strange.{is_strange}
 use Rattle.tap_rule.specs.Event.{Start}
 use Rattle.tap_safety.specs.Move.Move.{Begins, Delivers}
 use Rattle.tap_safety.specs.Moved.{moved}
-use Rattle.tap_safety.specs.Step.{AreNumbered}
+use Rattle.tap_safety.specs.Exchanges.{AreNumbered}
 use Rattle.tap_safety.specs.System.{System, AmongFrames}
 
 -- A frame of this number, sender and body is under way to the node, to which it isn't strange.

@@ -16,7 +16,7 @@ use Rattle.tap_table.specs.declared.tie.Tie.{Tie}
 use Rattle.tap_rule.specs.Event.{Start}
 use Rattle.tap_rule.specs.Event.Start.{Abandon}
 use Rattle.tap_rule.specs.FrameRules.{rule_of_frame}
-use Rattle.tap_rule.specs.Laws.{frame_to}
+use Rattle.tap_rule.specs.RuleLaws.{frame_to}
 use Rattle.tap_rule.specs.Reaction.{Message, Reaction}
 use Rattle.tap_rule.specs.StartRules.{rule_of_start}
 use Rattle.tap_rule.specs.Node.{NodeState, name_of, settings_of}

@@ -7,9 +7,9 @@ use Rattle.tap_wire.specs.declared.frame.Frame.{Frame}
 use Rattle.tap_rule.specs.Event.{Acted}
 use Rattle.tap_rule.specs.Node.{NodeState, name_of}
 use Rattle.tap_rule.specs.Sent.{IsAmong}
-use Rattle.tap_rule.specs.Steps.{IsParentTold}
+use Rattle.tap_rule.specs.LinkSteps.{IsParentTold}
 use Rattle.tap_safety.specs.Sessions.{Belongs, ways_of}
-use Rattle.tap_safety.specs.Step.{numbered_from}
+use Rattle.tap_safety.specs.Exchanges.{numbered_from}
 
 -- The node opens its next session, for this parent, and waits in it for at least one answer; each frame that is sent in a session is sent
 -- in that one, and as many are as it waits for.

@@ -12,7 +12,7 @@ use Rattle.tap_join.specs.Seek.{sought}
 use Rattle.tap_join.specs.declared.sought.Sought.TheVariants.{Forward, Surrogate}
 use Rattle.tap_rule.specs.Event.{Start}
 use Rattle.tap_rule.specs.Event.Start.{Join, Leave}
-use Rattle.tap_rule.specs.Laws.{frame_to}
+use Rattle.tap_rule.specs.RuleLaws.{frame_to}
 use Rattle.tap_rule.specs.Node.{NodeState, Status, level_of, name_of}
 use Rattle.tap_rule.specs.Node.Status.{Ceased as CeasedStatus, Core, Joining}
 use Rattle.tap_rule.specs.QuietSteps.{IsQuietKind}
@@ -23,16 +23,16 @@ use Rattle.tap_safety.specs.Invariant.{Basis}
 use Rattle.tap_safety.specs.Move.{Move, may_move, may_start}
 use Rattle.tap_safety.specs.Move.Move.{Begins, Delivers}
 use Rattle.tap_safety.specs.Moved.{moved}
-use Rattle.tap_safety.specs.Remembered.{Word}
+use Rattle.tap_safety.specs.Remembered.{TieWord}
 use Rattle.tap_safety.specs.Sessions.{AreExact}
 use Rattle.tap_safety.specs.Soft.{NamesSoft}
 use Rattle.tap_safety.specs.Spelled.{AreSpelled}
-use Rattle.tap_safety.specs.Step.{AreNumbered}
+use Rattle.tap_safety.specs.Exchanges.{AreNumbered}
 use Rattle.tap_safety.specs.System.{System, AmongFrames, IsCoreNode}
-use Rattle.tap_safety.specs.Ties.{Ties, Versions, hears_words}
-use Rattle.tap_safety.specs.Words.{IsGiven}
+use Rattle.tap_safety.specs.Ties.{TiesAreTold, Versions, hears_words}
+use Rattle.tap_safety.specs.Regions.{IsGiven}
 use Rattle.tap_moves.specs.Delivered.{after_delivery, after_start}
-use Rattle.tap_moves.specs.Spelled.{AreNodes, IsNamedStart}
+use Rattle.tap_moves.specs.KnownNames.{AreNodes, IsNamedStart}
 use Rattle.tap_moves.specs.TiesLaws.{WordsStand}
 use Rattle.tap_moves.specs.SessionsLaws.{IsOutsideKind}
 use Rattle.tap_moves.specs.FrameLaws.{IsPlainKind}
@@ -71,9 +71,9 @@ FrameEnded = (p : SettingsValue) (s : System) (number : ℕ) (node : NodeState) 
 
 -- a Link, at a node that hears words
 abbrev pub LinkTies : Type 0
-LinkTies = (p : SettingsValue) (s : System) (number : ℕ) (node : NodeState) (from : List ℕ) (word : Word)
+LinkTies = (p : SettingsValue) (s : System) (number : ℕ) (node : NodeState) (from : List ℕ) (word : TieWord)
     → IsDelivery p s number node from (Link word.version word.on) → hears_words (Some node.status)
-    → Ties (after_delivery p s number) × Versions (after_delivery p s number)
+    → TiesAreTold (after_delivery p s number) × Versions (after_delivery p s number)
 
 -- another frame that changes no link, or whose taker says so of each link that it changes: at a node that has a table, an answer, a Hello,
 -- a Seek that goes on, a Tell at a joining node or of a joiner that is covered so already, and those of pointers and casts

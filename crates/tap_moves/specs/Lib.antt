@@ -1,12 +1,12 @@
 pub mod ByRule
 pub mod InSession
-pub mod Laws
+pub mod StepsMade
 pub mod FrameLaws
 pub mod SessionsLaws
 pub mod TiesLaws
 pub mod Delivered
 pub mod MovesLaws
-pub mod Spelled
+pub mod KnownNames
 pub mod InvariantLaws
 pub mod SessionMoves
 pub mod CalmMoves

@@ -23,17 +23,17 @@ use Rattle.tap_safety.specs.DoneStep.{BeforeDone, NothingOnWay}
 use Rattle.tap_safety.specs.Filled.{AreFilled}
 use Rattle.tap_safety.specs.Frames.{HelloFields, hello_body, tell_body}
 use Rattle.tap_safety.specs.SeekStep.{BeforeSeat}
-use Rattle.tap_safety.specs.Remembered.{Word}
+use Rattle.tap_safety.specs.Remembered.{TieWord}
 use Rattle.tap_safety.specs.Sessions.{AreExact}
 use Rattle.tap_safety.specs.Soft.{NamesSoft}
-use Rattle.tap_safety.specs.Step.{AreNumbered}
+use Rattle.tap_safety.specs.Exchanges.{AreNumbered}
 use Rattle.tap_safety.specs.System.{System}
 use Rattle.tap_safety.specs.TellStep.{BeforeTell, IsTellOf}
-use Rattle.tap_safety.specs.Ties.{Ties, Versions, hears_words}
+use Rattle.tap_safety.specs.Ties.{TiesAreTold, Versions, hears_words}
 use Rattle.tap_moves.specs.ByRule.{TakesByRule}
 use Rattle.tap_moves.specs.Delivered.{IsArriving, after_delivery, after_start}
 use Rattle.tap_moves.specs.FrameLaws.{AreOfferedNames, IsPlain}
-use Rattle.tap_moves.specs.Laws.{IsAnew}
+use Rattle.tap_moves.specs.StepsMade.{IsAnew}
 use Rattle.tap_moves.specs.SessionsLaws.{BeforeTaking, IsOutside, RemembersSessions}
 
 -- a frame that is delivered is taken by the rule of its receiver
@@ -104,10 +104,10 @@ ForgetKeeps = (p : SettingsValue) (s : System) (number : ℕ) (node : NodeState)
 
 -- a Link, at a node that hears words and has its pairs laid as wanted
 abbrev pub LinkKeeps : Type 0
-LinkKeeps = (p : SettingsValue) (s : System) (number : ℕ) (node : NodeState) (from : List ℕ) (word : Word)
+LinkKeeps = (p : SettingsValue) (s : System) (number : ℕ) (node : NodeState) (from : List ℕ) (word : TieWord)
     → IsArriving s number node from (Link word.version word.on) → AreStamped s → hears_words (Some node.status)
-    → AreLaid node.ties.table node.pointers → Ties s → Versions s
-    → Ties (after_delivery p s number) × Versions (after_delivery p s number)
+    → AreLaid node.ties.table node.pointers → TiesAreTold s → Versions s
+    → TiesAreTold (after_delivery p s number) × Versions (after_delivery p s number)
 
 -- Tells and sessions
 abbrev pub TellKeepsSessions : Type 0

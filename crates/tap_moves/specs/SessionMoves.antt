@@ -4,25 +4,25 @@ use Rattle.tap_name.specs.Settings.{SettingsValue}
 use Rattle.tap_wire.specs.declared.frame.Body.{Body}
 use Rattle.tap_wire.specs.declared.frame.Frame.{Frame}
 use Rattle.tap_rule.specs.Event.{Start}
-use Rattle.tap_rule.specs.Laws.{frame_to}
+use Rattle.tap_rule.specs.RuleLaws.{frame_to}
 use Rattle.tap_rule.specs.Node.{NodeState, Status}
 use Rattle.tap_rule.specs.Node.Status.{Core, Leaving}
 use Rattle.tap_safety.specs.Awaited.{AreAwaitedOnce}
-use Rattle.tap_safety.specs.Bookkeeping.{Await, HasCore, HaveNames, HavePlaces, TellsAreDeeper, holds_sessions}
+use Rattle.tap_safety.specs.Bookkeeping.{Await, HasCore, HavePlaces, NodesHaveNames, TellsAreDeeper, holds_sessions}
 use Rattle.tap_safety.specs.Counted.{AreCountedSo}
 use Rattle.tap_safety.specs.Invariant.{Basis}
 use Rattle.tap_safety.specs.Move.{may_start}
 use Rattle.tap_safety.specs.Spelled.{AreAtMost, AreSpelled, most_names}
 use Rattle.tap_safety.specs.Remembered.{OpenSession}
 use Rattle.tap_safety.specs.Sessions.{IsOpen}
-use Rattle.tap_safety.specs.Step.{AreNumbered}
+use Rattle.tap_safety.specs.Exchanges.{AreNumbered}
 use Rattle.tap_safety.specs.SessionSteps.{ClosesChild, ClosesRoot, HandsOn, LeavesSessions, OpensChild, OpensRoot}
 use Rattle.tap_safety.specs.System.{System, AmongFrames}
 use Rattle.tap_moves.specs.ByRule.{taken_at}
 use Rattle.tap_moves.specs.Delivered.{after_delivery, after_start}
 use Rattle.tap_moves.specs.InvariantLaws.{IsDelivery, IsTakenThere}
 use Rattle.tap_moves.specs.SessionsLaws.{IsOutside, sent_at}
-use Rattle.tap_moves.specs.Spelled.{AreNodes, IsNamedStart}
+use Rattle.tap_moves.specs.KnownNames.{AreNodes, IsNamedStart}
 
 -- The kind of a step, with the node and the number of each session in it: a session awaits what is sent in place of the frame; one is
 -- opened below another, or for a joiner; one is closed below another, or ends its join; or no session changes.
@@ -114,7 +114,7 @@ OutsideBooks = (p : SettingsValue) (s : System) (number : ℕ) (node : NodeState
 
 -- nodes have names of the settings, at most as many as there may be; frames have spellings, and numbers that ascend
 pub record AreNamed (p : SettingsValue) (s : System) : Type 0 where
-  pub names : HaveNames p s
+  pub names : NodesHaveNames p s
   pub few : AreAtMost s most_names
   pub spelled : AreSpelled p s
   pub numbered : AreNumbered s

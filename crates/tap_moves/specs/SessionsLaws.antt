@@ -11,7 +11,7 @@ use Rattle.tap_wire.specs.Kind.{kind_of}
 use Rattle.tap_name.specs.declared.slot.Slot.{Slot}
 use Rattle.tap_join.specs.Seek.{sought}
 use Rattle.tap_join.specs.declared.sought.Sought.TheVariants.{Forward}
-use Rattle.tap_rule.specs.Laws.{frame_to}
+use Rattle.tap_rule.specs.RuleLaws.{frame_to}
 use Rattle.tap_rule.specs.QuietSteps.{IsQuietKind}
 use Rattle.tap_session.specs.Session.{Session}
 use Rattle.tap_rule.specs.Node.{NodeState, join_session_at, name_of}
@@ -24,7 +24,7 @@ use Rattle.tap_safety.specs.Remembered.{OpenSession, Token}
 use Rattle.tap_safety.specs.Remembered.Token.{Way}
 use Rattle.tap_safety.specs.Sessions.{AmongTokens, AreExact, IsOpen}
 use Rattle.tap_safety.specs.SessionSteps.{ClosesChild, ClosesRoot, HandsOn, LeavesSessions, OpensChild, OpensRoot}
-use Rattle.tap_safety.specs.Step.{AreNumbered, numbered_from}
+use Rattle.tap_safety.specs.Exchanges.{AreNumbered, numbered_from}
 use Rattle.tap_safety.specs.Counted.{AreCountedSo}
 use Rattle.tap_safety.specs.System.{System, AmongFrames}
 use Rattle.tap_safety.specs.Moved.{taking}

@@ -1,6 +1,6 @@
 ghost use Rattle.tap_wire.specs.declared.frame.Body.TheVariants.{Ack, Heard};
 ghost use Rattle.tap_moves.specs.FrameLaws.{CeasedTellIsMade, ForgetIsMade, GivingUpIsMade, HelloIsMade, JoinIsMade, JoiningTellIsMade, PlainIsMade, QuietStartIsMade, ReleaseIsMade};
-ghost use Rattle.tap_moves.specs.Laws.{CeasedAnswers, DoneIsMade, KnownTellIsMade, NewTellIsMade, SeekCovers, SeekGreets, SeekOpens, TellInSession};
+ghost use Rattle.tap_moves.specs.StepsMade.{CeasedAnswers, DoneIsMade, KnownTellIsMade, NewTellIsMade, SeekCovers, SeekGreets, SeekOpens, TellInSession};
 ghost use Rattle.tap_moves.specs.MovesLaws.{AnswerKeepsSessions, CeasedTellKeeps, DeliveryIsByRule, DoneKeeps, ForgetKeeps, GivingUpKeeps, HelloKeeps, HelloKeepsSessions, JoinKeeps, JoiningTellKeeps, KnownTellKeeps, LinkKeeps, OutsideKeepsSessions, PlainKeeps, QuietStartKeeps, ReleaseKeeps, SeekKeeps, SeekKeepsSessions, TellKeeps, TellKeepsSessions};
 ghost use Rattle.tap_moves.specs.InvariantLaws.{FrameEnded, FrameExact, FrameFills, FrameSays, FrameSoft, LinkTies, MoveKeepsParts, PartsKept, SeekGives, StartFills, StartKeepsParts};
 ghost use Rattle.tap_moves.specs.CalmMoves.{FrameDeeper, FramePeaceful, FrameSeeks};

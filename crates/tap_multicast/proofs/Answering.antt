@@ -6,7 +6,7 @@ use Rattle.std.proofs.lemmas.Map.Views.{any-filter_same, Contains-from_any}
 use Rattle.tap_name.specs.declared.slot.Slot.{Slot}
 use Rattle.tap_name.specs.Slot.{slot_at}
 use Rattle.tap_name.proofs.Slots.{same_slot}
-use Rattle.tap_link.specs.Entry.{Entry}
+use Rattle.tap_link.specs.Entry.{LinkEntry}
 use Rattle.tap_link.specs.LinkSet.{least_settled}
 use Rattle.tap_table.specs.Members.{is_slot}
 use Rattle.tap_table.specs.Table.{TableValue, links_at}
@@ -44,7 +44,7 @@ module _ (t : TableValue) (joiner : List ℕ) (slot : Slot) where
 
   -- so the primary of an answered slot is that of a watched one
   pub offers-watched : (watch : List Slot) (primary : Option (List ℕ)) → least_settled (links_at t slot) ≡ primary
-      → (link : Entry (List ℕ)) → offers joiner (has_slot (answered_slots t joiner watch) slot) primary link
+      → (link : LinkEntry (List ℕ)) → offers joiner (has_slot (answered_slots t joiner watch) slot) primary link
       ≡ offers joiner (is_some primary && has_slot watch slot) primary link
   offers-watched watch None none link =
       let nothing = and_right (has_slot (answered_slots t joiner watch) slot) false refl in rw nothing refl

@@ -13,7 +13,7 @@ use Rattle.tap_table.specs.Table.{TableValue}
 use Rattle.tap_table.proofs.Near.{apart_names, tied_itself}
 use Rattle.tap_table.specs.Levels.{is_kept}
 use Rattle.tap_multicast.specs.declared.covers.Covered.TheVariants.{Already}
-use Rattle.tap_multicast.specs.Covers.{CoversValue, begun, cover_of, covered, level_kept, with_cover}
+use Rattle.tap_multicast.specs.Covers.{CoversValue, begun_cover, cover_of, covered, level_kept, with_cover}
 
 module _ (joiner : List ℕ) (level : ℕ) (other : List ℕ) where
   -- the joiner that is entered has its level, and others have theirs
@@ -64,7 +64,7 @@ module _ (covers : CoversValue) (t : TableValue) (watch : List Slot) (joiner : L
 
   -- another one covers the joiner, and its level is kept
   pub cover_anew : is_kept (level_kept covers joiner) level ≡ false
-      → (covered covers t watch joiner prefix level ≡ begun t watch (cover_of t (level_kept covers joiner) joiner prefix level))
+      → (covered covers t watch joiner prefix level ≡ begun_cover t watch (cover_of t (level_kept covers joiner) joiner prefix level))
       × (level_kept (with_cover covers joiner level) joiner ≡ Some level)
   cover_anew fresh = (rw fresh refl, rw fresh (level_kept-inserted joiner level joiner covers ∙ rw (tied_itself joiner) refl))
 

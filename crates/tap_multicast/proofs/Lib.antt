@@ -2,7 +2,7 @@ pub mod Picked
 pub mod Links
 pub mod Linked
 pub mod Answering
-pub mod Told
+pub mod ToldBySlot
 pub mod Offering
 pub mod KeptLevels
 pub mod Telling

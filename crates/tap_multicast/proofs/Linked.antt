@@ -7,7 +7,7 @@ use Rattle.tap_name.specs.declared.slot.Slot.{Slot}
 use Rattle.tap_name.specs.Name.{IsName}
 use Rattle.tap_name.specs.Order.{AreAscending, IsBelow, name_cmp}
 use Rattle.tap_link.specs.declared.kind.Kind.TheVariants.{Settled}
-use Rattle.tap_link.specs.Entry.{Entry}
+use Rattle.tap_link.specs.Entry.{LinkEntry}
 use Rattle.tap_link.specs.LinkSet.{LinksAscend, least_settled}
 use Rattle.tap_link.proofs.Least.{least_settled_is}
 use Rattle.tap_table.specs.ByName.{targets_of}
@@ -38,20 +38,20 @@ module _ (t : TableValue) (valid : IsTable t) where
 
 targets-ascend : (links : SlotLinks) → LinksAscend name_cmp links → AreAscending (targets_of links)
 targets-ascend links up i j d before within =
-    let len = length-map links (λ (e : Entry (List ℕ)). e.target) in
-    let e : Entry (List ℕ) = link_to d Settled in
-    let at_i = get_or-map (λ (f : Entry (List ℕ)). f.target) links i e d (omega arith) in
-    let at_j = get_or-map (λ (f : Entry (List ℕ)). f.target) links j e d (omega arith) in
+    let len = length-map links (λ (e : LinkEntry (List ℕ)). e.target) in
+    let e : LinkEntry (List ℕ) = link_to d Settled in
+    let at_i = get_or-map (λ (f : LinkEntry (List ℕ)). f.target) links i e d (omega arith) in
+    let at_j = get_or-map (λ (f : LinkEntry (List ℕ)). f.target) links j e d (omega arith) in
     rw (at_i, at_j) (up i j e before (omega arith))
 
 -- what is made of some of ascending links ascends by name
-module _ {X : Type 0} (make : Entry (List ℕ) → X) (name_of : X → List ℕ)
-    (keeps : (e : Entry (List ℕ)) → name_of (make e) ≡ e.target) where
+module _ {X : Type 0} (make : LinkEntry (List ℕ) → X) (name_of : X → List ℕ)
+    (keeps : (e : LinkEntry (List ℕ)) → name_of (make e) ≡ e.target) where
   names_made : (links : SlotLinks) → map name_of (map make links) ≡ targets_of links
   names_made [] = refl
   names_made (e ∷ links) = rw (keeps e) (ap (λ l. e.target ∷ l) (names_made links))
 
-  pub picked-ascend : (passes : Entry (List ℕ) → Bool) (links : SlotLinks) → LinksAscend name_cmp links
+  pub picked-ascend : (passes : LinkEntry (List ℕ) → Bool) (links : SlotLinks) → LinksAscend name_cmp links
       → AreAscending (map name_of (picked make passes links))
   picked-ascend passes links up =
       subst AreAscending (sym (names_made (filter passes links)))

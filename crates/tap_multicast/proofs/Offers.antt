@@ -11,7 +11,7 @@ use Rattle.tap_name.specs.Order.{AreAscending}
 use Rattle.tap_name.specs.Settings.{SettingsValue}
 use Rattle.tap_link.specs.declared.kind.Kind.{Kind}
 use Rattle.tap_link.specs.declared.kind.Kind.TheVariants.{Pin, Settled}
-use Rattle.tap_link.specs.Entry.{Entry}
+use Rattle.tap_link.specs.Entry.{LinkEntry}
 use Rattle.tap_link.specs.LinkSet.{is_pinned, is_settled, least_settled}
 use Rattle.tap_table.specs.ByName.{by_name}
 use Rattle.tap_table.specs.Table.{IsTable, TableValue, kind_in, links_at, place_of}
@@ -39,7 +39,7 @@ module _ (t : TableValue) (valid : IsTable t) (watch : List Slot) (cover : Cover
   abbrev joiner : List ℕ
   joiner = cover.joiner
 
-  found_offered : (e : Entry (List ℕ)) → kind_in t e.target ≡ Some e.kind → is_offered t watch joiner e ≡ true
+  found_offered : (e : LinkEntry (List ℕ)) → kind_in t e.target ≡ Some e.kind → is_offered t watch joiner e ≡ true
       → IsOffered t watch joiner (offered_as e)
   found_offered e found offered =
       let pin = is_pinned (Some e.kind) && not (pointwise nat_eq joiner e.target) in

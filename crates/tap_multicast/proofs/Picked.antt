@@ -4,7 +4,7 @@ use Rattle.std.specs.List.{flat_map}
 use Rattle.std.proofs.lemmas.Bool.{cases_Bool}
 use Rattle.std.proofs.lemmas.List.{map-append}
 use Rattle.std.proofs.lemmas.List.Elements.{All-head, All-tail, filter-append}
-use Rattle.tap_table.proofs.Steps.{drop_got}
+use Rattle.tap_table.proofs.OneAdded.{drop_got}
 
 module _ {X Y : Type 0} (make : X → Y) (passes : X → Bool) where
   abbrev pub picked : List X → List Y

@@ -13,7 +13,7 @@ use Rattle.tap_name.proofs.Prefixes.{lcp-is}
 use Rattle.tap_name.proofs.Sorted.{distinct-from_ascending}
 use Rattle.tap_link.specs.declared.kind.Kind.{Kind}
 use Rattle.tap_link.specs.declared.kind.Kind.TheVariants.{Leaving, Pin, Settled}
-use Rattle.tap_link.specs.Entry.{Entry}
+use Rattle.tap_link.specs.Entry.{LinkEntry}
 use Rattle.tap_link.specs.LinkSet.{is_pinned, least_settled}
 use Rattle.tap_table.specs.ByName.{by_name}
 use Rattle.tap_table.specs.Table.{IsTable, TableValue, kind_in, links_at}
@@ -61,7 +61,7 @@ differ a b other = not_from_false (pointwise nat_eq a b) (apart (pointwise nat_e
     apart false is = refl
 
 module _ (t : TableValue) (valid : IsTable t) (cover : Cover) where
-  found_told : (e : Entry (List ℕ)) → kind_in t e.target ≡ Some e.kind → is_told t cover e ≡ true
+  found_told : (e : LinkEntry (List ℕ)) → kind_in t e.target ≡ Some e.kind → is_told t cover e ≡ true
       → IsTarget t cover (target_of t.owner e)
   found_told e found told =
       let level = lcp t.owner e.target in

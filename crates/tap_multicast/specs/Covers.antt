@@ -35,14 +35,14 @@ cover_of t kept joiner prefix level = record {
 }
 
 -- what a cover gives
-abbrev pub begun : TableValue → List Slot → Cover → Covered
-begun t watch cover = Now cover.first (offer t watch cover) (targets t cover) (left t watch cover)
+abbrev pub begun_cover : TableValue → List Slot → Cover → Covered
+begun_cover t watch cover = Now cover.first (offer t watch cover) (targets t cover) (left t watch cover)
 
 -- what a word of a joiner, with its prefix, a level and a watch, makes a node do
 abbrev pub covered : CoversValue → TableValue → List Slot → List ℕ → ℕ → ℕ → Covered
 covered covers t watch joiner prefix level =
     let kept = level_kept covers joiner in
-    (if is_kept kept level then Already else begun t watch (cover_of t kept joiner prefix level))
+    (if is_kept kept level then Already else begun_cover t watch (cover_of t kept joiner prefix level))
 
 -- the covers after it: the level is kept, unless a level at most this one is
 abbrev pub with_cover : CoversValue → List ℕ → ℕ → CoversValue

@@ -5,7 +5,7 @@ use Rattle.std.specs.List.{list_any}
 use Rattle.tap_name.specs.declared.slot.Offered.{Offered}
 use Rattle.tap_name.specs.declared.slot.Slot.{Slot}
 use Rattle.tap_name.specs.Slot.{slot_at}
-use Rattle.tap_link.specs.Entry.{Entry}
+use Rattle.tap_link.specs.Entry.{LinkEntry}
 use Rattle.tap_link.specs.LinkSet.{is_pinned, is_settled, least_settled}
 use Rattle.tap_table.specs.ByName.{by_name}
 use Rattle.tap_table.specs.Members.{is_slot}
@@ -34,18 +34,18 @@ has_slot slots slot = list_any (λ other. is_slot slot (Some other)) slots
 
 -- A link is offered that stands in a slot with this primary, which is answered or not: a pin on another node than the joiner,
 -- or the primary of an answered slot.
-abbrev pub offers : List ℕ → Bool → Option (List ℕ) → Entry (List ℕ) → Bool
+abbrev pub offers : List ℕ → Bool → Option (List ℕ) → LinkEntry (List ℕ) → Bool
 offers joiner slot_answered primary link =
     (is_pinned (Some link.kind) && not (pointwise nat_eq joiner link.target))
     || (slot_answered && is_primary primary link.target)
 
 -- a link of the table is offered
-abbrev pub is_offered : TableValue → List Slot → List ℕ → Entry (List ℕ) → Bool
+abbrev pub is_offered : TableValue → List Slot → List ℕ → LinkEntry (List ℕ) → Bool
 is_offered t watch joiner link =
     offers joiner (has_slot (answered_slots t joiner watch) (place_of t.owner link.target)) (least_settled (links_near t link.target)) link
 
 -- a link as it is offered: with the flag if it is settled
-abbrev pub offered_as : Entry (List ℕ) → Offered
+abbrev pub offered_as : LinkEntry (List ℕ) → Offered
 offered_as link = record { name = link.target; settled = is_settled (Some link.kind) }
 
 -- what a cover offers the joiner: at a first cover the links that are offered, ascending by name, and else nothing

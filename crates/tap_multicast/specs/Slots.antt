@@ -2,7 +2,7 @@
 use Rattle.std.specs.Prelude.{ℕ, ◌+◌, ◌&&◌, Bool, List, map, filter, is_some}
 use Rattle.tap_name.specs.declared.slot.Offered.{Offered}
 use Rattle.tap_name.specs.declared.slot.Slot.{Slot}
-use Rattle.tap_link.specs.Entry.{Entry}
+use Rattle.tap_link.specs.Entry.{LinkEntry}
 use Rattle.tap_link.specs.LinkSet.{least_settled}
 use Rattle.tap_table.specs.Table.{SlotLinks, TableValue, links_at}
 use Rattle.tap_multicast.specs.declared.cover.Cover.{Cover}
@@ -11,7 +11,7 @@ use Rattle.tap_multicast.specs.Offer.{has_slot, offered_as, offers}
 use Rattle.tap_multicast.specs.Targets.{tells}
 
 -- a target that is told at a level
-abbrev pub target_at : ℕ → Entry (List ℕ) → Target
+abbrev pub target_at : ℕ → LinkEntry (List ℕ) → Target
 target_at level link = record { to = link.target; level = level }
 
 -- the targets among the links of a slot of this level

@@ -6,17 +6,17 @@ use Rattle.tap_name.specs.Name.{IsName}
 use Rattle.tap_name.specs.Settings.{SettingsValue}
 use Rattle.tap_rule.specs.Node.{NodeState, name_of, settings_of}
 use Rattle.tap_rule.specs.Event.{Acted}
-use Rattle.tap_rule.specs.Kept.{KeepsNode}
+use Rattle.tap_rule.specs.KeptNode.{KeepsNode}
 use Rattle.tap_node_common.specs.declared.memory.NoMemory.{NoMemory}
 use Rattle.tap_node_common.specs.declared.news.News.{News}
-use Rattle.tap_node_common.specs.Sound.{IsSoundNode}
+use Rattle.tap_node_common.specs.SoundNode.{IsSoundNode}
 use Rattle.tap_node.specs.declared.fault.NodeFault.{NodeFault}
 use Rattle.tap_node.specs.declared.fault.NodeFault.TheVariants as fault
 use Rattle.tap_node.specs.declared.state.State.{State}
 use Rattle.tap_node.specs.declared.turn.Turn.{Turn}
 use Rattle.tap_node.specs.Node.{NodeValue, running}
 use Rattle.tap_node.specs.Outcome.{AnswersAs, Outcome, acted_as, refused_by}
-use Rattle.tap_node.specs.Seen.{IsEnded, IsHeldBy, IsKeptFor, node_value, state_held}
+use Rattle.tap_node.specs.SeenNode.{IsEnded, IsHeldBy, IsKeptFor, node_value, state_held}
 use Rattle.tap_node.proofs.Followed.{IsActed, turn_with}
 
 -- an answer that refuses for another cause isn't want of memory

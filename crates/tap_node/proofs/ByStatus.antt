@@ -14,7 +14,7 @@ use Rattle.tap_rule.specs.StartRules.{start_at_core, start_at_joining}
 use Rattle.tap_node_common.specs.declared.news.News.{News}
 use Rattle.tap_node_common.specs.declared.news.News.TheVariants.{Nothing}
 use Rattle.tap_node_common.specs.States.{ended_state}
-use Rattle.tap_node_common.specs.Step.{FollowsAs}
+use Rattle.tap_node_common.specs.StepsAs.{FollowsAs}
 use Rattle.tap_joining_node.specs.declared.joining_node.JoiningNode.{JoiningNode}
 use Rattle.tap_joining_node.specs.State.{joining_state}
 use Rattle.tap_core_node.specs.declared.core_node.CoreNode.{CoreNode}
@@ -23,7 +23,7 @@ use Rattle.tap_leaving_node.specs.declared.leaving_node.LeavingNode.{LeavingNode
 use Rattle.tap_leaving_node.specs.State.{leaving_state}
 use Rattle.tap_node.specs.declared.state.State.{State}
 use Rattle.tap_node.specs.declared.state.State.TheVariants.{Joining, Core, Leaving, Gone, Ceased, Ended}
-use Rattle.tap_node.specs.Seen.{FollowsFrom, IsHeldBy, StartsFrom, node_value, state_held}
+use Rattle.tap_node.specs.SeenNode.{FollowsFrom, IsHeldBy, StartsFrom, node_value, state_held}
 
 module _ (p : SettingsValue) (name : List ℕ) where
   module _ (before after : State) (from : List ℕ) (body : Body) (held sent : List (List ℕ)) (news : News) where

@@ -10,18 +10,18 @@ use Rattle.tap_rule.specs.Event.{Acted, Start}
 use Rattle.tap_rule.specs.Event.Event.{Starts, Takes}
 use Rattle.tap_rule.specs.Strange.{is_own_name, is_strange}
 use Rattle.tap_rule.specs.Act.{act}
-use Rattle.tap_rule.specs.Kept.{KeepsNode}
-use Rattle.tap_rule.proofs.Kept.{kept_law, start_kept_law}
+use Rattle.tap_rule.specs.KeptNode.{KeepsNode}
+use Rattle.tap_rule.proofs.KeptNode.{kept_law, start_kept_law}
 use Rattle.tap_node_common.specs.declared.memory.NoMemory.{NoMemory}
 use Rattle.tap_node_common.specs.declared.news.News.{News}
-use Rattle.tap_node_common.specs.Sound.{IsSoundNode}
+use Rattle.tap_node_common.specs.SoundNode.{IsSoundNode}
 use Rattle.tap_node.specs.declared.fault.NodeFault.{NodeFault}
 use Rattle.tap_node.specs.declared.fault.NodeFault.TheVariants as fault
 use Rattle.tap_node.specs.declared.state.State.{State}
 use Rattle.tap_node.specs.declared.turn.Turn.{Turn}
 use Rattle.tap_node.specs.Node.{NodeValue}
 use Rattle.tap_node.specs.Outcome.{AnswersAs, acted_as, at_frame, refused_by, start_outcome}
-use Rattle.tap_node.specs.Seen.{FollowsFrom, IsHeldBy, IsKeptFor, StartsFrom, node_value, state_held}
+use Rattle.tap_node.specs.SeenNode.{FollowsFrom, IsHeldBy, IsKeptFor, StartsFrom, node_value, state_held}
 use Rattle.tap_node.proofs.Answering.{HasActed, IsTurned, refuses_as, step_answers, step_keeps}
 use Rattle.tap_node.proofs.Followed.{followed_frame, followed_start}
 use Rattle.tap_node.proofs.KeptRules.{StartsNamed}

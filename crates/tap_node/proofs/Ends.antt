@@ -15,7 +15,7 @@ use Rattle.tap_rule.specs.Reaction.{Message, Reaction, sends}
 use Rattle.tap_node_common.specs.declared.news.News.{News}
 use Rattle.tap_node_common.specs.declared.news.News.TheVariants.{Nothing}
 use Rattle.tap_node_common.specs.States.{ended_state}
-use Rattle.tap_node_common.specs.Step.{FollowsAs, StepsAs}
+use Rattle.tap_node_common.specs.StepsAs.{FollowsAs, StepsAs}
 use Rattle.tap_node_common.proofs.Followed.{follows_quietly}
 use Rattle.tap_node_common.proofs.ReactionSteps.{silent_step}
 

@@ -12,7 +12,7 @@ use Rattle.tap_link.specs.declared.kind.Kind.{Kind}
 use Rattle.tap_table.specs.ByName.{targets_by_name}
 use Rattle.tap_table.specs.Table.{IsTable, TableValue, kind_in, pinned, rows}
 use Rattle.tap_table.proofs.Found.{linked_is_other}
-use Rattle.tap_table.proofs.Kept.{IsTable-pinned}
+use Rattle.tap_table.proofs.KeptTable.{IsTable-pinned}
 use Rattle.tap_table.proofs.LookUps.{kind_in-pinned}
 use Rattle.tap_table.proofs.NewLinks.{pinned_rule_new}
 use Rattle.tap_table.proofs.Targets.{linked_is_target, target_is_linked, targets-ascending}

@@ -12,11 +12,11 @@ use Rattle.tap_rule.specs.FrameRules.{rule_of_frame}
 use Rattle.tap_rule.specs.StartRules.{rule_of_start}
 use Rattle.tap_rule.specs.Sending.{by_receiver, frames_of, lay_frame, link_frame, message_frame}
 use Rattle.tap_rule.specs.Act.{act, completed, follows}
-use Rattle.tap_node_common.specs.Spelled.{spelled}
+use Rattle.tap_node_common.specs.Spellings.{spelled}
 use Rattle.tap_node_common.specs.declared.news.News.{News}
 use Rattle.tap_node.specs.declared.turn.Turn.{Turn}
 use Rattle.tap_node.specs.Outcome.{turn_made}
-use Rattle.tap_node_common.specs.Step.{FollowsAs, frames_of_reaction}
+use Rattle.tap_node_common.specs.StepsAs.{FollowsAs, frames_of_reaction}
 
 -- the frames of a reaction as bytes
 spelled_frames : (node : NodeState) (r : Reaction) → spelled (settings_of node) (frames_of (name_of node) r) ≡ frames_of_reaction node r

@@ -3,7 +3,7 @@ use Rattle.std.proofs.Common.{◌≡◌, ℕ, ◌≤◌, List, [], ◌∷◌, le
 use Rattle.std.proofs.lemmas.Bool.{cases_Bool, or_parts, true≢false}
 use Rattle.std.specs.Prelude.{IfSome, ◌||◌}
 use Rattle.tap_depart.proofs.Notices.{AreTies-told, new_is_told, told_is_new, told_owner}
-use Rattle.tap_depart.specs.Told.{told_leave}
+use Rattle.tap_depart.specs.ToldLeave.{told_leave}
 use Rattle.tap_join.proofs.Hellos.{AreTies-after_hello, hello_new_links, owner_stays}
 use Rattle.tap_join.specs.Hello.{after_hello, hello_names}
 use Rattle.tap_link.specs.declared.kind.Kind.{Kind}
@@ -12,10 +12,10 @@ use Rattle.tap_name.specs.Names.{Among}
 use Rattle.tap_name.specs.Settings.{SettingsValue}
 use Rattle.tap_name.specs.declared.slot.Offered.{Offered}
 use Rattle.tap_node.proofs.Few.{few-pinned, few_after}
-use Rattle.tap_node.proofs.Kept.{KeepsSound, keeps_all, keeps_pointers, keeps, keeps_ended, keeps_links}
+use Rattle.tap_node.proofs.KeptSound.{KeepsSound, keeps_all, keeps_pointers, keeps, keeps_ended, keeps_links}
 use Rattle.tap_node_common.proofs.Pairs.{named-all_withdrawn, named-put}
 use Rattle.tap_node_common.proofs.Parents.{parents-answered, parents-opened}
-use Rattle.tap_node_common.specs.Sound.{IsParent, IsSoundNode, knows_pairs}
+use Rattle.tap_node_common.specs.SoundNode.{IsParent, IsSoundNode, knows_pairs}
 use Rattle.tap_pointer.specs.Pointers.{own_pair, owner_publishes, pair_of, withdrawn}
 use Rattle.tap_rule.proofs.CoverSteps.{seek_fits}
 use Rattle.tap_rule.proofs.JoinSteps.{tell_fits}
@@ -23,7 +23,7 @@ use Rattle.tap_rule.proofs.OneName.{not_own}
 use Rattle.tap_rule.specs.Casts.{Copy}
 use Rattle.tap_rule.specs.Covering.{Request}
 use Rattle.tap_rule.specs.Event.{Start}
-use Rattle.tap_rule.specs.Laws.{frame_to}
+use Rattle.tap_rule.specs.RuleLaws.{frame_to}
 use Rattle.tap_rule.specs.Node.{NodeState, Status, name_of, settings_of}
 use Rattle.tap_rule.specs.Reaction.{with_pin, Reaction}
 use Rattle.tap_rule.specs.Strange.{is_own_name, is_strange, is_strange_body, is_too_many, names_to_link, name_if}

@@ -12,11 +12,11 @@ use Rattle.tap_rule.specs.Strange.{is_strange}
 use Rattle.tap_rule.specs.FrameRules.{rule_of_frame}
 use Rattle.tap_rule.specs.StartRules.{rule_of_start}
 use Rattle.tap_rule.specs.Act.{act, follows}
-use Rattle.tap_rule.specs.Kept.{IsStart}
-use Rattle.tap_rule.proofs.Kept.{kept_law, start_kept_law}
+use Rattle.tap_rule.specs.KeptNode.{IsStart}
+use Rattle.tap_rule.proofs.KeptNode.{kept_law, start_kept_law}
 use Rattle.tap_rule.proofs.Laid.{laid_law}
-use Rattle.tap_node_common.specs.Sound.{IsSoundNode}
-use Rattle.tap_node.proofs.Kept.{KeepsSound, completed_sound, keeps_all, sound_from}
+use Rattle.tap_node_common.specs.SoundNode.{IsSoundNode}
+use Rattle.tap_node.proofs.KeptSound.{KeepsSound, completed_sound, keeps_all, sound_from}
 use Rattle.tap_rule.proofs.Cases.Cause.{Takes as TakesFrame, Starts as StartsOne}
 use Rattle.tap_node.proofs.KeptRules.{StartsNamed, rule_sound}
 

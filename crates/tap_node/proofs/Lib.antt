@@ -1,6 +1,6 @@
 pub mod Followed
 pub mod Few
-pub mod Kept
+pub mod KeptSound
 pub mod KeptRules
 pub mod KeptSteps
 pub mod Starting
@@ -9,6 +9,6 @@ pub mod Started
 pub mod Answering
 pub mod Calls
 pub mod ByStatus
-pub mod Numbers
+pub mod LastNumbers
 pub mod Taking
-pub mod Begun
+pub mod StartBegun

@@ -10,7 +10,7 @@ use Rattle.tap_rule.specs.Joining.{starts_join}
 use Rattle.tap_rule.specs.Casts.{Copy, casts, starts_cast}
 use Rattle.tap_node_common.specs.declared.news.News.{News}
 use Rattle.tap_node_common.specs.declared.news.News.TheVariants.{Nothing}
-use Rattle.tap_node_common.specs.Step.{FollowsAs, StepsAs}
+use Rattle.tap_node_common.specs.StepsAs.{FollowsAs, StepsAs}
 use Rattle.tap_node_common.proofs.Followed.{follows_quietly}
 use Rattle.tap_node_common.proofs.ReactionSteps.{silent_step}
 

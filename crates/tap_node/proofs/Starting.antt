@@ -19,7 +19,7 @@ use Rattle.tap_name.proofs.Membership.{among-from_Contains, among_at, few_among}
 use Rattle.tap_name.proofs.Sorted.{among-sorted, distinct-from_ascending, sorted-permutation}
 use Rattle.tap_link.specs.declared.kind.Kind.{Kind}
 use Rattle.tap_link.specs.declared.kind.Kind.TheVariants.{Settled}
-use Rattle.tap_link.specs.Entry.{Entry}
+use Rattle.tap_link.specs.Entry.{LinkEntry}
 use Rattle.tap_table.specs.ByName.{targets_by_name}
 use Rattle.tap_table.specs.Members.{first_fitting, fitting, is_slot, settled_links, table_at_rest}
 use Rattle.tap_table.specs.Table.{IsTable, SlotLinks, TableValue, kind_in, links_near, rows, slot_numbered}
@@ -30,12 +30,12 @@ use Rattle.tap_table.proofs.Targets.{target_is_linked, targets-ascending}
 use Rattle.tap_depart.specs.Leaving.{names_but}
 use Rattle.tap_pointer.specs.Reconcile.{wanted_hop}
 use Rattle.tap_rule.specs.Node.{NodeState, joiner, member_at_rest}
-use Rattle.tap_rule.proofs.Kept.{joiner_law, member_law}
-use Rattle.tap_node_common.specs.Sound.{IsParent, IsSoundNode}
+use Rattle.tap_rule.proofs.KeptNode.{joiner_law, member_law}
+use Rattle.tap_node_common.specs.SoundNode.{IsParent, IsSoundNode}
 use Rattle.tap_node.specs.Node.{running}
-use Rattle.tap_node.specs.Seen.{IsKeptFor}
+use Rattle.tap_node.specs.SeenNode.{IsKeptFor}
 use Rattle.tap_node.proofs.Few.{among_but}
-use Rattle.tap_node.proofs.Kept.{no_rows}
+use Rattle.tap_node.proofs.KeptSound.{no_rows}
 use Rattle.tap_node_common.proofs.Rows.{rows_by_name}
 
 pub joiner_sound : (p : SettingsValue) (name : List ℕ) → AreWithinLimits p → IsName p name → IsSoundNode (joiner p name)
@@ -78,7 +78,7 @@ module _ (p : SettingsValue) (owner : List ℕ) (names : List (List ℕ)) where
       let is : get_or links link.0 (link_to x kind) ≡ link_to x kind =
       get_or_from_slice_get links link.0 (link_to x kind) (link_to x kind) link.1 in
       let among = links_among (number_near rest x) link.0 (link_to x kind) (slice_get_within links link.0 (link_to x kind) link.1) in
-      subst (λ (e : Entry (List ℕ)). Among e.target names) is among
+      subst (λ (e : LinkEntry (List ℕ)). Among e.target names) is among
 
 -- a name that is among others leaves fewer when it is left out
 left_out : (names : List (List ℕ)) (own : List ℕ) → length (names_but names own) ≤ length names

@@ -15,7 +15,7 @@ use Rattle.tap_rule.specs.Reaction.{Message, message, sends}
 use Rattle.tap_node_common.specs.declared.news.News.TheVariants.{Nothing}
 use Rattle.tap_node_common.specs.Sender.{message_bytes, node_sender}
 use Rattle.tap_node_common.specs.States.{ended_state}
-use Rattle.tap_node_common.specs.Step.{FollowsAs}
+use Rattle.tap_node_common.specs.StepsAs.{FollowsAs}
 use Rattle.tap_node_common.proofs.ReactionSteps.{messages_step}
 
 -- a frame at a node that has ceased, whose sessions are left so, and these frames are sent

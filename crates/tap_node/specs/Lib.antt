@@ -1,3 +1,3 @@
 pub mod Node
 pub mod Outcome
-pub mod Seen
+pub mod SeenNode

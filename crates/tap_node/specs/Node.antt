@@ -8,7 +8,7 @@ use Rattle.tap_table.specs.Table.{TableValue}
 use Rattle.tap_pointer.specs.Pointers.{PointersValue}
 use Rattle.tap_rule.specs.Node.{NodeState, Status, name_of, settings_of}
 use Rattle.tap_rule.specs.Node.Status.{Joining, Core, Leaving, Gone, Ceased}
-use Rattle.tap_node_common.specs.Sound.{has_numbers_left}
+use Rattle.tap_node_common.specs.SoundNode.{has_numbers_left}
 use Rattle.tap_node.specs.declared.status.NodeStatus.{NodeStatus}
 use Rattle.tap_node.specs.declared.status.NodeStatus.TheVariants as seen
 

@@ -10,12 +10,12 @@ use Rattle.tap_rule.specs.Event.{Acted, Start}
 use Rattle.tap_rule.specs.Event.Event.{Starts, Takes}
 use Rattle.tap_rule.specs.Strange.{is_own_name, is_strange}
 use Rattle.tap_rule.specs.Act.{act}
-use Rattle.tap_node_common.specs.Spelled.{spelled}
+use Rattle.tap_node_common.specs.Spellings.{spelled}
 use Rattle.tap_node.specs.declared.fault.NodeFault.{NodeFault}
 use Rattle.tap_node.specs.declared.fault.NodeFault.TheVariants.{Wire, NotMine, Strange, NoMemory, Ended}
 use Rattle.tap_node.specs.declared.turn.Turn.{Turn}
 use Rattle.tap_node.specs.Node.{NodeValue, running}
-use Rattle.tap_node_common.specs.Step.{news_of}
+use Rattle.tap_node_common.specs.StepsAs.{news_seen}
 
 -- the answer of a call, and the node afterwards
 pub record Outcome : Type 0 where
@@ -28,7 +28,7 @@ refused_by node fault = record { answer = Err fault; node = node }
 
 -- what a step gives: its frames as bytes, and its news
 abbrev pub turn_made : NodeState → Acted → Turn
-turn_made node acted = record { sent = spelled (settings_of node) acted.sent; news = news_of acted.news }
+turn_made node acted = record { sent = spelled (settings_of node) acted.sent; news = news_seen acted.news }
 
 -- the node has acted
 abbrev pub acted_as : NodeState → Acted → Outcome

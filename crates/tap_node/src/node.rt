@@ -5,7 +5,7 @@ ghost use Rattle.tap_session.specs.Session.{most_sessions};
 ghost use Rattle.tap_rule.specs.Node.{joiner, member_at_rest, name_of, settings_of};
 ghost use Rattle.tap_rule.specs.Strange.{is_strange};
 ghost use Rattle.tap_wire.specs.Spelling.{IsFrame};
-ghost use Rattle.tap_node_common.specs.Sound.{join_sessions_limit, pairs_limit, stamp_limit};
+ghost use Rattle.tap_node_common.specs.SoundNode.{join_sessions_limit, pairs_limit, stamp_limit};
 ghost use Rattle.tap_node.specs.Node.{has_room_left, node_status, pointers_lent, running, table_lent};
 
 use crate::fault::NodeFault;
@@ -45,7 +45,7 @@ impl Model for Node {
 
     ghost Value = { NodeValue };
 
-    ghost use Rattle.tap_node.specs.Seen.{IsKeptFor, node_value};
+    ghost use Rattle.tap_node.specs.SeenNode.{IsKeptFor, node_value};
 
     ghost view = { λ n. node_value n.sender.settings n.sender.name n.state };
 

@@ -8,10 +8,10 @@ ghost use Rattle.tap_wire.specs.Spelling.{IsFrame};
 ghost use Rattle.tap_wire.specs.declared.frame.Body.TheVariants as bodies;
 ghost use Rattle.tap_core_node.specs.State.{core_state};
 ghost use Rattle.tap_joining_node.specs.State.{core_joined};
-ghost use Rattle.tap_node.specs.Seen.{FollowsFrom, IsEnded, IsHeldBy, StartsFrom, state_held};
-ghost use Rattle.tap_node_common.specs.Sound.{HaveParents, IsSoundNode, MayTake, has_numbers_left};
+ghost use Rattle.tap_node.specs.SeenNode.{FollowsFrom, IsEnded, IsHeldBy, StartsFrom, state_held};
+ghost use Rattle.tap_node_common.specs.SoundNode.{HaveParents, IsSoundNode, MayTake, has_numbers_left};
 ghost use Rattle.tap_node_common.specs.States.{ended_state};
-ghost use Rattle.tap_node_common.specs.Step.{FollowsAs};
+ghost use Rattle.tap_node_common.specs.StepsAs.{FollowsAs};
 
 use crate::fault::NodeFault;
 use crate::turn::Turn;

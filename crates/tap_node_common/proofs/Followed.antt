@@ -10,8 +10,8 @@ use Rattle.tap_rule.specs.Node.Status.{Joining, Core, Leaving, Gone, Ceased}
 use Rattle.tap_rule.specs.Pointers.{next_hop, reconciles, starts_find, starts_find_on, starts_find_with, takes_find, takes_find_on, takes_find_with}
 use Rattle.tap_rule.specs.Reaction.{Reaction}
 use Rattle.tap_node_common.specs.declared.news.News.{News}
-use Rattle.tap_node_common.specs.Step.{FollowsAs, StepsAs}
-use Rattle.tap_node_common.proofs.Quiet.{quiet_step}
+use Rattle.tap_node_common.specs.StepsAs.{FollowsAs, StepsAs}
+use Rattle.tap_node_common.proofs.QuietStep.{quiet_step}
 
 module _ (node : NodeState) (r : Reaction) (after : NodeState) (before sent : List (List ℕ)) (news : News) where
   -- a rule that doesn't end the node, which then reconciles

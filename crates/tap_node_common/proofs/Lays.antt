@@ -12,7 +12,7 @@ use Rattle.tap_pointer.specs.declared.state.PairState.{PairState}
 use Rattle.tap_pointer.specs.Pointers.{IsPointers, PointersValue}
 use Rattle.tap_pointer.specs.Reconcile.{clear_lays, is_same_hop, is_to, lay_numbered, laying_at, layings, lays_numbered, reconcile_lays, told_off, told_on, wanted_hop}
 use Rattle.tap_node_common.specs.Sender.{IsLayOf}
-use Rattle.tap_node_common.specs.Sound.{AreNamedHops, AreNamedPairs}
+use Rattle.tap_node_common.specs.SoundNode.{AreNamedHops, PairsHaveNames}
 use Rattle.tap_node_common.proofs.Pairs.{IsNamedHop, wanted_named}
 
 module _ (p : SettingsValue) where
@@ -72,7 +72,7 @@ module _ (p : SettingsValue) where
         (told_on e.1.laid (wanted e)) (off_named e.1.laid (wanted e) is.1.0) (on_named e.1.laid (wanted e) is.1.1) last
 
 pub lays-reconciled : (t : TableValue) (last : ℕ) (pointers : PointersValue) → IsTable t → IsPointers pointers
-    → AreNamedPairs t.settings pointers → AreNamedHops t.settings pointers
+    → PairsHaveNames t.settings pointers → AreNamedHops t.settings pointers
     → All (IsLayOf t.settings) (reconcile_lays t last pointers)
 lays-reconciled t last pointers valid are named hops =
     all_named t.settings (wanted_hop t) pointers.pairs
@@ -81,7 +81,7 @@ lays-reconciled t last pointers valid are named hops =
     (names, (hops k d within, wanted_named t valid pointers.owner _ (are.known k d within) names.0)))
     last
 
-pub lays-cleared : (p : SettingsValue) (last : ℕ) (pointers : PointersValue) → AreNamedPairs p pointers → AreNamedHops p pointers
+pub lays-cleared : (p : SettingsValue) (last : ℕ) (pointers : PointersValue) → PairsHaveNames p pointers → AreNamedHops p pointers
     → All (IsLayOf p) (clear_lays last pointers)
 lays-cleared p last pointers named hops =
     all_named p (λ e. None) pointers.pairs (λ k d within. (named k d within, (hops k d within, tt))) last

@@ -1,6 +1,6 @@
 pub mod Stable
 pub mod ByReceiver
-pub mod Steps
+pub mod OneSent
 pub mod Spellings
 pub mod OfRule
 pub mod Sending
@@ -8,9 +8,9 @@ pub mod Pairs
 pub mod Lays
 pub mod Parents
 pub mod ReactionSteps
-pub mod Sound
+pub mod NumbersLeft
 pub mod Finds
-pub mod Quiet
+pub mod QuietStep
 pub mod Followed
 pub mod Ending
 pub mod Rows

@@ -25,7 +25,7 @@ use Rattle.tap_pointer.proofs.Known.{All-found, pair_cmp-equal}
 use Rattle.tap_pointer.proofs.Levels.{level_most}
 use Rattle.tap_pointer.proofs.Lookups.{server-first, server-not_held, server-other}
 use Rattle.tap_wire.specs.Spelling.{IsLevel}
-use Rattle.tap_node_common.specs.Sound.{AreNamedHops, AreNamedPairs}
+use Rattle.tap_node_common.specs.SoundNode.{AreNamedHops, PairsHaveNames}
 
 -- a hop to a name, which goes on at a level, if there is one
 abbrev pub IsNamedHop : SettingsValue → Option Hop → Type 0
@@ -33,12 +33,12 @@ IsNamedHop p hop = IfSome hop (λ h. IsName p h.to × IsLevel p h.level)
 
 module _ (p : SettingsValue) (pointers : PointersValue) where
   -- the objects that are held or laid are names
-  pub names_held : AreNamedPairs p pointers → AreNamesHeld p pointers
+  pub names_held : PairsHaveNames p pointers → AreNamesHeld p pointers
   names_held named = λ k d within held. (named k d within).0
 
   -- one more pair
-  pub named-put : (pair : Pair) (state : PairState) → IsName p pair.object × IsName p pair.server → AreNamedPairs p pointers
-      → AreNamedPairs p (with_state pointers pair state)
+  pub named-put : (pair : Pair) (state : PairState) → IsName p pair.object × IsName p pair.server → PairsHaveNames p pointers
+      → PairsHaveNames p (with_state pointers pair state)
   named-put pair state is named =
       All-put pair_cmp-total pair state (λ e. IsName p e.0.object × IsName p e.0.server)
       (λ other tied. subst (λ (k : Pair). IsName p k.object × IsName p k.server) (pair_cmp-equal pair other tied) is) pointers.pairs named
@@ -79,13 +79,13 @@ module _ (p : SettingsValue) (pointers : PointersValue) where
       hops-put pair (with_lay (state_of pointers pair) from version pointer) (hop-of pair hops) hops
 
   -- and so do the pairs at a withdrawal, a publication and a Lay of names, and at reconciling
-  pub named-published : (object : List ℕ) → IsName p object → IsName p pointers.owner → AreNamedPairs p pointers
-      → AreNamedPairs p (published pointers object)
+  pub named-published : (object : List ℕ) → IsName p object → IsName p pointers.owner → PairsHaveNames p pointers
+      → PairsHaveNames p (published pointers object)
   named-published object is_name owner named =
       let own = own_pair pointers object in named-put own (with_published (state_of pointers own) true) (is_name, owner) named
 
-  pub named-withdrawn : (object : List ℕ) → IsName p object → IsName p pointers.owner → AreNamedPairs p pointers
-      → AreNamedPairs p (withdrawn pointers object)
+  pub named-withdrawn : (object : List ℕ) → IsName p object → IsName p pointers.owner → PairsHaveNames p pointers
+      → PairsHaveNames p (withdrawn pointers object)
   named-withdrawn object is_name owner named =
       let own = own_pair pointers object in
       elim (cases_Bool (owner_publishes pointers object)) [
@@ -94,15 +94,15 @@ module _ (p : SettingsValue) (pointers : PointersValue) where
       ]
 
   pub named-lay_applied : (pair : Pair) (from : List ℕ) (version : ℕ) (pointer : Pointer) → IsName p pair.object × IsName p pair.server
-      → AreNamedPairs p pointers → AreNamedPairs p (lay_applied pointers pair from version pointer)
+      → PairsHaveNames p pointers → PairsHaveNames p (lay_applied pointers pair from version pointer)
   named-lay_applied pair from version pointer is named =
       named-put pair (with_lay (state_of pointers pair) from version pointer) is named
 
-  pub named-all_withdrawn : AreNamedPairs p pointers → AreNamedPairs p (all_withdrawn pointers)
+  pub named-all_withdrawn : PairsHaveNames p pointers → PairsHaveNames p (all_withdrawn pointers)
   named-all_withdrawn named =
       All-map (λ e. IsName p e.0.object × IsName p e.0.server) (λ e. (e.0, with_published e.1 false)) pointers.pairs named
 
-  pub named-reconciled : (t : TableValue) → AreNamedPairs p pointers → AreNamedPairs p (reconciled t pointers)
+  pub named-reconciled : (t : TableValue) → PairsHaveNames p pointers → PairsHaveNames p (reconciled t pointers)
   named-reconciled t named = All-map (λ e. IsName p e.0.object × IsName p e.0.server) (with_wanted t) pointers.pairs named
 
 -- what is wanted of pairs of names is a hop to a name
@@ -131,7 +131,7 @@ module _ (t : TableValue) (valid : IsTable t) (owner : List ℕ) where
       level_named pair.object (level_held state) is_name (level_inside (length pair.object) state known.levels_to (level_held state) refl)
 
 -- pairs that are laid as wanted are laid on to names
-pub hops-laid : (t : TableValue) (pointers : PointersValue) → IsTable t → IsPointers pointers → AreNamedPairs t.settings pointers
+pub hops-laid : (t : TableValue) (pointers : PointersValue) → IsTable t → IsPointers pointers → PairsHaveNames t.settings pointers
     → AreLaid t pointers → AreNamedHops t.settings pointers
 hops-laid t pointers valid are named laid = λ k d within.
     rw (laid k d within) (wanted_named t valid pointers.owner _ (are.known k d within) (named k d within).0)
@@ -154,5 +154,5 @@ module _ (p : SettingsValue) (object server : List ℕ) where
         | inr apart ↦ later (sym (server-not_held object e pairs apart) ∙ is)
       ]
 
-  pub server_named : (pointers : PointersValue) → AreNamedPairs p pointers → server_for pointers object ≡ Some server → IsName p server
+  pub server_named : (pointers : PointersValue) → PairsHaveNames p pointers → server_for pointers object ≡ Some server → IsName p server
   server_named pointers named is = server_among_named pointers.pairs named is

@@ -8,7 +8,7 @@ use Rattle.tap_session.specs.declared.sessions.Answered.TheVariants.{Open, Close
 use Rattle.tap_session.specs.Session.{Session, SessionsValue}
 use Rattle.tap_session.specs.Sessions.{after_answer, answer_to, answered_at, next_session, opened_with, session_of}
 use Rattle.tap_session.proofs.Transitions.{All-found}
-use Rattle.tap_node_common.specs.Sound.{HaveParents, IsParent}
+use Rattle.tap_node_common.specs.SoundNode.{HaveParents, IsParent}
 
 module _ (p : SettingsValue) where
   abbrev HasParent : Session → Type 0

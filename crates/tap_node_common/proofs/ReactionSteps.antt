@@ -13,7 +13,7 @@ use Rattle.tap_node_common.specs.declared.news.News.TheVariants.{Nothing}
 use Rattle.tap_node_common.specs.declared.pointing.TakenLay.{TakenLay}
 use Rattle.tap_node_common.specs.Pointing.{lay_taken}
 use Rattle.tap_node_common.specs.Sender.{lay_bytes, message_bytes, node_sender, word_bytes}
-use Rattle.tap_node_common.specs.Step.{StepsAs, news_of}
+use Rattle.tap_node_common.specs.StepsAs.{StepsAs, news_seen}
 use Rattle.tap_node_common.proofs.Sending.{none_by_receiver}
 
 module _ (node : NodeState) where
@@ -24,7 +24,7 @@ module _ (node : NodeState) where
   -- messages alone, with this news
   pub messages_step : (after : NodeState) (messages : List Message) (news : RuleNews) (before sent : List (List ℕ))
       → sent ≡ before ++ message_bytes (node_sender node) messages
-      → StepsAs node (with_news news (sends after messages)) after before sent (news_of news)
+      → StepsAs node (with_news news (sends after messages)) after before sent (news_seen news)
   messages_step after messages news before sent is = record {
     state = refl;
     frames =
@@ -35,13 +35,13 @@ module _ (node : NodeState) where
 
   -- nothing is sent
   pub silent_step : (after : NodeState) (news : RuleNews) (before : List (List ℕ))
-      → StepsAs node (with_news news (sends after [])) after before before (news_of news)
+      → StepsAs node (with_news news (sends after [])) after before before (news_seen news)
   silent_step after news before = messages_step after [] news before before (sym (append-nil before))
 
   -- words, and then messages
   pub words_step : (after : NodeState) (words : List Tie) (messages : List Message) (news : RuleNews) (before sent : List (List ℕ))
       → sent ≡ (before ++ word_bytes (node_sender node) words) ++ message_bytes (node_sender node) messages
-      → StepsAs node (with_words words (with_news news (sends after messages))) after before sent (news_of news)
+      → StepsAs node (with_words words (with_news news (sends after messages))) after before sent (news_seen news)
   words_step after words messages news before sent is = record {
     state = refl;
     frames =

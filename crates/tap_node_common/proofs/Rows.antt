@@ -11,7 +11,7 @@ use Rattle.tap_name.specs.Order.{AreAscending}
 use Rattle.tap_name.specs.Settings.{SettingsValue}
 use Rattle.tap_name.proofs.Membership.{Contains-from_among, few_among}
 use Rattle.tap_name.proofs.Sorted.{distinct-from_ascending}
-use Rattle.tap_link.specs.Entry.{Entry}
+use Rattle.tap_link.specs.Entry.{LinkEntry}
 use Rattle.tap_link.specs.LinkSet.{LinksAscend}
 use Rattle.tap_table.specs.ByName.{slots_by_name, targets_by_name, targets_of}
 use Rattle.tap_table.proofs.Found.{kind_of_target}
@@ -32,10 +32,10 @@ targets_ascend : (links : SlotLinks) → LinksAscend name_cmp links → AreAscen
 targets_ascend [] ascend i j d before within = absurd (omega arith)
 targets_ascend (first ∷ links) ascend i j d before within =
     let all : SlotLinks = first ∷ links in
-    let len = length-map all (λ (e : Entry (List ℕ)). e.target) in
-    let e : Entry (List ℕ) = record first { target = d } in
-    let at_i = get_or-map (λ (f : Entry (List ℕ)). f.target) all i e d (omega arith) in
-    let at_j = get_or-map (λ (f : Entry (List ℕ)). f.target) all j e d (omega arith) in
+    let len = length-map all (λ (e : LinkEntry (List ℕ)). e.target) in
+    let e : LinkEntry (List ℕ) = record first { target = d } in
+    let at_i = get_or-map (λ (f : LinkEntry (List ℕ)). f.target) all i e d (omega arith) in
+    let at_j = get_or-map (λ (f : LinkEntry (List ℕ)). f.target) all j e d (omega arith) in
     rw (at_i, at_j) (ascend i j e before (omega arith))
 
 module _ (p : SettingsValue) (owner : List ℕ) where
@@ -51,7 +51,7 @@ module _ (p : SettingsValue) (owner : List ℕ) where
   later [] n m less stand = All-nil (λ x. m < number_of x)
   later (links ∷ slots) n m less stand =
       All-append (λ x. m < number_of x) (map (λ e. e.target) links) (targets_from slots)
-      (All-map (λ x. m < number_of x) (λ (e : Entry (List ℕ)). e.target) links
+      (All-map (λ x. m < number_of x) (λ (e : LinkEntry (List ℕ)). e.target) links
       (λ k d within. let is = stand.0 k d within in rw is less))
       (later slots (n + 1) m (omega arith) stand.1)
 
@@ -111,7 +111,7 @@ all_from : (P : List ℕ → Type 0) (slots : List SlotLinks) → ((number : ℕ
 all_from P [] each = All-nil P
 all_from P (links ∷ slots) each =
     All-append P (map (λ e. e.target) links) (targets_from slots)
-    (All-map P (λ (e : Entry (List ℕ)). e.target) links (each 0)) (all_from P slots (λ number. each (suc number)))
+    (All-map P (λ (e : LinkEntry (List ℕ)). e.target) links (each 0)) (all_from P slots (λ number. each (suc number)))
 
 module _ (t : TableValue) (valid : IsTable t) where
   rows_distinct : AreDistinct (targets_from t.slots)

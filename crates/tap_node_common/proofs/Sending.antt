@@ -13,7 +13,7 @@ use Rattle.tap_wire.specs.Spelling.{IsBody, IsFrame}
 use Rattle.tap_join.specs.Hello.{words_of}
 use Rattle.tap_rule.specs.Reaction.{Message, message, to_each}
 use Rattle.tap_rule.specs.Sending.{by_receiver, inserted_by_receiver, lay_frame, link_frame, message_frame}
-use Rattle.tap_node_common.specs.Spelled.{HaveSpellings}
+use Rattle.tap_node_common.specs.Spellings.{HaveSpellings}
 use Rattle.tap_node_common.specs.declared.sender.Sender.{Sender}
 use Rattle.tap_node_common.specs.Sender.{IsLayOf}
 

@@ -15,7 +15,7 @@ use Rattle.tap_pointer.specs.declared.lay.Lay.{Lay}
 use Rattle.tap_rule.specs.Reaction.{message, to_each}
 use Rattle.tap_rule.specs.Sending.{by_receiver, lay_frame, link_frame, message_frame}
 use Rattle.tap_node_common.specs.declared.cast_fields.CastFields.{CastFields}
-use Rattle.tap_node_common.specs.Spelled.{HaveSpellings}
+use Rattle.tap_node_common.specs.Spellings.{HaveSpellings}
 use Rattle.tap_node_common.specs.Targets.{cast_to, tell_to}
 use Rattle.tap_node_common.proofs.ByReceiver.{all_inserted}
 

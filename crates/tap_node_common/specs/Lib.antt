@@ -1,8 +1,8 @@
-pub mod Spelled
+pub mod Spellings
 pub mod Targets
 pub mod Sender
-pub mod Step
-pub mod Sound
+pub mod StepsAs
+pub mod SoundNode
 pub mod States
 pub mod Pointing
 pub mod Strangers

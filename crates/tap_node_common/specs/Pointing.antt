@@ -12,7 +12,7 @@ use Rattle.tap_rule.specs.Node.{NodeState}
 use Rattle.tap_rule.specs.Reaction.{Reaction}
 use Rattle.tap_node_common.specs.declared.news.News.{News}
 use Rattle.tap_node_common.specs.declared.pointing.TakenLay.{TakenLay}
-use Rattle.tap_node_common.specs.Step.{StepsAs}
+use Rattle.tap_node_common.specs.StepsAs.{StepsAs}
 
 -- the pointers once a Lay is taken
 abbrev pub lay_taken : PointersValue → TakenLay → PointersValue

@@ -10,7 +10,7 @@ use Rattle.tap_table.specs.Table.{TableValue}
 use Rattle.tap_rule.specs.Node.{NodeState, name_of, settings_of}
 use Rattle.tap_rule.specs.Reaction.{Message}
 use Rattle.tap_rule.specs.Sending.{by_receiver, lay_frame, link_frame, message_frame}
-use Rattle.tap_node_common.specs.Spelled.{spelled}
+use Rattle.tap_node_common.specs.Spellings.{spelled}
 use Rattle.tap_wire.specs.Spelling.{IsLevel}
 use Rattle.tap_node_common.specs.declared.sender.Sender.{Sender}
 

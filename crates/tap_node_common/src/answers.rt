@@ -3,7 +3,7 @@ ghost use Rattle.tap_session.specs.Sessions.{answer_to, answered_at, session_of}
 ghost use Rattle.tap_rule.specs.Answers.{answer_sends};
 ghost use Rattle.tap_name.specs.Name.{IsName};
 ghost use Rattle.tap_node_common.specs.Sender.{message_bytes};
-ghost use Rattle.tap_node_common.specs.Sound.{HaveParents};
+ghost use Rattle.tap_node_common.specs.SoundNode.{HaveParents};
 
 use crate::frame_list::FrameList;
 use crate::memory::NoMemory;

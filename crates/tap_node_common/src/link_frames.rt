@@ -1,7 +1,7 @@
 ghost use Rattle.std.specs.Prelude.{◌≡◌, ◌++◌, map, IfOk, OnOk};
 ghost use Rattle.tap_join.specs.Hello.{words_of};
 ghost use Rattle.tap_rule.specs.Sending.{by_receiver, link_frame};
-ghost use Rattle.tap_node_common.specs.Spelled.{HaveSpellings, spelled};
+ghost use Rattle.tap_node_common.specs.Spellings.{HaveSpellings, spelled};
 
 use crate::frame_list::FrameList;
 use tap_name::{List, Name, Settings};

@@ -1,7 +1,7 @@
 ghost use Rattle.std.specs.Prelude.{◌≡◌, ℕ, List, [], ◌∷◌, ◌++◌, map, OnOk};
 ghost use Rattle.tap_rule.specs.Reaction.{message, to_each};
 ghost use Rattle.tap_rule.specs.Sending.{lay_frame, message_frame};
-ghost use Rattle.tap_node_common.specs.Spelled.{HaveSpellings, spelled};
+ghost use Rattle.tap_node_common.specs.Spellings.{HaveSpellings, spelled};
 ghost use Rattle.tap_node_common.specs.Targets.{cast_to, tell_to};
 
 use crate::cast_fields::CastFields;

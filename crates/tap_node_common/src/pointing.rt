@@ -6,7 +6,7 @@ ghost use Rattle.tap_rule.specs.Pointers.{starts_find, takes_find};
 ghost use Rattle.tap_wire.specs.Spelling.{IsLevel};
 ghost use Rattle.tap_node_common.specs.Pointing.{EachStepsAs, lay_taken};
 ghost use Rattle.tap_node_common.specs.Sender.{lay_bytes, sender_of};
-ghost use Rattle.tap_node_common.specs.Sound.{AreNamedHops, AreNamedPairs};
+ghost use Rattle.tap_node_common.specs.SoundNode.{AreNamedHops, PairsHaveNames};
 
 use crate::frame_list::FrameList;
 use crate::memory::NoMemory;
@@ -31,7 +31,7 @@ pub fn reconcile(
     sent: &mut FrameList,
 ) -> Result<(), NoMemory>
     requires owner { table.now.owner ≡ pointers.old.owner }
-    requires names { AreNamedPairs table.now.settings pointers.old }
+    requires names { PairsHaveNames table.now.settings pointers.old }
     requires hops { AreNamedHops table.now.settings pointers.old }
     requires numbers { stamp.old + 2 * held_or_laid_count pointers.old.pairs ≤ u32.MAX }
     ensures after { OnOk result (pointers.new ≡ reconciled table.now pointers.old) }
@@ -57,7 +57,7 @@ pub fn reconcile_at(
     level: u8,
 ) -> Result<(), NoMemory>
     requires owner { table.now.owner ≡ pointers.old.owner }
-    requires names { AreNamedPairs table.now.settings pointers.old }
+    requires names { PairsHaveNames table.now.settings pointers.old }
     requires hops { AreNamedHops table.now.settings pointers.old }
     requires numbers { stamp.old + 2 * held_or_laid_count pointers.old.pairs ≤ u32.MAX }
     requires others { AreLaidBeside table.now level pointers.old }
@@ -85,7 +85,7 @@ pub fn reconcile_pair(
     server: Name,
 ) -> Result<(), NoMemory>
     requires owner { table.now.owner ≡ pointers.old.owner }
-    requires names { AreNamedPairs table.now.settings pointers.old }
+    requires names { PairsHaveNames table.now.settings pointers.old }
     requires hops { AreNamedHops table.now.settings pointers.old }
     requires numbers { stamp.old + 2 ≤ u32.MAX }
     requires others { AreLaidBut table.now (pair_of object server) pointers.old }
@@ -133,7 +133,7 @@ pub fn take_lay(
     lay: &TakenLay,
 ) -> Result<(), NoMemory>
     requires owner { table.now.owner ≡ pointers.old.owner }
-    requires names { AreNamedPairs table.now.settings pointers.old }
+    requires names { PairsHaveNames table.now.settings pointers.old }
     requires hops { AreNamedHops table.now.settings pointers.old }
     requires laid { AreLaid table.now pointers.old }
     requires numbers { stamp.old + 2 ≤ u32.MAX }
@@ -188,7 +188,7 @@ pub fn take_find(
     sent: &mut FrameList,
     find: &TakenFind,
 ) -> Result<(), NoMemory>
-    requires names { AreNamedPairs table.now.settings pointers.now }
+    requires names { PairsHaveNames table.now.settings pointers.now }
     requires object { IsName table.now.settings find.now.object }
     requires asker { IsName table.now.settings find.now.asker }
     requires level { find.now.level ≤ table.now.settings.digits }
@@ -231,7 +231,7 @@ pub fn ask(
     ticket: u32,
     object: Name,
 ) -> Result<News, NoMemory>
-    requires names { AreNamedPairs table.now.settings pointers.now }
+    requires names { PairsHaveNames table.now.settings pointers.now }
     requires object { IsName table.now.settings object }
     ensures { IfOk result (λ news. EachStepsAs table.now pointers.now (λ node. starts_find node ticket object) sent.old sent.new news) }
 {

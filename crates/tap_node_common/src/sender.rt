@@ -7,7 +7,7 @@ ghost use Rattle.tap_rule.specs.Casts.{cast_answer};
 ghost use Rattle.tap_rule.specs.Reaction.{message, to_each};
 ghost use Rattle.tap_wire.specs.Spelling.{IsBody};
 ghost use Rattle.tap_node_common.specs.Sender.{IsLayOf, lay_bytes, message_bytes, sender_of, word_bytes};
-ghost use Rattle.tap_node_common.specs.Sound.{IsParent};
+ghost use Rattle.tap_node_common.specs.SoundNode.{IsParent};
 
 use crate::frame_list::FrameList;
 use crate::memory::NoMemory;

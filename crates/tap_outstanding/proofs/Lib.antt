@@ -1,8 +1,8 @@
 pub mod Sums
 pub mod Towers
-pub mod Growing
+pub mod GrowingMarks
 pub mod Lowering
 pub mod Searching
 pub mod Reserving
 pub mod Flights
-pub mod Kept
+pub mod KeptMarks

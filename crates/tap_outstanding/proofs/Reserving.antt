@@ -5,11 +5,11 @@ use Rattle.std.proofs.lemmas.Bool.{cases_order}
 use Rattle.std.proofs.lemmas.List.{get_or-set_same, get_or-set_other}
 use Rattle.std.proofs.lemmas.List.Elements.{All-set}
 use Rattle.std.proofs.Math.Seq.{map-set_same}
-use Rattle.tap_outstanding.specs.Levels.{lists_of, HaveRoom}
+use Rattle.tap_outstanding.specs.Levels.{vector_lists, HaveRoom}
 
 -- a loop over the sums that has made room for so many counts more in the first `m` of them
 pub record IsReservedUpTo {A : Type 0} (more : ℕ) (start now : List (Vec ℕ A)) (m : ℕ) : Type 0 where
-  pub same : lists_of now ≡ lists_of start
+  pub same : vector_lists now ≡ vector_lists start
   pub reserved : (k : ℕ) (d : Vec ℕ A) → k < m → vec_len (get_or now k d) + more ≤ vec_capacity (get_or now k d)
   pub room : (room : ℕ) → HaveRoom start room → HaveRoom now room
 
@@ -23,7 +23,7 @@ module _ {A : Type 0} (more : ℕ) (start : List (Vec ℕ A)) where
 
   -- what stays if a further level asks for room
   pub asked-same : (now : List (Vec ℕ A)) (m : ℕ) (d w : Vec ℕ A) → IsReservedUpTo more start now m
-      → w.items ≡ (get_or now m d).items → lists_of (set now m w) ≡ lists_of start
+      → w.items ≡ (get_or now m d).items → vector_lists (set now m w) ≡ vector_lists start
   asked-same now m d w s items = map-set_same (λ (v : Vec ℕ A). v.items) now m w d items ∙ s.same
 
   pub asked-room : (now : List (Vec ℕ A)) (m : ℕ) (d w : Vec ℕ A) → IsReservedUpTo more start now m → m < length now

@@ -4,7 +4,7 @@ use Rattle.std.specs.List.{sum}
 use Rattle.std.proofs.lemmas.Bool.{cases_order}
 use Rattle.std.proofs.lemmas.List.{get_or_past, get_or-map, get_or-set_same, get_or-set_other, length-map, map-set}
 use Rattle.std.proofs.lemmas.List.Sums.{sum_by-le, sum_by-take-le, sum_by_more}
-use Rattle.tap_outstanding.specs.Levels.{IsSummary, lists_of, level, IsTower}
+use Rattle.tap_outstanding.specs.Levels.{IsSummary, vector_lists, level, IsTower}
 use Rattle.tap_outstanding.proofs.Sums.{sum-monotone, sum-all}
 
 -- what a count stands for is at most the count above it, if there is one
@@ -28,13 +28,13 @@ module _ {A : Type 0} (marks : List ℕ) (sums : List (Vec ℕ A)) where
   level-of j d within = get_or-map (λ (v : Vec ℕ A). v.items) sums j d [] within
 
   pub level-past : (j : ℕ) → length sums ≤ j → level marks sums (suc j) ≡ []
-  level-past j past = get_or_past (lists_of sums) j [] (simp length-map past)
+  level-past j past = get_or_past (vector_lists sums) j [] (simp length-map past)
 
   pub level-set_same : (m : ℕ) (w : Vec ℕ A) → m < length sums → level marks (set sums m w) (suc m) ≡ w.items
   level-set_same m w within =
       let same = map-set (λ (v : Vec ℕ A). v.items) sums m w in
-      let long : m < length (lists_of sums) = simp length-map within in
-      ap (λ (xs : List (List ℕ)). get_or xs m []) same ∙ get_or-set_same (lists_of sums) m w.items [] long
+      let long : m < length (vector_lists sums) = simp length-map within in
+      ap (λ (xs : List (List ℕ)). get_or xs m []) same ∙ get_or-set_same (vector_lists sums) m w.items [] long
 
   pub level-set_next : (m : ℕ) (w : Vec ℕ A) → m < length sums → level marks (set sums m w) (m + 1) ≡ w.items
   level-set_next m w within =
@@ -44,7 +44,7 @@ module _ {A : Type 0} (marks : List ℕ) (sums : List (Vec ℕ A)) where
   pub level-set_other : (m j : ℕ) (w : Vec ℕ A) → (j ≡ m → ⊥) → level marks (set sums m w) (suc j) ≡ level marks sums (suc j)
   level-set_other m j w other =
       let same = map-set (λ (v : Vec ℕ A). v.items) sums m w in
-      ap (λ (xs : List (List ℕ)). get_or xs j []) same ∙ get_or-set_other (lists_of sums) m j w.items [] other
+      ap (λ (xs : List (List ℕ)). get_or xs j []) same ∙ get_or-set_other (vector_lists sums) m j w.items [] other
 
 -- no level has more than the marks, as far as each is the summary of that below
 pub totals : {A : Type 0} (marks : List ℕ) (sums : List (Vec ℕ A)) (m : ℕ)
@@ -126,17 +126,17 @@ mark-within (x ∷ xs) (suc at) mark = omega (arith, mark-within xs at mark)
 pub along : (a b c d : List ℕ) → a ≡ c → b ≡ d → IsSummary c d → IsSummary a b
 along a b c d e f s = rw (e, f) s
 
-pub same-level : {A : Type 0} (marks : List ℕ) (old new : List (Vec ℕ A)) → lists_of new ≡ lists_of old → (j : ℕ)
+pub same-level : {A : Type 0} (marks : List ℕ) (old new : List (Vec ℕ A)) → vector_lists new ≡ vector_lists old → (j : ℕ)
     → level marks new j ≡ level marks old j
 same-level marks old new same zero = refl
 same-level marks old new same (suc j) = ap (λ (xs : List (List ℕ)). get_or xs j []) same
 
 -- the same sums make the same tower
-pub same-tower : {A : Type 0} (marks marks' : List ℕ) (old new : List (Vec ℕ A)) → marks' ≡ marks → lists_of new ≡ lists_of old
+pub same-tower : {A : Type 0} (marks marks' : List ℕ) (old new : List (Vec ℕ A)) → marks' ≡ marks → vector_lists new ≡ vector_lists old
     → IsTower marks old → IsTower marks' new
 same-tower {A = A} marks marks' old new first same tower =
     let each : (j : ℕ) → level marks new j ≡ level marks old j = same-level marks old new same in
-    let long : length (lists_of new) ≡ length (lists_of old) = ap length same in
+    let long : length (vector_lists new) ≡ length (vector_lists old) = ap length same in
     let height = tower.height in
     subst (λ (ms : List ℕ). IsTower ms new) (sym first) (record {
       height = omega (arith, length-map new (λ (v : Vec ℕ A). v.items), length-map old (λ (v : Vec ℕ A). v.items), long);

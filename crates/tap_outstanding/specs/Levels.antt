@@ -14,13 +14,13 @@ pub record IsSummary (lower upper : List ℕ) : Type 0 where
   pub sums : (at : ℕ) → at ≤ length upper → sum_before upper at ≡ sum_before lower (16 * at)
 
 -- the lists of the vectors, lowest first
-abbrev pub lists_of : {A : Type 0} → List (Vec ℕ A) → List (List ℕ)
-lists_of vectors = map (λ v. v.items) vectors
+abbrev pub vector_lists : {A : Type 0} → List (Vec ℕ A) → List (List ℕ)
+vector_lists vectors = map (λ v. v.items) vectors
 
 -- the counts of one level, from 0, which is that of the marks
 abbrev pub level : {A : Type 0} → List ℕ → List (Vec ℕ A) → ℕ → List ℕ
 level marks sums zero = marks
-level marks sums (suc j) = slice_index_or (lists_of sums) j []
+level marks sums (suc j) = slice_index_or (vector_lists sums) j []
 
 -- marks for at most 4,000,000,000 numbers, and seven levels of sums, each the summary of that below
 pub record IsTower {A : Type 0} (marks : List ℕ) (sums : List (Vec ℕ A)) : Type 0 where

@@ -1,3 +1,3 @@
 pub mod Levels
 pub mod Outstanding
-pub mod Kept
+pub mod KeptMarks

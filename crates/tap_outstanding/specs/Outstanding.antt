@@ -36,8 +36,8 @@ sent_with s record_place = record {
 }
 
 -- the frame at this place is taken, if there is one
-abbrev pub taken_at : OutstandingValue → ℕ → OutstandingValue
-taken_at s place = record s { frames = remove s.frames place }
+abbrev pub taken_at_place : OutstandingValue → ℕ → OutstandingValue
+taken_at_place s place = record s { frames = remove s.frames place }
 
 -- the place of the frame with this number
 abbrev pub place_of_number : List Flight → ℕ → Option ℕ

@@ -1,6 +1,6 @@
 ghost use Rattle.std.specs.Prelude.{◌≡◌, ◌==◌, ◌^◌, ℕ, ◌+◌, ◌-◌, ◌<◌, ◌≤◌, ◌∷◌, ◌++◌, [], All};
 ghost use Rattle.std.specs.Prelude.{length, sum, slice_index, slice_set, OnOk, vec_len, vec_capacity};
-ghost use Rattle.tap_outstanding.specs.Levels.{HaveRoom, IsTower, lists_of, sum_before};
+ghost use Rattle.tap_outstanding.specs.Levels.{HaveRoom, IsTower, sum_before, vector_lists};
 
 use crate::memory::NoMemory;
 
@@ -217,7 +217,7 @@ fn take_one(counts: &mut Vec<u32>, at: usize)
 
 /// Makes room in each level of sums for those of so many more numbers.
 pub(crate) fn reserve(sums: &mut [Vec<u32>], more: usize) -> Result<(), NoMemory>
-    ensures same { lists_of sums.new ≡ lists_of sums.old }
+    ensures same { vector_lists sums.new ≡ vector_lists sums.old }
     ensures ok { OnOk result (HaveRoom sums.new more) }
     ensures room { (room : ℕ) → HaveRoom sums.old room → HaveRoom sums.new room }
 {

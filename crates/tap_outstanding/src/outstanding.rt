@@ -1,6 +1,6 @@
 ghost use Rattle.std.specs.Prelude.{◌≡◌, ◌==◌, ◌+◌, ◌-◌, ◌<◌, ◌≤◌, max, [], length, slice_get, if◌then◌else◌, IfOk, OnOk, OnErr, Some, None, is_some};
 ghost use Rattle.std.specs.Option.{option_map_or};
-ghost use Rattle.tap_outstanding.specs.Outstanding.{AreOutstanding, most_sent, place_of_number, sent_with, taken_at};
+ghost use Rattle.tap_outstanding.specs.Outstanding.{AreOutstanding, most_sent, place_of_number, sent_with, taken_at_place};
 
 use crate::levels;
 use crate::memory::NoMemory;
@@ -50,7 +50,7 @@ pub struct Outstanding {
 
 impl Model for Outstanding {
     ghost use Rattle.std.specs.Prelude.{vec_len};
-    ghost use Rattle.tap_outstanding.specs.Kept.{IsKeptFrom};
+    ghost use Rattle.tap_outstanding.specs.KeptMarks.{IsKeptFrom};
     ghost use Rattle.tap_outstanding.specs.Outstanding.{OutstandingValue, flights_from};
 
     ghost Value = { OutstandingValue };
@@ -192,7 +192,7 @@ impl Outstanding {
     /// or above their number, and then nothing changes.
     pub fn take(&mut self, place: u32) -> Option<Flight>
         ensures frame { result ≡ slice_get self.old.frames place }
-        ensures after { self.new ≡ taken_at self.old place }
+        ensures after { self.new ≡ taken_at_place self.old place }
     {
         if place >= self.count {
             return None;
@@ -213,7 +213,7 @@ impl Outstanding {
     #[inline(always)]
     pub fn take_number(&mut self, number: u32) -> bool
         ensures taken { result ≡ is_some (place_of_number self.old.frames number) }
-        ensures after { self.new ≡ option_map_or (taken_at self.old) (place_of_number self.old.frames number) self.old }
+        ensures after { self.new ≡ option_map_or (taken_at_place self.old) (place_of_number self.old.frames number) self.old }
     {
         let number = number as usize;
         if !levels::is_marked(&self.marks, number) {

@@ -9,7 +9,7 @@ use Rattle.tap_name.specs.Settings.{SettingsValue}
 use Rattle.tap_rule.specs.Node.{member_at_rest, name_of, settings_of}
 use Rattle.tap_node.specs.Node.{NodeValue, running}
 use Rattle.indexmap.specs.IndexMap.{IndexMap, Updates}
-use Rattle.tap_overlay.specs.Overlay.{HaveOwnNames, IsNodeOf, member_at, node_among}
+use Rattle.tap_overlay.specs.Overlay.{HasNameAndSettings, HaveOwnNames, member_at, node_among}
 use Rattle.tap_overlay.proofs.Found.{found_same}
 
 -- the member of a name as it is at rest, if it is one of those made so far
@@ -74,7 +74,7 @@ rest_named p members nodes rest name node there = by_member (has_name members na
     found : (is : Bool) → has_name members name ≡ is → (if is then Some member else None) ≡ Some node
     found is e = sym (rest name ∙ ap (λ (b : Bool). if b then Some member else None) e) ∙ there
 
-    by_member : (is : Bool) → has_name members name ≡ is → IsNodeOf p name node
+    by_member : (is : Bool) → has_name members name ≡ is → HasNameAndSettings p name node
     by_member false e = let wrong : None ≡ Some node = found false e in absurd (cc)
     by_member true e =
         let both : Some member ≡ Some node = found true e in

@@ -13,7 +13,7 @@ use Rattle.tap_node.specs.declared.turn.Turn.{Turn}
 use Rattle.tap_node.specs.Node.{NodeValue, running}
 use Rattle.tap_node.specs.Outcome.{AnswersAs, start_outcome, turn_made}
 use Rattle.indexmap.specs.IndexMap.{IndexMap, Updates}
-use Rattle.tap_overlay.specs.Overlay.{AreNodesOf, ChangesOnly, IsNodeOf}
+use Rattle.tap_overlay.specs.Overlay.{AreNodesOf, ChangesOnly, HasNameAndSettings}
 use Rattle.tap_overlay.specs.Step.{HasJoined, joined}
 use Rattle.tap_overlay.proofs.Nodes.{changes_only, own_names}
 
@@ -43,7 +43,7 @@ module _ {S : Type 0} (p : SettingsValue) (name via : List ℕ) (before after : 
       let Of : NodeValue → Type 0 = λ n. ChangesOnly before.entries after.entries name n in
       record { turn_is = turn_is; changes = subst Of node_is (changes_only before after name is updates) }
 
-  named : IsNodeOf p name is
+  named : HasNameAndSettings p name is
   named = record {
     name_is = answers.name ∙ ap (λ (n : NodeValue). name_of n.state) new;
     settings_are = answers.settings ∙ ap (λ (n : NodeValue). settings_of n.state) new;

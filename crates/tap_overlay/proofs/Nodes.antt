@@ -6,7 +6,7 @@ use Rattle.std.proofs.lemmas.Slice.Eq.{bytes_eq-Decides}
 use Rattle.tap_name.specs.Settings.{SettingsValue}
 use Rattle.tap_node.specs.Node.{NodeValue}
 use Rattle.indexmap.specs.IndexMap.{IndexMap, Updates}
-use Rattle.tap_overlay.specs.Overlay.{ChangesOnly, HaveOwnNames, IsNodeOf, node_among}
+use Rattle.tap_overlay.specs.Overlay.{ChangesOnly, HasNameAndSettings, HaveOwnNames, node_among}
 use Rattle.tap_overlay.proofs.Found.{found_same}
 
 -- names that differ aren't one
@@ -28,7 +28,7 @@ changes_only before after name node updates = record {
 
 -- the node that has changed has its name and the settings, so each node still has its own
 pub own_names : (p : SettingsValue) (before after : List (List ℕ × NodeValue)) (name : List ℕ) (node : NodeValue)
-    → HaveOwnNames p before → ChangesOnly before after name node → IsNodeOf p name node → HaveOwnNames p after
+    → HaveOwnNames p before → ChangesOnly before after name node → HasNameAndSettings p name node → HaveOwnNames p after
 own_names p before after name node own changes is other found there =
     elim (cases_Bool (bytes_eq other name)) [
       | inl e ↦
@@ -37,8 +37,8 @@ own_names p before after name node own changes is other found there =
           let here : node_among after name ≡ Some found = subst At same there in
           let both : Some node ≡ Some found = sym changes.here ∙ here in
           let node_is : node ≡ found = cc in
-          let Named : List ℕ → Type 0 = λ n. IsNodeOf p n found in
-          let Of : NodeValue → Type 0 = λ n. IsNodeOf p name n in
+          let Named : List ℕ → Type 0 = λ n. HasNameAndSettings p n found in
+          let Of : NodeValue → Type 0 = λ n. HasNameAndSettings p name n in
           subst Named (sym same) (subst Of node_is is)
       | inr e ↦
           let apart : other ≢ name = λ same. true≢false (sym ((bytes_eq-Decides other name).1 same) ∙ e) in

@@ -16,10 +16,10 @@ use Rattle.tap_node.specs.Node.{NodeValue, has_room_left}
 use Rattle.tap_node.specs.Outcome.{AnswersAs, Outcome}
 use Rattle.tap_overlay.specs.declared.fault.OverlayFault.{OverlayFault}
 use Rattle.tap_overlay.specs.declared.fault.OverlayFault.TheVariants.{NoNode, NoRoom}
-use Rattle.tap_overlay.specs.Overlay.{AreNodesOf, HaveOwnNames, IsNodeOf, node_among}
+use Rattle.tap_overlay.specs.Overlay.{AreNodesOf, HasNameAndSettings, HaveOwnNames, node_among}
 use Rattle.tap_overlay.specs.declared.start.Start.{Start}
 use Rattle.tap_overlay.specs.Start.{MayStart}
-use Rattle.tap_overlay.specs.Step.{HasAnswered, HasStepped, IfRoom, StepsAt, answer_given}
+use Rattle.tap_overlay.specs.Step.{HasStepped, IfRoom, NodeHasAnswered, StepsAt, answer_given}
 use Rattle.tap_overlay.proofs.Found.{found_same}
 use Rattle.tap_overlay.proofs.Nodes.{changes_only, own_names}
 
@@ -70,13 +70,13 @@ with_node outcome before after name node is given there written step = record {
 
 -- a node that has answered has its name and the settings still
 stays_named : (p : SettingsValue) (name : List ℕ) (outcome : Outcome) (node is : NodeValue) (given : Result Turn OverlayFault)
-    → IfRoom outcome node is given → IsNodeOf p name node → IsNodeOf p name is
+    → IfRoom outcome node is given → HasNameAndSettings p name node → HasNameAndSettings p name is
 stays_named p name outcome node is given step named = by_room (has_room_left node) refl
   where
-    by_room : (room : Bool) → has_room_left node ≡ room → IsNodeOf p name is
-    by_room false full = let Of : NodeValue → Type 0 = λ n. IsNodeOf p name n in subst Of (sym (step.full full).same) named
+    by_room : (room : Bool) → has_room_left node ≡ room → HasNameAndSettings p name is
+    by_room false full = let Of : NodeValue → Type 0 = λ n. HasNameAndSettings p name n in subst Of (sym (step.full full).same) named
     by_room true free =
-        let answered : HasAnswered outcome node is given = step.free free in
+        let answered : NodeHasAnswered outcome node is given = step.free free in
         record {
           name_is = answered.answers.name ∙ named.name_is;
           settings_are = answered.answers.settings ∙ named.settings_are;
@@ -87,7 +87,7 @@ own_stays : (p : SettingsValue) (outcome : NodeValue → Outcome) (before after 
     (given : Result Turn OverlayFault) (node : NodeValue) → HaveOwnNames p before → node_among before name ≡ Some node
     → HasStepped (outcome node) before after name node given → HaveOwnNames p after
 own_stays p outcome before after name given node own there stepped =
-    let named : IsNodeOf p name stepped.is =
+    let named : HasNameAndSettings p name stepped.is =
     stays_named p name (outcome node) node stepped.is given stepped.step (own name node there) in
     own_names p before after name stepped.is own stepped.changes named
 
@@ -121,6 +121,6 @@ may_start own p start node same may = let May : SettingsValue → Type 0 = λ q.
 
 -- a node that is lent has its name and the settings
 pub lent_named : (p : SettingsValue) (nodes : List (List ℕ × NodeValue)) (name : List ℕ) (lent : Option (Bor NodeValue))
-    → AreNodesOf p nodes → option_copied lent ≡ lookup (bytes_eq name) nodes → IfSome lent (λ node. IsNodeOf p name node.now)
+    → AreNodesOf p nodes → option_copied lent ≡ lookup (bytes_eq name) nodes → IfSome lent (λ node. HasNameAndSettings p name node.now)
 lent_named p nodes name None of is = tt
 lent_named p nodes name (Some node) of is = of.own name node.now (sym (found_same nodes name) ∙ sym is)

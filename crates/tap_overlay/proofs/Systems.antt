@@ -14,10 +14,10 @@ use Rattle.tap_rule.specs.Node.{NodeState, Status, member_at_rest}
 use Rattle.tap_rule.specs.Node.Status.{Joining, Core, Leaving, Gone, Ceased}
 use Rattle.tap_node.specs.Node.{is_linked, running, status_seen, table_lent}
 use Rattle.tap_safety.specs.AtRest.{system_at_rest}
-use Rattle.tap_safety.specs.Step.{with_at}
+use Rattle.tap_safety.specs.Exchanges.{with_at}
 use Rattle.tap_safety.specs.System.{System}
 use Rattle.tap_runs.specs.Observed.{counts_as_core, is_core_node as is_core_state, nodes_of, table_of_node, word_of_status}
-use Rattle.tap_overlay.specs.Overlay.{ChangesOnly, IsAtRest, OverlayValue, is_core_node, is_core_status, node_among, node_at, nodes_lent}
+use Rattle.tap_overlay.specs.Overlay.{ChangesOnly, IsAtRest, OverlayValue, is_core_node_status, is_core_value, node_among, node_at, nodes_lent}
 use Rattle.tap_overlay.specs.Law.{HasNodesOf}
 
 -- ---- at rest
@@ -43,7 +43,7 @@ same_table Leaving table = refl
 same_table Gone table = refl
 same_table Ceased table = refl
 
-same_core : (status : Status) → is_core_status (status_seen status) ≡ counts_as_core status
+same_core : (status : Status) → is_core_node_status (status_seen status) ≡ counts_as_core status
 same_core Joining = refl
 same_core Core = refl
 same_core Leaving = refl
@@ -55,7 +55,7 @@ table_read : (found : Option NodeState)
 table_read None = refl
 table_read (Some node) = same_table node.status node.ties.table
 
-core_read : (found : Option NodeState) → is_core_node (option_map running found) ≡ is_core_state found
+core_read : (found : Option NodeState) → is_core_value (option_map running found) ≡ is_core_state found
 core_read None = refl
 core_read (Some node) = same_core node.status
 
@@ -67,7 +67,7 @@ same_walks s o has =
     let tables : (nodes_lent o).table_of ≡ (nodes_of s).table_of =
     fun_ext (λ (name : List ℕ). ap (option_and_then table_lent) (has.nodes_are name) ∙ table_read (s.node name)) in
     let cores : (nodes_lent o).core ≡ (nodes_of s).core =
-    fun_ext (λ (name : List ℕ). ap is_core_node (has.nodes_are name) ∙ core_read (s.node name)) in
+    fun_ext (λ (name : List ℕ). ap is_core_value (has.nodes_are name) ∙ core_read (s.node name)) in
     ap (λ (t : List ℕ → Option TableValue). nodes_with t (nodes_lent o).core) tables
     ∙ ap (λ (c : List ℕ → Bool). nodes_with (nodes_of s).table_of c) cores
 

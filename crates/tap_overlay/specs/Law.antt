@@ -7,7 +7,7 @@ use Rattle.tap_name.specs.Settings.{SettingsValue}
 use Rattle.tap_rule.specs.Node.{NodeState}
 use Rattle.tap_node.specs.Node.{running}
 use Rattle.tap_safety.specs.AtRest.{system_at_rest}
-use Rattle.tap_safety.specs.Step.{with_at}
+use Rattle.tap_safety.specs.Exchanges.{with_at}
 use Rattle.tap_safety.specs.System.{System}
 use Rattle.tap_runs.specs.Observed.{nodes_of}
 use Rattle.tap_overlay.specs.Overlay.{ChangesOnly, IsAtRest, OverlayValue, node_at, nodes_lent}

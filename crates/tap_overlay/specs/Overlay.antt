@@ -30,13 +30,13 @@ node_at o name = node_among o.nodes name
 -- ---- names
 
 -- the node has this name and these settings
-pub record IsNodeOf (p : SettingsValue) (name : List ℕ) (node : NodeValue) : Type 0 where
+pub record HasNameAndSettings (p : SettingsValue) (name : List ℕ) (node : NodeValue) : Type 0 where
   pub name_is : name_of node.state ≡ name
   pub settings_are : settings_of node.state ≡ p
 
 -- the node under each name has that name
 abbrev pub HaveOwnNames : SettingsValue → List (List ℕ × NodeValue) → Type 0
-HaveOwnNames p nodes = (name : List ℕ) (node : NodeValue) → node_among nodes name ≡ Some node → IsNodeOf p name node
+HaveOwnNames p nodes = (name : List ℕ) (node : NodeValue) → node_among nodes name ≡ Some node → HasNameAndSettings p name node
 
 -- the nodes ascend by name, and the node under each name has that name
 pub record AreNodesOf (p : SettingsValue) (nodes : List (List ℕ × NodeValue)) : Type 0 where
@@ -64,20 +64,20 @@ pub record ChangesOnly (before after : List (List ℕ × NodeValue)) (name : Lis
 -- ---- walks
 
 -- a leaving node counts as core
-abbrev pub is_core_status : NodeStatus → Bool
-is_core_status Joining = false
-is_core_status Core = true
-is_core_status Leaving = true
-is_core_status Gone = false
-is_core_status Ceased = false
-is_core_status Ended = false
+abbrev pub is_core_node_status : NodeStatus → Bool
+is_core_node_status Joining = false
+is_core_node_status Core = true
+is_core_node_status Leaving = true
+is_core_node_status Gone = false
+is_core_node_status Ceased = false
+is_core_node_status Ended = false
 
 -- whether there is a core node
-abbrev pub is_core_node : Option NodeValue → Bool
-is_core_node None = false
-is_core_node (Some node) = is_core_status (node_status node)
+abbrev pub is_core_value : Option NodeValue → Bool
+is_core_value None = false
+is_core_value (Some node) = is_core_node_status (node_status node)
 
 -- the nodes as a walk reads them: the table that each lends, and whether it is core
 abbrev pub nodes_lent : OverlayValue → Nodes
 nodes_lent o =
-    record { table_of = λ name. option_and_then table_lent (node_at o name); core = λ name. is_core_node (node_at o name) }
+    record { table_of = λ name. option_and_then table_lent (node_at o name); core = λ name. is_core_value (node_at o name) }

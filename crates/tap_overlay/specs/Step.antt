@@ -28,7 +28,7 @@ pub record HasNoRoom (before after : NodeValue) (given : Result Turn OverlayFaul
   pub same : after ≡ before
 
 -- the node has answered as the outcome says
-pub record HasAnswered (outcome : Outcome) (before after : NodeValue) (given : Result Turn OverlayFault) : Type 0 where
+pub record NodeHasAnswered (outcome : Outcome) (before after : NodeValue) (given : Result Turn OverlayFault) : Type 0 where
   pub answer : Result Turn NodeFault
   pub given_is : given ≡ answer_given answer
   pub answers : AnswersAs outcome before answer after
@@ -36,7 +36,7 @@ pub record HasAnswered (outcome : Outcome) (before after : NodeValue) (given : R
 -- a call at a node with this outcome: it answers if it has room for a step
 pub record IfRoom (outcome : Outcome) (before after : NodeValue) (given : Result Turn OverlayFault) : Type 0 where
   pub full : has_room_left before ≡ false → HasNoRoom before after given
-  pub free : has_room_left before ≡ true → HasAnswered outcome before after given
+  pub free : has_room_left before ≡ true → NodeHasAnswered outcome before after given
 
 -- without a node of the name nothing changes
 pub record HasNoNode (before after : List (List ℕ × NodeValue)) (given : Result Turn OverlayFault) : Type 0 where

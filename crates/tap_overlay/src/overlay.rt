@@ -5,7 +5,7 @@ ghost use Rattle.std.specs.Option.{ForSome, option_copied};
 ghost use Rattle.tap_name.specs.Distinct.{AreDistinct};
 ghost use Rattle.tap_name.specs.Name.{IsName};
 ghost use Rattle.tap_name.specs.Order.{name_cmp};
-ghost use Rattle.tap_overlay.specs.Overlay.{is_core_status, member_at, node_among};
+ghost use Rattle.tap_overlay.specs.Overlay.{is_core_node_status, member_at, node_among};
 ghost use Rattle.tap_node.specs.Outcome.{MayWant, start_outcome, take_outcome};
 
 use crate::fault::OverlayFault;
@@ -45,8 +45,8 @@ impl Model for Overlay {
 }
 
 impl Overlay {
-    ghost use Rattle.tap_overlay.specs.Overlay.{IsAtRest, IsNodeOf, node_at};
-    ghost use Rattle.tap_overlay.specs.Start.{MayStart, begun};
+    ghost use Rattle.tap_overlay.specs.Overlay.{HasNameAndSettings, IsAtRest, node_at};
+    ghost use Rattle.tap_overlay.specs.Start.{MayStart, rule_start};
     ghost use Rattle.tap_overlay.specs.Step.{HasJoined, StepsAt};
 
     /// The overlay of these members at rest, and of nobody else. They are distinct names of the settings, 256 at most.
@@ -88,7 +88,7 @@ impl Overlay {
     /// The node of a name, `None` exactly if there is none. It has this name and the settings.
     pub fn node(&self, name: &Name) -> Option<&Node>
         ensures value { option_copied result ≡ node_at self.now name.now }
-        ensures own { IfSome result (λ node. IsNodeOf self.now.settings name.now node.now) }
+        ensures own { IfSome result (λ node. HasNameAndSettings self.now.settings name.now node.now) }
     {
         self.nodes.get(name)
     }
@@ -139,7 +139,7 @@ impl Overlay {
     /// memory was refused has ended, and stays.
     pub fn start(&mut self, name: &Name, start: &Start<'_>) -> Result<Turn, OverlayFault>
         requires { ForSome (node_at self.old name.now) (MayStart self.old.settings start.now) }
-        ensures step { StepsAt (λ node. start_outcome node (begun start.now)) self.old.nodes self.new.nodes name.now result }
+        ensures step { StepsAt (λ node. start_outcome node (rule_start start.now)) self.old.nodes self.new.nodes name.now result }
         ensures settings { self.new.settings ≡ self.old.settings }
     {
         start_at(&mut self.nodes, name, start)
@@ -171,7 +171,7 @@ impl Tables for Overlay {
 
 // Whether a node of this status counts as core: a leaving one does.
 fn is_core_status(status: NodeStatus) -> bool
-    ensures { result ≡ is_core_status status }
+    ensures { result ≡ is_core_node_status status }
 {
     match status {
         NodeStatus::Core | NodeStatus::Leaving => true,

@@ -4,7 +4,7 @@ ghost use Rattle.tap_rule.specs.Node.{settings_of};
 ghost use Rattle.tap_node.specs.Node.{has_room_left};
 ghost use Rattle.tap_node.specs.Outcome.{AnswersAs, MayWant, start_outcome, take_outcome};
 ghost use Rattle.tap_overlay.specs.Overlay.{node_among};
-ghost use Rattle.tap_overlay.specs.Start.{MayStart, begun};
+ghost use Rattle.tap_overlay.specs.Start.{MayStart, rule_start};
 ghost use Rattle.tap_overlay.specs.Step.{IfRoom, StepsAt, answer_given};
 
 use crate::fault::OverlayFault;
@@ -35,7 +35,7 @@ pub(crate) fn start_at(
     start: &Start<'_>,
 ) -> Result<Turn, OverlayFault>
     requires { ForSome (node_among nodes.old.entries name.now) (λ node. MayStart (settings_of node.state) start.now node) }
-    ensures { StepsAt (λ node. start_outcome node (begun start.now)) nodes.old.entries nodes.new.entries name.now result }
+    ensures { StepsAt (λ node. start_outcome node (rule_start start.now)) nodes.old.entries nodes.new.entries name.now result }
 {
     if let Some(node) = nodes.get_mut(name) {
         return start_if_room(node, start);
@@ -58,7 +58,7 @@ fn take_if_room(node: &mut Node, bytes: &[u8]) -> Result<Turn, OverlayFault>
 // A node starts something, if it has room for a step.
 fn start_if_room(node: &mut Node, start: &Start<'_>) -> Result<Turn, OverlayFault>
     requires { MayStart (settings_of node.old.state) start.now node.old }
-    ensures { IfRoom (start_outcome node.old (begun start.now)) node.old node.new result }
+    ensures { IfRoom (start_outcome node.old (rule_start start.now)) node.old node.new result }
 {
     if !node.room() {
         return Err(OverlayFault::NoRoom);
@@ -70,7 +70,7 @@ fn start_if_room(node: &mut Node, start: &Start<'_>) -> Result<Turn, OverlayFaul
 fn start_of(node: &mut Node, start: &Start<'_>) -> Result<Turn, NodeFault>
     requires room { IsTrue (has_room_left node.old) }
     requires may { MayStart (settings_of node.old.state) start.now node.old }
-    ensures { AnswersAs (start_outcome node.old (begun start.now)) node.old result node.new }
+    ensures { AnswersAs (start_outcome node.old (rule_start start.now)) node.old result node.new }
 {
     match start {
         Start::Abandon => node.abandon(),

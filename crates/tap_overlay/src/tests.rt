@@ -2,7 +2,7 @@ ghost use Rattle.std.specs.Prelude.{◌≡◌, ◌↔◌, IfOk, IsTrue};
 ghost use Rattle.std.specs.Option.{ForSome};
 ghost use Rattle.tap_name.specs.Name.{IsName};
 ghost use Rattle.tap_overlay.specs.Overlay.{node_at};
-ghost use Rattle.tap_overlay.specs.Start.{IsCore};
+ghost use Rattle.tap_overlay.specs.Start.{IsCoreOrEnded};
 
 use crate::{Overlay, OverlayFault, Start, overlay_law};
 use std::alloc::Global;
@@ -80,7 +80,7 @@ fn deliver(
 
 // Whether there is a core node of this name that takes steps.
 fn is_running_core(overlay: &Overlay, name: &Name) -> bool
-    ensures { IsTrue result → ForSome (node_at overlay.now name.now) IsCore }
+    ensures { IsTrue result → ForSome (node_at overlay.now name.now) IsCoreOrEnded }
 {
     match overlay.node(name) {
         Some(node) => is_core(node.status()),

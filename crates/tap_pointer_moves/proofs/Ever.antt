@@ -23,18 +23,18 @@ use Rattle.tap_safety.specs.System.{System}
 use Rattle.tap_safety.specs.Ties.{IsOnWay}
 use Rattle.tap_moves.specs.Delivered.{after_delivery, after_start}
 use Rattle.tap_safety_moves.specs.Sound.{Sound}
-use Rattle.tap_safety_moves.proofs.Moves.{move_keeps}
+use Rattle.tap_safety_moves.proofs.SoundMoves.{move_keeps}
 use Rattle.tap_pointer_moves.specs.Ever.{AreOfPublished, EverAtRest, EverKept, HeldWasPublished, LaidWasPublished}
 use Rattle.tap_pointer_moves.specs.Paths.{HoldsPair}
-use Rattle.tap_pointer_moves.specs.Said.{LayWord, laid_in, laid_of, lay_word_frame, pointer_register_of, word_in_entry, word_kept, word_kept_in}
-use Rattle.tap_pointer_moves.specs.Told.{PointersStand, hop_at}
+use Rattle.tap_pointer_moves.specs.Said.{LayWord, laid_in, laid_of, lay_word_frame, lay_word_kept, pointer_register_of, word_in_entry, word_kept_in}
+use Rattle.tap_pointer_moves.specs.LaysTold.{PointersStand, hop_at}
 use Rattle.tap_pointer_moves.proofs.Hearing.{publishes}
 use Rattle.tap_pointer_moves.proofs.Hops.{off_was, on_is}
 use Rattle.tap_pointer_moves.proofs.Levels.{held_at, level_if_held}
-use Rattle.tap_pointer_moves.proofs.Moves.{acts, knows_nothing, none_known, none_said, now_is, others, pointers_kept, register_same, start_acts, way_was}
+use Rattle.tap_pointer_moves.proofs.PointersKept.{acts, knows_nothing, none_known, none_said, now_is, others, pointers_kept, register_same, start_acts, way_was}
 use Rattle.tap_pointer_moves.proofs.Publications.{IsStarter, limits, owner_is, starter_of}
-use Rattle.tap_pointer_moves.proofs.Rules.{nothing_published, published_by}
-use Rattle.tap_pointer_moves.proofs.Steps.{Acts}
+use Rattle.tap_pointer_moves.proofs.PointerRules.{nothing_published, published_by}
+use Rattle.tap_pointer_moves.proofs.ActsKeep.{Acts}
 use Rattle.tap_pointer_moves.proofs.Turns.{lay_saying, nothing_kept}
 use Rattle.tap_pointer_moves.proofs.Wanted.{has_laid}
 
@@ -42,12 +42,12 @@ use Rattle.tap_pointer_moves.proofs.Wanted.{has_laid}
 
 -- what a register of a node has
 kept_by : (s : System) (t : List ℕ) (node : NodeState) (pair : Pair) (x : List ℕ) (word : LayWord) → s.node t ≡ Some node
-    → word_kept node.pointers pair x ≡ Some word → pointer_register_of s t pair x ≡ Some word
+    → lay_word_kept node.pointers pair x ≡ Some word → pointer_register_of s t pair x ≡ Some word
 unfolding pointer_register_of
 kept_by s t node pair x word at kept = ap (λ n. word_kept_in n pair x) at ∙ kept
 
 kept_of : (s : System) (t : List ℕ) (node : NodeState) (pair : Pair) (x : List ℕ) (word : LayWord) → s.node t ≡ Some node
-    → pointer_register_of s t pair x ≡ Some word → word_kept node.pointers pair x ≡ Some word
+    → pointer_register_of s t pair x ≡ Some word → lay_word_kept node.pointers pair x ≡ Some word
 unfolding pointer_register_of
 kept_of s t node pair x word at kept = sym (ap (λ n. word_kept_in n pair x) at) ∙ kept
 
@@ -111,7 +111,7 @@ module _ (Taken : List ℕ → Pair → LayWord → Type 0) (now : Pair → Bool
         | inr same ↦ ever.kept t x pair word (sym (register_there t pair x same) ∙ kept)
       ]
     where
-      by_node : word_kept acted.state.pointers pair x ≡ Some word → was pair ≡ true
+      by_node : lay_word_kept acted.state.pointers pair x ≡ Some word → was pair ≡ true
       by_node here =
           elim (runs_or_ended acted.state.status) [
             | inl runs ↦ elim ((acting.turn.runs runs).hears.came x pair word here) [

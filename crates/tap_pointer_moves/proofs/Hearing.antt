@@ -21,7 +21,7 @@ use Rattle.tap_pointer.specs.Pointers.{PointersValue, all_withdrawn, lay_applied
 use Rattle.tap_pointer.specs.Reconcile.{reconciled, wanted_hop}
 use Rattle.tap_pointer.proofs.Known.{pair_cmp-equal}
 use Rattle.tap_pointer.proofs.Laws.{is_same, state_of-lay_applied, state_of-published, state_of-withdrawn}
-use Rattle.tap_pointer_moves.specs.Said.{LayWord, word_in_entry, word_kept}
+use Rattle.tap_pointer_moves.specs.Said.{LayWord, lay_word_kept, word_in_entry}
 
 -- whether the node publishes the object of a pair, as its server
 abbrev pub publishes : PointersValue → Pair → Bool
@@ -36,19 +36,19 @@ registers_of p pair = (state_of p pair).registers
 -- Words of senders about pairs are heard: the register of each pair and sender keeps what it had, or such a word that is newer; and if there
 -- is such a word, it keeps one that is no older.
 pub record Hears (Taken : List ℕ → Pair → LayWord → Type 0) (before after : PointersValue) : Type 0 where
-  pub came : (x : List ℕ) (pair : Pair) (word : LayWord) → word_kept after pair x ≡ Some word
-      → (word_kept before pair x ≡ Some word) ⊎ Taken x pair word
-  pub stays : (x : List ℕ) (pair : Pair) (word : LayWord) → word_kept before pair x ≡ Some word
-      → (word_kept after pair x ≡ Some word)
-      ⊎ ((new : LayWord) × Taken x pair new × (word_kept after pair x ≡ Some new) × (word.version < new.version))
+  pub came : (x : List ℕ) (pair : Pair) (word : LayWord) → lay_word_kept after pair x ≡ Some word
+      → (lay_word_kept before pair x ≡ Some word) ⊎ Taken x pair word
+  pub stays : (x : List ℕ) (pair : Pair) (word : LayWord) → lay_word_kept before pair x ≡ Some word
+      → (lay_word_kept after pair x ≡ Some word)
+      ⊎ ((new : LayWord) × Taken x pair new × (lay_word_kept after pair x ≡ Some new) × (word.version < new.version))
   pub took : (x : List ℕ) (pair : Pair) (new : LayWord) → Taken x pair new
-      → (word_kept after pair x ≡ Some new)
-      ⊎ ((word : LayWord) × (word_kept before pair x ≡ Some word) × (word_kept after pair x ≡ Some word) × (new.version ≤ word.version))
+      → (lay_word_kept after pair x ≡ Some new)
+      ⊎ ((word : LayWord) × (lay_word_kept before pair x ≡ Some word) × (lay_word_kept after pair x ≡ Some word) × (new.version ≤ word.version))
 
 -- nothing is heard
 pub hears_none : (Taken : List ℕ → Pair → LayWord → Type 0) (before after : PointersValue)
     → ((x : List ℕ) (pair : Pair) (word : LayWord) → Taken x pair word → ⊥)
-    → ((pair : Pair) (x : List ℕ) → word_kept after pair x ≡ word_kept before pair x) → Hears Taken before after
+    → ((pair : Pair) (x : List ℕ) → lay_word_kept after pair x ≡ lay_word_kept before pair x) → Hears Taken before after
 hears_none Taken before after none same = record {
   came = λ x pair word kept. inl (sym (same pair x) ∙ kept);
   stays = λ x pair word kept. inl (same pair x ∙ kept);
@@ -57,7 +57,7 @@ hears_none Taken before after none same = record {
 
 -- what is heard goes on to be kept if the registers stay after that
 pub hears_then : (Taken : List ℕ → Pair → LayWord → Type 0) (before between after : PointersValue) → Hears Taken before between
-    → ((pair : Pair) (x : List ℕ) → word_kept after pair x ≡ word_kept between pair x) → Hears Taken before after
+    → ((pair : Pair) (x : List ℕ) → lay_word_kept after pair x ≡ lay_word_kept between pair x) → Hears Taken before after
 hears_then Taken before between after hears same = record {
   came = λ x pair word kept. hears.came x pair word (sym (same pair x) ∙ kept);
   stays = λ x pair word kept. elim (hears.stays x pair word kept) [
@@ -113,19 +113,19 @@ module _ (p : PointersValue) (at : Pair) (from : List ℕ) (new : LayWord) where
 
   -- what is kept then of a pair and a sender: the newer one, or what was
   pub kept_heard : (pair : Pair) (x : List ℕ)
-      → ((x ≡ from) × (pair ≡ at) × (word_kept heard pair x ≡ Some (newer_word (word_kept p pair x) new)))
-      ⊎ (((x ≡ from) → (pair ≡ at) → ⊥) × (word_kept heard pair x ≡ word_kept p pair x))
+      → ((x ≡ from) × (pair ≡ at) × (lay_word_kept heard pair x ≡ Some (newer_word (lay_word_kept p pair x) new)))
+      ⊎ (((x ≡ from) → (pair ≡ at) → ⊥) × (lay_word_kept heard pair x ≡ lay_word_kept p pair x))
   kept_heard pair x = by_pair (is_same pair at) refl (is_eq (name_cmp from x)) refl
     where
-      state : word_kept heard pair x ≡ word_in_entry (entry_of name_cmp
+      state : lay_word_kept heard pair x ≡ word_in_entry (entry_of name_cmp
           (if is_same pair at then with_lay (state_of p at) from new.version (pointer_at new.level new.on)
           else state_of p pair).registers x)
       state = ap (λ (s : PairState). word_in_entry (entry_of name_cmp s.registers x))
           (state_of-lay_applied p at from new.version (pointer_at new.level new.on) pair)
 
       by_pair : (same : Bool) → is_same pair at ≡ same → (mine : Bool) → is_eq (name_cmp from x) ≡ mine
-          → ((x ≡ from) × (pair ≡ at) × (word_kept heard pair x ≡ Some (newer_word (word_kept p pair x) new)))
-          ⊎ (((x ≡ from) → (pair ≡ at) → ⊥) × (word_kept heard pair x ≡ word_kept p pair x))
+          → ((x ≡ from) × (pair ≡ at) × (lay_word_kept heard pair x ≡ Some (newer_word (lay_word_kept p pair x) new)))
+          ⊎ (((x ≡ from) → (pair ≡ at) → ⊥) × (lay_word_kept heard pair x ≡ lay_word_kept p pair x))
       by_pair false is mine own =
           inr (
             λ here there.
@@ -136,13 +136,13 @@ module _ (p : PointersValue) (at : Pair) (from : List ℕ) (new : LayWord) where
       by_pair true is true own =
           let here : x ≡ from = sym (name_cmp-equal from x own) in
           let there : pair ≡ at = pair_cmp-equal pair at (is_equal (pair_cmp pair at) is) in
-          let now : word_kept heard pair x ≡ Some (newer_word (word_kept p at from) new) =
+          let now : lay_word_kept heard pair x ≡ Some (newer_word (lay_word_kept p at from) new) =
           (rw is at state) ∙ kept_now (state_of p at) x ∙ rw own refl in
           inl (
             here,
             there,
-            now ∙ ap (λ q. Some (newer_word (word_kept p q from) new)) (sym there)
-                ∙ ap (λ y. Some (newer_word (word_kept p pair y) new)) (sym here),
+            now ∙ ap (λ q. Some (newer_word (lay_word_kept p q from) new)) (sym there)
+                ∙ ap (λ y. Some (newer_word (lay_word_kept p pair y) new)) (sym here),
           )
       by_pair true is false own =
           let there : pair ≡ at = pair_cmp-equal pair at (is_equal (pair_cmp pair at) is) in
@@ -150,7 +150,7 @@ module _ (p : PointersValue) (at : Pair) (from : List ℕ) (new : LayWord) where
             λ here same.
                 let wrong : false ≡ true = sym own ∙ ap (λ y. is_eq (name_cmp from y)) here ∙ ap is_eq (tied_itself nat_list_cmp_total from) in
                 cc,
-            (rw is at state) ∙ kept_now (state_of p at) x ∙ rw own refl ∙ ap (λ q. word_kept p q x) (sym there),
+            (rw is at state) ∙ kept_now (state_of p at) x ∙ rw own refl ∙ ap (λ q. lay_word_kept p q x) (sym there),
           )
 
   newer_either : (before : Option LayWord) → (newer_word before new ≡ new)
@@ -174,7 +174,7 @@ module _ (p : PointersValue) (at : Pair) (from : List ℕ) (new : LayWord) where
   hears_lay = record {
     came = λ x pair word kept. elim (kept_heard pair x) [
       | inl here ↦
-          elim (newer_either (word_kept p pair x)) [
+          elim (newer_either (lay_word_kept p pair x)) [
             | inl is ↦ let same : Some new ≡ Some word = sym (ap Some is) ∙ sym here.2 ∙ kept in
                 let one : new ≡ word = cc in inr (here.0, here.1, sym one)
             | inr old ↦ let same : Some old.0 ≡ Some word = sym (ap Some old.2) ∙ sym here.2 ∙ kept in
@@ -184,7 +184,7 @@ module _ (p : PointersValue) (at : Pair) (from : List ℕ) (new : LayWord) where
     ];
     stays = λ x pair word kept. elim (kept_heard pair x) [
       | inl here ↦
-          let now : word_kept heard pair x ≡ Some (newer_word (Some word) new) = here.2 ∙ ap (λ b. Some (newer_word b new)) kept in
+          let now : lay_word_kept heard pair x ≡ Some (newer_word (Some word) new) = here.2 ∙ ap (λ b. Some (newer_word b new)) kept in
           elim (newer_stays word) [
             | inl old ↦ inl (now ∙ ap Some old)
             | inr is ↦ inr (new, (here.0, here.1, refl), now ∙ ap Some is.0, is.1)
@@ -193,7 +193,7 @@ module _ (p : PointersValue) (at : Pair) (from : List ℕ) (new : LayWord) where
     ];
     took = λ x pair word taken. elim (kept_heard pair x) [
       | inl here ↦
-          elim (newer_either (word_kept p pair x)) [
+          elim (newer_either (lay_word_kept p pair x)) [
             | inl is ↦ inl (here.2 ∙ ap Some is ∙ ap Some (sym taken.2))
             | inr old ↦ inr (old.0, old.1, here.2 ∙ ap Some old.2, rw taken.2 old.3)
           ]
@@ -271,7 +271,7 @@ module _ (p : PointersValue) (object : List ℕ) where
   published_laid pair =
       ap (λ (s : PairState). s.laid) (state_of-published p object pair) ∙ now_read _ (λ s. s.laid) true (λ state. refl) pair
 
-  pub published_kept : (pair : Pair) (x : List ℕ) → word_kept (published p object) pair x ≡ word_kept p pair x
+  pub published_kept : (pair : Pair) (x : List ℕ) → lay_word_kept (published p object) pair x ≡ lay_word_kept p pair x
   published_kept pair x =
       ap (λ (s : PairState). word_in_entry (entry_of name_cmp s.registers x)) (state_of-published p object pair)
       ∙ now_read _ (λ s. word_in_entry (entry_of name_cmp s.registers x)) true (λ state. refl) pair
@@ -287,7 +287,7 @@ module _ (p : PointersValue) (object : List ℕ) where
   withdrawn_laid pair =
       ap (λ (s : PairState). s.laid) (state_of-withdrawn p object pair) ∙ now_read _ (λ s. s.laid) false (λ state. refl) pair
 
-  pub withdrawn_kept : (pair : Pair) (x : List ℕ) → word_kept (withdrawn p object) pair x ≡ word_kept p pair x
+  pub withdrawn_kept : (pair : Pair) (x : List ℕ) → lay_word_kept (withdrawn p object) pair x ≡ lay_word_kept p pair x
   withdrawn_kept pair x =
       ap (λ (s : PairState). word_in_entry (entry_of name_cmp s.registers x)) (state_of-withdrawn p object pair)
       ∙ now_read _ (λ s. word_in_entry (entry_of name_cmp s.registers x)) false (λ state. refl) pair
@@ -335,7 +335,7 @@ module _ (p : PointersValue) where
   pub all_withdrawn_laid : (pair : Pair) → laid_at (all_withdrawn p) pair ≡ laid_at p pair
   all_withdrawn_laid = read_changed (λ e. with_published e.1 false) _ (λ s. s.laid) p.pairs (λ e. refl)
 
-  pub all_withdrawn_kept : (pair : Pair) (x : List ℕ) → word_kept (all_withdrawn p) pair x ≡ word_kept p pair x
+  pub all_withdrawn_kept : (pair : Pair) (x : List ℕ) → lay_word_kept (all_withdrawn p) pair x ≡ lay_word_kept p pair x
   all_withdrawn_kept pair x =
       read_changed (λ e. with_published e.1 false) _ (λ s. word_in_entry (entry_of name_cmp s.registers x)) p.pairs (λ e. refl) pair
 
@@ -350,7 +350,7 @@ module _ (p : PointersValue) where
       ]
 
   module _ (t : TableValue) where
-    pub reconciled_kept : (pair : Pair) (x : List ℕ) → word_kept (reconciled t p) pair x ≡ word_kept p pair x
+    pub reconciled_kept : (pair : Pair) (x : List ℕ) → lay_word_kept (reconciled t p) pair x ≡ lay_word_kept p pair x
     reconciled_kept pair x =
         read_changed (λ e. record (e.1) { laid = wanted_hop t e }) _ (λ s. word_in_entry (entry_of name_cmp s.registers x)) p.pairs
         (λ e. refl) pair

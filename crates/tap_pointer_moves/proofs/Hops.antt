@@ -7,7 +7,7 @@ use Rattle.tap_pointer.specs.declared.hop.Hop.{Hop}
 use Rattle.tap_pointer.specs.Due.{hop_due}
 use Rattle.tap_pointer.specs.Reconcile.{is_same_hop, is_to}
 use Rattle.tap_pointer.proofs.Layings.{to_itself}
-use Rattle.tap_pointer_moves.specs.Told.{hop_at}
+use Rattle.tap_pointer_moves.specs.LaysTold.{hop_at}
 
 to_same : (a b : Hop) → is_to a b ≡ true → a.to ≡ b.to
 to_same a b same = name_cmp-equal a.to b.to (sym (texts_ties a.to b.to) ∙ same)

@@ -1,11 +1,11 @@
 pub mod Hearing
-pub mod Rules
-pub mod Numbers
+pub mod PointerRules
+pub mod RisingStamps
 pub mod Turns
 pub mod Hops
-pub mod Steps
+pub mod ActsKeep
 pub mod Wanted
-pub mod Moves
+pub mod PointersKept
 pub mod Levels
 pub mod Chains
 pub mod Paths

@@ -40,11 +40,11 @@ use Rattle.tap_safety_moves.specs.Sound.{Sound}
 use Rattle.tap_safety_moves.proofs.Consequences.{nothing_is_left}
 use Rattle.tap_safety_moves.proofs.Walks.{core_listed, core_read, read_core, tables_hole_free, walks_lead}
 use Rattle.tap_pointer_moves.specs.Paths.{IsPublished, PointersOnPaths, path_of}
-use Rattle.tap_pointer_moves.specs.Said.{IsLaySaid, LayWord, laid_in, laid_of, pointer_register_of, word_in_entry, word_kept, word_kept_in}
-use Rattle.tap_pointer_moves.specs.Told.{HasNoPointers, PointersStand, hop_at}
+use Rattle.tap_pointer_moves.specs.Said.{IsLaySaid, LayWord, laid_in, laid_of, lay_word_kept, pointer_register_of, word_in_entry, word_kept_in}
+use Rattle.tap_pointer_moves.specs.LaysTold.{HasNoPointers, PointersStand, hop_at}
 use Rattle.tap_pointer_moves.proofs.Chains.{IsWithin, chain_all, chain_next, entered_once, entry_at, in_turn}
 use Rattle.tap_pointer_moves.proofs.Levels.{IsHeldBy, held_at, held_below, held_if_level, level_if_held}
-use Rattle.tap_pointer_moves.proofs.Steps.{runs_hears}
+use Rattle.tap_pointer_moves.proofs.ActsKeep.{runs_hears}
 use Rattle.tap_pointer_moves.proofs.Wanted.{has_laid, laid_as_wanted, laid_at_core, level_known}
 
 -- an entry of a register, by the word that it keeps
@@ -161,12 +161,12 @@ module _ (p : SettingsValue) (s : System) (sound : Sound p s) (stand : PointersS
 
   module _ (pair : Pair) where
     kept_of : (h x : List ℕ) (node : NodeState) (word : LayWord) → s.node x ≡ Some node → IsLaySaid s h x pair word
-        → word_kept node.pointers pair h ≡ Some word
+        → lay_word_kept node.pointers pair h ≡ Some word
     unfolding pointer_register_of
     kept_of h x node word at (inl way) = let there = way.among in absurd (rw rest at there)
     kept_of h x node word at (inr kept) = sym (ap (λ n. word_kept_in n pair h) at) ∙ kept
 
-    said_of : (h x : List ℕ) (node : NodeState) (word : LayWord) → s.node x ≡ Some node → word_kept node.pointers pair h ≡ Some word
+    said_of : (h x : List ℕ) (node : NodeState) (word : LayWord) → s.node x ≡ Some node → lay_word_kept node.pointers pair h ≡ Some word
         → IsLaySaid s h x pair word
     unfolding pointer_register_of
     said_of h x node word at kept = inr (ap (λ n. word_kept_in n pair h) at ∙ kept)
@@ -191,7 +191,7 @@ module _ (p : SettingsValue) (s : System) (sound : Sound p s) (stand : PointersS
         → laid_of s entry.key pair ≡ Some (hop_at x entry.value.level)
     held_is_laid x node at core entry found on = by_laid (laid_there (laid_of s entry.key pair) x)
       where
-        kept : word_kept node.pointers pair entry.key ≡ Some (record { version = entry.version; level = entry.value.level; on = entry.value.on })
+        kept : lay_word_kept node.pointers pair entry.key ≡ Some (record { version = entry.version; level = entry.value.level; on = entry.value.on })
         kept = ap word_in_entry found
 
         by_laid : ((level : ℕ) × (laid_of s entry.key pair ≡ Some (hop_at x level)))

@@ -22,18 +22,18 @@ use Rattle.tap_safety.specs.Move.{may_start}
 use Rattle.tap_safety.specs.Move.Move.{Begins, Delivers}
 use Rattle.tap_safety.specs.Moved.{starter}
 use Rattle.tap_safety.specs.System.{System}
-use Rattle.tap_safety.proofs.Moves.{starts}
+use Rattle.tap_safety.proofs.Moved.{starts}
 use Rattle.tap_moves.specs.Delivered.{after_delivery, after_start}
 use Rattle.tap_moves.proofs.Got.{same_name}
 use Rattle.tap_safety_moves.specs.Sound.{Sound}
 use Rattle.tap_pointer_moves.specs.Publications.{FrameServes, IsLeaver, LeaversStay, LeavesOnce, StartServes, has_left, is_pair, is_served, publishes_in, served_after}
 use Rattle.tap_pointer_moves.specs.Said.{LayWord}
-use Rattle.tap_pointer_moves.specs.Told.{PointersStand}
+use Rattle.tap_pointer_moves.specs.LaysTold.{PointersStand}
 use Rattle.tap_pointer_moves.proofs.Hearing.{publishes}
-use Rattle.tap_pointer_moves.proofs.Moves.{acts, knows_nothing, now_is, others, start_acts, starts_of, starts_without, there_is_rule}
-use Rattle.tap_pointer_moves.proofs.Rules as rules
-use Rattle.tap_pointer_moves.proofs.Rules.{MayBecome, nothing_published}
-use Rattle.tap_pointer_moves.proofs.Steps.{Acts}
+use Rattle.tap_pointer_moves.proofs.PointersKept.{acts, knows_nothing, now_is, others, start_acts, starts_of, starts_without, there_is_rule}
+use Rattle.tap_pointer_moves.proofs.PointerRules as rules
+use Rattle.tap_pointer_moves.proofs.PointerRules.{MayBecome, nothing_published}
+use Rattle.tap_pointer_moves.proofs.ActsKeep.{Acts}
 
 -- ---- one node acts
 

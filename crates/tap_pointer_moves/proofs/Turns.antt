@@ -18,7 +18,7 @@ use Rattle.tap_rule.specs.Act.{act, carried_out, completed, follows, refuses}
 use Rattle.tap_rule.specs.Event.{Acted, Start}
 use Rattle.tap_rule.specs.Event.Event.{Starts, Takes}
 use Rattle.tap_rule.specs.FrameRules.{frame_at_core, frame_at_leaving, rule_of_frame}
-use Rattle.tap_rule.specs.Kept.{IsNode}
+use Rattle.tap_rule.specs.KeptNode.{IsNode}
 use Rattle.tap_rule.specs.Node.{IsRunning, NodeState, Status, name_of}
 use Rattle.tap_rule.specs.Node.Status.{Ceased, Core, Gone, Joining, Leaving}
 use Rattle.tap_rule.specs.Pointers.{reconciles}
@@ -29,12 +29,12 @@ use Rattle.tap_rule.specs.StartRules.{rule_of_start}
 use Rattle.tap_rule.specs.Strange.{is_strange}
 use Rattle.tap_rule.proofs.Among.{among-either, among-map, among-map_from, among-second}
 use Rattle.tap_moves.proofs.Got.{among_all}
-use Rattle.tap_pointer_moves.specs.Said.{LayWord, lay_word_frame, word_kept}
-use Rattle.tap_pointer_moves.specs.Told.{HasNoPointers}
+use Rattle.tap_pointer_moves.specs.Said.{LayWord, lay_word_frame, lay_word_kept}
+use Rattle.tap_pointer_moves.specs.LaysTold.{HasNoPointers}
 use Rattle.tap_pointer_moves.proofs.Hearing.{Hears, hears_none, hears_then, publishes, reconciled_kept, reconciled_laid, reconciled_publishes, reconciled_registers, registers_of}
-use Rattle.tap_pointer_moves.proofs.Numbers.{Rise, contains_among, rise_lower, rise_numbered}
-use Rattle.tap_pointer_moves.proofs.Rules.{ClearsAll, IsNoLay, KnowsByStatus, MayBecome, RuleTurn, SaysNoLay, frame_turn, may_stay, nothing_published, over_nothing, start_turn}
-use Rattle.tap_pointer_moves.proofs.Rules as rules
+use Rattle.tap_pointer_moves.proofs.RisingStamps.{Rise, contains_among, rise_lower, rise_numbered}
+use Rattle.tap_pointer_moves.proofs.PointerRules.{ClearsAll, IsNoLay, KnowsByStatus, MayBecome, RuleTurn, SaysNoLay, frame_turn, may_stay, nothing_published, over_nothing, start_turn}
+use Rattle.tap_pointer_moves.proofs.PointerRules as rules
 
 -- the Lay that says this to t of a pair
 abbrev pub lay_saying : List ℕ → Pair → LayWord → lay.Lay
@@ -81,8 +81,8 @@ pub nothing_laid : (p : PointersValue) → p.pairs ≡ [] → (pair : Pair) → 
 nothing_laid p none pair = ap (λ pairs. (state_among pairs pair).laid) none
 
 -- nothing is kept if nothing is known
-pub nothing_kept : (p : PointersValue) → p.pairs ≡ [] → (pair : Pair) (x : List ℕ) → word_kept p pair x ≡ None
-nothing_kept p none pair x = ap (λ pairs. word_kept (record { owner = p.owner; pairs = pairs }) pair x) none
+pub nothing_kept : (p : PointersValue) → p.pairs ≡ [] → (pair : Pair) (x : List ℕ) → lay_word_kept p pair x ≡ None
+nothing_kept p none pair x = ap (λ pairs. lay_word_kept (record { owner = p.owner; pairs = pairs }) pair x) none
 
 -- and there are no registers
 pub none_ascend : (p : PointersValue) → p.pairs ≡ [] → (pair : Pair) → IsAscending name_cmp (registers_of p pair)
@@ -273,7 +273,7 @@ module _ (node : NodeState) (is : IsNode node) (knows : KnowsByStatus node) wher
         record {
           before = before;
           stamp = let same : acted.state.stamp ≡ node.stamp = ap (λ (n : NodeState). n.stamp) state in omega (arith, same);
-          hears = hears_none Taken node.pointers acted.state.pointers (none before) (λ pair x. ap (λ (n : NodeState). word_kept n.pointers pair x) state);
+          hears = hears_none Taken node.pointers acted.state.pointers (none before) (λ pair x. ap (λ (n : NodeState). lay_word_kept n.pointers pair x) state);
           ascend = λ pair. subst (λ (n : NodeState). IsAscending name_cmp (registers_of n.pointers pair)) (sym state);
           nothing = λ joining.
               let status : acted.state.status ≡ node.status = ap (λ (n : NodeState). n.status) state in

@@ -25,9 +25,9 @@ use Rattle.tap_rule.proofs.Completed.{runs_or_ended}
 use Rattle.tap_safety.specs.System.{System}
 use Rattle.tap_safety_moves.specs.Sound.{Sound}
 use Rattle.tap_pointer_moves.specs.Said.{laid_in, laid_of}
-use Rattle.tap_pointer_moves.specs.Told.{IsSeasoned, IsSeasonedNode, KnowNothing}
+use Rattle.tap_pointer_moves.specs.LaysTold.{IsSeasoned, IsSeasonedNode, KnowNothing}
 use Rattle.tap_pointer_moves.specs.Wanted.{IsCoreHop, LaidAtCore, WantedHolds}
-use Rattle.tap_pointer_moves.proofs.Rules.{over_nothing}
+use Rattle.tap_pointer_moves.proofs.PointerRules.{over_nothing}
 use Rattle.tap_pointer_moves.proofs.Turns.{nothing_laid}
 
 -- what is so of each known pair that has a level is so of the pair

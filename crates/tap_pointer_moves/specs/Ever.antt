@@ -15,7 +15,7 @@ use Rattle.tap_safety.specs.Ties.{IsOnWay}
 use Rattle.tap_safety_moves.specs.Sound.{Sound}
 use Rattle.tap_pointer_moves.specs.Paths.{HoldsPair}
 use Rattle.tap_pointer_moves.specs.Said.{LayWord, laid_of, lay_word_frame, pointer_register_of}
-use Rattle.tap_pointer_moves.specs.Told.{PointersStand}
+use Rattle.tap_pointer_moves.specs.LaysTold.{PointersStand}
 
 -- Ever: of a pair that a node publishes, of which a register has a word, or of which a Lay is on its way, this was so
 pub record AreOfPublished (was : Pair → Bool) (s : System) : Type 0 where

@@ -1,7 +1,7 @@
 pub mod Said
-pub mod Told
+pub mod LaysTold
 pub mod Wanted
-pub mod Moves
+pub mod PointersKept
 pub mod Paths
 pub mod Publications
 pub mod Ever

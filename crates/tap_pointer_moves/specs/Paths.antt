@@ -10,7 +10,7 @@ use Rattle.tap_runs.specs.Observed.{nodes_of}
 use Rattle.tap_rule.specs.Node.{NodeState}
 use Rattle.tap_safety.specs.System.{System}
 use Rattle.tap_safety_moves.specs.Sound.{Sound}
-use Rattle.tap_pointer_moves.specs.Told.{PointersStand}
+use Rattle.tap_pointer_moves.specs.LaysTold.{PointersStand}
 
 -- x holds a pair: it publishes the object as its server, or the register of a sender is on
 pub record HoldsPair (s : System) (x : List ℕ) (pair : Pair) : Type 0 where

@@ -13,7 +13,7 @@ use Rattle.tap_safety.specs.Moved.{moved}
 use Rattle.tap_safety.specs.System.{System}
 use Rattle.tap_moves.specs.Delivered.{after_delivery, after_start}
 use Rattle.tap_safety_moves.specs.Sound.{Sound}
-use Rattle.tap_pointer_moves.specs.Told.{PointersStand}
+use Rattle.tap_pointer_moves.specs.LaysTold.{PointersStand}
 
 -- the node, if there is one, publishes the object of a pair as its server
 abbrev pub publishes_in : Option NodeState → Pair → Bool

@@ -31,12 +31,12 @@ word_in_entry None = None
 word_in_entry (Some e) = Some (record { version = e.version; level = e.value.level; on = e.value.on })
 
 -- what the register of a pair and a sender keeps
-abbrev pub word_kept : PointersValue → Pair → List ℕ → Option LayWord
-word_kept p pair x = word_in_entry (entry_of name_cmp (state_of p pair).registers x)
+abbrev pub lay_word_kept : PointersValue → Pair → List ℕ → Option LayWord
+lay_word_kept p pair x = word_in_entry (entry_of name_cmp (state_of p pair).registers x)
 
 abbrev pub word_kept_in : Option NodeState → Pair → List ℕ → Option LayWord
 word_kept_in None pair x = None
-word_kept_in (Some node) pair x = word_kept node.pointers pair x
+word_kept_in (Some node) pair x = lay_word_kept node.pointers pair x
 
 abbrev pub laid_in : Option NodeState → Pair → Option Hop
 laid_in None pair = None

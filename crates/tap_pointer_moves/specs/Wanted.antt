@@ -9,7 +9,7 @@ use Rattle.tap_rule.specs.Node.{IsRunning, NodeState}
 use Rattle.tap_safety.specs.System.{System, IsCoreNode}
 use Rattle.tap_safety_moves.specs.Sound.{Sound}
 use Rattle.tap_pointer_moves.specs.Said.{laid_of}
-use Rattle.tap_pointer_moves.specs.Told.{KnowNothing}
+use Rattle.tap_pointer_moves.specs.LaysTold.{KnowNothing}
 
 -- Wanted: a node that runs has laid each pair where it is wanted: at the next hop of the level at which it holds the pair. A pair that it
 -- doesn't hold, or of which it is the root, it has laid nowhere.

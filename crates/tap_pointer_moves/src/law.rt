@@ -1,4 +1,4 @@
-ghost use Rattle.tap_pointer_moves.specs.Moves.{PointersAtRest, PointersKept, PointersStandInRuns};
+ghost use Rattle.tap_pointer_moves.specs.PointersKept.{PointersAtRest, PointersKept, PointersStandInRuns};
 ghost use Rattle.tap_pointer_moves.specs.Ever.{EverAtRest, EverKept, HeldWasPublished, LaidWasPublished};
 ghost use Rattle.tap_pointer_moves.specs.Paths.{PointersOnPaths};
 ghost use Rattle.tap_pointer_moves.specs.Publications.{FrameServes, LeavesOnce, LeaversStay, StartServes};

@@ -1,4 +1,4 @@
 pub mod Pairs
 pub mod Unpaired
-pub mod Growing
+pub mod ServersGrow
 pub mod Runs

@@ -14,7 +14,7 @@ use Rattle.tap_log.specs.Kinds.{is_carried, withdrawn_pair}
 use Rattle.tap_history.specs.Core.{accepted_in, accepted_steps, departures_of}
 use Rattle.tap_history.specs.GroupLaws.{IsGroup, accepted_of}
 use Rattle.tap_history.specs.Published.{has_pair, pairs_less, published_of, same_pair, unwithdrawn_pairs, without_servers}
-use Rattle.tap_history.specs.Steps.{depart_name}
+use Rattle.tap_history.specs.StepAsks.{depart_name}
 use Rattle.tap_history.proofs.OneMoreGroup.{accepted_in-group, is_carried-group}
 use Rattle.tap_history.proofs.Telling.{published_of-group}
 

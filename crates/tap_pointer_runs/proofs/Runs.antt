@@ -14,7 +14,7 @@ use Rattle.tap_history.specs.Groups.{is_ended}
 use Rattle.tap_history.specs.Moments.{awaiting, is_none, is_rest, is_still, under_way}
 use Rattle.tap_history.specs.Published.{has_pair}
 use Rattle.tap_history.specs.Refusals.{first_refusal}
-use Rattle.tap_history.proofs.Growing.{record_changes_hold}
+use Rattle.tap_history.proofs.RecordChanges.{record_changes_hold}
 use Rattle.tap_rule.specs.Event.Event.{Takes}
 use Rattle.tap_rule.specs.Node.{NodeState}
 use Rattle.tap_safety.specs.AtRest.{system_at_rest}
@@ -25,16 +25,16 @@ use Rattle.tap_safety.specs.System.{System}
 use Rattle.tap_runs.specs.Beginning.{Beginning, IsWithinLimits, begin_record}
 use Rattle.tap_runs.specs.Course.{Follows, IsCourse, MayFollow, is_choice, move_of_group, move_of_start, moved_by, system_of}
 use Rattle.tap_runs.specs.Group.{received_records, start_at}
-use Rattle.tap_runs.specs.Laws.{frame_numbers}
+use Rattle.tap_runs.specs.CourseLaws.{frame_numbers}
 use Rattle.tap_runs.specs.Named.{HaveNames}
 use Rattle.tap_runs.specs.Observed.{pair_line}
 use Rattle.tap_runs.proofs.Frames.{course_frames_holds, starting_moves, step_moves, taken_moves}
-use Rattle.tap_runs.proofs.Growing.{by_groups, course_grows_holds, grown_system, start_system, starts_begun, starts_uncarried}
+use Rattle.tap_runs.proofs.CourseGrows.{by_groups, course_grows_holds, grown_system, start_system, starts_begun, starts_uncarried}
 use Rattle.tap_runs.proofs.Within.{IsIdle, step_kind, step_within, taken_within}
 use Rattle.tap_safety_moves.specs.Sound.{Sound}
 use Rattle.tap_safety_moves.proofs.Members.{node_is_member}
 use Rattle.tap_lawful.specs.Next.{beginning_in}
-use Rattle.tap_safe_runs.specs.Headline.{OfLawfulLogs}
+use Rattle.tap_safe_runs.specs.SafeLogs.{OfLawfulLogs}
 use Rattle.tap_safe_runs.specs.Moments.{AtEachMoment}
 use Rattle.tap_safe_runs.specs.Safe.{IsRun}
 use Rattle.tap_safe_runs.proofs.Lawful.{lawful_logs_are_safe}
@@ -43,11 +43,11 @@ use Rattle.tap_safe_runs.proofs.Safe.{run_at_moment, runs_are_sound, steps_after
 use Rattle.tap_pointer_moves.specs.Paths.{IsPublished}
 use Rattle.tap_pointer_moves.specs.Publications.{is_served, publishes_in}
 use Rattle.tap_pointer_moves.proofs.Ever.{ever_at_rest}
-use Rattle.tap_pointer_moves.proofs.Moves.{pointers_at_rest}
+use Rattle.tap_pointer_moves.proofs.PointersKept.{pointers_at_rest}
 use Rattle.tap_pointer_moves.proofs.Paths.{pointers_on_paths}
-use Rattle.tap_pointer_moves.proofs.Rules.{nothing_published}
+use Rattle.tap_pointer_moves.proofs.PointerRules.{nothing_published}
 use Rattle.tap_pointer_runs.specs.Paths.{KnownWerePublished, PointersOnTheirPaths, PointersStandIn, PublishedAreServed, was_published}
-use Rattle.tap_pointer_runs.proofs.Growing.{Grown, idle_grown, starting_grown, taken_grown}
+use Rattle.tap_pointer_runs.proofs.ServersGrow.{Grown, idle_grown, starting_grown, taken_grown}
 use Rattle.tap_pointer_runs.proofs.Unpaired.{IsUnpaired, StartsSome, act_unpaired, follow_unpaired}
 
 -- ---- one more group

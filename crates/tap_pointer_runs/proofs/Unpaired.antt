@@ -14,7 +14,7 @@ use Rattle.tap_surrogate.specs.Walk.{walk}
 use Rattle.tap_wire.specs.declared.fault.WireFault.{WireFault}
 use Rattle.tap_wire.specs.declared.frame.Frame.{Frame}
 use Rattle.tap_log.specs.Kinds.{published_pair, withdrawn_pair}
-use Rattle.tap_log.specs.Laws.{at_most_one}
+use Rattle.tap_log.specs.MoreRecords.{at_most_one}
 use Rattle.tap_log.specs.declared.record.LinkLine.{LinkLine}
 use Rattle.tap_log.specs.declared.record.NodeWord.{NodeWord}
 use Rattle.tap_log.specs.declared.record.Record.{Record}

@@ -17,7 +17,7 @@ use Rattle.tap_safe_runs.specs.Moments.{tables_of}
 use Rattle.tap_pointer_moves.specs.Ever.{AreOfPublished}
 use Rattle.tap_pointer_moves.specs.Paths.{HoldsPair}
 use Rattle.tap_pointer_moves.specs.Publications.{is_served}
-use Rattle.tap_pointer_moves.specs.Told.{PointersStand}
+use Rattle.tap_pointer_moves.specs.LaysTold.{PointersStand}
 
 -- the pair is one of the published ones of the log
 abbrev pub IsPublishedIn : List Record → Pair → Type 0

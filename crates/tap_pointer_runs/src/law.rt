@@ -1,4 +1,4 @@
-ghost use Rattle.tap_safe_runs.specs.Headline.{OfLawfulLogs};
+ghost use Rattle.tap_safe_runs.specs.SafeLogs.{OfLawfulLogs};
 ghost use Rattle.tap_safe_runs.specs.Moments.{AtEachMoment};
 ghost use Rattle.tap_pointer_runs.specs.Paths.{KnownWerePublished, PointersOnTheirPaths, PointersStandIn, PublishedAreServed};
 

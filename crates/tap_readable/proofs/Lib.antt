@@ -1,10 +1,10 @@
 pub mod Typed
-pub mod Rules
-pub mod Acts
-pub mod Moves
+pub mod TypedRules
+pub mod ReadableActs
+pub mod ReadableMoves
 pub mod Members
 pub mod Own
-pub mod Courses
+pub mod ReadableCourses
 pub mod RangeRules
 pub mod RangeActs
 pub mod RangeMoves

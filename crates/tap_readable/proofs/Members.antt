@@ -10,17 +10,17 @@ use Rattle.tap_link.specs.declared.kind.Kind.{Kind}
 use Rattle.tap_link.specs.declared.kind.Kind.TheVariants.{Leaving as LeavingKind, Pin, Settled}
 use Rattle.tap_table.specs.ByName.{targets_by_name}
 use Rattle.tap_table.proofs.Targets.{target_is_linked, targets-ascending}
-use Rattle.tap_rule.specs.Kept.{IsNode}
+use Rattle.tap_rule.specs.KeptNode.{IsNode}
 use Rattle.tap_rule.specs.Node.{NodeState, member_at_rest}
-use Rattle.tap_rule.proofs.Kept.{member_law}
+use Rattle.tap_rule.proofs.KeptNode.{member_law}
 use Rattle.tap_safety.specs.AtRest.{AreMembers, system_at_rest}
 use Rattle.tap_safety.specs.Invariant.{Basis}
 use Rattle.tap_safety.specs.Soft.{IsSoft}
 use Rattle.tap_safety.specs.System.{System, HasLink}
 use Rattle.tap_safety.proofs.AtRest.{at_rest_law}
-use Rattle.tap_moves.specs.Spelled.{IsNamedPair, IsParent}
+use Rattle.tap_moves.specs.KnownNames.{IsNamedPair, IsParent}
 use Rattle.tap_readable.proofs.Typed.{IsTypedParent}
-use Rattle.tap_readable.proofs.Moves.{IsReadable, IsReadableNode, Reads}
+use Rattle.tap_readable.proofs.ReadableMoves.{IsReadable, IsReadableNode, Reads}
 
 module _ (p : SettingsValue) (members : List (List ℕ)) (are : AreMembers p members) (few : length members ≤ 255) where
   abbrev s : System

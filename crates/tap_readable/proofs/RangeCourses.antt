@@ -30,7 +30,7 @@ use Rattle.tap_runs.specs.Beginning.{Beginning, begin_record}
 use Rattle.tap_runs.specs.Course.{Follows, IsCourse, MayFollow, move_of_group, moved_by, system_of}
 use Rattle.tap_runs.specs.Starts.{announced, next_cast}
 use Rattle.tap_runs.proofs.Frames.{course_frames_holds, starting_moves, step_moves, taken_moves}
-use Rattle.tap_runs.proofs.Growing.{by_groups, grown_system, start_system}
+use Rattle.tap_runs.proofs.CourseGrows.{by_groups, grown_system, start_system}
 use Rattle.tap_runs.proofs.Within.{IsIdle, IsStarting, step_kind}
 use Rattle.tap_readable.specs.Range.{HasNotMetNext, HasNumbersLeft, IsInRange, steps_with_room}
 use Rattle.tap_readable.specs.Ranges.{NumbersInRange}

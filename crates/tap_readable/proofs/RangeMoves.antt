@@ -15,9 +15,9 @@ use Rattle.tap_rule.specs.Event.Start.{Join}
 use Rattle.tap_rule.specs.Act.{act}
 use Rattle.tap_safety.specs.Move.Move.{Begins, Delivers}
 use Rattle.tap_safety.specs.Moved.{moved, numbered_frame, starter, without_frame}
-use Rattle.tap_safety.specs.Step.{numbered_from}
+use Rattle.tap_safety.specs.Exchanges.{numbered_from}
 use Rattle.tap_safety.specs.System.{System}
-use Rattle.tap_safety.proofs.Moves.{delivers, lost, starts}
+use Rattle.tap_safety.proofs.Moved.{delivers, lost, starts}
 use Rattle.tap_safety.proofs.Said.{Said, said_of}
 use Rattle.tap_safety.proofs.Said.Said.{IsCast}
 use Rattle.tap_readable.proofs.RangeRules.{AreMetTo, IsCastTo, StartsCastTo}

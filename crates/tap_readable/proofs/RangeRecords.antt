@@ -25,7 +25,7 @@ use Rattle.tap_runs.specs.Starts.{announced, next_cast, next_ticket, start_of_st
 use Rattle.tap_runs.proofs.Frames.{none_of}
 use Rattle.tap_runs.proofs.Nodes.{start_in}
 use Rattle.tap_runs.proofs.Within.{IsQuiet}
-use Rattle.tap_history.specs.Steps.{actor_of}
+use Rattle.tap_history.specs.StepAsks.{actor_of}
 use Rattle.tap_readable.proofs.RangeRules.{StartsCastTo}
 
 -- how many of these records tell so

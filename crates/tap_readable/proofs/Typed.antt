@@ -19,12 +19,12 @@ use Rattle.tap_table.specs.declared.tie.Tie.{Tie}
 use Rattle.tap_table.specs.Levels.{is_kept}
 use Rattle.tap_table.specs.Table.{TableValue}
 use Rattle.tap_table.specs.Ties.{TiesValue, off_ties, offer_tells, pin_tells, stamp_after, tie_where}
-use Rattle.tap_depart.specs.Told.{offer_tells_if}
+use Rattle.tap_depart.specs.ToldLeave.{offer_tells_if}
 use Rattle.tap_join.specs.Hello.{is_own, links_tell, offered_tells, with_offered, words_of}
 use Rattle.tap_pointer.specs.declared.lay.Lay.{Lay}
 use Rattle.tap_multicast.specs.declared.covers.Covered.{Covered}
 use Rattle.tap_multicast.specs.declared.covers.Covered.TheVariants.{Already, Now}
-use Rattle.tap_multicast.specs.Covers.{CoversValue, begun, cover_of, covered, level_kept}
+use Rattle.tap_multicast.specs.Covers.{CoversValue, begun_cover, cover_of, covered, level_kept}
 use Rattle.tap_multicast.specs.Offer.{answers, left}
 use Rattle.tap_watch.specs.Watch.{SlotsAscend}
 use Rattle.tap_rule.specs.Node.{NodeState}
@@ -195,7 +195,7 @@ covered_ascends covers t watch joiner prefix level ascends =
     by_first false = ascends
 
     by_kept : (kept : Bool)
-        → LeavesAscending (if kept then Already else begun t watch (cover_of t (level_kept covers joiner) joiner prefix level))
+        → LeavesAscending (if kept then Already else begun_cover t watch (cover_of t (level_kept covers joiner) joiner prefix level))
     by_kept true = tt
     by_kept false = by_first (cover_of t (level_kept covers joiner) joiner prefix level).first
 

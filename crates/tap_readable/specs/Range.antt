@@ -6,7 +6,7 @@ use Rattle.tap_cast.specs.Casts.{level_of_cast}
 use Rattle.tap_log.specs.declared.record.Record.{Record}
 use Rattle.tap_session.specs.Session.{most_sessions}
 use Rattle.tap_rule.specs.Node.{NodeState}
-use Rattle.tap_node_common.specs.Sound.{has_numbers_left, join_sessions_limit}
+use Rattle.tap_node_common.specs.SoundNode.{has_numbers_left, join_sessions_limit}
 use Rattle.tap_runs.specs.Starts.{next_cast}
 
 -- how many sessions of joins, and of casts, a node may open in a run, and what its stamp stays below

@@ -9,16 +9,16 @@ use Rattle.tap_log.specs.declared.record.Record.{Record}
 use Rattle.tap_log.specs.declared.record.Record.TheVariants.{Carrier, Finished, Spent as SpentRecord, Step as StepRecord}
 use Rattle.tap_log.specs.Kinds.{step_of}
 use Rattle.tap_log.specs.Log.{begun_steps}
-use Rattle.tap_log.proofs.Growing.{is_carried-push, last_of-push}
+use Rattle.tap_log.proofs.MoreRecords.{is_carried-push, last_of-push}
 use Rattle.tap_history.specs.Groups.{beginning_of}
 use Rattle.tap_runs.specs.Beginning.{begin_record}
-use Rattle.tap_runs.proofs.Growing.{starts_begun, starts_uncarried}
-use Rattle.tap_engine.specs.Kinds.{finishes, is_finished}
+use Rattle.tap_runs.proofs.CourseGrows.{starts_begun, starts_uncarried}
+use Rattle.tap_engine.specs.Kinds.{finishes_run, is_finished}
 use Rattle.tap_lawful.specs.Next.{beginning_in, begun_count}
 use Rattle.tap_runs.specs.Groups.{step_group, taken_group}
 use Rattle.tap_lawful.specs.Lawful.{IsFinished, IsPlayed, IsSpent, step_alone}
 use Rattle.tap_lawful.proofs.Coming.{coming}
-use Rattle.tap_lawful.proofs.Steps.{played_all, played_steps}
+use Rattle.tap_lawful.proofs.BegunSteps.{played_all, played_steps}
 use Rattle.tap_replay.specs.Player.{GoesOnUnless, HasEnded, MayTurn}
 use Rattle.tap_replay.specs.declared.end.End.{End}
 use Rattle.tap_replay.specs.declared.end.End.TheVariants.{Done, NoMemory, Spent}
@@ -81,8 +81,8 @@ finished_may s played log was finished =
 
 -- a log that ends with `Spent` has no `Finished`
 pub spent_so : (log : List Record) (limit : ℕ) → is_finished (log ++ SpentRecord limit ∷ []) ≡ false
-unfolding finishes
-spent_so log limit = ap (λ last. option_map_or finishes last false) (last_of-push log (SpentRecord limit))
+unfolding finishes_run
+spent_so log limit = ap (λ last. option_map_or finishes_run last false) (last_of-push log (SpentRecord limit))
 
 spent_all : (s : ScenarioValue) (log : List Record) (limit : ℕ) → is_finished (log ++ SpentRecord limit ∷ []) ≡ true
     → begun_steps (log ++ SpentRecord limit ∷ []) ≡ s.steps

@@ -10,23 +10,23 @@ use Rattle.tap_log.specs.declared.record.Record.TheVariants.{Begin, Finished, Sp
 use Rattle.tap_log.specs.Counts.{sent_count}
 use Rattle.tap_log.specs.Kinds.{is_carried, step_of}
 use Rattle.tap_log.specs.Log.{begun_steps}
-use Rattle.tap_log.proofs.Growing.{filter_map-same, last_of-push}
+use Rattle.tap_log.proofs.MoreRecords.{filter_map-same, last_of-push}
 use Rattle.tap_history.specs.Groups.{beginning_of}
 use Rattle.tap_runs.specs.Beginning.{Beginning, begin_record}
 use Rattle.tap_runs.specs.Course.{system_of}
 use Rattle.tap_runs.specs.Group.{step_records}
-use Rattle.tap_runs.proofs.Growing.{starts_begun}
-use Rattle.tap_engine.specs.Kinds.{finishes, is_finished}
+use Rattle.tap_runs.proofs.CourseGrows.{starts_begun}
+use Rattle.tap_engine.specs.Kinds.{finishes_run, is_finished}
 use Rattle.tap_engine.specs.World.{WorldValue}
 use Rattle.tap_lawful.specs.Next.{beginning_in, begun_count, group_after, next_group}
 use Rattle.tap_runs.specs.Groups.{step_group, taken_group}
 use Rattle.tap_lawful.specs.Lawful.{IsFinished, IsPlayed, IsSpent, step_alone}
-use Rattle.tap_lawful.specs.Laws.{BeginsAlike}
+use Rattle.tap_lawful.specs.PlayedLaws.{BeginsAlike}
 use Rattle.tap_lawful.proofs.Alike.{played_alike}
 use Rattle.tap_lawful.proofs.Coming.{BeginsNext, TakesDue, coming}
-use Rattle.tap_lawful.proofs.Steps.{played_all, played_steps}
+use Rattle.tap_lawful.proofs.BegunSteps.{played_all, played_steps}
 use Rattle.tap_replay.specs.Player.{HasEnded, IsLeft, MayTurn}
-use Rattle.tap_replay.specs.Run.{GoesOn, IsRunOf}
+use Rattle.tap_replay.specs.Run.{IsRunOf, WorldGoesOn}
 use Rattle.tap_replay.specs.declared.end.End.{End}
 use Rattle.tap_replay.specs.declared.end.End.TheVariants.{Done, NoMemory, Spent}
 use Rattle.tap_replay.specs.declared.run.Run.{Run}
@@ -126,7 +126,7 @@ module _ (s other : ScenarioValue) (log : List Record) (played : IsPlayed s log)
   still : IsPlayed other log
   still = other_played s other log log [] (sym (append-nil log)) played may
 
-  pub goes_on_alike : (w : WorldValue) → w.log ≡ log → GoesOn s w → GoesOn other w
+  pub goes_on_alike : (w : WorldValue) → w.log ≡ log → WorldGoesOn s w → WorldGoesOn other w
   goes_on_alike w is on = record {
     played = subst (IsPlayed other) (sym is) still;
     beginning = on.beginning ∙ sym (alike s other log log [] (sym (append-nil log)) played may).beginning;
@@ -178,8 +178,8 @@ spent_alike s other log played was spent may =
     )
 
 pub finished_so : (played : List Record) (steps : ℕ) → is_finished (played ++ Finished steps ∷ []) ≡ true
-unfolding finishes
-finished_so played steps = ap (λ last. option_map_or finishes last false) (last_of-push played (Finished steps))
+unfolding finishes_run
+finished_so played steps = ap (λ last. option_map_or finishes_run last false) (last_of-push played (Finished steps))
 
 -- a scenario by which a player may turn after the last step is the same
 finished_alike : (s other : ScenarioValue) (log played : List Record) → IsPlayed s played → IsFinished s played log → MayTurn other log

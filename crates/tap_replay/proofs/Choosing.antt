@@ -6,7 +6,7 @@ use Rattle.std.proofs.lemmas.Nat.{mod_below}
 use Rattle.tap_scenario.specs.declared.step.Step.{Step}
 use Rattle.tap_scenario.specs.declared.step.Step.TheVariants.{Deliver, Settle, SettleNewest, SettleMixed}
 use Rattle.tap_make.specs.Mixer.{drawn, high_half, mixed, state_after}
-use Rattle.tap_lawful.specs.Due.{Chosen, place_by, place_chosen, place_of}
+use Rattle.tap_lawful.specs.Due.{Chosen, place_below, place_by, place_chosen}
 use Rattle.tap_replay.specs.Choice.{begun_by, one_more_taken}
 
 -- ---- places
@@ -16,13 +16,13 @@ there_so : (place : ℕ) (b : Bool) → is_some (if b then Some place else None)
 there_so place true is = refl
 there_so place false is = absurd (cc)
 
-pub place_is : (chosen : Chosen) (count place : ℕ) (due : Bool) → place_by chosen count ≡ place_of count place → due ≡ true
+pub place_is : (chosen : Chosen) (count place : ℕ) (due : Bool) → place_by chosen count ≡ place_below count place → due ≡ true
     → due ≡ is_some (place_by chosen count) → Some place ≡ place_by chosen count
 place_is chosen count place due at is same =
     sym (at ∙ there_so place (nat_lt place count) (ap is_some (sym at) ∙ sym same ∙ is))
 
 -- whether there is one
-pub some_place : (count place : ℕ) → is_some (place_of count place) ≡ nat_lt place count
+pub some_place : (count place : ℕ) → is_some (place_below count place) ≡ nat_lt place count
 some_place count place = by_test (nat_lt place count)
   where
     by_test : (b : Bool) → is_some (if b then Some place else None) ≡ b
@@ -35,7 +35,7 @@ chosen_so : (chosen : Chosen) (step : Step) (count : ℕ) → chosen.step ≡ So
     → place_by chosen count ≡ place_chosen step chosen.taken count
 chosen_so chosen step count is = ap (option_and_then (λ s. place_chosen s chosen.taken count)) is
 
-pub deliver_place : (chosen : Chosen) (place count : ℕ) → chosen ≡ begun_by (Deliver place) → place_by chosen count ≡ place_of count place
+pub deliver_place : (chosen : Chosen) (place count : ℕ) → chosen ≡ begun_by (Deliver place) → place_by chosen count ≡ place_below count place
 unfolding place_chosen
 deliver_place chosen place count is = ap (λ c. place_by c count) is
 
@@ -44,38 +44,38 @@ once_more : (chosen : Chosen) (place count taken : ℕ) → chosen.step ≡ Some
     → place_by chosen count ≡ None
 unfolding place_chosen
 once_more chosen place count taken is more =
-    chosen_so chosen (Deliver place) count is ∙ ap (λ n. if nat_eq n 0 then place_of count place else None) more
-    ∙ ap (λ b. if b then place_of count place else None) (ne_eqb (suc taken) 0 (λ same. cc))
+    chosen_so chosen (Deliver place) count is ∙ ap (λ n. if nat_eq n 0 then place_below count place else None) more
+    ∙ ap (λ b. if b then place_below count place else None) (ne_eqb (suc taken) 0 (λ same. cc))
 
 pub deliver_once : (chosen : Chosen) (place count : ℕ) → chosen ≡ begun_by (Deliver place) → place_by (one_more_taken chosen) count ≡ None
 deliver_once chosen place count is =
     let more : chosen.taken + 1 ≡ suc 0 = ap (λ c. c.taken + 1) is in
     once_more (one_more_taken chosen) place count 0 (ap (λ c. c.step) is) more
 
-pub oldest_place : (chosen : Chosen) (count : ℕ) → chosen.step ≡ Some Settle → place_by chosen count ≡ place_of count 0
+pub oldest_place : (chosen : Chosen) (count : ℕ) → chosen.step ≡ Some Settle → place_by chosen count ≡ place_below count 0
 unfolding place_chosen
 oldest_place chosen count is = chosen_so chosen Settle count is
 
-pub newest_place : (chosen : Chosen) (count : ℕ) → chosen.step ≡ Some SettleNewest → place_by chosen count ≡ place_of count (count - 1)
+pub newest_place : (chosen : Chosen) (count : ℕ) → chosen.step ≡ Some SettleNewest → place_by chosen count ≡ place_below count (count - 1)
 unfolding place_chosen
 newest_place chosen count is = chosen_so chosen SettleNewest count is
 
 pub mixed_place : (chosen : Chosen) (count seed : ℕ) → chosen.step ≡ Some (SettleMixed seed)
-    → place_by chosen count ≡ place_of count (drawn seed chosen.taken % count)
+    → place_by chosen count ≡ place_below count (drawn seed chosen.taken % count)
 unfolding place_chosen
 mixed_place chosen count seed is = chosen_so chosen (SettleMixed seed) count is
 
 -- ---- a settle takes a frame if there is one
 
-pub oldest_due : (count : ℕ) → is_some (place_of count 0) ≡ nat_lt 0 count
+pub oldest_due : (count : ℕ) → is_some (place_below count 0) ≡ nat_lt 0 count
 oldest_due count = some_place count 0
 
-pub newest_due : (count : ℕ) → is_some (place_of count (count - 1)) ≡ nat_lt 0 count
+pub newest_due : (count : ℕ) → is_some (place_below count (count - 1)) ≡ nat_lt 0 count
 newest_due zero = some_place 0 0
 newest_due (suc count) =
     some_place (suc count) (suc count - 1) ∙ lt-ltb (suc count - 1) (suc count) (omega arith) ∙ sym (lt-ltb 0 (suc count) (omega arith))
 
-pub mixed_due : (count number : ℕ) → is_some (place_of count (number % count)) ≡ nat_lt 0 count
+pub mixed_due : (count number : ℕ) → is_some (place_below count (number % count)) ≡ nat_lt 0 count
 mixed_due zero number = some_place 0 (number % 0) ∙ le-ltb (number % 0) 0 (omega arith) ∙ sym (le-ltb 0 0 (omega arith))
 mixed_due (suc count) number =
     some_place (suc count) (number % suc count) ∙ lt-ltb (number % suc count) (suc count) (mod_below number (suc count) (omega arith))

@@ -6,7 +6,7 @@ use Rattle.tap_log.specs.declared.record.Record.TheVariants.{Spent as SpentRecor
 use Rattle.tap_engine.specs.Kinds.{is_finished}
 use Rattle.tap_lawful.specs.Lawful.{IsFinished, IsLogOf, IsSpent, IsWholeLogOf, step_alone}
 use Rattle.tap_lawful.proofs.OneLog.{one_log_holds}
-use Rattle.tap_replay.specs.Laws.{AreOneRun, RunsAreLawful}
+use Rattle.tap_replay.specs.LawfulRuns.{AreOneRun, RunsAreLawful}
 use Rattle.tap_replay.specs.Player.{HasEnded}
 use Rattle.tap_replay.specs.declared.end.End.{End}
 use Rattle.tap_replay.specs.declared.end.End.TheVariants.{Done, NoMemory, Spent}

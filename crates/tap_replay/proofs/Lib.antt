@@ -5,4 +5,4 @@ pub mod Alike
 pub mod Turning
 pub mod Again
 pub mod Lawfulness
-pub mod Headline
+pub mod RunHeadline

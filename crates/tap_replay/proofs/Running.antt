@@ -21,34 +21,34 @@ use Rattle.tap_history.proofs.Numbering.{range-append}
 use Rattle.tap_runs.specs.Beginning.{Beginning, begin_record}
 use Rattle.tap_runs.specs.Course.{MayFollow, system_of}
 use Rattle.tap_runs.proofs.Frames.{none_of}
-use Rattle.tap_runs.proofs.Growing.{starts_uncarried}
+use Rattle.tap_runs.proofs.CourseGrows.{starts_uncarried}
 use Rattle.tap_runs.proofs.Nodes.{no_steps}
 use Rattle.tap_runs.proofs.Within.{Within, step_within, taken_within}
-use Rattle.tap_engine.specs.Kinds.{begun_index, finishes, is_finished}
-use Rattle.tap_engine.specs.Outcome.{AnswersAs, IsNextIndex, MayGoOn, Outcome, adds, adds_within, deliver_outcome, is_within, spends, takes_number}
+use Rattle.tap_engine.specs.Kinds.{begun_index, finishes_run, is_finished}
+use Rattle.tap_engine.specs.Outcome.{IsNextIndex, MayGoOn, WorldAnswersAs, WorldOutcome, adds, adds_within, deliver_outcome, is_within, spends, takes_number}
 use Rattle.tap_engine.specs.World.{HasBegun, WorldValue}
 use Rattle.tap_engine.specs.declared.stop.Stop.{Stop}
 use Rattle.tap_engine.specs.declared.stop.Stop.TheVariants.{Ended, NoMemory, Refused, Spent}
-use Rattle.tap_lawful.specs.Due.{chosen_after, chosen_in, number_due, place_by, place_chosen, place_of}
+use Rattle.tap_lawful.specs.Due.{chosen_after, chosen_in, number_due, place_below, place_by, place_chosen}
 use Rattle.tap_lawful.specs.Next.{beginning_in, begun_count, group_after, next_group, next_step}
 use Rattle.tap_runs.specs.Groups.{step_group, taken_group}
 use Rattle.tap_lawful.specs.Lawful.{IsPlayed, step_alone}
-use Rattle.tap_lawful.specs.Laws.{index_of}
+use Rattle.tap_lawful.specs.PlayedLaws.{index_of}
 use Rattle.tap_lawful.proofs.Choosing.{chosen_by_frame, chosen_by_step}
 use Rattle.tap_lawful.proofs.Coming.{comes_may}
 use Rattle.tap_lawful.proofs.Played.{played_more, played_starts}
-use Rattle.tap_lawful.proofs.Steps.{played_all, played_indices}
+use Rattle.tap_lawful.proofs.BegunSteps.{played_all, played_indices}
 use Rattle.tap_replay.specs.Choice.{IsChoiceOf, begun_by, one_more_taken}
-use Rattle.tap_replay.specs.Run.{AddsGroup, AddsNext, GoesOn, HasAdded, HasLacked, IsRunOf}
-use Rattle.tap_replay.specs.Steps.{MayRun, run_outcome}
+use Rattle.tap_replay.specs.Run.{AddsGroup, AddsNext, HasAdded, HasLacked, IsRunOf, WorldGoesOn}
+use Rattle.tap_replay.specs.StepCalls.{MayRun, run_outcome}
 use Rattle.tap_replay.specs.declared.choice.Choice.TheVariants.{Nothing}
 use Rattle.tap_replay.specs.declared.run.Run.{Run}
 use Rattle.tap_replay.proofs.Stepping.{ended_not_short, failed, refused_not_short, spent_not_short, unless_goes, went_not_failed, went_not_short}
 
 -- ---- a world whose run isn't over
 
-unfinished_item : (item : Record) → ends_log item ≡ false → finishes item ≡ false
-unfolding ends_log finishes
+unfinished_item : (item : Record) → ends_log item ≡ false → finishes_run item ≡ false
+unfolding ends_log finishes_run
 unfinished_item (Finished steps) is = absurd (cc)
 unfinished_item item is = refl
 
@@ -57,7 +57,7 @@ unfinished [] is = refl
 unfinished (item ∷ []) is = unfinished_item item is
 unfinished (item ∷ next ∷ items) is = unfinished (next ∷ items) is
 
-module _ (s : ScenarioValue) (w : WorldValue) (on : GoesOn s w) where
+module _ (s : ScenarioValue) (w : WorldValue) (on : WorldGoesOn s w) where
   pub may_go_on : MayGoOn w
   may_go_on = record { noted = on.noted; unfinished = unfinished w.log on.played.going }
 
@@ -170,9 +170,9 @@ pub record HasChosen (log group : List Record) (after : Run) : Type 0 where
   pub begun : after.begun ≡ begun_count (log ++ group)
   pub choice : IsChoiceOf (chosen_in (log ++ group)) after.choice
 
-module _ (s : ScenarioValue) (group : List Record) (before after : Run) (on : GoesOn s before.world)
+module _ (s : ScenarioValue) (group : List Record) (before after : Run) (on : WorldGoesOn s before.world)
     (next : next_group s before.world.log ≡ Some group) (chosen : HasChosen before.world.log group after) where
-  goes_added : AnswersAs (adds before.world group) before.world (Ok tt) after.world → sent_count (before.world.log ++ group) ≤ s.frames
+  goes_added : WorldAnswersAs (adds before.world group) before.world (Ok tt) after.world → sent_count (before.world.log ++ group) ≤ s.frames
       → HasAdded s group before after
   goes_added so within =
       let other = went_not_short in
@@ -192,7 +192,7 @@ module _ (s : ScenarioValue) (group : List Record) (before after : Run) (on : Go
       }
 
   -- memory was refused
-  lacked : {outcome : Outcome} → AnswersAs outcome before.world (Err NoMemory) after.world → HasLacked s before after
+  lacked : {outcome : WorldOutcome} → WorldAnswersAs outcome before.world (Err NoMemory) after.world → HasLacked s before after
   lacked so =
       let short = so.memory refl in
       record {
@@ -201,7 +201,7 @@ module _ (s : ScenarioValue) (group : List Record) (before after : Run) (on : Go
       }
 
   added : (given : Result (Unit {0}) Stop) → sent_count (before.world.log ++ group) ≤ s.frames
-      → AnswersAs (adds before.world group) before.world given after.world → AddsGroup s group before given after
+      → WorldAnswersAs (adds before.world group) before.world given after.world → AddsGroup s group before given after
   added (Ok tt) within so = goes_added so within
   added (Err NoMemory) within so = lacked so
   added (Err Spent) within so = absurd (went_not_failed Spent (so.answer spent_not_short))
@@ -210,7 +210,7 @@ module _ (s : ScenarioValue) (group : List Record) (before after : Run) (on : Go
 
   spent : (given : Result (Unit {0}) Stop) (first : List Record) → step_alone group ≡ first
       → s.frames < sent_count (before.world.log ++ group)
-      → AnswersAs (spends before.world first) before.world given after.world → AddsGroup s group before given after
+      → WorldAnswersAs (spends before.world first) before.world given after.world → AddsGroup s group before given after
   spent (Err Spent) first alone over so = record {
     over = over;
     log =
@@ -230,7 +230,7 @@ module _ (s : ScenarioValue) (group : List Record) (before after : Run) (on : Go
 
   by_within : (given : Result (Unit {0}) Stop) (first : List Record) → step_alone group ≡ first → (within : Bool)
       → is_within before.world.beginning before.world.log group ≡ within
-      → AnswersAs (if within then adds before.world group else spends before.world first) before.world given after.world
+      → WorldAnswersAs (if within then adds before.world group else spends before.world first) before.world given after.world
       → AddsGroup s group before given after
   by_within given first alone true is so =
       added given (leb-true _ _ (ap (λ b. nat_le (sent_count (before.world.log ++ group)) b.frames) (sym on.beginning) ∙ is)) so
@@ -239,13 +239,13 @@ module _ (s : ScenarioValue) (group : List Record) (before after : Run) (on : Go
 
   -- the group that comes next is added as the outcome says
   pub adds_next : (given : Result (Unit {0}) Stop) (first : List Record) → step_alone group ≡ first
-      → AnswersAs (adds_within before.world first group) before.world given after.world → AddsNext s before given after
+      → WorldAnswersAs (adds_within before.world first group) before.world given after.world → AddsNext s before given after
   adds_next given first alone so =
       rw next (by_within given first alone (is_within before.world.beginning before.world.log group) refl so)
 
 -- ---- the frame that is due
 
-place_within : (count place other : ℕ) → place_of count place ≡ Some other → other < count
+place_within : (count place other : ℕ) → place_below count place ≡ Some other → other < count
 place_within count place other is = by_test (nat_lt place count) refl is
   where
     by_test : (b : Bool) → nat_lt place count ≡ b → (if b then Some place else None) ≡ Some other → other < count
@@ -259,7 +259,7 @@ chosen_within : (step : Step) (taken count place : ℕ) → place_chosen step ta
 unfolding place_chosen
 chosen_within (Deliver at) taken count place is = by_test (nat_eq taken 0) is
   where
-    by_test : (b : Bool) → (if b then place_of count at else None) ≡ Some place → place < count
+    by_test : (b : Bool) → (if b then place_below count at else None) ≡ Some place → place < count
     by_test true found = place_within count at place found
     by_test false found = absurd (cc)
 chosen_within Settle taken count place is = place_within count 0 place is
@@ -354,7 +354,7 @@ module _ (s : ScenarioValue) (before after : Run) (of : IsRunOf s before) (place
 
   pub frame_adds : (given : Result (Unit {0}) Stop) → after.begun ≡ before.begun
       → IsChoiceOf (one_more_taken (chosen_in before.world.log)) after.choice
-      → AnswersAs (deliver_outcome before.world place) before.world given after.world → AddsNext s before given after
+      → WorldAnswersAs (deliver_outcome before.world place) before.world given after.world → AddsNext s before given after
   frame_adds given begun choice so =
       let w = before.world in
       let next = frame_next s w.log due.number due.due in
@@ -366,7 +366,7 @@ module _ (s : ScenarioValue) (before after : Run) (of : IsRunOf s before) (place
       adds_next s group before after of.goes_on next (record {
         begun = begun ∙ of.begun ∙ sym (begun_by_frame s.settings w.log due.number may);
         choice = subst (λ c. IsChoiceOf c after.choice) (sym (chosen_by_frame s.settings w.log due.number may)) choice;
-      }) given [] (frame_stands s.settings w.log due.number) (subst (λ o. AnswersAs o w given after.world) outcome so)
+      }) given [] (frame_stands s.settings w.log due.number) (subst (λ o. WorldAnswersAs o w given after.world) outcome so)
 
 -- ---- a step begins
 
@@ -377,7 +377,7 @@ all_at P xs i x all at = subst P (get_or_from_slice_get xs i x x at) (all i x (s
 module _ (s : ScenarioValue) (before after : Run) (of : IsRunOf s before) (step : Step)
     (none : number_due before.world.log ≡ None) (at : next_step s before.world.log ≡ Some step) where
   pub step_adds : (given : Result (Unit {0}) Stop) → after.begun ≡ before.begun + 1 → IsChoiceOf (begun_by step) after.choice
-      → AnswersAs (run_outcome before.world (begun_count before.world.log + 1) step) before.world given after.world
+      → WorldAnswersAs (run_outcome before.world (begun_count before.world.log + 1) step) before.world given after.world
       → AddsNext s before given after
   step_adds given begun choice so =
       let w = before.world in
@@ -392,7 +392,7 @@ module _ (s : ScenarioValue) (before after : Run) (of : IsRunOf s before) (step 
       adds_next s group before after of.goes_on next (record {
         begun = begun ∙ ap (λ n. n + 1) of.begun ∙ sym (begun_by_step s.settings w.log index step may);
         choice = subst (λ c. IsChoiceOf c after.choice) (sym (chosen_by_step s.settings w.log index step may)) choice;
-      }) given first (step_stands s.settings w.log index step) (subst (λ o. AnswersAs o w given after.world) outcome so)
+      }) given first (step_stands s.settings w.log index step) (subst (λ o. WorldAnswersAs o w given after.world) outcome so)
 
 -- ---- all steps were run
 

@@ -12,26 +12,26 @@ use Rattle.tap_log.specs.declared.record.Refusal.TheVariants.{NoSuchFlight}
 use Rattle.tap_log.specs.Counts.{sent_count}
 use Rattle.tap_log.specs.Kinds.{sent_number, taken_number}
 use Rattle.tap_log.specs.Log.{last_of}
-use Rattle.tap_log.proofs.Growing.{filter_map-same, last_of-push, sent_count-append}
+use Rattle.tap_log.proofs.MoreRecords.{filter_map-same, last_of-push, sent_count-append}
 use Rattle.tap_history.specs.Moments.{numbers_less, outstanding}
 use Rattle.tap_history.specs.Refusals.{first_refusal, refused_if}
 use Rattle.std.specs.List.{filter_map}
 use Rattle.tap_runs.specs.Course.{is_choice, system_of}
 use Rattle.tap_runs.specs.Group.{records_unless, step_records}
 use Rattle.tap_engine.specs.Kinds.{may_be_refused}
-use Rattle.tap_engine.specs.Outcome.{AnswersAs, Outcome, adds, adds_within, mark_outcome, note_outcome, spends, stays, step_outcome, unless_refused, unless_stopped}
+use Rattle.tap_engine.specs.Outcome.{WorldAnswersAs, WorldOutcome, adds, adds_within, mark_outcome, note_outcome, spends, step_outcome, unless_refused, unless_stopped, world_stays}
 use Rattle.tap_runs.specs.Groups.{step_group}
 use Rattle.tap_engine.specs.World.{WorldValue}
 use Rattle.tap_engine.specs.declared.stop.Stop.{Stop}
 use Rattle.tap_engine.specs.declared.stop.Stop.TheVariants.{Ended, NoMemory, Refused, Spent}
 use Rattle.tap_lawful.proofs.Choices.{deliver_refusal, mixed_accepted, newest_accepted, settle_accepted}
 use Rattle.tap_lawful.proofs.Coming.{choice_alone}
-use Rattle.tap_replay.specs.Steps.{MayRun, run_outcome}
+use Rattle.tap_replay.specs.StepCalls.{MayRun, run_outcome}
 
 -- ---- a world that wasn't stopped
 
-pub unless_goes : (w : WorldValue) (outcome : Outcome) → w.stopped ≡ false → unless_stopped w outcome ≡ outcome
-unless_goes w outcome runs = ap (λ b. if b then stays w Ended else outcome) runs
+pub unless_goes : (w : WorldValue) (outcome : WorldOutcome) → w.stopped ≡ false → unless_stopped w outcome ≡ outcome
+unless_goes w outcome runs = ap (λ b. if b then world_stays w Ended else outcome) runs
 
 -- ---- answers
 
@@ -138,15 +138,15 @@ module _ (w v : WorldValue) (index : ℕ) (step : Step) (begun : HasBegunStep w 
   marked_count = ap (λ l. length (outstanding l)) begun.log ∙ ap length (step_outstanding w.log index step)
 
   pub noted_answers : (u : WorldValue) (refusal : Refusal) (given : Result (Unit {0}) Stop) → MayRun w
-      → first_refusal w.log step ≡ Some refusal → given ≢ Err NoMemory → AnswersAs (note_outcome v index refusal) v given u
-      → AnswersAs (run_outcome w index step) w given u
+      → first_refusal w.log step ≡ Some refusal → given ≢ Err NoMemory → WorldAnswersAs (note_outcome v index refusal) v given u
+      → WorldAnswersAs (run_outcome w index step) w given u
   noted_answers u refusal given may is other answers =
-      let note : Outcome = record (adds v (RefusedRecord index refusal ∷ [])) { refused = None } in
+      let note : WorldOutcome = record (adds v (RefusedRecord index refusal ∷ [])) { refused = None } in
       let goes : note_outcome v index refusal ≡ note = unless_goes v note begun.runs in
       let all : v.log ++ RefusedRecord index refusal ∷ [] ≡ w.log ++ StepRecord index step ∷ RefusedRecord index refusal ∷ [] =
       ap (λ l. l ++ RefusedRecord index refusal ∷ []) begun.log
       ∙ append_assoc w.log (StepRecord index step ∷ []) (RefusedRecord index refusal ∷ []) in
-      subst (λ o. AnswersAs o w given u) (sym (refused_outcome w may index step refusal is)) (record {
+      subst (λ o. WorldAnswersAs o w given u) (sym (refused_outcome w may index step refusal is)) (record {
         answer = λ _. answers.answer other ∙ ap (λ o. o.answer) goes;
         log = λ _. answers.log other ∙ ap (λ o. o.log) goes ∙ all;
         refused = λ _. answers.refused other ∙ ap (λ o. o.refused) goes ∙ sym may.goes_on.noted;
@@ -164,14 +164,14 @@ pub record HasRefused (w v : WorldValue) (index : ℕ) (step : Step) (refusal : 
   pub noted : v.refused ≡ Some refusal
 
 module _ (w v : WorldValue) (index : ℕ) (step : Step) (refusal : Refusal) (runs : w.stopped ≡ false)
-    (answers : AnswersAs (step_outcome w index step) w (Err (Refused refusal)) v) where
+    (answers : WorldAnswersAs (step_outcome w index step) w (Err (Refused refusal)) v) where
   by_within : (within : Bool) (group : List Record)
       → failed (Refused refusal) ≡ (if within then adds w group else spends w (StepRecord index step ∷ [])).answer → ⊥
   by_within true group is = cc
   by_within false group is = cc
 
   by_refusal : (first : Option Refusal) → first_refusal w.log step ≡ first
-      → AnswersAs (unless_refused w index step first) w (Err (Refused refusal)) v → HasRefused w v index step refusal
+      → WorldAnswersAs (unless_refused w index step first) w (Err (Refused refusal)) v → HasRefused w v index step refusal
   by_refusal None is so =
       absurd (by_within _ (step_group w.beginning.settings w.log index step) (so.answer (refused_not_short refusal)))
   by_refusal (Some why) is so =
@@ -185,7 +185,7 @@ module _ (w v : WorldValue) (index : ℕ) (step : Step) (refusal : Refusal) (run
   pub has_refused : HasRefused w v index step refusal
   has_refused =
       by_refusal (first_refusal w.log step) refl
-      (subst (λ o. AnswersAs o w (Err (Refused refusal)) v) (unless_goes w (unless_refused w index step (first_refusal w.log step)) runs) answers)
+      (subst (λ o. WorldAnswersAs o w (Err (Refused refusal)) v) (unless_goes w (unless_refused w index step (first_refusal w.log step)) runs) answers)
 
 -- ---- a settle is never refused
 
@@ -226,7 +226,7 @@ unfolding may_be_refused
 deliver_refusable place = refl
 
 -- a choice that is marked has begun
-pub has_marked : (w v : WorldValue) (index : ℕ) (step : Step) → w.stopped ≡ false → AnswersAs (mark_outcome w index step) w (Ok tt) v
+pub has_marked : (w v : WorldValue) (index : ℕ) (step : Step) → w.stopped ≡ false → WorldAnswersAs (mark_outcome w index step) w (Ok tt) v
     → HasBegunStep w v index step
 has_marked w v index step runs answers =
     let goes = unless_goes w (adds w (StepRecord index step ∷ [])) runs in

@@ -10,7 +10,7 @@ use Rattle.tap_engine.specs.declared.stop.Stop.{Stop}
 use Rattle.tap_engine.specs.declared.stop.Stop.TheVariants.{Ended as StopEnded, NoMemory as StopNoMemory, Refused as StopRefused, Spent as StopSpent}
 use Rattle.tap_lawful.specs.Next.{next_group}
 use Rattle.tap_lawful.specs.Lawful.{IsPlayed, step_alone}
-use Rattle.tap_lawful.specs.Laws.{left_of}
+use Rattle.tap_lawful.specs.PlayedLaws.{left_of}
 use Rattle.tap_lawful.proofs.Less.{less_left}
 use Rattle.tap_replay.specs.Player.{IsLeft, TurnsAs, end_of}
 use Rattle.tap_replay.specs.Run.{AddsComing, AddsGroup, AddsNext, IsRunOf}

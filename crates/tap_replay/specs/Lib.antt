@@ -1,7 +1,7 @@
 pub mod Choice
-pub mod Steps
+pub mod StepCalls
 pub mod Turn
 pub mod Run
 pub mod Player
 pub mod Whole
-pub mod Laws
+pub mod LawfulRuns

@@ -13,7 +13,7 @@ use Rattle.tap_engine.specs.declared.stop.Stop.{Stop}
 use Rattle.tap_engine.specs.declared.stop.Stop.TheVariants.{Spent as StopSpent}
 use Rattle.tap_lawful.specs.Next.{beginning_in, begun_count}
 use Rattle.tap_lawful.specs.Lawful.{IsFinished, IsPlayed, IsSpent}
-use Rattle.tap_replay.specs.Run.{GoesOn, IsRunOf}
+use Rattle.tap_replay.specs.Run.{IsRunOf, WorldGoesOn}
 use Rattle.tap_replay.specs.Turn.{TurnOutcome, turn_outcome}
 use Rattle.tap_replay.specs.declared.end.End.{End}
 use Rattle.tap_replay.specs.declared.end.End.TheVariants.{Done, Spent, NoMemory}
@@ -51,7 +51,7 @@ pub record IsLeft (s : ScenarioValue) (end : End) (w : WorldValue) : Type 0 wher
 
 -- the player has run the scenario so far
 abbrev pub HasPlayed : ScenarioValue → PlayerValue → Type 0
-HasPlayed s p = MatchOption p.over (GoesOn s p.world) (λ end. IsLeft s end p.world)
+HasPlayed s p = MatchOption p.over (WorldGoesOn s p.world) (λ end. IsLeft s end p.world)
 
 -- ---- turns
 
@@ -79,8 +79,8 @@ pub record TurnsAs (outcome : TurnOutcome) (before : List Record) (given : Turne
   pub memory : given ≡ Over NoMemory → after ≡ before
 
 -- a run that is over stays as it is; another one takes its turn
-abbrev pub Turns : ScenarioValue → PlayerValue → Turned → PlayerValue → Type 0
-Turns s before given after =
+abbrev pub TakesTurn : ScenarioValue → PlayerValue → Turned → PlayerValue → Type 0
+TakesTurn s before given after =
     MatchOption before.over (TurnsAs (turn_outcome s before.world.log) before.world.log given after.world.log)
     (λ end. (given ≡ Over end) × (after ≡ before))
 

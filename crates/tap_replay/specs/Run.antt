@@ -16,7 +16,7 @@ use Rattle.tap_replay.specs.Choice.{IsChoiceOf}
 use Rattle.tap_replay.specs.declared.run.Run.{Run}
 
 -- the world goes on, and its log is that of a run of the scenario which isn't over
-pub record GoesOn (s : ScenarioValue) (w : WorldValue) : Type 0 where
+pub record WorldGoesOn (s : ScenarioValue) (w : WorldValue) : Type 0 where
   pub played : IsPlayed s w.log
   pub beginning : w.beginning ≡ beginning_in s
   pub noted : w.refused ≡ None
@@ -24,7 +24,7 @@ pub record GoesOn (s : ScenarioValue) (w : WorldValue) : Type 0 where
 
 -- a run of the scenario that isn't over, with the number of the steps that were begun, and what the last one has chosen
 pub record IsRunOf (s : ScenarioValue) (run : Run) : Type 0 where
-  pub goes_on : GoesOn s run.world
+  pub goes_on : WorldGoesOn s run.world
   pub begun : run.begun ≡ begun_count run.world.log
   pub choice : IsChoiceOf (chosen_in run.world.log) run.choice
 

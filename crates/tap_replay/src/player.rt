@@ -1,7 +1,7 @@
 ghost use Rattle.std.specs.Prelude.{◌≡◌, ◌<◌, IfOk};
-ghost use Rattle.tap_lawful.specs.Laws.{left_of};
+ghost use Rattle.tap_lawful.specs.PlayedLaws.{left_of};
 ghost use Rattle.tap_lawful.specs.Next.{beginning_in};
-ghost use Rattle.tap_replay.specs.Player.{HasPlayed, MayTurn, Turns, over_by};
+ghost use Rattle.tap_replay.specs.Player.{HasPlayed, MayTurn, TakesTurn, over_by};
 ghost use Rattle.tap_headline.specs.Scripts.{RunHasHeadline};
 ghost use Rattle.tap_scenario.specs.Scenario.{EachStepIsPlayed};
 
@@ -76,7 +76,7 @@ impl Player {
     pub fn turn(&mut self, scenario: &Scenario) -> Turned
         requires script { MayTurn scenario.now self.old.world.log }
         requires plays { EachStepIsPlayed scenario.now }
-        ensures turns { Turns scenario.now self.old result self.new }
+        ensures turns { TakesTurn scenario.now self.old result self.new }
         ensures over { self.new.over ≡ over_by result }
         ensures played { HasPlayed scenario.now self.new }
         ensures may { MayTurn scenario.now self.new.world.log }

@@ -2,7 +2,7 @@ ghost use Rattle.std.specs.Prelude.{◌≡◌, ◌<◌, [], ◌∷◌, ◌++◌,
 ghost use Rattle.tap_lawful.specs.Due.{number_due};
 ghost use Rattle.tap_log.specs.declared.record.Record.TheVariants.{Finished};
 ghost use Rattle.tap_lawful.specs.Next.{next_group};
-ghost use Rattle.tap_lawful.specs.Laws.{left_of};
+ghost use Rattle.tap_lawful.specs.PlayedLaws.{left_of};
 ghost use Rattle.tap_replay.specs.Player.{GoesOnUnless, IsLeft, TurnsAs, end_of, over_by};
 ghost use Rattle.tap_replay.specs.Run.{AddsNext, IsRunOf};
 ghost use Rattle.tap_scenario.specs.Scenario.{EachStepIsPlayed};

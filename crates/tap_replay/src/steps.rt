@@ -1,7 +1,7 @@
 ghost use Rattle.std.specs.Prelude.{false, IsTrue, Some};
 ghost use Rattle.tap_scenario.specs.Step.{IsStep, is_played};
-ghost use Rattle.tap_engine.specs.Outcome.{AnswersAs, IsNextIndex, MayGoOn, step_outcome};
-ghost use Rattle.tap_replay.specs.Steps.{IsCallOf, MayRun, run_outcome};
+ghost use Rattle.tap_engine.specs.Outcome.{IsNextIndex, MayGoOn, WorldAnswersAs, step_outcome};
+ghost use Rattle.tap_replay.specs.StepCalls.{IsCallOf, MayRun, run_outcome};
 
 use tap_log::Refusal;
 use tap_scenario::Step;
@@ -16,7 +16,7 @@ pub(crate) enum Call {
 }
 
 // The call that adds the group of a step, `None` if the step only chooses what is taken next.
-#[tactic(auto, unfolding(tap_runs::specs::Course::is_choice, tap_engine::specs::Kinds::observes, tap_engine::specs::Kinds::damages, tap_history::specs::Steps::actor_of))]
+#[tactic(auto, unfolding(tap_runs::specs::Course::is_choice, tap_engine::specs::Kinds::observes, tap_engine::specs::Kinds::damages, tap_history::specs::StepAsks::actor_of))]
 fn call_of(step: &Step) -> Option<Call>
     ensures { IsCallOf step.now result }
 {
@@ -42,7 +42,7 @@ fn try_step(world: &mut World, index: u32, step: &Step, call: Call) -> Result<()
     requires next { IsNextIndex world.old index }
     requires call { IsCallOf step.now (Some call) }
     requires names { IsStep world.old.beginning.settings false step.now }
-    ensures { AnswersAs (step_outcome world.old index step.now) world.old result world.new }
+    ensures { WorldAnswersAs (step_outcome world.old index step.now) world.old result world.new }
 {
     match call {
         Call::Start => world.start(index, step),
@@ -55,7 +55,7 @@ fn try_step(world: &mut World, index: u32, step: &Step, call: Call) -> Result<()
 fn choose_place(world: &mut World, index: u32, place: u32) -> Result<(), Stop>
     requires may { MayRun world.old }
     requires next { IsNextIndex world.old index }
-    ensures { AnswersAs (run_outcome world.old index (Step.Deliver place)) world.old result world.new }
+    ensures { WorldAnswersAs (run_outcome world.old index (Step.Deliver place)) world.old result world.new }
 {
     world.mark(index, &Step::Deliver { place })?;
     let count = world.outstanding();
@@ -71,7 +71,7 @@ pub(crate) fn run_step(world: &mut World, index: u32, step: &Step) -> Result<(),
     requires next { IsNextIndex world.old index }
     requires played { IsTrue (is_played step.now) }
     requires names { IsStep world.old.beginning.settings false step.now }
-    ensures { AnswersAs (run_outcome world.old index step.now) world.old result world.new }
+    ensures { WorldAnswersAs (run_outcome world.old index step.now) world.old result world.new }
 {
     if let Step::Deliver { place } = step {
         return choose_place(world, index, *place);

@@ -7,15 +7,15 @@ use Rattle.std.proofs.lemmas.List.Elements.{filter_map-append}
 use Rattle.tap_log.specs.declared.record.Record.{Record}
 use Rattle.tap_log.specs.declared.record.Record.TheVariants as rec
 use Rattle.tap_log.specs.Kinds.{accepts, begin_members, is_carried, step_of}
-use Rattle.tap_history.specs.Steps.{depart_name}
+use Rattle.tap_history.specs.StepAsks.{depart_name}
 use Rattle.tap_history.specs.Core.{accepted_step, accepted_steps, departures_of, members_of}
 use Rattle.tap_history.specs.RecordLaws.{accepted_next}
-use Rattle.tap_log.specs.Laws.{at_most_one}
+use Rattle.tap_log.specs.MoreRecords.{at_most_one}
 use Rattle.tap_log.specs.Log.{last_of}
-use Rattle.tap_history.proofs.Growing.{accepted_steps-push}
-use Rattle.tap_log.proofs.Growing.{last_of-push}
+use Rattle.tap_history.proofs.RecordChanges.{accepted_steps-push}
+use Rattle.tap_log.proofs.MoreRecords.{last_of-push}
 use Rattle.tap_report.specs.Summary.{departed_after, is_departed, last_departure}
-use Rattle.tap_report.specs.Tally.{accepted_after, asked_by, asked_last, departures_after, departures_known, log_opening, members_after, opening_after, opens_carried}
+use Rattle.tap_report.specs.Tally.{asked_last, departure_accepted_after, departure_asked_by, departures_after, departures_known, log_opening, members_after, opening_after, opens_carried}
 use Rattle.tap_report.specs.declared.opening.Opening.TheVariants.{Carried, Plain}
 
 -- ---- the opening
@@ -57,7 +57,7 @@ members-push (first ∷ items) item = sym (later_members first items (length (be
 -- ---- the departure that was accepted last
 
 asks_one : (b : Bool) (last : Record) → filter_map depart_name (at_most_one (if b then step_of last else None))
-    ≡ at_most_one (if b then asked_by last else None)
+    ≡ at_most_one (if b then departure_asked_by last else None)
 asks_one false last = refl
 asks_one true (rec.Step index step) = refl
 asks_one true last = refl
@@ -84,7 +84,7 @@ where_accepted false asked before = refl
 
 -- the departure that was accepted last, with one record more
 pub last_departure-push : (log : List Record) (item : Record)
-    → last_departure (log ++ item ∷ []) ≡ accepted_after (is_carried log) (departures_known log) item
+    → last_departure (log ++ item ∷ []) ≡ departure_accepted_after (is_carried log) (departures_known log) item
 last_departure-push log item =
     let carried = is_carried log in
     let asked = asked_last (last_of log) in

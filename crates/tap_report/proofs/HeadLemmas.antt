@@ -14,7 +14,7 @@ use Rattle.tap_wire.specs.Names.{receiver_in, sender_in}
 use Rattle.tap_wire.specs.Reading.{head_of, opening_of}
 use Rattle.tap_wire.proofs.Openings.{opening_parts}
 use Rattle.tap_wire.proofs.Pieces.{name_taken}
-use Rattle.tap_wire.proofs.Steps.{bind_ok, digits_ok}
+use Rattle.tap_wire.proofs.ReadingSteps.{bind_ok, digits_ok}
 
 -- the head that is read in place
 abbrev pub head_in : SettingsValue → List ℕ → Head

@@ -11,7 +11,7 @@ use Rattle.tap_report.specs.Summary.{ending}
 use Rattle.tap_report.specs.Tally.{numbers_in}
 use Rattle.tap_report.specs.Text.{IsBegin, IsPrintable, IsPrintableLog, BeginsAfter, BeginsOnce, texts_after, text_of_record, text_of_log, settings_after, settings_so_far}
 use Rattle.tap_report.specs.Written.{WritesText}
-use Rattle.tap_report.specs.Reporter.{ReporterValue, Puts, PutsAll, Finishes, PutsEach, PutsWriteTheText, Reports, kept_after, new_reporter}
+use Rattle.tap_report.specs.Reporter.{ReporterValue, PutsRecord, PutsAll, Finishes, PutsEach, PutsWriteTheText, Reports, kept_after, new_reporter}
 use Rattle.tap_report.specs.declared.mode.Mode.{Mode}
 use Rattle.tap_report.specs.declared.written.Written.{Written}
 use Rattle.tap_report.specs.declared.written.Written.TheVariants.{All as AllWritten}
@@ -32,7 +32,7 @@ Reports-new mode state =
 
 -- one put more
 pub Reports-put : {mode : Mode} {records : List Record} {old mid new : SinkState} {before after : ReporterValue} {item : Record}
-    {written : Written} → Reports mode records old mid before → Puts before after item mid new written
+    {written : Written} → Reports mode records old mid before → PutsRecord before after item mid new written
     → Reports mode (records ++ item ∷ []) old new after
 Reports-put {mode = mode} {records = records} {mid = mid} {new = new} {before = before} {item = item} {written = written} r p =
     let text =
@@ -76,7 +76,7 @@ Reports-finish {mode = mode} {records = records} {mid = mid} {new = new} {before
 -- the put of the next record of a log
 pub Reports-next : {mode : Mode} {old mid new : SinkState} {before after : ReporterValue} {written : Written} (records : List Record)
     (i : ℕ) (item : Record) → i < length records → item ≡ get_or records i item → Reports mode (take i records) old mid before
-    → Puts before after item mid new written → Reports mode (take (i + 1) records) old new after
+    → PutsRecord before after item mid new written → Reports mode (take (i + 1) records) old new after
 Reports-next {mode = mode} {old = old} {new = new} {after = after} records i item inside is r p =
     subst (λ l. Reports mode l old new after) (sym (take_next records i item inside is)) (Reports-put r p)
 

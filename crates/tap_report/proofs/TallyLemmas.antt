@@ -6,10 +6,10 @@ use Rattle.std.proofs.lemmas.List.Sums.{fold-append}
 use Rattle.tap_name.specs.Settings.{SettingsValue}
 use Rattle.tap_log.specs.declared.record.Record.{Record}
 use Rattle.tap_log.specs.Kinds.{core_name, sent_number}
-use Rattle.tap_log.specs.Laws.{at_most_one}
-use Rattle.tap_log.proofs.Growing.{filter_map-push}
+use Rattle.tap_log.specs.MoreRecords.{at_most_one}
+use Rattle.tap_log.proofs.MoreRecords.{filter_map-push}
 use Rattle.tap_report.specs.Summary.{ending, finds_server, hops_in, is_gone, numbers_of}
-use Rattle.tap_report.specs.Tally.{CountsWithin, accepted_after, departures_after, departures_known, is_core, is_sent, numbers_in, opening_after, opens_carried, tally_after, tally_of}
+use Rattle.tap_report.specs.Tally.{CountsWithin, departure_accepted_after, departures_after, departures_known, is_core_record, is_sent, numbers_in, opening_after, opens_carried, tally_after, tally_of}
 use Rattle.tap_report.specs.Reporter.{kept_after, kept_of}
 use Rattle.tap_report.specs.declared.mode.Mode.{Mode}
 use Rattle.tap_report.specs.declared.mode.Mode.TheVariants.{Long, Brief, Summary}
@@ -51,8 +51,8 @@ one false = omega arith
 -- one record more counts once at most
 pub CountsWithin-after : (most : ℕ) (t : Tally) (item : Record) → CountsWithin most t → CountsWithin (most + 1) (tally_after t item)
 CountsWithin-after most t item w =
-    let core = one (is_core item) in
-    let gone = one (is_gone (accepted_after (opens_carried t.opening) t.departures item) item) in
+    let core = one (is_core_record item) in
+    let gone = one (is_gone (departure_accepted_after (opens_carried t.opening) t.departures item) item) in
     let frames = one (is_sent item) in
     let answered = one (finds_server item) in
     record {

@@ -13,7 +13,7 @@ use Rattle.tap_name.specs.Settings.{SettingsValue}
 use Rattle.tap_log.specs.declared.record.Record.{Record}
 use Rattle.tap_log.specs.declared.record.Record.TheVariants.{Begin}
 use Rattle.tap_report.specs.Shapes.{line}
-use Rattle.tap_report.specs.Lookups.{node_at}
+use Rattle.tap_report.specs.Lookups.{node_on_path}
 use Rattle.tap_report.specs.Text.{IsBegin, IsPrintable, ArePrintable, further_lines, is_printed, line_of, text_of_record, texts_after, settings_after, settings_so_far}
 use Rattle.tap_report.specs.declared.mode.Mode.{Mode}
 
@@ -86,7 +86,7 @@ flat_map-take_more f xs i x inside is =
 
 -- the node that stands at a place of a path
 pub node_at-is : (path : List (List ℕ)) (place : ℕ) (node : List ℕ) → place < length path → node ≡ get_or path place node
-    → node ≡ node_at path place
+    → node ≡ node_on_path path place
 node_at-is path place node inside is = is ∙ get_or_default path place node [] inside
 
 -- ---- bytes in hexadecimal

@@ -16,14 +16,14 @@ is_lookup (RootsOf object asker roots) = true
 is_lookup item = false
 
 -- the node at a place of a path
-abbrev pub node_at : List (List ℕ) → ℕ → List ℕ
-node_at path place = slice_index_or path place []
+abbrev pub node_on_path : List (List ℕ) → ℕ → List ℕ
+node_on_path path place = slice_index_or path place []
 
 -- The line of a walk. The first node of the path is the asker, and the last one is the object's root.
 abbrev pub walked_line : List ℕ → List (List ℕ) → List ℕ
 walked_line object path =
-    object_from (codes "walked ") object (node_at path 0) ++ codes " path" ++ spaced_names path
-    ++ name_after (codes " root ") (node_at path (length path - 1)) ++ number_after (codes " hops ") (length path - 1)
+    object_from (codes "walked ") object (node_on_path path 0) ++ codes " path" ++ spaced_names path
+    ++ name_after (codes " root ") (node_on_path path (length path - 1)) ++ number_after (codes " hops ") (length path - 1)
 
 -- the line of a lookup that is asked
 abbrev pub asked_line : ℕ → List ℕ → List ℕ → List ℕ

@@ -29,7 +29,7 @@ pub record ReporterValue : Type 0 where
   pub so_far : Written
 
 -- what a reporter keeps beside them: none of its counts is above that of the records, and nothing waits to be written
-pub record IsKept (records : ℕ) (tally : Tally) (printer : PrinterValue) : Type 0 where
+pub record ReporterIsKept (records : ℕ) (tally : Tally) (printer : PrinterValue) : Type 0 where
   pub counts : CountsWithin records tally
   pub written : printer.waiting ≡ []
 
@@ -60,7 +60,7 @@ after_put r item written =
     }
 
 -- the put of a record
-pub record Puts (before after : ReporterValue) (item : Record) (old new : SinkState) (written : Written) : Type 0 where
+pub record PutsRecord (before after : ReporterValue) (item : Record) (old new : SinkState) (written : Written) : Type 0 where
   pub text : WritesText old new (text_of_record before.mode before.settings item) before.so_far written
   pub reporter : after ≡ after_put before item written
 
@@ -89,7 +89,7 @@ abbrev pub PutsEach : List Record → ReporterValue → ReporterValue → SinkSt
 PutsEach [] before after old new = (after ≡ before) × (new ≡ old)
 PutsEach (item ∷ items) before after old new =
     (between : ReporterValue) × (mid : SinkState) × (written : Written)
-    × Puts before between item old mid written × PutsEach items between after mid new
+    × PutsRecord before between item old mid written × PutsEach items between after mid new
 
 -- the puts of a log's records and a finish write the text of the log
 abbrev pub PutsWriteTheText : Type 0

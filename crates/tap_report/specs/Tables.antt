@@ -28,13 +28,13 @@ table_line name status count =
     name_after (codes "table ") name ++ codes " " ++ words_of_node status ++ number_after (codes " links ") count
 
 -- its further lines, one for each link
-abbrev pub link_line : LinkLine → List ℕ
-link_line l =
+abbrev pub text_of_link : LinkLine → List ℕ
+text_of_link l =
     line (number_after (codes "link ") l.slot.level ++ codes " " ++ (text_of_digit l.slot.digit ∷ [])
     ++ name_after (codes " ") l.name ++ codes " " ++ words_of_link l.kind)
 
 abbrev pub link_lines : List LinkLine → List ℕ
-link_lines links = flat_map link_line links
+link_lines links = flat_map text_of_link links
 
 -- the first line of pointers
 abbrev pub pointers_line : List ℕ → ℕ → List ℕ

@@ -5,7 +5,7 @@ use Rattle.std.specs.Option.{option_or}
 use Rattle.tap_log.specs.declared.record.Record.{Record}
 use Rattle.tap_log.specs.declared.record.Record.TheVariants as rec
 use Rattle.tap_log.specs.Kinds.{accepts, begin_members, core_name, sent_number}
-use Rattle.tap_history.specs.Steps.{depart_name}
+use Rattle.tap_history.specs.StepAsks.{depart_name}
 use Rattle.tap_history.specs.Core.{members_of}
 use Rattle.tap_log.specs.Counts.{sent_count}
 use Rattle.tap_log.specs.Log.{last_of}
@@ -43,18 +43,18 @@ members_after opening members item = members
 -- ---- departures
 
 -- the departure that a record asks for
-abbrev pub asked_by : Record → Option (List ℕ)
-asked_by (rec.Step index step) = depart_name step
-asked_by item = None
+abbrev pub departure_asked_by : Record → Option (List ℕ)
+departure_asked_by (rec.Step index step) = depart_name step
+departure_asked_by item = None
 
 -- the departure that the last record asks for, if there is one
 abbrev pub asked_last : Option Record → Option (List ℕ)
 asked_last None = None
-asked_last (Some item) = asked_by item
+asked_last (Some item) = departure_asked_by item
 
 -- the departure that was accepted last, with one record more
-abbrev pub accepted_after : Bool → Departures → Record → Option (List ℕ)
-accepted_after carried d item = if accepts carried item then option_or d.asked d.accepted else d.accepted
+abbrev pub departure_accepted_after : Bool → Departures → Record → Option (List ℕ)
+departure_accepted_after carried d item = if accepts carried item then option_or d.asked d.accepted else d.accepted
 
 -- what is known of departures
 abbrev pub departures_known : List Record → Departures
@@ -63,16 +63,16 @@ departures_known log = record { asked = asked_last (last_of log); accepted = las
 -- the same, with one record more, in a log that is carried or not
 abbrev pub departures_after : Bool → Departures → Record → Departures
 departures_after carried d item = record {
-  asked = asked_by item;
-  accepted = accepted_after carried d item;
-  gone = d.gone + cond (is_gone (accepted_after carried d item) item) 1 0;
+  asked = departure_asked_by item;
+  accepted = departure_accepted_after carried d item;
+  gone = d.gone + cond (is_gone (departure_accepted_after carried d item) item) 1 0;
 }
 
 -- ---- all that is kept
 
 -- whether a record says that a node becomes core
-abbrev pub is_core : Record → Bool
-is_core item = is_some (core_name item)
+abbrev pub is_core_record : Record → Bool
+is_core_record item = is_some (core_name item)
 
 -- whether a record says that a frame is sent
 abbrev pub is_sent : Record → Bool
@@ -95,7 +95,7 @@ abbrev pub tally_after : Tally → Record → Tally
 tally_after t item = record {
   opening = opening_after t.opening item;
   members = members_after t.opening t.members item;
-  core = t.core + cond (is_core item) 1 0;
+  core = t.core + cond (is_core_record item) 1 0;
   departures = departures_after (opens_carried t.opening) t.departures item;
   frames = t.frames + cond (is_sent item) 1 0;
   hops = max t.hops (hops_in item);

@@ -2,7 +2,7 @@
 use Rattle.std.specs.Prelude.{◌≡◌, ℕ, List}
 use Rattle.std.specs.Io.KnownBytes.{Appends}
 use Rattle.tap_io.specs.Faults.{HasRisen}
-use Rattle.tap_io.specs.Sink.{AppendsPrefixOf, Follows, SinkState}
+use Rattle.tap_io.specs.Sink.{AppendsPrefixOf, IsAfterWrites, SinkState}
 use Rattle.tap_report.specs.declared.written.Written.{Written}
 use Rattle.tap_report.specs.declared.written.Written.TheVariants.{All, Failed}
 
@@ -25,5 +25,5 @@ WritesTextAs old new text Failed Failed = new ≡ old
 
 -- The sink goes on: the text is appended whole, or the sink fails within it. Nothing is written after a failure.
 pub record WritesText (old new : SinkState) (text : List ℕ) (so_far written : Written) : Type 0 where
-  pub follows : Follows old new
+  pub follows : IsAfterWrites old new
   pub answer : WritesTextAs old new text so_far written

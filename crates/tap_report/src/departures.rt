@@ -1,6 +1,6 @@
 ghost use Rattle.std.specs.Prelude.{◌≡◌, ◌<◌, []};
 ghost use Rattle.tap_report.specs.Summary.{is_gone};
-ghost use Rattle.tap_report.specs.Tally.{accepted_after, asked_by, departures_after, departures_known};
+ghost use Rattle.tap_report.specs.Tally.{departure_accepted_after, departure_asked_by, departures_after, departures_known};
 
 use tap_history::depart_name;
 use tap_log::{Record, accepts};
@@ -41,7 +41,7 @@ impl Departures {
 
     // Keeps the departure that a record asks for, and no other one.
     fn ask(&mut self, item: &Record)
-        ensures { self.new ≡ record self.old { asked = asked_by item.now } }
+        ensures { self.new ≡ record self.old { asked = departure_asked_by item.now } }
     {
         match item {
             Record::Step { step, .. } => self.asked = depart_name(step),
@@ -51,7 +51,7 @@ impl Departures {
 
     // Accepts the departure that was asked for, if there is one and the record does.
     fn accept(&mut self, carried: bool, item: &Record)
-        ensures { self.new ≡ record self.old { accepted = accepted_after carried self.old item.now } }
+        ensures { self.new ≡ record self.old { accepted = departure_accepted_after carried self.old item.now } }
     {
         if self.asked.is_some() {
             if accepts(carried, item) {

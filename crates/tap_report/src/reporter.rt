@@ -1,6 +1,6 @@
 ghost use Rattle.std.specs.Prelude.{◌≡◌, ◌<◌, ◌≤◌, ◌+◌, ◌-◌, ◌↔◌, IsNone, IsTrue, fold, length};
 ghost use Rattle.tap_report.specs.Printer.{Prints};
-ghost use Rattle.tap_report.specs.Reporter.{Finishes, Puts, PutsAll, PutsWriteTheText, kept_after, most_records, new_reporter, settings_after};
+ghost use Rattle.tap_report.specs.Reporter.{Finishes, PutsAll, PutsRecord, PutsWriteTheText, kept_after, most_records, new_reporter, settings_after};
 ghost use Rattle.tap_report.specs.Tally.{CountsWithin};
 ghost use Rattle.tap_report.specs.Text.{ArePrintable, BeginsAfter, IsBegin, IsPrintable, IsPrintableLog, text_of_log, texts_after};
 ghost use Rattle.tap_report.specs.Written.{WritesText};
@@ -36,13 +36,13 @@ pub struct Reporter {
 
 impl Model for Reporter {
     ghost use Rattle.std.specs.Prelude.{◌≤◌};
-    ghost use Rattle.tap_report.specs.Reporter.{IsKept, ReporterValue};
+    ghost use Rattle.tap_report.specs.Reporter.{ReporterIsKept, ReporterValue};
 
     ghost Value = { ReporterValue };
 
     ghost view = { λ r. record { mode = r.mode; settings = r.settings; records = r.records; tally = r.tally; so_far = r.printer.so_far } };
 
-    ghost invariant = { λ r. IsKept r.records r.tally r.printer };
+    ghost invariant = { λ r. ReporterIsKept r.records r.tally r.printer };
 }
 
 impl Reporter {
@@ -76,7 +76,7 @@ impl Reporter {
         requires begins { IsBegin item.now ↔ IsNone self.old.settings }
         requires printable { IsPrintable self.old.settings item.now }
         requires few { self.old.records < most_records }
-        ensures { Puts self.old self.new item.now (K.state sink.old) (K.state sink.new) result }
+        ensures { PutsRecord self.old self.new item.now (K.state sink.old) (K.state sink.new) result }
     {
         self.printer
             .add_record(sink, self.mode, &self.settings, item);

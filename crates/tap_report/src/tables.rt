@@ -1,6 +1,6 @@
 ghost use Rattle.std.specs.Prelude.{◌≡◌, ◌<◌, All, IsSomeAnd};
 ghost use Rattle.tap_report.specs.Printer.{Prints};
-ghost use Rattle.tap_report.specs.Tables.{link_line, link_lines, pointer_line, pointer_lines, pointers_line, table_line, words_of_link, words_of_node};
+ghost use Rattle.tap_report.specs.Tables.{link_lines, pointer_line, pointer_lines, pointers_line, table_line, text_of_link, words_of_link, words_of_node};
 
 use crate::printer::Printer;
 use tap_io::Sink;
@@ -66,7 +66,7 @@ impl Printer {
     fn add_link<K: Sink>(&mut self, sink: &mut K, link: &LinkLine)
         requires { link.now.slot.digit < 16 }
         ensures { Prints (K.state sink.old) (K.state sink.new)
-            (link_line link.now) self.old self.new }
+            (text_of_link link.now) self.old self.new }
     {
         self.add_number_after(sink, b"link ", link.slot.level);
         self.add(sink, b" ");

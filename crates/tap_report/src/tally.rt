@@ -1,7 +1,7 @@
 ghost use Rattle.std.specs.Prelude.{◌≡◌, ◌+◌, ◌-◌, cond, max, length, []};
 ghost use Rattle.tap_log.specs.Kinds.{begin_members};
 ghost use Rattle.tap_report.specs.Summary.{finds_server, hops_in};
-ghost use Rattle.tap_report.specs.Tally.{CountsWithin, is_core, is_sent, members_after, numbers_in, tally_after, tally_of};
+ghost use Rattle.tap_report.specs.Tally.{CountsWithin, is_core_record, is_sent, members_after, numbers_in, tally_after, tally_of};
 
 use crate::departures::Departures;
 use crate::opening::Opening;
@@ -58,7 +58,7 @@ impl Tally {
     fn count(&mut self, item: &Record)
         requires { CountsWithin (u64.MAX - 1) self.old }
         ensures { self.new ≡ record self.old {
-          core = self.old.core + cond (is_core item.now) 1 0;
+          core = self.old.core + cond (is_core_record item.now) 1 0;
           frames = self.old.frames + cond (is_sent item.now) 1 0;
           hops = max self.old.hops (hops_in item.now);
           answered = self.old.answered + cond (finds_server item.now) 1 0;

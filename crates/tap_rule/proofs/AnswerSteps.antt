@@ -14,8 +14,8 @@ use Rattle.tap_rule.specs.Answers.{answer_for, answer_sends, takes_heard_or_ack}
 use Rattle.tap_rule.specs.FrameRules.{frame_at_ceased, frame_at_core, frame_at_joining}
 use Rattle.tap_rule.specs.Sent.{IsAmong}
 use Rattle.tap_rule.specs.Completed.{SendsAt}
-use Rattle.tap_rule.specs.Steps.{AnswerStep, IsNotLast}
-use Rattle.tap_rule.specs.Laws.{AnswerLaw, IsCarriedOut, frame_to}
+use Rattle.tap_rule.specs.LinkSteps.{AnswerStep, IsNotLast}
+use Rattle.tap_rule.specs.RuleLaws.{AnswerLaw, IsCarriedOut, frame_to}
 use Rattle.tap_rule.proofs.CarriedOut.{frame_law}
 use Rattle.tap_rule.proofs.Completed.{rest_by, sends_at}
 use Rattle.tap_rule.proofs.OneName.{parent_told}

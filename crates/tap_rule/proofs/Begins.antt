@@ -7,7 +7,7 @@ use Rattle.tap_table.specs.Ties.{TiesValue}
 use Rattle.tap_rule.specs.Node.{Status, joiner}
 use Rattle.tap_rule.specs.Node.Status.{Joining, Core}
 use Rattle.tap_rule.specs.Begins.{IsUntouched}
-use Rattle.tap_rule.specs.Laws.{BeginsAtRestLaw, BeginsToJoinLaw}
+use Rattle.tap_rule.specs.RuleLaws.{BeginsAtRestLaw, BeginsToJoinLaw}
 use Rattle.tap_rule.proofs.EndSteps.{unlinked}
 
 -- a joiner with another status, and with other ties of its own

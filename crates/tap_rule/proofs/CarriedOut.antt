@@ -10,7 +10,7 @@ use Rattle.tap_rule.specs.Strange.{is_strange}
 use Rattle.tap_rule.specs.FrameRules.{rule_of_frame}
 use Rattle.tap_rule.specs.Act.{act, carried_out, completed, follows, refuses}
 use Rattle.tap_rule.specs.Sent.{AreSent, AreSentInOrder}
-use Rattle.tap_rule.specs.Laws.{FrameLaw, IsCarriedOut, IsIgnored, StartLaw, StrangeLaw, UnruledLaw, UnruledStartLaw}
+use Rattle.tap_rule.specs.RuleLaws.{FrameLaw, IsCarriedOut, IsIgnored, StartLaw, StrangeLaw, UnruledLaw, UnruledStartLaw}
 use Rattle.tap_rule.proofs.ByReceiver.{by_receiver-ascending, by_receiver-permutation}
 use Rattle.tap_rule.proofs.Among.{among-by_receiver, among-by_receiver_from, among-either, among-first, among-map, among-map_from, among-second}
 

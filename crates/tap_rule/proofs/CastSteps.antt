@@ -24,9 +24,9 @@ use Rattle.tap_rule.specs.FrameRules.{frame_at_core}
 use Rattle.tap_rule.specs.Sending.{message_frame}
 use Rattle.tap_rule.specs.Sent.{IsAmong}
 use Rattle.tap_rule.specs.Completed.{IsCompleted}
-use Rattle.tap_rule.specs.Steps.{IsNotLast}
+use Rattle.tap_rule.specs.LinkSteps.{IsNotLast}
 use Rattle.tap_rule.specs.CastSteps.{CastAckStep, CastStep, IsCastAnswered, IsOnlyAnswered, cast_session_at, copies_for}
-use Rattle.tap_rule.specs.Laws.{CastAckLaw, CastLaw, CastStartLaw, IsCarriedOut, frame_to}
+use Rattle.tap_rule.specs.RuleLaws.{CastAckLaw, CastLaw, CastStartLaw, IsCarriedOut, frame_to}
 use Rattle.tap_rule.proofs.Among.{among-map}
 use Rattle.tap_rule.proofs.AnswerSteps.{other_number, same_number}
 use Rattle.tap_rule.proofs.CarriedOut.{frame_law, start_law}

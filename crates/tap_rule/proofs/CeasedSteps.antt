@@ -11,7 +11,7 @@ use Rattle.tap_rule.specs.Casts.{takes_cast_outside}
 use Rattle.tap_rule.specs.Ceasing.{takes_link_ceased, takes_tell_ceased}
 use Rattle.tap_rule.specs.FrameRules.{frame_at_ceased, frame_at_joining}
 use Rattle.tap_rule.specs.CeasedSteps.{CeasedStep}
-use Rattle.tap_rule.specs.Laws.{CeasedCastLaw, CeasedLinkLaw, CeasedTellLaw, CeasedUnlinkLaw, IsCarriedOut, JoiningCastLaw, frame_to, tell_of}
+use Rattle.tap_rule.specs.RuleLaws.{CeasedCastLaw, CeasedLinkLaw, CeasedTellLaw, CeasedUnlinkLaw, IsCarriedOut, JoiningCastLaw, frame_to, tell_of}
 use Rattle.tap_rule.proofs.CarriedOut.{frame_law}
 use Rattle.tap_rule.proofs.Completed.{alike_by, completed_by}
 

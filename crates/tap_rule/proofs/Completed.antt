@@ -2,7 +2,7 @@
 use Rattle.std.proofs.Common.{◌≡◌, ◌⊎◌, ℕ, ◌+◌, Bool, List, [], length, map, Option, None, Some, true, false, arith, sym, ap, subst, ◌∙◌, inl, inr}
 use Rattle.std.proofs.lemmas.List.{append-nil}
 use Rattle.tap_table.specs.Ties.{TiesValue, stamp_after, tie_where}
-use Rattle.tap_depart.specs.Told.{offer_tells_if}
+use Rattle.tap_depart.specs.ToldLeave.{offer_tells_if}
 use Rattle.tap_join.specs.Hello.{words_of}
 use Rattle.tap_pointer.specs.declared.lay.Lay.{Lay}
 use Rattle.tap_pointer.specs.Pointers.{PointersValue}
@@ -15,8 +15,8 @@ use Rattle.tap_rule.specs.Reaction.{Message, Reaction, sends}
 use Rattle.tap_rule.specs.Sending.{by_receiver, message_frame}
 use Rattle.tap_rule.specs.Sent.{AreSentInOrder}
 use Rattle.tap_rule.specs.Completed.{CastsAlike, IsCompleted, RestAlike, SendsAlone, SendsAt, lays_after}
-use Rattle.tap_rule.specs.Steps.{AllAlike}
-use Rattle.tap_rule.specs.Laws.{IsCarriedOut, lays_for}
+use Rattle.tap_rule.specs.LinkSteps.{AllAlike}
+use Rattle.tap_rule.specs.RuleLaws.{IsCarriedOut, lays_for}
 
 -- the step of a node that hasn't ended, whose rule has taken a number of the stamp for each of its words
 pub completed_by : (node : NodeState) (r : Reaction) (acted : Acted) → IsCarriedOut node r acted → IsRunning r.state.status

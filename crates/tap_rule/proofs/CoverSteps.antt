@@ -37,9 +37,9 @@ use Rattle.tap_rule.specs.FrameRules.{frame_at_core}
 use Rattle.tap_rule.specs.Sending.{link_frame}
 use Rattle.tap_rule.specs.Sent.{IsAmong}
 use Rattle.tap_rule.specs.Completed.{IsCompleted, RestAlike}
-use Rattle.tap_rule.specs.Steps.{IsParentAnswered}
+use Rattle.tap_rule.specs.LinkSteps.{IsParentAnswered}
 use Rattle.tap_rule.specs.JoinSteps.{CoverStep, SeekStep, SpreadStep, found_for, pin_words, tells_for}
-use Rattle.tap_rule.specs.Laws.{IsCarriedOut, SeekLaw, TellLaw, frame_to, tell_of}
+use Rattle.tap_rule.specs.RuleLaws.{IsCarriedOut, SeekLaw, TellLaw, frame_to, tell_of}
 use Rattle.tap_rule.specs.Hellos.{core_hello}
 use Rattle.tap_rule.proofs.Among.{among-first, among-map, among-second}
 use Rattle.tap_rule.proofs.CarriedOut.{frame_law}

@@ -10,7 +10,7 @@ use Rattle.tap_table.specs.Table.{SlotLinks, empty_table, kind_in, name_cmp, pla
 use Rattle.tap_table.specs.Ties.{AreTies, TiesValue, holders_on, marked}
 use Rattle.tap_table.proofs.LookUps.{by_rule, kind_in-removed, of_itself}
 use Rattle.tap_depart.specs.Leaving.{names_but}
-use Rattle.tap_depart.specs.Told.{taken_in}
+use Rattle.tap_depart.specs.ToldLeave.{taken_in}
 use Rattle.tap_pointer.specs.declared.lay.Lay.{Lay}
 use Rattle.tap_wire.specs.declared.frame.Body.{Body}
 use Rattle.tap_wire.specs.declared.frame.Body.TheVariants.{Done, Leave, Left, Forget, Gone}
@@ -24,7 +24,7 @@ use Rattle.tap_rule.specs.Ceasing.{ceases}
 use Rattle.tap_rule.specs.Leaving.{finishes, takes_gone, takes_leave, takes_left}
 use Rattle.tap_rule.specs.FrameRules.{frame_at_core, frame_at_joining, frame_at_leaving}
 use Rattle.tap_rule.specs.EndSteps.{EndStep, GoneStep, IsEmptied, LeftStep, lays_at_end, words_at_end}
-use Rattle.tap_rule.specs.Laws.{CeaseLaw, GoneLaw, IsCarriedOut, LeaveLaw, LeftLaw, frame_to}
+use Rattle.tap_rule.specs.RuleLaws.{CeaseLaw, GoneLaw, IsCarriedOut, LeaveLaw, LeftLaw, frame_to}
 use Rattle.tap_rule.proofs.CarriedOut.{frame_law}
 use Rattle.tap_rule.proofs.Completed.{casts_by, completed_by, one_offer, rest_by}
 use Rattle.tap_rule.proofs.OneName.{not_own, others_stay}

@@ -22,7 +22,7 @@ use Rattle.tap_wire.specs.declared.frame.Body.TheVariants.{Seek, Tell, Hello, Le
 use Rattle.tap_rule.specs.Node.{NodeState, level_of, link_to, name_of}
 use Rattle.tap_rule.specs.Strange.{is_leaving, is_no_pin, is_own_name, is_strange, is_strange_body, is_strange_seek, is_strange_tell, is_too_many, name_if, names_to_link, with_names}
 use Rattle.tap_rule.specs.Fit.{CouldLink, IsFit, IsFitBody, IsFitSeek, IsFitTell, MayLink}
-use Rattle.tap_rule.specs.Laws.{FitLaw}
+use Rattle.tap_rule.specs.RuleLaws.{FitLaw}
 use Rattle.tap_rule.proofs.OneName.{not_own}
 
 -- a level that isn't kept, and kinds of links

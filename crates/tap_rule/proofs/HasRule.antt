@@ -17,7 +17,7 @@ use Rattle.tap_rule.specs.FrameRules.{frame_at_ceased, frame_at_core, frame_at_j
 use Rattle.tap_rule.specs.StartRules.{rule_of_start}
 use Rattle.tap_rule.specs.Act.{act, follows, refuses}
 use Rattle.tap_rule.specs.HasRule.{made_by, taken_by}
-use Rattle.tap_rule.specs.Laws.{HasRuleLaw, HasStartRuleLaw, WithoutRuleLaw, WithoutStartRuleLaw}
+use Rattle.tap_rule.specs.RuleLaws.{HasRuleLaw, HasStartRuleLaw, WithoutRuleLaw, WithoutStartRuleLaw}
 use Rattle.tap_rule.proofs.CarriedOut.{unruled_law, unruled_start_law}
 
 -- two statuses are the same

@@ -26,7 +26,7 @@ use Rattle.tap_rule.specs.Joining.{becomes_core, takes_hello, takes_tell_joining
 use Rattle.tap_rule.specs.Sending.{link_frame}
 use Rattle.tap_rule.specs.Sent.{IsAmong}
 use Rattle.tap_rule.specs.JoinSteps.{MeetStep, PinStep}
-use Rattle.tap_rule.specs.Laws.{DoneLaw, HelloLaw, IsCarriedOut, MeetLaw, frame_to, tell_of}
+use Rattle.tap_rule.specs.RuleLaws.{DoneLaw, HelloLaw, IsCarriedOut, MeetLaw, frame_to, tell_of}
 use Rattle.tap_rule.specs.Hellos.{joining_hello}
 use Rattle.tap_rule.proofs.CarriedOut.{frame_law}
 use Rattle.tap_rule.proofs.Completed.{completed_by, one_word, rest_by}

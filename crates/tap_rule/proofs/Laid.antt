@@ -11,7 +11,7 @@ use Rattle.tap_rule.specs.Strange.{is_strange}
 use Rattle.tap_rule.specs.FrameRules.{rule_of_frame}
 use Rattle.tap_rule.specs.StartRules.{rule_of_start}
 use Rattle.tap_rule.specs.Act.{act, carried_out, completed, follows, refuses}
-use Rattle.tap_rule.specs.Laws.{LaidLaw}
+use Rattle.tap_rule.specs.RuleLaws.{LaidLaw}
 
 -- the pairs of a node are laid as wanted
 abbrev IsLaid : NodeState → Type 0

@@ -7,7 +7,7 @@ pub mod LinkSteps
 pub mod AnswerSteps
 pub mod JoinSteps
 pub mod CoverSteps
-pub mod Kept
+pub mod KeptNode
 pub mod EndSteps
 pub mod QuietSteps
 pub mod Laid

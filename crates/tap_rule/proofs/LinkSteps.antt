@@ -24,8 +24,8 @@ use Rattle.tap_rule.specs.Reaction.{Message, message, sends}
 use Rattle.tap_rule.specs.FrameRules.{frame_at_core, frame_at_joining, frame_at_leaving, rule_of_frame}
 use Rattle.tap_rule.specs.Links.{release_answer, release_word, takes_forget, takes_link, takes_link_joining, takes_release, with_word}
 use Rattle.tap_rule.specs.Sent.{AreSent, IsAmong}
-use Rattle.tap_rule.specs.Steps.{ForgetStep, LinkStep, ReleaseStep}
-use Rattle.tap_rule.specs.Laws.{ForgetLaw, IsCarriedOut, LinkLaw, ReleaseLaw, frame_to}
+use Rattle.tap_rule.specs.LinkSteps.{ForgetStep, LinkStep, ReleaseStep}
+use Rattle.tap_rule.specs.RuleLaws.{ForgetLaw, IsCarriedOut, LinkLaw, ReleaseLaw, frame_to}
 use Rattle.tap_rule.specs.Completed.{IsCompleted}
 use Rattle.tap_rule.proofs.CarriedOut.{frame_law}
 use Rattle.tap_rule.proofs.Completed.{completed_by, early_runs, one_word, rest_by}

@@ -14,7 +14,7 @@ use Rattle.tap_rule.specs.Node.{NodeState, name_of}
 use Rattle.tap_rule.specs.Answers.{answer_for}
 use Rattle.tap_rule.specs.Sending.{message_frame}
 use Rattle.tap_rule.specs.Sent.{IsAmong}
-use Rattle.tap_rule.specs.Steps.{IsParentTold}
+use Rattle.tap_rule.specs.LinkSteps.{IsParentTold}
 use Rattle.tap_rule.specs.Strange.{is_own_name, is_strange}
 
 -- a name is the rule's own, or nothing changes

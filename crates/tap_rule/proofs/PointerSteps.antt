@@ -11,7 +11,7 @@ use Rattle.tap_rule.specs.Event.Start.{Publish, Withdraw, Find as StartFind}
 use Rattle.tap_rule.specs.FrameRules.{frame_at_core, frame_at_leaving, rule_of_frame}
 use Rattle.tap_rule.specs.Pointers.{next_hop, starts_find, starts_find_on, starts_find_with, starts_publish, starts_withdraw, takes_answer, takes_find, takes_find_on, takes_find_with, takes_lay}
 use Rattle.tap_rule.specs.PointerSteps.{FindStep, LookupStep}
-use Rattle.tap_rule.specs.Laws.{FindLaw, FoundLaw, IsCarriedOut, LayLaw, LookupLaw, PublishLaw, WithdrawLaw, frame_to}
+use Rattle.tap_rule.specs.RuleLaws.{FindLaw, FoundLaw, IsCarriedOut, LayLaw, LookupLaw, PublishLaw, WithdrawLaw, frame_to}
 use Rattle.tap_rule.proofs.CarriedOut.{frame_law, start_law}
 use Rattle.tap_rule.proofs.Completed.{alike_by, completed_by, late_runs}
 

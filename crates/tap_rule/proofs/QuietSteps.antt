@@ -8,7 +8,7 @@ use Rattle.tap_rule.specs.Reaction.{Message, Reaction}
 use Rattle.tap_rule.specs.Covering.{Request}
 use Rattle.tap_rule.specs.Sent.{IsAmong}
 use Rattle.tap_rule.specs.QuietSteps.{IsQuiet, IsQuietStart, QuietStep}
-use Rattle.tap_rule.specs.Laws.{IsCarriedOut, QuietLaw, QuietStartLaw}
+use Rattle.tap_rule.specs.RuleLaws.{IsCarriedOut, QuietLaw, QuietStartLaw}
 use Rattle.tap_rule.proofs.Among.{among_all}
 use Rattle.tap_rule.proofs.Cases.{Cause, IsAnswer, IsAsked, IsNamed, IsParting, RuleCase}
 use Rattle.tap_rule.proofs.Cases.Cause.{Takes, Starts}

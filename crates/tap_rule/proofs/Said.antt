@@ -4,7 +4,7 @@ use Rattle.std.proofs.Math.Seq.{get_or-append_seam}
 use Rattle.std.proofs.lemmas.List.Elements.{All-map}
 use Rattle.tap_wire.specs.declared.frame.Body.{Body}
 use Rattle.tap_rule.specs.Reaction.{Message, message, to_each}
-use Rattle.tap_rule.specs.Laws.{CastNewsLaw, CastOfLaw, LayFrameLaw, LinkFrameLaw, MessageFrameLaw, ToEachLaw}
+use Rattle.tap_rule.specs.RuleLaws.{CastNewsLaw, CastOfLaw, LayFrameLaw, LinkFrameLaw, MessageFrameLaw, ToEachLaw}
 
 pub message_frame_law : MessageFrameLaw
 message_frame_law from to body = record { sender = refl; receiver = refl; said = refl }

@@ -19,7 +19,7 @@ use Rattle.tap_rule.specs.Ceasing.{starts_abandon}
 use Rattle.tap_rule.specs.Leaving.{finishes, leave_for, starts_leave, with_departure}
 use Rattle.tap_rule.specs.EndSteps.{words_at_end}
 use Rattle.tap_rule.specs.StartSteps.{LeaveStartStep}
-use Rattle.tap_rule.specs.Laws.{GiveUpLaw, IsCarriedOut, LeaveStartLaw, SeekStartLaw}
+use Rattle.tap_rule.specs.RuleLaws.{GiveUpLaw, IsCarriedOut, LeaveStartLaw, SeekStartLaw}
 use Rattle.tap_rule.proofs.CarriedOut.{start_law}
 use Rattle.tap_rule.proofs.Completed.{casts_by, completed_by, rest_by}
 use Rattle.tap_rule.proofs.EndSteps.{end_step}

@@ -17,7 +17,7 @@ use Rattle.tap_rule.specs.Casts.{Copy, cast_news, cast_of}
 use Rattle.tap_rule.specs.Sending.{message_frame}
 use Rattle.tap_rule.specs.Sent.{IsAmong}
 use Rattle.tap_rule.specs.Completed.{IsCompleted}
-use Rattle.tap_rule.specs.Steps.{IsNotLast}
+use Rattle.tap_rule.specs.LinkSteps.{IsNotLast}
 
 -- the open session of casts of a number, if there is one
 abbrev pub cast_session_at : NodeState → ℕ → Option Session

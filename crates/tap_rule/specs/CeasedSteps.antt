@@ -6,7 +6,7 @@ use Rattle.tap_rule.specs.Event.News.{Nothing}
 use Rattle.tap_rule.specs.Reaction.{Message}
 use Rattle.tap_rule.specs.Sending.{message_frame}
 use Rattle.tap_rule.specs.Completed.{IsCompleted}
-use Rattle.tap_rule.specs.Steps.{AllAlike}
+use Rattle.tap_rule.specs.LinkSteps.{AllAlike}
 
 -- at a node that has ceased: it stays, and these messages are all that it sends
 pub record CeasedStep (node : NodeState) (messages : List Message) (acted : Acted) : Type 0 where

@@ -5,7 +5,7 @@ use Rattle.tap_table.specs.declared.tie.Tie.{Tie}
 use Rattle.tap_table.specs.ByName.{targets_by_name}
 use Rattle.tap_table.specs.Ties.{holders_on, off_ties}
 use Rattle.tap_depart.specs.Leaving.{names_but}
-use Rattle.tap_depart.specs.Told.{told_leave, told_leave_tells}
+use Rattle.tap_depart.specs.ToldLeave.{told_leave, told_leave_tells}
 use Rattle.tap_join.specs.Hello.{words_of}
 use Rattle.tap_pointer.specs.declared.lay.Lay.{Lay}
 use Rattle.tap_pointer.specs.Pointers.{no_pointers}
@@ -20,7 +20,7 @@ use Rattle.tap_rule.specs.Reaction.{message, to_each}
 use Rattle.tap_rule.specs.Leaving.{leave_word}
 use Rattle.tap_rule.specs.Sent.{AreSent, AreSentInOrder}
 use Rattle.tap_rule.specs.Completed.{CastsAlike, IsCompleted, RestAlike}
-use Rattle.tap_rule.specs.Steps.{JoinsAlike}
+use Rattle.tap_rule.specs.LinkSteps.{JoinsAlike}
 
 -- of what a node kept that has ended, its name, the settings and its sessions are left: all else is empty
 pub record IsEmptied (before after : NodeState) : Type 0 where

@@ -28,7 +28,7 @@ use Rattle.tap_rule.specs.Sending.{link_frame, message_frame}
 use Rattle.tap_rule.specs.Joining.{hello_words}
 use Rattle.tap_rule.specs.Sent.{AreSent, IsAmong}
 use Rattle.tap_rule.specs.Completed.{IsCompleted, RestAlike}
-use Rattle.tap_rule.specs.Steps.{AllAlike, IsParentAnswered, IsParentTold, JoinsAlike}
+use Rattle.tap_rule.specs.LinkSteps.{AllAlike, IsParentAnswered, IsParentTold, JoinsAlike}
 use Rattle.tap_rule.specs.Covering.{Request, answers_awaited, tell_for}
 use Rattle.tap_rule.specs.Hellos.{core_hello, joining_hello}
 

@@ -11,7 +11,7 @@ use Rattle.tap_table.specs.ByName.{targets_by_name}
 use Rattle.tap_table.specs.Ties.{holders_on, off_ties, removed}
 use Rattle.tap_depart.specs.declared.notice.Notice.{Notice}
 use Rattle.tap_depart.specs.Leaving.{names_but, started_leaving}
-use Rattle.tap_depart.specs.Told.{told_leave, told_leave_tells}
+use Rattle.tap_depart.specs.ToldLeave.{told_leave, told_leave_tells}
 use Rattle.tap_pointer.specs.Pointers.{all_withdrawn}
 use Rattle.tap_pointer.specs.Reconcile.{clear_lays}
 use Rattle.tap_wire.specs.declared.frame.Body.TheVariants.{Leave, Left, Gone}

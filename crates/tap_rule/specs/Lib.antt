@@ -21,8 +21,8 @@ pub mod Begins
 pub mod Sent
 pub mod Completed
 pub mod Fit
-pub mod Kept
-pub mod Steps
+pub mod KeptNode
+pub mod LinkSteps
 pub mod JoinSteps
 pub mod EndSteps
 pub mod StartSteps
@@ -30,4 +30,4 @@ pub mod QuietSteps
 pub mod PointerSteps
 pub mod CeasedSteps
 pub mod CastSteps
-pub mod Laws
+pub mod RuleLaws

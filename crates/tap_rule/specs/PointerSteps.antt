@@ -10,7 +10,7 @@ use Rattle.tap_rule.specs.Event.{Acted}
 use Rattle.tap_rule.specs.Event.News.{Nothing, Answered}
 use Rattle.tap_rule.specs.Reaction.{message}
 use Rattle.tap_rule.specs.Completed.{IsCompleted}
-use Rattle.tap_rule.specs.Steps.{AllAlike}
+use Rattle.tap_rule.specs.LinkSteps.{AllAlike}
 
 -- A step that changes the pointers alone, to these, which are then laid as wanted: the start of a publication, and of a withdrawal.
 pub record PointersStep (node : NodeState) (pointers : PointersValue) (acted : Acted) : Type 0 where

@@ -12,7 +12,7 @@ use Rattle.tap_rule.specs.Reaction.{message}
 use Rattle.tap_rule.specs.EndSteps.{EndStep}
 use Rattle.tap_rule.specs.Sent.{AreSent}
 use Rattle.tap_rule.specs.Completed.{CastsAlike, IsCompleted, RestAlike}
-use Rattle.tap_rule.specs.Steps.{JoinsAlike}
+use Rattle.tap_rule.specs.LinkSteps.{JoinsAlike}
 
 -- the start of a join: the node stays, and a Seek goes to the node that it knows
 pub record SeekStartStep (node : NodeState) (via : List ℕ) (acted : Acted) : Type 0 where

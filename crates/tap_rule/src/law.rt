@@ -1,9 +1,9 @@
 ghost use Rattle.tap_wire.specs.declared.frame.Body.TheVariants.{Heard, Ack};
-ghost use Rattle.tap_rule.specs.Laws.{FrameLaw, JoinerLaw, KeptLaw, LaidLaw, MemberLaw, QuietLaw, QuietStartLaw, StartKeptLaw, StartLaw, StrangeLaw, UnruledLaw, UnruledStartLaw, FitLaw};
-ghost use Rattle.tap_rule.specs.Laws.{AnswerLaw, CeaseLaw, DoneLaw, ForgetLaw, GoneLaw, HelloLaw, LeaveLaw, LeftLaw, LinkLaw, MeetLaw, ReleaseLaw, SeekLaw, TellLaw};
-ghost use Rattle.tap_rule.specs.Laws.{CastAckLaw, CastLaw, CastStartLaw, GiveUpLaw, JoiningCastLaw, LeaveStartLaw, SeekStartLaw};
-ghost use Rattle.tap_rule.specs.Laws.{CeasedCastLaw, CeasedLinkLaw, CeasedTellLaw, CeasedUnlinkLaw, FindLaw, FoundLaw, LayLaw, LookupLaw, PublishLaw, WithdrawLaw};
-ghost use Rattle.tap_rule.specs.Laws.{BeginsAtRestLaw, BeginsToJoinLaw, CastNewsLaw, CastOfLaw, HasRuleLaw, HasStartRuleLaw, LayFrameLaw, LinkFrameLaw, MessageFrameLaw, ToEachLaw, WithoutRuleLaw, WithoutStartRuleLaw};
+ghost use Rattle.tap_rule.specs.RuleLaws.{FrameLaw, JoinerLaw, KeptLaw, LaidLaw, MemberLaw, QuietLaw, QuietStartLaw, StartKeptLaw, StartLaw, StrangeLaw, UnruledLaw, UnruledStartLaw, FitLaw};
+ghost use Rattle.tap_rule.specs.RuleLaws.{AnswerLaw, CeaseLaw, DoneLaw, ForgetLaw, GoneLaw, HelloLaw, LeaveLaw, LeftLaw, LinkLaw, MeetLaw, ReleaseLaw, SeekLaw, TellLaw};
+ghost use Rattle.tap_rule.specs.RuleLaws.{CastAckLaw, CastLaw, CastStartLaw, GiveUpLaw, JoiningCastLaw, LeaveStartLaw, SeekStartLaw};
+ghost use Rattle.tap_rule.specs.RuleLaws.{CeasedCastLaw, CeasedLinkLaw, CeasedTellLaw, CeasedUnlinkLaw, FindLaw, FoundLaw, LayLaw, LookupLaw, PublishLaw, WithdrawLaw};
+ghost use Rattle.tap_rule.specs.RuleLaws.{BeginsAtRestLaw, BeginsToJoinLaw, CastNewsLaw, CastOfLaw, HasRuleLaw, HasStartRuleLaw, LayFrameLaw, LinkFrameLaw, MessageFrameLaw, ToEachLaw, WithoutRuleLaw, WithoutStartRuleLaw};
 
 /// What a step comes to. A strange frame changes nothing, and neither does a frame or a start of which no rule speaks. Any other event
 /// leaves the node as its rule says, but that its pointers are then reconciled if it hasn't ended, and sends, in this order, the Links of

@@ -20,8 +20,8 @@ use Rattle.tap_history.specs.Groups.{is_ended}
 use Rattle.tap_history.specs.GroupLaws.{IsGroup}
 use Rattle.tap_history.specs.Moments.{is_none, is_still, outstanding}
 use Rattle.tap_history.specs.Refusals.{first_refusal, refusals, refuses_departing, refuses_no_such_node, refuses_not_at_rest, refuses_not_core}
-use Rattle.tap_history.specs.Steps.{actor_of, depart_name}
-use Rattle.tap_history.proofs.Growing.{record_changes_hold}
+use Rattle.tap_history.specs.StepAsks.{actor_of, depart_name}
+use Rattle.tap_history.proofs.RecordChanges.{record_changes_hold}
 use Rattle.tap_history.proofs.OneMoreGroup.{one_more_group_holds}
 use Rattle.tap_rule.specs.Node.{NodeState, Status, joiner}
 use Rattle.tap_rule.specs.Node.Status.{Joining, Core, Leaving, Gone, Ceased}
@@ -33,9 +33,9 @@ use Rattle.tap_safety.specs.Move.{Move}
 use Rattle.tap_safety.specs.Move.Move.{Begins, Delivers}
 use Rattle.tap_safety.specs.Moved.{delivered, departing_by, departing_with, moved, numbered_frame, received, starter}
 use Rattle.tap_safety.specs.Remembered.{Leaver}
-use Rattle.tap_safety.specs.Step.{numbered_from}
+use Rattle.tap_safety.specs.Exchanges.{numbered_from}
 use Rattle.tap_safety.specs.System.{System}
-use Rattle.tap_safety.proofs.Moves.{starts}
+use Rattle.tap_safety.proofs.Moved.{starts}
 use Rattle.tap_safety.specs.AtRest.{system_at_rest}
 use Rattle.tap_runs.specs.Beginning.{Beginning, begin_record}
 use Rattle.tap_runs.specs.Starts.{announced, start_of_step}
@@ -43,9 +43,9 @@ use Rattle.tap_runs.specs.Acts.{acted_records}
 use Rattle.tap_runs.specs.Group.{records_of_act, start_at}
 use Rattle.tap_runs.specs.Course.{Follows, IsCourse, MayFollow, move_of_group, moved_by, system_of}
 use Rattle.tap_runs.specs.Observed.{counts_as_core, has_ended, is_core_node, is_joining_status}
-use Rattle.tap_runs.specs.Laws.{CourseNodes, frame_numbers, is_joining_node, is_present_node}
+use Rattle.tap_runs.specs.CourseLaws.{CourseNodes, frame_numbers, is_joining_node, is_present_node}
 use Rattle.tap_runs.proofs.Within.{IsIdle, IsStarting, Within, is_accepted, is_group, step_kind, step_within, taken_within}
-use Rattle.tap_runs.proofs.Growing.{by_groups, grown, grown_going, grown_system, start_system, starts_begun, starts_uncarried}
+use Rattle.tap_runs.proofs.CourseGrows.{by_groups, grown, grown_going, grown_system, start_system, starts_begun, starts_uncarried}
 use Rattle.tap_runs.proofs.Frames.{course_frames_holds, starting_moves, step_moves, taken_moves}
 use Rattle.tap_runs.proofs.Nodes.{Agree, HasNoStep, acted_accepted, cause_fails, first_none, named_in_group, no_steps, nodes_agree, none_accepted, name_at, none_named, start_in, starts_of, step_begins, taken_begins, taken_no_step}
 

@@ -15,8 +15,8 @@ use Rattle.tap_log.specs.declared.record.Record.TheVariants.{Step as StepRecord,
 use Rattle.tap_log.specs.Kinds.{asked_ticket, sent_number, taken_number}
 use Rattle.tap_log.specs.Counts.{sent_count, ticket_count}
 use Rattle.tap_log.specs.Frames.{bytes_of, sent_bytes}
-use Rattle.tap_log.specs.Laws.{first_of_both}
-use Rattle.tap_log.proofs.Growing.{bytes_of-append, sent_count-append}
+use Rattle.tap_log.specs.MoreRecords.{first_of_both}
+use Rattle.tap_log.proofs.MoreRecords.{bytes_of-append, sent_count-append}
 use Rattle.tap_history.specs.GroupLaws.{IsNumbered, NumbersOn}
 use Rattle.tap_history.specs.Groups.{is_ended}
 use Rattle.tap_history.specs.Refusals.{first_refusal}
@@ -29,18 +29,18 @@ use Rattle.tap_rule.specs.Event.News.{Nothing, Core as CoreNews, Gone as GoneNew
 use Rattle.tap_rule.specs.Act.{act}
 use Rattle.tap_safety.specs.Move.Move.{Begins, Delivers}
 use Rattle.tap_safety.specs.Moved.{moved, numbered_frame, starter, without_frame}
-use Rattle.tap_safety.specs.Step.{AreNumbered, Ascend, numbered_from}
+use Rattle.tap_safety.specs.Exchanges.{AreNumbered, Ascend, numbered_from}
 use Rattle.tap_safety.specs.System.{System}
-use Rattle.tap_safety.proofs.Moves.{ascend_below, delivers, lost, numbers_sent, numbers_taken, starts}
+use Rattle.tap_safety.proofs.Moved.{ascend_below, delivers, lost, numbers_sent, numbers_taken, starts}
 use Rattle.tap_safety.specs.AtRest.{system_at_rest}
 use Rattle.tap_runs.specs.Beginning.{Beginning, begin_record}
 use Rattle.tap_runs.specs.Starts.{announced, next_ticket}
 use Rattle.tap_runs.specs.Acts.{acted_records, if_so, news_after, news_before, sent_records}
 use Rattle.tap_runs.specs.Group.{received_records, records_of_act, start_at}
 use Rattle.tap_runs.specs.Course.{Follows, IsCourse, MayFollow, move_of_group, move_of_start, moved_by, system_of}
-use Rattle.tap_runs.specs.Laws.{CourseFrames, FramesAgree, HasBytes, frame_numbers}
+use Rattle.tap_runs.specs.CourseLaws.{CourseFrames, FramesAgree, HasBytes, frame_numbers}
 use Rattle.tap_runs.proofs.Within.{IsIdle, IsQuiet, IsStarting, step_kind}
-use Rattle.tap_runs.proofs.Growing.{by_groups, grown_system, start_system}
+use Rattle.tap_runs.proofs.CourseGrows.{by_groups, grown_system, start_system}
 
 -- ---- numbers
 

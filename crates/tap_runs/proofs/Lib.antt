@@ -1,8 +1,8 @@
 pub mod Within
-pub mod Growing
+pub mod CourseGrows
 pub mod Frames
 pub mod Status
 pub mod Nodes
 pub mod Departing
 pub mod OneCourse
-pub mod Named
+pub mod StepNames

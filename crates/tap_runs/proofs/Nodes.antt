@@ -22,8 +22,8 @@ use Rattle.tap_history.specs.Groups.{is_ended}
 use Rattle.tap_history.specs.GroupLaws.{IsGroup, accepted_of}
 use Rattle.tap_history.specs.Names.{names_of, with_name}
 use Rattle.tap_history.specs.Refusals.{first_refusal, first_some, is_and, refusals, refused_if, refuses_departing, refuses_name_taken, refuses_no_such_node, refuses_not_at_rest, refuses_not_core}
-use Rattle.tap_history.specs.Steps.{actor_of, asked_node, join_name}
-use Rattle.tap_history.proofs.Growing.{record_changes_hold}
+use Rattle.tap_history.specs.StepAsks.{actor_of, asked_node, join_name}
+use Rattle.tap_history.proofs.RecordChanges.{record_changes_hold}
 use Rattle.tap_history.proofs.Telling.{core_of-group, names_of-group, present_of-group}
 use Rattle.tap_rule.specs.Node.{NodeState, Status, joiner, member_at_rest}
 use Rattle.tap_rule.specs.Node.Status.{Joining}
@@ -37,7 +37,7 @@ use Rattle.tap_rule.proofs.StartSteps.{seek_start_law}
 use Rattle.tap_safety.specs.Move.Move.{Begins, Delivers}
 use Rattle.tap_safety.specs.Moved.{moved, numbered_frame, starter}
 use Rattle.tap_safety.specs.System.{System}
-use Rattle.tap_safety.proofs.Moves.{delivers, lost, starts}
+use Rattle.tap_safety.proofs.Moved.{delivers, lost, starts}
 use Rattle.tap_safety.specs.AtRest.{member_of, system_at_rest}
 use Rattle.tap_runs.specs.Beginning.{Beginning, begin_record}
 use Rattle.tap_runs.specs.Starts.{announced, start_of_step}
@@ -45,9 +45,9 @@ use Rattle.tap_runs.specs.Acts.{acted_records, news_after, news_before, sent_rec
 use Rattle.tap_runs.specs.Group.{received_records, records_of_act, start_at}
 use Rattle.tap_runs.specs.Course.{Follows, IsCourse, MayFollow, move_of_group, moved_by, system_of}
 use Rattle.tap_runs.specs.Observed.{counts_as_core, has_ended, is_core_node}
-use Rattle.tap_runs.specs.Laws.{is_ended_node, is_present_node}
+use Rattle.tap_runs.specs.CourseLaws.{is_ended_node, is_present_node}
 use Rattle.tap_runs.proofs.Within.{IsIdle, IsStarting, Within, is_accepted, is_group, step_kind, step_within, taken_within}
-use Rattle.tap_runs.proofs.Growing.{by_groups, grown_system, start_system, starts_begun, starts_uncarried}
+use Rattle.tap_runs.proofs.CourseGrows.{by_groups, grown_system, start_system, starts_begun, starts_uncarried}
 use Rattle.tap_runs.proofs.Frames.{none_of, starting_moves, step_moves, taken_moves}
 use Rattle.tap_runs.proofs.Status.{IsNoted, frame_noted, start_noted, tells_core, tells_gone}
 

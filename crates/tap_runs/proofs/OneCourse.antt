@@ -9,8 +9,8 @@ use Rattle.tap_history.specs.Groups.{EachGroupFrom, groups_of, records_of}
 use Rattle.tap_safety.specs.System.{System}
 use Rattle.tap_runs.specs.Beginning.{Beginning, begin_record}
 use Rattle.tap_runs.specs.Course.{FollowStep, Follows, MayFollow, is_choice, system_of}
-use Rattle.tap_runs.specs.Laws.{OneCourse, choice_of}
-use Rattle.tap_runs.proofs.Growing.{log_is}
+use Rattle.tap_runs.specs.CourseLaws.{OneCourse, choice_of}
+use Rattle.tap_runs.proofs.CourseGrows.{log_is}
 
 -- the first one of these records, and those after it
 abbrev first_or : Record → List Record → Record

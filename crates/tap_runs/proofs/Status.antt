@@ -9,7 +9,7 @@ use Rattle.tap_rule.specs.Event.News.{Nothing, Core as CoreNews, Gone as GoneNew
 use Rattle.tap_rule.specs.Reaction.{Reaction}
 use Rattle.tap_rule.specs.Act.{act}
 use Rattle.tap_rule.specs.Casts.{cast_news, cast_of, is_root}
-use Rattle.tap_rule.specs.Laws.{IsCarriedOut}
+use Rattle.tap_rule.specs.RuleLaws.{IsCarriedOut}
 use Rattle.tap_rule.proofs.Cases.{Cause, RuleCase}
 use Rattle.tap_rule.proofs.Cases.IsParting.{OneLeft, StartsLeaving}
 use Rattle.tap_rule.proofs.Cases.RuleCase.{CastsAlone, CastsOn, ClosesCast, HasCeased, IsCoreNow, IsGoneNow, TellsHolders}

@@ -14,12 +14,12 @@ use Rattle.tap_log.specs.declared.record.Record.{Record}
 use Rattle.tap_log.specs.declared.record.Record.TheVariants.{Step as StepRecord, Taken, Refused, Walked, RootOf, TableOf, Reached, Closed}
 use Rattle.tap_log.specs.declared.record.Refusal.{Refusal}
 use Rattle.tap_log.specs.Kinds.{accepts, asked_ticket, begins_group, begun_cast, core_name, gone_name, is_carried, sent_number, taken_number}
-use Rattle.tap_log.specs.Laws.{at_most_one}
+use Rattle.tap_log.specs.MoreRecords.{at_most_one}
 use Rattle.tap_history.specs.Core.{core_of}
 use Rattle.tap_history.specs.GroupLaws.{IsGroup}
 use Rattle.tap_history.specs.Groups.{ends_log, is_ended}
 use Rattle.tap_history.specs.Refusals.{first_refusal}
-use Rattle.tap_history.specs.Steps.{actor_of}
+use Rattle.tap_history.specs.StepAsks.{actor_of}
 use Rattle.tap_log.specs.declared.record.LinkLine.{LinkLine}
 use Rattle.tap_table.specs.Table.{rows}
 use Rattle.tap_surrogate.specs.Nodes.{core_links}

@@ -11,7 +11,7 @@ use Rattle.tap_log.specs.declared.record.Record.{Record}
 use Rattle.tap_log.specs.declared.record.Record.TheVariants.{Garbled}
 use Rattle.tap_history.specs.Moments.{outstanding}
 use Rattle.tap_history.specs.Refusals.{damaged}
-use Rattle.tap_history.specs.Steps.{flight_place}
+use Rattle.tap_history.specs.StepAsks.{flight_place}
 
 -- why the bytes are no frame; none if they are one
 abbrev pub fault_in : Result Frame WireFault → Option WireFault

@@ -7,4 +7,4 @@ pub mod Group
 pub mod Named
 pub mod Course
 pub mod Groups
-pub mod Laws
+pub mod CourseLaws

@@ -1,4 +1,4 @@
-ghost use Rattle.tap_runs.specs.Laws.{CourseFrames, CourseGrows, CourseNodes, OneCourse};
+ghost use Rattle.tap_runs.specs.CourseLaws.{CourseFrames, CourseGrows, CourseNodes, OneCourse};
 
 /// A beginning within the limits is the course of a run, of a system whose members are at rest, and an overlay may begin with these.
 /// With one more group that may follow, a course is one again, and its system is the one before, after the move that the group makes.

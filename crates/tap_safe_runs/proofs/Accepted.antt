@@ -12,7 +12,7 @@ use Rattle.tap_history.specs.Departing.{departing_of}
 use Rattle.tap_history.specs.Moments.{outstanding}
 use Rattle.tap_history.specs.Names.{name_count, names_of}
 use Rattle.tap_history.specs.Refusals.{first_refusal, first_some, is_and, is_joining, is_only_core, refusals, refused_if, refuses_already_abandoned, refuses_departing, refuses_last_node, refuses_name_taken, refuses_not_at_rest, refuses_not_core, refuses_not_joining, refuses_too_many_nodes, while_departing}
-use Rattle.tap_history.specs.Steps.{abandon_name, asked_node, depart_name, join_name, suits_departure, suits_joining}
+use Rattle.tap_history.specs.StepAsks.{abandon_name, asked_node, depart_name, join_name, suits_departure, suits_joining}
 use Rattle.tap_runs.proofs.Nodes.{asked_is_present, cause_fails, first_none}
 
 -- none of the refusals is there

@@ -9,12 +9,12 @@ use Rattle.tap_history.specs.Groups.{EachGroup, EachGroupFrom, groups_of, record
 use Rattle.tap_runs.specs.Named.{HasNames, HaveNames}
 use Rattle.tap_runs.specs.Beginning.{Beginning, begin_record}
 use Rattle.tap_runs.specs.Course.{Follows}
-use Rattle.tap_runs.proofs.Growing.{log_is}
+use Rattle.tap_runs.proofs.CourseGrows.{log_is}
 use Rattle.tap_safe_runs.specs.Each.{GroupsAreRight, IsRight}
 use Rattle.tap_safe_runs.specs.Safe.{IsRun}
 use Rattle.tap_safe_runs.proofs.Printed.{roots_are_found, walks_are_to_roots}
 use Rattle.tap_safe_runs.proofs.Safe.{run_begins, run_more, steps_after, steps_before}
-use Rattle.tap_safe_runs.proofs.Taken.{frames_are_received}
+use Rattle.tap_safe_runs.proofs.Received.{frames_are_received}
 
 module _ (b : Beginning) (log : List Record) where
   -- the group follows a run, and other groups follow it, up to the end of the log

@@ -12,17 +12,17 @@ use Rattle.tap_log.specs.declared.record.Record.{Record}
 use Rattle.tap_log.specs.declared.record.Record.TheVariants.{Carrier, Finished, Spent, Step as StepRecord}
 use Rattle.tap_log.specs.declared.record.Refusal.{Refusal}
 use Rattle.tap_log.specs.Kinds.{abandoned_name, accepts, begins_group, gone_name, is_carried, sent_number, step_of, taken_number}
-use Rattle.tap_log.specs.Laws.{at_most_one}
+use Rattle.tap_log.specs.MoreRecords.{at_most_one}
 use Rattle.tap_log.specs.Log.{last_of}
-use Rattle.tap_log.proofs.Growing.{filter_map-same, is_carried-push, last_of-push}
+use Rattle.tap_log.proofs.MoreRecords.{filter_map-same, is_carried-push, last_of-push}
 use Rattle.tap_history.specs.Core.{abandoned_of, accepted_step, core_of, gone_of, present_of}
 use Rattle.tap_history.specs.GroupLaws.{IsGroup}
 use Rattle.tap_history.specs.Groups.{after_beginning, beginning_of, can_be_cut, ends_log, groups_of, is_ended, is_ending, is_lengthened, is_spent, records_of}
 use Rattle.tap_history.specs.Moments.{numbers_less, outstanding}
 use Rattle.tap_history.specs.RecordLaws.{accepted_by, accepted_next}
 use Rattle.tap_history.specs.Refusals.{first_refusal}
-use Rattle.tap_history.specs.Steps.{actor_of, is_start, join_name}
-use Rattle.tap_history.proofs.Growing.{core_of-left, leaves_nodes, present_of-left}
+use Rattle.tap_history.specs.StepAsks.{actor_of, is_start, join_name}
+use Rattle.tap_history.proofs.RecordChanges.{core_of-left, leaves_nodes, present_of-left}
 use Rattle.tap_history.proofs.Parts.{beginning_of-group, groups_of-ended, groups_of-group, is_ended-append}
 use Rattle.tap_rule.specs.Event.{Start}
 use Rattle.tap_safety.specs.AtRest.{system_at_rest}
@@ -32,10 +32,10 @@ use Rattle.tap_runs.specs.Course.{move_of_group, move_of_start, moved_by, system
 use Rattle.tap_runs.specs.Group.{start_at}
 use Rattle.tap_runs.specs.Starts.{start_of_step}
 use Rattle.tap_runs.proofs.Frames.{step_moves}
-use Rattle.tap_runs.proofs.Growing.{log_is, starts_begun, starts_uncarried}
+use Rattle.tap_runs.proofs.CourseGrows.{log_is, starts_begun, starts_uncarried}
 use Rattle.tap_runs.proofs.Within.{is_group}
 use Rattle.tap_safe_runs.specs.Safe.{IsRun}
-use Rattle.tap_safe_runs.proofs.Alone.{HasNoStartLast}
+use Rattle.tap_safe_runs.proofs.NeverAlone.{HasNoStartLast}
 
 -- ---- nodes and frames
 

@@ -14,7 +14,7 @@ use Rattle.tap_runs.specs.Course.{Follows, MayFollow, move_of_group, moved_by, s
 use Rattle.tap_runs.specs.Group.{received_records}
 use Rattle.tap_runs.specs.Named.{HaveNames}
 use Rattle.tap_runs.proofs.Frames.{starting_moves, step_moves, taken_moves}
-use Rattle.tap_runs.proofs.Growing.{grown_system}
+use Rattle.tap_runs.proofs.CourseGrows.{grown_system}
 use Rattle.tap_runs.proofs.Nodes.{HasNoStep, no_steps}
 use Rattle.tap_runs.proofs.Within.{IsIdle, IsStarting, step_kind, step_within, taken_within}
 use Rattle.tap_safe_runs.specs.Safe.{IsRun}

@@ -17,8 +17,8 @@ use Rattle.tap_history.specs.Core.{abandoned_of, core_of}
 use Rattle.tap_history.specs.GroupLaws.{IsGroup}
 use Rattle.tap_history.specs.Groups.{is_ended}
 use Rattle.tap_history.specs.Refusals.{first_refusal}
-use Rattle.tap_history.specs.Steps.{abandon_name, asked_node}
-use Rattle.tap_history.proofs.Growing.{record_changes_hold}
+use Rattle.tap_history.specs.StepAsks.{abandon_name, asked_node}
+use Rattle.tap_history.proofs.RecordChanges.{record_changes_hold}
 use Rattle.tap_rule.specs.Act.{act}
 use Rattle.tap_rule.specs.Event.{News}
 use Rattle.tap_rule.specs.Event.Event.{Starts, Takes}
@@ -29,7 +29,7 @@ use Rattle.tap_rule.proofs.StartSteps.{give_up_law}
 use Rattle.tap_safety.specs.Move.Move.{Begins, Delivers}
 use Rattle.tap_safety.specs.Moved.{moved, numbered_frame, starter}
 use Rattle.tap_safety.specs.System.{System}
-use Rattle.tap_safety.proofs.Moves.{delivers, lost, starts}
+use Rattle.tap_safety.proofs.Moved.{delivers, lost, starts}
 use Rattle.tap_runs.specs.Acts.{acted_records}
 use Rattle.tap_runs.specs.Beginning.{Beginning, begin_record}
 use Rattle.tap_runs.specs.Course.{Follows, IsCourse, MayFollow, move_of_group, moved_by, system_of}
@@ -37,15 +37,15 @@ use Rattle.tap_runs.specs.Group.{received_records, records_of_act, start_at}
 use Rattle.tap_runs.specs.Observed.{counts_as_core, has_ended, is_core_node}
 use Rattle.tap_runs.specs.Starts.{announced}
 use Rattle.tap_runs.proofs.Frames.{none_of, starting_moves, step_moves, taken_moves}
-use Rattle.tap_runs.proofs.Growing.{by_groups, grown_system, start_system, starts_begun, starts_uncarried}
+use Rattle.tap_runs.proofs.CourseGrows.{by_groups, grown_system, start_system, starts_begun, starts_uncarried}
 use Rattle.tap_runs.proofs.Nodes.{Agree, asked_is_present, nodes_agree, one_if, starts_of, step_begins, taken_begins}
 use Rattle.tap_runs.proofs.Status.{IsNoted, frame_noted, start_noted, tells_core, tells_gone}
 use Rattle.tap_runs.proofs.Within.{IsIdle, IsStarting, Within, is_group, step_kind, step_within, taken_within}
 use Rattle.tap_safe_runs.proofs.Accepted.{gives_up_joining}
 use Rattle.tap_safe_runs.proofs.Distinct.{distinct_after}
-use Rattle.tap_safe_runs.proofs.Rules.{GivesUp, GoesOn, frame_goes_on, start_goes_on}
+use Rattle.tap_safe_runs.proofs.GivenUp.{GivesUp, GoesOn, frame_goes_on, start_goes_on}
 use Rattle.tap_safe_runs.proofs.There.{IsJoiningNode, joining_there}
-use Rattle.tap_safe_runs.proofs.Told.{abandons, announced_given, core_alone, core_started, core_step, core_taken, given_alone, given_announced, given_idle, given_started, given_taken, giving_up, said_before, said_now, said_where}
+use Rattle.tap_safe_runs.proofs.ToldCore.{abandons, announced_given, core_alone, core_started, core_step, core_taken, given_alone, given_announced, given_idle, given_started, given_taken, giving_up, said_before, said_now, said_where}
 
 -- ---- nodes whose join is given up
 

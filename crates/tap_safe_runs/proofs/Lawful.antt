@@ -4,14 +4,14 @@ use Rattle.std.proofs.lemmas.List.Elements.{All-take}
 use Rattle.tap_scenario.specs.Scenario.{IsScript, ScenarioValue}
 use Rattle.tap_log.specs.declared.record.Record.{Record}
 use Rattle.tap_runs.specs.Named.{HasNames}
-use Rattle.tap_runs.proofs.Named.{step_has_names}
+use Rattle.tap_runs.proofs.StepNames.{step_has_names}
 use Rattle.tap_lawful.specs.Next.{begun_count, beginning_in}
 use Rattle.tap_lawful.specs.Lawful.{IsPlayed}
 use Rattle.tap_lawful.proofs.Played.{played_course}
-use Rattle.tap_lawful.proofs.Steps.{played_steps}
+use Rattle.tap_lawful.proofs.BegunSteps.{played_steps}
 use Rattle.tap_safe_runs.specs.Safe.{IsRun}
 use Rattle.tap_safe_runs.specs.Lawful.{LawfulLogsAreSafe}
-use Rattle.tap_safe_runs.proofs.Headline.{run_is_safe}
+use Rattle.tap_safe_runs.proofs.SafeLogs.{run_is_safe}
 
 -- its steps are the scenario's first ones, whose names are names of the settings
 played_run : (s : ScenarioValue) (log : List Record) → IsScript s → IsPlayed s log → IsRun (beginning_in s) log

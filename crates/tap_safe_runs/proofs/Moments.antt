@@ -25,11 +25,11 @@ use Rattle.tap_safety.specs.System.{System}
 use Rattle.tap_safety.proofs.LinkKeeps.{status_seen}
 use Rattle.tap_runs.specs.Beginning.{Beginning}
 use Rattle.tap_runs.specs.Course.{Follows, IsCourse, move_of_group, moved_by, system_of}
-use Rattle.tap_runs.specs.Laws.{NodesAgree, frame_numbers, is_ended_node, is_present_node}
+use Rattle.tap_runs.specs.CourseLaws.{NodesAgree, frame_numbers, is_ended_node, is_present_node}
 use Rattle.tap_runs.specs.Observed.{counts_as_core, has_ended, is_core_node}
 use Rattle.tap_runs.proofs.Departing.{course_nodes_holds}
 use Rattle.tap_runs.proofs.Frames.{course_frames_holds}
-use Rattle.tap_runs.proofs.Growing.{by_groups, grown_system, start_system}
+use Rattle.tap_runs.proofs.CourseGrows.{by_groups, grown_system, start_system}
 use Rattle.tap_safety_moves.specs.Sound.{Sound}
 use Rattle.tap_safety_moves.specs.Walks.{AreCoreNames}
 use Rattle.tap_safety_moves.proofs.Consequences.{nothing_is_left}

@@ -19,7 +19,7 @@ use Rattle.tap_history.specs.Groups.{is_ended}
 use Rattle.tap_history.specs.Moments.{has_number, outstanding}
 use Rattle.tap_history.specs.Names.{names_of}
 use Rattle.tap_history.specs.Refusals.{first_refusal}
-use Rattle.tap_history.specs.Steps.{abandon_name, actor_of, asked_node, depart_name, join_name, suits_departure, suits_joining}
+use Rattle.tap_history.specs.StepAsks.{abandon_name, actor_of, asked_node, depart_name, join_name, suits_departure, suits_joining}
 use Rattle.tap_rule.specs.Event.{Start}
 use Rattle.tap_rule.specs.Event.Start.{Join as StartJoin, Abandon as StartAbandon, Publish as StartPublish, Withdraw as StartWithdraw, Find as StartFind, Leave as StartLeave, Cast as StartCast}
 use Rattle.tap_rule.specs.Node.Status.{Leaving}
@@ -32,7 +32,7 @@ use Rattle.tap_runs.specs.Named.{HasNames, HaveNames}
 use Rattle.tap_runs.specs.Beginning.{Beginning}
 use Rattle.tap_runs.specs.Course.{IsCourse, MayFollow, move_of_group, system_of}
 use Rattle.tap_runs.specs.Group.{start_at}
-use Rattle.tap_runs.specs.Laws.{FramesAgree, NodesAgree, frame_numbers, is_present_node}
+use Rattle.tap_runs.specs.CourseLaws.{FramesAgree, NodesAgree, frame_numbers, is_present_node}
 use Rattle.tap_runs.specs.Starts.{next_cast, next_ticket, start_of_step}
 use Rattle.tap_runs.proofs.Departing.{course_nodes_holds}
 use Rattle.tap_runs.proofs.Frames.{course_frames_holds, starting_moves, step_moves, taken_moves}
@@ -40,7 +40,7 @@ use Rattle.tap_runs.proofs.Nodes.{asked_is_present}
 use Rattle.tap_runs.proofs.Within.{step_kind}
 use Rattle.tap_readable.specs.Range.{HasNotMetNext}
 use Rattle.tap_readable.proofs.RangeCourses.{numbers_in_range_holds}
-use Rattle.tap_safe_runs.specs.Moves.{GroupMayMove}
+use Rattle.tap_safe_runs.specs.GroupMayMove.{GroupMayMove}
 use Rattle.tap_safe_runs.proofs.Accepted.{asked_is_core, departs_at_rest, gives_up_joining, gives_up_once, has_room, joins_anew, nobody_departs, others_stay}
 use Rattle.tap_safe_runs.proofs.Groups.{IsTold, is_told}
 use Rattle.tap_safe_runs.proofs.There.{core_there, joining_there, no_leaver, no_node}

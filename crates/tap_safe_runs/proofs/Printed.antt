@@ -11,11 +11,11 @@ use Rattle.tap_scenario.specs.declared.step.Step.TheVariants.{Root, Walk}
 use Rattle.tap_log.specs.declared.record.Record.{Record}
 use Rattle.tap_log.specs.declared.record.Record.TheVariants.{RootOf, Step as StepRecord}
 use Rattle.tap_log.specs.declared.record.Refusal.{Refusal}
-use Rattle.tap_log.specs.Laws.{at_most_one}
+use Rattle.tap_log.specs.MoreRecords.{at_most_one}
 use Rattle.tap_history.specs.Core.{core_of}
 use Rattle.tap_history.specs.Refusals.{damaged, first_refusal, first_some, packets_of_step, refusals, refuses_already_abandoned, refuses_already_published, refuses_departing, refuses_last_node, refuses_name_taken, refuses_no_such_byte, refuses_no_such_flight, refuses_no_such_node, refuses_not_at_rest, refuses_not_core, refuses_not_in_prefix, refuses_not_joining, refuses_not_published, refuses_readable, refuses_too_many_nodes, refuses_too_many_packets, while_departing}
 use Rattle.tap_history.specs.Departing.{departing_of}
-use Rattle.tap_history.specs.Steps.{abandon_name, asked_node, depart_name, flight_place, join_name, publish_pair, suits_departure, suits_joining, withdraw_pair}
+use Rattle.tap_history.specs.StepAsks.{abandon_name, asked_node, depart_name, flight_place, join_name, publish_pair, suits_departure, suits_joining, withdraw_pair}
 use Rattle.tap_surrogate.specs.Walk.{walk_end}
 use Rattle.tap_safety.specs.Bookkeeping.{HasCore}
 use Rattle.tap_runs.specs.Beginning.{Beginning}

@@ -13,10 +13,10 @@ use Rattle.tap_safety.specs.Move.{Move}
 use Rattle.tap_runs.specs.Named.{HasNames, HaveNames}
 use Rattle.tap_runs.specs.Beginning.{Beginning, IsWithinLimits, begin_record}
 use Rattle.tap_runs.specs.Course.{Follows, IsCourse, move_of_group, moved_by, system_of}
-use Rattle.tap_runs.proofs.Growing.{by_groups, course_grows_holds, grown_system, start_system}
+use Rattle.tap_runs.proofs.CourseGrows.{by_groups, course_grows_holds, grown_system, start_system}
 use Rattle.tap_safety_moves.specs.Sound.{Sound}
 use Rattle.tap_safety_moves.proofs.Members.{sound_at_rest}
-use Rattle.tap_safety_moves.proofs.Moves.{move_keeps}
+use Rattle.tap_safety_moves.proofs.SoundMoves.{move_keeps}
 use Rattle.tap_safe_runs.specs.Safe.{IsRun, RunsAreSound, RunsGrow}
 use Rattle.tap_safe_runs.proofs.Possible.{group_may_move}
 

@@ -8,10 +8,10 @@ use Rattle.tap_log.specs.Kinds.{step_of}
 use Rattle.tap_log.specs.declared.record.Record.{Record}
 use Rattle.tap_log.specs.declared.record.Record.TheVariants.{Step as StepRecord}
 use Rattle.tap_history.specs.Core.{accepted_in, accepted_step}
-use Rattle.tap_history.specs.Steps.{is_start}
+use Rattle.tap_history.specs.StepAsks.{is_start}
 use Rattle.tap_runs.proofs.Nodes.{HasNoStep}
 use Rattle.tap_runs.proofs.Within.{is_accepted}
-use Rattle.tap_safe_runs.specs.Starts.{AcceptNoStart}
+use Rattle.tap_safe_runs.specs.Accepting.{AcceptNoStart}
 
 -- ---- where a list that is parted twice is parted
 

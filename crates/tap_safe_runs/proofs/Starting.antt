@@ -11,7 +11,7 @@ use Rattle.tap_log.specs.Counts.{sent_count}
 use Rattle.tap_log.specs.Kinds.{accepts, begins_group}
 use Rattle.tap_log.specs.declared.record.Record.{Record}
 use Rattle.tap_log.specs.declared.record.Record.TheVariants.{Step as StepRecord}
-use Rattle.tap_history.specs.Steps.{actor_of, is_start}
+use Rattle.tap_history.specs.StepAsks.{actor_of, is_start}
 use Rattle.tap_rule.specs.Act.{act}
 use Rattle.tap_rule.specs.Event.{Acted, Start}
 use Rattle.tap_rule.specs.Event.Event.{Starts}
@@ -31,7 +31,7 @@ use Rattle.tap_runs.specs.Group.{records_of_act, start_at}
 use Rattle.tap_runs.specs.Starts.{announced, start_of_step}
 use Rattle.tap_runs.proofs.Nodes.{acted_accepted, join_accepted, start_in}
 use Rattle.tap_runs.proofs.Within.{IsStarting, is_accepted}
-use Rattle.tap_safe_runs.specs.Starts.{AcceptNoStart}
+use Rattle.tap_safe_runs.specs.Accepting.{AcceptNoStart}
 use Rattle.tap_safe_runs.proofs.GroupKinds.{IsStartGroup}
 use Rattle.tap_safe_runs.proofs.Splits.{start_accepted}
 

@@ -6,7 +6,7 @@ use Rattle.tap_rule.specs.Node.{NodeState, Status}
 use Rattle.tap_rule.specs.Node.Status.{Ceased, Core, Gone, Joining, Leaving}
 use Rattle.tap_safety.specs.Remembered.{Leaver}
 use Rattle.tap_safety.specs.System.{System, IsCoreNode}
-use Rattle.tap_runs.specs.Laws.{is_present_node}
+use Rattle.tap_runs.specs.CourseLaws.{is_present_node}
 use Rattle.tap_runs.specs.Observed.{counts_as_core, is_core_node}
 
 -- who wasn't ever there is no node

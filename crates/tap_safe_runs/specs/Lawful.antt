@@ -7,7 +7,7 @@ use Rattle.tap_log.specs.declared.record.Record.{Record}
 use Rattle.tap_lawful.specs.Next.{beginning_in}
 use Rattle.tap_lawful.specs.Lawful.{IsPlayed}
 use Rattle.tap_safe_runs.specs.Safe.{IsRun}
-use Rattle.tap_safe_runs.specs.Headline.{IsSafeThroughout}
+use Rattle.tap_safe_runs.specs.SafeLogs.{IsSafeThroughout}
 
 -- The log of a run of a scenario, however far it has come, is a run: the scenario's names are names of its settings. So it is safe throughout.
 pub record LawfulLogsAreSafe : Type 0 where

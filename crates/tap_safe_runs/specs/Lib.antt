@@ -1,9 +1,9 @@
-pub mod Moves
+pub mod GroupMayMove
 pub mod Safe
 pub mod Moments
 pub mod Printed
 pub mod Taken
 pub mod Each
-pub mod Headline
+pub mod SafeLogs
 pub mod Lawful
-pub mod Starts
+pub mod Accepting

@@ -10,7 +10,7 @@ use Rattle.tap_history.specs.Core.{abandoned_of, core_of, gone_of, present_of}
 use Rattle.tap_history.specs.Departing.{departing_of}
 use Rattle.tap_history.specs.Moments.{is_moment, is_rest}
 use Rattle.tap_surrogate.specs.HoleFree.{IsHoleFree}
-use Rattle.tap_surrogate.specs.Laws.{LeadsToRoot}
+use Rattle.tap_surrogate.specs.WalkLaws.{LeadsToRoot}
 use Rattle.tap_surrogate.specs.Nodes.{core_links}
 use Rattle.tap_surrogate.specs.Tables.{Tables}
 use Rattle.tap_surrogate.specs.Walk.{walk}

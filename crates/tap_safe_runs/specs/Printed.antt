@@ -10,7 +10,7 @@ use Rattle.tap_scenario.specs.declared.step.Step.TheVariants.{Root, Walk}
 use Rattle.tap_log.specs.declared.record.Record.{Record}
 use Rattle.tap_log.specs.declared.record.Record.TheVariants.{RootOf, Step as StepRecord, Walked}
 use Rattle.tap_history.specs.Core.{core_of}
-use Rattle.tap_surrogate.specs.Laws.{LeadsToRoot}
+use Rattle.tap_surrogate.specs.WalkLaws.{LeadsToRoot}
 use Rattle.tap_runs.specs.Beginning.{Beginning}
 use Rattle.tap_runs.specs.Course.{Follows, IsRefused}
 use Rattle.tap_safe_runs.specs.Safe.{IsRun}

@@ -1,8 +1,8 @@
 ghost use Rattle.tap_safe_runs.specs.Each.{GroupsAreRight};
-ghost use Rattle.tap_safe_runs.specs.Headline.{EndedLogsAreSafe};
+ghost use Rattle.tap_safe_runs.specs.SafeLogs.{EndedLogsAreSafe};
 ghost use Rattle.tap_safe_runs.specs.Lawful.{LawfulLogsAreSafe};
 ghost use Rattle.tap_safe_runs.specs.Moments.{AtEachMoment, HasCoreNodes, HasNoHole, RestIsAllCore, WalksEndAtRoots};
-ghost use Rattle.tap_safe_runs.specs.Moves.{GroupMayMove};
+ghost use Rattle.tap_safe_runs.specs.GroupMayMove.{GroupMayMove};
 ghost use Rattle.tap_safe_runs.specs.Printed.{RootsAreFound, WalksAreToRoots};
 ghost use Rattle.tap_safe_runs.specs.Safe.{RunsAreSound, RunsGrow};
 ghost use Rattle.tap_safe_runs.specs.Taken.{FramesAreReceived};

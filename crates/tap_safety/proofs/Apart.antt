@@ -4,11 +4,11 @@ use Rattle.std.proofs.lemmas.Bool.{cases_Bool, eqb-true}
 use Rattle.tap_wire.specs.declared.frame.Frame.{Frame}
 use Rattle.tap_safety.specs.Remembered.{Token}
 use Rattle.tap_safety.specs.Remembered.Token.{Way, Child}
-use Rattle.tap_safety.specs.Step.{Ascend}
+use Rattle.tap_safety.specs.Exchanges.{Ascend}
 use Rattle.tap_safety.specs.Sessions.{AmongTokens, for_child, for_way, is_place, is_placed, session_named, ways_of}
 use Rattle.tap_safety.specs.Awaited.{AreApart}
 use Rattle.tap_safety.proofs.Exchange.{for_child-was, for_way-was, is_place-same, tokens_either}
-use Rattle.tap_safety.proofs.Moves.{ascend_from}
+use Rattle.tap_safety.proofs.Moved.{ascend_from}
 use Rattle.tap_safety.proofs.SessionsKept.{ways_of-has}
 
 -- no token is both here and there

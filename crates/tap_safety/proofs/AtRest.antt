@@ -35,11 +35,11 @@ use Rattle.tap_safety.specs.Bookkeeping.{HasCore}
 use Rattle.tap_safety.specs.Filled.{AreFilled}
 use Rattle.tap_safety.specs.Invariant.{Basis}
 use Rattle.tap_safety.specs.Parts.{HasNear}
-use Rattle.tap_safety.specs.Remembered.{OpenSession, Word}
+use Rattle.tap_safety.specs.Remembered.{OpenSession, TieWord}
 use Rattle.tap_safety.specs.Seeking.{IsSeeker}
 use Rattle.tap_safety.specs.Sessions.{IsOpen}
-use Rattle.tap_safety.specs.System.{System, Covers, HasLink, IsCoreNode, IsJoiner}
-use Rattle.tap_safety.specs.Ties.{IsNoNewer, link_in, link_of, register_in, register_of, status_in, status_of, word_kept}
+use Rattle.tap_safety.specs.System.{System, CoversAt, HasLink, IsCoreNode, IsJoiner}
+use Rattle.tap_safety.specs.Ties.{IsNoNewer, link_in, link_of, register_in, register_of, status_in, status_of, tie_word_kept}
 use Rattle.tap_safety.proofs.Names.{lcp_itself, same_slot_near}
 use Rattle.tap_safety.proofs.WordsKept.{at_link}
 
@@ -190,18 +190,18 @@ module _ (p : SettingsValue) (members : List (List ℕ)) (are : AreMembers p mem
 
   -- ---- words
 
-  abbrev word : Word
+  abbrev word : TieWord
   word = record { version = 0; on = true }
 
   last_of : (x t : List ℕ) (kind : Kind) → link_of s x t ≡ Some kind → s.last x t ≡ Some word
   unfolding link_of
   last_of x t kind is = ap word_at_rest is
 
-  last_none : (x t : List ℕ) (said : Word) → link_of s x t ≡ None → s.last x t ≡ Some said → ⊥
+  last_none : (x t : List ℕ) (said : TieWord) → link_of s x t ≡ None → s.last x t ≡ Some said → ⊥
   unfolding link_of
   last_none x t said none is = let no : None ≡ Some said = sym (ap word_at_rest none) ∙ is in cc
 
-  last_node : (x t : List ℕ) (said : Word) → s.last x t ≡ Some said → Among x members × (said ≡ word)
+  last_node : (x t : List ℕ) (said : TieWord) → s.last x t ≡ Some said → Among x members × (said ≡ word)
   last_node x t said is =
       let member = by_node x (λ node. word_at_rest (link_in node t)) said refl is in (member.0, says (link_in (Some (member_at_rest p members x)) t) member.1)
     where
@@ -209,7 +209,7 @@ module _ (p : SettingsValue) (members : List (List ℕ)) (are : AreMembers p mem
       says None is = let no : None ≡ Some said = is in cc
       says (Some kind) is = let same : Some word ≡ Some said = is in cc
 
-  last_target : (x t : List ℕ) (said : Word) → s.last x t ≡ Some said → Among t members
+  last_target : (x t : List ℕ) (said : TieWord) → s.last x t ≡ Some said → Among t members
   last_target x t said is = by (link_of s x t) refl
     where
       by : (kind : Option Kind) → link_of s x t ≡ kind → Among t members
@@ -225,9 +225,9 @@ module _ (p : SettingsValue) (members : List (List ℕ)) (are : AreMembers p mem
       let theirs = (among-sorted members t).0 other in
       let held = (holds_exactly p names are.limits each_name ascending t x (name_of t theirs) (name_of x mine)).1 link in
       let there = among-filter_from (holds p t names) names x mine held in
-      ap (λ node. register_in node x) (node_at t other) ∙ ap word_kept (word_found (filter (holds p t names) names) x there)
+      ap (λ node. register_in node x) (node_at t other) ∙ ap tie_word_kept (word_found (filter (holds p t names) names) x there)
 
-  register_is : (x t : List ℕ) (said : Word) → register_of s t x ≡ Some said
+  register_is : (x t : List ℕ) (said : TieWord) → register_of s t x ≡ Some said
       → (said ≡ word) × (kind_in (table_at_rest p x names) t ≡ Some Settled) × Among x members
   unfolding register_of
   register_is x t said is =
@@ -236,14 +236,14 @@ module _ (p : SettingsValue) (members : List (List ℕ)) (are : AreMembers p mem
       from theirs (entry_of name_cmp (map holder_word (filter (holds p t names) names)) x) refl member.1
     where
       from : Among t names → (entry : Option (Entry (List ℕ) Bool))
-          → entry_of name_cmp (map holder_word (filter (holds p t names) names)) x ≡ entry → word_kept entry ≡ Some said
+          → entry_of name_cmp (map holder_word (filter (holds p t names) names)) x ≡ entry → tie_word_kept entry ≡ Some said
           → (said ≡ word) × (kind_in (table_at_rest p x names) t ≡ Some Settled) × Among x members
       from theirs None entry is = let no : None ≡ Some said = is in cc
       from theirs (Some e) entry is =
           let found = word_from (filter (holds p t names) names) x e entry in
           let holder = among-filter (holds p t names) names x found.0 in
           let link = (holds_exactly p names are.limits each_name ascending t x (name_of t theirs) (name_of x holder.0)).0 holder.1 in
-          let kept : Some word ≡ Some said = ap (λ entry. word_kept (Some entry)) (sym found.1) ∙ is in
+          let kept : Some word ≡ Some said = ap (λ entry. tie_word_kept (Some entry)) (sym found.1) ∙ is in
           (cc, link, (among-sorted members x).1 holder.0)
 
   -- ---- no slot of a member is empty that another fits
@@ -290,7 +290,7 @@ module _ (p : SettingsValue) (members : List (List ℕ)) (are : AreMembers p mem
   no_session : (x : List ℕ) (k : ℕ) (o : OpenSession) → IsOpen s x k o → ⊥
   no_session x k o is = let no : None ≡ Some o = is in cc
 
-  no_cover : (x b : List ℕ) (level : ℕ) → Covers s x b level → ⊥
+  no_cover : (x b : List ℕ) (level : ℕ) → CoversAt s x b level → ⊥
   no_cover x b level covers =
       let member = (node_is x covers.state covers.is).1 in
       let no : None ≡ Some level = sym (ap (λ node. level_kept node.covers b) member) ∙ covers.cover in
@@ -323,7 +323,7 @@ module _ (p : SettingsValue) (members : List (List ℕ)) (are : AreMembers p mem
     hole_free = record { filled = near };
   }
 
-  no_newer : (x t : List ℕ) (said : Word) → register_of s t x ≡ Some said → IsNoNewer s x t said
+  no_newer : (x t : List ℕ) (said : TieWord) → register_of s t x ≡ Some said → IsNoNewer s x t said
   unfolding link_of
   no_newer x t said is =
       let found = register_is x t said is in

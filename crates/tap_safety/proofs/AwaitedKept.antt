@@ -4,13 +4,13 @@ use Rattle.tap_wire.specs.declared.frame.Frame.{Frame}
 use Rattle.tap_safety.specs.Remembered.{OpenSession, Token}
 use Rattle.tap_safety.specs.Remembered.Token.{Way, Child}
 use Rattle.tap_safety.specs.System.{System}
-use Rattle.tap_safety.specs.Step.{AreNumbered, Ascend}
+use Rattle.tap_safety.specs.Exchanges.{AreNumbered, Ascend}
 use Rattle.tap_safety.specs.Sessions.{AmongTokens, AreExact, IsOpen, for_child, for_way, ways_of}
 use Rattle.tap_safety.specs.SessionSteps.{ClosesChild, ClosesRoot, HandsOn, LeavesSessions, OpensChild, OpensRoot, child_of, with_awaits, with_child}
 use Rattle.tap_safety.specs.Awaited.{AreApart, AreAwaitedOnce, IsChildOf}
 use Rattle.tap_safety.proofs.Apart.{AreDisjoint, for_child-apart, for_way-apart, ways_of-apart, ways_of-child}
 use Rattle.tap_safety.proofs.Exchange.{for_child-was, for_way-was}
-use Rattle.tap_safety.proofs.Moves.{ascend_from, ascend_under}
+use Rattle.tap_safety.proofs.Moved.{ascend_from, ascend_under}
 use Rattle.tap_safety.proofs.SessionsKept.{same_place, ways_of-has}
 
 -- what is so of an open session

@@ -3,16 +3,16 @@ use Rattle.std.proofs.Common.{◌≡◌, inl, inr, ℕ, List, [], ap}
 use Rattle.std.specs.Option.{unwrap_or}
 use Rattle.tap_name.specs.Prefix.{lcp}
 use Rattle.tap_name.specs.Settings.{SettingsValue}
-use Rattle.tap_safety.specs.System.{System, Covers, IsCoreNode, IsJoiner}
-use Rattle.tap_safety.specs.Words.{IsIn, IsReached, Pins, prefix_of, surrogate_of}
+use Rattle.tap_safety.specs.System.{System, CoversAt, IsCoreNode, IsJoiner}
+use Rattle.tap_safety.specs.Regions.{IsIn, IsReached, Pins, prefix_of, surrogate_of}
 use Rattle.tap_safety.specs.Parts.{Cover, Covered, CoversAndPins, IsClaim, IsMet, Meet}
 use Rattle.tap_safety.specs.Filled.{AreFilled}
-use Rattle.tap_safety.proofs.Kept.{AddsNone, Keeps, StaysJoiner, TakesNoTell, TakesOne, hole_free_kept, low_kept, met_kept, met_stays}
+use Rattle.tap_safety.proofs.KeptParts.{AddsNone, Keeps, StaysJoiner, TakesNoTell, TakesOne, hole_free_kept, low_kept, met_kept, met_stays}
 
 -- covers stay, no core node has a new pin, and surrogates stay
 pub record AddsNoCover (s s' : System) : Type 0 where
-  pub kept : (x b : List ℕ) (level : ℕ) → IsCoreNode s x → Covers s x b level → Covers s' x b level
-  pub was : (x b : List ℕ) (level : ℕ) → Covers s' x b level → Covers s x b level
+  pub kept : (x b : List ℕ) (level : ℕ) → IsCoreNode s x → CoversAt s x b level → CoversAt s' x b level
+  pub was : (x b : List ℕ) (level : ℕ) → CoversAt s' x b level → CoversAt s x b level
   pub pins : (x e : List ℕ) → IsCoreNode s x → Pins s' x e → Pins s x e
   pub surrogate : (b : List ℕ) → s'.surrogate b ≡ s.surrogate b
 

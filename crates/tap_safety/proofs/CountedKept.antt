@@ -24,7 +24,7 @@ use Rattle.tap_safety.specs.CountSteps.{
 }
 use Rattle.tap_safety.specs.SessionSteps.{ClosesChild, ClosesRoot, Exchanges, HandsOn, OpensChild, OpensRoot, child_of, with_awaits, with_child}
 use Rattle.tap_safety.specs.Sessions.{AmongTokens, AreExact, Belongs, IsOpen, for_child, for_way, is_place, ways_of}
-use Rattle.tap_safety.specs.Step.{ChangesAt}
+use Rattle.tap_safety.specs.Exchanges.{ChangesAt}
 use Rattle.tap_safety.proofs.Apart.{for_child-none, for_way-none}
 use Rattle.tap_safety.proofs.Exchange.{is_place-here, is_place-same}
 use Rattle.tap_safety.proofs.SessionsKept.{awaited_up, tokens_at}

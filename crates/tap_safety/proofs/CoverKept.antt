@@ -13,15 +13,15 @@ use Rattle.tap_wire.specs.declared.frame.TellFields.{TellFields}
 use Rattle.tap_rule.specs.Node.Status.{Core, Leaving, Joining}
 use Rattle.tap_rule.specs.Node.{link_to}
 use Rattle.tap_safety.specs.Frames.{hello_body, tell_body}
-use Rattle.tap_safety.specs.System.{System, IsCoreNode, IsJoiner, HasLink, Covers, IsTold}
-use Rattle.tap_safety.specs.Words.{IsGiven, IsReached, HaveMet, IsServed}
+use Rattle.tap_safety.specs.System.{System, IsCoreNode, IsJoiner, HasLink, CoversAt, IsTold}
+use Rattle.tap_safety.specs.Regions.{IsGiven, IsReached, HaveMet, IsServed}
 use Rattle.tap_safety.specs.Parts.{IsClaim, Cover, HasNear}
 use Rattle.tap_safety.specs.TellStep.{Tells, IsNewlyCovered, TakesTell, BeforeTell, IsTellOf}
 use Rattle.tap_safety.proofs.CoverStep.{cover_step}
-use Rattle.tap_safety.proofs.Kept.{Keeps, StaysJoiner, served_kept}
+use Rattle.tap_safety.proofs.KeptParts.{Keeps, StaysJoiner, served_kept}
 use Rattle.tap_safety.proofs.Names.{lcp_itself}
 use Rattle.tap_safety.proofs.TellKeeps.{adds_none, keeps, node_before, takes_one}
-use Rattle.tap_safety.proofs.Told.{sent_under_way}
+use Rattle.tap_safety.proofs.UnderWay.{sent_under_way}
 
 -- no core node is joining
 pub core_or_joiner : (s : System) (x : List ℕ) → IsCoreNode s x → IsJoiner s x → ⊥
@@ -61,8 +61,8 @@ module _ (s s' : System) (number : ℕ) (w x : List ℕ) (tell : TellFields) (wa
   }
 
   -- a cover of after the step was there, or is the new one
-  pub covers_cases : (v b : List ℕ) (level : ℕ) → Covers s' v b level
-      → Covers s v b level ⊎ ((v ≡ x) × (b ≡ tell.joiner) × (level ≡ tell.level))
+  pub covers_cases : (v b : List ℕ) (level : ℕ) → CoversAt s' v b level
+      → CoversAt s v b level ⊎ ((v ≡ x) × (b ≡ tell.joiner) × (level ≡ tell.level))
   covers_cases v b level covers =
       elim (node_before s s' x step.before step.after step.at v covers.state covers.is) [
         | inr there ↦ inl (record { state = covers.state; is = there; cover = covers.cover })
@@ -134,7 +134,7 @@ module _ (s s' : System) (number : ℕ) (w x : List ℕ) (tell : TellFields) (wa
         elim (cases_lt (lcp x e) c) [
           | inl below ↦ inr (newly e core apart (record { from = reach; to = λ d at. let same : c ≡ d = cc in omega arith }))
           | inr from ↦
-              let covers : Covers s x tell.joiner c = record { state = step.before; is = step.at.was; cover = old } in
+              let covers : CoversAt s x tell.joiner c = record { state = step.before; is = step.at.was; cover = old } in
               let claim : IsClaim p s x tell.joiner e c =
               record { core = is.core; joiner = is.joiner; covers = covers; other = core; reach = from; apart = apart } in
               elim (served_kept s s' x tell.joiner tell.level kept (takes_one s s' number w x tell watch step) tell.joiner e (lcp x e)
@@ -164,7 +164,7 @@ module _ (s s' : System) (number : ℕ) (w x : List ℕ) (tell : TellFields) (wa
               knows = record { known = inr (x, record { fields = hello.fields; way = way; named = inr (refl, hello.is_core) }) };
             }
         given (Some c) was =
-            let covers : Covers s x tell.joiner c = record { state = step.before; is = step.at.was; cover = was } in
+            let covers : CoversAt s x tell.joiner c = record { state = step.before; is = step.at.was; cover = was } in
             let cover = before.covered.each x tell.joiner c is.core is.joiner covers in
             kept.given tell.joiner x joiner cover.given
 

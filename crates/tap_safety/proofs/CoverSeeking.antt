@@ -11,9 +11,9 @@ use Rattle.tap_wire.specs.declared.frame.Frame.{Frame}
 use Rattle.tap_wire.specs.declared.frame.TellFields.{TellFields}
 use Rattle.tap_rule.specs.Node.{NodeState, link_to}
 use Rattle.tap_safety.specs.Frames.{HelloFields, hello_body, tell_body}
-use Rattle.tap_safety.specs.System.{System, Covers, IsCoreNode, IsJoiner, IsTold, IsUnderWay}
-use Rattle.tap_safety.specs.Words.{Has, prefix_of}
-use Rattle.tap_safety.specs.Step.{AreNumbered, ChangesAt, IsTaken, numbered_from}
+use Rattle.tap_safety.specs.System.{System, CoversAt, IsCoreNode, IsJoiner, IsTold, IsUnderWay}
+use Rattle.tap_safety.specs.Regions.{Has, prefix_of}
+use Rattle.tap_safety.specs.Exchanges.{AreNumbered, ChangesAt, IsTaken, numbered_from}
 use Rattle.tap_safety.specs.Seeking.{IsSeeker, Seeking}
 use Rattle.tap_safety.specs.Soft.{IsSoft}
 use Rattle.tap_safety.specs.Tells.{IsSoundTell, TellsAreSound}
@@ -30,7 +30,7 @@ use Rattle.tap_safety.proofs.SeatSoft.{joiner_is_new, seat_softs}
 use Rattle.tap_safety.proofs.SeekingKept.{seeker_not_soft}
 use Rattle.tap_safety.proofs.SoftSteps.{done_softs, softs_same}
 use Rattle.tap_safety.proofs.TellKeeps.{core_kept, covers_same, node_after, node_before}
-use Rattle.tap_safety.proofs.Told.{among_out, among_sent, among_was, told_by, was_under_way}
+use Rattle.tap_safety.proofs.UnderWay.{among_out, among_sent, among_was, told_by, was_under_way}
 
 -- ---- what comes
 
@@ -91,7 +91,7 @@ module _ (s s' : System) (x : List ℕ) (before after : NodeState) (at : Changes
       ]
 
   cover_or : ((d : List ℕ) → (d ≡ b) ⊎ (level_kept after.covers d ≡ level_kept before.covers d)) → (y d : List ℕ) (level : ℕ)
-      → Covers s' y d level → Covers s y d level ⊎ ((y ≡ x) × (d ≡ b))
+      → CoversAt s' y d level → CoversAt s y d level ⊎ ((y ≡ x) × (d ≡ b))
   cover_or covers y d level cover =
       elim (node_before s s' x before after at y cover.state cover.is) [
         | inr there ↦ inl (record { state = cover.state; is = there; cover = cover.cover })
@@ -105,7 +105,7 @@ module _ (s s' : System) (x : List ℕ) (before after : NodeState) (at : Changes
 
   -- each cover stays one, if b is covered afterwards
   cover_still : ((d : List ℕ) → (d ≡ b) ⊎ (level_kept after.covers d ≡ level_kept before.covers d)) → (c : ℕ)
-      → level_kept after.covers b ≡ Some c → (y d : List ℕ) (level : ℕ) → Covers s y d level → (now : ℕ) × Covers s' y d now
+      → level_kept after.covers b ≡ Some c → (y d : List ℕ) (level : ℕ) → CoversAt s y d level → (now : ℕ) × CoversAt s' y d now
   cover_still covers c covered y d level cover =
       elim (node_after s s' x before after at y cover.state cover.is) [
         | inr there ↦ (level, record { state = cover.state; is = there; cover = cover.cover })

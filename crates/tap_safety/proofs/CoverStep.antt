@@ -4,11 +4,11 @@ use Rattle.std.proofs.lemmas.Bool.{cases_lt}
 use Rattle.tap_name.specs.Settings.{SettingsValue}
 use Rattle.tap_name.specs.Name.{IsName}
 use Rattle.tap_name.specs.Prefix.{lcp}
-use Rattle.tap_safety.specs.System.{System, IsCoreNode, Covers}
-use Rattle.tap_safety.specs.Words.{HaveMet, IsServed}
+use Rattle.tap_safety.specs.System.{System, IsCoreNode, CoversAt}
+use Rattle.tap_safety.specs.Regions.{HaveMet, IsServed}
 use Rattle.tap_safety.specs.Parts.{Covered, IsClaim, Cover}
 use Rattle.tap_safety.proofs.Names.{lcp_whole}
-use Rattle.tap_safety.proofs.Kept.{Keeps, AddsNone, StaysJoiner, TakesOne, served_above, served_kept}
+use Rattle.tap_safety.proofs.KeptParts.{Keeps, AddsNone, StaysJoiner, TakesOne, served_above, served_kept}
 
 module _ (p : SettingsValue) (s s' : System) (x b : List ℕ) (level : ℕ) (kept : Keeps s s') (none : AddsNone s s')
     (takes : TakesOne s s' x b level) (names : (y : List ℕ) → IsCoreNode s y → IsName p y) (core_x : IsCoreNode s x)
@@ -16,7 +16,7 @@ module _ (p : SettingsValue) (s s' : System) (x b : List ℕ) (level : ℕ) (kep
   -- mine: what the taker's level reaches is served; met: so is the taker; covers: no other cover is new
   pub cover_step : ((e : List ℕ) → IsCoreNode s e → level ≤ lcp x e → lcp x e < p.digits → StaysJoiner s s' b → IsServed s' b e (lcp x e))
       → (StaysJoiner s s' b → HaveMet s' b x)
-      → ((v d : List ℕ) (m : ℕ) → Covers s' v d m → Covers s v d m ⊎ ((v ≡ x) × (d ≡ b) × (m ≡ level)))
+      → ((v d : List ℕ) (m : ℕ) → CoversAt s' v d m → CoversAt s v d m ⊎ ((v ≡ x) × (d ≡ b) × (m ≡ level)))
       → Cover p s'
   cover_step mine met covers = record { served = served }
     where
@@ -57,8 +57,8 @@ module _ (p : SettingsValue) (s s' : System) (x b : List ℕ) (level : ℕ) (kep
           ]
 
   -- the case Already: x covers b at no higher level, and nothing else changes
-  pub cover_already : Covered p s → (c : ℕ) → Covers s x b c → c ≤ level
-      → ((v d : List ℕ) (m : ℕ) → Covers s' v d m → Covers s v d m) → Cover p s'
+  pub cover_already : Covered p s → (c : ℕ) → CoversAt s x b c → c ≤ level
+      → ((v d : List ℕ) (m : ℕ) → CoversAt s' v d m → CoversAt s v d m) → Cover p s'
   cover_already covered c covers low same = cover_step mine met (λ v d m now. inl (same v d m now))
     where
       mine : (e : List ℕ) → IsCoreNode s e → level ≤ lcp x e → lcp x e < p.digits → StaysJoiner s s' b → IsServed s' b e (lcp x e)

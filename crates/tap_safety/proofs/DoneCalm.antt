@@ -3,8 +3,8 @@ use Rattle.std.proofs.Common.{◌≡◌, inl, inr, ℕ, List, [], sym, ap, ◌�
 use Rattle.std.specs.Option.{unwrap_or}
 use Rattle.tap_name.specs.Prefix.{lcp}
 use Rattle.tap_name.specs.Settings.{SettingsValue}
-use Rattle.tap_safety.specs.System.{System, Covers, IsCoreNode, IsJoiner}
-use Rattle.tap_safety.specs.Words.{IsIn, prefix_of, surrogate_of}
+use Rattle.tap_safety.specs.System.{System, CoversAt, IsCoreNode, IsJoiner}
+use Rattle.tap_safety.specs.Regions.{IsIn, prefix_of, surrogate_of}
 use Rattle.tap_safety.specs.Parts.{Covered, CoversAndPins, Meet}
 use Rattle.tap_safety.specs.DoneStep.{BeforeDone, NothingOnWay, TakesDone}
 use Rattle.tap_safety.specs.Filled.{AreFilled}
@@ -12,7 +12,7 @@ use Rattle.tap_safety.proofs.Calm.{still_told}
 use Rattle.tap_safety.proofs.DoneCover.{cover_kept, low_kept}
 use Rattle.tap_safety.proofs.DoneKept.{core_cases, core_on, covers_was, hole_free_kept, joiner_was, keeps, told_on}
 use Rattle.tap_safety.proofs.FrameKeeps.{covers_on, pins_back}
-use Rattle.tap_safety.proofs.Kept.{StaysJoiner}
+use Rattle.tap_safety.proofs.KeptParts.{StaysJoiner}
 
 module _ (p : SettingsValue) (s s' : System) (number : ℕ) (w e : List ℕ) (before : BeforeDone p s) (quiet : NothingOnWay s e)
     (step : TakesDone s s' number w e) where
@@ -25,16 +25,16 @@ module _ (p : SettingsValue) (s s' : System) (number : ℕ) (w e : List ℕ) (be
   stays : (b : List ℕ) → IsJoiner s' b → StaysJoiner s s' b
   stays b joiner = record { was = (joiner_was s s' number w e step b joiner).0; is = joiner }
 
-  covers_back : (y b : List ℕ) (level : ℕ) → Covers s' y b level → Covers s y b level
+  covers_back : (y b : List ℕ) (level : ℕ) → CoversAt s' y b level → CoversAt s y b level
   covers_back = covers_was s s' number w e step
 
   -- who covers isn't the new core node
-  coverer : (y b : List ℕ) (level : ℕ) → IsCoreNode s' y → Covers s' y b level → IsCoreNode s y
+  coverer : (y b : List ℕ) (level : ℕ) → IsCoreNode s' y → CoversAt s' y b level → IsCoreNode s y
   coverer y b level core covers =
       elim (core_cases s s' number w e step y core) [
         | inl old ↦ old
         | inr new ↦
-            let mine : Covers s e b level = rw new at (covers_back y b level covers) in
+            let mine : CoversAt s e b level = rw new at (covers_back y b level covers) in
             absurd (before.covered.joiners e b level quiet.joiner mine)
       ]
 

@@ -5,12 +5,12 @@ use Rattle.tap_name.specs.Prefix.{lcp}
 use Rattle.tap_name.specs.Settings.{SettingsValue}
 use Rattle.tap_name.proofs.Prefixes.{lcp-least, lcp-sym, lcp-triangle}
 use Rattle.tap_link.specs.declared.kind.Kind.TheVariants.{Pin}
-use Rattle.tap_safety.specs.System.{System, IsCoreNode, IsJoiner, Covers, IsTold}
-use Rattle.tap_safety.specs.Words.{surrogate_of, prefix_of, IsIn, Knows, IsGiven, IsReached, HaveMet, IsServed}
+use Rattle.tap_safety.specs.System.{System, IsCoreNode, IsJoiner, CoversAt, IsTold}
+use Rattle.tap_safety.specs.Regions.{surrogate_of, prefix_of, IsIn, Knows, IsGiven, IsReached, HaveMet, IsServed}
 use Rattle.tap_safety.specs.Parts.{CoverIs, IsMet, CoversAndPins, IsClaim, Cover, Low}
 use Rattle.tap_safety.specs.DoneStep.{TakesDone, NothingOnWay, BeforeDone}
 use Rattle.tap_safety.proofs.Names.{lcp_itself, lcp_whole}
-use Rattle.tap_safety.proofs.Kept.{Keeps, StaysJoiner, met_kept}
+use Rattle.tap_safety.proofs.KeptParts.{Keeps, StaysJoiner, met_kept}
 use Rattle.tap_safety.proofs.CoverKept.{core_or_joiner}
 use Rattle.tap_safety.proofs.DoneKept.{in_region, now_core, core_cases, joiner_was, link_on, covers_was, told_on, knows_on, keeps}
 
@@ -35,7 +35,7 @@ module _ (p : SettingsValue) (s s' : System) (number : ℕ) (w e : List ℕ) (be
   abbrev at : List ℕ
   at = surrogate_of s e
 
-  surrogate : IsCoreNode s at × Covers s at e (prefix_of s e)
+  surrogate : IsCoreNode s at × CoversAt s at e (prefix_of s e)
   surrogate = before.covered.surrogate e quiet.joiner
 
   -- the new core node isn't a joiner that is left
@@ -96,7 +96,7 @@ module _ (p : SettingsValue) (s s' : System) (number : ℕ) (w e : List ℕ) (be
 
   -- the new core node is served
   module _ (v b : List ℕ) (level : ℕ) (core : IsCoreNode s v) (joiner : StaysJoiner s s' b) (other : b ≡ e → ⊥)
-      (covers : Covers s v b level) (reach : level ≤ lcp v e) (apart : lcp v e < p.digits) where
+      (covers : CoversAt s v b level) (reach : level ≤ lcp v e) (apart : lcp v e < p.digits) where
     covered : CoverIs p s v b level
     covered = before.covered.each v b level core joiner.was covers
 
@@ -120,7 +120,7 @@ module _ (p : SettingsValue) (s s' : System) (number : ℕ) (w e : List ℕ) (be
         inr (record { to = e; level = way.0; told = told b e way.0 way.1; core = new_core; higher = omega arith; shared = omega arith })
 
     -- u covers b and stands in the region of e
-    direct : (u : List ℕ) (c : ℕ) → IsCoreNode s u → Covers s u b c → IsIn s e u → lcp v e ≤ lcp u e → IsServed s' b e (lcp v e)
+    direct : (u : List ℕ) (c : ℕ) → IsCoreNode s u → CoversAt s u b c → IsIn s e u → lcp v e ≤ lcp u e → IsServed s' b e (lcp v e)
     direct u c core_u covers_u inside low =
         let cover = before.covered.each u b c core_u joiner.was covers_u in
         let pin = (in_region p s e before quiet u core_u inside).0 in

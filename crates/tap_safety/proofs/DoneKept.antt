@@ -10,14 +10,14 @@ use Rattle.tap_wire.specs.declared.frame.Body.TheVariants.{Done}
 use Rattle.tap_wire.specs.declared.frame.Frame.{Frame}
 use Rattle.tap_rule.specs.Node.Status.{Core, Joining}
 use Rattle.tap_safety.specs.Frames.{hello_body, tell_body}
-use Rattle.tap_safety.specs.System.{System, IsCoreNode, IsJoiner, HasLink, Covers, IsTold, HelloNames}
-use Rattle.tap_safety.specs.Words.{surrogate_of, prefix_of, IsIn, Knows, Pins, IsGiven}
+use Rattle.tap_safety.specs.System.{System, IsCoreNode, IsJoiner, HasLink, CoversAt, IsTold, HelloNames}
+use Rattle.tap_safety.specs.Regions.{surrogate_of, prefix_of, IsIn, Knows, Pins, IsGiven}
 use Rattle.tap_safety.specs.Parts.{IsClaim, HasNear, HoleFree}
 use Rattle.tap_safety.specs.DoneStep.{TakesDone, NothingOnWay, BeforeDone}
 use Rattle.tap_safety.proofs.Names.{lcp_itself, lcp_whole, lcp_most}
-use Rattle.tap_safety.proofs.Told.{named_still, told_still}
+use Rattle.tap_safety.proofs.UnderWay.{named_still, told_still}
 use Rattle.tap_safety.proofs.KeepsAll.{keeps_all, knows_kept, near_kept}
-use Rattle.tap_safety.proofs.Kept.{Keeps}
+use Rattle.tap_safety.proofs.KeptParts.{Keeps}
 use Rattle.tap_safety.proofs.TellKeeps.{covers_same, links_same, node_after, node_before}
 use Rattle.tap_safety.proofs.CoverKept.{core_or_joiner}
 
@@ -65,7 +65,7 @@ module _ (s s' : System) (number : ℕ) (w e : List ℕ) (step : TakesDone s s' 
   pub link_on : (y z : List ℕ) (kind : Kind) → HasLink s y z kind → HasLink s' y z kind
   link_on = links_same s s' e step.before step.after step.at step.links
 
-  pub covers_was : (y b : List ℕ) (level : ℕ) → Covers s' y b level → Covers s y b level
+  pub covers_was : (y b : List ℕ) (level : ℕ) → CoversAt s' y b level → CoversAt s y b level
   covers_was = covers_same s s' e step.before step.after step.at step.covers
 
   pub told_on : (b x : List ℕ) (level : ℕ) → IsTold s b x level → IsTold s' b x level

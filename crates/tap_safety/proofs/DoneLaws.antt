@@ -1,5 +1,5 @@
 -- What a Done keeps.
-use Rattle.tap_safety.specs.Laws.{CoverKeptByDone, HoleFreeKeptByDone, LowKeptByDone}
+use Rattle.tap_safety.specs.KeptLaws.{CoverKeptByDone, HoleFreeKeptByDone, LowKeptByDone}
 use Rattle.tap_safety.proofs.DoneCover.{cover_kept, low_kept}
 use Rattle.tap_safety.proofs.DoneKept.{hole_free_kept}
 

@@ -2,10 +2,10 @@
 use Rattle.std.proofs.Common.{◌≡◌, inl, inr, ℕ, ◌+◌, ◌<◌, List, [], ◌∷◌, ◌++◌, ◌⊎◌, length, arith, refl}
 use Rattle.tap_wire.specs.declared.frame.Frame.{Frame}
 use Rattle.tap_safety.specs.System.{System, AmongFrames}
-use Rattle.tap_safety.specs.Step.{AreNumbered, Ascend, IsTaken, numbered_from}
+use Rattle.tap_safety.specs.Exchanges.{AreNumbered, Ascend, IsTaken, numbered_from}
 use Rattle.tap_safety.specs.SessionSteps.{Exchanges}
-use Rattle.tap_safety.proofs.Moves.{ascend_from, ascend_numbered, ascend_one, ascend_under, numbers_taken}
-use Rattle.tap_safety.proofs.Told.{among_either, among_out, among_right, among_there, among_was}
+use Rattle.tap_safety.proofs.Moved.{ascend_from, ascend_numbered, ascend_one, ascend_under, numbers_taken}
+use Rattle.tap_safety.proofs.UnderWay.{among_either, among_out, among_right, among_there, among_was}
 
 -- before a frame stand lesser numbers, and after it greater ones
 pub ascend_before : (low : ℕ) (front : List (ℕ × Frame)) (f : ℕ × Frame) (back : List (ℕ × Frame)) (high m : ℕ) (g : Frame)

@@ -10,14 +10,14 @@ use Rattle.tap_wire.specs.declared.frame.TellFields.{TellFields}
 use Rattle.tap_rule.specs.Node.{NodeState, link_to}
 use Rattle.tap_rule.specs.Node.Status.{Joining, Core, Leaving, Ceased as CeasedStatus}
 use Rattle.tap_safety.specs.Frames.{HelloFields, hello_body, tell_body}
-use Rattle.tap_safety.specs.System.{System, Covers, HasLink, HelloNames, IsCoreNode, IsJoiner}
-use Rattle.tap_safety.specs.Words.{Pins}
-use Rattle.tap_safety.specs.Step.{ChangesAt}
+use Rattle.tap_safety.specs.System.{System, CoversAt, HasLink, HelloNames, IsCoreNode, IsJoiner}
+use Rattle.tap_safety.specs.Regions.{Pins}
+use Rattle.tap_safety.specs.Exchanges.{ChangesAt}
 use Rattle.tap_safety.specs.FrameSteps.{TakesFrame, TakesPlainly, TakesTellCeased, TakesTellJoining}
 use Rattle.tap_safety.specs.Filled.{AreFilled}
 use Rattle.tap_safety.proofs.Calm.{AddsNoCover, filled_calm, still_told, still_told_but}
 use Rattle.tap_safety.proofs.KeepsAll.{keeps_all}
-use Rattle.tap_safety.proofs.Kept.{AddsNone, Keeps, TakesNoTell, TakesOne}
+use Rattle.tap_safety.proofs.KeptParts.{AddsNone, Keeps, TakesNoTell, TakesOne}
 use Rattle.tap_safety.proofs.TellKeeps.{
   core_kept,
   core_was,
@@ -28,7 +28,7 @@ use Rattle.tap_safety.proofs.TellKeeps.{
   node_before,
   told_but_one,
 }
-use Rattle.tap_safety.proofs.Told.{named_still, told_still}
+use Rattle.tap_safety.proofs.UnderWay.{named_still, told_still}
 
 -- ---- statuses
 
@@ -65,7 +65,7 @@ joiner_not_ceased s x state is ceased joiner =
 module _ (s s' : System) (x : List ℕ) (before after : NodeState) (at : ChangesAt s s' x before after) where
   -- covers and pins, from those after to those before
   pub covers_on : ((d : List ℕ) → level_kept after.covers d ≡ level_kept before.covers d) → (y d : List ℕ) (level : ℕ)
-      → Covers s y d level → Covers s' y d level
+      → CoversAt s y d level → CoversAt s' y d level
   covers_on same y d level covers =
       elim (node_after s s' x before after at y covers.state covers.is) [
         | inl here ↦

@@ -9,8 +9,8 @@ use Rattle.tap_wire.specs.declared.frame.Frame.{Frame}
 use Rattle.tap_rule.specs.Node.{NodeState, link_to}
 use Rattle.tap_safety.specs.Frames.{hello_body, tell_body}
 use Rattle.tap_safety.specs.System.{System, IsJoiner, IsTold, IsUnderWay}
-use Rattle.tap_safety.specs.Words.{Has}
-use Rattle.tap_safety.specs.Step.{ChangesAt, numbered_from}
+use Rattle.tap_safety.specs.Regions.{Has}
+use Rattle.tap_safety.specs.Exchanges.{ChangesAt, numbered_from}
 use Rattle.tap_safety.specs.Seeking.{HasNode, IsSeeker}
 use Rattle.tap_safety.specs.Soft.{AreQuiet, IsQuietBody, IsSoft, IsSoundLink}
 use Rattle.tap_safety.specs.SeekerSteps.{AmongSeeks, LeavesSeekers, LeavesTells}
@@ -19,7 +19,7 @@ use Rattle.tap_safety.specs.Joins.{JoinersStay}
 use Rattle.tap_safety.proofs.FrameKeeps.{covers_on, frame_adds_none, frame_cores}
 use Rattle.tap_safety.proofs.SoftKept.{frame_softs, sent_each}
 use Rattle.tap_safety.proofs.TellKeeps.{covers_same, joiner_after, node_after, node_before}
-use Rattle.tap_safety.proofs.Told.{among_out, among_sent, among_was, told_by, was_under_way}
+use Rattle.tap_safety.proofs.UnderWay.{among_out, among_sent, among_was, told_by, was_under_way}
 
 -- a link of a kind that is sound is to a soft node
 pub sound_soft : (s : System) (t : List ℕ) (kind : Kind) → IsSoundLink s t kind → IsSoft s t

@@ -11,26 +11,26 @@ use Rattle.tap_wire.specs.declared.frame.Body.TheVariants.{Forget, Link, Release
 use Rattle.tap_wire.specs.declared.frame.Frame.{Frame}
 use Rattle.tap_rule.specs.Node.{link_to}
 use Rattle.tap_rule.specs.Sent.{IsAmong}
-use Rattle.tap_safety.specs.Remembered.{Word}
+use Rattle.tap_safety.specs.Remembered.{TieWord}
 use Rattle.tap_safety.specs.System.{System}
-use Rattle.tap_safety.specs.Step.{IsSent}
+use Rattle.tap_safety.specs.Exchanges.{IsSent}
 use Rattle.tap_safety.specs.Moved.{HasDone, last_after, word_after}
 use Rattle.tap_safety.specs.Bookkeeping.{AreStamped, has_table}
 use Rattle.tap_safety.specs.FrameSteps.{TakesFrame}
-use Rattle.tap_safety.specs.Ties.{IsOnWay, link_in, link_of, register_in, register_of, status_in, status_of, word_frame, word_kept}
+use Rattle.tap_safety.specs.Ties.{IsOnWay, link_in, link_of, register_in, register_of, status_in, status_of, tie_word_kept, word_frame}
 use Rattle.tap_safety.specs.WordSteps.{IsSaid, KeepsForgets, SaysLinks, SaysNoMore, SaysWords}
-use Rattle.tap_safety.proofs.Told.{sent_under_way, still_under_way, was_under_way}
+use Rattle.tap_safety.proofs.UnderWay.{sent_under_way, still_under_way, was_under_way}
 
 -- ---- the last word after frames are sent
 
 -- a body is a word, or changes none
-word_or : (body : Body) (before : Option Word) → ((version : ℕ) × (on : Bool) × (body ≡ Link version on))
+word_or : (body : Body) (before : Option TieWord) → ((version : ℕ) × (on : Bool) × (body ≡ Link version on))
     ⊎ ((word_after body before ≡ before) × ((version : ℕ) (on : Bool) → body ≡ Link version on → ⊥))
 word_or (Link version on) before = inl (version, on, refl)
 word_or other before = inr (refl, λ version on is. cc)
 
 -- a Link to t is among these
-pub record HasLinkTo (sent : List Frame) (t : List ℕ) (word : Word) : Type 0 where
+pub record HasLinkTo (sent : List Frame) (t : List ℕ) (word : TieWord) : Type 0 where
   pub from : List ℕ
   pub among : IsAmong (record { from = from; to = t; body = Link word.version word.on }) sent
 
@@ -39,8 +39,8 @@ abbrev pub NoLinkTo : List Frame → List ℕ → Type 0
 NoLinkTo sent t =
     (from : List ℕ) (version : ℕ) (on : Bool) → IsAmong (record { from = from; to = t; body = Link version on }) sent → ⊥
 
-pub last_cases : (sent : List Frame) (t : List ℕ) (before : Option Word) → ((last_after sent t before ≡ before) × NoLinkTo sent t)
-    ⊎ ((word : Word) × (last_after sent t before ≡ Some word) × HasLinkTo sent t word)
+pub last_cases : (sent : List Frame) (t : List ℕ) (before : Option TieWord) → ((last_after sent t before ≡ before) × NoLinkTo sent t)
+    ⊎ ((word : TieWord) × (last_after sent t before ≡ Some word) × HasLinkTo sent t word)
 unfolding last_after
 last_cases [] t before = inl (refl, λ from version on among. absurd among)
 last_cases (f ∷ fs) t before =
@@ -66,7 +66,7 @@ last_cases (f ∷ fs) t before =
             | inl none ↦
                 elim (word_or f.body before) [
                   | inl says ↦
-                      let word : Word = record { version = says.0; on = says.1 } in
+                      let word : TieWord = record { version = says.0; on = says.1 } in
                       let said : word_after f.body before ≡ Some word = ap (λ body. word_after body before) says.2 in
                       inr (word, none.0 ∙ said, record { from = f.from; among = inl (whole f t word (sym to) says.2) })
                   | inr same ↦ inl (
@@ -81,7 +81,7 @@ last_cases (f ∷ fs) t before =
           ])
     ]
   where
-    whole : (f : Frame) (t : List ℕ) (word : Word) → f.to ≡ t → f.body ≡ Link word.version word.on
+    whole : (f : Frame) (t : List ℕ) (word : TieWord) → f.to ≡ t → f.body ≡ Link word.version word.on
         → record { from = f.from; to = t; body = Link word.version word.on } ≡ f
     whole f t word to body =
         let by_to : List ℕ → Frame = λ u. record { from = f.from; to = u; body = f.body } in
@@ -93,14 +93,14 @@ same_sent : (sent : List Frame) (x t u : List ℕ) (one two : ℕ) (on off : Boo
     → IsAmong (record { from = x; to = t; body = Link one on }) sent → IsSent sent x u (Link two off)
 same_sent sent x t u one two on off to version says among = rw (← to, ← version, ← says) among
 
-same_word : (one two : Word) → one.version ≡ two.version → one.on ≡ two.on → one ≡ two
+same_word : (one two : TieWord) → one.version ≡ two.version → one.on ≡ two.on → one ≡ two
 same_word one two version on =
-    let by_version : ℕ → Word = λ n. record { version = n; on = one.on } in
-    let by_on : Bool → Word = λ b. record { version = two.version; on = b } in
+    let by_version : ℕ → TieWord = λ n. record { version = n; on = one.on } in
+    let by_on : Bool → TieWord = λ b. record { version = two.version; on = b } in
     ap by_version version ∙ ap by_on on
 
 -- y is x, and says this word to t
-record IsWordOf (x : List ℕ) (words : List Tie) (y t : List ℕ) (word : Word) : Type 0 where
+record IsWordOf (x : List ℕ) (words : List Tie) (y t : List ℕ) (word : TieWord) : Type 0 where
   from : y ≡ x
   tie : Tie
   among : IsAmong tie words
@@ -147,18 +147,18 @@ module _ (s s' : System) (number : ℕ) (frame : Frame) (step : TakesFrame s s' 
             let now : register_in (s'.node frame.to) y ≡ register_in (Some step.after) y = ap (λ node. register_in node y) step.at.is in
             let was : register_in (s.node frame.to) y ≡ register_in (Some step.before) y = ap (λ node. register_in node y) step.at.was in
             let stays : register_in (Some step.after) y ≡ register_in (Some step.before) y =
-            ap word_kept (says.register y) in
+            ap tie_word_kept (says.register y) in
             let both : register_in (s'.node frame.to) y ≡ register_in (s.node frame.to) y = now ∙ stays ∙ sym was in
             rw here both
       ]
 
   -- ---- what is sent
 
-  abbrev IsOneOf : List ℕ → List ℕ → Word → Type 0
+  abbrev IsOneOf : List ℕ → List ℕ → TieWord → Type 0
   IsOneOf y t word = IsWordOf frame.to step.words y t word
 
   -- a Link that is sent is one of the words
-  from_words : (y t : List ℕ) (word : Word) → IsSent step.sent y t (Link word.version word.on) → IsOneOf y t word
+  from_words : (y t : List ℕ) (word : TieWord) → IsSent step.sent y t (Link word.version word.on) → IsOneOf y t word
   from_words y t word sends =
       elim (step.are.each (record { from = y; to = t; body = Link word.version word.on }) sends) [
         | inl link ↦
@@ -184,7 +184,7 @@ module _ (s s' : System) (number : ℕ) (frame : Frame) (step : TakesFrame s s' 
       ]
 
   -- a word that is under way was, or is one of these
-  word_was : (y t : List ℕ) (word : Word) → IsOnWay s' (word_frame y t word) → IsOnWay s (word_frame y t word)
+  word_was : (y t : List ℕ) (word : TieWord) → IsOnWay s' (word_frame y t word) → IsOnWay s (word_frame y t word)
       ⊎ IsOneOf y t word
   word_was y t word way =
       elim (was_under_way s s' number frame step.sent step.taken y t (Link word.version word.on) way) [
@@ -197,7 +197,7 @@ module _ (s s' : System) (number : ℕ) (frame : Frame) (step : TakesFrame s s' 
   last_here t = done.words t
 
   -- what is said to t
-  said_to : (t : List ℕ) → (word : Word) → s'.last frame.to t ≡ Some word → (one : IsOneOf frame.to t word) → IsSaid s s' frame.to t
+  said_to : (t : List ℕ) → (word : TieWord) → s'.last frame.to t ≡ Some word → (one : IsOneOf frame.to t word) → IsSaid s s' frame.to t
   said_to t word last one = record {
     word = word;
     last = last;
@@ -213,11 +213,11 @@ module _ (s s' : System) (number : ℕ) (frame : Frame) (step : TakesFrame s s' 
   }
     where
       -- its link is that of the tie's name
-      link_of_tie : (t : List ℕ) (word : Word) (one : IsOneOf frame.to t word) (kind : Option Kind) → link_to step.after t ≡ kind
+      link_of_tie : (t : List ℕ) (word : TieWord) (one : IsOneOf frame.to t word) (kind : Option Kind) → link_to step.after t ≡ kind
           → link_to step.after one.tie.to ≡ kind
       link_of_tie t word one kind is = sym (ap (λ u. link_to step.after u) one.to) ∙ is
 
-      tie_sent : (t : List ℕ) (word : Word) (one : IsOneOf frame.to t word) → IsSent step.sent frame.to t (Link word.version word.on)
+      tie_sent : (t : List ℕ) (word : TieWord) (one : IsOneOf frame.to t word) → IsSent step.sent frame.to t (Link word.version word.on)
       tie_sent t word one =
           let there = step.are.links one.tie one.among in
           same_sent step.sent frame.to one.tie.to t one.tie.version word.version one.tie.on word.on (sym one.to) (sym one.version)
@@ -246,7 +246,7 @@ module _ (s s' : System) (number : ℕ) (frame : Frame) (step : TakesFrame s s' 
       ]
 
   -- a word that is sent is the last one to its name
-  is_last : (t : List ℕ) (word : Word) → IsOneOf frame.to t word → (is : IsSaid s s' frame.to t) × (is.word ≡ word)
+  is_last : (t : List ℕ) (word : TieWord) → IsOneOf frame.to t word → (is : IsSaid s s' frame.to t) × (is.word ≡ word)
   unfolding said_to
   is_last t word one =
       elim (last_cases step.sent t (s.last frame.to t)) [

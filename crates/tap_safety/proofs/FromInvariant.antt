@@ -11,7 +11,7 @@ use Rattle.tap_wire.specs.declared.frame.Body.TheVariants.{Done, Seek}
 use Rattle.tap_wire.specs.declared.frame.TellFields.{TellFields}
 use Rattle.tap_safety.specs.Frames.{tell_body}
 use Rattle.tap_safety.specs.System.{System, HasLink, IsCoreNode, IsJoiner, IsTold, IsUnderWay}
-use Rattle.tap_safety.specs.Words.{Has, Pins}
+use Rattle.tap_safety.specs.Regions.{Has, Pins}
 use Rattle.tap_safety.specs.Filled.{AreFilled}
 use Rattle.tap_safety.specs.Parts.{SettledCore}
 use Rattle.tap_safety.specs.TellStep.{BeforeTell, IsTellOf}

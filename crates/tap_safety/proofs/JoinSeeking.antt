@@ -10,15 +10,15 @@ use Rattle.tap_wire.specs.declared.frame.Frame.{Frame}
 use Rattle.tap_rule.specs.Node.{link_to}
 use Rattle.tap_safety.specs.Frames.{HelloFields, hello_body, tell_body}
 use Rattle.tap_safety.specs.System.{System, AmongFrames, HasLink, HelloNames, IsTold, IsUnderWay}
-use Rattle.tap_safety.specs.Words.{Has}
-use Rattle.tap_safety.specs.Step.{numbered_from}
+use Rattle.tap_safety.specs.Regions.{Has}
+use Rattle.tap_safety.specs.Exchanges.{numbered_from}
 use Rattle.tap_safety.specs.Seeking.{AreOfSeekers, HasNode, HasOneSeek, IsSeeker, IsUnknown, Seeking}
 use Rattle.tap_safety.specs.Soft.{IsSoft}
 use Rattle.tap_safety.specs.FrameSteps.{StartsJoin}
 use Rattle.tap_safety.specs.SeekerSteps.{BeforeJoin, SeeksBy, seek_frame}
 use Rattle.tap_safety.proofs.LinkKeeps.{offered_named}
 use Rattle.tap_safety.proofs.StartKeeps.{join_cores, join_covers_was, node_was, old_node}
-use Rattle.tap_safety.proofs.Told.{among_either, among_left, among_right, told_by}
+use Rattle.tap_safety.proofs.UnderWay.{among_either, among_left, among_right, told_by}
 
 -- a soft node is there
 soft_there : (s : System) (b : List ℕ) → IsSoft s b → HasNode s b

@@ -5,9 +5,9 @@ use Rattle.tap_name.specs.Prefix.{lcp}
 use Rattle.tap_link.specs.declared.kind.Kind.{Kind}
 use Rattle.tap_link.specs.declared.kind.Kind.TheVariants.{Pin}
 use Rattle.tap_safety.specs.System.{System, HasLink, IsCoreNode, HelloNames}
-use Rattle.tap_safety.specs.Words.{Has, Knows}
+use Rattle.tap_safety.specs.Regions.{Has, Knows}
 use Rattle.tap_safety.specs.Parts.{HasNear}
-use Rattle.tap_safety.proofs.Kept.{Keeps}
+use Rattle.tap_safety.proofs.KeptParts.{Keeps}
 
 module _ (s s' : System) (cores : (y : List ℕ) → IsCoreNode s y → IsCoreNode s' y)
     (links : (y z : List ℕ) (kind : Kind) → HasLink s y z kind → HasLink s' y z kind)

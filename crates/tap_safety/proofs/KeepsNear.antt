@@ -5,9 +5,9 @@ use Rattle.tap_name.specs.Prefix.{lcp}
 use Rattle.tap_name.proofs.Prefixes.{lcp-least, lcp-triangle}
 use Rattle.tap_link.specs.declared.kind.Kind.{Kind}
 use Rattle.tap_safety.specs.System.{System, HasLink, HelloNames, IsCoreNode, IsJoiner}
-use Rattle.tap_safety.specs.Words.{Has, IsGiven}
+use Rattle.tap_safety.specs.Regions.{Has, IsGiven}
 use Rattle.tap_safety.specs.Parts.{HasNear}
-use Rattle.tap_safety.proofs.Kept.{Keeps, StaysJoiner}
+use Rattle.tap_safety.proofs.KeptParts.{Keeps, StaysJoiner}
 
 -- y has a core node: z, or one of its slot
 pub record HasInSlot (s : System) (y z : List ℕ) : Type 0 where

@@ -5,13 +5,13 @@ use Rattle.tap_wire.specs.declared.frame.Body.TheVariants.{Link}
 use Rattle.tap_wire.specs.declared.frame.Frame.{Frame}
 use Rattle.tap_rule.specs.Node.{NodeState, Status}
 use Rattle.tap_rule.specs.Node.Status.{Ceased, Gone}
-use Rattle.tap_safety.specs.Remembered.{Word}
+use Rattle.tap_safety.specs.Remembered.{TieWord}
 use Rattle.tap_safety.specs.System.{System, AmongFrames, IsCoreNode}
 use Rattle.tap_safety.specs.Bookkeeping.{AreStamped, HaveEnds, has_table}
 use Rattle.tap_safety.specs.Moved.{HasDone, last_after}
 use Rattle.tap_safety.specs.Seeking.{HasNode}
 use Rattle.tap_safety.specs.Spelled.{AreSpelled, SendsSpelled}
-use Rattle.tap_safety.specs.Step.{ChangesAt, HasSent, IsSent, IsTaken, numbered_from}
+use Rattle.tap_safety.specs.Exchanges.{ChangesAt, HasSent, IsSent, IsTaken, numbered_from}
 use Rattle.tap_safety.specs.Ties.{Versions, status_of, word_frame}
 use Rattle.tap_safety.specs.KnownLaws.{
   CoreKept,
@@ -33,7 +33,7 @@ use Rattle.tap_safety.specs.KnownLaws.{
 }
 use Rattle.tap_safety.proofs.LinkKeeps.{status_at}
 use Rattle.tap_safety.proofs.FrameWords.{last_cases}
-use Rattle.tap_safety.proofs.Told.{among_either, among_sent, among_was}
+use Rattle.tap_safety.proofs.UnderWay.{among_either, among_sent, among_was}
 
 -- ---- nodes
 
@@ -158,7 +158,7 @@ module _ (s s' : System) (x : List ℕ) (after : NodeState) (sent : List Frame) 
         | inr new ↦ let goes = away f (among_sent s.next sent m f new) in (rw goes.0 here, node_on f.to goes.2)
       ]
 
-  heard : (y t : List ℕ) (word : Word) → s'.last y t ≡ Some word → HasNode s' t
+  heard : (y t : List ℕ) (word : TieWord) → s'.last y t ≡ Some word → HasNode s' t
   heard y t word last =
       elim (done.others_words y t) [
         | inr same ↦ node_on t (ends.receivers y t word (sym same ∙ last))
@@ -196,7 +196,7 @@ ends_start s s' x after sent has = ends_kept s s' x after sent (came_start s s' 
 -- ---- stamps
 
 -- a word has one number among these
-links_once : (n : ℕ) (sent : List Frame) (x t : List ℕ) (word : Word) (m k : ℕ) → LinksAreOnce sent
+links_once : (n : ℕ) (sent : List Frame) (x t : List ℕ) (word : TieWord) (m k : ℕ) → LinksAreOnce sent
     → AmongFrames m (word_frame x t word) (numbered_from n sent) → AmongFrames k (word_frame x t word) (numbered_from n sent) → m ≡ k
 links_once n [] x t word m k once one two = absurd one
 links_once n (f ∷ fs) x t word m k (fresh, once) (inl one) (inl two) = one.0 ∙ sym two.0
@@ -212,7 +212,7 @@ module _ (s s' : System) (x : List ℕ) (before after : NodeState) (sent : List 
     (at : ChangesAt s s' x before after) (done : HasDone s s' x after sent) (stamps : Stamps before after x sent)
     (versions : Versions s) (are : AreStamped s) where
   -- a word that was under way isn't sent again
-  not_again : (y t : List ℕ) (word : Word) (m k : ℕ) → AmongFrames m (word_frame y t word) s.frames
+  not_again : (y t : List ℕ) (word : TieWord) (m k : ℕ) → AmongFrames m (word_frame y t word) s.frames
       → AmongFrames k (word_frame y t word) (numbered_from s.next sent) → ⊥
   not_again y t word m k old new =
       let comes = among_sent s.next sent k (word_frame y t word) new in
@@ -224,7 +224,7 @@ module _ (s s' : System) (x : List ℕ) (before after : NodeState) (sent : List 
       let given = are.stamp y t was.last before there mine.1 was.is in
       absurd (omega arith)
 
-  once : (y t : List ℕ) (word : Word) (m k : ℕ) → AmongFrames m (word_frame y t word) s'.frames
+  once : (y t : List ℕ) (word : TieWord) (m k : ℕ) → AmongFrames m (word_frame y t word) s'.frames
       → AmongFrames k (word_frame y t word) s'.frames → m ≡ k
   once y t word m k one two =
       elim (came m (word_frame y t word) one) [
@@ -240,7 +240,7 @@ module _ (s s' : System) (x : List ℕ) (before after : NodeState) (sent : List 
             ]
       ]
 
-  mine : (y t : List ℕ) (word : Word) (state : NodeState) → y ≡ x → s'.node y ≡ Some state → has_table state.status
+  mine : (y t : List ℕ) (word : TieWord) (state : NodeState) → y ≡ x → s'.node y ≡ Some state → has_table state.status
       → s'.last y t ≡ Some word → word.version ≤ state.stamp
   mine y t word state same is table last =
       let there : s'.node y ≡ Some after = rw same at.is in
@@ -285,7 +285,7 @@ module _ (s s' : System) (x : List ℕ) (after : NodeState) (sent : List Frame) 
     (done : HasDone s s' x after sent) (fresh : s.node x ≡ None)
     (silent : (w t : List ℕ) (version : ℕ) (on : Bool) → IsSent sent w t (Link version on) → ⊥) (ends : HaveEnds s)
     (are : AreStamped s) where
-  link_was : (y t : List ℕ) (word : Word) (m : ℕ) → AmongFrames m (word_frame y t word) s'.frames
+  link_was : (y t : List ℕ) (word : TieWord) (m : ℕ) → AmongFrames m (word_frame y t word) s'.frames
       → AmongFrames m (word_frame y t word) s.frames
   link_was y t word m among =
       elim (came_start s s' sent has m (word_frame y t word) among) [
@@ -294,7 +294,7 @@ module _ (s s' : System) (x : List ℕ) (after : NodeState) (sent : List Frame) 
       ]
 
   -- the new name has said nothing
-  says_nothing : (t : List ℕ) (word : Word) → s'.last x t ≡ Some word → ⊥
+  says_nothing : (t : List ℕ) (word : TieWord) → s'.last x t ≡ Some word → ⊥
   says_nothing t word last =
       let now : last_after sent t (s.last x t) ≡ Some word = sym (done.words t) ∙ last in
       elim (last_cases sent t (s.last x t)) [

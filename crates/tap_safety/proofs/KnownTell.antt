@@ -5,15 +5,15 @@ use Rattle.tap_name.specs.Settings.{SettingsValue}
 use Rattle.tap_wire.specs.declared.frame.Frame.{Frame}
 use Rattle.tap_wire.specs.declared.frame.TellFields.{TellFields}
 use Rattle.tap_safety.specs.Frames.{hello_body, tell_body}
-use Rattle.tap_safety.specs.System.{System, Covers}
+use Rattle.tap_safety.specs.System.{System, CoversAt}
 use Rattle.tap_safety.specs.Parts.{Cover}
 use Rattle.tap_safety.specs.TellStep.{BeforeTell, IsTellOf, TakesKnownTell}
 use Rattle.tap_safety.proofs.CoverKept.{core_or_joiner}
 use Rattle.tap_safety.proofs.CoverStep.{cover_already}
-use Rattle.tap_safety.proofs.Kept.{AddsNone, Keeps, TakesOne}
+use Rattle.tap_safety.proofs.KeptParts.{AddsNone, Keeps, TakesOne}
 use Rattle.tap_safety.proofs.KeepsAll.{keeps_all}
 use Rattle.tap_safety.proofs.TellKeeps.{core_kept, core_was, covers_same, joiner_was, links_same, told_but_one}
-use Rattle.tap_safety.proofs.Told.{named_still}
+use Rattle.tap_safety.proofs.UnderWay.{named_still}
 
 module _ (p : SettingsValue) (s s' : System) (number : ℕ) (w x : List ℕ) (tell : TellFields) (watch : List Slot)
     (step : TakesKnownTell s s' number w x tell watch) (before : BeforeTell p s)
@@ -43,6 +43,6 @@ module _ (p : SettingsValue) (s s' : System) (number : ℕ) (w x : List ℕ) (te
 
   pub cover_known : Cover p s'
   cover_known =
-      let covers : Covers s x tell.joiner step.kept = record { state = step.before; is = step.at.was; cover = step.covered } in
+      let covers : CoversAt s x tell.joiner step.kept = record { state = step.before; is = step.at.was; cover = step.covered } in
       cover_already p s s' x tell.joiner tell.level keeps adds_none takes_one before.names is.core before.cover before.covered step.kept
       covers step.most (covers_same s s' x step.before step.after step.at step.covers)

@@ -1,7 +1,7 @@
 pub mod Names
-pub mod Moves
-pub mod Kept
-pub mod Told
+pub mod Moved
+pub mod KeptParts
+pub mod UnderWay
 pub mod KeepsAll
 pub mod Calm
 pub mod KeepsNear

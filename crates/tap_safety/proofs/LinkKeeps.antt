@@ -12,7 +12,7 @@ use Rattle.tap_rule.specs.Node.Status.{Ceased as CeasedStatus}
 use Rattle.tap_rule.specs.Sent.{IsAmong}
 use Rattle.tap_safety.specs.Frames.{HelloFields, hello_body, tell_body}
 use Rattle.tap_safety.specs.System.{System, AmongOffered, HasLink, HelloNames, IsCoreNode, IsJoiner, IsUnderWay}
-use Rattle.tap_safety.specs.Words.{Has}
+use Rattle.tap_safety.specs.Regions.{Has}
 use Rattle.tap_safety.specs.Soft.{NamesSoft, Offers}
 use Rattle.tap_safety.specs.Ties.{status_in, status_of}
 use Rattle.tap_safety.specs.FrameSteps.{HasSettledNear, TakesForget, TakesHello, TakesRelease, kind_offered}
@@ -32,9 +32,9 @@ use Rattle.tap_safety.proofs.FrameKeeps.{
   pins_elsewhere,
 }
 use Rattle.tap_safety.proofs.KeepsNear.{HasInSlot, keeps_near}
-use Rattle.tap_safety.proofs.Kept.{Keeps}
+use Rattle.tap_safety.proofs.KeptParts.{Keeps}
 use Rattle.tap_safety.proofs.TellKeeps.{node_after}
-use Rattle.tap_safety.proofs.Told.{still_under_way, taken_under_way}
+use Rattle.tap_safety.proofs.UnderWay.{still_under_way, taken_under_way}
 
 -- a link that stays, to a core node
 stays_in_slot : (s s' : System) (y z : List ℕ) → IsCoreNode s' z → Has s' y z → HasInSlot s' y z

@@ -12,12 +12,12 @@ use Rattle.tap_wire.specs.declared.frame.Frame.{Frame}
 use Rattle.tap_wire.specs.declared.frame.TellFields.{TellFields}
 use Rattle.tap_rule.specs.Node.{link_to}
 use Rattle.tap_safety.specs.Frames.{hello_body, tell_body}
-use Rattle.tap_safety.specs.System.{System, IsCoreNode, IsJoiner, HasLink, Covers}
-use Rattle.tap_safety.specs.Words.{surrogate_of, prefix_of, IsIn, Pins}
+use Rattle.tap_safety.specs.System.{System, IsCoreNode, IsJoiner, HasLink, CoversAt}
+use Rattle.tap_safety.specs.Regions.{surrogate_of, prefix_of, IsIn, Pins}
 use Rattle.tap_safety.specs.Parts.{CoverIs, Covered, IsMet, CoversAndPins, Meet}
 use Rattle.tap_safety.specs.TellStep.{TakesTell, BeforeTell, IsTellOf}
-use Rattle.tap_safety.proofs.Told.{sent_under_way}
-use Rattle.tap_safety.proofs.Kept.{Keeps, AddsNone, StaysJoiner, met_stays}
+use Rattle.tap_safety.proofs.UnderWay.{sent_under_way}
+use Rattle.tap_safety.proofs.KeptParts.{Keeps, AddsNone, StaysJoiner, met_stays}
 use Rattle.tap_safety.proofs.TellKeeps.{node_before, node_after, keeps, takes_one, adds_none}
 use Rattle.tap_safety.proofs.CoverKept.{met, tells_way, covers_cases, core_or_joiner}
 
@@ -39,7 +39,7 @@ module _ (s s' : System) (number : ℕ) (w x : List ℕ) (tell : TellFields) (wa
   none : AddsNone s s'
   none = adds_none s s' number w x tell watch step
 
-  cases : (v b : List ℕ) (level : ℕ) → Covers s' v b level → Covers s v b level ⊎ ((v ≡ x) × (b ≡ tell.joiner) × (level ≡ tell.level))
+  cases : (v b : List ℕ) (level : ℕ) → CoversAt s' v b level → CoversAt s v b level ⊎ ((v ≡ x) × (b ≡ tell.joiner) × (level ≡ tell.level))
   cases = covers_cases s s' number w x tell watch step
 
   -- a link of after the step was there, or is to the joiner
@@ -57,7 +57,7 @@ module _ (s s' : System) (number : ℕ) (w x : List ℕ) (tell : TellFields) (wa
 
   module _ (p : SettingsValue) (before : BeforeTell p s) (is : IsTellOf p s x tell.joiner tell.prefix tell.level) where
     -- each cover of after the step is as Covered has it
-    each : (v b : List ℕ) (level : ℕ) → IsCoreNode s' v → IsJoiner s' b → Covers s' v b level → CoverIs p s' v b level
+    each : (v b : List ℕ) (level : ℕ) → IsCoreNode s' v → IsJoiner s' b → CoversAt s' v b level → CoverIs p s' v b level
     each v b level core joiner covers =
         let stays : StaysJoiner s s' b = record { was = none.joiners b joiner; is = joiner } in
         elim (cases v b level covers) [
@@ -87,7 +87,7 @@ module _ (s s' : System) (number : ℕ) (w x : List ℕ) (tell : TellFields) (wa
         ]
 
     -- the cover of a joiner by its surrogate stays
-    own_cover : (b : List ℕ) → IsJoiner s b → Covers s' (surrogate_of s b) b (prefix_of s b)
+    own_cover : (b : List ℕ) → IsJoiner s b → CoversAt s' (surrogate_of s b) b (prefix_of s b)
     own_cover b joiner =
         let old = (before.covered.surrogate b joiner).1 in
         elim (node_after s s' x step.before step.after step.at (surrogate_of s b) old.state old.is) [
@@ -105,18 +105,18 @@ module _ (s s' : System) (number : ℕ) (w x : List ℕ) (tell : TellFields) (wa
               ]
         ]
 
-    surrogate : (b : List ℕ) → IsJoiner s' b → IsCoreNode s' (surrogate_of s' b) × Covers s' (surrogate_of s' b) b (prefix_of s' b)
+    surrogate : (b : List ℕ) → IsJoiner s' b → IsCoreNode s' (surrogate_of s' b) × CoversAt s' (surrogate_of s' b) b (prefix_of s' b)
     surrogate b joiner =
         let was = none.joiners b joiner in
         let core = kept.cores (surrogate_of s b) (before.covered.surrogate b was).0 in
-        let P : List ℕ → Type 0 = λ y. IsCoreNode s' y × Covers s' y b (lcp y b) in
+        let P : List ℕ → Type 0 = λ y. IsCoreNode s' y × CoversAt s' y b (lcp y b) in
         let same : surrogate_of s' b ≡ surrogate_of s b = ap (λ o. unwrap_or o []) (step.surrogate b) in
         subst P (sym same) (core, own_cover b was)
 
     pub covered_kept : Covered p s'
     covered_kept = record { each = each; surrogate = surrogate; joiners = joiners }
       where
-        joiners : (v b : List ℕ) (level : ℕ) → IsJoiner s' v → Covers s' v b level → ⊥
+        joiners : (v b : List ℕ) (level : ℕ) → IsJoiner s' v → CoversAt s' v b level → ⊥
         joiners v b level joiner covers =
             elim (cases v b level covers) [
               | inl old ↦ before.covered.joiners v b level (none.joiners v joiner) old
@@ -156,7 +156,7 @@ module _ (s s' : System) (number : ℕ) (w x : List ℕ) (tell : TellFields) (wa
       other_stays = record { was = none.joiners f pair.other; is = pair.other }
 
       -- both were so before
-      old : (level : ℕ) → Covers s v d level → Pins s v f → AreMet v d f
+      old : (level : ℕ) → CoversAt s v d level → Pins s v f → AreMet v d f
       old level covers pin =
           let was : CoversAndPins s v d f = record {
             core = none.cores v pair.core;
@@ -187,7 +187,7 @@ module _ (s s' : System) (number : ℕ) (w x : List ℕ) (tell : TellFields) (wa
           old c (record { state = step.before; is = rw here step.at.was; cover = rw joins was }) pin
 
       -- the node pins the joiner
-      pins : v ≡ x → f ≡ tell.joiner → Covers s v d pair.level → (c : Option ℕ) → level_kept step.before.covers tell.joiner ≡ c
+      pins : v ≡ x → f ≡ tell.joiner → CoversAt s v d pair.level → (c : Option ℕ) → level_kept step.before.covers tell.joiner ≡ c
           → AreMet v d f
       pins here joins covers None was =
           let pin = (before.covered.each v d pair.level (none.cores v pair.core) first_stays.was covers).pin in
@@ -198,7 +198,7 @@ module _ (s s' : System) (number : ℕ) (w x : List ℕ) (tell : TellFields) (wa
                 rw (here, joins) (both.0 near),
           )
       pins here joins covers (Some c) was =
-          let mine : Covers s v f c = record { state = step.before; is = rw here step.at.was; cover = rw joins was } in
+          let mine : CoversAt s v f c = record { state = step.before; is = rw here step.at.was; cover = rw joins was } in
           old pair.level covers (before.covered.each v f c (none.cores v pair.core) other_stays.was mine).pin
 
       pair_met : AreMet v d f

@@ -16,14 +16,14 @@ use Rattle.tap_safety.specs.System.{System, AmongFrames, HasLink, IsCoreNode, Is
 use Rattle.tap_safety.specs.Departing.{Departs, HasReplaced}
 use Rattle.tap_safety.specs.FrameSteps.{TakesFrame}
 use Rattle.tap_safety.specs.KnownLaws.{DepartsUntilRest, FrameLeavesNotices, NoticesKeptBySteps}
-use Rattle.tap_safety.specs.Moved.{delivered, departing_with, has_taken, moved, numbered_frame, received, without}
+use Rattle.tap_safety.specs.Moved.{delivered, departing_with, has_taken, moved, numbered_frame, received, without_number}
 use Rattle.tap_safety.specs.Notices.{HasOneNotice, IsAwaiting, IsBetween, IsGoneLeaver, IsNotice, IsNoticeless, LeavesNotices, Notices, UntilRest}
-use Rattle.tap_safety.specs.Step.{IsSent, numbered_from}
+use Rattle.tap_safety.specs.Exchanges.{IsSent, numbered_from}
 use Rattle.tap_safety.specs.Ties.{link_in, link_of, status_in, status_of}
 use Rattle.tap_safety.proofs.SoftKept.{sent_each}
 use Rattle.tap_safety.proofs.LinkKeeps.{some_state, status_seen}
 use Rattle.tap_safety.proofs.TellKeeps.{node_after, node_before}
-use Rattle.tap_safety.proofs.Told.{among_out, among_sent, among_was, was_under_way}
+use Rattle.tap_safety.proofs.UnderWay.{among_out, among_sent, among_was, was_under_way}
 use Rattle.tap_safety.proofs.WordsKept.{at_link, link_at}
 
 -- ---- who departs
@@ -39,7 +39,7 @@ delivered_so s number None = (λ none. inl none, λ leaver is. is)
 delivered_so s number (Some frame) = by (s.node frame.to)
   where
     by : (node : Option NodeState) → UntilRest s (received s number frame node)
-    by None = departing_so (without s number).frames s.departing
+    by None = departing_so (without_number s number).frames s.departing
     by (Some node) = departing_so (has_taken s number frame node (act node (Takes frame))).frames s.departing
 
 pub until_rest_law : DepartsUntilRest

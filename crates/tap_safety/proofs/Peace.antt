@@ -12,7 +12,7 @@ use Rattle.tap_safety.specs.Departing.{Departure}
 use Rattle.tap_safety.specs.FrameSteps.{TakesFrame}
 use Rattle.tap_rule.specs.Act.{act}
 use Rattle.tap_rule.specs.Event.Event.{Takes}
-use Rattle.tap_safety.specs.Moved.{delivered, departing_with, has_taken, moved, numbered_frame, received, without}
+use Rattle.tap_safety.specs.Moved.{delivered, departing_with, has_taken, moved, numbered_frame, received, without_number}
 use Rattle.tap_safety.specs.Notices.{AreNoNotices, IsAtPeace, IsAwaiting, IsNotice, Notices}
 use Rattle.tap_safety.specs.Soft.{AddsSoundLinks}
 use Rattle.tap_safety.specs.Ties.{status_of}
@@ -21,7 +21,7 @@ use Rattle.tap_safety.proofs.LinkKeeps.{some_state, status_seen}
 use Rattle.tap_safety.proofs.SoftKept.{sent_each}
 use Rattle.tap_safety.proofs.SoftSteps.{links_sound}
 use Rattle.tap_safety.proofs.TellKeeps.{node_before}
-use Rattle.tap_safety.proofs.Told.{was_under_way}
+use Rattle.tap_safety.proofs.UnderWay.{was_under_way}
 
 -- ---- a delivery
 
@@ -34,7 +34,7 @@ delivered_none s number None none = none
 delivered_none s number (Some frame) none = by (s.node frame.to)
   where
     by : (node : Option NodeState) → (received s number frame node).departing ≡ None
-    by None = departing_none (without s number).frames s.departing none
+    by None = departing_none (without_number s number).frames s.departing none
     by (Some node) = departing_none (has_taken s number frame node (act node (Takes frame))).frames s.departing none
 
 pub peace_kept : PeaceIsKept

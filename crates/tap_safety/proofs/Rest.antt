@@ -18,7 +18,7 @@ use Rattle.tap_safety.specs.Rest.{Rest, RestHolds}
 use Rattle.tap_safety.specs.Sessions.{IsOpen}
 use Rattle.tap_safety.specs.Soft.{IsSoft}
 use Rattle.tap_safety.specs.Ties.{hears_words, link_of, status_of}
-use Rattle.tap_safety.specs.Words.{Has, Pins}
+use Rattle.tap_safety.specs.Regions.{Has, Pins}
 use Rattle.tap_safety.proofs.LinkKeeps.{some_state, status_seen}
 use Rattle.tap_safety.proofs.WordsKept.{at_link, link_at}
 

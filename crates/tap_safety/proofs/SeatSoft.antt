@@ -14,7 +14,7 @@ use Rattle.tap_safety.specs.Joins.{JoinerIsNew}
 use Rattle.tap_safety.proofs.SoftKept.{soft_kept}
 use Rattle.tap_safety.proofs.SoftSteps.{links_sound}
 use Rattle.tap_safety.proofs.TellKeeps.{core_kept, joiner_after, joiner_before, node_after}
-use Rattle.tap_safety.proofs.Told.{was_under_way}
+use Rattle.tap_safety.proofs.UnderWay.{was_under_way}
 
 module _ (p : SettingsValue) (s s' : System) (number : ℕ) (w x b : List ℕ) (step : SeatsJoiner p s s' number w x b)
     (seeker : IsSeeker s b) where

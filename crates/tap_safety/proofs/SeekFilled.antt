@@ -11,8 +11,8 @@ use Rattle.tap_wire.specs.declared.frame.Body.TheVariants.{Seek}
 use Rattle.tap_wire.specs.declared.frame.Frame.{Frame}
 use Rattle.tap_rule.specs.Node.{link_to}
 use Rattle.tap_safety.specs.Frames.{hello_body, tell_body}
-use Rattle.tap_safety.specs.System.{System, Covers, HasLink, HelloNames, IsCoreNode, IsJoiner, IsTold}
-use Rattle.tap_safety.specs.Words.{IsGiven, IsIn, IsReached, IsServed, Pins, prefix_of, surrogate_of}
+use Rattle.tap_safety.specs.System.{System, CoversAt, HasLink, HelloNames, IsCoreNode, IsJoiner, IsTold}
+use Rattle.tap_safety.specs.Regions.{IsGiven, IsIn, IsReached, IsServed, Pins, prefix_of, surrogate_of}
 use Rattle.tap_safety.specs.Parts.{Cover, CoverIs, Covered, CoversAndPins, HasNear, HoleFree, IsClaim, IsMet, Low, Meet}
 use Rattle.tap_safety.specs.Filled.{AreFilled}
 use Rattle.tap_safety.specs.TellStep.{IsNewlyCovered, Tells}
@@ -21,11 +21,11 @@ use Rattle.tap_safety.proofs.Calm.{StillTold, still_told}
 use Rattle.tap_safety.proofs.CoverKept.{core_or_joiner, serves_near}
 use Rattle.tap_safety.proofs.FrameKeeps.{core_not, link_on}
 use Rattle.tap_safety.proofs.KeepsNear.{keeps_near}
-use Rattle.tap_safety.proofs.Kept.{Keeps, StaysJoiner, TakesNoTell, met_kept}
+use Rattle.tap_safety.proofs.KeptParts.{Keeps, StaysJoiner, TakesNoTell, met_kept}
 use Rattle.tap_safety.proofs.Names.{lcp_itself}
 use Rattle.tap_safety.proofs.SeekLow.{low_new}
 use Rattle.tap_safety.proofs.TellKeeps.{core_kept, core_was, joiner_before, node_after, node_before}
-use Rattle.tap_safety.proofs.Told.{named_still, sent_under_way, told_still}
+use Rattle.tap_safety.proofs.UnderWay.{named_still, sent_under_way, told_still}
 
 module _ (p : SettingsValue) (s s' : System) (number : ℕ) (w x b : List ℕ) (step : SeatsJoiner p s s' number w x b)
     (before : BeforeSeat p s x b) (filled : AreFilled p s) where
@@ -109,7 +109,7 @@ module _ (p : SettingsValue) (s s' : System) (number : ℕ) (w x b : List ℕ) (
       ]
 
   -- a cover after the step was there, or is the new one
-  cover_cases : (y d : List ℕ) (level : ℕ) → Covers s' y d level → Covers s y d level ⊎ ((y ≡ x) × (d ≡ b) × (level ≡ lcp x b))
+  cover_cases : (y d : List ℕ) (level : ℕ) → CoversAt s' y d level → CoversAt s y d level ⊎ ((y ≡ x) × (d ≡ b) × (level ≡ lcp x b))
   cover_cases y d level covers =
       elim (node_before s s' x step.before step.after step.at y covers.state covers.is) [
         | inr there ↦ inl (record { state = covers.state; is = there; cover = covers.cover })
@@ -126,7 +126,7 @@ module _ (p : SettingsValue) (s s' : System) (number : ℕ) (w x b : List ℕ) (
             ]
       ]
 
-  cover_kept : (y d : List ℕ) (level : ℕ) → IsJoiner s d → Covers s y d level → Covers s' y d level
+  cover_kept : (y d : List ℕ) (level : ℕ) → IsJoiner s d → CoversAt s y d level → CoversAt s' y d level
   cover_kept y d level joiner covers =
       elim (node_after s s' x step.before step.after step.at y covers.state covers.is) [
         | inr there ↦ record { state = covers.state; is = there; cover = covers.cover }
@@ -146,7 +146,7 @@ module _ (p : SettingsValue) (s s' : System) (number : ℕ) (w x b : List ℕ) (
   first : level_kept step.before.covers b ≡ None
   first = first_at (level_kept step.before.covers b) refl
 
-  new_cover : Covers s' x b (lcp x b)
+  new_cover : CoversAt s' x b (lcp x b)
   new_cover = record { state = step.after; is = step.at.is; cover = step.covers.covered }
 
   new_pin : Pins s' x b
@@ -197,7 +197,7 @@ module _ (p : SettingsValue) (s s' : System) (number : ℕ) (w x b : List ℕ) (
         };
       }
 
-  cover_is_old : (y d : List ℕ) (level : ℕ) → IsCoreNode s' y → IsJoiner s' d → IsJoiner s d → Covers s y d level
+  cover_is_old : (y d : List ℕ) (level : ℕ) → IsCoreNode s' y → IsJoiner s' d → IsJoiner s d → CoversAt s y d level
       → CoverIs p s' y d level
   cover_is_old y d level core now joiner covers =
       let is = filled.covered.each y d level (cores_were y core) joiner covers in
@@ -222,7 +222,7 @@ module _ (p : SettingsValue) (s s' : System) (number : ℕ) (w x b : List ℕ) (
         given = given_new;
       }
 
-  no_old_cover : (y d : List ℕ) (level : ℕ) → d ≡ b → Covers s y d level → ⊥
+  no_old_cover : (y d : List ℕ) (level : ℕ) → d ≡ b → CoversAt s y d level → ⊥
   no_old_cover y d level same covers = before.unknown.covered y level (rw same at covers)
 
   covered_seat : Covered p s'
@@ -416,7 +416,7 @@ module _ (p : SettingsValue) (s s' : System) (number : ℕ) (w x b : List ℕ) (
           let link : HasLink s x near.to LeavingKind = rw kind at near.link in
           absurd (before.unmarked x near.to link)
 
-  cover_old : (v d e : List ℕ) (level : ℕ) → IsJoiner s' d → IsJoiner s d → Covers s v d level → IsClaim p s' v d e level
+  cover_old : (v d e : List ℕ) (level : ℕ) → IsJoiner s' d → IsJoiner s d → CoversAt s v d level → IsClaim p s' v d e level
       → IsServed s' d e (lcp v e)
   cover_old v d e level now joiner covers claim =
       let was : IsClaim p s v d e level = record {

@@ -1,5 +1,5 @@
 -- What the surrogate's Hello gives its joiner.
-use Rattle.tap_safety.specs.Laws.{LowOfNewJoiner}
+use Rattle.tap_safety.specs.KeptLaws.{LowOfNewJoiner}
 use Rattle.tap_safety.proofs.SeekLow.{low_new}
 
 pub low_law : LowOfNewJoiner

@@ -8,7 +8,7 @@ use Rattle.tap_link.specs.declared.kind.Kind.{Kind}
 use Rattle.tap_link.specs.declared.kind.Kind.TheVariants.{Pin, Settled, Leaving as LeavingKind}
 use Rattle.tap_rule.specs.Node.{link_to}
 use Rattle.tap_safety.specs.System.{System, IsCoreNode, HasLink, AmongOffered}
-use Rattle.tap_safety.specs.Words.{IsGiven}
+use Rattle.tap_safety.specs.Regions.{IsGiven}
 use Rattle.tap_safety.specs.Parts.{HasNear}
 use Rattle.tap_safety.specs.SeekStep.{IsGreeted, BeforeSeek}
 

@@ -5,9 +5,9 @@ use Rattle.tap_wire.specs.declared.frame.Body.TheVariants.{Seek}
 use Rattle.tap_wire.specs.declared.frame.Frame.{Frame}
 use Rattle.tap_rule.specs.Node.{link_to}
 use Rattle.tap_safety.specs.Frames.{HelloFields, hello_body, tell_body}
-use Rattle.tap_safety.specs.System.{System, AmongFrames, Covers, IsCoreNode, IsTold, IsUnderWay}
-use Rattle.tap_safety.specs.Words.{Has}
-use Rattle.tap_safety.specs.Step.{AreNumbered, numbered_from}
+use Rattle.tap_safety.specs.System.{System, AmongFrames, CoversAt, IsCoreNode, IsTold, IsUnderWay}
+use Rattle.tap_safety.specs.Regions.{Has}
+use Rattle.tap_safety.specs.Exchanges.{AreNumbered, numbered_from}
 use Rattle.tap_safety.specs.SessionSteps.{Exchanges}
 use Rattle.tap_safety.specs.Seeking.{AreOfSeekers, HasOneSeek, IsUnknown, Seeking}
 use Rattle.tap_safety.specs.SeekerSteps.{SeekGoesOn}
@@ -15,7 +15,7 @@ use Rattle.tap_safety.proofs.Exchanged.{exchanged}
 use Rattle.tap_safety.proofs.FrameKeeps.{frame_cores}
 use Rattle.tap_safety.proofs.FrameSeeking.{node_on, seeker_on, seeker_was}
 use Rattle.tap_safety.proofs.TellKeeps.{covers_same, node_before}
-use Rattle.tap_safety.proofs.Told.{told_by}
+use Rattle.tap_safety.proofs.UnderWay.{told_by}
 
 module _ (s s' : System) (number : ℕ) (w x b t : List ℕ) (goes : SeekGoesOn s s' number w x b t) (are : AreNumbered s) where
   abbrev was : Frame
@@ -66,7 +66,7 @@ module _ (s s' : System) (number : ℕ) (w x b t : List ℕ) (goes : SeekGoesOn 
             record { kind = has.kind; link = record { state = goes.step.before; is = here.2; link = sym (goes.links z) ∙ now } }
       ]
 
-  covers_were : (y d : List ℕ) (level : ℕ) → Covers s' y d level → Covers s y d level
+  covers_were : (y d : List ℕ) (level : ℕ) → CoversAt s' y d level → CoversAt s y d level
   covers_were = covers_same s s' x goes.step.before goes.step.after goes.step.at goes.step.stays.covers
 
   cores : (y : List ℕ) → IsCoreNode s y → IsCoreNode s' y

@@ -8,7 +8,7 @@ use Rattle.tap_wire.specs.declared.frame.TellFields.{TellFields}
 use Rattle.tap_rule.specs.Node.Status.{Joining, Ceased as CeasedStatus}
 use Rattle.tap_safety.specs.Seeking.{AreOfSeekers, HasNode, HasOneSeek, IsSeeker, IsUnknown, Seeking}
 use Rattle.tap_safety.specs.System.{System, HelloNames, IsJoiner, IsUnderWay}
-use Rattle.tap_safety.specs.Words.{prefix_of}
+use Rattle.tap_safety.specs.Regions.{prefix_of}
 use Rattle.tap_safety.proofs.FrameKeeps.{core_not, one_state}
 use Rattle.tap_safety.proofs.LinkKeeps.{offered_among}
 use Rattle.tap_safety.specs.Soft.{IsSoft}

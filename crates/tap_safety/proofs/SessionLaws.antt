@@ -1,5 +1,5 @@
 -- What holds of the sessions of joins.
-use Rattle.tap_safety.specs.Laws.{NoSessionWithoutRoot, OnlyTheLastFrameIsLeft, OnlyTheRootIsLeft, QuietOnceDone, SessionsKeptByOpening}
+use Rattle.tap_safety.specs.KeptLaws.{NoSessionWithoutRoot, OnlyTheLastFrameIsLeft, OnlyTheRootIsLeft, QuietOnceDone, SessionsKeptByOpening}
 use Rattle.tap_safety.proofs.Chains.{no_session, only_frame, only_session}
 use Rattle.tap_safety.proofs.Quiet.{quiet}
 use Rattle.tap_safety.proofs.SessionsKept.{child_exact}

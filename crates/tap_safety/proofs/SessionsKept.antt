@@ -28,7 +28,7 @@ use Rattle.tap_safety.proofs.Exchange.{
   is_place-here,
   is_place-same,
 }
-use Rattle.tap_safety.specs.Turns.{GoesOn, IsNewlyOpen, Turns, WasOpen}
+use Rattle.tap_safety.specs.Turns.{IsNewlyOpen, SessionGoesOn, Turns, WasOpen}
 use Rattle.tap_safety.proofs.Turns.{turned_exact}
 
 -- ---- places
@@ -139,7 +139,7 @@ module _ (s s' : System) (number : ℕ) (f : Frame) (sent : List (ℕ × Frame))
             absurd (left y m o is (belongs_at g f y m same belongs) mine)
       ]
 
-  on_same : (y : List ℕ) (m : ℕ) (o : OpenSession) → s'.session y m ≡ s.session y m → IsOpen s y m o → GoesOn s s' y m o
+  on_same : (y : List ℕ) (m : ℕ) (o : OpenSession) → s'.session y m ≡ s.session y m → IsOpen s y m o → SessionGoesOn s s' y m o
   on_same y m o same is = record {
     now = o;
     is = same ∙ is;
@@ -170,7 +170,7 @@ module _ (s s' : System) (number : ℕ) (f : Frame) (sent : List (ℕ × Frame))
     abbrev now_there : OpenSession
     now_there = with_awaits before (for_way number new before.awaits)
 
-    on_there : (y : List ℕ) (m : ℕ) (o : OpenSession) → (y ≡ w) × (m ≡ k) → IsOpen s y m o → GoesOn s s' y m o
+    on_there : (y : List ℕ) (m : ℕ) (o : OpenSession) → (y ≡ w) × (m ≡ k) → IsOpen s y m o → SessionGoesOn s s' y m o
     on_there y m o here is =
         let at : s.session y m ≡ Some before = rw (here.0, here.1) was in
         let same : o ≡ before = cc in

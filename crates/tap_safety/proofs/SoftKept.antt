@@ -17,13 +17,13 @@ use Rattle.tap_rule.specs.Sent.{AreSent, IsAmong}
 use Rattle.tap_rule.specs.Hellos.{joining_hello}
 use Rattle.tap_safety.specs.Frames.{HelloFields, hello_body, tell_body}
 use Rattle.tap_safety.specs.System.{System, HasLink, IsCoreNode, IsJoiner, IsUnderWay}
-use Rattle.tap_safety.specs.Step.{IsSent}
+use Rattle.tap_safety.specs.Exchanges.{IsSent}
 use Rattle.tap_safety.specs.Soft.{AddsSoundLinks, AreSound, IsSoft, IsSoundBody, IsSoundLink, IsSoundOffer, NamesSoft}
 use Rattle.tap_safety.specs.FrameSteps.{LinksStay, TakesForget, TakesFrame, TakesHello, TakesPlainly, TakesRelease, TakesTellCeased, TakesTellJoining, kind_offered}
 use Rattle.tap_safety.proofs.FrameKeeps.{frame_cores}
 use Rattle.tap_safety.proofs.LinkKeeps.{release_core}
 use Rattle.tap_safety.proofs.TellKeeps.{node_after, node_before}
-use Rattle.tap_safety.proofs.Told.{taken_under_way, was_under_way}
+use Rattle.tap_safety.proofs.UnderWay.{taken_under_way, was_under_way}
 
 -- what is so of words of links, of Lays and of each message is so of all that is sent
 pub sent_each : (x : List ℕ) (words : List Tie) (messages : List Message) (sent : List Frame) → AreSent x words messages sent

@@ -11,7 +11,7 @@ use Rattle.tap_rule.specs.Node.{NodeState, link_to}
 use Rattle.tap_rule.specs.Node.Status.{Joining, Ceased as CeasedStatus}
 use Rattle.tap_safety.specs.Frames.{tell_body}
 use Rattle.tap_safety.specs.System.{System, HasLink, IsJoiner, IsUnderWay}
-use Rattle.tap_safety.specs.Step.{ChangesAt, HasSent, IsSent, numbered_from}
+use Rattle.tap_safety.specs.Exchanges.{ChangesAt, HasSent, IsSent, numbered_from}
 use Rattle.tap_safety.specs.Soft.{AreSound, IsSoft, IsSoundBody, IsSoundLink, NamesSoft, SendsSound}
 use Rattle.tap_safety.specs.DoneStep.{TakesDone}
 use Rattle.tap_safety.specs.TellStep.{TakesKnownTell, TakesTell}
@@ -20,7 +20,7 @@ use Rattle.tap_safety.proofs.DoneKept.{core_on}
 use Rattle.tap_safety.proofs.SoftKept.{sent_sound, soft_kept}
 use Rattle.tap_safety.proofs.StartKeeps.{join_cores, node_was, old_node}
 use Rattle.tap_safety.proofs.TellKeeps.{core_kept, joiner_after, node_after, node_before}
-use Rattle.tap_safety.proofs.Told.{among_either, among_sent, was_under_way}
+use Rattle.tap_safety.proofs.UnderWay.{among_either, among_sent, was_under_way}
 
 -- soft nodes stay if statuses and surrogates do
 pub softs_same : (s s' : System) (x : List ℕ) (before after : NodeState) → ChangesAt s s' x before after → after.status ≡ before.status

@@ -8,17 +8,17 @@ use Rattle.tap_wire.specs.declared.frame.Body.{Body}
 use Rattle.tap_wire.specs.declared.frame.Frame.{Frame}
 use Rattle.tap_rule.specs.Node.{NodeState, link_to}
 use Rattle.tap_rule.specs.Node.Status.{Joining, Core, Leaving}
-use Rattle.tap_safety.specs.System.{System, Covers, HasLink, HelloNames, IsCoreNode, IsJoiner, IsUnderWay}
-use Rattle.tap_safety.specs.Words.{Pins}
-use Rattle.tap_safety.specs.Step.{HasSent, numbered_from}
+use Rattle.tap_safety.specs.System.{System, CoversAt, HasLink, HelloNames, IsCoreNode, IsJoiner, IsUnderWay}
+use Rattle.tap_safety.specs.Regions.{Pins}
+use Rattle.tap_safety.specs.Exchanges.{HasSent, numbered_from}
 use Rattle.tap_safety.specs.FrameSteps.{StartsJoin, StartsPlainly}
 use Rattle.tap_safety.specs.Filled.{AreFilled}
 use Rattle.tap_safety.proofs.Calm.{filled_calm, still_told}
 use Rattle.tap_safety.proofs.FrameKeeps.{covers_on, pins_back}
 use Rattle.tap_safety.proofs.KeepsAll.{keeps_all}
-use Rattle.tap_safety.proofs.Kept.{Keeps, TakesNoTell}
+use Rattle.tap_safety.proofs.KeptParts.{Keeps, TakesNoTell}
 use Rattle.tap_safety.proofs.TellKeeps.{core_kept, core_was, covers_same, joiner_was, links_same}
-use Rattle.tap_safety.proofs.Told.{among_left, told_by}
+use Rattle.tap_safety.proofs.UnderWay.{among_left, told_by}
 
 -- no frame goes
 module _ (s s' : System) (sent : List Frame) (has : HasSent s s' sent) where
@@ -110,7 +110,7 @@ module _ (s s' : System) (x : List ℕ) (start : StartsJoin s s' x) where
             cc
       ]
 
-  pub join_covers_was : (y b : List ℕ) (level : ℕ) → Covers s' y b level → Covers s y b level
+  pub join_covers_was : (y b : List ℕ) (level : ℕ) → CoversAt s' y b level → CoversAt s y b level
   join_covers_was y b level covers =
       elim (node_was y covers.state covers.is) [
         | inr there ↦ record { state = covers.state; is = there; cover = covers.cover }

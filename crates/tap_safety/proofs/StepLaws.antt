@@ -57,7 +57,7 @@ use Rattle.tap_safety.proofs.SoftKept.{ceased_soft, forget_soft, hello_soft, joi
 use Rattle.tap_safety.proofs.WordsKept.{words_ceased, words_ties, words_versions}
 use Rattle.tap_safety.proofs.LinkKeeps.{forget_filled, forget_way, hello_filled, release_filled}
 use Rattle.tap_safety.proofs.AwaitedKept.{closed_awaited, handed_on_awaited, last_awaited, left_awaited, opened_awaited, root_awaited}
-use Rattle.tap_safety.proofs.Moves.{ascend_numbered, delivers, found, lost, numbers_sent, numbers_taken, starts}
+use Rattle.tap_safety.proofs.Moved.{ascend_numbered, delivers, found, lost, numbers_sent, numbers_taken, starts}
 use Rattle.tap_safety.proofs.PlacesKept.{closes_child_await, closes_root_await, deeper_kept, hands_on_await, leaves_await}
 use Rattle.tap_safety.proofs.PlacesKept.{opens_child_await, opens_root_await, places_kept}
 use Rattle.tap_safety.proofs.SessionsKept.{closes_child_turns, closes_root_turns, hands_on_turns, opens_child_turns, opens_root_turns}

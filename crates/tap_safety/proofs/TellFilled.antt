@@ -7,7 +7,7 @@ use Rattle.tap_safety.specs.TellStep.{KnownTellIsTaken, TellIsTaken}
 use Rattle.tap_safety.proofs.Calm.{AddsNoCover, covered_calm, meet_calm}
 use Rattle.tap_safety.proofs.CoverKept.{cover_kept}
 use Rattle.tap_safety.proofs.FrameKeeps.{covers_on, pins_back}
-use Rattle.tap_safety.proofs.Kept.{hole_free_kept, low_kept, met_stays}
+use Rattle.tap_safety.proofs.KeptParts.{hole_free_kept, low_kept, met_stays}
 use Rattle.tap_safety.proofs.KnownTell.{adds_none, cover_known, keeps, takes_one}
 use Rattle.tap_safety.proofs.MeetKept.{covered_kept, meet_kept}
 use Rattle.tap_safety.proofs.TellKeeps as anew

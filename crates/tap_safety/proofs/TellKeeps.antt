@@ -8,12 +8,12 @@ use Rattle.tap_wire.specs.declared.frame.Frame.{Frame}
 use Rattle.tap_wire.specs.declared.frame.TellFields.{TellFields}
 use Rattle.tap_rule.specs.Node.{NodeState, link_to}
 use Rattle.tap_safety.specs.Frames.{hello_body, tell_body}
-use Rattle.tap_safety.specs.System.{System, Covers, HasLink, IsCoreNode, IsJoiner, HelloNames, IsTold}
-use Rattle.tap_safety.specs.Step.{ChangesAt, IsTaken}
+use Rattle.tap_safety.specs.System.{System, CoversAt, HasLink, IsCoreNode, IsJoiner, HelloNames, IsTold}
+use Rattle.tap_safety.specs.Exchanges.{ChangesAt, IsTaken}
 use Rattle.tap_safety.specs.TellStep.{TakesTell}
-use Rattle.tap_safety.proofs.Told.{named_still, told_still}
+use Rattle.tap_safety.proofs.UnderWay.{named_still, told_still}
 use Rattle.tap_safety.proofs.KeepsAll.{keeps_all}
-use Rattle.tap_safety.proofs.Kept.{Keeps, AddsNone, TakesOne}
+use Rattle.tap_safety.proofs.KeptParts.{Keeps, AddsNone, TakesOne}
 
 -- the node of a name after the step, from the one before
 pub node_after : (s s' : System) (x : List ℕ) (before after : NodeState) → ChangesAt s s' x before after
@@ -105,7 +105,7 @@ module _ (s s' : System) (x : List ℕ) (before after : NodeState) (at : Changes
 
   -- where its covers stay, no cover is new
   pub covers_same : ((b : List ℕ) → level_kept after.covers b ≡ level_kept before.covers b) → (y b : List ℕ) (level : ℕ)
-      → Covers s' y b level → Covers s y b level
+      → CoversAt s' y b level → CoversAt s y b level
   covers_same same y b level covers =
       elim (node_before s s' x before after at y covers.state covers.is) [
         | inl here ↦

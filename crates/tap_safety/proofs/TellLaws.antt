@@ -1,8 +1,8 @@
 -- What a Tell keeps that is taken anew at a core node.
-use Rattle.tap_safety.specs.Laws.{CoverKeptByKnownTell, CoverKeptByTell, CoveredKeptByTell, HoleFreeKeptByTell}
-use Rattle.tap_safety.specs.Laws.{LowKeptByTell, MeetKeptByTell}
+use Rattle.tap_safety.specs.KeptLaws.{CoverKeptByKnownTell, CoverKeptByTell, CoveredKeptByTell, HoleFreeKeptByTell}
+use Rattle.tap_safety.specs.KeptLaws.{LowKeptByTell, MeetKeptByTell}
 use Rattle.tap_safety.proofs.CoverKept.{cover_kept}
-use Rattle.tap_safety.proofs.Kept.{hole_free_kept, low_kept}
+use Rattle.tap_safety.proofs.KeptParts.{hole_free_kept, low_kept}
 use Rattle.tap_safety.proofs.KnownTell.{cover_known}
 use Rattle.tap_safety.proofs.MeetKept.{covered_kept, meet_kept}
 use Rattle.tap_safety.proofs.TellKeeps.{adds_none, keeps}

@@ -3,7 +3,7 @@ use Rattle.std.proofs.Common.{◌≡◌, inl, inr, ℕ, ◌≤◌, Bool, true, f
 use Rattle.tap_link.specs.declared.kind.Kind.TheVariants.{Pin}
 use Rattle.tap_rule.specs.Node.Status.{Core}
 use Rattle.tap_wire.specs.declared.frame.Body.TheVariants.{Link, Release}
-use Rattle.tap_safety.specs.Remembered.{Word}
+use Rattle.tap_safety.specs.Remembered.{TieWord}
 use Rattle.tap_safety.specs.System.{System}
 use Rattle.tap_safety.specs.Ties.{
   IsNewer,
@@ -11,7 +11,7 @@ use Rattle.tap_safety.specs.Ties.{
   LastIs,
   Stands,
   TakesLink,
-  Ties,
+  TiesAreTold,
   Versions,
   hears_words,
   word_frame,
@@ -21,21 +21,21 @@ use Rattle.tap_safety.specs.Ties.{
   status_of,
 }
 
-same_word : (one two : Word) → one.version ≡ two.version → one.on ≡ two.on → one ≡ two
+same_word : (one two : TieWord) → one.version ≡ two.version → one.on ≡ two.on → one ≡ two
 same_word one two version on =
-    let by_version : ℕ → Word = λ n. record { version = n; on = one.on } in
-    let by_on : Bool → Word = λ b. record { version = two.version; on = b } in
+    let by_version : ℕ → TieWord = λ n. record { version = n; on = one.on } in
+    let by_on : Bool → TieWord = λ b. record { version = two.version; on = b } in
     ap by_version version ∙ ap by_on on
 
 -- a frame of a word is of one pair of names
-same_frame : (y u x t : List ℕ) (one two : Word) → word_frame y u one ≡ word_frame x t two → (y ≡ x) × (u ≡ t) × (one ≡ two)
+same_frame : (y u x t : List ℕ) (one two : TieWord) → word_frame y u one ≡ word_frame x t two → (y ≡ x) × (u ≡ t) × (one ≡ two)
 same_frame y u x t one two is =
     let body : Link one.version one.on ≡ Link two.version two.on = ap (λ f. f.body) is in
     (ap (λ f. f.from) is, ap (λ f. f.to) is, same_word one two (cc) (cc))
 
-module _ (s s' : System) (x t : List ℕ) (w : Word) (step : TakesLink s s' x t w) (ties : Ties s) (versions : Versions s) where
+module _ (s s' : System) (x t : List ℕ) (w : TieWord) (step : TakesLink s s' x t w) (ties : TiesAreTold s) (versions : Versions s) where
   -- if the last word is the one that is taken, it is newer than the register's
-  newer : (kept : Option Word) → register_of s t x ≡ kept → s.last x t ≡ Some w → IsNewer w.version kept
+  newer : (kept : Option TieWord) → register_of s t x ≡ kept → s.last x t ≡ Some w → IsNewer w.version kept
   newer None is last = tt
   newer (Some kept) is last = versions.once x t w kept last step.taken is
 
@@ -43,7 +43,7 @@ module _ (s s' : System) (x t : List ℕ) (w : Word) (step : TakesLink s s' x t 
   newer_at last = newer (register_of s t x) refl last
 
   -- the last word still stands
-  stands : (y u : List ℕ) (v : Word) → s.last y u ≡ Some v → Stands s y u v → Stands s' y u v
+  stands : (y u : List ℕ) (v : TieWord) → s.last y u ≡ Some v → Stands s y u v → Stands s' y u v
   stands y u v last (inl way) =
       elim (step.still (word_frame y u v) way) [
         | inr still ↦ inl still
@@ -74,7 +74,7 @@ module _ (s s' : System) (x t : List ℕ) (w : Word) (step : TakesLink s s' x t 
   heard u h = rw step.status at h
 
   pinned : (y u : List ℕ) → status_of s u ≡ Some Core → link_of s y u ≡ Some Pin
-      → ((v : Word) × (s'.last y u ≡ Some v) × IsOnWay s' (word_frame y u v)) ⊎ IsOnWay s' (release_frame u y)
+      → ((v : TieWord) × (s'.last y u ≡ Some v) × IsOnWay s' (word_frame y u v)) ⊎ IsOnWay s' (release_frame u y)
   pinned y u core link =
       elim (ties.pinned y u core link) [
         | inr back ↦
@@ -98,7 +98,7 @@ module _ (s s' : System) (x t : List ℕ) (w : Word) (step : TakesLink s s' x t 
             ]
       ]
 
-  pub ties_kept : Ties s'
+  pub ties_kept : TiesAreTold s'
   ties_kept = record {
     linked = λ y u kind hearing link. last_kept y u true (ties.linked y u kind (heard u hearing) (sym (step.links y u) ∙ link));
     dropped = λ y u v hearing link last.

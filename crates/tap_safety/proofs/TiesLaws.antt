@@ -1,5 +1,5 @@
 -- What a Link keeps that is taken.
-use Rattle.tap_safety.specs.Laws.{TiesKeptByLink, VersionsKeptByLink}
+use Rattle.tap_safety.specs.KeptLaws.{TiesKeptByLink, VersionsKeptByLink}
 use Rattle.tap_safety.proofs.TiesKept.{ties_kept}
 use Rattle.tap_safety.proofs.VersionsKept.{versions_kept}
 

@@ -3,7 +3,7 @@ use Rattle.std.proofs.Common.{◌≡◌, inl, inr, ℕ, ◌<◌, ◌≤◌, List
 use Rattle.std.proofs.lemmas.Bool.{cases_lt}
 use Rattle.tap_wire.specs.declared.frame.Frame.{Frame}
 use Rattle.tap_wire.specs.declared.frame.Body.TheVariants.{Link, Release}
-use Rattle.tap_safety.specs.Remembered.{Word}
+use Rattle.tap_safety.specs.Remembered.{TieWord}
 use Rattle.tap_safety.specs.System.{System}
 use Rattle.tap_safety.specs.Ties.{IsOnWay, IsNoNewer, TakesLink, Versions, word_frame, register_of}
 
@@ -11,22 +11,22 @@ use Rattle.tap_safety.specs.Ties.{IsOnWay, IsNoNewer, TakesLink, Versions, word_
 on_way_at : (s : System) (one two : Frame) → one ≡ two → IsOnWay s two → IsOnWay s one
 on_way_at s one two same way = rw same way
 
-module _ (s s' : System) (x t : List ℕ) (w : Word) (step : TakesLink s s' x t w) (versions : Versions s) where
-  within_kept : (y u : List ℕ) (v : Word) → IsNoNewer s y u v → IsNoNewer s' y u v
+module _ (s s' : System) (x t : List ℕ) (w : TieWord) (step : TakesLink s s' x t w) (versions : Versions s) where
+  within_kept : (y u : List ℕ) (v : TieWord) → IsNoNewer s y u v → IsNoNewer s' y u v
   within_kept y u v is = record { last = is.last; is = step.last y u ∙ is.is; most = is.most; same = is.same }
 
-  was : (y u : List ℕ) (v : Word) → IsOnWay s' (word_frame y u v) → IsOnWay s (word_frame y u v)
+  was : (y u : List ℕ) (v : TieWord) → IsOnWay s' (word_frame y u v) → IsOnWay s (word_frame y u v)
   was y u v way =
       elim (step.was (word_frame y u v) way) [
         | inl old ↦ old
         | inr is ↦ let wrong : Link v.version v.on ≡ Release = ap (λ f. f.body) is in cc
       ]
 
-  ways : (y u : List ℕ) (v : Word) → IsOnWay s' (word_frame y u v) → IsNoNewer s' y u v
+  ways : (y u : List ℕ) (v : TieWord) → IsOnWay s' (word_frame y u v) → IsNoNewer s' y u v
   ways y u v way = within_kept y u v (versions.ways y u v (was y u v way))
 
   -- the register of the pair has the word that is taken, or what it had
-  mine : (kept : Option Word) → register_of s t x ≡ kept
+  mine : (kept : Option TieWord) → register_of s t x ≡ kept
       → (register_of s' t x ≡ Some w) ⊎ (register_of s' t x ≡ register_of s t x)
   mine None is = inl (step.new (rw is tt))
   mine (Some kept) is =
@@ -35,7 +35,7 @@ module _ (s s' : System) (x t : List ℕ) (w : Word) (step : TakesLink s s' x t 
         | inr old ↦ inr (step.old kept is old ∙ sym is)
       ]
 
-  registers : (y u : List ℕ) (v : Word) → register_of s' u y ≡ Some v → IsNoNewer s' y u v
+  registers : (y u : List ℕ) (v : TieWord) → register_of s' u y ≡ Some v → IsNoNewer s' y u v
   registers y u v is =
       elim (step.registers u y) [
         | inr same ↦ within_kept y u v (versions.registers y u v (sym same ∙ is))
@@ -48,7 +48,7 @@ module _ (s s' : System) (x t : List ℕ) (w : Word) (step : TakesLink s s' x t 
       ]
 
   -- if the last word is still on its way, it isn't the one that is taken, which is older
-  older : (v : Word) → s.last x t ≡ Some v → IsOnWay s' (word_frame x t v) → w.version < v.version
+  older : (v : TieWord) → s.last x t ≡ Some v → IsOnWay s' (word_frame x t v) → w.version < v.version
   older v top on_way =
       let within = versions.ways x t w step.taken in
       let is_last = within.is in
@@ -64,7 +64,7 @@ module _ (s s' : System) (x t : List ℕ) (w : Word) (step : TakesLink s s' x t 
             absurd (step.left (on_way_at s' (word_frame x t w) (word_frame x t v) taken on_way))
       ]
 
-  once : (y u : List ℕ) (v kept : Word) → s'.last y u ≡ Some v → IsOnWay s' (word_frame y u v) → register_of s' u y ≡ Some kept
+  once : (y u : List ℕ) (v kept : TieWord) → s'.last y u ≡ Some v → IsOnWay s' (word_frame y u v) → register_of s' u y ≡ Some kept
       → kept.version < v.version
   once y u v kept last way is =
       let old_last : s.last y u ≡ Some v = sym (step.last y u) ∙ last in

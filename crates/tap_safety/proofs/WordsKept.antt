@@ -4,16 +4,16 @@ use Rattle.tap_link.specs.declared.kind.Kind.{Kind}
 use Rattle.tap_link.specs.declared.kind.Kind.TheVariants.{Pin}
 use Rattle.tap_rule.specs.Node.{NodeState}
 use Rattle.tap_rule.specs.Node.Status.{Core}
-use Rattle.tap_safety.specs.Remembered.{Word}
+use Rattle.tap_safety.specs.Remembered.{TieWord}
 use Rattle.tap_safety.specs.System.{System, HasLink}
-use Rattle.tap_safety.specs.Words.{Pins}
+use Rattle.tap_safety.specs.Regions.{Pins}
 use Rattle.tap_safety.specs.Ceased.{Ceased, CoreOrJoining, IsRegistered, SaysSo}
 use Rattle.tap_safety.specs.Ties.{
   IsNoNewer,
   IsOnWay,
   LastIs,
   Stands,
-  Ties,
+  TiesAreTold,
   Versions,
   hears_words,
   link_in,
@@ -41,7 +41,7 @@ at_link s x t kind is = by (s.node x) refl is
     by (Some state) at has = record { state = state; is = at; link = has }
 
 module _ (s s' : System) (x : List ℕ) (step : SaysWords s s' x) where
-  stands : (y t : List ℕ) (word : Word) → Stands s y t word → Stands s' y t word
+  stands : (y t : List ℕ) (word : TieWord) → Stands s y t word → Stands s' y t word
   stands y t word (inl way) = inl (step.still y t word way)
   stands y t word (inr stood) = inr (step.registers t y ∙ stood)
 
@@ -55,7 +55,7 @@ module _ (s s' : System) (x : List ℕ) (step : SaysWords s s' x) where
   heard : (t : List ℕ) → hears_words (status_of s' t) → hears_words (status_of s t)
   heard t hearing = rw step.status at hearing
 
-  module _ (ties : Ties s) where
+  module _ (ties : TiesAreTold s) where
     linked : (y t : List ℕ) (kind : Kind) → hears_words (status_of s' t) → link_of s' y t ≡ Some kind → LastIs s' y t true
     linked y t kind hearing link =
         elim (step.others y t) [
@@ -68,7 +68,7 @@ module _ (s s' : System) (x : List ℕ) (step : SaysWords s s' x) where
               ])
         ]
 
-    dropped : (y t : List ℕ) (word : Word) → hears_words (status_of s' t) → link_of s' y t ≡ None → s'.last y t ≡ Some word
+    dropped : (y t : List ℕ) (word : TieWord) → hears_words (status_of s' t) → link_of s' y t ≡ None → s'.last y t ≡ Some word
         → LastIs s' y t false
     dropped y t word hearing link last =
         elim (step.others y t) [
@@ -86,7 +86,7 @@ module _ (s s' : System) (x : List ℕ) (step : SaysWords s s' x) where
 
     pinned_as : (y t : List ℕ) → s'.last y t ≡ s.last y t → link_of s' y t ≡ Some Pin → status_of s t ≡ Some Core
         → link_of s y t ≡ Some Pin
-        → ((word : Word) × (s'.last y t ≡ Some word) × IsOnWay s' (word_frame y t word)) ⊎ IsOnWay s' (release_frame t y)
+        → ((word : TieWord) × (s'.last y t ≡ Some word) × IsOnWay s' (word_frame y t word)) ⊎ IsOnWay s' (release_frame t y)
     pinned_as y t same now core link =
         elim (ties.pinned y t core link) [
           | inl way ↦ inl (way.0, same ∙ way.1, step.still y t way.0 way.2)
@@ -94,7 +94,7 @@ module _ (s s' : System) (x : List ℕ) (step : SaysWords s s' x) where
         ]
 
     pinned : (y t : List ℕ) → status_of s' t ≡ Some Core → link_of s' y t ≡ Some Pin
-        → ((word : Word) × (s'.last y t ≡ Some word) × IsOnWay s' (word_frame y t word)) ⊎ IsOnWay s' (release_frame t y)
+        → ((word : TieWord) × (s'.last y t ≡ Some word) × IsOnWay s' (word_frame y t word)) ⊎ IsOnWay s' (release_frame t y)
     pinned y t core link =
         let was : status_of s t ≡ Some Core = sym (step.status t) ∙ core in
         elim (step.others y t) [
@@ -107,11 +107,11 @@ module _ (s s' : System) (x : List ℕ) (step : SaysWords s s' x) where
               ])
         ]
 
-    pub words_ties : Ties s'
+    pub words_ties : TiesAreTold s'
     words_ties = record { linked = linked; dropped = dropped; pinned = pinned }
 
   module _ (versions : Versions s) where
-    no_newer : (y t : List ℕ) (word : Word) → IsNoNewer s y t word → IsNoNewer s' y t word
+    no_newer : (y t : List ℕ) (word : TieWord) → IsNoNewer s y t word → IsNoNewer s' y t word
     no_newer y t word old =
         elim (step.others y t) [
           | inr same ↦ record { last = old.last; is = same.1 ∙ old.is; most = old.most; same = old.same }
@@ -126,7 +126,7 @@ module _ (s s' : System) (x : List ℕ) (step : SaysWords s s' x) where
               ])
         ]
 
-    ways : (y t : List ℕ) (word : Word) → IsOnWay s' (word_frame y t word) → IsNoNewer s' y t word
+    ways : (y t : List ℕ) (word : TieWord) → IsOnWay s' (word_frame y t word) → IsNoNewer s' y t word
     ways y t word way =
         elim (step.was y t word way) [
           | inl old ↦ no_newer y t word (versions.ways y t word old)
@@ -136,11 +136,11 @@ module _ (s s' : System) (x : List ℕ) (step : SaysWords s s' x) where
               record { last = word; is = last; most = omega arith; same = λ even. refl }
         ]
 
-    registers : (y t : List ℕ) (word : Word) → register_of s' t y ≡ Some word → IsNoNewer s' y t word
+    registers : (y t : List ℕ) (word : TieWord) → register_of s' t y ≡ Some word → IsNoNewer s' y t word
     registers y t word is = no_newer y t word (versions.registers y t word (sym (step.registers t y) ∙ is))
 
     -- what stands in a register is older than what has just been said
-    below_said : (t : List ℕ) (word kept : Word) → (is : IsSaid s s' x t) → s'.last x t ≡ Some word → register_of s t x ≡ Some kept
+    below_said : (t : List ℕ) (word kept : TieWord) → (is : IsSaid s s' x t) → s'.last x t ≡ Some word → register_of s t x ≡ Some kept
         → kept.version < word.version
     below_said t word kept is last stood =
         let old = versions.registers x t kept stood in
@@ -151,7 +151,7 @@ module _ (s s' : System) (x : List ℕ) (step : SaysWords s s' x) where
         let low : kept.version < is.word.version = omega arith in
         rw same at low
 
-    once_mine : (t : List ℕ) (word kept : Word) → s'.last x t ≡ Some word → IsOnWay s (word_frame x t word)
+    once_mine : (t : List ℕ) (word kept : TieWord) → s'.last x t ≡ Some word → IsOnWay s (word_frame x t word)
         → register_of s t x ≡ Some kept → kept.version < word.version
     once_mine t word kept last way stood =
         elim (step.mine t) [
@@ -159,7 +159,7 @@ module _ (s s' : System) (x : List ℕ) (step : SaysWords s s' x) where
           | inr is ↦ below_said t word kept is last stood
         ]
 
-    once : (y t : List ℕ) (word kept : Word) → s'.last y t ≡ Some word → IsOnWay s' (word_frame y t word)
+    once : (y t : List ℕ) (word kept : TieWord) → s'.last y t ≡ Some word → IsOnWay s' (word_frame y t word)
         → register_of s' t y ≡ Some kept → kept.version < word.version
     once y t word kept last way is =
         let stood : register_of s t y ≡ Some kept = sym (step.registers t y) ∙ is in

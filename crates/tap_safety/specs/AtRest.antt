@@ -4,7 +4,7 @@ use Rattle.tap_name.specs.Names.{AreDistinct, AreNames, has_name}
 use Rattle.tap_name.specs.Settings.{AreWithinLimits, SettingsValue}
 use Rattle.tap_link.specs.declared.kind.Kind.{Kind}
 use Rattle.tap_rule.specs.Node.{NodeState, member_at_rest}
-use Rattle.tap_safety.specs.Remembered.{Word}
+use Rattle.tap_safety.specs.Remembered.{TieWord}
 use Rattle.tap_safety.specs.System.{System}
 use Rattle.tap_safety.specs.Invariant.{Invariant}
 use Rattle.tap_safety.specs.Spelled.{most_names}
@@ -15,7 +15,7 @@ abbrev pub member_of : SettingsValue → List (List ℕ) → List ℕ → Option
 member_of p members x = if has_name members x then Some (member_at_rest p members x) else None
 
 -- what a member has said of a link at rest: that it is there, with version 0
-abbrev pub word_at_rest : Option Kind → Option Word
+abbrev pub word_at_rest : Option Kind → Option TieWord
 word_at_rest None = None
 word_at_rest (Some kind) = Some (record { version = 0; on = true })
 

@@ -9,7 +9,7 @@ use Rattle.tap_wire.specs.declared.frame.TellFields.{TellFields}
 use Rattle.tap_rule.specs.Node.{NodeState, Status}
 use Rattle.tap_rule.specs.Node.Status.{Joining, Core, Leaving, Gone, Ceased}
 use Rattle.tap_safety.specs.Frames.{tell_body}
-use Rattle.tap_safety.specs.Remembered.{OpenSession, Word}
+use Rattle.tap_safety.specs.Remembered.{OpenSession, TieWord}
 use Rattle.tap_safety.specs.System.{System, AmongFrames, HasLink, IsCoreNode, IsUnderWay}
 use Rattle.tap_safety.specs.Sessions.{Belongs, IsOpen}
 use Rattle.tap_safety.specs.Seeking.{HasNode}
@@ -50,8 +50,8 @@ pub record HavePlaces (s : System) : Type 0 where
 pub record HaveEnds (s : System) : Type 0 where
   pub apart : (number : ℕ) (f : Frame) → AmongFrames number f s.frames → f.from ≡ f.to → ⊥
   pub known : (number : ℕ) (f : Frame) → AmongFrames number f s.frames → HasNode s f.from × HasNode s f.to
-  pub senders : (x t : List ℕ) (word : Word) → s.last x t ≡ Some word → HasNode s x
-  pub receivers : (x t : List ℕ) (word : Word) → s.last x t ≡ Some word → HasNode s t
+  pub senders : (x t : List ℕ) (word : TieWord) → s.last x t ≡ Some word → HasNode s x
+  pub receivers : (x t : List ℕ) (word : TieWord) → s.last x t ≡ Some word → HasNode s t
   pub surrogates : (b x : List ℕ) → s.surrogate b ≡ Some x → HasNode s b
 
 -- a node with this status has a table
@@ -64,9 +64,9 @@ has_table Ceased = ⊥
 
 -- a word is under way once, and while a node has a table its stamp is no less than its words' versions
 pub record AreStamped (s : System) : Type 0 where
-  pub once : (x t : List ℕ) (word : Word) (m number : ℕ) → AmongFrames m (word_frame x t word) s.frames
+  pub once : (x t : List ℕ) (word : TieWord) (m number : ℕ) → AmongFrames m (word_frame x t word) s.frames
       → AmongFrames number (word_frame x t word) s.frames → m ≡ number
-  pub stamp : (x t : List ℕ) (word : Word) (state : NodeState) → s.node x ≡ Some state → has_table state.status
+  pub stamp : (x t : List ℕ) (word : TieWord) (state : NodeState) → s.node x ≡ Some state → has_table state.status
       → s.last x t ≡ Some word → word.version ≤ state.stamp
 
 -- a node that has ended has no link
@@ -100,5 +100,5 @@ pub record SendsIn (sent : List (ℕ × Frame)) (x : List ℕ) (k : ℕ) : Type 
   pub belongs : Belongs frame x k
 
 -- each node has a name of the settings
-pub record HaveNames (p : SettingsValue) (s : System) : Type 0 where
+pub record NodesHaveNames (p : SettingsValue) (s : System) : Type 0 where
   pub each : (x : List ℕ) → HasNode s x → IsName p x

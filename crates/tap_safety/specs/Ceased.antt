@@ -2,9 +2,9 @@
 use Rattle.std.specs.Prelude.{◌≡◌, ℕ, true, List, ◌⊎◌, Some}
 use Rattle.tap_rule.specs.Node.Status.{Joining, Core, Ceased as CeasedStatus}
 use Rattle.tap_wire.specs.declared.frame.Body.TheVariants.{Forget}
-use Rattle.tap_safety.specs.Remembered.{Word}
+use Rattle.tap_safety.specs.Remembered.{TieWord}
 use Rattle.tap_safety.specs.System.{System, IsUnderWay}
-use Rattle.tap_safety.specs.Words.{Pins}
+use Rattle.tap_safety.specs.Regions.{Pins}
 use Rattle.tap_safety.specs.Ties.{IsOnWay, word_frame, register_of, status_of}
 
 -- x is core or joining
@@ -13,13 +13,13 @@ CoreOrJoining s x = (status_of s x ≡ Some Core) ⊎ (status_of s x ≡ Some Jo
 
 -- a word of x that it has a link to n is on its way
 pub record SaysSo (s : System) (x n : List ℕ) : Type 0 where
-  pub word : Word
+  pub word : TieWord
   pub on : word.on ≡ true
   pub way : IsOnWay s (word_frame x n word)
 
 -- the register of n has x on
 pub record IsRegistered (s : System) (x n : List ℕ) : Type 0 where
-  pub word : Word
+  pub word : TieWord
   pub on : word.on ≡ true
   pub is : register_of s n x ≡ Some word
 

@@ -7,7 +7,7 @@ use Rattle.tap_safety.specs.Awaited.{AreAwaitedOnce}
 use Rattle.tap_safety.specs.Counted.{AreCountedSo, IsKeptSo}
 use Rattle.tap_safety.specs.SessionSteps.{ClosesChild, ClosesRoot, HandsOn, LeavesSessions, OpensChild, OpensRoot, child_of}
 use Rattle.tap_safety.specs.Sessions.{AreExact, ways_of}
-use Rattle.tap_safety.specs.Step.{ChangesAt}
+use Rattle.tap_safety.specs.Exchanges.{ChangesAt}
 use Rattle.tap_safety.specs.System.{System}
 
 -- a node keeps its sessions

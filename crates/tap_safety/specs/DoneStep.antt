@@ -8,10 +8,10 @@ use Rattle.tap_multicast.specs.Covers.{level_kept}
 use Rattle.tap_rule.specs.Node.Status.{Joining, Core}
 use Rattle.tap_wire.specs.declared.frame.Frame.{Frame}
 use Rattle.tap_wire.specs.declared.frame.Body.TheVariants.{Done}
-use Rattle.tap_safety.specs.System.{System, IsCoreNode, IsJoiner, Covers, IsTold, HelloNames}
-use Rattle.tap_safety.specs.Words.{Pins, Has}
+use Rattle.tap_safety.specs.System.{System, IsCoreNode, IsJoiner, CoversAt, IsTold, HelloNames}
+use Rattle.tap_safety.specs.Regions.{Pins, Has}
 use Rattle.tap_safety.specs.Parts.{Covered, Meet, Cover, Low, HoleFree}
-use Rattle.tap_safety.specs.Step.{IsTaken, ChangesAt}
+use Rattle.tap_safety.specs.Exchanges.{IsTaken, ChangesAt}
 
 -- e was joining and is core
 pub record TakesDone (s s' : System) (number : ℕ) (w e : List ℕ) : Type 0 where
@@ -31,7 +31,7 @@ pub record IsSound (p : SettingsValue) (s : System) (b x : List ℕ) (level : �
   pub from : List ℕ
   pub core : IsCoreNode s from
   pub cover : ℕ
-  pub covers : Covers s from b cover
+  pub covers : CoversAt s from b cover
   pub level_is : level ≡ lcp from x + 1
   pub apart : lcp from x < p.digits
 

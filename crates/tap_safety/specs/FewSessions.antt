@@ -12,13 +12,13 @@ use Rattle.tap_safety.specs.Sessions.{IsOpen}
 use Rattle.tap_safety.specs.System.{System}
 
 -- a joining node opens one once it has greeted the joiner; another has one, or one for each level from that of its cover on, and one more
-abbrev pub most_sessions : SettingsValue → Status → Bool → Option ℕ → ℕ
-most_sessions p Joining greeted level = if greeted then 1 else 0
-most_sessions p other greeted None = 1
-most_sessions p other greeted (Some level) = p.digits + 1 - level + 1
+abbrev pub most_sessions_for : SettingsValue → Status → Bool → Option ℕ → ℕ
+most_sessions_for p Joining greeted level = if greeted then 1 else 0
+most_sessions_for p other greeted None = 1
+most_sessions_for p other greeted (Some level) = p.digits + 1 - level + 1
 
 abbrev pub most_at : SettingsValue → NodeState → List ℕ → ℕ
-most_at p node b = most_sessions p node.status (has_name node.greeted b) (level_kept node.covers b)
+most_at p node b = most_sessions_for p node.status (has_name node.greeted b) (level_kept node.covers b)
 
 -- a session of the joiner b is open at x, with this number
 pub record IsOpenOf (s : System) (x b : List ℕ) (k : ℕ) : Type 0 where

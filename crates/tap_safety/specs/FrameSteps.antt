@@ -18,7 +18,7 @@ use Rattle.tap_rule.specs.Hellos.{joining_hello}
 use Rattle.tap_safety.specs.Frames.{HelloFields, hello_body, tell_body}
 use Rattle.tap_safety.specs.Soft.{Offers}
 use Rattle.tap_safety.specs.System.{System}
-use Rattle.tap_safety.specs.Step.{ChangesAt, HasSent, IsTaken}
+use Rattle.tap_safety.specs.Exchanges.{ChangesAt, HasSent, IsTaken}
 
 -- the node stays what it is, and covers as before
 pub record StaysSo (before after : NodeState) : Type 0 where

@@ -1,7 +1,7 @@
 -- The invariant of a system: its parts.
 use Rattle.tap_name.specs.Settings.{SettingsValue}
 use Rattle.tap_safety.specs.System.{System}
-use Rattle.tap_safety.specs.Step.{AreNumbered}
+use Rattle.tap_safety.specs.Exchanges.{AreNumbered}
 use Rattle.tap_safety.specs.Soft.{NamesSoft}
 use Rattle.tap_safety.specs.Seeking.{AreOfSeekers, Seeking}
 use Rattle.tap_safety.specs.Sessions.{AreExact}
@@ -10,8 +10,8 @@ use Rattle.tap_safety.specs.Joins.{AreOfJoiners, EndsOnce}
 use Rattle.tap_safety.specs.Tells.{TellsAreSound}
 use Rattle.tap_safety.specs.Filled.{AreFilled}
 use Rattle.tap_safety.specs.Ceased.{Ceased}
-use Rattle.tap_safety.specs.Ties.{Ties, Versions}
-use Rattle.tap_safety.specs.Bookkeeping.{AreStamped, Await, EndedHaveNoLinks, HasCore, HaveEnds, HaveNames, HavePlaces, TellsAreDeeper}
+use Rattle.tap_safety.specs.Ties.{TiesAreTold, Versions}
+use Rattle.tap_safety.specs.Bookkeeping.{AreStamped, Await, EndedHaveNoLinks, HasCore, HaveEnds, HavePlaces, NodesHaveNames, TellsAreDeeper}
 use Rattle.tap_safety.specs.Counted.{AreCountedSo}
 use Rattle.tap_safety.specs.Departing.{Departure}
 use Rattle.tap_safety.specs.Notices.{Notices}
@@ -29,7 +29,7 @@ pub record Basis (p : SettingsValue) (s : System) : Type 0 where
   pub counted : AreCountedSo s
   -- Ceased, Ties and Departure
   pub ceased : Ceased s
-  pub ties : Ties s
+  pub ties : TiesAreTold s
   pub departure : Departure s
   pub notices : Notices s
   -- seekers, ends of joins, bookkeeping, versions, and the numbers of the frames
@@ -45,7 +45,7 @@ pub record Basis (p : SettingsValue) (s : System) : Type 0 where
   pub has_core : HasCore s
   pub numbered : AreNumbered s
   -- names and spellings
-  pub names : HaveNames p s
+  pub names : NodesHaveNames p s
   pub few : AreAtMost s most_names
   pub spelled : AreSpelled p s
 

@@ -9,7 +9,7 @@ use Rattle.tap_rule.specs.Node.{NodeState, link_to}
 use Rattle.tap_rule.specs.Node.Status.{Ceased, Gone}
 use Rattle.tap_rule.specs.Sent.{IsAmong}
 use Rattle.tap_safety.specs.System.{System, IsCoreNode}
-use Rattle.tap_safety.specs.Bookkeeping.{AreStamped, EndedHaveNoLinks, HasCore, HaveEnds, HaveNames, has_table}
+use Rattle.tap_safety.specs.Bookkeeping.{AreStamped, EndedHaveNoLinks, HasCore, HaveEnds, NodesHaveNames, has_table}
 use Rattle.tap_safety.specs.Departing.{Departure}
 use Rattle.tap_safety.specs.FrameSteps.{TakesFrame}
 use Rattle.tap_safety.specs.Move.Move.{Delivers}
@@ -18,7 +18,7 @@ use Rattle.tap_safety.specs.Notices.{AreNoNotices, IsAtPeace, IsNoticeless, Leav
 use Rattle.tap_safety.specs.Seeking.{HasNode}
 use Rattle.tap_safety.specs.Soft.{AddsSoundLinks}
 use Rattle.tap_safety.specs.Spelled.{AreAtMost, AreSpelled, SendsSpelled}
-use Rattle.tap_safety.specs.Step.{ChangesAt, HasSent, IsSent, IsTaken}
+use Rattle.tap_safety.specs.Exchanges.{ChangesAt, HasSent, IsSent, IsTaken}
 use Rattle.tap_safety.specs.Ties.{Versions}
 
 -- ---- names
@@ -26,7 +26,7 @@ use Rattle.tap_safety.specs.Ties.{Versions}
 -- nodes have names of the settings, if who acts has one
 abbrev pub NamesKept : Type 0
 NamesKept = (p : SettingsValue) (s s' : System) (x : List ℕ) (after : NodeState) (sent : List Frame) → HasDone s s' x after sent
-    → IsName p x → HaveNames p s → HaveNames p s'
+    → IsName p x → NodesHaveNames p s → NodesHaveNames p s'
 
 -- a node that acts is no new one, and who joins is one more
 abbrev pub FewKept : Type 0

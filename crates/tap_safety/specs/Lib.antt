@@ -1,10 +1,10 @@
 pub mod Frames
 pub mod Remembered
 pub mod System
-pub mod Words
+pub mod Regions
 pub mod Parts
 pub mod Filled
-pub mod Step
+pub mod Exchanges
 pub mod Soft
 pub mod Tells
 pub mod FrameSteps
@@ -36,4 +36,4 @@ pub mod FewSessions
 pub mod Rest
 pub mod StepLaws
 pub mod KnownLaws
-pub mod Laws
+pub mod KeptLaws

@@ -11,9 +11,9 @@ use Rattle.tap_rule.specs.Event.{Acted, Start}
 use Rattle.tap_rule.specs.Event.Event.{Starts, Takes}
 use Rattle.tap_rule.specs.Event.Start.{Join, Leave}
 use Rattle.tap_rule.specs.Act.{act}
-use Rattle.tap_safety.specs.Remembered.{Leaver, Word}
+use Rattle.tap_safety.specs.Remembered.{Leaver, TieWord}
 use Rattle.tap_safety.specs.System.{System}
-use Rattle.tap_safety.specs.Step.{ChangesAt, HasSent, IsTaken, numbered_from, with_at}
+use Rattle.tap_safety.specs.Exchanges.{ChangesAt, HasSent, IsTaken, numbered_from, with_at}
 use Rattle.tap_safety.specs.Turned.{Taking, opened_by, sessions_with, surrogates_with}
 use Rattle.tap_safety.specs.Move.{Move}
 use Rattle.tap_safety.specs.Move.Move.{Begins, Delivers}
@@ -33,18 +33,18 @@ without_frame number (f ∷ fs) = if f.0 == number then fs else f ∷ without_fr
 -- ---- words of links
 
 -- the last word, once this is said
-abbrev pub word_after : Body → Option Word → Option Word
+abbrev pub word_after : Body → Option TieWord → Option TieWord
 word_after (Link version on) before = Some (record { version = version; on = on })
 word_after other before = before
 
 -- the last word to a name, once these frames are sent
-unfoldable pub last_after : List Frame → List ℕ → Option Word → Option Word
+unfoldable pub last_after : List Frame → List ℕ → Option TieWord → Option TieWord
 last_after [] t before = before
 last_after (frame ∷ frames) t before =
     last_after frames t (if pointwise nat_eq t frame.to then word_after frame.body before else before)
 
 -- the last words, once a name has sent these frames
-abbrev pub words_with : (List ℕ → List ℕ → Option Word) → List ℕ → List Frame → List ℕ → List ℕ → Option Word
+abbrev pub words_with : (List ℕ → List ℕ → Option TieWord) → List ℕ → List Frame → List ℕ → List ℕ → Option TieWord
 words_with last x sent = with_at last x (λ t. last_after sent t (last x t))
 
 -- ---- moves
@@ -99,16 +99,16 @@ with_joins s t = record s {
 }
 
 -- the frame of this number is no longer under way
-abbrev pub without : System → ℕ → System
-without s number = record s { frames = without_frame number s.frames }
+abbrev pub without_number : System → ℕ → System
+without_number s number = record s { frames = without_frame number s.frames }
 
 abbrev pub has_taken : System → ℕ → Frame → NodeState → Acted → System
 has_taken s number frame node acted =
-    until_rest (with_joins (has_acted (without s number) frame.to acted) (taking s number frame node acted))
+    until_rest (with_joins (has_acted (without_number s number) frame.to acted) (taking s number frame node acted))
 
 -- a frame whose receiver is no node goes, and does nothing: a move is for one whose receiver is a node
 abbrev pub received : System → ℕ → Frame → Option NodeState → System
-received s number frame None = until_rest (without s number)
+received s number frame None = until_rest (without_number s number)
 received s number frame (Some node) = has_taken s number frame node (act node (Takes frame))
 
 abbrev pub delivered : System → ℕ → Option Frame → System

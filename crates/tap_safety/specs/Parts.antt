@@ -4,8 +4,8 @@ use Rattle.tap_name.specs.Settings.{SettingsValue}
 use Rattle.tap_name.specs.Prefix.{lcp}
 use Rattle.tap_link.specs.declared.kind.Kind.{Kind}
 use Rattle.tap_link.specs.declared.kind.Kind.TheVariants.{Settled}
-use Rattle.tap_safety.specs.System.{System, IsCoreNode, IsJoiner, HasLink, Covers, IsTold, HelloNames}
-use Rattle.tap_safety.specs.Words.{surrogate_of, prefix_of, IsIn, Pins, Has, IsGiven, IsServed}
+use Rattle.tap_safety.specs.System.{System, IsCoreNode, IsJoiner, HasLink, CoversAt, IsTold, HelloNames}
+use Rattle.tap_safety.specs.Regions.{surrogate_of, prefix_of, IsIn, Pins, Has, IsGiven, IsServed}
 
 -- what is so if w covers the joiner b at a level
 pub record CoverIs (p : SettingsValue) (s : System) (w b : List ℕ) (level : ℕ) : Type 0 where
@@ -17,9 +17,9 @@ pub record CoverIs (p : SettingsValue) (s : System) (w b : List ℕ) (level : �
 
 -- Covered: each cover of a joiner by a core node is so; a joiner's surrogate is core and covers it at its prefix; and no joiner covers any.
 pub record Covered (p : SettingsValue) (s : System) : Type 0 where
-  pub each : (w b : List ℕ) (level : ℕ) → IsCoreNode s w → IsJoiner s b → Covers s w b level → CoverIs p s w b level
-  pub surrogate : (b : List ℕ) → IsJoiner s b → IsCoreNode s (surrogate_of s b) × Covers s (surrogate_of s b) b (prefix_of s b)
-  pub joiners : (x b : List ℕ) (level : ℕ) → IsJoiner s x → Covers s x b level → ⊥
+  pub each : (w b : List ℕ) (level : ℕ) → IsCoreNode s w → IsJoiner s b → CoversAt s w b level → CoverIs p s w b level
+  pub surrogate : (b : List ℕ) → IsJoiner s b → IsCoreNode s (surrogate_of s b) × CoversAt s (surrogate_of s b) b (prefix_of s b)
+  pub joiners : (x b : List ℕ) (level : ℕ) → IsJoiner s x → CoversAt s x b level → ⊥
 
 -- y has x, or a Hello from w with x is on its way to y, or a Tell of x at a level above what w and y share
 pub record IsMet (s : System) (w x y : List ℕ) : Type 0 where
@@ -34,7 +34,7 @@ pub record CoversAndPins (s : System) (w b e : List ℕ) : Type 0 where
   pub in_first : IsIn s b w
   pub in_second : IsIn s e w
   pub level : ℕ
-  pub covers : Covers s w b level
+  pub covers : CoversAt s w b level
   pub pin : Pins s w e
 
 -- Meet: whichever of the two is in the region of the other is made known there
@@ -46,7 +46,7 @@ pub record Meet (s : System) : Type 0 where
 pub record IsClaim (p : SettingsValue) (s : System) (w b e : List ℕ) (level : ℕ) : Type 0 where
   pub core : IsCoreNode s w
   pub joiner : IsJoiner s b
-  pub covers : Covers s w b level
+  pub covers : CoversAt s w b level
   pub other : IsCoreNode s e
   pub reach : level ≤ lcp w e
   pub apart : lcp w e < p.digits

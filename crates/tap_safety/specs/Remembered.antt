@@ -16,7 +16,7 @@ pub record OpenSession : Type 0 where
   pub awaits : List Token
 
 -- what a Link says: its version, and whether the link is there
-pub record Word : Type 0 where
+pub record TieWord : Type 0 where
   pub version : ℕ
   pub on : Bool
 

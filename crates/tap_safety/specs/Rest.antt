@@ -6,7 +6,7 @@ use Rattle.tap_rule.specs.Node.Status.{Core, Joining, Leaving}
 use Rattle.tap_safety.specs.Remembered.{OpenSession}
 use Rattle.tap_safety.specs.System.{System, HasLink}
 use Rattle.tap_safety.specs.Sessions.{IsOpen}
-use Rattle.tap_safety.specs.Words.{Has, Pins}
+use Rattle.tap_safety.specs.Regions.{Has, Pins}
 use Rattle.tap_safety.specs.Ceased.{IsRegistered}
 use Rattle.tap_safety.specs.Ties.{status_of}
 use Rattle.tap_safety.specs.Invariant.{Basis}

@@ -7,8 +7,8 @@ use Rattle.tap_link.specs.declared.kind.Kind.TheVariants.{Pin, Settled, Leaving 
 use Rattle.tap_rule.specs.Node.{NodeState, link_to}
 use Rattle.tap_safety.specs.Frames.{HelloFields, hello_body}
 use Rattle.tap_safety.specs.Seeking.{IsSeeker, IsUnknown}
-use Rattle.tap_safety.specs.Step.{ChangesAt, IsTaken}
-use Rattle.tap_safety.specs.System.{System, Covers, IsCoreNode, HasLink, IsUnderWay, AmongOffered}
+use Rattle.tap_safety.specs.Exchanges.{ChangesAt, IsTaken}
+use Rattle.tap_safety.specs.System.{System, CoversAt, IsCoreNode, HasLink, IsUnderWay, AmongOffered}
 use Rattle.tap_safety.specs.TellStep.{CoversAnew}
 use Rattle.tap_wire.specs.declared.frame.Body.TheVariants.{Seek}
 use Rattle.tap_wire.specs.declared.frame.Frame.{Frame}
@@ -67,4 +67,4 @@ pub record BeforeSeat (p : SettingsValue) (s : System) (x b : List ℕ) : Type 0
   pub core : IsCoreNode s x
   pub seeker : IsSeeker s b
   pub unknown : IsUnknown s b
-  pub idle : (d : List ℕ) (level : ℕ) → Covers s b d level → ⊥
+  pub idle : (d : List ℕ) (level : ℕ) → CoversAt s b d level → ⊥

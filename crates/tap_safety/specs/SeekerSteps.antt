@@ -10,11 +10,11 @@ use Rattle.tap_wire.specs.declared.frame.Frame.{Frame}
 use Rattle.tap_wire.specs.declared.frame.TellFields.{TellFields}
 use Rattle.tap_rule.specs.Sent.{IsAmong}
 use Rattle.tap_safety.specs.Frames.{HelloFields, hello_body, tell_body}
-use Rattle.tap_safety.specs.System.{System, AmongFrames, Covers, HasLink, IsCoreNode, IsJoiner, IsTold, IsUnderWay}
-use Rattle.tap_safety.specs.Words.{Has}
+use Rattle.tap_safety.specs.System.{System, AmongFrames, CoversAt, HasLink, IsCoreNode, IsJoiner, IsTold, IsUnderWay}
+use Rattle.tap_safety.specs.Regions.{Has}
 use Rattle.tap_safety.specs.Seeking.{HasNode, IsSeeker}
 use Rattle.tap_safety.specs.Soft.{IsSoft, NamesSoft}
-use Rattle.tap_safety.specs.Step.{IsSent}
+use Rattle.tap_safety.specs.Exchanges.{IsSent}
 use Rattle.tap_safety.specs.Bookkeeping.{HaveEnds}
 use Rattle.tap_safety.specs.FrameSteps.{LinksStay, StartsJoin, TakesFrame}
 use Rattle.tap_safety.specs.Tells.{IsSoundTell, TellsAreSound}
@@ -53,8 +53,8 @@ pub record LeavesSeekers (s s' : System) : Type 0 where
   pub told : (b t : List ℕ) (level : ℕ) → IsTold s' b t level → IsTold s b t level ⊎ (IsSoft s' b × IsSoft s' t)
   pub hellos : (w b : List ℕ) (hello : HelloFields) → IsUnderWay s' w b (hello_body hello)
       → IsUnderWay s w b (hello_body hello) ⊎ AreSoftEnds s' w b hello
-  pub covers : (y b : List ℕ) (level : ℕ) → Covers s' y b level → Covers s y b level ⊎ IsSoft s' b
-  pub idle : (x d : List ℕ) (level : ℕ) → IsSeeker s' x → Covers s' x d level → Covers s x d level
+  pub covers : (y b : List ℕ) (level : ℕ) → CoversAt s' y b level → CoversAt s y b level ⊎ IsSoft s' b
+  pub idle : (x d : List ℕ) (level : ℕ) → IsSeeker s' x → CoversAt s' x d level → CoversAt s x d level
   pub seeks_on : (x from to : List ℕ) (m : ℕ) → IsSeeker s' x → AmongSeeks s x from to m → AmongSeeks s' x from to m
   pub seeks_was : (x from to : List ℕ) (m : ℕ) → AmongSeeks s' x from to m → AmongSeeks s x from to m
   pub still : (x from to : List ℕ) (m : ℕ) → AmongSeeks s' x from to m → IsSeeker s x → IsSeeker s' x
@@ -63,7 +63,7 @@ pub record LeavesSeekers (s s' : System) : Type 0 where
 pub record LeavesTells (p : SettingsValue) (s s' : System) : Type 0 where
   pub cores : (y : List ℕ) → IsCoreNode s y → IsCoreNode s' y
   pub softs : (y : List ℕ) → IsSoft s y → IsSoft s' y
-  pub covers : (y b : List ℕ) (level : ℕ) → IsCoreNode s y → IsJoiner s b → Covers s y b level → (c : ℕ) × Covers s' y b c
+  pub covers : (y b : List ℕ) (level : ℕ) → IsCoreNode s y → IsJoiner s b → CoversAt s y b level → (c : ℕ) × CoversAt s' y b c
   pub joiners : (b : List ℕ) → IsJoiner s b → IsJoiner s' b
   pub surrogates : (b : List ℕ) → IsJoiner s b → s'.surrogate b ≡ s.surrogate b
   pub ways : (from to : List ℕ) (fields : TellFields) (watch : List Slot) → IsUnderWay s' from to (tell_body fields watch)

@@ -4,8 +4,8 @@ use Rattle.tap_wire.specs.declared.frame.Body.TheVariants.{Seek}
 use Rattle.tap_rule.specs.Node.{NodeState}
 use Rattle.tap_rule.specs.Node.Status.{Joining}
 use Rattle.tap_safety.specs.Frames.{HelloFields, hello_body}
-use Rattle.tap_safety.specs.System.{System, AmongFrames, Covers, IsCoreNode, HelloNames, IsTold, IsUnderWay}
-use Rattle.tap_safety.specs.Words.{Has}
+use Rattle.tap_safety.specs.System.{System, AmongFrames, CoversAt, IsCoreNode, HelloNames, IsTold, IsUnderWay}
+use Rattle.tap_safety.specs.Regions.{Has}
 
 -- there is, or was, a node of this name
 pub record HasNode (s : System) (x : List ℕ) : Type 0 where
@@ -34,14 +34,14 @@ pub record IsUnknown (s : System) (x : List ℕ) : Type 0 where
   pub told : (b t : List ℕ) (level : ℕ) → IsTold s b t level → (b ≡ x → ⊥) × (t ≡ x → ⊥)
   pub greeted : (w b : List ℕ) (fields : HelloFields) → IsUnderWay s w b (hello_body fields) → (w ≡ x → ⊥) × (b ≡ x → ⊥)
   pub offered : (w b : List ℕ) → HelloNames s w b x → ⊥
-  pub covered : (y : List ℕ) (level : ℕ) → Covers s y x level → ⊥
+  pub covered : (y : List ℕ) (level : ℕ) → CoversAt s y x level → ⊥
 
 -- Seeking: of each seeker one Seek is under way, and nothing else names it; it covers nobody; and each cover is of a known name
 pub record Seeking (s : System) : Type 0 where
   pub seeks : (x : List ℕ) → IsSeeker s x → HasOneSeek s x
   pub unknown : (x : List ℕ) → IsSeeker s x → IsUnknown s x
-  pub idle : (x d : List ℕ) (level : ℕ) → IsSeeker s x → Covers s x d level → ⊥
-  pub covers : (y b : List ℕ) (level : ℕ) → Covers s y b level → HasNode s b
+  pub idle : (x d : List ℕ) (level : ℕ) → IsSeeker s x → CoversAt s x d level → ⊥
+  pub covers : (y b : List ℕ) (level : ℕ) → CoversAt s y b level → HasNode s b
 
 -- a Seek under way is of a seeker
 pub record AreOfSeekers (s : System) : Type 0 where

@@ -12,7 +12,7 @@ use Rattle.tap_rule.specs.Node.Status.{Ceased as CeasedStatus}
 use Rattle.tap_rule.specs.Reaction.{Message}
 use Rattle.tap_rule.specs.Sent.{IsAmong}
 use Rattle.tap_safety.specs.Frames.{HelloFields, hello_body}
-use Rattle.tap_safety.specs.Step.{IsSent}
+use Rattle.tap_safety.specs.Exchanges.{IsSent}
 use Rattle.tap_safety.specs.System.{System, HasLink, IsCoreNode, IsJoiner, IsUnderWay}
 
 -- there is a node of this name that has ceased

@@ -9,7 +9,7 @@ use Rattle.tap_rule.specs.Node.{NodeState}
 use Rattle.tap_rule.specs.Event.{Start}
 use Rattle.tap_safety.specs.Frames.{HelloFields, tell_body}
 use Rattle.tap_safety.specs.System.{System, AmongFrames, IsCoreNode, IsJoiner, IsUnderWay}
-use Rattle.tap_safety.specs.Step.{AreNumbered, Ascend, HasSent, IsTaken, numbered_from}
+use Rattle.tap_safety.specs.Exchanges.{AreNumbered, Ascend, HasSent, IsTaken, numbered_from}
 use Rattle.tap_safety.specs.Moved.{HasDone, IsDelivered, IsLost, IsStarted, numbered_frame, starter}
 use Rattle.tap_safety.specs.Sessions.{AreExact, for_way, ways_of}
 use Rattle.tap_safety.specs.Awaited.{AreAwaitedOnce}
@@ -24,7 +24,7 @@ use Rattle.tap_safety.specs.DoneStep.{BeforeDone, DoneIsTaken, NothingOnWay, Tak
 use Rattle.tap_safety.specs.SeekStep.{BeforeSeat, SeatsJoiner}
 use Rattle.tap_safety.specs.TellStep.{BeforeTell, IsTellOf, KnownTellIsTaken, TakesKnownTell, TakesTell, TellIsTaken}
 use Rattle.tap_safety.specs.Tells.{TellsAreSound}
-use Rattle.tap_safety.specs.Ties.{Ties, Versions}
+use Rattle.tap_safety.specs.Ties.{TiesAreTold, Versions}
 use Rattle.tap_safety.specs.WordSteps.{KeepsForgets, SaysLinks, SaysNoMore, SaysWords}
 use Rattle.tap_safety.specs.Ceased.{Ceased}
 use Rattle.tap_safety.specs.Invariant.{Basis, Invariant}
@@ -214,7 +214,7 @@ TellsKept = (p : SettingsValue) (s s' : System) → LeavesTells p s s' → Tells
 
 -- a step that says of each link that it changes keeps the ties, their versions, and what is said to nodes that join or have ceased
 abbrev pub TiesKeptByWords : Type 0
-TiesKeptByWords = (s s' : System) (x : List ℕ) → SaysWords s s' x → Ties s → Ties s'
+TiesKeptByWords = (s s' : System) (x : List ℕ) → SaysWords s s' x → TiesAreTold s → TiesAreTold s'
 
 abbrev pub VersionsKeptByWords : Type 0
 VersionsKeptByWords = (s s' : System) (x : List ℕ) → SaysWords s s' x → Versions s → Versions s'

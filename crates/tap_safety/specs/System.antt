@@ -10,7 +10,7 @@ use Rattle.tap_wire.specs.declared.frame.TellFields.{TellFields}
 use Rattle.tap_rule.specs.Node.{NodeState, link_to}
 use Rattle.tap_rule.specs.Node.Status.{Joining, Core, Leaving}
 use Rattle.tap_safety.specs.Frames.{HelloFields, hello_body, tell_body}
-use Rattle.tap_safety.specs.Remembered.{Leaver, OpenSession, Word}
+use Rattle.tap_safety.specs.Remembered.{Leaver, OpenSession, TieWord}
 
 -- The node of each name, if there is one; the frames under way with their numbers, oldest first; and the number of the frame that
 -- is sent next. What is remembered: of each joiner that was started its surrogate, the open session of a node and a number, the
@@ -21,7 +21,7 @@ pub record System : Type 0 where
   pub next : ℕ
   pub surrogate : List ℕ → Option (List ℕ)
   pub session : List ℕ → ℕ → Option OpenSession
-  pub last : List ℕ → List ℕ → Option Word
+  pub last : List ℕ → List ℕ → Option TieWord
   pub departing : Option Leaver
 
 -- the frame of this number is one of these
@@ -55,7 +55,7 @@ pub record HasLink (s : System) (x y : List ℕ) (kind : Kind) : Type 0 where
   pub link : link_to state y ≡ Some kind
 
 -- x covers b at this level
-pub record Covers (s : System) (x b : List ℕ) (level : ℕ) : Type 0 where
+pub record CoversAt (s : System) (x b : List ℕ) (level : ℕ) : Type 0 where
   pub state : NodeState
   pub is : s.node x ≡ Some state
   pub cover : level_kept state.covers b ≡ Some level

@@ -11,9 +11,9 @@ use Rattle.tap_wire.specs.declared.frame.TellFields.{TellFields}
 use Rattle.tap_rule.specs.Node.{NodeState, link_to}
 use Rattle.tap_safety.specs.Frames.{HelloFields, hello_body, tell_body}
 use Rattle.tap_safety.specs.System.{System, AmongOffered, HasLink, IsCoreNode, IsJoiner}
-use Rattle.tap_safety.specs.Words.{IsIn, prefix_of}
+use Rattle.tap_safety.specs.Regions.{IsIn, prefix_of}
 use Rattle.tap_safety.specs.Parts.{Cover, Covered, HoleFree, SettledCore}
-use Rattle.tap_safety.specs.Step.{ChangesAt, IsSent, IsTaken}
+use Rattle.tap_safety.specs.Exchanges.{ChangesAt, IsSent, IsTaken}
 
 -- x tells t of b, at the level that it has for t
 pub record Tells (sent : List Frame) (x b t : List ℕ) : Type 0 where

@@ -5,8 +5,8 @@ use Rattle.tap_name.specs.Settings.{SettingsValue}
 use Rattle.tap_name.specs.declared.slot.Slot.{Slot}
 use Rattle.tap_wire.specs.declared.frame.TellFields.{TellFields}
 use Rattle.tap_safety.specs.Frames.{tell_body}
-use Rattle.tap_safety.specs.System.{System, Covers, IsCoreNode, IsJoiner, IsUnderWay}
-use Rattle.tap_safety.specs.Words.{IsIn, prefix_of}
+use Rattle.tap_safety.specs.System.{System, CoversAt, IsCoreNode, IsJoiner, IsUnderWay}
+use Rattle.tap_safety.specs.Regions.{IsIn, prefix_of}
 use Rattle.tap_safety.specs.Soft.{IsSoft}
 
 -- a Tell of a joiner to another node of its region, at the level that its sender has for the receiver
@@ -14,7 +14,7 @@ pub record IsSoundTell (p : SettingsValue) (s : System) (from to : List ℕ) (fi
   pub joiner : IsJoiner s fields.joiner
   pub core : IsCoreNode s from
   pub cover : ℕ
-  pub covers : Covers s from fields.joiner cover
+  pub covers : CoversAt s from fields.joiner cover
   pub inside : IsIn s fields.joiner to
   pub apart : to ≡ fields.joiner → ⊥
   pub level : fields.level ≡ lcp from to + 1

@@ -10,7 +10,7 @@ use Rattle.tap_rule.specs.Node.{NodeState, join_session_at}
 use Rattle.tap_safety.specs.Remembered.{OpenSession, Token}
 use Rattle.tap_safety.specs.Remembered.Token.{Child}
 use Rattle.tap_safety.specs.Sessions.{for_child, for_way, is_place, session_named, ways_of}
-use Rattle.tap_safety.specs.Step.{with_at}
+use Rattle.tap_safety.specs.Exchanges.{with_at}
 
 -- a frame that is taken: its number, the node before and after, and the frames that are sent, with their numbers
 pub record Taking : Type 0 where

@@ -8,7 +8,7 @@ use Rattle.tap_safety.specs.System.{System, AmongFrames}
 use Rattle.tap_safety.specs.Sessions.{AmongTokens, Awaits, Belongs, HasFrame, HasParent, IsOpen, IsRootless}
 
 -- an open session goes on: it awaits what it awaited, of what is still to come
-pub record GoesOn (s s' : System) (y : List ℕ) (m : ℕ) (o : OpenSession) : Type 0 where
+pub record SessionGoesOn (s s' : System) (y : List ℕ) (m : ℕ) (o : OpenSession) : Type 0 where
   pub now : OpenSession
   pub is : IsOpen s' y m now
   pub joiner : now.joiner ≡ o.joiner
@@ -44,7 +44,7 @@ pub record IsNewlyOpen (s s' : System) (sent : List (ℕ × Frame)) (y : List �
 
 -- the whole of it; and at most one is opened
 pub record Turns (s s' : System) (sent : List (ℕ × Frame)) : Type 0 where
-  pub fate : (y : List ℕ) (m : ℕ) (o : OpenSession) → IsOpen s y m o → GoesOn s s' y m o ⊎ IsClosed s s' y m o
+  pub fate : (y : List ℕ) (m : ℕ) (o : OpenSession) → IsOpen s y m o → SessionGoesOn s s' y m o ⊎ IsClosed s s' y m o
   pub origin : (y : List ℕ) (m : ℕ) (o : OpenSession) → IsOpen s' y m o → WasOpen s s' sent y m o ⊎ IsNewlyOpen s s' sent y m o
   pub one : (y z : List ℕ) (m n : ℕ) (o c : OpenSession) → IsOpen s' y m o → IsOpen s' z n c → s.session y m ≡ None
       → s.session z n ≡ None → (y ≡ z) × (m ≡ n)

@@ -28,10 +28,10 @@ ghost use Rattle.tap_safety.specs.StepLaws.{CeasedKeptByWords, TiesKeptByWords, 
 ghost use Rattle.tap_safety.specs.StepLaws.{JoinsKeptByClosing, JoinsKeptByHandingOn, JoinsKeptByLastAnswer, JoinsKeptByOpening};
 ghost use Rattle.tap_safety.specs.StepLaws.{SeekingKept, SoftKeptByForget, SoftKeptByHello, SoftKeptByPlainFrame, SoftKeptByRelease};
 ghost use Rattle.tap_safety.specs.StepLaws.{SoftKeptByTellCeased, SoftKeptByTellJoining, TellsKept};
-ghost use Rattle.tap_safety.specs.Laws.{CoverKeptByDone, HoleFreeKeptByDone, LowKeptByDone, LowOfNewJoiner};
-ghost use Rattle.tap_safety.specs.Laws.{CoverKeptByTell, CoveredKeptByTell, HoleFreeKeptByTell, LowKeptByTell, MeetKeptByTell};
-ghost use Rattle.tap_safety.specs.Laws.{NoSessionWithoutRoot, OnlyTheLastFrameIsLeft, OnlyTheRootIsLeft, SessionsKeptByOpening};
-ghost use Rattle.tap_safety.specs.Laws.{CoverKeptByKnownTell, QuietOnceDone, TiesKeptByLink, VersionsKeptByLink};
+ghost use Rattle.tap_safety.specs.KeptLaws.{CoverKeptByDone, HoleFreeKeptByDone, LowKeptByDone, LowOfNewJoiner};
+ghost use Rattle.tap_safety.specs.KeptLaws.{CoverKeptByTell, CoveredKeptByTell, HoleFreeKeptByTell, LowKeptByTell, MeetKeptByTell};
+ghost use Rattle.tap_safety.specs.KeptLaws.{NoSessionWithoutRoot, OnlyTheLastFrameIsLeft, OnlyTheRootIsLeft, SessionsKeptByOpening};
+ghost use Rattle.tap_safety.specs.KeptLaws.{CoverKeptByKnownTell, QuietOnceDone, TiesKeptByLink, VersionsKeptByLink};
 
 /// A move: a frame that is delivered is taken by its receiver, or by nobody if that is no node, and who starts something acts by its rule;
 /// no other node changes, and frames keep numbers that ascend, by which they are found.

@@ -15,9 +15,9 @@ use Rattle.tap_safety.specs.System.{System, AmongFrames}
 use Rattle.tap_safety.proofs.Said.{Said, said_of}
 use Rattle.tap_safety.proofs.Said.Said.{IsAck, IsDone, IsForget, IsGone, IsHeard, IsHello, IsLeave, IsLeft, IsLink, IsRelease, IsSeek, IsTell}
 use Rattle.tap_safety.specs.Notices.{IsNotice}
-use Rattle.tap_moves.specs.Spelled.{AreNodes}
+use Rattle.tap_moves.specs.KnownNames.{AreNodes}
 use Rattle.tap_moves.specs.InvariantLaws.{IsTakenThere, IsFilledThere}
-use Rattle.tap_session_moves.specs.PinsRule.{IsOver}
+use Rattle.tap_session_moves.specs.PinsRule.{IsEndedStatus}
 use Rattle.tap_safety_moves.specs.Arrivals.{AnswersOpenSession, Arrives, OthersHaveRules, TakenWhereDue, MayLackRule, IsSetApart}
 use Rattle.tap_safety_moves.proofs.Takers.{done_taker, forget_taker, hello_taker, kept_session, leave_taker, left_taker, release_taker, seek_taker, session_taker, tell_taker}
 
@@ -65,7 +65,7 @@ module _ (status : Status) where
   at_answer (inr (inr ceased)) = contained (Joining ∷ Core ∷ CeasedStatus ∷ []) status (inr (inr (inl ceased)))
 
   -- a Release and a Forget alike
-  at_free : ((status ≡ Joining) ⊎ (status ≡ Core)) ⊎ IsOver status → Contains (Joining ∷ Core ∷ []) status ⊎ IsOver status
+  at_free : ((status ≡ Joining) ⊎ (status ≡ Core)) ⊎ IsEndedStatus status → Contains (Joining ∷ Core ∷ []) status ⊎ IsEndedStatus status
   at_free (inl (inl joins)) = inl (contained (Joining ∷ Core ∷ []) status (inl joins))
   at_free (inl (inr core)) = inl (contained (Joining ∷ Core ∷ []) status (inr (inl core)))
   at_free (inr over) = inr over

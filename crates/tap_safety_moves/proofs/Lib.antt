@@ -5,11 +5,11 @@ pub mod Lost
 pub mod LostWords
 pub mod Together
 pub mod Ignored
-pub mod Moves
+pub mod SoundMoves
 pub mod Consequences
 pub mod Delivered
 pub mod Walks
 pub mod Takers
-pub mod Named
+pub mod FewLinked
 pub mod NotStrange
 pub mod Arrivals

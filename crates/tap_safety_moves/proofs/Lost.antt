@@ -10,7 +10,7 @@ use Rattle.tap_wire.specs.declared.frame.Frame.{Frame}
 use Rattle.tap_wire.specs.declared.frame.TellFields.{TellFields}
 use Rattle.tap_rule.specs.Act.{act}
 use Rattle.tap_rule.specs.Event.Event.{Takes}
-use Rattle.tap_rule.specs.Laws.{frame_to}
+use Rattle.tap_rule.specs.RuleLaws.{frame_to}
 use Rattle.tap_rule.specs.Node.{NodeState, name_of}
 use Rattle.tap_rule.specs.Sent.{AreSent}
 use Rattle.tap_safety.specs.Bookkeeping.{AreStamped, EndedHaveNoLinks, HasCore, HavePlaces}
@@ -24,12 +24,12 @@ use Rattle.tap_safety.specs.Seeking.{AreOfSeekers, Seeking}
 use Rattle.tap_safety.specs.SessionSteps.{Exchanges, LeavesSessions}
 use Rattle.tap_safety.specs.Sessions.{Belongs, session_named}
 use Rattle.tap_safety.specs.Soft.{AddsSoundLinks, NamesSoft}
-use Rattle.tap_safety.specs.Step.{ChangesAt, IsTaken}
+use Rattle.tap_safety.specs.Exchanges.{ChangesAt, IsTaken}
 use Rattle.tap_safety.specs.System.{System, AmongFrames, HasLink, IsUnderWay}
 use Rattle.tap_safety.specs.Tells.{TellsAreSound}
 use Rattle.tap_safety.specs.Ties.{link_in, link_of, status_in, status_of, word_frame}
 use Rattle.tap_safety.specs.Turned.{Taking, closed_by, opened_by, sessions_with, surrogates_with}
-use Rattle.tap_safety.proofs.Moves.{delivers, found}
+use Rattle.tap_safety.proofs.Moved.{delivers, found}
 use Rattle.tap_safety.proofs.StepLaws.{plain_law, seeking_frame_law, soft_plain_law, tells_frame_law}
 use Rattle.tap_safety.proofs.Said.{Said, said_of}
 use Rattle.tap_safety.proofs.Said.Said.{IsAck, IsHeard, IsHello, IsTell}

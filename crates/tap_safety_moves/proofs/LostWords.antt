@@ -5,7 +5,7 @@ use Rattle.tap_link.specs.declared.kind.Kind.TheVariants.{Pin}
 use Rattle.tap_wire.specs.declared.frame.Body.{Body}
 use Rattle.tap_wire.specs.declared.frame.Body.TheVariants.{Forget, Link, Release}
 use Rattle.tap_wire.specs.declared.frame.Frame.{Frame}
-use Rattle.tap_rule.specs.Laws.{frame_to}
+use Rattle.tap_rule.specs.RuleLaws.{frame_to}
 use Rattle.tap_rule.specs.Node.{NodeState, name_of}
 use Rattle.tap_rule.specs.Node.Status.{Ceased as CeasedStatus, Gone}
 use Rattle.tap_safety.specs.System.{System}
@@ -16,7 +16,7 @@ use Rattle.tap_safety.proofs.StepLaws.{ceased_words_law, ties_words_law, version
 use Rattle.tap_safety.proofs.WordsKept.{at_link}
 use Rattle.tap_moves.specs.Delivered.{after_delivery}
 use Rattle.tap_moves.specs.TiesLaws.{WordsStand}
-use Rattle.tap_session_moves.specs.PinsRule.{IsOver}
+use Rattle.tap_session_moves.specs.PinsRule.{IsEndedStatus}
 use Rattle.tap_safety_moves.specs.Ignored.{IgnoresFrame, MayIgnore}
 use Rattle.tap_safety_moves.proofs.Lost.{frame_still, linked_same, lost, status_same, way_still, way_was}
 
@@ -25,10 +25,10 @@ no_word : (node : NodeState) (body : Body) → MayIgnore node body → (version 
 no_word node body may version on is = let never : MayIgnore node (Link version on) = rw (← is) at may in never
 
 -- a node that ignores a Release has ended, and so has one that ignores a Forget
-release_over : (node : NodeState) (body : Body) → MayIgnore node body → Release ≡ body → IsOver node.status
+release_over : (node : NodeState) (body : Body) → MayIgnore node body → Release ≡ body → IsEndedStatus node.status
 release_over node body may is = subst (MayIgnore node) (sym is) may
 
-forget_over : (node : NodeState) (body : Body) → MayIgnore node body → Forget ≡ body → IsOver node.status
+forget_over : (node : NodeState) (body : Body) → MayIgnore node body → Forget ≡ body → IsEndedStatus node.status
 forget_over node body may is = subst (MayIgnore node) (sym is) may
 
 module _ (p : SettingsValue) (s : System) (number : ℕ) (node : NodeState) (from : List ℕ) (body : Body)
@@ -40,7 +40,7 @@ module _ (p : SettingsValue) (s : System) (number : ℕ) (node : NodeState) (fro
   left = after_delivery p s number
 
   -- a node that has ended pins nobody
-  no_pin : IsOver node.status → (t : List ℕ) → link_of left own t ≡ Some Pin → ⊥
+  no_pin : IsEndedStatus node.status → (t : List ℕ) → link_of left own t ≡ Some Pin → ⊥
   no_pin over t pin =
       let was = is.invariant.ended.none own t Pin (at_link s own t Pin (sym (linked_same p s number node from body is own t) ∙ pin)) in
       elim over [
@@ -53,7 +53,7 @@ module _ (p : SettingsValue) (s : System) (number : ℕ) (node : NodeState) (fro
   register_same t x = ap (λ node. register_in node x) ((lost p s number node from body is).node t)
 
   -- a frame of this body goes only to a node that has ended
-  ends_pin : (b : Body) (w y : List ℕ) → (b ≡ body → IsOver node.status) → record { from = w; to = y; body = b } ≡ frame_to node from body
+  ends_pin : (b : Body) (w y : List ℕ) → (b ≡ body → IsEndedStatus node.status) → record { from = w; to = y; body = b } ≡ frame_to node from body
       → (y ≡ own) × (link_of left y w ≡ Some Pin → ⊥)
   ends_pin b w y over same =
       let here : y ≡ own = ap (λ (f : Frame). f.to) same in

@@ -15,7 +15,7 @@ use Rattle.tap_table.specs.Table.{IsTable, TableValue}
 use Rattle.tap_table.proofs.Found.{linked_is_other}
 use Rattle.tap_table.proofs.Targets.{target_is_linked, targets-ascending}
 use Rattle.tap_rule.specs.Node.{NodeState, member_at_rest}
-use Rattle.tap_rule.proofs.Kept.{member_law}
+use Rattle.tap_rule.proofs.KeptNode.{member_law}
 use Rattle.tap_safety.specs.AtRest.{AreMembers, system_at_rest}
 use Rattle.tap_safety.specs.Invariant.{Basis}
 use Rattle.tap_safety.specs.Seeking.{HasNode}
@@ -23,7 +23,7 @@ use Rattle.tap_safety.specs.Soft.{IsSoft}
 use Rattle.tap_safety.specs.System.{System, HasLink}
 use Rattle.tap_safety.proofs.AtRest.{at_rest_law}
 use Rattle.tap_safety.proofs.FewSessions.{few_at_rest}
-use Rattle.tap_moves.specs.Spelled.{AreNodes, IsNamedPair, IsNodeOf, IsParent}
+use Rattle.tap_moves.specs.KnownNames.{AreNodes, IsNamedPair, IsNodeOf, IsParent}
 use Rattle.tap_session_moves.proofs.EndMoves.{askers_at_rest}
 use Rattle.tap_safety_moves.specs.Sound.{SoundAtRest}
 

@@ -10,7 +10,7 @@ use Rattle.tap_wire.specs.declared.frame.Body.{Body}
 use Rattle.tap_wire.specs.declared.frame.Body.TheVariants.{Seek}
 use Rattle.tap_wire.specs.declared.frame.TellFields.{TellFields}
 use Rattle.tap_rule.specs.Fit.{IsFit, IsFitBody, IsFitSeek, IsFitTell}
-use Rattle.tap_rule.specs.Laws.{frame_to}
+use Rattle.tap_rule.specs.RuleLaws.{frame_to}
 use Rattle.tap_rule.specs.Node.{NodeState, level_of, link_to, name_of}
 use Rattle.tap_rule.specs.Strange.{is_strange}
 use Rattle.tap_rule.proofs.Fit.{fit_law}
@@ -23,7 +23,7 @@ use Rattle.tap_safety.proofs.Said.Said.{IsCast, IsSeek, IsTell}
 use Rattle.tap_moves.proofs.InvariantMoves.{seeker_not_core}
 use Rattle.tap_session_moves.proofs.Depths.{tells_shallow}
 use Rattle.tap_safety_moves.specs.Arrivals.{Arrives, OthersAreDelivered, StrangeExactly, is_deepest_copy}
-use Rattle.tap_safety_moves.proofs.Named.{few_linked}
+use Rattle.tap_safety_moves.proofs.FewLinked.{few_linked}
 use Rattle.tap_safety_moves.proofs.Takers.{none_departs, seek_taker, way}
 
 module _ (p : SettingsValue) (s : System) (number : ℕ) (node : NodeState) (from : List ℕ) where

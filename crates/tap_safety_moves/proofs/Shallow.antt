@@ -20,17 +20,17 @@ use Rattle.tap_rule.specs.Reaction.{Reaction}
 use Rattle.tap_rule.specs.Sending.{by_receiver, frames_of, lay_frame, link_frame, message_frame}
 use Rattle.tap_rule.specs.StartRules.{rule_of_start}
 use Rattle.tap_rule.specs.Strange.{is_strange}
-use Rattle.tap_rule.proofs.Kept.{joiner_law}
+use Rattle.tap_rule.proofs.KeptNode.{joiner_law}
 use Rattle.tap_safety.specs.Move.{may_start}
 use Rattle.tap_safety.specs.Moved.{starter}
-use Rattle.tap_safety.specs.Step.{AreNumbered, numbered_from}
+use Rattle.tap_safety.specs.Exchanges.{AreNumbered, numbered_from}
 use Rattle.tap_safety.specs.System.{System, AmongFrames}
-use Rattle.tap_safety.proofs.Moves.{delivers, found, starts}
-use Rattle.tap_safety.proofs.Told.{among_sent}
+use Rattle.tap_safety.proofs.Moved.{delivers, found, starts}
+use Rattle.tap_safety.proofs.UnderWay.{among_sent}
 use Rattle.tap_safety.proofs.Said.{Said, said_of}
 use Rattle.tap_safety.proofs.Said.Said.{IsCast}
 use Rattle.tap_moves.specs.Delivered.{after_delivery, after_start}
-use Rattle.tap_moves.specs.Spelled.{AreNodes}
+use Rattle.tap_moves.specs.KnownNames.{AreNodes}
 use Rattle.tap_moves.proofs.Exchanged.{exchanges, in_either}
 use Rattle.tap_moves.proofs.Got.{among_all}
 use Rattle.tap_safety_moves.specs.Arrivals.{is_deepest_copy}

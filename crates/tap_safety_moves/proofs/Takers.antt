@@ -8,7 +8,7 @@ use Rattle.tap_wire.specs.declared.frame.Body.{Body}
 use Rattle.tap_wire.specs.declared.frame.Body.TheVariants.{Done, Forget, Leave, Left, Release, Seek}
 use Rattle.tap_wire.specs.declared.frame.Frame.{Frame}
 use Rattle.tap_wire.specs.declared.frame.TellFields.{TellFields}
-use Rattle.tap_rule.specs.Laws.{frame_to}
+use Rattle.tap_rule.specs.RuleLaws.{frame_to}
 use Rattle.tap_rule.specs.Node.{NodeState, Status, join_session_at, name_of}
 use Rattle.tap_rule.specs.Node.Status.{Ceased as CeasedStatus, Core, Gone, Joining, Leaving}
 use Rattle.tap_safety.specs.Bookkeeping.{holds_sessions}
@@ -21,13 +21,13 @@ use Rattle.tap_safety.specs.System.{System, AmongFrames, IsCoreNode, IsJoiner, I
 use Rattle.tap_safety.specs.Ties.{status_of}
 use Rattle.tap_safety.proofs.LinkKeeps.{status_seen}
 use Rattle.tap_moves.proofs.InvariantMoves.{joins_here}
-use Rattle.tap_session_moves.specs.PinsRule.{IsOver}
+use Rattle.tap_session_moves.specs.PinsRule.{IsEndedStatus}
 use Rattle.tap_safety_moves.specs.Arrivals.{Arrives}
 
 -- ---- statuses
 
 -- a node that isn't leaving joins, is core, or has ended
-not_leaving : (status : Status) → (status ≡ Leaving → ⊥) → ((status ≡ Joining) ⊎ (status ≡ Core)) ⊎ IsOver status
+not_leaving : (status : Status) → (status ≡ Leaving → ⊥) → ((status ≡ Joining) ⊎ (status ≡ Core)) ⊎ IsEndedStatus status
 not_leaving Joining stays = inl (inl refl)
 not_leaving Core stays = inl (inr refl)
 not_leaving Leaving stays = absurd (stays refl)
@@ -35,7 +35,7 @@ not_leaving Gone stays = inr (inl refl)
 not_leaving CeasedStatus stays = inr (inr refl)
 
 -- a node that neither joins nor leaves, and hasn't ended, is core
-only_core : (status : Status) → (status ≡ Joining → ⊥) → (status ≡ Leaving → ⊥) → (IsOver status → ⊥) → status ≡ Core
+only_core : (status : Status) → (status ≡ Joining → ⊥) → (status ≡ Leaving → ⊥) → (IsEndedStatus status → ⊥) → status ≡ Core
 only_core Joining joins leaves over = absurd (joins refl)
 only_core Core joins leaves over = refl
 only_core Leaving joins leaves over = absurd (leaves refl)
@@ -155,7 +155,7 @@ module _ (p : SettingsValue) (s : System) (number : ℕ) (node : NodeState) (fro
       joins_here s node (is.invariant.of_joiners.dones from (name_of node) (way p s number node from Done is)) is.at
 
   -- neither of the two words that end a pin comes to a leaver
-  pub release_taker : Arrives p s number node from Release → ((node.status ≡ Joining) ⊎ (node.status ≡ Core)) ⊎ IsOver node.status
+  pub release_taker : Arrives p s number node from Release → ((node.status ≡ Joining) ⊎ (node.status ≡ Core)) ⊎ IsEndedStatus node.status
   release_taker is = not_leaving node.status (by_departing s.departing refl)
     where
       by_departing : (departing : Option Leaver) → s.departing ≡ departing → node.status ≡ Leaving → ⊥
@@ -166,7 +166,7 @@ module _ (p : SettingsValue) (s : System) (number : ℕ) (node : NodeState) (fro
           let leaver_is = during.leaving (name_of node) (seen p s number node from Release is Leaving leaves) in
           (during.releases from (name_of node) (way p s number node from Release is)).0 leaver_is
 
-  pub forget_taker : Arrives p s number node from Forget → ((node.status ≡ Joining) ⊎ (node.status ≡ Core)) ⊎ IsOver node.status
+  pub forget_taker : Arrives p s number node from Forget → ((node.status ≡ Joining) ⊎ (node.status ≡ Core)) ⊎ IsEndedStatus node.status
   forget_taker is = not_leaving node.status (by_departing s.departing refl)
     where
       by_departing : (departing : Option Leaver) → s.departing ≡ departing → node.status ≡ Leaving → ⊥

@@ -7,7 +7,7 @@ use Rattle.tap_safety.specs.Soft.{NamesSoft}
 use Rattle.tap_safety.specs.System.{System}
 use Rattle.tap_moves.specs.CalmMoves.{AreSought}
 use Rattle.tap_moves.specs.SessionMoves.{AreNamed}
-use Rattle.tap_moves.specs.Spelled.{AreNodes}
+use Rattle.tap_moves.specs.KnownNames.{AreNodes}
 use Rattle.tap_moves.specs.TiesLaws.{WordsStand}
 use Rattle.tap_session_moves.specs.EndMoves.{HaveBothEnds}
 use Rattle.tap_session_moves.specs.JoinMoves.{HaveJoiners}

@@ -12,7 +12,7 @@ use Rattle.tap_name.specs.declared.slot.Slot.{Slot}
 use Rattle.tap_name.proofs.Names.{among-filter, among-filter_from}
 use Rattle.tap_name.proofs.Prefixes.{lcp-digits, lcp-is, lcp-triangle}
 use Rattle.tap_name.proofs.Slots.{same_slot}
-use Rattle.tap_link.specs.Entry.{Entry}
+use Rattle.tap_link.specs.Entry.{LinkEntry}
 use Rattle.tap_link.specs.declared.kind.Kind.{Kind}
 use Rattle.tap_table.specs.Table.{IsTable, SlotLinks, TableValue, kind_in, links_at, links_near, place_of, slot_number}
 use Rattle.tap_table.proofs.Fitting.{no_slot_of_itself, slot_of_other}
@@ -52,14 +52,14 @@ fits_place p a b slot one two fits =
 -- ---- the targets of links
 
 -- the target of a link is among the targets
-among_targets : (links : SlotLinks) (i : ℕ) (e : Entry (List ℕ)) → slice_get links i ≡ Some e → Among e.target (map (λ f. f.target) links)
+among_targets : (links : SlotLinks) (i : ℕ) (e : LinkEntry (List ℕ)) → slice_get links i ≡ Some e → Among e.target (map (λ f. f.target) links)
 among_targets [] i e got = cc
-among_targets (f ∷ links) zero e got = let same : f ≡ e = cc in inl (ap (λ (g : Entry (List ℕ)). g.target) (sym same))
+among_targets (f ∷ links) zero e got = let same : f ≡ e = cc in inl (ap (λ (g : LinkEntry (List ℕ)). g.target) (sym same))
 among_targets (f ∷ links) (suc i) e got = inr (among_targets links i e got)
 
 -- whatever is among them is the target of a link
 of_target : (links : SlotLinks) (name : List ℕ) → Among name (map (λ f. f.target) links)
-    → (i : ℕ) × (e : Entry (List ℕ)) × (slice_get links i ≡ Some e) × (name ≡ e.target)
+    → (i : ℕ) × (e : LinkEntry (List ℕ)) × (slice_get links i ≡ Some e) × (name ≡ e.target)
 of_target [] name among = absurd among
 of_target (f ∷ links) name (inl same) = (zero, f, refl, same)
 of_target (f ∷ links) name (inr among) = let rest = of_target links name among in (suc rest.0, rest.1, rest.2, rest.3)

@@ -6,7 +6,7 @@ use Rattle.tap_session.specs.Session.{Session}
 use Rattle.tap_wire.specs.declared.frame.Body.{Body}
 use Rattle.tap_wire.specs.declared.frame.Body.TheVariants.{Cast, Done, Forget, Gone, Link, Release}
 use Rattle.tap_rule.specs.HasRule.{HasRule}
-use Rattle.tap_rule.specs.Laws.{frame_to}
+use Rattle.tap_rule.specs.RuleLaws.{frame_to}
 use Rattle.tap_rule.specs.Node.{NodeState, Status, join_session_at, name_of}
 use Rattle.tap_rule.specs.Node.Status.{Gone as GoneStatus}
 use Rattle.tap_rule.specs.QuietSteps.{IsQuiet}
@@ -16,8 +16,8 @@ use Rattle.tap_safety.specs.Invariant.{Basis}
 use Rattle.tap_safety.specs.Notices.{IsNotice}
 use Rattle.tap_safety.specs.System.{System, AmongFrames}
 use Rattle.tap_moves.specs.InvariantLaws.{IsDelivery, IsFilledThere, IsTakenThere}
-use Rattle.tap_moves.specs.Spelled.{AreNodes}
-use Rattle.tap_session_moves.specs.PinsRule.{IsOver}
+use Rattle.tap_moves.specs.KnownNames.{AreNodes}
+use Rattle.tap_session_moves.specs.PinsRule.{IsEndedStatus}
 
 -- The basis of the invariant holds, each node is one that steps keep valid, with few open sessions of each joiner, and a frame of this
 -- number, sender and body is under way to this node. Nothing is said of whether the frame is strange to it.
@@ -51,8 +51,8 @@ OthersAreDelivered = (p : SettingsValue) (s : System) (number : ℕ) (node : Nod
 -- Which frames may come to a node without a rule for them: a Release or a Forget to one that has ended, and a Link to one that is gone. Of
 -- a Gone, and of frames about pointers, lookups and casts, nothing is known here.
 abbrev pub MayLackRule : Status → Body → Type 0
-MayLackRule status Release = IsOver status
-MayLackRule status Forget = IsOver status
+MayLackRule status Release = IsEndedStatus status
+MayLackRule status Forget = IsEndedStatus status
 MayLackRule status (Link version on) = status ≡ GoneStatus
 MayLackRule status Gone = Unit {0}
 MayLackRule status other = IsQuiet other
@@ -65,8 +65,8 @@ OthersHaveRules = (p : SettingsValue) (s : System) (number : ℕ) (node : NodeSt
 -- the Done of a join that was given up, and a Release or a Forget at a node that has ended: what they keep is said by other laws
 abbrev pub IsSetApart : NodeState → Body → Type 0
 IsSetApart node Done = node.abandoned ≡ true
-IsSetApart node Release = IsOver node.status
-IsSetApart node Forget = IsOver node.status
+IsSetApart node Release = IsEndedStatus node.status
+IsSetApart node Forget = IsEndedStatus node.status
 IsSetApart node _ = ⊥
 
 -- Each frame but the notices of a departure comes where the laws of sessions want it taken, and where those of tables do, unless it is set

@@ -16,8 +16,8 @@ NoneIsStrange = (p : SettingsValue) (s : System) (number : ℕ) (frame : Frame) 
     → AmongFrames number frame s.frames → s.node frame.to ≡ Some node → is_strange node frame ≡ false
 
 -- an answer in a session comes to a node that keeps this session
-abbrev pub AnswersAreAwaited : (ℕ → Body) → Type 0
-AnswersAreAwaited body = (p : SettingsValue) (s : System) (from to : List ℕ) (session : ℕ) (node : NodeState) → Sound p s
+abbrev pub AnswersHaveSession : (ℕ → Body) → Type 0
+AnswersHaveSession body = (p : SettingsValue) (s : System) (from to : List ℕ) (session : ℕ) (node : NodeState) → Sound p s
     → IsUnderWay s from to (body session) → s.node to ≡ Some node → (kept : Session) × (join_session_at node session ≡ Some kept)
 
 -- while no frame is under way nothing of joins and departures is left

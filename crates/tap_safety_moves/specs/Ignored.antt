@@ -3,7 +3,7 @@ use Rattle.std.specs.Prelude.{◌≡◌, ℕ, List, Some}
 use Rattle.tap_name.specs.Settings.{SettingsValue}
 use Rattle.tap_wire.specs.declared.frame.Body.{Body}
 use Rattle.tap_wire.specs.declared.frame.Body.TheVariants.{Forget, Release}
-use Rattle.tap_rule.specs.Laws.{IsIgnored, frame_to}
+use Rattle.tap_rule.specs.RuleLaws.{IsIgnored, frame_to}
 use Rattle.tap_rule.specs.Node.{NodeState, name_of}
 use Rattle.tap_rule.specs.QuietSteps.{IsQuiet}
 use Rattle.tap_safety.specs.Invariant.{Basis}
@@ -11,13 +11,13 @@ use Rattle.tap_safety.specs.Moved.{IsLost}
 use Rattle.tap_safety.specs.System.{System, AmongFrames}
 use Rattle.tap_moves.specs.ByRule.{taken_at}
 use Rattle.tap_moves.specs.Delivered.{after_delivery}
-use Rattle.tap_session_moves.specs.PinsRule.{IsOver}
+use Rattle.tap_session_moves.specs.PinsRule.{IsEndedStatus}
 use Rattle.tap_safety_moves.specs.Sound.{Sound}
 
 -- what a node may ignore without harm: a Release or a Forget, if it has ended, and a frame of pointers or casts
 abbrev pub MayIgnore : NodeState → Body → Type 0
-MayIgnore node Release = IsOver node.status
-MayIgnore node Forget = IsOver node.status
+MayIgnore node Release = IsEndedStatus node.status
+MayIgnore node Forget = IsEndedStatus node.status
 MayIgnore node other = IsQuiet other
 
 -- such a frame is under way to a node, which ignores it

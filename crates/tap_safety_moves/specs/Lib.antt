@@ -1,7 +1,7 @@
 pub mod Shallow
 pub mod Sound
 pub mod Ignored
-pub mod Moves
+pub mod SoundMoves
 pub mod Consequences
 pub mod Walks
 pub mod Arrivals

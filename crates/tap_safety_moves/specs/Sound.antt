@@ -5,7 +5,7 @@ use Rattle.tap_safety.specs.AtRest.{AreMembers, system_at_rest}
 use Rattle.tap_safety.specs.FewSessions.{SessionsAreFew}
 use Rattle.tap_safety.specs.Invariant.{Basis, Invariant}
 use Rattle.tap_safety.specs.System.{System}
-use Rattle.tap_moves.specs.Spelled.{AreNodes}
+use Rattle.tap_moves.specs.KnownNames.{AreNodes}
 use Rattle.tap_session_moves.specs.EndMoves.{HaveAskers}
 use Rattle.tap_safety_moves.specs.Shallow.{AreShallow}
 

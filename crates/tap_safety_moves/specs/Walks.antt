@@ -4,7 +4,7 @@ use Rattle.tap_name.specs.Name.{IsName}
 use Rattle.tap_name.specs.Names.{Among}
 use Rattle.tap_name.specs.Settings.{SettingsValue}
 use Rattle.tap_surrogate.specs.HoleFree.{IsHoleFree}
-use Rattle.tap_surrogate.specs.Laws.{LeadsToRoot}
+use Rattle.tap_surrogate.specs.WalkLaws.{LeadsToRoot}
 use Rattle.tap_surrogate.specs.Nodes.{core_links}
 use Rattle.tap_surrogate.specs.Walk.{walk}
 use Rattle.tap_runs.specs.Observed.{nodes_of}

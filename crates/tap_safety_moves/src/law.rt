@@ -1,7 +1,7 @@
 ghost use Rattle.tap_wire.specs.declared.frame.Body.TheVariants.{Ack, Heard};
-ghost use Rattle.tap_safety_moves.specs.Consequences.{AnswersAreAwaited, NoneIsStrange, NothingIsLeft};
+ghost use Rattle.tap_safety_moves.specs.Consequences.{AnswersHaveSession, NoneIsStrange, NothingIsLeft};
 ghost use Rattle.tap_safety_moves.specs.Ignored.{IgnoredIsLost, IgnoredKeeps};
-ghost use Rattle.tap_safety_moves.specs.Moves.{BasisKeeps, MoveKeeps, RunIsSound};
+ghost use Rattle.tap_safety_moves.specs.SoundMoves.{BasisKeeps, MoveKeeps, RunIsSound};
 ghost use Rattle.tap_safety_moves.specs.Sound.{SoundAtRest};
 ghost use Rattle.tap_safety_moves.specs.Walks.{CoreIsListed, TablesAreHoleFree, WalksLeadToRoots};
 ghost use Rattle.tap_safety_moves.specs.Arrivals.{AnswersOpenSession, OthersAreDelivered, OthersHaveRules, StrangeExactly, TakenWhereDue};
@@ -65,8 +65,8 @@ pub fn runs_law()
 /// Rule: docs/PROTOCOL.md, "Strange frames", "Sessions" and "Heard and Ack".
 pub fn arrivals_law()
     ensures strange { NoneIsStrange }
-    ensures heard { AnswersAreAwaited Heard }
-    ensures ack { AnswersAreAwaited Ack }
+    ensures heard { AnswersHaveSession Heard }
+    ensures ack { AnswersHaveSession Ack }
 {}
 
 /// If the whole invariant holds and no frame is under way, then nothing of joins and departures is left: no session is open, nobody joins

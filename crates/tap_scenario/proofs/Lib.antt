@@ -9,4 +9,4 @@ pub mod Pairs
 pub mod Scripts
 pub mod Shapes
 pub mod Splits
-pub mod Steps
+pub mod StepTexts

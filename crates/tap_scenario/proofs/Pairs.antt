@@ -18,7 +18,7 @@ use Rattle.tap_scenario.specs.Words.{words}
 use Rattle.tap_scenario.proofs.Options.{option_zip-back}
 use Rattle.tap_scenario.proofs.Shapes.{two_names-text, two_names-back}
 use Rattle.tap_scenario.proofs.Splits.{HasNoSpace, words-join}
-use Rattle.tap_scenario.proofs.Steps.{no_space}
+use Rattle.tap_scenario.proofs.StepTexts.{no_space}
 
 -- a word with a space on either side
 abbrev pub between_spaces : List ℕ → List ℕ

@@ -22,7 +22,7 @@ use Rattle.tap_scenario.specs.Value.{whole_number, array_of_strings, strings_up_
 use Rattle.tap_name.proofs.Membership.{are_distinct-Decides}
 use Rattle.tap_name.proofs.Texts.{name_of_word-back}
 use Rattle.tap_scenario.proofs.Options.{and_then-back, ok_or-Ok}
-use Rattle.tap_scenario.proofs.Steps.{step_of_text-back}
+use Rattle.tap_scenario.proofs.StepTexts.{step_of_text-back}
 
 then-Ok : {A B : Type 0} (r : Result A Fault) (next : A → Result B Fault) (y : B) → (r >>= next) ≡ Ok y
     → (x : A) × (r ≡ Ok x) × (next x ≡ Ok y)

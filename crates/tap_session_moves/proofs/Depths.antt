@@ -9,13 +9,13 @@ use Rattle.tap_rule.specs.Node.{NodeState, Status}
 use Rattle.tap_rule.specs.Node.Status.{Ceased, Core, Gone, Joining, Leaving}
 use Rattle.tap_rule.specs.Sent.{IsAmong}
 use Rattle.tap_rule.proofs.Among.{among-first, among-map, among-second}
-use Rattle.tap_safety.specs.FewSessions.{IsOpenOf, SessionsAreFew, most_sessions}
+use Rattle.tap_safety.specs.FewSessions.{IsOpenOf, SessionsAreFew, most_sessions_for}
 use Rattle.tap_safety.specs.Frames.{tell_body}
 use Rattle.tap_safety.specs.Invariant.{Basis}
 use Rattle.tap_safety.specs.Remembered.{OpenSession}
 use Rattle.tap_safety.specs.Sessions.{AreExact, IsOpen}
 use Rattle.tap_safety.specs.System.{System}
-use Rattle.tap_moves.specs.Spelled.{AreNodes}
+use Rattle.tap_moves.specs.KnownNames.{AreNodes}
 use Rattle.tap_session_moves.specs.FewMoves.{SessionsAreShallow, TellsAreShallow}
 
 -- ---- lists without repetition
@@ -63,7 +63,7 @@ at_node x k = (x, k)
 
 module _ (p : SettingsValue) (s : System) (b : List ℕ) (few : SessionsAreFew p s) (digits : p.digits ≤ 40) where
   -- a node has at most 42
-  most_few : (status : Status) (greeted : Bool) (level : Option ℕ) → most_sessions p status greeted level ≤ 42
+  most_few : (status : Status) (greeted : Bool) (level : Option ℕ) → most_sessions_for p status greeted level ≤ 42
   most_few Joining true level = omega arith
   most_few Joining false level = omega arith
   most_few Core greeted None = omega arith

@@ -25,15 +25,15 @@ use Rattle.tap_rule.specs.Act.{act}
 use Rattle.tap_rule.specs.Event.{Acted, Start}
 use Rattle.tap_rule.specs.Event.Event.{Starts, Takes}
 use Rattle.tap_rule.specs.Event.Start.{Abandon, Cast as StartCast, Find as StartFind, Join, Leave as StartLeave, Publish, Withdraw}
-use Rattle.tap_rule.specs.Kept.{IsNode, IsStart}
-use Rattle.tap_rule.specs.Laws.{frame_to}
+use Rattle.tap_rule.specs.KeptNode.{IsNode, IsStart}
+use Rattle.tap_rule.specs.RuleLaws.{frame_to}
 use Rattle.tap_rule.specs.Node.{IsRunning, NodeState, join_session_at, joiner, link_to, member_at_rest, name_of, settings_of, word_of}
 use Rattle.tap_rule.specs.Node.Status.{Joining}
 use Rattle.tap_rule.specs.Sent.{IsAmong}
 use Rattle.tap_rule.specs.Strange.{is_strange}
 use Rattle.tap_rule.proofs.EndSteps.{unlinked}
 use Rattle.tap_rule.proofs.Fit.{fit_law}
-use Rattle.tap_rule.proofs.Kept.{joiner_law}
+use Rattle.tap_rule.proofs.KeptNode.{joiner_law}
 use Rattle.tap_safety.specs.AtRest.{member_of, system_at_rest}
 use Rattle.tap_safety.specs.Counted.{parent_at}
 use Rattle.tap_safety.specs.Frames.{HelloFields, hello_body, tell_body}
@@ -45,17 +45,17 @@ use Rattle.tap_safety.specs.Remembered.{Leaver, OpenSession}
 use Rattle.tap_safety.specs.Seeking.{HasNode}
 use Rattle.tap_safety.specs.Sessions.{IsOpen}
 use Rattle.tap_safety.specs.Soft.{IsSoft}
-use Rattle.tap_safety.specs.Step.{numbered_from}
+use Rattle.tap_safety.specs.Exchanges.{numbered_from}
 use Rattle.tap_safety.specs.System.{System, AmongFrames, HasLink, IsCoreNode}
-use Rattle.tap_safety.specs.Ties.{register_in, register_of, word_kept}
+use Rattle.tap_safety.specs.Ties.{register_in, register_of, tie_word_kept}
 use Rattle.tap_safety.specs.Turned.{opened_by, seated, surrogates_with}
 use Rattle.tap_safety.proofs.Known.{ends_frame, ends_start}
 use Rattle.tap_safety.proofs.LinkKeeps.{some_state}
-use Rattle.tap_safety.proofs.Moves.{delivers, found, starts, with_at-others}
+use Rattle.tap_safety.proofs.Moved.{delivers, found, starts, with_at-others}
 use Rattle.tap_safety.proofs.Said.{Said, said_of}
 use Rattle.tap_safety.proofs.Said.Said.{IsFind, IsHello, IsLeave, IsSeek, IsTell}
 use Rattle.tap_moves.specs.Delivered.{after_delivery, after_start}
-use Rattle.tap_moves.specs.Spelled.{AreNodes, IsNodeOf}
+use Rattle.tap_moves.specs.KnownNames.{AreNodes, IsNodeOf}
 use Rattle.tap_moves.proofs.Exchanged.{exchanges, in_either, sent_numbered}
 use Rattle.tap_moves.proofs.Got.{all_among, among_all}
 use Rattle.tap_session_moves.specs.EndMoves.{AskersAtRest, FrameEnds, HasAsker, HaveAskers, HaveBothEnds, IsAnswerable, StartEnds}
@@ -136,7 +136,7 @@ module _ (p : SettingsValue) (s : System) (inv : Basis p s) (nodes : AreNodes p 
           let wrong : false ≡ true = sym off ∙ on in
           absurd (cc)
       by_entry (Some e) some on =
-          let kept = register_is t ∙ ap word_kept some in
+          let kept = register_is t ∙ ap tie_word_kept some in
           let last = inv.versions.registers t x (record { version = e.version; on = e.value }) kept in
           inv.ends.senders t x last.last last.is
 

@@ -25,7 +25,7 @@ use Rattle.tap_rule.specs.Event.Event.{Starts}
 use Rattle.tap_rule.specs.Event.Start.{Abandon, Cast, Find, Join, Leave, Publish, Withdraw}
 use Rattle.tap_rule.specs.FrameRules.{frame_at_ceased}
 use Rattle.tap_rule.specs.JoinSteps.{CoverStep, CoversAs, MeetStep}
-use Rattle.tap_rule.specs.Laws.{AnswerLaw, IsCarriedOut, frame_to}
+use Rattle.tap_rule.specs.RuleLaws.{AnswerLaw, IsCarriedOut, frame_to}
 use Rattle.tap_rule.specs.Ceasing.{takes_tell_ceased}
 use Rattle.tap_rule.specs.Node.{NodeState, Status, joiner, level_of, name_of}
 use Rattle.tap_rule.specs.Node.Status.{Ceased, Core, Gone, Joining, Leaving}
@@ -37,20 +37,20 @@ use Rattle.tap_rule.proofs.EndSteps.{cease_law}
 use Rattle.tap_rule.proofs.JoinSteps.{done_law, hello_law, meet_law, tell_fits}
 use Rattle.tap_rule.proofs.QuietSteps.{quiet_start_law}
 use Rattle.tap_rule.proofs.StartSteps.{give_up_law}
-use Rattle.tap_safety.specs.FewSessions.{IsOpenOf, MayHaveAsMany, SessionsAreFew, most_at, most_sessions}
+use Rattle.tap_safety.specs.FewSessions.{IsOpenOf, MayHaveAsMany, SessionsAreFew, most_at, most_sessions_for}
 use Rattle.tap_safety.specs.Frames.{HelloFields, hello_body, tell_body}
 use Rattle.tap_safety.specs.Invariant.{Basis}
 use Rattle.tap_safety.specs.Moved.{starter}
 use Rattle.tap_safety.specs.Remembered.{OpenSession}
 use Rattle.tap_safety.specs.Sessions.{AreExact, IsOpen, ways_of}
 use Rattle.tap_safety.specs.SessionSteps.{HandsOn, LeavesSessions, OpensChild, OpensRoot, child_of, with_child}
-use Rattle.tap_safety.specs.Step.{ChangesAt}
+use Rattle.tap_safety.specs.Exchanges.{ChangesAt}
 use Rattle.tap_safety.specs.System.{System}
 use Rattle.tap_safety.specs.TellStep.{CoversAnew}
 use Rattle.tap_safety.specs.Turns.{Turns}
 use Rattle.tap_safety.proofs.FewSessions.{few_sessions_kept, few_sessions_opened}
 use Rattle.tap_safety.proofs.JoinsKept.{one_session}
-use Rattle.tap_safety.proofs.Moves.{starts}
+use Rattle.tap_safety.proofs.Moved.{starts}
 use Rattle.tap_safety.proofs.Rest.{rest_holds}
 use Rattle.tap_safety.proofs.StepLaws.{closing_turns_law, handing_on_turns_law, last_turns_law}
 use Rattle.tap_safety.proofs.Said.{Said, said_of}
@@ -59,7 +59,7 @@ use Rattle.tap_moves.specs.ByRule.{taken_at}
 use Rattle.tap_moves.specs.Delivered.{after_delivery, after_start}
 use Rattle.tap_moves.specs.InSession.{OpensOrAnswers}
 use Rattle.tap_moves.specs.InvariantLaws.{IsDelivery, IsTakenThere}
-use Rattle.tap_moves.specs.Laws.{IsAnew}
+use Rattle.tap_moves.specs.StepsMade.{IsAnew}
 use Rattle.tap_moves.specs.SessionsLaws.{IsOutside, sent_at}
 use Rattle.tap_moves.proofs.AnswersMade.{AnswerIsTaken, IsAnswered, ack_is_taken, heard_is_taken}
 use Rattle.tap_moves.proofs.InSession.{ceased_answers, seek_opens, tell_in_session}
@@ -84,9 +84,9 @@ pub same_most : (p : SettingsValue) (before after : NodeState) → after.status 
     → after.greeted ≡ before.greeted → NoFewer p before after
 same_most p before after status covers greeted b =
     let same : most_at p after b ≡ most_at p before b =
-    ap (λ (st : Status). most_sessions p st (has_name after.greeted b) (level_kept after.covers b)) status
-    ∙ ap (λ (names : List (List ℕ)). most_sessions p before.status (has_name names b) (level_kept after.covers b)) greeted
-    ∙ ap (λ level. most_sessions p before.status (has_name before.greeted b) level)
+    ap (λ (st : Status). most_sessions_for p st (has_name after.greeted b) (level_kept after.covers b)) status
+    ∙ ap (λ (names : List (List ℕ)). most_sessions_for p before.status (has_name names b) (level_kept after.covers b)) greeted
+    ∙ ap (λ level. most_sessions_for p before.status (has_name before.greeted b) level)
     (ap (λ (c : List (List ℕ × ℕ)). level_kept c b) covers) in
     omega (arith, same)
 
@@ -103,8 +103,8 @@ as_many p s s' own before after at no_fewer x b now is =
 
 -- what another core node may have, by its cover
 core_most : (p : SettingsValue) (status : Status) (greeted : Bool) (level : Option ℕ) → status ≡ Core
-    → most_sessions p status greeted level ≡ most_sessions p Core greeted level
-core_most p status greeted level at = ap (λ (st : Status). most_sessions p st greeted level) at
+    → most_sessions_for p status greeted level ≡ most_sessions_for p Core greeted level
+core_most p status greeted level at = ap (λ (st : Status). most_sessions_for p st greeted level) at
 
 -- ---- no session is opened
 
@@ -218,7 +218,7 @@ one_more p s s' own before after b at more was now was_is is =
 -- a level that is anew, if there was one
 more_by_cover : (p : SettingsValue) (greeted now_greeted : Bool) (kept : Option ℕ) (level : ℕ)
     → ((old : ℕ) → kept ≡ Some old → level < old) → level ≤ p.digits
-    → most_sessions p Core greeted kept + 1 ≤ most_sessions p Core now_greeted (Some level)
+    → most_sessions_for p Core greeted kept + 1 ≤ most_sessions_for p Core now_greeted (Some level)
 more_by_cover p greeted now_greeted None level anew most = omega (arith, most)
 more_by_cover p greeted now_greeted (Some old) level anew most = let less = anew old refl in omega (arith, most, less)
 
@@ -228,13 +228,13 @@ module _ (p : SettingsValue) (node after : NodeState) (b : List ℕ) (sent : Lis
   one_more_covered : most_at p node b + 1 ≤ most_at p after b
   one_more_covered =
       let was = core_most p node.status (has_name node.greeted b) (level_kept node.covers b) at in
-      let now : most_at p after b ≡ most_sessions p Core (has_name after.greeted b) (Some level) =
+      let now : most_at p after b ≡ most_sessions_for p Core (has_name after.greeted b) (Some level) =
       core_most p after.status (has_name after.greeted b) (level_kept after.covers b) (covers.status ∙ at)
-      ∙ ap (λ kept. most_sessions p Core (has_name after.greeted b) kept) covers.covered in
+      ∙ ap (λ kept. most_sessions_for p Core (has_name after.greeted b) kept) covers.covered in
       let more = more_by_cover p (has_name node.greeted b) (has_name after.greeted b) (level_kept node.covers b) level covers.anew most in
       omega (arith, was, now, more)
 
-  core_any : (greeted other : Bool) (kept : Option ℕ) → most_sessions p Core greeted kept ≡ most_sessions p Core other kept
+  core_any : (greeted other : Bool) (kept : Option ℕ) → most_sessions_for p Core greeted kept ≡ most_sessions_for p Core other kept
   core_any greeted other None = refl
   core_any greeted other (Some level) = refl
 
@@ -245,9 +245,9 @@ module _ (p : SettingsValue) (node after : NodeState) (b : List ℕ) (sent : Lis
         subst (λ e. most_at p node e ≤ most_at p after e) (sym same) (omega (arith, more))
     | inr same ↦
         let was = core_most p node.status (has_name node.greeted d) (level_kept node.covers d) at in
-        let now : most_at p after d ≡ most_sessions p Core (has_name after.greeted d) (level_kept node.covers d) =
+        let now : most_at p after d ≡ most_sessions_for p Core (has_name after.greeted d) (level_kept node.covers d) =
         core_most p after.status (has_name after.greeted d) (level_kept after.covers d) (covers.status ∙ at)
-        ∙ ap (λ kept. most_sessions p Core (has_name after.greeted d) kept) same in
+        ∙ ap (λ kept. most_sessions_for p Core (has_name after.greeted d) kept) same in
         let any = core_any (has_name after.greeted d) (has_name node.greeted d) (level_kept node.covers d) in
         omega (arith, was, now, any)
   ]
@@ -356,7 +356,7 @@ module _ (p : SettingsValue) (s : System) (number : ℕ) (node : NodeState) (fro
     joining_most : (greeted : Bool) (level : Option ℕ) (b : List ℕ) (n : NodeState) → n.status ≡ Joining → has_name n.greeted b ≡ greeted
         → most_at p n b ≡ (if greeted then 1 else 0)
     joining_most greeted level b n at is =
-        ap (λ (st : Status). most_sessions p st (has_name n.greeted b) (level_kept n.covers b)) at
+        ap (λ (st : Status). most_sessions_for p st (has_name n.greeted b) (level_kept n.covers b)) at
         ∙ ap (λ (known : Bool). if known then 1 else 0) is
 
     joining_few : node.status ≡ Joining → MeetStep node from tell acted → SessionsAreFew p s → SessionsAreFew p after
@@ -468,7 +468,7 @@ module _ (p : SettingsValue) (s : System) (number : ℕ) (node : NodeState) (fro
   -- ---- a Done
 
   -- as a core node, or one that has ceased, it may have one of each
-  one_of_each : (status : Status) (greeted : Bool) (level : Option ℕ) → (status ≡ Joining → ⊥) → 1 ≤ most_sessions p status greeted level
+  one_of_each : (status : Status) (greeted : Bool) (level : Option ℕ) → (status ≡ Joining → ⊥) → 1 ≤ most_sessions_for p status greeted level
   one_of_each Joining greeted level apart = absurd (apart refl)
   one_of_each Core greeted None apart = omega arith
   one_of_each Core greeted (Some level) apart = omega arith
@@ -479,13 +479,13 @@ module _ (p : SettingsValue) (s : System) (number : ℕ) (node : NodeState) (fro
   one_of_each Ceased greeted None apart = omega arith
   one_of_each Ceased greeted (Some level) apart = omega arith
 
-  at_most_one : (greeted : Bool) (level : Option ℕ) → most_sessions p Joining greeted level ≤ 1
+  at_most_one : (greeted : Bool) (level : Option ℕ) → most_sessions_for p Joining greeted level ≤ 1
   at_most_one true level = omega arith
   at_most_one false level = omega arith
 
   ended_no_fewer : (ended : NodeState) → node.status ≡ Joining → (ended.status ≡ Joining → ⊥) → NoFewer p node ended
   ended_no_fewer ended at apart b =
-      let was = ap (λ (st : Status). most_sessions p st (has_name node.greeted b) (level_kept node.covers b)) at in
+      let was = ap (λ (st : Status). most_sessions_for p st (has_name node.greeted b) (level_kept node.covers b)) at in
       let most = at_most_one (has_name node.greeted b) (level_kept node.covers b) in
       let one = one_of_each ended.status (has_name ended.greeted b) (level_kept ended.covers b) apart in
       omega (arith, was, most, one)

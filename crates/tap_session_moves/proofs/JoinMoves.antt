@@ -18,7 +18,7 @@ use Rattle.tap_rule.specs.Ceasing.{takes_tell_ceased}
 use Rattle.tap_rule.specs.Event.{Acted}
 use Rattle.tap_rule.specs.FrameRules.{frame_at_ceased, frame_at_core, frame_at_joining, frame_at_leaving, rule_of_frame}
 use Rattle.tap_rule.specs.JoinSteps.{SeeksAs}
-use Rattle.tap_rule.specs.Laws.{AnswerLaw, frame_to}
+use Rattle.tap_rule.specs.RuleLaws.{AnswerLaw, frame_to}
 use Rattle.tap_rule.specs.Node.{NodeState, Status, join_session_at, joiner, name_of}
 use Rattle.tap_rule.specs.Node.Status.{Ceased, Core, Gone, Joining, Leaving}
 use Rattle.tap_rule.specs.QuietSteps.{IsQuiet}
@@ -41,13 +41,13 @@ use Rattle.tap_safety.specs.Remembered.{OpenSession}
 use Rattle.tap_safety.specs.Seeking.{IsSeeker}
 use Rattle.tap_safety.specs.Sessions.{AreExact, Belongs, IsOpen}
 use Rattle.tap_safety.specs.SessionSteps.{Exchanges, HandsOn, LeavesSessions}
-use Rattle.tap_safety.specs.Step.{ChangesAt, IsSent, numbered_from, with_at}
+use Rattle.tap_safety.specs.Exchanges.{ChangesAt, IsSent, numbered_from, with_at}
 use Rattle.tap_safety.specs.StepLaws.{KeepsJoins}
 use Rattle.tap_safety.specs.System.{System, AmongFrames, IsJoiner}
 use Rattle.tap_safety.specs.Turned.{opened_by, surrogates_with}
 use Rattle.tap_safety.proofs.JoinSteps.{done_was}
 use Rattle.tap_safety.proofs.JoinsKept.{one_session}
-use Rattle.tap_safety.proofs.Moves.{with_at-here, with_at-others}
+use Rattle.tap_safety.proofs.Moved.{with_at-here, with_at-others}
 use Rattle.tap_safety.proofs.SoftKept.{sent_each}
 use Rattle.tap_safety.proofs.StepLaws.{joins_closing_law, joins_handing_on_law, joins_last_law, joins_opening_law, joins_root_law}
 use Rattle.tap_safety.proofs.TellKeeps.{joiner_after, joiner_before}

@@ -8,7 +8,7 @@ use Rattle.tap_wire.specs.declared.frame.Body.{Body}
 use Rattle.tap_wire.specs.declared.frame.Body.TheVariants.{Ack, Done, Gone, Heard, Leave, Left}
 use Rattle.tap_wire.specs.declared.frame.Frame.{Frame}
 use Rattle.tap_rule.specs.FrameRules.{frame_at_ceased, frame_at_core, frame_at_joining, frame_at_leaving, rule_of_frame}
-use Rattle.tap_rule.specs.Laws.{frame_to}
+use Rattle.tap_rule.specs.RuleLaws.{frame_to}
 use Rattle.tap_rule.specs.Leaving.{finishes}
 use Rattle.tap_rule.specs.Event.{Acted}
 use Rattle.tap_rule.specs.Node.{NodeState, Status, name_of}
@@ -24,7 +24,7 @@ use Rattle.tap_safety.specs.Joins.{JoinersStay}
 use Rattle.tap_safety.specs.Notices.{IsNotice}
 use Rattle.tap_safety.specs.SessionSteps.{LeavesSessions}
 use Rattle.tap_safety.specs.Sessions.{Belongs, session_named}
-use Rattle.tap_safety.specs.Step.{IsSent}
+use Rattle.tap_safety.specs.Exchanges.{IsSent}
 use Rattle.tap_safety.specs.System.{System}
 use Rattle.tap_safety.specs.Turned.{closed_by}
 use Rattle.tap_safety.proofs.FewSessions.{few_sessions_kept}

@@ -26,7 +26,7 @@ use Rattle.tap_table.specs.Table.{IsTable, TableValue, has_room_near, kind_in, l
 use Rattle.tap_table.specs.declared.next.Next.TheVariants.{Hop as HopTo}
 use Rattle.tap_table.specs.Ties.{TiesValue, forgotten, holders_on, marked, off_ties, released, removed}
 use Rattle.tap_table.proofs.Hops.{hop_exactly, hop_is}
-use Rattle.tap_table.proofs.Kept.{IsTable-pinned}
+use Rattle.tap_table.proofs.KeptTable.{IsTable-pinned}
 use Rattle.tap_table.proofs.LookUps.{kind_in-forgotten, kind_in-marked, kind_in-offered, kind_in-pinned, kind_in-released, kind_in-removed}
 use Rattle.tap_table.proofs.Near.{number_near}
 use Rattle.tap_table.proofs.Primaries.{primary_near}
@@ -34,7 +34,7 @@ use Rattle.tap_table.proofs.TiesKept.{AreTies-marked}
 use Rattle.tap_pointer.specs.Pointers.{all_withdrawn, pair_of, pointer_at, state_of, with_lay, with_published}
 use Rattle.tap_pointer.proofs.Laws.{are-all_withdrawn}
 use Rattle.tap_multicast.specs.declared.target.Target.{Target}
-use Rattle.tap_multicast.specs.Covers.{begun, cover_of, level_kept}
+use Rattle.tap_multicast.specs.Covers.{begun_cover, cover_of, level_kept}
 use Rattle.tap_multicast.specs.Targets.{targets}
 use Rattle.tap_multicast.proofs.Telling.{targets_are}
 use Rattle.tap_cast.specs.declared.casts.CastTurn.TheVariants.{Already as CastAlready, Now as CastNow}
@@ -43,7 +43,7 @@ use Rattle.tap_cast.specs.Casts.{level_of_cast, turn_of}
 use Rattle.tap_cast.specs.Targets.{cast_targets}
 use Rattle.tap_cast.proofs.Casting.{targets_are as cast_targets_are}
 use Rattle.tap_depart.specs.Leaving.{notice_for, started_leaving}
-use Rattle.tap_depart.specs.Told.{has_settled_near, offered_if, offer_tells_if, taken_in}
+use Rattle.tap_depart.specs.ToldLeave.{has_settled_near, offered_if, offer_tells_if, taken_in}
 use Rattle.tap_depart.specs.declared.notice.Notice.{Notice}
 use Rattle.tap_join.specs.Hello.{after_hello, hello_names, words_of}
 use Rattle.tap_join.proofs.Hellos.{new_links}
@@ -55,8 +55,8 @@ use Rattle.tap_rule.specs.Casts.{Copy}
 use Rattle.tap_rule.specs.Covering.{Request}
 use Rattle.tap_rule.specs.Event.{News, Start}
 use Rattle.tap_rule.specs.FrameRules.{rule_of_frame}
-use Rattle.tap_rule.specs.Kept.{IsNode}
-use Rattle.tap_rule.specs.Laws.{frame_to}
+use Rattle.tap_rule.specs.KeptNode.{IsNode}
+use Rattle.tap_rule.specs.RuleLaws.{frame_to}
 use Rattle.tap_rule.specs.Leaving.{leave_for}
 use Rattle.tap_rule.specs.Node.{IsRunning, NodeState, Status, ended, join_session_at, name_of, settings_of}
 use Rattle.tap_rule.specs.Node.Status.{Ceased, Gone as GoneStatus}
@@ -219,7 +219,7 @@ module _ (P Q : List ℕ → Type 0) where
           t = table_pinned t0 request.joiner
 
           by_kept : (kept : Option ℕ) (already : Bool)
-              → TellsSuch (cond already Already (begun t request.watch (cover_of t kept request.joiner request.prefix request.level)))
+              → TellsSuch (cond already Already (begun_cover t request.watch (cover_of t kept request.joiner request.prefix request.level)))
           by_kept kept true = tt
           by_kept kept false = λ k d inside.
               let valid = IsTable-pinned t0 request.joiner is.ties.table fits.is_name fits.apart in

@@ -29,13 +29,13 @@ use Rattle.tap_rule.specs.Event.{Acted}
 use Rattle.tap_rule.specs.FrameRules.{frame_at_ceased, frame_at_core}
 use Rattle.tap_rule.specs.JoinSteps.{found_for}
 use Rattle.tap_rule.specs.Joining.{hello_words}
-use Rattle.tap_rule.specs.Laws.{IsCarriedOut, frame_to, tell_of}
+use Rattle.tap_rule.specs.RuleLaws.{IsCarriedOut, frame_to, tell_of}
 use Rattle.tap_rule.specs.Node.{NodeState, Status, join_session_at, name_of}
 use Rattle.tap_rule.specs.Node.Status.{Ceased, Core, Gone, Joining, Leaving}
 use Rattle.tap_rule.specs.Reaction.{Message, Reaction, message, pin_word, sends, with_pin, with_words}
 use Rattle.tap_rule.specs.Sending.{by_receiver, lay_frame, message_frame}
 use Rattle.tap_rule.specs.Sent.{AreSent, IsAmong}
-use Rattle.tap_rule.specs.Steps.{AnswerStep}
+use Rattle.tap_rule.specs.LinkSteps.{AnswerStep}
 use Rattle.tap_rule.specs.Strange.{is_strange}
 use Rattle.tap_rule.specs.Hellos.{core_hello, joining_hello}
 use Rattle.tap_rule.proofs.Among.{among-either, among-map_from}
@@ -44,7 +44,7 @@ use Rattle.tap_rule.proofs.CarriedOut.{frame_law}
 use Rattle.tap_rule.proofs.JoinSteps.{hello_law}
 use Rattle.tap_safety.specs.Frames.{HelloFields, hello_body, tell_body}
 use Rattle.tap_safety.specs.Joins.{NoDoneAmong, SendsDone, about_of}
-use Rattle.tap_safety.specs.Step.{IsSent, numbered_from}
+use Rattle.tap_safety.specs.Exchanges.{IsSent, numbered_from}
 use Rattle.tap_safety.proofs.SoftKept.{sent_each}
 use Rattle.tap_safety.proofs.Said.{Said, said_of}
 use Rattle.tap_safety.proofs.Said.Said.{IsDone, IsHeard, IsHello, IsTell}

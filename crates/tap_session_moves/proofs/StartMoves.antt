@@ -28,9 +28,9 @@ use Rattle.tap_safety.specs.Joins.{JoinersStay}
 use Rattle.tap_safety.specs.Moved.{starter}
 use Rattle.tap_safety.specs.Sessions.{Belongs}
 use Rattle.tap_safety.specs.SessionSteps.{LeavesSessions}
-use Rattle.tap_safety.specs.Step.{AreNumbered, HasSent, IsSent, numbered_from}
+use Rattle.tap_safety.specs.Exchanges.{AreNumbered, HasSent, IsSent, numbered_from}
 use Rattle.tap_safety.specs.System.{System}
-use Rattle.tap_safety.proofs.Moves.{ascend_one, numbers_sent, starts}
+use Rattle.tap_safety.proofs.Moved.{ascend_one, numbers_sent, starts}
 use Rattle.tap_safety.proofs.Said.{said_of}
 use Rattle.tap_moves.specs.Delivered.{after_start}
 use Rattle.tap_moves.proofs.Exchanged.{in_either, in_first, sent_numbered}

@@ -18,7 +18,7 @@ use Rattle.tap_rule.specs.Act.{act, carried_out, completed, follows, refuses}
 use Rattle.tap_rule.specs.Event.{Acted, Start}
 use Rattle.tap_rule.specs.Event.Event.{Starts, Takes}
 use Rattle.tap_rule.specs.FrameRules.{rule_of_frame}
-use Rattle.tap_rule.specs.Kept.{IsNode, IsStart, KeepsNode}
+use Rattle.tap_rule.specs.KeptNode.{IsNode, IsStart, KeepsNode}
 use Rattle.tap_rule.specs.Node.{IsRunning, NodeState, Status, name_of, settings_of}
 use Rattle.tap_rule.specs.Node.Status.{Ceased, Core, Gone, Joining, Leaving}
 use Rattle.tap_rule.specs.Pointers.{reconciles}
@@ -27,7 +27,7 @@ use Rattle.tap_rule.specs.Sending.{by_receiver, frames_of, lay_frame, link_frame
 use Rattle.tap_rule.specs.StartRules.{rule_of_start}
 use Rattle.tap_rule.specs.Strange.{is_strange}
 use Rattle.tap_rule.proofs.Among.{among-by_receiver_from}
-use Rattle.tap_rule.proofs.Kept.{kept_law, start_kept_law}
+use Rattle.tap_rule.proofs.KeptNode.{kept_law, start_kept_law}
 use Rattle.tap_moves.proofs.Got.{all_among, among_all}
 use Rattle.tap_session_moves.proofs.Receivers.{HaveParents, IsToLay, IsToWord, reconciled_to}
 use Rattle.tap_session_moves.proofs.RulesSend.{AskedBy, CastParent, Goes, OpensFor, SendsTo, none_opens}

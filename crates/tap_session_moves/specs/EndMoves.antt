@@ -15,7 +15,7 @@ use Rattle.tap_safety.specs.Move.{may_start}
 use Rattle.tap_safety.specs.Seeking.{HasNode}
 use Rattle.tap_safety.specs.System.{System, AmongFrames}
 use Rattle.tap_moves.specs.Delivered.{after_delivery, after_start}
-use Rattle.tap_moves.specs.Spelled.{AreNodes, IsNamedStart}
+use Rattle.tap_moves.specs.KnownNames.{AreNodes, IsNamedStart}
 
 -- a node asked for the lookup of a Find, and its receiver shares fewer digits with it than the level to which it has come
 pub record HasAsker (s : System) (to asker : List ℕ) (level : ℕ) : Type 0 where

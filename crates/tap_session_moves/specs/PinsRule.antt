@@ -7,7 +7,7 @@ use Rattle.tap_wire.specs.declared.frame.Body.TheVariants.{Forget, Release}
 use Rattle.tap_rule.specs.Act.{act}
 use Rattle.tap_rule.specs.Event.{Event}
 use Rattle.tap_rule.specs.Event.Event.{Starts, Takes}
-use Rattle.tap_rule.specs.Kept.{IsNode}
+use Rattle.tap_rule.specs.KeptNode.{IsNode}
 use Rattle.tap_rule.specs.Node.{NodeState, Status, link_to, settings_of}
 use Rattle.tap_rule.specs.Node.Status.{Ceased, Gone}
 
@@ -17,8 +17,8 @@ FreesPin t (Takes frame) = (frame.from ≡ t) × ((frame.body ≡ Release) ⊎ (
 FreesPin t (Starts start) = ⊥
 
 -- a node with this status has ended: it is gone, or has ceased
-abbrev pub IsOver : Status → Type 0
-IsOver status = (status ≡ Gone) ⊎ (status ≡ Ceased)
+abbrev pub IsEndedStatus : Status → Type 0
+IsEndedStatus status = (status ≡ Gone) ⊎ (status ≡ Ceased)
 
 -- a frame that a node takes has a spelling
 abbrev pub IsSpelledEvent : SettingsValue → Event → Type 0
@@ -30,4 +30,4 @@ IsSpelledEvent p (Starts start) = Unit {0}
 abbrev pub PinsStay : Type 0
 PinsStay = (node : NodeState) (event : Event) (t : List ℕ) → IsNode node → IsSpelledEvent (settings_of node) event
     → link_to node t ≡ Some Pin
-    → (link_to (act node event).state t ≡ Some Pin) ⊎ (FreesPin t event ⊎ IsOver (act node event).state.status)
+    → (link_to (act node event).state t ≡ Some Pin) ⊎ (FreesPin t event ⊎ IsEndedStatus (act node event).state.status)

@@ -21,7 +21,7 @@ use Rattle.tap_safety.proofs.SoftSteps.{softs_same}
 use Rattle.tap_safety.proofs.StartKeeps.{join_cores, old_node}
 use Rattle.tap_safety.proofs.StepLaws.{seeking_join_law, seeking_law, tells_law}
 use Rattle.tap_safety.proofs.TellKeeps.{core_kept, covers_same, joiner_after}
-use Rattle.tap_safety.proofs.Told.{told_by}
+use Rattle.tap_safety.proofs.UnderWay.{told_by}
 use Rattle.tap_moves.specs.CalmMoves.{AreSought}
 use Rattle.tap_moves.specs.Delivered.{after_start}
 use Rattle.tap_start_moves.specs.Starts.{StartSeeks}

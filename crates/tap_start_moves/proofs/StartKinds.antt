@@ -28,11 +28,11 @@ use Rattle.tap_safety.specs.Move.{MayAct, MayGiveUp, MayJoin, may_start}
 use Rattle.tap_safety.specs.Moved.{IsStarted, departing_by, departing_with, has_acted, has_begun, moved, starter}
 use Rattle.tap_safety.specs.Remembered.{Leaver}
 use Rattle.tap_safety.specs.SeekerSteps.{seek_frame}
-use Rattle.tap_safety.specs.Step.{ChangesAt, IsSent}
+use Rattle.tap_safety.specs.Exchanges.{ChangesAt, IsSent}
 use Rattle.tap_safety.specs.System.{System, AmongFrames, HasLink, IsCoreNode, IsUnderWay}
 use Rattle.tap_safety.specs.Ties.{status_in, status_of}
 use Rattle.tap_safety.proofs.LinkKeeps.{status_seen}
-use Rattle.tap_safety.proofs.Moves.{starts}
+use Rattle.tap_safety.proofs.Moved.{starts}
 use Rattle.tap_safety.proofs.SoftSteps.{start_ways}
 use Rattle.tap_safety.proofs.StartKeeps.{node_was}
 use Rattle.tap_safety.proofs.TellKeeps.{links_same}

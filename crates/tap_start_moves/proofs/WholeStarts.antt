@@ -8,7 +8,7 @@ use Rattle.tap_safety.specs.Move.{may_start}
 use Rattle.tap_safety.specs.System.{System}
 use Rattle.tap_moves.specs.Delivered.{after_start}
 use Rattle.tap_moves.specs.InvariantLaws.{IsNew}
-use Rattle.tap_moves.specs.Spelled.{AreNodes}
+use Rattle.tap_moves.specs.KnownNames.{AreNodes}
 use Rattle.tap_moves.proofs.PartsMade.{start_keeps_parts}
 use Rattle.tap_moves.proofs.SessionMoves.{start_names}
 use Rattle.tap_moves.proofs.StartsMade.{start_fills}

@@ -19,14 +19,14 @@ use Rattle.tap_rule.specs.QuietSteps.{IsQuiet}
 use Rattle.tap_safety.specs.Ceased.{CoreOrJoining, IsRegistered, SaysSo}
 use Rattle.tap_safety.specs.Invariant.{Basis}
 use Rattle.tap_safety.specs.Moved.{HasDone}
-use Rattle.tap_safety.specs.Remembered.{Word}
+use Rattle.tap_safety.specs.Remembered.{TieWord}
 use Rattle.tap_safety.specs.Seeking.{HasNode}
 use Rattle.tap_safety.specs.Soft.{IsSoft}
-use Rattle.tap_safety.specs.Step.{IsSent}
+use Rattle.tap_safety.specs.Exchanges.{IsSent}
 use Rattle.tap_safety.specs.System.{System, HasLink, IsUnderWay}
-use Rattle.tap_safety.specs.Ties.{IsNoNewer, IsOnWay, LastIs, Versions, hears_words, link_in, link_of, register_in, register_of, release_frame, status_in, status_of, word_frame, word_kept}
+use Rattle.tap_safety.specs.Ties.{IsNoNewer, IsOnWay, LastIs, Versions, hears_words, link_in, link_of, register_in, register_of, release_frame, status_in, status_of, tie_word_kept, word_frame}
 use Rattle.tap_safety.specs.WordSteps.{KeepsForgets, SaysWords}
-use Rattle.tap_safety.specs.Words.{Pins}
+use Rattle.tap_safety.specs.Regions.{Pins}
 use Rattle.tap_safety.proofs.LinkKeeps.{some_state}
 use Rattle.tap_safety.proofs.StartKeeps.{way_stays}
 use Rattle.tap_safety.proofs.StepLaws.{ceased_words_law, ties_words_law, versions_words_law}
@@ -72,7 +72,7 @@ module _ (p : SettingsValue) (s : System) (x : List ℕ) (start : Start) (node :
   unfolding register_of
   registers_are t y =
       same_in s after x node acted.state (alike_changes p s x start node is) (λ n. register_in n y)
-      (ap (λ (ties : TiesValue). word_kept (entry_of name_cmp ties.holders y)) is.alike.ties) t
+      (ap (λ (ties : TiesValue). tie_word_kept (entry_of name_cmp ties.holders y)) is.alike.ties) t
 
   last_are : (y t : List ℕ) → after.last y t ≡ s.last y t
   last_are =
@@ -150,7 +150,7 @@ module _ (p : SettingsValue) (s : System) (x via : List ℕ) (is : StartsAnew p 
   has_there = linked_there p s inv is.was_none
 
   -- and its register has nobody
-  register_was : (t y : List ℕ) (word : Word) → register_of begun t y ≡ Some word → register_of s t y ≡ Some word
+  register_was : (t y : List ℕ) (word : TieWord) → register_of begun t y ≡ Some word → register_of s t y ≡ Some word
   unfolding register_of
   register_was t y word kept =
       elim (is.step.done.others t) [
@@ -158,7 +158,7 @@ module _ (p : SettingsValue) (s : System) (x via : List ℕ) (is : StartsAnew p 
         | inl here ↦
             let empty : register_in (begun.node t) y ≡ None =
             ap (λ n. register_in n y) (ap begun.node here ∙ is.step.done.is)
-            ∙ ap (λ holders. word_kept (entry_of name_cmp holders y)) is.unheld in
+            ∙ ap (λ holders. tie_word_kept (entry_of name_cmp holders y)) is.unheld in
             let wrong : None ≡ Some word = sym empty ∙ kept in
             absurd (cc)
       ]
@@ -177,7 +177,7 @@ module _ (p : SettingsValue) (s : System) (x via : List ℕ) (is : StartsAnew p 
   anew_was from to body apart way =
       elim (anew_ways p s x via is from to body way) [ inl old ↦ old | inr seek ↦ absurd (apart seek) ]
 
-  word_was : (y t : List ℕ) (word : Word) → IsOnWay begun (word_frame y t word) → IsOnWay s (word_frame y t word)
+  word_was : (y t : List ℕ) (word : TieWord) → IsOnWay begun (word_frame y t word) → IsOnWay s (word_frame y t word)
   word_was y t word way =
       anew_was y t (Link word.version word.on) (λ seek. let wrong : Link word.version word.on ≡ Seek x = seek in cc) way
 
@@ -202,7 +202,7 @@ module _ (p : SettingsValue) (s : System) (x via : List ℕ) (is : StartsAnew p 
       last_on y t true node
       (inv.ties.linked y t kind (subst hears_words (status_there t node) hears) (link_at s y t kind had))
 
-  dropped : (y t : List ℕ) (word : Word) → hears_words (status_of begun t) → link_of begun y t ≡ None → begun.last y t ≡ Some word
+  dropped : (y t : List ℕ) (word : TieWord) → hears_words (status_of begun t) → link_of begun y t ≡ None → begun.last y t ≡ Some word
       → LastIs begun y t false
   dropped y t word hears link last =
       let said : s.last y t ≡ Some word = sym (anew_last y t) ∙ last in
@@ -212,7 +212,7 @@ module _ (p : SettingsValue) (s : System) (x via : List ℕ) (is : StartsAnew p 
       (inv.ties.dropped y t word (subst hears_words (status_there t to) hears) (sym (link_there y t from) ∙ link) said)
 
   pinned : (y t : List ℕ) → status_of begun t ≡ Some Core → link_of begun y t ≡ Some Pin
-      → ((word : Word) × (begun.last y t ≡ Some word) × IsOnWay begun (word_frame y t word)) ⊎ IsOnWay begun (release_frame t y)
+      → ((word : TieWord) × (begun.last y t ≡ Some word) × IsOnWay begun (word_frame y t word)) ⊎ IsOnWay begun (release_frame t y)
   pinned y t core link =
       let had = link_was y t Pin link in
       let node = has_there y t Pin had in
@@ -222,7 +222,7 @@ module _ (p : SettingsValue) (s : System) (x via : List ℕ) (is : StartsAnew p 
       ]
 
   -- no word is above the last one
-  no_newer : (y t : List ℕ) (word : Word) → IsNoNewer s y t word → IsNoNewer begun y t word
+  no_newer : (y t : List ℕ) (word : TieWord) → IsNoNewer s y t word → IsNoNewer begun y t word
   no_newer y t word old = record { last = old.last; is = anew_last y t ∙ old.is; most = old.most; same = old.same }
 
   anew_versions : Versions begun

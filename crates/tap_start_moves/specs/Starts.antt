@@ -14,7 +14,7 @@ use Rattle.tap_safety.specs.System.{System}
 use Rattle.tap_moves.specs.CalmMoves.{AreSought, IsPeaceful}
 use Rattle.tap_moves.specs.Delivered.{after_start}
 use Rattle.tap_moves.specs.SessionMoves.{AreBooked}
-use Rattle.tap_moves.specs.Spelled.{AreNodes, IsNamedStart}
+use Rattle.tap_moves.specs.KnownNames.{AreNodes, IsNamedStart}
 use Rattle.tap_moves.specs.TiesLaws.{WordsStand}
 use Rattle.tap_session_moves.specs.EndMoves.{HaveAskers}
 

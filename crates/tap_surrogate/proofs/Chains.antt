@@ -16,7 +16,7 @@ use Rattle.tap_surrogate.specs.Nodes.{IsCore, IsSettledTable, Nodes, core_links,
 use Rattle.tap_surrogate.specs.Tables.{least_link}
 use Rattle.tap_surrogate.specs.Walk.{hop, walked_digit}
 use Rattle.tap_surrogate.specs.Entered.{Entered, IsChain, entered_on, next_of}
-use Rattle.tap_surrogate.specs.Laws.{ChainLaw}
+use Rattle.tap_surrogate.specs.WalkLaws.{ChainLaw}
 use Rattle.tap_surrogate.proofs.Entering.{entered_begins, entered_on-hops, entered_on-stays}
 use Rattle.tap_surrogate.proofs.Least.{first_among}
 use Rattle.tap_surrogate.proofs.NextHops.{HasSettledTable, hops, leads_on, stays}

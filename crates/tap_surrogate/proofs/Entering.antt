@@ -11,7 +11,7 @@ use Rattle.tap_surrogate.specs.Tables.{Tables, least_link}
 use Rattle.tap_surrogate.specs.HoleFree.{IsHoleFree}
 use Rattle.tap_surrogate.specs.Walk.{hop, walk_on, walked_digit}
 use Rattle.tap_surrogate.specs.Entered.{Entered, IsEnteredAfter, entered_on}
-use Rattle.tap_surrogate.specs.Laws.{EnteredLaw}
+use Rattle.tap_surrogate.specs.WalkLaws.{EnteredLaw}
 use Rattle.tap_surrogate.proofs.Least.{first_among, place_where_it_fits}
 use Rattle.tap_surrogate.proofs.Paths.{walk_on-hops, walk_on-stays}
 

@@ -11,7 +11,7 @@ use Rattle.tap_name.specs.Root.{Among, has_digit, narrowed, first_of}
 use Rattle.tap_surrogate.specs.Tables.{Tables, least_link}
 use Rattle.tap_surrogate.specs.HoleFree.{IsHoleFree}
 use Rattle.tap_surrogate.specs.Walk.{walked_digit, hop, walk_on}
-use Rattle.tap_surrogate.specs.Laws.{WalkLaw}
+use Rattle.tap_surrogate.specs.WalkLaws.{WalkLaw}
 use Rattle.tap_name.proofs.Cyclic.{first_cyclic-passes}
 use Rattle.tap_surrogate.proofs.Cyclic.{first_from_agree}
 use Rattle.tap_name.proofs.Names.{same_tests, has_digit-from, has_digit-to, among-filter, among-filter_from, only_left, share_more, share_fewer, same_at, share_all}

@@ -11,7 +11,7 @@ use Rattle.tap_name.specs.declared.slot.Slot.{Slot}
 use Rattle.tap_name.specs.Slot.{Fits}
 use Rattle.tap_name.specs.Root.{Among, first_of}
 use Rattle.tap_link.specs.declared.kind.Kind.TheVariants.{Settled}
-use Rattle.tap_link.specs.Entry.{Entry}
+use Rattle.tap_link.specs.Entry.{LinkEntry}
 use Rattle.tap_link.specs.LinkSet.{LinksAscend}
 use Rattle.tap_name.proofs.Names.{among-All}
 use Rattle.tap_table.specs.Members.{IsBelow}
@@ -24,8 +24,8 @@ use Rattle.tap_surrogate.proofs.Standing.{core_link_fits}
 -- the targets of ascending links ascend
 targets_ascend : (links : SlotLinks) → LinksAscend name_cmp links → AllPairs IsBelow (map (λ e. e.target) links)
 targets_ascend links ascending = λ i j d before within.
-    let target = λ (e : Entry (List ℕ)). e.target in
-    let none : Entry (List ℕ) = record { target = d; kind = Settled } in
+    let target = λ (e : LinkEntry (List ℕ)). e.target in
+    let none : LinkEntry (List ℕ) = record { target = d; kind = Settled } in
     let len = length-map links target in
     let inside : j < length links = omega (arith, len, within) in
     let earlier : i < length links = omega arith in

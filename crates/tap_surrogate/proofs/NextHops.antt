@@ -18,7 +18,7 @@ use Rattle.tap_surrogate.specs.Tables.{least_link}
 use Rattle.tap_surrogate.specs.Nodes.{HasSettledCoreLinks, IsCore, Nodes, core_links}
 use Rattle.tap_surrogate.specs.Walk.{hop, walked_digit}
 use Rattle.tap_surrogate.specs.Entered.{Entered, WalkFollows, entered_from, entered_on}
-use Rattle.tap_surrogate.specs.Laws.{NextHopLaw}
+use Rattle.tap_surrogate.specs.WalkLaws.{NextHopLaw}
 use Rattle.tap_surrogate.proofs.Cyclic.{first_from_agree}
 use Rattle.tap_surrogate.proofs.CoreLinks.{least_link_of}
 use Rattle.tap_surrogate.proofs.Entering.{entered_on-hops, entered_on-stays}

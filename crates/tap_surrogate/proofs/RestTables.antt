@@ -22,7 +22,7 @@ use Rattle.tap_table.proofs.Least.{first_fitting_law_holds, is_slot-to}
 use Rattle.tap_table.proofs.Slots.{number_back, number_inside}
 use Rattle.tap_surrogate.specs.Nodes.{Nodes, core_links, links_in}
 use Rattle.tap_surrogate.specs.Members.{AreMembersAtRest}
-use Rattle.tap_surrogate.specs.Laws.{LeastLaw, RestLaw}
+use Rattle.tap_surrogate.specs.WalkLaws.{LeastLaw, RestLaw}
 use Rattle.tap_surrogate.proofs.AtRest.{least_leave_no_hole}
 
 -- ---- one slot of one table

@@ -11,7 +11,7 @@ use Rattle.tap_name.specs.Settings.{SettingsValue}
 use Rattle.tap_name.specs.Slot.{slot_at}
 use Rattle.tap_name.specs.Root.{Among}
 use Rattle.tap_name.proofs.Names.{All-among, among-filter, among-take}
-use Rattle.tap_link.specs.Entry.{Entry}
+use Rattle.tap_link.specs.Entry.{LinkEntry}
 use Rattle.tap_link.specs.declared.kind.Kind.TheVariants.{Settled}
 use Rattle.tap_table.specs.Members.{IsTableAtRest, first_fitting, is_slot, settled_links, table_at_rest}
 use Rattle.tap_table.specs.Table.{IsTable, SlotLinks, TableValue, slot_numbered}
@@ -22,7 +22,7 @@ use Rattle.tap_surrogate.proofs.Chains.{chain_law_holds}
 use Rattle.tap_surrogate.proofs.RestTables.{moved, some_table}
 
 -- what holds of the settled links to the first names that fit a slot holds of each slot of a table at rest
-each_slot : (P : Entry (List ℕ) → Type 0) (p : SettingsValue) (owner : List ℕ) (names : List (List ℕ))
+each_slot : (P : LinkEntry (List ℕ) → Type 0) (p : SettingsValue) (owner : List ℕ) (names : List (List ℕ))
     → ((number : ℕ) → All P (settled_links (first_fitting p owner (slot_numbered p.base number) names)))
     → (number : ℕ) → All P (slice_index_or (table_at_rest p owner names).slots number [])
 each_slot P p owner names all number =
@@ -50,9 +50,9 @@ module _ (p : SettingsValue) (members : List (List ℕ)) (nodes : Nodes) (rest :
   settled_at_rest member table among has =
       let at_rest = is_at_rest member table among has in
       let names = at_rest.names in
-      let link = λ (target : List ℕ). let e : Entry (List ℕ) = record { target = target; kind = Settled } in e in
-      let IsSettled : Entry (List ℕ) → Type 0 = λ e. e.kind ≡ Settled in
-      let ToCore : Entry (List ℕ) → Type 0 = λ e. IsCore nodes e.target in
+      let link = λ (target : List ℕ). let e : LinkEntry (List ℕ) = record { target = target; kind = Settled } in e in
+      let IsSettled : LinkEntry (List ℕ) → Type 0 = λ e. e.kind ≡ Settled in
+      let ToCore : LinkEntry (List ℕ) → Type 0 = λ e. IsCore nodes e.target in
       let first = λ (number : ℕ). first_fitting p member (slot_numbered p.base number) names in
       let core : (number : ℕ) (x : List ℕ) → Among x (first number) → IsCore nodes x = λ number x h.
       let fits = λ (name : List ℕ). is_slot (slot_numbered p.base number) (slot_at member name) in

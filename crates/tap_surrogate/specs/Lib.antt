@@ -4,7 +4,7 @@ pub mod Walk
 pub mod Entered
 pub mod HoleFree
 pub mod Members
-pub mod Laws
+pub mod WalkLaws
 pub mod Distance
 pub mod Standing
 pub mod Step1

@@ -1,5 +1,5 @@
-ghost use Rattle.tap_table.specs.Laws.{TiesLaw, FirstFittingLaw};
-ghost use Rattle.tap_surrogate.specs.Laws.{WalkLaw, EnteredLaw, NextHopLaw, ChainLaw, RestLaw, LeastLaw};
+ghost use Rattle.tap_table.specs.RestLaws.{TiesLaw, FirstFittingLaw};
+ghost use Rattle.tap_surrogate.specs.WalkLaws.{WalkLaw, EnteredLaw, NextHopLaw, ChainLaw, RestLaw, LeastLaw};
 
 /// Over tables without holes a walk from any core node, to any object, passes core nodes alone and
 /// ends at the object's one root, in as many hops as a name has digits or fewer. It enters each node

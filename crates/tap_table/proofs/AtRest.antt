@@ -15,7 +15,7 @@ use Rattle.tap_table.specs.Members.{IsBelow, first_fitting, fitting, holders_at_
 use Rattle.tap_table.specs.Table.{IsTable, StandsIn, TableValue, name_cmp, place_of, slot_number, slot_numbered}
 use Rattle.tap_table.specs.Ties.{AreTies}
 use Rattle.tap_table.proofs.Fitting.{no_slot_of_itself, slot_of_other}
-use Rattle.tap_table.proofs.Grown.{all_settled}
+use Rattle.tap_table.proofs.SettledOn.{all_settled}
 use Rattle.tap_table.proofs.Holding.{not_held_by_itself, word_of}
 use Rattle.tap_table.proofs.Least.{AllPairs-take, is_slot-to}
 

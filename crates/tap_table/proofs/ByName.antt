@@ -13,7 +13,7 @@ use Rattle.tap_name.proofs.Orders.{below-digits}
 use Rattle.tap_name.proofs.Near.{ball-both}
 use Rattle.tap_name.proofs.Prefixes.{lcp-differs, lcp-digits, lcp-is}
 use Rattle.tap_link.specs.declared.kind.Kind.{Kind}
-use Rattle.tap_link.specs.Entry.{Entry}
+use Rattle.tap_link.specs.Entry.{LinkEntry}
 use Rattle.tap_link.specs.LinkSet.{LinksAscend}
 use Rattle.tap_table.specs.declared.slot_range.SlotRange.{SlotRange}
 use Rattle.tap_table.specs.ByName.{by_name, range_by_name, slots_by_name, slots_in}
@@ -214,7 +214,7 @@ module _ (t : TableValue) (valid : IsTable t) where
   slots = slots_by_name t.settings t.owner
 
   -- a link of a slot stands there
-  stands_at : (s : Slot) → (s.level < t.settings.digits) × (s.digit < t.settings.base) → (k : ℕ) (d : Entry (List ℕ))
+  stands_at : (s : Slot) → (s.level < t.settings.digits) × (s.digit < t.settings.base) → (k : ℕ) (d : LinkEntry (List ℕ))
       → k < length (links_at t s) → Stands t.settings t.owner s (get_or (links_at t s) k d).target
   stands_at s inside k d within =
       let e = get_or (links_at t s) k d in

@@ -12,7 +12,7 @@ use Rattle.tap_table.specs.Next.{TakesOwnFrom, next_from, taken_digit}
 use Rattle.tap_table.specs.Sets.{AreEmptyFrom}
 use Rattle.tap_table.specs.Table.{HasNoLinksFrom, IsTable, SlotLinks, TableValue, slot_number, table_of}
 use Rattle.tap_table.proofs.Slots.{links_of_set}
-use Rattle.tap_table.proofs.Taken.{other_leads_on, root_exactly}
+use Rattle.tap_table.proofs.DigitTaken.{other_leads_on, root_exactly}
 
 -- no slot of a level has a link where no set has one from the level's first number on
 pub no_links_from : (owner : List ℕ) (p : SettingsValue) (sets : List (LinkSetValue (List ℕ))) (from level : ℕ)

@@ -8,7 +8,7 @@ use Rattle.std.proofs.lemmas.List.{get_or_past}
 use Rattle.std.proofs.lemmas.Cmp.{nat_list_cmp_total}
 use Rattle.std.proofs.lemmas.Option.{get_or_from_slice_get, slice_get_within}
 use Rattle.tap_link.specs.declared.kind.Kind.{Kind}
-use Rattle.tap_link.specs.Entry.{Entry}
+use Rattle.tap_link.specs.Entry.{LinkEntry}
 use Rattle.tap_link.specs.LinkSet.{LinksAscend, kind_of}
 use Rattle.tap_link.proofs.Least.{ascending_tail}
 use Rattle.tap_name.specs.Name.{IsName}
@@ -21,7 +21,7 @@ use Rattle.tap_table.proofs.Near.{number_near, tied_itself, tied_names}
 use Rattle.tap_table.proofs.Slots.{number_back, place_inside}
 
 -- the link to a name, of a kind
-abbrev pub link_to : List ℕ → Kind → Entry (List ℕ)
+abbrev pub link_to : List ℕ → Kind → LinkEntry (List ℕ)
 link_to name kind = record { target = name; kind = kind }
 
 -- a name that has a kind has a link
@@ -34,8 +34,8 @@ link_found (e ∷ es) name kind found =
           let is : Some e.kind ≡ Some kind = rw tied at found in
           let same : e.kind ≡ kind = cc in
           let named : name ≡ e.target = tied_names name e.target tied in
-          let of_kind : Kind → Entry (List ℕ) = λ k. record { target = e.target; kind = k } in
-          let to_name : List ℕ → Entry (List ℕ) = λ n. record { target = n; kind = kind } in
+          let of_kind : Kind → LinkEntry (List ℕ) = λ k. record { target = e.target; kind = k } in
+          let to_name : List ℕ → LinkEntry (List ℕ) = λ n. record { target = n; kind = kind } in
           (0, ap Some (ap of_kind same ∙ ap to_name (sym named)))
       | inr apart ↦
           let rest : kind_of name_cmp es name ≡ Some kind = rw apart at found in
@@ -44,15 +44,15 @@ link_found (e ∷ es) name kind found =
     ]
 
 -- the first name is below a later one
-below_later : (e : Entry (List ℕ)) (es : SlotLinks) (i : ℕ) (f : Entry (List ℕ)) → LinksAscend name_cmp (e ∷ es)
+below_later : (e : LinkEntry (List ℕ)) (es : SlotLinks) (i : ℕ) (f : LinkEntry (List ℕ)) → LinksAscend name_cmp (e ∷ es)
     → slice_get es i ≡ Some f → name_cmp e.target f.target ≡ Less
 below_later e es i f ascending got =
     let read = get_or_from_slice_get es i f f got in
     let within = slice_get_within es i f got in
-    ap (λ (x : Entry (List ℕ)). name_cmp e.target x.target) (sym read) ∙ ascending 0 (suc i) f (omega arith) (omega arith)
+    ap (λ (x : LinkEntry (List ℕ)). name_cmp e.target x.target) (sym read) ∙ ascending 0 (suc i) f (omega arith) (omega arith)
 
 -- each link gives the kind of its name
-pub link_gives : (links : SlotLinks) (i : ℕ) (f : Entry (List ℕ)) → LinksAscend name_cmp links → slice_get links i ≡ Some f
+pub link_gives : (links : SlotLinks) (i : ℕ) (f : LinkEntry (List ℕ)) → LinksAscend name_cmp links → slice_get links i ≡ Some f
     → kind_of name_cmp links f.target ≡ Some f.kind
 link_gives [] i f ascending got = cc
 link_gives (e ∷ es) zero f ascending got =
@@ -74,13 +74,13 @@ owner_outside p owner number is_owner inside is =
 
 module _ (t : TableValue) (valid : IsTable t) where
   -- a link stands in a slot of its own number
-  module _ (number : ℕ) (e : Entry (List ℕ)) (i : ℕ) (got : slice_get (get_or t.slots number []) i ≡ Some e) where
+  module _ (number : ℕ) (e : LinkEntry (List ℕ)) (i : ℕ) (got : slice_get (get_or t.slots number []) i ≡ Some e) where
     stands : StandsIn t.settings t.owner number e.target
     stands =
         let links = get_or t.slots number [] in
         let within = slice_get_within links i e got in
         let at : StandsIn t.settings t.owner number (get_or links i e).target = valid.standing number i e within in
-        let P : Entry (List ℕ) → Type 0 = λ f. StandsIn t.settings t.owner number f.target in
+        let P : LinkEntry (List ℕ) → Type 0 = λ f. StandsIn t.settings t.owner number f.target in
         subst P (get_or_from_slice_get links i e e got) at
 
     within_slots_of : number < length t.slots
@@ -89,7 +89,7 @@ module _ (t : TableValue) (valid : IsTable t) where
           | inl inside ↦ inside
           | inr past ↦
               let none : get_or t.slots number [] ≡ [] = get_or_past t.slots number [] past in
-              let wrong : slice_get {X = Entry (List ℕ)} [] i ≡ Some e = rw none at got in
+              let wrong : slice_get {X = LinkEntry (List ℕ)} [] i ≡ Some e = rw none at got in
               cc
         ]
 

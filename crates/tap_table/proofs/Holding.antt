@@ -12,7 +12,7 @@ use Rattle.tap_name.proofs.Prefix.{prefix_of_itself}
 use Rattle.tap_register.specs.declared.registers.Entry.{Entry}
 use Rattle.tap_table.specs.Members.{IsBelow, holders_at_rest, holds, is_slot}
 use Rattle.tap_table.specs.Table.{name_cmp, place_of}
-use Rattle.tap_table.proofs.Grown.{IsAbove, above_the_first}
+use Rattle.tap_table.proofs.SettledOn.{IsAbove, above_the_first}
 
 -- a holder that says with version 0 that it has a link
 abbrev pub word_of : List ℕ → Entry (List ℕ) Bool

@@ -10,7 +10,7 @@ use Rattle.tap_name.specs.Root.{Among}
 use Rattle.tap_name.specs.Slot.{slot_at}
 use Rattle.tap_name.proofs.Names.{among-All, among-take, among-filter, among-filter_from}
 use Rattle.tap_name.proofs.Slots.{same_slot}
-use Rattle.tap_table.specs.Laws.{FirstFittingLaw, TiesLaw}
+use Rattle.tap_table.specs.RestLaws.{FirstFittingLaw, TiesLaw}
 use Rattle.tap_table.specs.Members.{IsBelow, is_slot, fitting}
 
 pub is_slot-from : (slot : Slot) (other : Option Slot) → other ≡ Some slot → is_slot slot other ≡ true

@@ -2,13 +2,13 @@ pub mod Slots
 pub mod SetChanges
 pub mod Counted
 pub mod WithPrimaries
-pub mod Taken
+pub mod DigitTaken
 pub mod RowLists
 pub mod Holders
 pub mod Near
 pub mod Found
 pub mod Listed
-pub mod Kept
+pub mod KeptTable
 pub mod LookUps
 pub mod Sizes
 pub mod Primaries
@@ -16,7 +16,7 @@ pub mod TiesKept
 pub mod HoldersFound
 pub mod Hops
 pub mod Fitting
-pub mod Grown
+pub mod SettledOn
 pub mod Holding
 pub mod Least
 pub mod LeastShared
@@ -24,7 +24,7 @@ pub mod AtRest
 pub mod Held
 pub mod Flat
 pub mod ByName
-pub mod Steps
+pub mod OneAdded
 pub mod Stepping
 pub mod LinksByName
 pub mod Targets

@@ -6,7 +6,7 @@ use Rattle.std.proofs.lemmas.Option.{slice_get-get_or}
 use Rattle.tap_name.specs.Prefix.{lcp}
 use Rattle.tap_name.specs.declared.slot.Slot.{Slot}
 use Rattle.tap_name.proofs.Prefixes.{lcp-is}
-use Rattle.tap_link.specs.Entry.{Entry}
+use Rattle.tap_link.specs.Entry.{LinkEntry}
 use Rattle.tap_table.specs.declared.slot_range.SlotRange.{SlotRange}
 use Rattle.tap_table.specs.declared.tie.Tie.{Tie}
 use Rattle.tap_table.specs.ByName.{range_by_name, slots_in, targets_of}
@@ -15,7 +15,7 @@ use Rattle.tap_table.specs.Ties.{off_ties}
 use Rattle.tap_table.proofs.Flat.{All-flat_map}
 use Rattle.tap_table.proofs.Found.{slot_is_own}
 use Rattle.tap_table.proofs.Slots.{number_back}
-use Rattle.tap_table.proofs.Steps.{added}
+use Rattle.tap_table.proofs.OneAdded.{added}
 use Rattle.tap_table.proofs.Stepping.{from_digit, in_range, in_range-first, in_ranges, in_ranges-first, slot_of_range}
 
 -- the links of the slots of a range, and those of the ranges from one on
@@ -65,7 +65,7 @@ module _ (t : TableValue) where
   targets_in_slots range digit inside =
       let here = links_at t (slot_of_range range digit) in
       ap targets_of (in_range-first (links_at t) range digit inside)
-      ∙ map-append (λ (e : Entry (List ℕ)). e.target) here (links_in t (from_digit range (digit + 1)))
+      ∙ map-append (λ (e : LinkEntry (List ℕ)). e.target) here (links_in t (from_digit range (digit + 1)))
 
   pub targets_in_ranges : (i : ℕ) → i < 2 * t.settings.digits
       → targets_of (links_from t i)
@@ -73,7 +73,7 @@ module _ (t : TableValue) where
   targets_in_ranges i inside =
       let here = links_in t (range_by_name t.settings t.owner i) in
       ap targets_of (in_ranges-first (links_at t) t.settings t.owner i inside)
-      ∙ map-append (λ (e : Entry (List ℕ)). e.target) here (links_from t (i + 1))
+      ∙ map-append (λ (e : LinkEntry (List ℕ)). e.target) here (links_from t (i + 1))
 
 -- of the nodes that are left some get their words, with the next numbers, and then the rest
 module _ (last : ℕ) (front rest left : List (List ℕ)) (parts : left ≡ front ++ rest) where

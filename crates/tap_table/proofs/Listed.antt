@@ -7,14 +7,14 @@ use Rattle.std.proofs.lemmas.List.{length-map}
 use Rattle.std.proofs.lemmas.Option.{slice_get-map, slice_get_within}
 use Rattle.tap_name.specs.declared.slot.Slot.{Slot}
 use Rattle.tap_link.specs.declared.kind.Kind.{Kind}
-use Rattle.tap_link.specs.Entry.{Entry}
+use Rattle.tap_link.specs.Entry.{LinkEntry}
 use Rattle.tap_table.specs.Table.{IsTable, Row, SlotLinks, TableValue, kind_in, links_near, place_of, rows, rows_of, slot_numbered}
 use Rattle.tap_table.proofs.Found.{kind_of_target, link_found, link_to, linked_is_name, linked_is_other, slot_is_own}
 use Rattle.tap_table.proofs.Near.{number_near, within_slots}
 use Rattle.tap_table.proofs.RowLists.{slice_get_front, slice_get_after}
 
 -- a row of a link
-abbrev pub row_at : Row → ℕ → ℕ → Entry (List ℕ) → Type 0
+abbrev pub row_at : Row → ℕ → ℕ → LinkEntry (List ℕ) → Type 0
 row_at row base number e = row ≡ record { slot = slot_numbered base number; entry = e }
 
 -- where a row comes from: the number of its slot, and its place there
@@ -53,14 +53,14 @@ row_from base n (links ∷ slots) i row got =
     ]
 
 -- each link of a slot has its row
-pub row_to : (base n : ℕ) (slots : List SlotLinks) (number link : ℕ) (e : Entry (List ℕ)) → number < length slots
+pub row_to : (base n : ℕ) (slots : List SlotLinks) (number link : ℕ) (e : LinkEntry (List ℕ)) → number < length slots
     → slice_get (get_or slots number []) link ≡ Some e
     → (i : ℕ) × (slice_get (rows_from base n slots) i ≡ Some (record { slot = slot_numbered base (n + number); entry = e }))
 row_to base n [] number link e within got = absurd (omega arith)
 row_to base n (links ∷ slots) zero link e within got =
     let len : length (rows_of base (n, links)) ≡ length links = length-map links _ in
     let inside = slice_get_within links link e got in
-    let of_entry : Entry (List ℕ) → Row = λ f. record { slot = slot_numbered base n; entry = f } in
+    let of_entry : LinkEntry (List ℕ) → Row = λ f. record { slot = slot_numbered base n; entry = f } in
     let of_slot : ℕ → Row = λ k. record { slot = slot_numbered base k; entry = e } in
     let here : slice_get (rows_of base (n, links)) link ≡ Some (of_slot (n + 0)) =
     slice_get-map of_entry links link ∙ ap (option_map of_entry) got ∙ ap (λ k. Some (of_slot k)) (omega arith) in

@@ -4,7 +4,7 @@ use Rattle.std.specs.Option.{option_map}
 use Rattle.std.proofs.lemmas.Option.{get_or_from_slice_get, slice_get-map, slice_get_within}
 use Rattle.tap_name.proofs.Names.{among_item}
 use Rattle.tap_link.specs.declared.kind.Kind.{Kind}
-use Rattle.tap_link.specs.Entry.{Entry}
+use Rattle.tap_link.specs.Entry.{LinkEntry}
 use Rattle.tap_table.specs.declared.tie.Tie.{Tie}
 use Rattle.tap_table.specs.ByName.{by_name, targets_by_name}
 use Rattle.tap_table.specs.Table.{IsTable, TableValue, kind_in}
@@ -45,7 +45,7 @@ module _ (t : TableValue) (valid : IsTable t) (last : ℕ) where
       → (i : ℕ) × (slice_get (off_ties last (targets_by_name t)) i ≡ Some (record { to = name; version = last + i + 1; on = false }))
   linked_is_let_go name kind found =
       let link = found_by_name t valid name kind found in
-      let target : Entry (List ℕ) → List ℕ = λ e. e.target in
+      let target : LinkEntry (List ℕ) → List ℕ = λ e. e.target in
       let got : slice_get (targets_by_name t) link.0 ≡ Some name =
       slice_get-map target (by_name t) link.0 ∙ ap (option_map target) link.1 in
       (link.0, off_tie_at last (targets_by_name t) link.0 name got)

@@ -7,14 +7,14 @@ use Rattle.std.proofs.lemmas.List.Sums.{sum_by-cons}
 use Rattle.std.proofs.lemmas.Option.{slice_get-map, slice_get_past, slice_get_within}
 use Rattle.tap_name.specs.Settings.{SettingsValue}
 use Rattle.tap_link.specs.declared.kind.Kind.{Kind}
-use Rattle.tap_link.specs.Entry.{Entry}
+use Rattle.tap_link.specs.Entry.{LinkEntry}
 use Rattle.tap_link.specs.LinkSet.{LinkSetValue}
 use Rattle.tap_table.specs.Place.{IsPlace}
 use Rattle.tap_table.specs.Row.{rows_left, rows_numbered}
 use Rattle.tap_table.specs.Sets.{all_links}
 use Rattle.tap_table.specs.Table.{Row, SlotLinks, TableValue, rows, rows_of, slot_numbered, table_of}
 use Rattle.tap_table.proofs.Slots.{links_of_set}
-use Rattle.tap_table.proofs.Steps.{drop_got}
+use Rattle.tap_table.proofs.OneAdded.{drop_got}
 
 module _ {X : Type 0} where
   pub slice_get_front : (xs ys : List X) (k : ℕ) → k < length xs → slice_get (xs ++ ys) k ≡ slice_get xs k
@@ -130,9 +130,9 @@ row_of_link base number slot_links links link target kind same within target_is 
     let same_kind : Some e.0.kind ≡ Some kind = sym kind_read ∙ kind_is in
     let t_is : e.0.target ≡ target = cc in
     let k_is : e.0.kind ≡ kind = cc in
-    let of_entry : Entry (List ℕ) → Row = λ f. record { slot = slot_numbered base number; entry = f } in
-    let with_target : List ℕ → Entry (List ℕ) = λ n. record { target = n; kind = e.0.kind } in
-    let with_kind : Kind → Entry (List ℕ) = λ k. record { target = target; kind = k } in
+    let of_entry : LinkEntry (List ℕ) → Row = λ f. record { slot = slot_numbered base number; entry = f } in
+    let with_target : List ℕ → LinkEntry (List ℕ) = λ n. record { target = n; kind = e.0.kind } in
+    let with_kind : Kind → LinkEntry (List ℕ) = λ k. record { target = target; kind = k } in
     slice_get-map of_entry slot_links link ∙ ap (option_map of_entry) here
     ∙ ap (λ f. Some (of_entry f)) (ap with_target t_is ∙ ap with_kind k_is)
 

@@ -8,7 +8,7 @@ use Rattle.tap_name.proofs.Membership.{few_among}
 use Rattle.tap_name.proofs.Sorted.{distinct-from_ascending}
 use Rattle.tap_link.specs.declared.kind.Kind.{Kind}
 use Rattle.tap_link.specs.declared.kind.Kind.TheVariants.{Settled}
-use Rattle.tap_link.specs.Entry.{Entry}
+use Rattle.tap_link.specs.Entry.{LinkEntry}
 use Rattle.tap_table.specs.ByName.{by_name, targets_by_name, targets_of}
 use Rattle.tap_table.specs.Table.{IsTable, Row, SlotLinks, TableValue, kind_in, rows}
 use Rattle.tap_table.proofs.ByName.{by_name-ascending, by_name_is_found, found_by_name}
@@ -22,11 +22,11 @@ among_row (r ∷ all) zero row got =
     inl (ap (λ (x : Row). x.entry.target) (sym same))
 among_row (r ∷ all) (suc i) row got = inr (among_row all i row got)
 
-among_link : (links : SlotLinks) (i : ℕ) (e : Entry (List ℕ)) → slice_get links i ≡ Some e → Among e.target (targets_of links)
+among_link : (links : SlotLinks) (i : ℕ) (e : LinkEntry (List ℕ)) → slice_get links i ≡ Some e → Among e.target (targets_of links)
 among_link [] i e got = cc
 among_link (f ∷ links) zero e got =
     let same : f ≡ e = cc in
-    inl (ap (λ (x : Entry (List ℕ)). x.target) (sym same))
+    inl (ap (λ (x : LinkEntry (List ℕ)). x.target) (sym same))
 among_link (f ∷ links) (suc i) e got = inr (among_link links i e got)
 
 module _ (t : TableValue) where
@@ -52,10 +52,10 @@ module _ (t : TableValue) where
     pub targets-ascending : AreAscending (targets_by_name t)
     targets-ascending i j d before within =
         let links = by_name t in
-        let len = length-map links (λ (e : Entry (List ℕ)). e.target) in
-        let e : Entry (List ℕ) = record { target = d; kind = Settled } in
-        let at_i = get_or-map (λ (f : Entry (List ℕ)). f.target) links i e d (omega arith) in
-        let at_j = get_or-map (λ (f : Entry (List ℕ)). f.target) links j e d (omega arith) in
+        let len = length-map links (λ (e : LinkEntry (List ℕ)). e.target) in
+        let e : LinkEntry (List ℕ) = record { target = d; kind = Settled } in
+        let at_i = get_or-map (λ (f : LinkEntry (List ℕ)). f.target) links i e d (omega arith) in
+        let at_j = get_or-map (λ (f : LinkEntry (List ℕ)). f.target) links j e d (omega arith) in
         rw (at_i, at_j) (by_name-ascending t valid i j e before (omega arith))
 
     pub few_by_name : length (targets_by_name t) ≤ length (rows t)

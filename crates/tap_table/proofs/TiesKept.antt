@@ -8,7 +8,7 @@ use Rattle.tap_table.specs.declared.memory.NoMemory.{NoMemory}
 use Rattle.tap_table.specs.Table.{IsTable, TableValue, name_cmp}
 use Rattle.tap_table.specs.Table.{pinned as table_pinned, offered as table_offered, released as table_released, forgotten as table_forgotten, marked as table_marked, removed as table_removed}
 use Rattle.tap_table.specs.Ties.{AreTies, TiesValue, forgotten, held_word, marked, offered, pinned, released, removed}
-use Rattle.tap_table.proofs.Kept.{IsTable-forgotten, IsTable-marked, IsTable-offered, IsTable-pinned, IsTable-released, IsTable-removed}
+use Rattle.tap_table.proofs.KeptTable.{IsTable-forgotten, IsTable-marked, IsTable-offered, IsTable-pinned, IsTable-released, IsTable-removed}
 
 module _ (ties : TiesValue) (name : List ℕ) (are : AreTies ties) (is_name : IsName ties.table.settings name)
     (other : name ≢ ties.table.owner) where

@@ -2,7 +2,7 @@
 use Rattle.std.proofs.Common.{◌≡◌, ℕ, ◌≤◌, Bool, false, zero, suc, List, [], ◌∷◌, length, map, replicate, set, refl, sym, ap, ◌∙◌}
 use Rattle.std.proofs.lemmas.List.{length-map, map-set}
 use Rattle.tap_link.specs.LinkSet.{LinkSetValue}
-use Rattle.tap_table.specs.Sets.{AreKept, has_primary, most_slots_of_table}
+use Rattle.tap_table.specs.Sets.{SetsAreKept, has_primary, most_slots_of_table}
 use Rattle.tap_table.proofs.Counted.{counted_empty}
 
 -- sets without links have none
@@ -11,7 +11,7 @@ none_at_first zero width = refl
 none_at_first (suc n) width = ap (λ rest. false ∷ rest) (none_at_first n width)
 
 pub kept_empty : (sets : List (LinkSetValue (List ℕ))) (with_primary : List Bool) (n width : ℕ) → n ≤ most_slots_of_table
-    → sets ≡ replicate n (record { width = width; links = [] }) → with_primary ≡ replicate n false → AreKept sets 0 0 with_primary
+    → sets ≡ replicate n (record { width = width; links = [] }) → with_primary ≡ replicate n false → SetsAreKept sets 0 0 with_primary
 kept_empty sets with_primary n width few is none = record {
   counted = counted_empty sets n width few is;
   primaries = none ∙ none_at_first n width ∙ ap (map has_primary) (sym is);

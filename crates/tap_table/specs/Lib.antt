@@ -6,5 +6,5 @@ pub mod Next
 pub mod ByName
 pub mod Ties
 pub mod Members
-pub mod Laws
+pub mod RestLaws
 pub mod Levels

@@ -34,6 +34,6 @@ abbrev pub has_primary : LinkSetValue (List ℕ) → Bool
 has_primary s = is_some (least_settled s.links)
 
 -- what is kept of the sets: how many links they have, and which of them have a primary
-pub record AreKept (sets : List (LinkSetValue (List ℕ))) (links empty_from : ℕ) (with_primary : List Bool) : Type 0 where
+pub record SetsAreKept (sets : List (LinkSetValue (List ℕ))) (links empty_from : ℕ) (with_primary : List Bool) : Type 0 where
   pub counted : AreCounted sets links empty_from
   pub primaries : with_primary ≡ map has_primary sets

@@ -6,13 +6,13 @@ use Rattle.tap_name.specs.Name.{IsName}
 pub use Rattle.tap_name.specs.Order.{name_cmp}
 use Rattle.tap_name.specs.Settings.{SettingsValue, AreWithinLimits}
 use Rattle.tap_link.specs.declared.kind.Kind.{Kind}
-use Rattle.tap_link.specs.Entry.{Entry}
+use Rattle.tap_link.specs.Entry.{LinkEntry}
 use Rattle.tap_link.specs.LinkSet.{LinkSetValue, IsLinkSet, has_room, kind_of}
 use Rattle.tap_link.specs.LinkSet.{pinned as set_pinned, offered as set_offered, released as set_released, forgotten as set_forgotten, marked as set_marked, removed as set_removed}
 
 -- the links of one slot
 abbrev pub SlotLinks : Type 0
-SlotLinks = List (Entry (List ℕ))
+SlotLinks = List (LinkEntry (List ℕ))
 
 -- what a table is seen as: its owner, the settings, and the links of each slot by the slot's number
 pub record TableValue : Type 0 where
@@ -119,7 +119,7 @@ pub record AreSets (owner : List ℕ) (settings : SettingsValue) (sets : List (L
 -- a link in its slot
 pub record Row : Type 0 where
   pub slot : Slot
-  pub entry : Entry (List ℕ)
+  pub entry : LinkEntry (List ℕ)
 
 -- the links of the slot of this number
 abbrev pub rows_of : ℕ → ℕ × SlotLinks → List Row

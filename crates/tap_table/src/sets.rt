@@ -28,13 +28,13 @@ pub(crate) struct Sets {
 impl Model for Sets {
     ghost use Rattle.std.specs.Prelude.{List, ℕ};
     ghost use Rattle.tap_link.specs.LinkSet.{LinkSetValue};
-    ghost use Rattle.tap_table.specs.Sets.{AreKept};
+    ghost use Rattle.tap_table.specs.Sets.{SetsAreKept};
 
     ghost Value = { List (LinkSetValue (List ℕ)) };
 
     ghost view = { λ s. s.sets.items };
 
-    ghost invariant = { λ s. AreKept s.sets.items s.links s.empty_from s.with_primary.items };
+    ghost invariant = { λ s. SetsAreKept s.sets.items s.links s.empty_from s.with_primary.items };
 }
 
 impl Sets {

@@ -10,7 +10,7 @@ use Rattle.tap_log.specs.declared.record.Record.TheVariants.{Spent as SpentRecor
 use Rattle.tap_log.specs.Log.{last_of}
 use Rattle.tap_history.specs.Groups.{ends_log, is_ended, is_spent}
 use Rattle.tap_make.specs.Made.{made}
-use Rattle.tap_engine.specs.Kinds.{finishes, is_finished}
+use Rattle.tap_engine.specs.Kinds.{finishes_run, is_finished}
 use Rattle.tap_engine.specs.World.{WorldValue}
 use Rattle.tap_lawful.specs.Lawful.{IsLogOf}
 use Rattle.tap_headline.proofs.LastRecord.{finished_says, spent_says}
@@ -24,17 +24,17 @@ use Rattle.tap_words.specs.declared.asked.Asked.{Asked}
 use Rattle.tap_top.specs.declared.status.Status.{Status}
 use Rattle.tap_top.specs.declared.status.Status.TheVariants.{Done, Usage, TooLong, NotScenario, ReadFault, WriteFault, Spent, NoMemory}
 use Rattle.tap_top.specs.Ending.{HasCause, HasCauseOf, HasRun, HasRunAs, HasRunOf, LeavesWorld, log_of}
-use Rattle.tap_top.specs.Headline.{HasRunAll, HasRunShort, IsLogAsked, ends_spent}
+use Rattle.tap_top.specs.AskedLog.{HasRunAll, HasRunShort, IsLogAsked, ends_spent}
 use Rattle.tap_bounds_runs.proofs.Enough.{never_spent}
 use Rattle.tap_top.specs.Reading.{HasReadFault, HasReadScript, HasReadTooMany}
-use Rattle.tap_top.specs.Status.{status_of}
+use Rattle.tap_top.specs.Status.{status_of_end}
 use Rattle.tap_top.specs.Wanted.{IsNotHad, IsUnread, IsWanted}
 use Rattle.tap_replay.proofs.Running.{unfinished}
 use Rattle.tap_replay.proofs.Lawfulness.{ended_log}
 
 -- ---- causes
 
-pub run_as : (s : ScenarioValue) (e : End) (world : WorldValue) → IsLeft s e world → HasRunAs s (status_of e) world
+pub run_as : (s : ScenarioValue) (e : End) (world : WorldValue) → IsLeft s e world → HasRunAs s (status_of_end e) world
 run_as s end.Done world left = left
 run_as s end.Spent world left = left
 run_as s end.NoMemory world left = left
@@ -299,11 +299,11 @@ pub record HasLast (log : List Record) (finished spent : Bool) : Type 0 where
   pub spent_is : ends_spent log ≡ spent
 
 last_finished : (log : List Record) (steps : ℕ) → last_of log ≡ Some (Finished steps) → HasLast log true false
-unfolding finishes is_spent
+unfolding finishes_run is_spent
 last_finished log steps is = record { finished_is = rw is refl; spent_is = rw is refl }
 
 last_spent : (log : List Record) (limit : ℕ) → last_of log ≡ Some (SpentRecord limit) → HasLast log false true
-unfolding finishes is_spent
+unfolding finishes_run is_spent
 last_spent log limit is = record { finished_is = rw is refl; spent_is = rw is refl }
 
 last_none : (log : List Record) → is_ended log ≡ false → HasLast log false false

@@ -14,8 +14,8 @@ use Rattle.tap_headline.specs.Printable.{CanBePrinted}
 use Rattle.tap_headline.proofs.Printable.{logs_can_be_printed}
 use Rattle.tap_replay.proofs.Alike.{may_turn}
 use Rattle.tap_replay.proofs.Lawfulness.{ended_log}
-use Rattle.tap_replay.specs.Player.{HasPlayed, IsLeft, MayTurn, PlayerValue, Turns, TurnsAs}
-use Rattle.tap_replay.specs.Run.{GoesOn}
+use Rattle.tap_replay.specs.Player.{HasPlayed, IsLeft, MayTurn, PlayerValue, TakesTurn, TurnsAs}
+use Rattle.tap_replay.specs.Run.{WorldGoesOn}
 use Rattle.tap_replay.specs.Turn.{outcome_by, turn_outcome, unless_finished, unless_spent}
 use Rattle.tap_replay.specs.declared.end.End.{End}
 use Rattle.tap_replay.specs.declared.end.End.TheVariants.{Done, Spent, NoMemory}
@@ -25,12 +25,12 @@ use Rattle.tap_replay.specs.declared.end.Turned.TheVariants.{More, Over}
 -- ---- how far a run has come
 
 -- a run that isn't over goes on, and one that is over has ended
-pub goes_on : (s : ScenarioValue) (p : PlayerValue) → HasPlayed s p → p.over ≡ None → GoesOn s p.world
+pub goes_on : (s : ScenarioValue) (p : PlayerValue) → HasPlayed s p → p.over ≡ None → WorldGoesOn s p.world
 goes_on s p played none =
-    subst (λ over. MatchOption over (GoesOn s p.world) (λ end. IsLeft s end p.world)) none played
+    subst (λ over. MatchOption over (WorldGoesOn s p.world) (λ end. IsLeft s end p.world)) none played
 
 pub is_left : (s : ScenarioValue) (p : PlayerValue) (end : End) → HasPlayed s p → p.over ≡ Some end → IsLeft s end p.world
-is_left s p end played over = subst (λ o. MatchOption o (GoesOn s p.world) (λ e. IsLeft s e p.world)) over played
+is_left s p end played over = subst (λ o. MatchOption o (WorldGoesOn s p.world) (λ e. IsLeft s e p.world)) over played
 
 -- the log of a run so far
 pub player_log : (s : ScenarioValue) (p : PlayerValue) → HasPlayed s p → IsLogOf s p.world.log
@@ -87,7 +87,7 @@ module _ (s : ScenarioValue) (log after : List Record) where
   turned_front (Over NoMemory) turns = ap (take (length log)) (turns.memory refl) ∙ take-length log
 
 -- after a turn the log begins with the one before it
-pub turn_front : (s : ScenarioValue) (before : PlayerValue) (given : Turned) (after : PlayerValue) → Turns s before given after
+pub turn_front : (s : ScenarioValue) (before : PlayerValue) (given : Turned) (after : PlayerValue) → TakesTurn s before given after
     → before.over ≡ None → take (length before.world.log) after.world.log ≡ before.world.log
 turn_front s before given after turns none =
     turned_front s before.world.log after.world.log given

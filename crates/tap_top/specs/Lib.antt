@@ -4,4 +4,4 @@ pub mod FaultLine
 pub mod Reading
 pub mod Wanted
 pub mod Ending
-pub mod Headline
+pub mod AskedLog

@@ -5,10 +5,10 @@ use Rattle.tap_replay.specs.declared.end.End.TheVariants as end
 use Rattle.tap_top.specs.declared.status.Status.{Status}
 use Rattle.tap_top.specs.declared.status.Status.TheVariants.{Done, Usage, TooLong, NotScenario, ReadFault, WriteFault, Spent, NoMemory}
 
-abbrev pub status_of : End → Status
-status_of end.Done = Done
-status_of end.Spent = Spent
-status_of end.NoMemory = NoMemory
+abbrev pub status_of_end : End → Status
+status_of_end end.Done = Done
+status_of_end end.Spent = Spent
+status_of_end end.NoMemory = NoMemory
 
 abbrev pub exit_code : Status → ℕ
 exit_code Done = 0

@@ -1,6 +1,6 @@
 ghost use Rattle.std.specs.Prelude.{◌≡◌, ◌<◌, ◌≤◌, None, length, fold, take};
 ghost use Rattle.tap_io.specs.Sink.{SinkState};
-ghost use Rattle.tap_lawful.specs.Laws.{left_of};
+ghost use Rattle.tap_lawful.specs.PlayedLaws.{left_of};
 ghost use Rattle.tap_replay.specs.Player.{HasPlayed, IsLeft, over_by};
 ghost use Rattle.tap_report.specs.Reporter.{Reports, most_records, settings_after};
 ghost use Rattle.tap_report.specs.Text.{IsPrintableLog};

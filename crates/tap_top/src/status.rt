@@ -1,6 +1,6 @@
 ghost use Rattle.std.specs.Prelude.{◌≡◌};
 ghost use Rattle.tap_top.specs.Ending.{with_writing};
-ghost use Rattle.tap_top.specs.Status.{exit_code, status_of};
+ghost use Rattle.tap_top.specs.Status.{exit_code, status_of_end};
 
 use tap_replay::{End, World};
 use tap_report::Written;
@@ -49,7 +49,7 @@ impl Status {
 
     // How it ends, if its run ends so.
     pub(crate) fn of(end: End) -> Status
-        ensures { result ≡ status_of end }
+        ensures { result ≡ status_of_end end }
     {
         match end {
             End::Done => Status::Done,

@@ -8,7 +8,7 @@ ghost use Rattle.tap_report.specs.declared.mode.Mode.{Mode as ReportMode};
 ghost use Rattle.tap_scenario.specs.Scenario.{EachStepIsPlayed, IsScript};
 ghost use Rattle.tap_top.specs.Ending.{HasCause, HasCauseOf, HasRunAs, HasRunOf, HasWritten, LeavesWorld, log_of, mode_asked, text_of_run};
 ghost use Rattle.tap_top.specs.FaultLine.{fault_line};
-ghost use Rattle.tap_top.specs.Headline.{HasRunAll, HasRunShort, IsLogAsked, ends_spent};
+ghost use Rattle.tap_top.specs.AskedLog.{HasRunAll, HasRunShort, IsLogAsked, ends_spent};
 ghost use Rattle.tap_top.specs.Reading.{HasReadFault, HasReadTooMany};
 ghost use Rattle.tap_top.specs.Wanted.{AsksWithin, mode_of};
 ghost use Rattle.tap_words.specs.Words.{asked_by};

@@ -17,7 +17,7 @@ use Rattle.tap_rule.specs.Covering.{Request}
 use Rattle.tap_rule.specs.Strange.{is_strange}
 use Rattle.tap_rule.specs.Sent.{AreSent}
 use Rattle.tap_rule.specs.Act.{act}
-use Rattle.tap_rule.specs.Laws.{IsCarriedOut, frame_to}
+use Rattle.tap_rule.specs.RuleLaws.{IsCarriedOut, frame_to}
 use Rattle.tap_rule.proofs.Cases.{Cause, IsAsked, IsNamed, RuleCase}
 use Rattle.tap_rule.proofs.Cases.Cause.{Takes, Starts}
 use Rattle.tap_rule.proofs.Cases.IsAsked.{BySeek, ByTell}
@@ -27,7 +27,7 @@ use Rattle.tap_rule.proofs.Cases.RuleCase.{CoveredBefore, CoversAlone, CoversOn,
 use Rattle.tap_rule.proofs.Named.{each_named}
 use Rattle.tap_rule.proofs.EachAct.{each_start, each_take}
 use Rattle.tap_safety.specs.Frames.{tell_body}
-use Rattle.tap_safety.specs.Step.{IsSent}
+use Rattle.tap_safety.specs.Exchanges.{IsSent}
 use Rattle.tap_moves.specs.ByRule.{taken_at}
 use Rattle.tap_moves.proofs.CalmMoves.{SendsNoTell}
 use Rattle.tap_moves.proofs.Got.{among_all}

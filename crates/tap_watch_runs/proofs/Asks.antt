@@ -23,7 +23,7 @@ use Rattle.tap_rule.specs.Event.Event.{Starts}
 use Rattle.tap_rule.specs.Event.Start.{Abandon, Cast as StartCast, Find as StartFind, Join, Leave as StartLeave, Publish, Withdraw}
 use Rattle.tap_rule.specs.FrameRules.{frame_at_core}
 use Rattle.tap_rule.specs.JoinSteps.{found_for}
-use Rattle.tap_rule.specs.Laws.{IsCarriedOut, frame_to}
+use Rattle.tap_rule.specs.RuleLaws.{IsCarriedOut, frame_to}
 use Rattle.tap_rule.specs.Node.{NodeState, Status, joiner, level_of, name_of, settings_of}
 use Rattle.tap_rule.specs.Node.Status.{Joining, Core, Leaving, Gone, Ceased}
 use Rattle.tap_rule.specs.Reaction.{Message, pin_word, sends, with_pin, with_words}
@@ -34,10 +34,10 @@ use Rattle.tap_rule.proofs.JoinSteps.{IsTellFit, tell_fits}
 use Rattle.tap_safety.specs.Frames.{tell_body}
 use Rattle.tap_safety.specs.Move.Move.{Delivers}
 use Rattle.tap_safety.specs.Moved.{moved, starter}
-use Rattle.tap_safety.specs.Step.{numbered_from}
-use Rattle.tap_safety.specs.System.{Covers, System, IsUnderWay}
-use Rattle.tap_safety.proofs.Moves.{starts}
-use Rattle.tap_safety.proofs.Told.{among_either, among_sent}
+use Rattle.tap_safety.specs.Exchanges.{numbered_from}
+use Rattle.tap_safety.specs.System.{CoversAt, System, IsUnderWay}
+use Rattle.tap_safety.proofs.Moved.{starts}
+use Rattle.tap_safety.proofs.UnderWay.{among_either, among_sent}
 use Rattle.tap_safety.proofs.Said.{Said}
 use Rattle.tap_safety.proofs.Said.Said.{IsSeek, IsTell}
 use Rattle.tap_moves.specs.ByRule.{taken_at}
@@ -53,8 +53,8 @@ use Rattle.tap_name.specs.Prefix.{lcp}
 use Rattle.std.proofs.lemmas.List.Elements.{All-nil}
 use Rattle.tap_moves.proofs.InvariantMoves.{due, name_at, of_node, told_name, way}
 use Rattle.tap_moves.proofs.MovesMade.{is_found}
-use Rattle.tap_watch_runs.specs.Answers.{WatchMemory}
-use Rattle.tap_watch_runs.specs.Recalled.{asked, asked_at, asked_at_core, asked_by_seek, recalled, recalled_asked, table_for}
+use Rattle.tap_watch_runs.specs.SlotAnswers.{WatchMemory}
+use Rattle.tap_watch_runs.specs.Recalled.{asked, asked_at, asked_at_core, asked_by_seek, recalled_asked, table_for, watch_recalled}
 use Rattle.tap_watch_runs.specs.Watched.{WatchesAreSound}
 use Rattle.tap_watch_runs.proofs.Aside.{LeavesCovers, start_aside}
 
@@ -69,8 +69,8 @@ covered_before before after (inr none) b level is =
 
 -- a node changes: what covers afterwards is it, or did before
 pub changed_cover : (s s' : System) (x : List ℕ) (after : NodeState) → s'.node x ≡ Some after
-    → ((y : List ℕ) → (y ≡ x) ⊎ (s'.node y ≡ s.node y)) → (y b : List ℕ) (level : ℕ) → Covers s' y b level
-    → ((y ≡ x) × (level_kept after.covers b ≡ Some level)) ⊎ Covers s y b level
+    → ((y : List ℕ) → (y ≡ x) ⊎ (s'.node y ≡ s.node y)) → (y b : List ℕ) (level : ℕ) → CoversAt s' y b level
+    → ((y ≡ x) × (level_kept after.covers b ≡ Some level)) ⊎ CoversAt s y b level
 changed_cover s s' x after is others y b level covers =
     elim (others y) [
       | inl here ↦
@@ -84,7 +84,7 @@ changed_cover s s' x after is others y b level covers =
 pub record IsAside (s s' : System) : Type 0 where
   pub tells : (from to : List ℕ) (tell : TellFields) (watch : List Slot) → IsUnderWay s' from to (tell_body tell watch)
       → IsUnderWay s from to (tell_body tell watch)
-  pub covers : (x b : List ℕ) (level : ℕ) → Covers s' x b level → Covers s x b level
+  pub covers : (x b : List ℕ) (level : ℕ) → CoversAt s' x b level → CoversAt s x b level
 
 pub aside_kept : (p : SettingsValue) (s s' : System) (r : WatchMemory) → IsAside s s' → WatchesAreSound p s r → WatchesAreSound p s' r
 aside_kept p s s' r aside sound = record {
@@ -101,7 +101,7 @@ module _ (p : SettingsValue) (s : System) (x : List ℕ) (start : Start) where
 
   -- what the starter covers it covered before
   starter_covers : (begun : Start) (node : NodeState) → starter p s x begun ≡ Some node → (b : List ℕ) (level : ℕ)
-      → level_kept node.covers b ≡ Some level → Covers s x b level
+      → level_kept node.covers b ≡ Some level → CoversAt s x b level
   starter_covers (Join via) node is b level kept =
       let fresh : joiner p x ≡ node = cc in
       let wrong : ◌≡◌ {A = Option ℕ} None (Some level) = ap (λ (n : NodeState). level_kept n.covers b) fresh ∙ kept in
@@ -129,7 +129,7 @@ module _ (p : SettingsValue) (s : System) (x : List ℕ) (start : Start) where
         covers = λ y b level covers.
             elim (changed_cover s s' x acted.state step.done.is step.done.others y b level covers) [
               | inl here ↦
-                  subst (λ z. Covers s z b level) (sym here.0)
+                  subst (λ z. CoversAt s z b level) (sym here.0)
                   (starter_covers start node is b level (covered_before node acted.state acts.covers b level here.1))
               | inr other ↦ other
             ];
@@ -257,6 +257,6 @@ module _ (p : SettingsValue) (s : System) (number : ℕ) (node : NodeState) (fro
 
 -- what is remembered after it
 pub delivery_recalls : (p : SettingsValue) (s : System) (r : WatchMemory) (number : ℕ) (node : NodeState) (from : List ℕ) (body : Body)
-    → IsDelivery p s number node from body → recalled s r (Delivers number) ≡ recalled_asked r node (asked node from body)
-unfolding recalled
+    → IsDelivery p s number node from body → watch_recalled s r (Delivers number) ≡ recalled_asked r node (asked node from body)
+unfolding watch_recalled
 delivery_recalls p s r number node from body is = rw (is_found p s number node from body (due p s number node from body is), is.at) refl

@@ -20,7 +20,7 @@ use Rattle.tap_rule.specs.Event.Event.{Starts, Takes}
 use Rattle.tap_rule.specs.Event.Start.{Abandon, Join}
 use Rattle.tap_rule.specs.FrameRules.{frame_at_joining, rule_of_frame}
 use Rattle.tap_rule.specs.Joining.{welcomes_once}
-use Rattle.tap_rule.specs.Laws.{frame_to}
+use Rattle.tap_rule.specs.RuleLaws.{frame_to}
 use Rattle.tap_rule.specs.Node.{NodeState, name_of}
 use Rattle.tap_rule.specs.Node.Status.{Joining}
 use Rattle.tap_rule.specs.Reaction.{Reaction, with_pin}
@@ -41,10 +41,10 @@ use Rattle.tap_runs.proofs.Nodes.{one_if}
 use Rattle.tap_runs.proofs.Status.{tells_core}
 use Rattle.tap_runs.proofs.Within.{IsIdle, IsStarting, step_kind}
 use Rattle.tap_safe_runs.specs.Safe.{IsRun}
-use Rattle.tap_safe_runs.proofs.Rules.{frame_goes_on, start_goes_on}
+use Rattle.tap_safe_runs.proofs.GivenUp.{frame_goes_on, start_goes_on}
 use Rattle.tap_safe_runs.proofs.Safe.{runs_are_sound}
-use Rattle.tap_safe_runs.proofs.Taken.{frames_are_received}
-use Rattle.tap_safe_runs.proofs.Told.{core_started, core_step, core_taken}
+use Rattle.tap_safe_runs.proofs.Received.{frames_are_received}
+use Rattle.tap_safe_runs.proofs.ToldCore.{core_started, core_step, core_taken}
 
 -- ---- a frame with which a joining node becomes core
 

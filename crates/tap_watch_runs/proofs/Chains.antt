@@ -20,7 +20,7 @@ use Rattle.tap_rule.specs.Act.{act}
 use Rattle.tap_rule.specs.Covering.{Request, first_request, pins_and_covers, request_of}
 use Rattle.tap_rule.specs.Event.{Start}
 use Rattle.tap_rule.specs.Event.Event.{Takes}
-use Rattle.tap_rule.specs.Laws.{IsCarriedOut, frame_to}
+use Rattle.tap_rule.specs.RuleLaws.{IsCarriedOut, frame_to}
 use Rattle.tap_rule.specs.Node.{NodeState, level_of, name_of}
 use Rattle.tap_rule.specs.Node.Status.{Core}
 use Rattle.tap_rule.specs.Sent.{IsAmong}
@@ -28,11 +28,11 @@ use Rattle.tap_rule.proofs.CoverSteps.{seek_fits}
 use Rattle.tap_safety.specs.Frames.{tell_body}
 use Rattle.tap_safety.specs.Move.Move.{Begins, Delivers}
 use Rattle.tap_safety.specs.Moved.{moved, numbered_frame, starter, taking}
-use Rattle.tap_safety.specs.Step.{IsSent, with_at}
+use Rattle.tap_safety.specs.Exchanges.{IsSent, with_at}
 use Rattle.tap_safety.specs.System.{AmongFrames, IsUnderWay, System}
 use Rattle.tap_safety.specs.Turned.{opened_by, surrogates_with}
-use Rattle.tap_safety.proofs.Moves.{starts, with_at-here, with_at-others}
-use Rattle.tap_safety.proofs.Told.{was_under_way}
+use Rattle.tap_safety.proofs.Moved.{starts, with_at-here, with_at-others}
+use Rattle.tap_safety.proofs.UnderWay.{was_under_way}
 use Rattle.tap_safety.proofs.Said.{Said, said_of}
 use Rattle.tap_safety.proofs.Said.Said.{IsSeek, IsTell}
 use Rattle.tap_moves.specs.ByRule.{taken_at}
@@ -44,12 +44,12 @@ use Rattle.tap_moves.proofs.MovesMade.{by_rule, is_found, starts_none, starts_no
 use Rattle.tap_moves.proofs.SessionsMade.{opened_found}
 use Rattle.tap_safety_moves.specs.Sound.{Sound}
 use Rattle.tap_safety_moves.proofs.Delivered.{is_delivery}
-use Rattle.tap_watch_runs.specs.Answers.{FirstCover, WatchMemory, none_answered}
-use Rattle.tap_watch_runs.specs.Chains.{ChainsAre, ChainsLead, LeadsTo, MoveKeepsChains}
-use Rattle.tap_watch_runs.specs.Recalled.{asked, asked_at_core, asked_by_seek, chain_to, recalled, recalled_asked, recalled_cover, recalled_first}
+use Rattle.tap_watch_runs.specs.SlotAnswers.{FirstCover, WatchMemory, none_answered}
+use Rattle.tap_watch_runs.specs.Chains.{ChainLeadsTo, ChainsAre, ChainsLead, MoveKeepsChains}
+use Rattle.tap_watch_runs.specs.Recalled.{asked, asked_at_core, asked_by_seek, chain_to, recalled_asked, recalled_cover, recalled_first, watch_recalled}
 use Rattle.tap_watch_runs.proofs.Aside.{OpensNoRoot, frame_aside}
 use Rattle.tap_watch_runs.proofs.Asks.{begins_aside, core_asks, core_only, delivery_recalls, nothing_begins}
-use Rattle.tap_watch_runs.proofs.Grown.{new_chain, old_chain}
+use Rattle.tap_watch_runs.proofs.AnswersGrow.{new_chain, old_chain}
 use Rattle.tap_watch_runs.proofs.Spread.{covers_tell}
 
 -- ---- surrogates stay
@@ -58,8 +58,8 @@ use Rattle.tap_watch_runs.proofs.Spread.{covers_tell}
 abbrev SurrogatesStay : System → System → Type 0
 SurrogatesStay s s' = (b x : List ℕ) → s.surrogate b ≡ Some x → s'.surrogate b ≡ Some x
 
-led_on : (s s' : System) (chain : List (List ℕ)) (x b : List ℕ) (prefix : ℕ) → SurrogatesStay s s' → LeadsTo s chain x b prefix
-    → LeadsTo s' chain x b prefix
+led_on : (s s' : System) (chain : List (List ℕ)) (x b : List ℕ) (prefix : ℕ) → SurrogatesStay s s' → ChainLeadsTo s chain x b prefix
+    → ChainLeadsTo s' chain x b prefix
 led_on s s' chain x b prefix stay led = record {
   above = led.above;
   first = led.first;
@@ -207,11 +207,11 @@ module _ (p : SettingsValue) (s : System) (number : ℕ) (node : NodeState) (fro
 -- the chain to a node that is asked so, in the system after
 record IsLed (p : SettingsValue) (s : System) (r : WatchMemory) (number : ℕ) (node : NodeState) (request : Request) : Type 0 where
   stays : SurrogatesStay s (after_delivery p s number)
-  leads : LeadsTo (after_delivery p s number) (chain_to r node request) (name_of node) request.joiner request.prefix
+  leads : ChainLeadsTo (after_delivery p s number) (chain_to r node request) (name_of node) request.joiner request.prefix
 
 -- a chain is longer by one node
-led_longer : (s : System) (chain : List (List ℕ)) (x y b : List ℕ) (prefix : ℕ) → LeadsTo s chain x b prefix
-    → LeadsTo s (y ∷ chain) y b prefix
+led_longer : (s : System) (chain : List (List ℕ)) (x y b : List ℕ) (prefix : ℕ) → ChainLeadsTo s chain x b prefix
+    → ChainLeadsTo s (y ∷ chain) y b prefix
 led_longer s chain x y b prefix led = record {
   above = chain;
   first = refl;
@@ -272,19 +272,19 @@ module _ (p : SettingsValue) (s : System) (r : WatchMemory) (number : ℕ) (node
       (opened_found node.sessions (taken_at node from body).state.sessions (Node below.name below.session) below.depth below.waiting
       (due p s number node from body is).is_node.sessions below.sessions) tt b ∙ seated
 
-  delivery_leads : ChainsLead then (recalled s r (Delivers number))
+  delivery_leads : ChainsLead then (watch_recalled s r (Delivers number))
   delivery_leads =
       subst (ChainsLead then) (sym (delivery_recalls p s r number node from body is)) (by (asked node from body) refl)
     where
       by : (found : Option Request) → asked node from body ≡ found → ChainsLead then (recalled_asked r node found)
       by None none =
           let stay = none_seated (frame_aside node from body is.known none).opened in
-          none_chains p s r number node from body is (LeadsTo s) (LeadsTo then)
+          none_chains p s r number node from body is (ChainLeadsTo s) (ChainLeadsTo then)
           (λ chain x b prefix led. led_on s then chain x b prefix stay led) chains none
       by (Some request) asks =
           let core = core_only node.status node from body request asks in
           let led = body_led p s r number node from chains core.0 (said_of body) request is core.1 in
-          cover_chains p s r number node from body is (LeadsTo s) (LeadsTo then)
+          cover_chains p s r number node from body is (ChainLeadsTo s) (ChainLeadsTo then)
           (λ chain x b prefix before. led_on s then chain x b prefix led.stays before) chains request
           (core_asks node from (said_of body) request core.0 is.known core.1) led.leads
 
@@ -292,7 +292,7 @@ module _ (p : SettingsValue) (s : System) (r : WatchMemory) (number : ℕ) (node
 
 frame_leads : (p : SettingsValue) (s : System) (r : WatchMemory) (number : ℕ) (frame : Frame) (node : NodeState) → Sound p s
     → ChainsLead s r → AmongFrames number frame s.frames → s.node frame.to ≡ Some node
-    → ChainsLead (after_delivery p s number) (recalled s r (Delivers number))
+    → ChainsLead (after_delivery p s number) (watch_recalled s r (Delivers number))
 frame_leads p s r number frame node sound chains among at =
     delivery_leads p s r number node frame.from frame.body (is_delivery p s number frame node sound among at) chains
 
@@ -309,10 +309,10 @@ start_leads p s r x start chains = by (starter p s x start) refl
 
     by : (found : Option NodeState) → starter p s x start ≡ found → ChainsLead s' r
     by found is =
-        start_chains (LeadsTo s) (LeadsTo s') (λ chain y b prefix led. led_on s s' chain y b prefix (stays found is) led) p s x start r chains
+        start_chains (ChainLeadsTo s) (ChainLeadsTo s') (λ chain y b prefix led. led_on s s' chain y b prefix (stays found is) led) p s x start r chains
 
 pub move_keeps_chains : MoveKeepsChains
-unfolding recalled
+unfolding watch_recalled
 move_keeps_chains p s r (Begins x start) may sound chains = start_leads p s r x start chains
 move_keeps_chains p s r (Delivers number) may sound chains =
     frame_leads p s r number may.frame may.receiver.state sound chains may.among may.receiver.is

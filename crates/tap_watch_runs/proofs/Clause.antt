@@ -12,7 +12,7 @@ use Rattle.tap_table.proofs.Found.{linked_is_name, linked_is_other}
 use Rattle.tap_table.proofs.Slots.{number_back, place_inside}
 use Rattle.tap_wire.specs.declared.frame.Body.TheVariants.{Done}
 use Rattle.tap_log.specs.declared.record.Record.{Record}
-use Rattle.tap_rule.specs.Laws.{frame_to}
+use Rattle.tap_rule.specs.RuleLaws.{frame_to}
 use Rattle.tap_rule.specs.Node.{NodeState, link_to}
 use Rattle.tap_rule.specs.Sent.{IsAmong}
 use Rattle.tap_safety.specs.System.{System}
@@ -25,7 +25,7 @@ use Rattle.tap_runs.specs.Beginning.{Beginning}
 use Rattle.tap_runs.specs.Course.{Follows, move_of_group, moved_by, system_of}
 use Rattle.tap_runs.specs.Named.{HaveNames}
 use Rattle.tap_runs.proofs.Frames.{taken_moves}
-use Rattle.tap_runs.proofs.Growing.{grown_system}
+use Rattle.tap_runs.proofs.CourseGrows.{grown_system}
 use Rattle.tap_safety_moves.specs.Sound.{Sound}
 use Rattle.tap_safety_moves.proofs.Delivered.{is_delivery}
 use Rattle.tap_lawful.specs.Next.{beginning_in}
@@ -34,14 +34,14 @@ use Rattle.tap_safe_runs.specs.Safe.{IsRun}
 use Rattle.tap_safe_runs.proofs.Lawful.{lawful_logs_are_safe}
 use Rattle.tap_safe_runs.proofs.Safe.{run_at_moment, run_more, runs_are_sound}
 use Rattle.tap_safe_runs.proofs.Each.{each_of_run}
-use Rattle.tap_watch_runs.specs.Answers.{Answer, WatchMemory}
+use Rattle.tap_watch_runs.specs.SlotAnswers.{Answer, WatchMemory}
 use Rattle.tap_watch_runs.specs.Clause.{CoreHasAnswersNow, HasAnswers, HasLinkIn, IsFullIn, LawfulWatchClauseHolds, WatchClauseHolds}
 use Rattle.tap_watch_runs.specs.Had.{InOneSlot, IsHad}
 use Rattle.tap_watch_runs.specs.Recalled.{asked_at, recalled_asked}
-use Rattle.tap_watch_runs.specs.Runs.{recalled_by, watches_of}
+use Rattle.tap_watch_runs.specs.Runs.{watch_recalled_by, watches_of}
 use Rattle.tap_watch_runs.proofs.Becomes.{TakesDone, takes_done}
 use Rattle.tap_watch_runs.proofs.Asks.{delivery_recalls}
-use Rattle.tap_watch_runs.proofs.Told.{run_told}
+use Rattle.tap_watch_runs.proofs.ChainsTold.{run_told}
 use Rattle.tap_watch_runs.proofs.Runs.{grown_watches, run_answers_kept, run_chains_kept, run_core_has, run_watches_kept}
 
 -- ---- slots
@@ -116,8 +116,8 @@ module _ (b : Beginning) (before group : List Record) (run : IsRun b before) (fo
   watches_are : watches_of (before ++ group) ≡ r
   watches_are =
       grown_watches b before group run.course run.going follows
-      ∙ ap (λ g. recalled_by s r (move_of_group before g)) done.group_is
-      ∙ ap (recalled_by s r) (taken_moves before done.number done.items)
+      ∙ ap (λ g. watch_recalled_by s r (move_of_group before g)) done.group_is
+      ∙ ap (watch_recalled_by s r) (taken_moves before done.number done.items)
       ∙ delivery_recalls p s r done.number done.node done.from Done delivery
       ∙ ap (λ status. recalled_asked r done.node (asked_at status done.node done.from Done)) done.joins
 

@@ -6,7 +6,7 @@ use Rattle.std.proofs.lemmas.List.Sums.{length-filter}
 use Rattle.std.proofs.lemmas.Option.{get_or_from_slice_get, slice_get_within}
 use Rattle.tap_name.specs.Settings.{SettingsValue}
 use Rattle.tap_name.specs.Order.{AreAscending, name_cmp}
-use Rattle.tap_link.specs.Entry.{Entry}
+use Rattle.tap_link.specs.Entry.{LinkEntry}
 use Rattle.tap_link.specs.LinkSet.{is_settled, kind_of, settled_count}
 use Rattle.tap_link.specs.declared.kind.Kind.{Kind}
 use Rattle.tap_link.specs.declared.kind.Kind.TheVariants.{Pin, Settled, Leaving as LeavingKind}
@@ -44,14 +44,14 @@ settled_kind Settled is = refl
 settled_kind LeavingKind is = cc
 
 -- a settled link in the slot of a number stands there, and is found
-module _ (t : TableValue) (valid : IsTable t) (number : ℕ) (e : Entry (List ℕ)) (among : IsAmong e (get_or t.slots number [])) where
+module _ (t : TableValue) (valid : IsTable t) (number : ℕ) (e : LinkEntry (List ℕ)) (among : IsAmong e (get_or t.slots number [])) where
   stands : slot_number t.settings.base (place_of t.owner e.target) ≡ number
   stands =
       let links = get_or t.slots number [] in
       let place = among_place e links among in
       let within = slice_get_within links place.0 e place.1 in
       let at : StandsIn t.settings t.owner number (get_or links place.0 e).target = valid.standing number place.0 e within in
-      let P : Entry (List ℕ) → Type 0 = λ f. StandsIn t.settings t.owner number f.target in
+      let P : LinkEntry (List ℕ) → Type 0 = λ f. StandsIn t.settings t.owner number f.target in
       (subst P (get_or_from_slice_get links place.0 e e place.1) at).place
 
   pub found : kind_in t e.target ≡ Some e.kind
@@ -62,23 +62,23 @@ module _ (t : TableValue) (valid : IsTable t) (number : ℕ) (e : Entry (List �
       ∙ link_gives links place.0 e (valid.sets number).ascending place.1
 
 module _ (t : TableValue) (name : List ℕ) (valid : IsTable t) where
-  abbrev is_settled_link : Entry (List ℕ) → Bool
+  abbrev is_settled_link : LinkEntry (List ℕ) → Bool
   is_settled_link e = is_settled (Some e.kind)
 
-  abbrev settled_links : List (Entry (List ℕ))
+  abbrev settled_links : List (LinkEntry (List ℕ))
   settled_links = map (λ e. e) (filter is_settled_link (links_near t name))
 
   abbrev settled_names : List (List ℕ)
-  settled_names = map (λ (e : Entry (List ℕ)). e.target) settled_links
+  settled_names = map (λ (e : LinkEntry (List ℕ)). e.target) settled_links
 
   ascend : AreAscending settled_names
   ascend =
-      picked-ascend (λ e. e) (λ (e : Entry (List ℕ)). e.target) (λ e. refl) is_settled_link (links_near t name)
+      picked-ascend (λ e. e) (λ (e : LinkEntry (List ℕ)). e.target) (λ e. refl) is_settled_link (links_near t name)
       (valid.sets (slot_number t.settings.base (place_of t.owner name))).ascending
 
   counted : length settled_names ≡ settled_count (links_near t name)
   counted =
-      length-map settled_links (λ (e : Entry (List ℕ)). e.target)
+      length-map settled_links (λ (e : LinkEntry (List ℕ)). e.target)
       ∙ length-map (filter is_settled_link (links_near t name)) (λ e. e) ∙ length-filter is_settled_link (links_near t name)
 
   many : has_room_near t name ≡ false → t.settings.width ≤ length settled_names
@@ -88,10 +88,10 @@ module _ (t : TableValue) (name : List ℕ) (valid : IsTable t) where
 
   each : (x : List ℕ) → IsAmong x settled_names → (kind_in t x ≡ Some Settled) × InOneSlot t.settings t.owner x name
   each x among =
-      let link = among-map_from (λ (e : Entry (List ℕ)). e.target) x settled_links among in
-      let same = among-map_from (λ (e : Entry (List ℕ)). e) link.0 (filter is_settled_link (links_near t name)) link.1 in
+      let link = among-map_from (λ (e : LinkEntry (List ℕ)). e.target) x settled_links among in
+      let same = among-map_from (λ (e : LinkEntry (List ℕ)). e) link.0 (filter is_settled_link (links_near t name)) link.1 in
       let there = among_filter is_settled_link same.0 (links_near t name) same.1 in
-      let is : x ≡ same.0.target = link.2 ∙ ap (λ (e : Entry (List ℕ)). e.target) same.2 in
+      let is : x ≡ same.0.target = link.2 ∙ ap (λ (e : LinkEntry (List ℕ)). e.target) same.2 in
       let number = slot_number t.settings.base (place_of t.owner name) in
       let kind : kind_in t same.0.target ≡ Some Settled = found t valid number same.0 there.0 ∙ ap Some (settled_kind same.0.kind there.1) in
       subst (λ y. (kind_in t y ≡ Some Settled) × InOneSlot t.settings t.owner y name) (sym is) (kind, stands t valid number same.0 there.0)

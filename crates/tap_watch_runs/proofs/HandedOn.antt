@@ -37,19 +37,19 @@ use Rattle.tap_wire.specs.declared.frame.TellFields.{TellFields}
 use Rattle.tap_rule.specs.Covering.{Request, first_request, request_of}
 use Rattle.tap_rule.specs.Event.{Acted}
 use Rattle.tap_rule.specs.JoinSteps.{CoverStep, CoversAs, SeekStep, SpreadStep, pin_words, tells_for}
-use Rattle.tap_rule.specs.Laws.{frame_to}
+use Rattle.tap_rule.specs.RuleLaws.{frame_to}
 use Rattle.tap_rule.specs.Node.{NodeState, level_of, name_of, settings_of}
 use Rattle.tap_rule.specs.Reaction.{Message, message}
 use Rattle.tap_rule.specs.Sending.{by_receiver, lay_frame, link_frame, message_frame}
 use Rattle.tap_rule.specs.Sent.{AreSentInOrder, IsAmong}
-use Rattle.tap_rule.specs.Steps.{IsParentAnswered}
+use Rattle.tap_rule.specs.LinkSteps.{IsParentAnswered}
 use Rattle.tap_rule.specs.Hellos.{core_hello}
 use Rattle.tap_rule.proofs.Among.{among-either, among-map_from}
 use Rattle.tap_rule.proofs.CoverSteps.{seek_fits, seek_law, tell_law}
 use Rattle.tap_rule.proofs.Fit.{fit_law}
 use Rattle.tap_rule.proofs.JoinSteps.{IsTellFit, tell_fits}
 use Rattle.tap_safety.specs.Frames.{hello_body, tell_body}
-use Rattle.tap_safety.specs.Step.{IsSent}
+use Rattle.tap_safety.specs.Exchanges.{IsSent}
 use Rattle.tap_moves.specs.ByRule.{taken_at}
 use Rattle.tap_moves.proofs.CoverMade.{joiner_link, hello_made, with_joiner, with_joiner_is}
 use Rattle.tap_moves.proofs.Got.{among_got, sent_among}

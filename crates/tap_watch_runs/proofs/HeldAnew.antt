@@ -33,9 +33,9 @@ use Rattle.tap_rule.proofs.CoverSteps.{seek_fits, seek_law, tell_law}
 use Rattle.tap_rule.proofs.JoinSteps.{IsTellFit, done_law, tell_fits}
 use Rattle.tap_safety.specs.Frames.{hello_body, tell_body}
 use Rattle.tap_safety.specs.Seeking.{HasNode}
-use Rattle.tap_safety.specs.Step.{IsSent}
+use Rattle.tap_safety.specs.Exchanges.{IsSent}
 use Rattle.tap_safety.specs.System.{AmongFrames, AmongOffered, HelloNames, IsCoreNode, IsUnderWay, System}
-use Rattle.tap_safety.proofs.Told.{sent_under_way}
+use Rattle.tap_safety.proofs.UnderWay.{sent_under_way}
 use Rattle.tap_moves.specs.ByRule.{taken_at}
 use Rattle.tap_moves.specs.Delivered.{after_delivery, after_start}
 use Rattle.tap_moves.specs.InvariantLaws.{IsDelivery}
@@ -43,13 +43,13 @@ use Rattle.tap_moves.proofs.CoverMade.{hello_made, settled_before, with_joiner, 
 use Rattle.tap_moves.proofs.Got.{offered_got, sent_among}
 use Rattle.tap_moves.proofs.InvariantMoves.{due, joins_here, name_at, of_node, told, told_name, way}
 use Rattle.tap_moves.proofs.MovesMade.{by_rule}
-use Rattle.tap_rule.specs.Laws.{frame_to}
-use Rattle.tap_watch_runs.specs.Answers.{Answer, WatchMemory, answers_for, none_answered}
-use Rattle.tap_watch_runs.specs.Watched.{recalled_moves}
-use Rattle.tap_safety_moves.specs.Moves.{after_moves, may_run}
+use Rattle.tap_rule.specs.RuleLaws.{frame_to}
+use Rattle.tap_watch_runs.specs.SlotAnswers.{Answer, WatchMemory, answers_for, none_answered}
+use Rattle.tap_watch_runs.specs.Watched.{watch_recalled_moves}
+use Rattle.tap_safety_moves.specs.SoundMoves.{after_moves, may_run}
 use Rattle.tap_safety_moves.specs.Sound.{Sound}
 use Rattle.tap_safety_moves.proofs.Members.{sound_at_rest}
-use Rattle.tap_safety_moves.proofs.Moves.{move_keeps}
+use Rattle.tap_safety_moves.proofs.SoundMoves.{move_keeps}
 use Rattle.tap_safety_moves.proofs.Delivered.{is_delivery}
 use Rattle.tap_safety.proofs.SessionLaws.{quiet_law}
 use Rattle.tap_safety.specs.AtRest.{system_at_rest}
@@ -68,7 +68,7 @@ use Rattle.tap_multicast.specs.Targets.{targets}
 use Rattle.tap_multicast.specs.declared.target.Target.{Target}
 use Rattle.tap_name.specs.declared.slot.Offered.{Offered}
 use Rattle.tap_watch_runs.specs.Had.{AnswersAreHeld, AnswersAtRest, CoreHasAnswers, IsHeld, MoveKeepsAnswers, RunAnswersAreHeld, WasCore, was_core}
-use Rattle.tap_watch_runs.specs.Recalled.{asked, asked_at_core, asked_by_seek, recalled, recalled_asked, recalled_cover, recalled_first, table_for}
+use Rattle.tap_watch_runs.specs.Recalled.{asked, asked_at_core, asked_by_seek, recalled_asked, recalled_cover, recalled_first, table_for, watch_recalled}
 use Rattle.tap_watch_runs.proofs.HeldMoves.{delivery_step, join_held, start_step}
 use Rattle.tap_watch_runs.proofs.HeldSteps.{IsHeldStep, answers_kept, still_core, still_known}
 use Rattle.tap_watch_runs.proofs.Full.{full_stays}
@@ -288,14 +288,14 @@ module _ (p : SettingsValue) (s : System) (r : WatchMemory) (number : ℕ) (node
       let core = core_only node.status node from body request asks in
       cover_held p s r number node from body is held request (body_asked p s number node from (said_of body) request is core.0 core.1)
 
-  delivery_holds : AnswersAreHeld p (after_delivery p s number) (recalled s r (Delivers number))
+  delivery_holds : AnswersAreHeld p (after_delivery p s number) (watch_recalled s r (Delivers number))
   delivery_holds =
       subst (AnswersAreHeld p (after_delivery p s number)) (sym (delivery_recalls p s r number node from body is))
       (by_asked (asked node from body) refl)
 
 frame_holds : (p : SettingsValue) (s : System) (r : WatchMemory) (number : ℕ) (frame : Frame) (node : NodeState) → Sound p s
     → AnswersAreHeld p s r → AmongFrames number frame s.frames → s.node frame.to ≡ Some node
-    → AnswersAreHeld p (after_delivery p s number) (recalled s r (Delivers number))
+    → AnswersAreHeld p (after_delivery p s number) (watch_recalled s r (Delivers number))
 frame_holds p s r number frame node sound held among at =
     let due = is_delivery p s number frame node sound among at in
     delivery_holds p s r number node frame.from frame.body due held
@@ -321,7 +321,7 @@ start_holds p s r x (StartCast cast level word) may held =
     start_kept p s r x (StartCast cast level word) may.acts.state may.acts.is may.acts.is may held
 
 pub move_keeps_answers : MoveKeepsAnswers
-unfolding recalled
+unfolding watch_recalled
 move_keeps_answers p s r (Begins x start) may sound held = start_holds p s r x start may held
 move_keeps_answers p s r (Delivers number) may sound held =
     frame_holds p s r number may.frame may.receiver.state sound held may.among may.receiver.is
@@ -333,10 +333,10 @@ answers_at_rest p members are =
     record { known = λ answer among. absurd among; core = λ answer among. absurd among; held = λ answer among. absurd among }
 
 run_from : (p : SettingsValue) (s : System) (r : WatchMemory) (moves : List Move) → Sound p s → AnswersAreHeld p s r → may_run p s moves
-    → AnswersAreHeld p (after_moves p s moves) (recalled_moves p s r moves)
+    → AnswersAreHeld p (after_moves p s moves) (watch_recalled_moves p s r moves)
 run_from p s r [] sound held may = held
 run_from p s r (move ∷ moves) sound held may =
-    run_from p (moved p s move) (recalled s r move) moves (move_keeps p s move may.0 sound)
+    run_from p (moved p s move) (watch_recalled s r move) moves (move_keeps p s move may.0 sound)
     (move_keeps_answers p s r move may.0 sound held) may.1
 
 pub run_answers : RunAnswersAreHeld

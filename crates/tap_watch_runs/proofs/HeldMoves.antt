@@ -12,7 +12,7 @@ use Rattle.tap_rule.specs.Act.{act}
 use Rattle.tap_rule.specs.Event.{Acted, Start}
 use Rattle.tap_rule.specs.Event.Event.{Starts}
 use Rattle.tap_rule.specs.Event.Start.{Abandon, Cast as StartCast, Find as StartFind, Join, Leave as StartLeave, Publish, Withdraw}
-use Rattle.tap_rule.specs.Laws.{frame_to}
+use Rattle.tap_rule.specs.RuleLaws.{frame_to}
 use Rattle.tap_rule.specs.Node.{NodeState, link_to, name_of, settings_of}
 use Rattle.tap_rule.specs.Node.Status.{Ceased, Core, Joining}
 use Rattle.tap_rule.specs.Sent.{IsAmong}
@@ -21,18 +21,18 @@ use Rattle.tap_rule.proofs.StartSteps.{give_up_law}
 use Rattle.tap_safety.specs.Frames.{HelloFields, hello_body}
 use Rattle.tap_safety.specs.Move.{may_start}
 use Rattle.tap_safety.specs.Moved.{starter}
-use Rattle.tap_safety.specs.Step.{numbered_from}
+use Rattle.tap_safety.specs.Exchanges.{numbered_from}
 use Rattle.tap_safety.specs.System.{AmongOffered, HelloNames, System}
 use Rattle.tap_safety.specs.Ties.{status_of}
-use Rattle.tap_safety.proofs.Moves.{starts}
-use Rattle.tap_safety.proofs.Told.{among_left, still_under_way}
+use Rattle.tap_safety.proofs.Moved.{starts}
+use Rattle.tap_safety.proofs.UnderWay.{among_left, still_under_way}
 use Rattle.tap_safety.proofs.Said.{said_of}
 use Rattle.tap_moves.specs.ByRule.{taken_at}
 use Rattle.tap_moves.specs.Delivered.{after_delivery, after_start}
 use Rattle.tap_moves.specs.InvariantLaws.{IsDelivery}
 use Rattle.tap_moves.proofs.InvariantMoves.{due, way}
 use Rattle.tap_moves.proofs.MovesMade.{by_rule}
-use Rattle.tap_watch_runs.specs.Answers.{WatchMemory}
+use Rattle.tap_watch_runs.specs.SlotAnswers.{WatchMemory}
 use Rattle.tap_watch_runs.specs.Had.{AnswersAreHeld, IsHad, WasCore, was_core}
 use Rattle.tap_watch_runs.proofs.Follow.{frame_follows, start_follows}
 use Rattle.tap_watch_runs.proofs.Full.{full_stays}

@@ -6,7 +6,7 @@ use Rattle.tap_rule.specs.Node.Status.{Joining}
 use Rattle.tap_safety.specs.Seeking.{HasNode}
 use Rattle.tap_safety.specs.System.{HelloNames, System}
 use Rattle.tap_moves.proofs.Got.{same_name}
-use Rattle.tap_watch_runs.specs.Answers.{WatchMemory}
+use Rattle.tap_watch_runs.specs.SlotAnswers.{WatchMemory}
 use Rattle.tap_watch_runs.specs.Had.{AnswersAreHeld, IsHad, IsHeld, WasCore, was_core}
 use Rattle.tap_watch_runs.proofs.Follow.{FollowsOn}
 

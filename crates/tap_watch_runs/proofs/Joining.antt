@@ -14,7 +14,7 @@ use Rattle.tap_wire.specs.declared.frame.Body.{Body}
 use Rattle.tap_wire.specs.declared.frame.Body.TheVariants.{Seek, Done, Release, Leave, Left, Gone, Forget}
 use Rattle.tap_wire.specs.declared.frame.TellFields.{TellFields}
 use Rattle.tap_rule.specs.FrameRules.{frame_at_joining, rule_of_frame}
-use Rattle.tap_rule.specs.Laws.{frame_to}
+use Rattle.tap_rule.specs.RuleLaws.{frame_to}
 use Rattle.tap_rule.specs.Node.{NodeState, link_to, name_of, settings_of}
 use Rattle.tap_rule.specs.Node.Status.{Joining, Core, Ceased}
 use Rattle.tap_rule.specs.Sent.{IsAmong}

@@ -1,8 +1,8 @@
 pub mod Aside
 pub mod Spread
 pub mod Asks
-pub mod Grown
-pub mod Moves
+pub mod AnswersGrow
+pub mod WatchesKept
 pub mod Chains
 pub mod Runs
 pub mod Full
@@ -12,6 +12,6 @@ pub mod HeldSteps
 pub mod HeldMoves
 pub mod HeldAnew
 pub mod Becomes
-pub mod Told
+pub mod ChainsTold
 pub mod Clause
 pub mod HandedOn

@@ -12,7 +12,7 @@ use Rattle.tap_safety.specs.System.{System}
 use Rattle.tap_runs.specs.Beginning.{Beginning, IsWithinLimits, begin_record}
 use Rattle.tap_runs.specs.Course.{Follows, IsCourse, move_of_group, moved_by, system_after, system_from, system_of}
 use Rattle.tap_runs.specs.Named.{HaveNames}
-use Rattle.tap_runs.proofs.Growing.{by_groups, course_grows_holds, grown, grown_groups, grown_system, log_is, start_system}
+use Rattle.tap_runs.proofs.CourseGrows.{by_groups, course_grows_holds, grown, grown_groups, grown_system, log_is, start_system}
 use Rattle.tap_safety_moves.specs.Sound.{Sound}
 use Rattle.tap_safe_runs.specs.Moments.{AtEachMoment}
 use Rattle.tap_safe_runs.specs.Safe.{IsRun}
@@ -20,27 +20,27 @@ use Rattle.tap_safe_runs.proofs.Possible.{group_may_move}
 use Rattle.tap_safe_runs.proofs.Safe.{run_at_moment, runs_are_sound, steps_after, steps_before}
 use Rattle.tap_safe_runs.proofs.Lawful.{lawful_logs_are_safe}
 use Rattle.tap_lawful.specs.Next.{beginning_in}
-use Rattle.tap_watch_runs.specs.Answers.{WatchMemory, none_answered}
+use Rattle.tap_watch_runs.specs.SlotAnswers.{WatchMemory, none_answered}
 use Rattle.tap_watch_runs.specs.Chains.{ChainsLead}
 use Rattle.tap_watch_runs.specs.Had.{AnswersAreHeld}
 use Rattle.tap_watch_runs.specs.Watched.{IsAnswered, WatchesAreSound}
-use Rattle.tap_watch_runs.specs.Runs.{LawfulWatchesHold, RunAnswersAreKept, RunChainsAreKept, RunCoreHasAnswers, RunCoversAreAnswered, RunWatchesAreKept, WatchesHoldIn, recalled_by, watches_after, watches_from, watches_of}
+use Rattle.tap_watch_runs.specs.Runs.{LawfulWatchesHold, RunAnswersAreKept, RunChainsAreKept, RunCoreHasAnswers, RunCoversAreAnswered, RunWatchesAreKept, WatchesHoldIn, watch_recalled_by, watches_after, watches_from, watches_of}
 use Rattle.tap_watch_runs.proofs.Chains.{move_keeps_chains, no_chains}
 use Rattle.tap_watch_runs.proofs.HeldAnew.{answers_at_rest, core_has, move_keeps_answers}
-use Rattle.tap_watch_runs.proofs.Moves.{move_keeps_watches, watches_at_rest}
+use Rattle.tap_watch_runs.proofs.WatchesKept.{move_keeps_watches, watches_at_rest}
 
 -- ---- what is remembered after one more group
 
 watches_after-push : (p : SettingsValue) (before : List Record) (s : System) (r : WatchMemory) (groups : List (List Record))
     (group : List Record) → watches_after p before s r (groups ++ group ∷ [])
-    ≡ recalled_by (system_after p before s groups) (watches_after p before s r groups) (move_of_group (before ++ records_of groups) group)
-watches_after-push p before s r [] group = ap (λ l. recalled_by s r (move_of_group l group)) (sym (append-nil before))
+    ≡ watch_recalled_by (system_after p before s groups) (watches_after p before s r groups) (move_of_group (before ++ records_of groups) group)
+watches_after-push p before s r [] group = ap (λ l. watch_recalled_by s r (move_of_group l group)) (sym (append-nil before))
 watches_after-push p before s r (one ∷ groups) group =
     let move = move_of_group before one in
     let next = moved_by p s move in
-    let recall = recalled_by s r move in
+    let recall = watch_recalled_by s r move in
     watches_after-push p (before ++ one) next recall groups group
-    ∙ ap (λ l. recalled_by (system_after p (before ++ one) next groups) (watches_after p (before ++ one) next recall groups)
+    ∙ ap (λ l. watch_recalled_by (system_after p (before ++ one) next groups) (watches_after p (before ++ one) next recall groups)
     (move_of_group l group)) (append_assoc before one (records_of groups))
 
 watches_from-begin : (b : Beginning) (groups : List (List Record))
@@ -56,7 +56,7 @@ unfolding system_from
 system_from-begin b groups = refl
 
 pub grown_watches : (b : Beginning) (log group : List Record) → IsCourse b log → is_ended log ≡ false → Follows b log group
-    → watches_of (log ++ group) ≡ recalled_by (system_of log) (watches_of log) (move_of_group log group)
+    → watches_of (log ++ group) ≡ watch_recalled_by (system_of log) (watches_of log) (move_of_group log group)
 grown_watches b log group course going follows =
     let p = b.settings in
     let start = begin_record b ∷ [] in
@@ -65,11 +65,11 @@ grown_watches b log group course going follows =
     ∙ ap (watches_from start) (grown_groups b log group course going follows)
     ∙ watches_from-begin b (groups_of log ++ group ∷ [])
     ∙ watches_after-push p start rest none_answered (groups_of log) group
-    ∙ ap (λ l. recalled_by (system_after p start rest (groups_of log)) (watches_after p start rest none_answered (groups_of log))
+    ∙ ap (λ l. watch_recalled_by (system_after p start rest (groups_of log)) (watches_after p start rest none_answered (groups_of log))
     (move_of_group l group)) (log_is b log course going)
-    ∙ ap (λ s. recalled_by s (watches_after p start rest none_answered (groups_of log)) (move_of_group log group))
+    ∙ ap (λ s. watch_recalled_by s (watches_after p start rest none_answered (groups_of log)) (move_of_group log group))
     (sym (ap (λ l. system_from l (groups_of log)) course.begins ∙ system_from-begin b (groups_of log)))
-    ∙ ap (λ r. recalled_by (system_of log) r (move_of_group log group))
+    ∙ ap (λ r. watch_recalled_by (system_of log) r (move_of_group log group))
     (sym (ap (λ l. watches_from l (groups_of log)) course.begins ∙ watches_from-begin b (groups_of log)))
 
 -- ---- it is kept
@@ -92,7 +92,7 @@ module _ (b : Beginning) where
     sound = runs_are_sound b log (record { course = course; going = going; steps = before })
 
     moved_watches : (move : Option Move) → move_of_group log group ≡ move
-        → AreAll b.settings (moved_by b.settings (system_of log) move) (recalled_by (system_of log) (watches_of log) move)
+        → AreAll b.settings (moved_by b.settings (system_of log) move) (watch_recalled_by (system_of log) (watches_of log) move)
     moved_watches None is = kept
     moved_watches (Some move) is =
         let may = group_may_move b log group move course going sound.invariant.basis follows steps is in (

@@ -27,7 +27,7 @@ use Rattle.tap_rule.specs.Answers.{answer_for, with_session}
 use Rattle.tap_rule.specs.Covering.{Request, answers_awaited, covers_as, greeting, pins_and_covers, tell_for, with_level}
 use Rattle.tap_rule.specs.Event.{Acted}
 use Rattle.tap_rule.specs.JoinSteps.{found_for}
-use Rattle.tap_rule.specs.Laws.{IsCarriedOut}
+use Rattle.tap_rule.specs.RuleLaws.{IsCarriedOut}
 use Rattle.tap_rule.specs.Node.{NodeState, level_of, name_of}
 use Rattle.tap_rule.specs.Reaction.{Message, Reaction, pin_word, sends, with_pin, with_words}
 use Rattle.tap_rule.specs.Sending.{lay_frame, link_frame}
@@ -35,9 +35,9 @@ use Rattle.tap_rule.specs.Sent.{AreSent, IsAmong}
 use Rattle.tap_rule.specs.Hellos.{core_hello}
 use Rattle.tap_rule.proofs.Among.{among-either, among-map_from}
 use Rattle.tap_safety.specs.Frames.{tell_body}
-use Rattle.tap_safety.specs.Step.{IsSent}
+use Rattle.tap_safety.specs.Exchanges.{IsSent}
 use Rattle.tap_moves.proofs.InSession.{only_one}
-use Rattle.tap_watch_runs.specs.Answers.{Answer, answer_as, answer_of, answer_with, answers_for}
+use Rattle.tap_watch_runs.specs.SlotAnswers.{Answer, answer_as, answer_of, answer_with, answers_for}
 use Rattle.tap_watch_runs.specs.Recalled.{table_for}
 
 -- ---- which Tells are sent

@@ -14,11 +14,11 @@ use Rattle.tap_safety.specs.Move.{Move, may_move}
 use Rattle.tap_safety.specs.Moved.{moved}
 use Rattle.tap_safety.specs.System.{System, IsUnderWay}
 use Rattle.tap_safety_moves.specs.Sound.{Sound}
-use Rattle.tap_watch_runs.specs.Answers.{FirstCover, WatchMemory}
-use Rattle.tap_watch_runs.specs.Recalled.{recalled}
+use Rattle.tap_watch_runs.specs.SlotAnswers.{FirstCover, WatchMemory}
+use Rattle.tap_watch_runs.specs.Recalled.{watch_recalled}
 
 -- the chain begins with x, and ends with the surrogate of b, which shares so many digits with b
-pub record LeadsTo (s : System) (chain : List (List ℕ)) (x b : List ℕ) (prefix : ℕ) : Type 0 where
+pub record ChainLeadsTo (s : System) (chain : List (List ℕ)) (x b : List ℕ) (prefix : ℕ) : Type 0 where
   pub above : List (List ℕ)
   pub first : chain ≡ x ∷ above
   pub surrogate : List ℕ
@@ -35,12 +35,12 @@ pub record ChainsAre (Holds : List (List ℕ) → List ℕ → List ℕ → ℕ 
 
 -- each chain leads from the surrogate to its node
 abbrev pub ChainsLead : System → WatchMemory → Type 0
-ChainsLead s r = ChainsAre (LeadsTo s) s r
+ChainsLead s r = ChainsAre (ChainLeadsTo s) s r
 
 -- each possible move keeps it, if the whole invariant of joins holds before
 abbrev pub MoveKeepsChains : Type 0
 MoveKeepsChains = (p : SettingsValue) (s : System) (r : WatchMemory) (move : Move) → may_move p s move → Sound p s → ChainsLead s r
-    → ChainsLead (moved p s move) (recalled s r move)
+    → ChainsLead (moved p s move) (watch_recalled s r move)
 
 -- ---- in the words of a log
 
@@ -53,7 +53,7 @@ pub record HasTold (p : SettingsValue) (log : List Record) (y x b : List ℕ) : 
   pub sent : IsAmong (Sent number (spelling p (record { from = y; to = x; body = tell_body tell watch }))) log
 
 -- each node on the chain but the last was told of b by the next one
-abbrev pub AreTold : SettingsValue → List Record → List ℕ → List (List ℕ) → Type 0
-AreTold p log b [] = Unit {0}
-AreTold p log b (x ∷ []) = Unit {0}
-AreTold p log b (x ∷ y ∷ others) = HasTold p log y x b × AreTold p log b (y ∷ others)
+abbrev pub ChainIsTold : SettingsValue → List Record → List ℕ → List (List ℕ) → Type 0
+ChainIsTold p log b [] = Unit {0}
+ChainIsTold p log b (x ∷ []) = Unit {0}
+ChainIsTold p log b (x ∷ y ∷ others) = HasTold p log y x b × ChainIsTold p log b (y ∷ others)

@@ -15,12 +15,12 @@ use Rattle.tap_log.specs.declared.record.Record.TheVariants.{Core}
 use Rattle.tap_history.specs.Groups.{EachGroup}
 use Rattle.tap_rule.specs.Node.{NodeState, link_to}
 use Rattle.tap_rule.specs.Sent.{IsAmong}
-use Rattle.tap_safety.specs.System.{Covers}
+use Rattle.tap_safety.specs.System.{CoversAt}
 use Rattle.tap_runs.specs.Course.{system_of}
 use Rattle.tap_lawful.specs.Lawful.{IsPlayed}
-use Rattle.tap_safe_runs.specs.Headline.{AtMomentsOf}
-use Rattle.tap_watch_runs.specs.Answers.{Answer, FirstCover, had_primary}
-use Rattle.tap_watch_runs.specs.Chains.{AreTold, LeadsTo}
+use Rattle.tap_safe_runs.specs.SafeLogs.{AtMomentsOf}
+use Rattle.tap_watch_runs.specs.SlotAnswers.{Answer, FirstCover, had_primary}
+use Rattle.tap_watch_runs.specs.Chains.{ChainIsTold, ChainLeadsTo}
 use Rattle.tap_watch_runs.specs.Runs.{watches_of}
 use Rattle.tap_watch_runs.specs.Watched.{CoveredFirst, IsAnswered}
 
@@ -61,10 +61,10 @@ CoreHasAnswersNow p before group = (n : List ℕ) → IsAmong (Core n) group →
 -- primary. When a joiner becomes core, it has in each slot that was answered for it a link to the name with which it was answered, or as many
 -- settled links as the width.
 pub record WatchClauseHolds (p : SettingsValue) (log : List Record) : Type 0 where
-  pub first : (w n : List ℕ) (level : ℕ) → Covers (system_of log) w n level → CoveredFirst (watches_of log) w n
+  pub first : (w n : List ℕ) (level : ℕ) → CoversAt (system_of log) w n level → CoveredFirst (watches_of log) w n
   pub led : (cover : FirstCover) → IsAmong cover (watches_of log).covers
-      → LeadsTo (system_of log) cover.chain cover.table.owner cover.joiner cover.prefix
-  pub told : (cover : FirstCover) → IsAmong cover (watches_of log).covers → AreTold p log cover.joiner cover.chain
+      → ChainLeadsTo (system_of log) cover.chain cover.table.owner cover.joiner cover.prefix
+  pub told : (cover : FirstCover) → IsAmong cover (watches_of log).covers → ChainIsTold p log cover.joiner cover.chain
   pub answered : (cover : FirstCover) → IsAmong cover (watches_of log).covers → (slot : Slot) → IsWatched p cover.joiner cover.prefix slot
       → had_primary cover slot ≡ true → IsAnswered (watches_of log) cover.joiner slot cover.chain
   pub core : EachGroup (CoreHasAnswersNow p) log

@@ -6,7 +6,7 @@ use Rattle.tap_link.specs.declared.kind.Kind.{Kind}
 use Rattle.tap_link.specs.declared.kind.Kind.TheVariants.{Settled}
 use Rattle.tap_table.specs.Table.{place_of, slot_number}
 use Rattle.tap_wire.specs.declared.frame.Body.TheVariants.{Done}
-use Rattle.tap_rule.specs.Laws.{frame_to}
+use Rattle.tap_rule.specs.RuleLaws.{frame_to}
 use Rattle.tap_rule.specs.Node.{NodeState, Status, link_to, name_of}
 use Rattle.tap_rule.specs.Node.Status.{Joining, Core, Leaving, Gone, Ceased}
 use Rattle.tap_rule.specs.Sent.{IsAmong}
@@ -16,11 +16,11 @@ use Rattle.tap_safety.specs.Moved.{moved}
 use Rattle.tap_safety.specs.Seeking.{HasNode}
 use Rattle.tap_safety.specs.System.{AmongFrames, HelloNames, System}
 use Rattle.tap_moves.specs.ByRule.{taken_at}
-use Rattle.tap_safety_moves.specs.Moves.{after_moves, may_run}
+use Rattle.tap_safety_moves.specs.SoundMoves.{after_moves, may_run}
 use Rattle.tap_safety_moves.specs.Sound.{Sound}
-use Rattle.tap_watch_runs.specs.Answers.{Answer, WatchMemory, none_answered}
-use Rattle.tap_watch_runs.specs.Recalled.{recalled}
-use Rattle.tap_watch_runs.specs.Watched.{recalled_moves}
+use Rattle.tap_watch_runs.specs.SlotAnswers.{Answer, WatchMemory, none_answered}
+use Rattle.tap_watch_runs.specs.Recalled.{watch_recalled}
+use Rattle.tap_watch_runs.specs.Watched.{watch_recalled_moves}
 
 -- a node with this status has been core
 abbrev pub was_core : Status → Type 0
@@ -69,13 +69,13 @@ AnswersAtRest = (p : SettingsValue) (members : List (List ℕ)) → AreMembers p
 -- each possible move keeps it, if the whole invariant of joins holds before
 abbrev pub MoveKeepsAnswers : Type 0
 MoveKeepsAnswers = (p : SettingsValue) (s : System) (r : WatchMemory) (move : Move) → may_move p s move → Sound p s
-    → AnswersAreHeld p s r → AnswersAreHeld p (moved p s move) (recalled s r move)
+    → AnswersAreHeld p s r → AnswersAreHeld p (moved p s move) (watch_recalled s r move)
 
 -- so it holds at each moment of each run from members at rest
 abbrev pub RunAnswersAreHeld : Type 0
 RunAnswersAreHeld = (p : SettingsValue) (members : List (List ℕ)) (moves : List Move) → AreMembers p members
     → may_run p (system_at_rest p members) moves → AnswersAreHeld p (after_moves p (system_at_rest p members) moves)
-    (recalled_moves p (system_at_rest p members) none_answered moves)
+    (watch_recalled_moves p (system_at_rest p members) none_answered moves)
 
 -- A joiner that takes its Done, and becomes core, has each name with which a slot was answered for it.
 abbrev pub CoreHasAnswers : Type 0

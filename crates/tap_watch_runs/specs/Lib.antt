@@ -1,4 +1,4 @@
-pub mod Answers
+pub mod SlotAnswers
 pub mod Recalled
 pub mod Watched
 pub mod Chains

@@ -19,7 +19,7 @@ use Rattle.tap_safety.specs.Move.Move.{Begins, Delivers}
 use Rattle.tap_safety.specs.Moved.{numbered_frame}
 use Rattle.tap_safety.specs.Sessions.{is_place}
 use Rattle.tap_safety.specs.System.{System}
-use Rattle.tap_watch_runs.specs.Answers.{WatchMemory, answers_for}
+use Rattle.tap_watch_runs.specs.SlotAnswers.{WatchMemory, answers_for}
 
 -- ---- which frames have a node cover a joiner
 
@@ -90,11 +90,11 @@ abbrev pub recalled_at : WatchMemory → Frame → Option NodeState → WatchMem
 recalled_at r frame None = r
 recalled_at r frame (Some node) = recalled_asked r node (asked node frame.from frame.body)
 
-abbrev pub recalled_frame : System → WatchMemory → Option Frame → WatchMemory
-recalled_frame s r None = r
-recalled_frame s r (Some frame) = recalled_at r frame (s.node frame.to)
+abbrev pub watch_recalled_frame : System → WatchMemory → Option Frame → WatchMemory
+watch_recalled_frame s r None = r
+watch_recalled_frame s r (Some frame) = recalled_at r frame (s.node frame.to)
 
 -- what is remembered after a move
-unfoldable pub recalled : System → WatchMemory → Move → WatchMemory
-recalled s r (Begins x start) = r
-recalled s r (Delivers number) = recalled_frame s r (numbered_frame number s.frames)
+unfoldable pub watch_recalled : System → WatchMemory → Move → WatchMemory
+watch_recalled s r (Begins x start) = r
+watch_recalled s r (Delivers number) = watch_recalled_frame s r (numbered_frame number s.frames)

@@ -9,35 +9,35 @@ use Rattle.tap_log.specs.declared.record.Record.{Record}
 use Rattle.tap_log.specs.declared.record.Record.TheVariants.{Begin}
 use Rattle.tap_history.specs.Groups.{beginning_of, groups_of}
 use Rattle.tap_wire.specs.declared.frame.Body.TheVariants.{Done}
-use Rattle.tap_rule.specs.Laws.{frame_to}
+use Rattle.tap_rule.specs.RuleLaws.{frame_to}
 use Rattle.tap_rule.specs.Node.{NodeState, name_of}
 use Rattle.tap_rule.specs.Sent.{IsAmong}
 use Rattle.tap_moves.specs.ByRule.{taken_at}
 use Rattle.tap_safety.specs.AtRest.{system_at_rest}
 use Rattle.tap_safety.specs.Move.{Move}
-use Rattle.tap_safety.specs.System.{AmongFrames, Covers, System}
+use Rattle.tap_safety.specs.System.{AmongFrames, CoversAt, System}
 use Rattle.tap_runs.specs.Beginning.{Beginning}
 use Rattle.tap_runs.specs.Course.{move_of_group, moved_by, system_of}
 use Rattle.tap_scenario.specs.Scenario.{IsScript, ScenarioValue}
 use Rattle.tap_lawful.specs.Lawful.{IsPlayed}
-use Rattle.tap_safe_runs.specs.Headline.{AtMomentsOf}
+use Rattle.tap_safe_runs.specs.SafeLogs.{AtMomentsOf}
 use Rattle.tap_safe_runs.specs.Safe.{IsRun}
-use Rattle.tap_watch_runs.specs.Answers.{Answer, WatchMemory, had_primary, none_answered}
+use Rattle.tap_watch_runs.specs.SlotAnswers.{Answer, WatchMemory, had_primary, none_answered}
 use Rattle.tap_watch_runs.specs.Chains.{ChainsLead}
 use Rattle.tap_watch_runs.specs.Had.{AnswersAreHeld, IsHad}
-use Rattle.tap_watch_runs.specs.Recalled.{recalled}
+use Rattle.tap_watch_runs.specs.Recalled.{watch_recalled}
 use Rattle.tap_watch_runs.specs.Watched.{CoveredFirst, IsAnswered, WatchesAreSound}
 
 -- what is remembered after a move, if there is one
-abbrev pub recalled_by : System → WatchMemory → Option Move → WatchMemory
-recalled_by s r None = r
-recalled_by s r (Some move) = recalled s r move
+abbrev pub watch_recalled_by : System → WatchMemory → Option Move → WatchMemory
+watch_recalled_by s r None = r
+watch_recalled_by s r (Some move) = watch_recalled s r move
 
 -- and after these groups, which follow this log, this system and what is remembered then
 abbrev pub watches_after : SettingsValue → List Record → System → WatchMemory → List (List Record) → WatchMemory
 watches_after p before s r [] = r
 watches_after p before s r (group ∷ groups) =
-    watches_after p (before ++ group) (moved_by p s (move_of_group before group)) (recalled_by s r (move_of_group before group)) groups
+    watches_after p (before ++ group) (moved_by p s (move_of_group before group)) (watch_recalled_by s r (move_of_group before group)) groups
 
 -- after the beginning and these groups
 unfoldable pub watches_from : List Record → List (List Record) → WatchMemory
@@ -62,7 +62,7 @@ pub record WasAnswered (p : SettingsValue) (r : WatchMemory) (x b : List ℕ) : 
 -- so it is of each node that covers a joiner
 abbrev pub RunCoversAreAnswered : Type 0
 RunCoversAreAnswered = (b : Beginning) (log : List Record) (x joiner : List ℕ) (level : ℕ) → IsRun b log
-    → Covers (system_of log) x joiner level → WasAnswered b.settings (watches_of log) x joiner
+    → CoversAt (system_of log) x joiner level → WasAnswered b.settings (watches_of log) x joiner
 
 -- What is said of answers holds of each run.
 abbrev pub RunAnswersAreKept : Type 0

@@ -11,14 +11,14 @@ use Rattle.tap_watch.specs.Watch.{IsWatched}
 use Rattle.tap_wire.specs.declared.frame.Body.TheVariants.{Seek}
 use Rattle.tap_wire.specs.declared.frame.Frame.{Frame}
 use Rattle.tap_wire.specs.declared.frame.TellFields.{TellFields}
-use Rattle.tap_rule.specs.Kept.{IsNode}
-use Rattle.tap_rule.specs.Laws.{frame_to}
+use Rattle.tap_rule.specs.KeptNode.{IsNode}
+use Rattle.tap_rule.specs.RuleLaws.{frame_to}
 use Rattle.tap_rule.specs.Node.{NodeState, name_of, settings_of}
 use Rattle.tap_rule.specs.Node.Status.{Core}
 use Rattle.tap_rule.specs.Sent.{IsAmong}
 use Rattle.tap_rule.specs.Strange.{is_strange}
 use Rattle.tap_safety.specs.Frames.{HelloFields, hello_body, tell_body}
-use Rattle.tap_safety.specs.Step.{IsSent}
+use Rattle.tap_safety.specs.Exchanges.{IsSent}
 use Rattle.tap_moves.specs.ByRule.{taken_at}
 
 -- a Hello from x names a core node that is by: x itself, or one that is offered as settled
@@ -34,19 +34,19 @@ pub record GivesSlot (sent : List Frame) (x b : List ℕ) (slot : Slot) : Type 0
   pub named : NamesCore hello x by
 
 -- each slot of this watch, of those that b may wait for, is in the watch of each Tell that x sends, or x gives b a core node of it
-abbrev pub HandsOn : SettingsValue → List Frame → List ℕ → List ℕ → ℕ → List Slot → Type 0
-HandsOn p sent x b prefix watch = (t : List ℕ) (tell : TellFields) (left : List Slot) → IsSent sent x t (tell_body tell left)
+abbrev pub HandsWatchOn : SettingsValue → List Frame → List ℕ → List ℕ → ℕ → List Slot → Type 0
+HandsWatchOn p sent x b prefix watch = (t : List ℕ) (tell : TellFields) (left : List Slot) → IsSent sent x t (tell_body tell left)
     → (slot : Slot) → IsWatched p b prefix slot → Contains watch slot → Contains left slot ⊎ GivesSlot sent x b slot
 
 -- a Tell at a core node
 abbrev pub TellHandsOn : Type 0
 TellHandsOn = (node : NodeState) (from : List ℕ) (tell : TellFields) (watch : List Slot) → IsNode node
     → IsName (settings_of node) tell.joiner → node.status ≡ Core → is_strange node (frame_to node from (tell_body tell watch)) ≡ false
-    → HandsOn (settings_of node) (taken_at node from (tell_body tell watch)).sent (name_of node) tell.joiner tell.prefix watch
+    → HandsWatchOn (settings_of node) (taken_at node from (tell_body tell watch)).sent (name_of node) tell.joiner tell.prefix watch
 
 -- a Seek at the joiner's surrogate, with the full watch
 abbrev pub SeekHandsOn : Type 0
 SeekHandsOn = (node : NodeState) (from joiner : List ℕ) (prefix : ℕ) → IsNode node → IsName (settings_of node) joiner
     → node.status ≡ Core → is_strange node (frame_to node from (Seek joiner)) ≡ false → sought node.ties.table joiner ≡ Surrogate prefix
-    → HandsOn (settings_of node) (taken_at node from (Seek joiner)).sent (name_of node) joiner prefix
+    → HandsWatchOn (settings_of node) (taken_at node from (Seek joiner)).sent (name_of node) joiner prefix
     (full_slots (settings_of node) joiner prefix)

@@ -10,11 +10,11 @@ use Rattle.tap_safety.specs.AtRest.{AreMembers, system_at_rest}
 use Rattle.tap_safety.specs.Frames.{tell_body}
 use Rattle.tap_safety.specs.Move.{Move, may_move}
 use Rattle.tap_safety.specs.Moved.{moved}
-use Rattle.tap_safety.specs.System.{Covers, System, IsUnderWay}
-use Rattle.tap_safety_moves.specs.Moves.{after_moves, may_run}
+use Rattle.tap_safety.specs.System.{CoversAt, System, IsUnderWay}
+use Rattle.tap_safety_moves.specs.SoundMoves.{after_moves, may_run}
 use Rattle.tap_safety_moves.specs.Sound.{Sound}
-use Rattle.tap_watch_runs.specs.Answers.{Answer, FirstCover, IsOwnOrPrimary, WatchMemory, had_primary, none_answered}
-use Rattle.tap_watch_runs.specs.Recalled.{recalled}
+use Rattle.tap_watch_runs.specs.SlotAnswers.{Answer, FirstCover, IsOwnOrPrimary, WatchMemory, had_primary, none_answered}
+use Rattle.tap_watch_runs.specs.Recalled.{watch_recalled}
 
 -- this slot of the joiner was answered by one of these nodes, by itself or by its primary
 pub record IsAnswered (r : WatchMemory) (joiner : List ℕ) (slot : Slot) (chain : List (List ℕ)) : Type 0 where
@@ -44,7 +44,7 @@ pub record WatchesAreSound (p : SettingsValue) (s : System) (r : WatchMemory) : 
   pub fits : (answer : Answer) → IsAmong answer r.answers → Fits answer.joiner answer.named answer.slot
   pub covers : (cover : FirstCover) → IsAmong cover r.covers → (slot : Slot) → IsWatched p cover.joiner cover.prefix slot
       → had_primary cover slot ≡ true → IsAnswered r cover.joiner slot cover.chain
-  pub first : (x b : List ℕ) (level : ℕ) → Covers s x b level → CoveredFirst r x b
+  pub first : (x b : List ℕ) (level : ℕ) → CoversAt s x b level → CoveredFirst r x b
 
 -- members at rest have it, and nothing was answered
 abbrev pub WatchesAtRest : Type 0
@@ -54,17 +54,17 @@ WatchesAtRest = (p : SettingsValue) (members : List (List ℕ)) → AreMembers p
 -- each possible move keeps it, if the whole invariant of joins holds before
 abbrev pub MoveKeepsWatches : Type 0
 MoveKeepsWatches = (p : SettingsValue) (s : System) (r : WatchMemory) (move : Move) → may_move p s move → Sound p s
-    → WatchesAreSound p s r → WatchesAreSound p (moved p s move) (recalled s r move)
+    → WatchesAreSound p s r → WatchesAreSound p (moved p s move) (watch_recalled s r move)
 
 -- ---- runs
 
 -- what is remembered after these moves, one after another
-abbrev pub recalled_moves : SettingsValue → System → WatchMemory → List Move → WatchMemory
-recalled_moves p s r [] = r
-recalled_moves p s r (move ∷ moves) = recalled_moves p (moved p s move) (recalled s r move) moves
+abbrev pub watch_recalled_moves : SettingsValue → System → WatchMemory → List Move → WatchMemory
+watch_recalled_moves p s r [] = r
+watch_recalled_moves p s r (move ∷ moves) = watch_recalled_moves p (moved p s move) (watch_recalled s r move) moves
 
 -- So it holds at each moment of each run from members at rest.
 abbrev pub RunWatchesAreSound : Type 0
 RunWatchesAreSound = (p : SettingsValue) (members : List (List ℕ)) (moves : List Move) → AreMembers p members
     → may_run p (system_at_rest p members) moves → WatchesAreSound p (after_moves p (system_at_rest p members) moves)
-    (recalled_moves p (system_at_rest p members) none_answered moves)
+    (watch_recalled_moves p (system_at_rest p members) none_answered moves)

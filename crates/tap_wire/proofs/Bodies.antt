@@ -13,8 +13,8 @@ use Rattle.tap_wire.specs.Fields.{◌>>=◌, session_at}
 use Rattle.tap_wire.specs.Reading.{body_at}
 use Rattle.tap_wire.specs.Spelling.{optional_bytes, body_bytes, IsBody, IsTyped}
 use Rattle.tap_wire.specs.Layout.{is_length, is_parts}
-use Rattle.tap_wire.proofs.Steps.{bind_ok, bind_is, ok_is}
-use Rattle.tap_wire.proofs.Taken.{Takes}
+use Rattle.tap_wire.proofs.ReadingSteps.{bind_ok, bind_is, ok_is}
+use Rattle.tap_wire.proofs.TakesParts.{Takes}
 use Rattle.tap_wire.proofs.ShortBodies.{nothing, left, seek_again, seek_taken, alone_again, alone_taken, TakesSession, link_again, link_taken, answer_again, answer_taken, leave_again, leave_taken}
 use Rattle.tap_wire.proofs.LongBodies.{lay_again, lay_taken, find_again, find_taken, cast_again, cast_taken}
 use Rattle.tap_wire.proofs.ListBodies.{tell_again, tell_taken, hello_again, hello_taken}

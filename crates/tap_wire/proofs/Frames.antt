@@ -21,7 +21,7 @@ use Rattle.tap_wire.specs.Fields.{◌>>=◌, number_at}
 use Rattle.tap_wire.specs.Reading.{head_of_frame, head_of, opening_of, body_at, in_frame, frame_of, BodyFails, WantsMemory}
 use Rattle.tap_wire.specs.Spelling.{body_bytes, spelling, IsFrame, IsTyped}
 use Rattle.tap_wire.specs.Layout.{is_length, is_long, version_of, head_len, body_start, body_len}
-use Rattle.tap_wire.proofs.Steps.{bind_ok, bind_is}
+use Rattle.tap_wire.proofs.ReadingSteps.{bind_ok, bind_is}
 use Rattle.tap_wire.proofs.Pieces.{moved, byte_is, past_byte, byte_taken, number_is, past_number, number_taken, name_is, past_name, name_taken}
 use Rattle.tap_wire.proofs.ShortBodies.{left}
 use Rattle.tap_wire.proofs.Bodies.{body_again, body_taken}

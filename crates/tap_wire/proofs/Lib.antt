@@ -1,11 +1,11 @@
 pub mod Appending
 pub mod Codes
-pub mod Steps
+pub mod ReadingSteps
 pub mod Numbers
 pub mod Pieces
 pub mod Slots
 pub mod Links
-pub mod Taken
+pub mod TakesParts
 pub mod ShortBodies
 pub mod LongBodies
 pub mod ListBodies

@@ -16,7 +16,7 @@ use Rattle.tap_name.specs.declared.slot.Offered.{Offered}
 use Rattle.tap_wire.specs.declared.fault.Broken.{Broken}
 use Rattle.tap_wire.specs.Fields.{◌>>=◌, field, flag_at, name_at, is_next_name, hello_link_at, hello_links_at}
 use Rattle.tap_wire.specs.Spelling.{flag, link_bytes}
-use Rattle.tap_wire.proofs.Steps.{bind_ok, bind_is, field_ok, field_is, ok_is}
+use Rattle.tap_wire.proofs.ReadingSteps.{bind_ok, bind_is, field_ok, field_is, ok_is}
 use Rattle.tap_wire.proofs.Pieces.{byte_is, past_byte, byte_taken, name_is, past_name, name_taken}
 
 -- ---- flags

@@ -19,12 +19,12 @@ use Rattle.tap_wire.specs.declared.fault.Broken.{Broken}
 use Rattle.tap_wire.specs.Fields.{◌>>=◌, field, number_at, session_at, flag_at, name_at, slots_at, hello_links_at}
 use Rattle.tap_wire.specs.Reading.{prefix_at, level_above_at, tell_at, hello_at}
 use Rattle.tap_wire.specs.Spelling.{flag, slot_bytes, link_bytes, body_bytes, IsTell, AreLinks}
-use Rattle.tap_wire.proofs.Steps.{bind_ok, bind_is, field_ok, field_is, ok_is}
+use Rattle.tap_wire.proofs.ReadingSteps.{bind_ok, bind_is, field_ok, field_is, ok_is}
 use Rattle.tap_wire.proofs.Pieces.{moved, byte_is, past_byte, byte_taken, number_is, past_number, number_taken, number_below, name_is, past_name, name_taken}
 use Rattle.tap_wire.proofs.Slots as slots
 use Rattle.tap_wire.proofs.Links as links
 use Rattle.tap_wire.proofs.Links.{flag_is, flag_taken}
-use Rattle.tap_wire.proofs.Taken.{Takes, session_is, session_taken, ends, two, four}
+use Rattle.tap_wire.proofs.TakesParts.{Takes, session_is, session_taken, ends, two, four}
 use Rattle.tap_wire.proofs.ShortBodies.{nothing}
 use Rattle.tap_wire.proofs.LongBodies.{same_place}
 

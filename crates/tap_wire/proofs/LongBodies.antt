@@ -14,10 +14,10 @@ use Rattle.tap_wire.specs.declared.fault.Broken.{Broken}
 use Rattle.tap_wire.specs.Fields.{◌>>=◌, field, number_at, session_at, level_at, flag_at, name_at, word_at}
 use Rattle.tap_wire.specs.Reading.{lay_at, find_at, cast_at}
 use Rattle.tap_wire.specs.Spelling.{flag, body_bytes, IsLevel}
-use Rattle.tap_wire.proofs.Steps.{bind_ok, bind_is, field_ok, field_is, ok_is}
+use Rattle.tap_wire.proofs.ReadingSteps.{bind_ok, bind_is, field_ok, field_is, ok_is}
 use Rattle.tap_wire.proofs.Pieces.{moved, byte_is, past_byte, byte_taken, number_is, past_number, number_taken, number_below, name_is, past_name, name_taken}
 use Rattle.tap_wire.proofs.Links.{flag_is, flag_taken}
-use Rattle.tap_wire.proofs.Taken.{Takes, session_is, session_taken, level_is, level_taken, three, four}
+use Rattle.tap_wire.proofs.TakesParts.{Takes, session_is, session_taken, level_is, level_taken, three, four}
 use Rattle.tap_wire.proofs.ShortBodies.{nothing}
 
 pub same_place : (bytes : List ℕ) (here there : ℕ) → here ≡ there → drop here bytes ≡ drop there bytes

@@ -11,7 +11,7 @@ use Rattle.tap_wire.specs.Kind.{code_of, frame_kinds, kind_of_code}
 use Rattle.tap_wire.specs.Fields.{◌>>=◌, number_at, digits_at}
 use Rattle.tap_wire.specs.Reading.{names_at, sized, of_kind, opening_of}
 use Rattle.tap_wire.specs.Layout.{is_length, is_long, version_of, head_len, body_start}
-use Rattle.tap_wire.proofs.Steps.{bind_ok, bind_is}
+use Rattle.tap_wire.proofs.ReadingSteps.{bind_ok, bind_is}
 use Rattle.tap_wire.proofs.Pieces.{byte_is, past_byte, byte_taken}
 
 -- ---- codes

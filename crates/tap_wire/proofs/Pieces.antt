@@ -15,7 +15,7 @@ use Rattle.tap_name.specs.Settings.{SettingsValue}
 use Rattle.tap_name.specs.Name.{IsName}
 use Rattle.tap_wire.specs.Fields.{number_at, digits_at, digits_unless}
 use Rattle.tap_wire.proofs.Numbers.{are_small, writes_back}
-use Rattle.tap_wire.proofs.Steps.{digits_ok}
+use Rattle.tap_wire.proofs.ReadingSteps.{digits_ok}
 
 -- ---- after a piece
 

@@ -8,7 +8,7 @@ use Rattle.tap_wire.specs.declared.kind.Kind.{Kind}
 use Rattle.tap_wire.specs.Kind.{kind_of_code}
 use Rattle.tap_wire.specs.Fields.{number_at, digits_at, digits_unless}
 use Rattle.tap_wire.specs.Layout.{is_length, is_long, version_of, head_len, body_start}
-use Rattle.tap_wire.specs.Names.{AreNames, opened, receiver_in, sender_in}
+use Rattle.tap_wire.specs.Names.{HeadHasNames, opened, receiver_in, sender_in}
 use Rattle.tap_wire.specs.Reading.{opening_of}
 use Rattle.tap_wire.proofs.Openings.{HasHead, code_back, opening_is, second_false}
 use Rattle.tap_wire.proofs.Pieces.{are_name, none_bad}
@@ -27,7 +27,7 @@ pub head_right : (p : SettingsValue) (bytes : List ℕ) (kind : Kind) → slice_
     → kind_of_code (slice_index bytes 1) ≡ Some kind → is_length p kind (number_at 2 2 bytes) ≡ true
     → (is_long p && not (eqb (slice_index bytes 4) p.digits)) ≡ false → length bytes ≡ body_start p + number_at 2 2 bytes
     → All (λ d. d < p.base) (sender_in p bytes) → All (λ d. d < p.base) (receiver_in p bytes)
-    → (opening_of p bytes ≡ Ok (opened p kind bytes)) × AreNames p bytes
+    → (opening_of p bytes ≡ Ok (opened p kind bytes)) × HeadHasNames p bytes
 head_right p bytes kind version code possible count whole sender receiver =
     let o = opened p kind bytes in
     let len = number_at 2 2 bytes in

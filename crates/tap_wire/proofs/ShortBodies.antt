@@ -12,10 +12,10 @@ use Rattle.tap_wire.specs.declared.fault.Broken.{Broken}
 use Rattle.tap_wire.specs.Fields.{◌>>=◌, field, number_at, session_at, flag_at, name_at, optional_at}
 use Rattle.tap_wire.specs.Reading.{seek_at, link_body_at, answer_at, leave_at}
 use Rattle.tap_wire.specs.Spelling.{flag, optional_bytes, body_bytes}
-use Rattle.tap_wire.proofs.Steps.{bind_ok, bind_is, field_ok, ok_is}
+use Rattle.tap_wire.proofs.ReadingSteps.{bind_ok, bind_is, field_ok, ok_is}
 use Rattle.tap_wire.proofs.Pieces.{byte_is, past_byte, byte_taken, number_is, past_number, number_taken, number_below, name_is, name_taken}
 use Rattle.tap_wire.proofs.Links.{flag_is, flag_taken}
-use Rattle.tap_wire.proofs.Taken.{Takes, session_is, session_taken, ends}
+use Rattle.tap_wire.proofs.TakesParts.{Takes, session_is, session_taken, ends}
 
 -- the bytes from their end on are none
 pub nothing : (bytes : List ℕ) (place : ℕ) → length bytes ≡ place → drop place bytes ≡ []

@@ -10,7 +10,7 @@ use Rattle.tap_name.specs.declared.slot.Slot.{Slot}
 use Rattle.tap_watch.specs.Watch.{Precedes, SlotsAscend}
 use Rattle.tap_wire.specs.Fields.{◌>>=◌, field, is_next_level, is_next_digit, watch_slot_at, slots_at}
 use Rattle.tap_wire.specs.Spelling.{slot_bytes}
-use Rattle.tap_wire.proofs.Steps.{bind_ok, bind_is, field_ok, ok_is}
+use Rattle.tap_wire.proofs.ReadingSteps.{bind_ok, bind_is, field_ok, ok_is}
 use Rattle.tap_wire.proofs.Pieces.{byte_is, past_byte, byte_taken, moved}
 
 -- each slot may follow the one before it

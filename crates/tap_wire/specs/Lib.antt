@@ -6,4 +6,4 @@ pub mod Names
 pub mod Reading
 pub mod Spelling
 pub mod Writing
-pub mod Laws
+pub mod ReadsBack

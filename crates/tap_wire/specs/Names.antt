@@ -20,11 +20,11 @@ abbrev pub opened : SettingsValue → Kind → List ℕ → Opening
 opened p kind bytes = record { kind = kind; sender = sender_in p bytes; receiver = receiver_in p bytes }
 
 -- both names are names
-pub record AreNames (p : SettingsValue) (bytes : List ℕ) : Type 0 where
+pub record HeadHasNames (p : SettingsValue) (bytes : List ℕ) : Type 0 where
   pub sender : IsName p (sender_in p bytes)
   pub receiver : IsName p (receiver_in p bytes)
 
 -- what was found of a head is what is read: the kind, with the two names in place, or the refusal
 abbrev pub HeadGives : SettingsValue → List ℕ → Result Kind HeadFault → Result Opening HeadFault → Type 0
-HeadGives p bytes (Ok kind) read = (read ≡ Ok (opened p kind bytes)) × AreNames p bytes
+HeadGives p bytes (Ok kind) read = (read ≡ Ok (opened p kind bytes)) × HeadHasNames p bytes
 HeadGives p bytes (Err fault) read = read ≡ Err fault

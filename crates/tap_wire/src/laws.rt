@@ -1,4 +1,4 @@
-ghost use Rattle.tap_wire.specs.Laws.{ReadsBack, SpelledSo, HeadReadsBack};
+ghost use Rattle.tap_wire.specs.ReadsBack.{ReadsBack, SpelledSo, HeadReadsBack};
 
 /// A law: the spelling of a frame whose fields keep their rules is read as that frame.
 ///

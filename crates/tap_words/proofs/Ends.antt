@@ -11,7 +11,7 @@ use Rattle.clap.specs.Words.{Row, Rule}
 use Rattle.clap.specs.declared.parser.matches.ValueSource.TheVariants.{DefaultValue}
 use Rattle.clap.specs.declared.builder.value_parser.Reading.TheVariants.{AsWritten}
 use Rattle.tap_words.specs.Command.{brief_rule, command_app, make_rule, seed_rule}
-use Rattle.tap_words.specs.Plain.{Choice, IsPlain, asked_by_choices, brief_among, joins_among, seed_among}
+use Rattle.tap_words.specs.Plain.{Choice, IsInLimits, asked_by_choices, brief_among, joins_among, seed_among}
 use Rattle.tap_words.specs.Plain.Choice.{brief, make, seed}
 use Rattle.tap_words.specs.Words.{asked_of_rows, bool_of, joins_within, number_of}
 use Rattle.tap_words.proofs.Numbers.{number_in-decimal}
@@ -121,27 +121,27 @@ flag_missing (brief ∷ choices) none = absurd cc
 flag_missing (make joins ∷ choices) none = flag_missing choices none
 flag_missing (seed number ∷ choices) none = flag_missing choices none
 
-joins_found : (choices : List Choice) (more : List Row) → All IsPlain choices → one_of (codes "make") more ≡ None
+joins_found : (choices : List Choice) (more : List Row) → All IsInLimits choices → one_of (codes "make") more ≡ None
     → number_of (one_of (codes "make") (rows_of_choices choices ++ more)) ≡ joins_among choices
 joins_found [] more plain none = rw none refl
-joins_found (brief ∷ choices) more plain none = joins_found choices more (All-tail IsPlain brief choices plain) none
+joins_found (brief ∷ choices) more plain none = joins_found choices more (All-tail IsInLimits brief choices plain) none
 joins_found (make joins ∷ choices) more plain none =
-    let within = All-head IsPlain (make joins) choices plain in number_in-decimal joins (omega (arith, within.1))
-joins_found (seed number ∷ choices) more plain none = joins_found choices more (All-tail IsPlain (seed number) choices plain) none
+    let within = All-head IsInLimits (make joins) choices plain in number_in-decimal joins (omega (arith, within.1))
+joins_found (seed number ∷ choices) more plain none = joins_found choices more (All-tail IsInLimits (seed number) choices plain) none
 
-seed_found : (choices : List Choice) (more : List Row) → All IsPlain choices → one_of (codes "seed") more ≡ None
+seed_found : (choices : List Choice) (more : List Row) → All IsInLimits choices → one_of (codes "seed") more ≡ None
     → number_of (one_of (codes "seed") (rows_of_choices choices ++ more)) ≡ seed_among choices
 seed_found [] more plain none = rw none refl
-seed_found (brief ∷ choices) more plain none = seed_found choices more (All-tail IsPlain brief choices plain) none
-seed_found (make joins ∷ choices) more plain none = seed_found choices more (All-tail IsPlain (make joins) choices plain) none
-seed_found (seed number ∷ choices) more plain none = number_in-decimal number (All-head IsPlain (seed number) choices plain)
+seed_found (brief ∷ choices) more plain none = seed_found choices more (All-tail IsInLimits brief choices plain) none
+seed_found (make joins ∷ choices) more plain none = seed_found choices more (All-tail IsInLimits (make joins) choices plain) none
+seed_found (seed number ∷ choices) more plain none = number_in-decimal number (All-head IsInLimits (seed number) choices plain)
 
-joins_fit : (choices : List Choice) → All IsPlain choices → joins_within (joins_among choices) ≡ Some (joins_among choices)
+joins_fit : (choices : List Choice) → All IsInLimits choices → joins_within (joins_among choices) ≡ Some (joins_among choices)
 joins_fit [] plain = refl
-joins_fit (brief ∷ choices) plain = joins_fit choices (All-tail IsPlain brief choices plain)
+joins_fit (brief ∷ choices) plain = joins_fit choices (All-tail IsInLimits brief choices plain)
 joins_fit (make joins ∷ choices) plain =
-    let within = All-head IsPlain (make joins) choices plain in rw (le-leb 1 joins within.0, le-leb joins 100 within.1) refl
-joins_fit (seed number ∷ choices) plain = joins_fit choices (All-tail IsPlain (seed number) choices plain)
+    let within = All-head IsInLimits (make joins) choices plain in rw (le-leb 1 joins within.0, le-leb joins 100 within.1) refl
+joins_fit (seed number ∷ choices) plain = joins_fit choices (All-tail IsInLimits (seed number) choices plain)
 
 -- what these numbers and this flag ask for
 says : (rows : List Row) (flag : Bool) (joins number : Option ℕ) → bool_of (one_of (codes "brief") rows) ≡ flag
@@ -150,7 +150,7 @@ says : (rows : List Row) (flag : Bool) (joins number : Option ℕ) → bool_of (
     → asked_of_rows rows ≡ Some (record { brief = flag; make = joins; seed = unwrap_or number 1 })
 says rows flag joins number b m fits s = rw (m, fits, b, s) refl
 
-pub choices_said : (choices : List Choice) → All IsPlain choices
+pub choices_said : (choices : List Choice) → All IsInLimits choices
     → asked_of_rows (with_default (rows_of_choices choices) brief_built) ≡ Some (asked_by_choices choices)
 choices_said choices plain =
     elim (cases_Bool (brief_among choices)) [

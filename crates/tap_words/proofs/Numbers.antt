@@ -11,7 +11,7 @@ use Rattle.std.specs.Str.Parse.{AllDigits, IsNumeral, ParsesUnsigned, ParsesBool
 use Rattle.std.specs.Char.{digit_value}
 use Rattle.clap.specs.ValueTests.{is_unsigned_in}
 use Rattle.clap.specs.Words.{ReadsOne}
-use Rattle.tap_words.specs.Words.{bool_of, number_in, number_of}
+use Rattle.tap_words.specs.Words.{bool_of, number_in_text, number_of}
 
 digits_back : (ds : List ℕ) → AllDigits 10 ds → list_all (λ d. nat_lt (digit_value d) 10) ds ≡ true
 digits_back [] h = refl
@@ -27,14 +27,14 @@ digits_from (d ∷ ds) h =
     (ltb_lt (digit_value d) 10 here, digits_from ds more)
 
 good : (t : List ℕ) → IsNumeral 10 (without_leading_plus t) → digits_value 10 (without_leading_plus t) < 2 ^ 64
-    → number_in t ≡ Some (digits_value 10 (without_leading_plus t))
+    → number_in_text t ≡ Some (digits_value 10 (without_leading_plus t))
 good t n lt = rw (lt-ltb 0 _ n.0, digits_back _ n.1, lt-ltb _ _ lt) refl
 
 bad : (t : List ℕ) → ((IsNumeral 10 (without_leading_plus t) × (digits_value 10 (without_leading_plus t) < 2 ^ 64)) → ⊥)
-    → None ≡ number_in t
+    → None ≡ number_in_text t
 bad t not_number = go _ refl
   where
-    go : (b : Bool) → ((nat_lt 0 (length (without_leading_plus t)) && list_all (λ d. nat_lt (digit_value d) 10) (without_leading_plus t)) && nat_lt (digits_value 10 (without_leading_plus t)) (2 ^ 64)) ≡ b → None ≡ number_in t
+    go : (b : Bool) → ((nat_lt 0 (length (without_leading_plus t)) && list_all (λ d. nat_lt (digit_value d) 10) (without_leading_plus t)) && nat_lt (digits_value 10 (without_leading_plus t)) (2 ^ 64)) ≡ b → None ≡ number_in_text t
     go false e = rw e refl
     go true e =
         let (front, last) = and_parts _ _ e in
@@ -42,7 +42,7 @@ bad t not_number = go _ refl
         absurd (not_number ((ltb_lt _ _ some, digits_from _ all), ltb_lt _ _ last))
 
 reads : (E : Type 0) (G : List ℕ → Result ℕ E → Type 0) (t : List ℕ) (r : Option ℕ) → ReadsOne G t r
-    → ((u : List ℕ) (x : Result ℕ E) → G u x → ParsesUnsigned 64 10 u x) → r ≡ number_in t
+    → ((u : List ℕ) (x : Result ℕ E) → G u x → ParsesUnsigned 64 10 u x) → r ≡ number_in_text t
 reads E G t (Some v) h only = let p = only t (Ok v) h in rw p.1 (sym (good t p.0.0 p.0.1))
 reads E G t None h only = bad t (only t (Err h.0) h.1)
 
@@ -102,7 +102,7 @@ no_plus [] numeral = refl
 no_plus (first ∷ rest) numeral = rw (digit_ne first 43 numeral.1.0 (omega arith)) refl
 
 -- the number of a decimal text is read from it
-pub number_in-decimal : (n : ℕ) → n < 2 ^ 64 → number_in (decimal n) ≡ Some n
+pub number_in-decimal : (n : ℕ) → n < 2 ^ 64 → number_in_text (decimal n) ≡ Some n
 number_in-decimal n small =
     let numeral = decimal_is_IsNumeral n small in
     let same = no_plus (decimal n) numeral.0 in

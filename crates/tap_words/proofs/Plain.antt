@@ -10,7 +10,7 @@ use Rattle.clap.specs.Simple.{names_of}
 use Rattle.clap.specs.Walk.{Held, Walk, finished, idle, nothing_held, settled, walk, walk_from, walked, with_default}
 use Rattle.clap.specs.Words.{App, Kinds, Row, Text, built, matches_of}
 use Rattle.tap_words.specs.Command.{command_app, faults}
-use Rattle.tap_words.specs.Plain.{AreUnlike, Choice, IsPlain, PlainWordsAreAccepted, are_alike, words_of_choice}
+use Rattle.tap_words.specs.Plain.{AreUnlike, Choice, IsInLimits, PlainWordsAreAccepted, are_alike, words_of_choice}
 use Rattle.tap_words.specs.Plain.Choice.{brief, make, seed}
 use Rattle.tap_words.specs.Words.{asked_by, asked_of_rows}
 use Rattle.tap_words.proofs.Ends.{brief_built, choices_said, no_checks, no_defaults, rows_at_end}
@@ -81,14 +81,14 @@ nothing_more : (w : Walk) → walk_fault shape [] w [] ≡ []
 unfolding walk_fault
 nothing_more w = refl
 
-takes_each : (given choices : List Choice) (h : Held) → IsReady given h → AreNew given choices → AreUnlike choices → All IsPlain choices
+takes_each : (given choices : List Choice) (h : Held) → IsReady given h → AreNew given choices → AreUnlike choices → All IsInLimits choices
     → Takes (flat_map words_of_choice choices) h (given ++ choices)
 takes_each given [] h ready new unlike plain =
     record { end = h; fine = nothing_more (at h idle); walks = refl; ready = rw (append-nil given) ready }
 takes_each given (choice ∷ choices) h ready new unlike plain =
-    let one = takes_choice given h choice ready new.0 (All-head IsPlain choice choices plain) in
+    let one = takes_choice given h choice ready new.0 (All-head IsInLimits choice choices plain) in
     let rest = takes_each (given ++ choice ∷ []) choices one.end one.ready (still_new given choices choice new.1 unlike.0) unlike.1
-    (All-tail IsPlain choice choices plain) in
+    (All-tail IsInLimits choice choices plain) in
     let words = words_of_choice choice in
     let others = flat_map words_of_choice choices in
     let split : flat_map words_of_choice (choice ∷ choices) ≡ words ++ others = flat_map-cons words_of_choice choice choices in

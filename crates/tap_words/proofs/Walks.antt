@@ -14,7 +14,7 @@ use Rattle.clap.specs.Words.{Kinds, Row, Rule, Shape, Text, built}
 use Rattle.clap.specs.declared.parser.matches.ValueSource.TheVariants.{CommandLine}
 use Rattle.clap.specs.declared.builder.value_parser.Reading.TheVariants.{AsWritten}
 use Rattle.tap_words.specs.Command.{command_app}
-use Rattle.tap_words.specs.Plain.{Choice, IsPlain, are_alike, words_of_choice}
+use Rattle.tap_words.specs.Plain.{Choice, IsInLimits, are_alike, words_of_choice}
 use Rattle.tap_words.specs.Plain.Choice.{brief, make, seed}
 use Rattle.tap_words.proofs.Numbers.{decimal_fits, decimal_starts}
 use Rattle.tap_words.proofs.Rows.{has_row-among, id_of, row_added, row_of_choice, rows_of_choices, value_of}
@@ -248,7 +248,7 @@ takes_seed given h number ready new small =
     }
 
 pub takes_choice : (given : List Choice) (h : Held) (choice : Choice) → IsReady given h → list_any (are_alike choice) given ≡ false
-    → IsPlain choice → Takes (words_of_choice choice) h (given ++ choice ∷ [])
+    → IsInLimits choice → Takes (words_of_choice choice) h (given ++ choice ∷ [])
 takes_choice given h brief ready new plain = takes_brief given h ready new
 takes_choice given h (make joins) ready new plain = takes_make given h joins ready new (omega (arith, plain.1))
 takes_choice given h (seed number) ready new plain = takes_seed given h number ready new plain

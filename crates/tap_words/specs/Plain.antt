@@ -20,10 +20,10 @@ words_of_choice (make joins) = codes "--make" ∷ decimal joins ∷ []
 words_of_choice (seed number) = codes "--seed" ∷ decimal number ∷ []
 
 -- its number is within its limits
-abbrev pub IsPlain : Choice → Type 0
-IsPlain brief = Unit {0}
-IsPlain (make joins) = (1 ≤ joins) × (joins ≤ most_joins)
-IsPlain (seed number) = number < 2 ^ 64
+abbrev pub IsInLimits : Choice → Type 0
+IsInLimits brief = Unit {0}
+IsInLimits (make joins) = (1 ≤ joins) × (joins ≤ most_joins)
+IsInLimits (seed number) = number < 2 ^ 64
 
 -- two choices are of one kind
 abbrev pub are_alike : Choice → Choice → Bool
@@ -58,5 +58,5 @@ asked_by_choices choices =
 
 -- Plain words are accepted, and ask for what they choose: each kind of choice at most once, in any order.
 abbrev pub PlainWordsAreAccepted : Type 0
-PlainWordsAreAccepted = (choices : List Choice) → AreUnlike choices → All IsPlain choices
+PlainWordsAreAccepted = (choices : List Choice) → AreUnlike choices → All IsInLimits choices
     → asked_by (flat_map words_of_choice choices) ≡ Some (asked_by_choices choices)

@@ -23,15 +23,15 @@ bool_of None = false
 bool_of (Some text) = bytes_eq text (codes "true")
 
 -- the number below 2^64 that a text writes, with a plus sign or leading zeros or without
-abbrev pub number_in : Text → Option ℕ
-number_in text =
+abbrev pub number_in_text : Text → Option ℕ
+number_in_text text =
     let digits = without_leading_plus text in
     if (nat_lt 0 (length digits) && list_all (λ digit. nat_lt (digit_value digit) 10) digits)
     && nat_lt (digits_value 10 digits) (2 ^ 64)
     then Some (digits_value 10 digits) else None
 
 abbrev pub number_of : Option Text → Option ℕ
-number_of text = option_and_then number_in text
+number_of text = option_and_then number_in_text text
 
 -- the number of joins, if it is within its limits, or if there is none
 abbrev pub joins_within : Option ℕ → Option (Option ℕ)

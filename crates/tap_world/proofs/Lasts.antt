@@ -8,7 +8,7 @@ use Rattle.std.proofs.lemmas.List.Elements.{filter_map-append}
 use Rattle.tap_log.specs.declared.record.Record.{Record}
 use Rattle.tap_log.specs.declared.record.Record.TheVariants.{Step as StepRecord}
 use Rattle.tap_log.specs.declared.record.Refusal.{Refusal}
-use Rattle.tap_log.specs.Laws.{at_most_one}
+use Rattle.tap_log.specs.MoreRecords.{at_most_one}
 use Rattle.tap_log.specs.Log.{last_of}
 use Rattle.tap_engine.specs.Kinds.{begun_index, begun_indices, last_index}
 use Rattle.tap_engine.specs.Outcome.{MayNote}

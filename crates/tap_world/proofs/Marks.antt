@@ -12,37 +12,37 @@ use Rattle.tap_log.specs.declared.record.Refusal.{Refusal}
 use Rattle.tap_log.specs.Counts.{sent_count}
 use Rattle.tap_log.specs.Kinds.{begins_group, step_of}
 use Rattle.tap_log.specs.Log.{begun_steps, last_of}
-use Rattle.tap_log.proofs.Growing.{last_of-push, sent_count-append}
+use Rattle.tap_log.proofs.MoreRecords.{last_of-push, sent_count-append}
 use Rattle.tap_history.specs.GroupLaws.{IsGroup}
 use Rattle.tap_history.specs.Groups.{ends_log, is_ended}
 use Rattle.tap_history.specs.Names.{names_of}
 use Rattle.tap_history.specs.Refusals.{first_refusal}
-use Rattle.tap_history.specs.Steps.{actor_of}
+use Rattle.tap_history.specs.StepAsks.{actor_of}
 use Rattle.tap_node.specs.Node.{running}
 use Rattle.tap_runs.specs.Beginning.{Beginning}
 use Rattle.tap_runs.specs.Course.{Follows, IsCourse, is_choice, move_of_group, move_of_start, moved_by, system_of}
 use Rattle.tap_runs.specs.Group.{start_at}
 use Rattle.tap_runs.specs.Starts.{start_of_step}
 use Rattle.tap_runs.proofs.Frames.{step_moves}
-use Rattle.tap_runs.proofs.Growing.{grown_system}
+use Rattle.tap_runs.proofs.CourseGrows.{grown_system}
 use Rattle.tap_runs.proofs.Within.{is_group}
-use Rattle.tap_ledger.specs.Added.{CanAdd, most_frames}
+use Rattle.tap_ledger.specs.Added.{CanAdd, most_ledger_frames}
 use Rattle.tap_overlay.specs.Law.{HasNodesOf}
 use Rattle.tap_overlay.specs.Overlay.{node_at}
-use Rattle.tap_engine.specs.Kept.{AreKept, AreReady, room_kept, room_of_record, world_value}
-use Rattle.tap_engine.specs.Kinds.{finishes, is_finished}
-use Rattle.tap_engine.specs.Growth.{left_by}
+use Rattle.tap_engine.specs.KeptEngine.{AreKept, AreReady, room_kept, room_of_record, world_value}
+use Rattle.tap_engine.specs.Kinds.{finishes_run, is_finished}
+use Rattle.tap_engine.specs.Growth.{left_by_outcome}
 use Rattle.tap_engine.specs.Outcome.{IsNextIndex, MayNote, adds}
 use Rattle.tap_engine.specs.WorldLog.{IsWorldLog}
 use Rattle.tap_engine.specs.declared.engine.Engine.{Engine}
 use Rattle.tap_engine.proofs.Addable.{limit_fits, refused_fits}
 use Rattle.tap_engine.proofs.Courses.{course_begun, course_uncarried}
-use Rattle.tap_engine.proofs.Grown.{refused_names, system_group}
+use Rattle.tap_engine.proofs.StandingAlone.{refused_names, system_group}
 use Rattle.tap_engine.proofs.Keeping.{HasGrown, as_log, end_same, grown_log, grown_named, kept_same, on, same_beginning, seen}
-use Rattle.tap_runs.proofs.Named.{choice_has_names}
+use Rattle.tap_runs.proofs.StepNames.{choice_has_names}
 use Rattle.tap_engine.proofs.Leading.{kept_group}
-use Rattle.tap_engine.proofs.Named.{step_named, unbegun_named}
-use Rattle.tap_engine.proofs.Steps.{choice_may, clash, follows_within, silent_within}
+use Rattle.tap_engine.proofs.NamedSteps.{step_named, unbegun_named}
+use Rattle.tap_engine.proofs.AddedGroups.{choice_may, clash, follows_within, silent_within}
 use Rattle.tap_engine.proofs.WorldLogs.{IsNoted, finish_log, mark_log, note_log, noted}
 
 -- ---- a choice
@@ -102,8 +102,8 @@ no_step : (item : Record) → step_of item ≡ None → All (λ item. step_of it
 no_step item none = All-cons (λ item. step_of item ≡ None) item [] none (All-nil (λ item. step_of item ≡ None))
 
 finished_so : (log : List Record) (steps : ℕ) → is_finished (log ++ Finished steps ∷ []) ≡ true
-unfolding finishes
-finished_so log steps = ap (λ last. option_map_or finishes last false) (last_of-push log (Finished steps))
+unfolding finishes_run
+finished_so log steps = ap (λ last. option_map_or finishes_run last false) (last_of-push log (Finished steps))
 
 module _ (before after : Engine) (ready : AreReady before) (steps : ℕ) (all : steps ≡ length (begun_steps before.ledger.records))
     (grows : HasGrown before after (Finished steps ∷ [])) (overlay : after.overlay ≡ before.overlay) where
@@ -149,7 +149,7 @@ module _ (b : Beginning) (log : List Record) (index : ℕ) (refusal : Refusal) (
       omega (arith, size)
 
   -- no more were sent than may be
-  noted_sent : sent_count log ≤ most_frames
+  noted_sent : sent_count log ≤ most_ledger_frames
   noted_sent =
       let within = n.follows.within in
       let whole = ap sent_count n.whole_is in
@@ -168,8 +168,8 @@ room_of_refused : (index : ℕ) (refusal : Refusal) → room_of_record (Refused 
 unfolding room_of_record
 room_of_refused index refusal = refl
 
-unfinished_step : (index : ℕ) (step : Step) → finishes (StepRecord index step) ≡ false
-unfolding finishes
+unfinished_step : (index : ℕ) (step : Step) → finishes_run (StepRecord index step) ≡ false
+unfolding finishes_run
 unfinished_step index step = refl
 
 module _ (before : Engine) (refused : Option Refusal) (kept : AreKept before refused false) (index : ℕ) (refusal : Refusal)
@@ -184,7 +184,7 @@ module _ (before : Engine) (refused : Option Refusal) (kept : AreKept before ref
   pub note_room : 2 ≤ before.ledger.spare
   note_room =
       let going : is_finished before.ledger.records ≡ false =
-      ap (λ last. option_map_or finishes last false) may.last ∙ unfinished_step index may.step in
+      ap (λ last. option_map_or finishes_run last false) may.last ∙ unfinished_step index may.step in
       let room = (kept.go_on refl).room going in
       let two = ap room_kept may.last ∙ room_of_step index may.step in
       omega (arith, room, two)
@@ -194,7 +194,7 @@ module _ (before : Engine) (refused : Option Refusal) (kept : AreKept before ref
     noted_log : IsWorldLog (world_value after None false)
     noted_log =
         let w = world_value before refused false in
-        as_log (left_by w (record (adds w (Refused index refusal ∷ [])) { refused = None }) w.nodes) (world_value after None false)
+        as_log (left_by_outcome w (record (adds w (Refused index refusal ∷ [])) { refused = None }) w.nodes) (world_value after None false)
         (same_beginning before after (Refused index refusal ∷ [])
         (noted_begun (seen before).beginning before.ledger.records index refusal is_noted) grows)
         grows.log refl refl (note_log w w.nodes index refusal kept.log may refl)

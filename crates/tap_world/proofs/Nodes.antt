@@ -15,24 +15,24 @@ use Rattle.tap_history.specs.Groups.{ends_log, is_ended}
 use Rattle.tap_history.specs.Names.{names_of}
 use Rattle.tap_rule.specs.Node.{NodeState}
 use Rattle.tap_node.specs.Node.{NodeValue, has_room_left, running}
-use Rattle.tap_node_common.specs.Sound.{has_numbers_left}
+use Rattle.tap_node_common.specs.SoundNode.{has_numbers_left}
 use Rattle.tap_safety.specs.AtRest.{system_at_rest}
 use Rattle.tap_runs.specs.Beginning.{Beginning, IsWithinLimits, begin_record}
 use Rattle.tap_runs.specs.Course.{IsCourse, system_of}
 use Rattle.tap_runs.proofs.Departing.{course_nodes_holds}
-use Rattle.tap_runs.proofs.Growing.{start_course, start_system}
+use Rattle.tap_runs.proofs.CourseGrows.{start_course, start_system}
 use Rattle.tap_readable.specs.Range.{HasNumbersLeft, IsInRange, steps_with_room}
 use Rattle.tap_readable.proofs.RangeCourses.{numbers_in_range_holds}
 use Rattle.tap_overlay.specs.Law.{HasNodesOf}
 use Rattle.tap_overlay.specs.Overlay.{IsAtRest, node_at}
 use Rattle.tap_overlay.proofs.Systems.{rest_nodes}
 use Rattle.tap_runs.specs.Named.{HasNames, HaveNames}
-use Rattle.tap_engine.specs.Kept.{AreKept, GoesOn, room_kept, room_of_record, world_value}
+use Rattle.tap_engine.specs.KeptEngine.{AreKept, EngineGoesOn, room_kept, room_of_record, world_value}
 use Rattle.tap_engine.specs.World.{HasBegun, WorldValue, node_of, nodes_running}
 use Rattle.tap_engine.specs.WorldLog.{HasCome, HasGoneTo, IsCourseOrFinished, IsWorldLog}
 use Rattle.tap_engine.specs.declared.engine.Engine.{Engine}
 use Rattle.tap_engine.proofs.Courses.{course_members}
-use Rattle.tap_engine.proofs.Grown.{end_system, pending_system}
+use Rattle.tap_engine.proofs.StandingAlone.{end_system, pending_system}
 use Rattle.tap_engine.proofs.Indices.{few_steps}
 use Rattle.tap_engine.proofs.Keeping.{seen, there}
 use Rattle.tap_engine.proofs.WorldLogs.{world_log_grows}
@@ -51,7 +51,7 @@ module _ (engine : Engine) (refused : Option Refusal) (kept : AreKept engine ref
   pub node_runs : (name : List ℕ) → node_of (world_value engine refused false) name ≡ nodes_running (system_of log) name
   node_runs name = by_ever (has_name (names_of log) name) refl
     where
-      goes : GoesOn engine
+      goes : EngineGoesOn engine
       goes = kept.go_on refl
 
       by_ever : (ever : Bool) → has_name (names_of log) name ≡ ever
@@ -173,7 +173,7 @@ module _ (b : Beginning) (limits : IsWithinLimits b) (engine : Engine) (settings
   begun_nodes =
       subst (λ s. HasNodesOf s engine.overlay) (sym (ap system_of log_is ∙ start_system b)) (rest_nodes b.settings b.members engine.overlay rest)
 
-  begun_goes : GoesOn engine
+  begun_goes : EngineGoesOn engine
   begun_goes = record {
     nodes = begun_nodes;
     ever = (course_nodes_holds b engine.ledger.records begun_course begun_going).ever;

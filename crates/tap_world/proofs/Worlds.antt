@@ -8,9 +8,9 @@ use Rattle.tap_log.specs.declared.record.Refusal.{Refusal}
 use Rattle.tap_history.specs.Core.{members_of}
 use Rattle.tap_history.specs.Moments.{outstanding}
 use Rattle.tap_history.specs.Refusals.{first_refusal}
-use Rattle.tap_engine.specs.Kept.{AreKept, AreReady, LeadsTo, world_value}
+use Rattle.tap_engine.specs.KeptEngine.{AreKept, AreReady, LeadsTo, world_value}
 use Rattle.tap_engine.specs.Kinds.{damages, observes}
-use Rattle.tap_engine.specs.Outcome.{AnswersAs, IsNextIndex, MayGoOn, Outcome, adds, deliver_outcome, is_within, refusal_in, spends, stays, step_outcome, stops, takes_number, unless_refused, unless_stopped}
+use Rattle.tap_engine.specs.Outcome.{IsNextIndex, MayGoOn, WorldAnswersAs, WorldOutcome, adds, deliver_outcome, is_within, refusal_in, spends, step_outcome, stops, takes_number, unless_refused, unless_stopped, world_stays}
 use Rattle.tap_runs.specs.Groups.{step_group}
 use Rattle.tap_engine.specs.World.{WorldValue}
 use Rattle.tap_engine.specs.declared.engine.Engine.{Engine}
@@ -18,17 +18,17 @@ use Rattle.tap_engine.specs.declared.stop.Stop.{Stop}
 use Rattle.tap_engine.specs.declared.stop.Stop.TheVariants.{Ended, NoMemory, Refused, Spent as StopSpent}
 use Rattle.tap_engine.proofs.Courses.{members_more}
 use Rattle.tap_engine.proofs.Keeping.{begun, on, seen}
-use Rattle.tap_engine.proofs.Steps.{quiet_within}
+use Rattle.tap_engine.proofs.AddedGroups.{quiet_within}
 
 -- ---- a world that was stopped
 
-unless_is : (w : WorldValue) (outcome : Outcome) → w.stopped ≡ true → unless_stopped w outcome ≡ stays w Ended
-unless_is w outcome over = ap (λ s. if s then stays w Ended else outcome) over
+unless_is : (w : WorldValue) (outcome : WorldOutcome) → w.stopped ≡ true → unless_stopped w outcome ≡ world_stays w Ended
+unless_is w outcome over = ap (λ s. if s then world_stays w Ended else outcome) over
 
 -- it does nothing
-pub stopped_answers : (w : WorldValue) (outcome : Outcome) → w.stopped ≡ true → AnswersAs (unless_stopped w outcome) w (Err Ended) w
+pub stopped_answers : (w : WorldValue) (outcome : WorldOutcome) → w.stopped ≡ true → WorldAnswersAs (unless_stopped w outcome) w (Err Ended) w
 stopped_answers w outcome over =
-    subst (λ o. AnswersAs o w (Err Ended) w) (sym (unless_is w outcome over)) (record {
+    subst (λ o. WorldAnswersAs o w (Err Ended) w) (sym (unless_is w outcome over)) (record {
       answer = λ other. refl;
       log = λ other. refl;
       refused = λ other. refl;
@@ -55,21 +55,21 @@ module _ (engine : Engine) (refused : Option Refusal) (stopped : Bool) where
   next_of index next = record { above = next.above; most = next.most }
 
   -- what is answered of such an engine is answered of the world
-  pub goes_on : (of : WorldValue → Outcome) (given : Result (Unit {0}) Stop) (after : WorldValue) → stopped ≡ false → refused ≡ None
-      → AnswersAs (of (seen engine)) (seen engine) given after
-      → AnswersAs (unless_stopped (world_value engine refused stopped) (of (world_value engine refused stopped)))
+  pub goes_on : (of : WorldValue → WorldOutcome) (given : Result (Unit {0}) Stop) (after : WorldValue) → stopped ≡ false → refused ≡ None
+      → WorldAnswersAs (of (seen engine)) (seen engine) given after
+      → WorldAnswersAs (unless_stopped (world_value engine refused stopped) (of (world_value engine refused stopped)))
       (world_value engine refused stopped) given after
   goes_on of given after runs none answers = rw (runs, none) answers
 
 -- ---- what is added
 
 -- the log of the outcome is the world's, and more
-pub record Extends (w : WorldValue) (outcome : Outcome) : Type 0 where
+pub record Extends (w : WorldValue) (outcome : WorldOutcome) : Type 0 where
   pub more : List Record
   pub is : outcome.log ≡ w.log ++ more
 
 -- and what is seen of it is said by the answer
-pub record Says (outcome : Outcome) : Type 0 where
+pub record Says (outcome : WorldOutcome) : Type 0 where
   pub refused : outcome.refused ≡ refusal_in outcome.answer
   pub stopped : outcome.stopped ≡ stops outcome.answer
 
@@ -99,7 +99,7 @@ takes_extends w None = record { more = []; is = sym (append-nil w.log) }
 takes_extends w (Some number) = within_extends w [] _ (is_within w.beginning w.log _)
 
 -- a delivery leaves no refusal to be noted
-pub record Takes (w : WorldValue) (outcome : Outcome) : Type 0 where
+pub record Takes (w : WorldValue) (outcome : WorldOutcome) : Type 0 where
   pub refused : outcome.refused ≡ w.refused
   pub stopped : outcome.stopped ≡ stops outcome.answer
 
@@ -128,7 +128,7 @@ takes_goes w None = λ ended. cc
 takes_goes w (Some number) = within_goes w [] _ (is_within w.beginning w.log _)
 
 module _ (before after : Engine) (given : Result (Unit {0}) Stop) where
-  unended : (outcome : Outcome) → outcome.answer ≢ Err Ended → LeadsTo outcome before given after → given ≢ Err Ended
+  unended : (outcome : WorldOutcome) → outcome.answer ≢ Err Ended → LeadsTo outcome before given after → given ≢ Err Ended
   unended outcome goes leads = λ ended.
       let other : given ≢ Err NoMemory = λ none. let wrong : Err Ended ≡ Err NoMemory = sym ended ∙ none in cc in
       goes (sym (leads.answer other) ∙ ended)
@@ -150,13 +150,13 @@ by_memory (Err NoMemory) = inl refl
 by_memory (Err Ended) = inr (λ never. cc)
 
 -- what is then seen of the refusal and of whether the world was stopped
-pub record AreSeen (outcome : Outcome) (given : Result (Unit {0}) Stop) (refused : Option Refusal) (stopped : Bool) : Type 0 where
+pub record AreSeen (outcome : WorldOutcome) (given : Result (Unit {0}) Stop) (refused : Option Refusal) (stopped : Bool) : Type 0 where
   pub refused_is : given ≢ Err NoMemory → refused ≡ outcome.refused
   pub stopped_is : given ≢ Err NoMemory → stopped ≡ outcome.stopped
   pub none : given ≡ Err NoMemory → refused ≡ None
   pub over : given ≡ Err NoMemory → stopped ≡ true
 
-module _ (before after : Engine) (ready : AreReady before) (outcome : Outcome) (given : Result (Unit {0}) Stop)
+module _ (before after : Engine) (ready : AreReady before) (outcome : WorldOutcome) (given : Result (Unit {0}) Stop)
     (leads : LeadsTo outcome before given after) (extends : Extends (seen before) outcome) (refused : Option Refusal) (stopped : Bool)
     (are : AreSeen outcome given refused stopped) where
   members_same : members_of after.ledger.records ≡ members_of before.ledger.records
@@ -172,7 +172,7 @@ module _ (before after : Engine) (ready : AreReady before) (outcome : Outcome) (
       ∙ ap (λ f. record { settings = before.settings; frames = f; members = members_of after.ledger.records }) leads.frames
       ∙ ap (λ m. record { settings = before.settings; frames = before.frames; members = m }) members_same
 
-  pub answers : AnswersAs outcome (seen before) given (world_value after refused stopped)
+  pub answers : WorldAnswersAs outcome (seen before) given (world_value after refused stopped)
   answers = record {
     answer = leads.answer;
     log = leads.log;
@@ -206,7 +206,7 @@ module _ (engine : Engine) (refused : Option Refusal) (stopped : Bool) (kept : A
           over = λ none. ap stops none;
         }
 
-    pub step_answers : AnswersAs (step_outcome (world_value engine refused stopped) index step) (world_value engine refused stopped) given
+    pub step_answers : WorldAnswersAs (step_outcome (world_value engine refused stopped) index step) (world_value engine refused stopped) given
         (world_value after (refusal_in given) (stops given))
     step_answers =
         goes_on engine refused stopped (λ w. unless_refused w index step (first_refusal w.log step)) given
@@ -233,7 +233,7 @@ module _ (engine : Engine) (refused : Option Refusal) (stopped : Bool) (kept : A
           over = λ none. ap stops none;
         }
 
-    pub deliver_answers : AnswersAs (deliver_outcome (world_value engine refused stopped) place) (world_value engine refused stopped) given
+    pub deliver_answers : WorldAnswersAs (deliver_outcome (world_value engine refused stopped) place) (world_value engine refused stopped) given
         (world_value after refused (stops given))
     deliver_answers =
         goes_on engine refused stopped (λ w. takes_number w (slice_get (outstanding w.log) place)) given

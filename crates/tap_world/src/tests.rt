@@ -2,9 +2,9 @@
 ghost use Rattle.std.specs.Prelude.{◌≡◌, ◌≤◌, IsTrue, Some, false, length, IfOk, option_and_then};
 ghost use Rattle.tap_name.specs.Name.{IsName};
 ghost use Rattle.tap_scenario.specs.Step.{IsStep};
-ghost use Rattle.tap_log.specs.Laws.{at_most_one};
+ghost use Rattle.tap_log.specs.MoreRecords.{at_most_one};
 ghost use Rattle.tap_log.specs.Log.{begun_steps, last_of};
-ghost use Rattle.tap_engine.specs.Kinds.{begun_index, begun_indices, damages, finishes, is_finished, last_index, observes};
+ghost use Rattle.tap_engine.specs.Kinds.{begun_index, begun_indices, damages, finishes_run, is_finished, last_index, observes};
 ghost use Rattle.tap_engine.specs.Outcome.{IsNextIndex, MayGoOn};
 
 use crate::{Stop, World};
@@ -109,9 +109,9 @@ fn have_begun(world: &World, steps: u32) -> bool
 }
 
 // Whether all steps were run, by the last record.
-#[tactic(auto, unfolding(tap_engine::specs::Kinds::finishes))]
+#[tactic(auto, unfolding(tap_engine::specs::Kinds::finishes_run))]
 fn finishes(item: &Record) -> bool
-    ensures { result ≡ finishes item.now }
+    ensures { result ≡ finishes_run item.now }
 {
     matches!(item, Record::Finished { .. })
 }

@@ -6,12 +6,12 @@ ghost use Rattle.tap_scenario.specs.Step.{IsStep};
 ghost use Rattle.tap_history.specs.GroupLaws.{IsNumbered};
 ghost use Rattle.tap_history.specs.Moments.{is_still, outstanding};
 ghost use Rattle.tap_history.specs.Names.{names_of};
-ghost use Rattle.tap_history.specs.Steps.{is_start};
+ghost use Rattle.tap_history.specs.StepAsks.{is_start};
 ghost use Rattle.tap_node.specs.Node.{has_room_left};
 ghost use Rattle.tap_runs.specs.Course.{is_choice, system_of};
 ghost use Rattle.tap_readable.specs.Range.{IsInRange};
-ghost use Rattle.tap_overlay.specs.Overlay.{IsNodeOf};
-ghost use Rattle.tap_engine.specs.Headline.{WorldHasHeadline};
+ghost use Rattle.tap_overlay.specs.Overlay.{HasNameAndSettings};
+ghost use Rattle.tap_engine.specs.WorldHeadline.{WorldHasHeadline};
 ghost use Rattle.tap_engine.specs.Holders.{HoldersAreExactAtRest};
 ghost use Rattle.tap_engine.specs.Kinds.{damages, most_index, observes};
 ghost use Rattle.tap_engine.specs.Outcome.{refusal_in, stops};
@@ -47,7 +47,7 @@ pub struct World {
 }
 
 impl Model for World {
-    ghost use Rattle.tap_engine.specs.Kept.{AreKept, world_value};
+    ghost use Rattle.tap_engine.specs.KeptEngine.{AreKept, world_value};
     ghost use Rattle.tap_engine.specs.World.{WorldValue};
 
     ghost Value = { WorldValue };
@@ -60,7 +60,7 @@ impl Model for World {
 impl World {
     ghost use Rattle.tap_runs.specs.Named.{HaveNames};
     ghost use Rattle.tap_runs.specs.Beginning.{IsWithinLimits};
-    ghost use Rattle.tap_engine.specs.Outcome.{AnswersAs, IsNextIndex, MayGoOn, MayNote, deliver_outcome, finish_outcome, mark_outcome, note_outcome, step_outcome};
+    ghost use Rattle.tap_engine.specs.Outcome.{IsNextIndex, MayGoOn, MayNote, WorldAnswersAs, deliver_outcome, finish_outcome, mark_outcome, note_outcome, step_outcome};
     ghost use Rattle.tap_engine.specs.WorldLog.{IsWorldLog};
     ghost use Rattle.tap_engine.specs.World.{HasBegun, node_of, nodes_running};
 
@@ -112,7 +112,7 @@ impl World {
         requires next { IsNextIndex self.old index }
         requires kind { is_start step.now ≡ true }
         requires names { IsStep self.old.beginning.settings false step.now }
-        ensures answers { AnswersAs (step_outcome self.old index step.now) self.old result self.new }
+        ensures answers { WorldAnswersAs (step_outcome self.old index step.now) self.old result self.new }
         ensures unchanged { (refusal : Refusal) → result ≡ Err (Stop.Refused refusal) → self.new.nodes ≡ self.old.nodes }
         ensures ended { result ≡ Err Stop.Ended → self.new ≡ self.old }
         ensures headline { WorldHasHeadline self.new }
@@ -136,7 +136,7 @@ impl World {
         requires next { IsNextIndex self.old index }
         requires kind { observes step.now ≡ true }
         requires names { IsStep self.old.beginning.settings false step.now }
-        ensures answers { AnswersAs (step_outcome self.old index step.now) self.old result self.new }
+        ensures answers { WorldAnswersAs (step_outcome self.old index step.now) self.old result self.new }
         ensures unspent { result ≢ Err Stop.Spent }
         ensures unchanged { (refusal : Refusal) → result ≡ Err (Stop.Refused refusal) → self.new.nodes ≡ self.old.nodes }
         ensures nodes { self.new.nodes ≡ self.old.nodes }
@@ -162,7 +162,7 @@ impl World {
         requires goes_on { MayGoOn self.old }
         requires next { IsNextIndex self.old index }
         requires kind { damages step.now ≡ true }
-        ensures answers { AnswersAs (step_outcome self.old index step.now) self.old result self.new }
+        ensures answers { WorldAnswersAs (step_outcome self.old index step.now) self.old result self.new }
         ensures unspent { result ≢ Err Stop.Spent }
         ensures unchanged { (refusal : Refusal) → result ≡ Err (Stop.Refused refusal) → self.new.nodes ≡ self.old.nodes }
         ensures nodes { self.new.nodes ≡ self.old.nodes }
@@ -188,7 +188,7 @@ impl World {
     /// Rule: docs/FORMATS.md, "The course of a run".
     pub fn deliver(&mut self, place: u32) -> Result<(), Stop>
         requires { MayGoOn self.old }
-        ensures answers { AnswersAs (deliver_outcome self.old place) self.old result self.new }
+        ensures answers { WorldAnswersAs (deliver_outcome self.old place) self.old result self.new }
         ensures unchanged { (refusal : Refusal) → result ≡ Err (Stop.Refused refusal) → self.new.nodes ≡ self.old.nodes }
         ensures ended { result ≡ Err Stop.Ended → self.new ≡ self.old }
         ensures headline { WorldHasHeadline self.new }
@@ -211,7 +211,7 @@ impl World {
         requires goes_on { MayGoOn self.old }
         requires next { IsNextIndex self.old index }
         requires kind { is_choice step.now ≡ true }
-        ensures answers { AnswersAs (mark_outcome self.old index step.now) self.old result self.new }
+        ensures answers { WorldAnswersAs (mark_outcome self.old index step.now) self.old result self.new }
         ensures nodes { self.new.nodes ≡ self.old.nodes }
         ensures ended { result ≡ Err Stop.Ended → self.new ≡ self.old }
         ensures headline { WorldHasHeadline self.new }
@@ -234,7 +234,7 @@ impl World {
     /// Rule: docs/FORMATS.md, "The course of a run".
     pub fn note(&mut self, index: u32, refusal: Refusal) -> Result<(), Stop>
         requires { MayNote self.old index refusal }
-        ensures answers { AnswersAs (note_outcome self.old index refusal) self.old result self.new }
+        ensures answers { WorldAnswersAs (note_outcome self.old index refusal) self.old result self.new }
         ensures memory { result ≢ Err Stop.NoMemory }
         ensures nodes { self.new.nodes ≡ self.old.nodes }
         ensures ended { result ≡ Err Stop.Ended → self.new ≡ self.old }
@@ -256,7 +256,7 @@ impl World {
     pub fn finish(&mut self, steps: u32) -> Result<(), Stop>
         requires goes_on { MayGoOn self.old }
         requires all { steps ≡ length (begun_steps self.old.log) }
-        ensures answers { AnswersAs (finish_outcome self.old steps) self.old result self.new }
+        ensures answers { WorldAnswersAs (finish_outcome self.old steps) self.old result self.new }
         ensures memory { result ≢ Err Stop.NoMemory }
         ensures nodes { self.new.nodes ≡ self.old.nodes }
         ensures ended { result ≡ Err Stop.Ended → self.new ≡ self.old }
@@ -339,7 +339,7 @@ impl World {
     pub fn node(&self, name: Name) -> Option<&Node>
         ensures node { option_copied result ≡ node_of self.now name }
         ensures never { IsNone result ↔ (has_name (names_of self.now.log) name ≡ false) }
-        ensures own { IfSome result (λ node. IsNodeOf self.now.beginning.settings name node.now) }
+        ensures own { IfSome result (λ node. HasNameAndSettings self.now.beginning.settings name node.now) }
         ensures state { self.now.stopped ≡ false → option_copied result ≡ nodes_running (system_of self.now.log) name }
         ensures room { self.now.stopped ≡ false → IfSome result (λ node. has_room_left node.now ≡ true) }
         ensures range { self.now.stopped ≡ false → IfSome result (λ node. IsInRange node.now.state) }
@@ -373,11 +373,11 @@ fn stops(answer: &Result<(), Stop>) -> bool
 }
 
 impl Tables for World {
-    ghost use Rattle.tap_engine.specs.Kept.{nodes_lent};
+    ghost use Rattle.tap_engine.specs.KeptEngine.{world_nodes_lent};
 
     ghost parameters = { λ w. w.beginning.settings };
 
-    ghost nodes = { nodes_lent };
+    ghost nodes = { world_nodes_lent };
 
     fn settings(&self) -> Settings {
         self.engine.settings

@@ -1,4 +1,4 @@
-use Rattle.tap_bounds.proofs.Moves.{few_at_rest}
+use Rattle.tap_bounds.proofs.FewSent.{few_at_rest}
 use Rattle.tap_bounds.proofs.law.few_at_rest_law.Goals as goal
 
 pub returns : goal.returns

@@ -1,4 +1,4 @@
-use Rattle.tap_bounds.proofs.Moves.{run_sends_few}
+use Rattle.tap_bounds.proofs.FewSent.{run_sends_few}
 use Rattle.tap_bounds.proofs.law.few_runs_law.Goals as goal
 
 pub returns : goal.returns

@@ -1,4 +1,4 @@
-use Rattle.tap_bounds.proofs.Taken.{heards_by_hellos, known_at_rest, move_keeps_known, run_knows_all}
+use Rattle.tap_bounds.proofs.KnownTaken.{heards_by_hellos, known_at_rest, move_keeps_known, run_knows_all}
 use Rattle.tap_bounds.proofs.law.taken_law.Goals as goal
 
 pub returns-clause-members : goal.returns-clause-members

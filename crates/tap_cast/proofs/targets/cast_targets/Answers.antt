@@ -2,7 +2,7 @@ use Rattle.std.proofs.Common.{◌+◌, ◌*◌, ◌<◌, ◌++◌, arith, sym, a
 use Rattle.tap_cast.specs.Targets.{cast_targets, slot_targets, targets_between}
 use Rattle.tap_cast.proofs.Levels.{all_told, none_told}
 use Rattle.tap_table.proofs.Stepping.{in_range, in_ranges, in_ranges-first}
-use Rattle.tap_table.proofs.Steps.{added}
+use Rattle.tap_table.proofs.OneAdded.{added}
 use Rattle.tap_cast.proofs.targets.cast_targets.Goals as goal
 use Rattle.tap_cast.proofs.targets.cast_targets.Goals.{then-is_between+in_ok-push_range, else-is_between}
 

@@ -1,7 +1,7 @@
 use Rattle.std.proofs.Common.{◌+◌, ◌<◌, ◌++◌, [], ◌∷◌, length, drop, map, arith, ap, sym, ◌∙◌}
 use Rattle.tap_cast.specs.Targets.{pins_of, told_at}
 use Rattle.tap_cast.proofs.Pins.{other_first, pin_first}
-use Rattle.tap_table.proofs.Steps.{added}
+use Rattle.tap_table.proofs.OneAdded.{added}
 use Rattle.tap_cast.proofs.targets.push_pins.Goals as goal
 use Rattle.tap_cast.proofs.targets.push_pins.Goals.{then-is_pin+in_ok-push, else-is_pin}
 

@@ -2,7 +2,7 @@ use Rattle.std.proofs.Common.{◌+◌, ◌++◌, map, ap, ◌∙◌}
 use Rattle.tap_link.specs.LinkSet.{least_settled}
 use Rattle.tap_cast.specs.Targets.{primary_or_pins, slot_targets, told_at}
 use Rattle.tap_table.proofs.Stepping.{from_digit, in_range, in_range-first, slot_of_range}
-use Rattle.tap_table.proofs.Steps.{added}
+use Rattle.tap_table.proofs.OneAdded.{added}
 use Rattle.tap_cast.proofs.targets.push_range.Goals as goal
 
 pub loop-digit-preserved : goal.loop-digit-preserved

@@ -1,4 +1,4 @@
-use Rattle.tap_cast_moves.proofs.Moves.{casts_at_rest}
+use Rattle.tap_cast_moves.proofs.SoundCasts.{casts_at_rest}
 use Rattle.tap_cast_moves.proofs.law.casts_at_rest_law.Goals as goal
 
 pub returns : goal.returns

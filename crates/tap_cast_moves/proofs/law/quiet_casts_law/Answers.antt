@@ -1,4 +1,4 @@
-use Rattle.tap_cast_moves.proofs.Moves.{casts_quietly, rest_closes}
+use Rattle.tap_cast_moves.proofs.SoundCasts.{casts_quietly, rest_closes}
 use Rattle.tap_cast_moves.proofs.law.quiet_casts_law.Goals as goal
 
 pub returns-clause-departing : goal.returns-clause-departing

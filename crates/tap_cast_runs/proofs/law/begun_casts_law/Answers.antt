@@ -1,4 +1,4 @@
-use Rattle.tap_cast_runs.proofs.Begun.{casts_stay_begun, groups_begin_right}
+use Rattle.tap_cast_runs.proofs.CastsBegun.{casts_stay_begun, groups_begin_right}
 use Rattle.tap_cast_runs.proofs.law.begun_casts_law.Goals as goal
 
 pub returns-clause-begins : goal.returns-clause-begins

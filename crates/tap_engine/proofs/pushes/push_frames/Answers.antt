@@ -4,7 +4,7 @@ use Rattle.tap_log.specs.declared.record.Record.TheVariants.{Sent}
 use Rattle.tap_log.specs.Counts.{sent_count}
 use Rattle.tap_ledger.specs.Added.{CanAdd}
 use Rattle.tap_ledger.proofs.Adding.{can_first, can_rest}
-use Rattle.tap_engine.specs.Seen.{bytes_records}
+use Rattle.tap_engine.specs.SeenTurns.{bytes_records}
 use Rattle.tap_engine.proofs.Counting.{sent_on}
 use Rattle.tap_engine.proofs.pushes.push_frames.Goals as goal
 

@@ -2,7 +2,7 @@ use Rattle.std.proofs.Common.{◌≡◌, ◌+◌, ◌≤◌, ◌++◌, length}
 use Rattle.std.specs.Vec.Iter.{into_iter_items}
 use Rattle.tap_log.specs.Counts.{sent_count}
 use Rattle.tap_ledger.specs.Added.{CanAdd}
-use Rattle.tap_engine.specs.Seen.{bytes_records}
+use Rattle.tap_engine.specs.SeenTurns.{bytes_records}
 use Rattle.tap_engine.proofs.pushes.push_frames.Given as goal
 
 abbrev pub invariant-loop-bytes : goal.invariant-loop-bytes

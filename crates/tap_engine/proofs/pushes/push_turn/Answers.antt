@@ -1,7 +1,7 @@
 use Rattle.std.proofs.Common.{ap, sym, subst, ◌∙◌, ◌++◌}
 use Rattle.tap_log.specs.Counts.{sent_count}
 use Rattle.tap_ledger.specs.Added.{CanAdd}
-use Rattle.tap_engine.specs.Seen.{bytes_records}
+use Rattle.tap_engine.specs.SeenTurns.{bytes_records}
 use Rattle.tap_engine.proofs.Counting.{frames_alone}
 use Rattle.tap_engine.proofs.pushes.push_turn.Goals as goal
 

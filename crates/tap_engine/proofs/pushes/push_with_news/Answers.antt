@@ -1,11 +1,11 @@
 use Rattle.std.proofs.Common.{◌≡◌, ℕ, ◌++◌, List, ap, sym, subst, ◌∙◌, append_assoc}
 use Rattle.tap_log.specs.declared.record.Record.{Record}
 use Rattle.tap_log.specs.Counts.{sent_count}
-use Rattle.tap_log.specs.Laws.{at_most_one}
+use Rattle.tap_log.specs.MoreRecords.{at_most_one}
 use Rattle.tap_node_common.specs.declared.news.News.{News}
 use Rattle.tap_ledger.specs.Added.{CanAdd}
 use Rattle.tap_ledger.proofs.Adding.{can_first, can_rest}
-use Rattle.tap_engine.specs.Seen.{bytes_records, seen_after, seen_before}
+use Rattle.tap_engine.specs.SeenTurns.{bytes_records, seen_after, seen_before}
 use Rattle.tap_engine.proofs.Counting.{sent_as_before}
 use Rattle.tap_engine.proofs.pushes.push_with_news.Goals as goal
 

@@ -1,4 +1,4 @@
-use Rattle.tap_history.proofs.Growing.{record_changes_hold}
+use Rattle.tap_history.proofs.RecordChanges.{record_changes_hold}
 use Rattle.tap_history.proofs.law.record_changes.Goals as goal
 
 pub returns : goal.returns

@@ -1,6 +1,6 @@
 use Rattle.std.proofs.Common.{◌≡◌, ◌≤◌, ◌-◌, length, take}
 use Rattle.std.specs.Io.KnownBytes.{Appends}
-use Rattle.tap_io.specs.Sink.{Follows, SinkState}
+use Rattle.tap_io.specs.Sink.{IsAfterWrites, SinkState}
 use Rattle.tap_io.proofs.buffered_sink.write_first.Given as goal
 
 abbrev pub invariant-loop-count : goal.invariant-loop-count
@@ -10,7 +10,7 @@ invariant-loop-count g l =
     record {
       within : l.count ≤ length l.bytes;
       appends : Appends old.held now.held (take l.count l.bytes);
-      follows : Follows old now;
+      follows : IsAfterWrites old now;
       faults : now.faults ≡ old.faults;
     }
 

@@ -1,8 +1,8 @@
-use Rattle.tap_lawful.specs.Laws.{PlayedGrows}
+use Rattle.tap_lawful.specs.PlayedLaws.{PlayedGrows}
 use Rattle.tap_lawful.proofs.Alike.{played_alike}
 use Rattle.tap_lawful.proofs.Less.{less_left}
 use Rattle.tap_lawful.proofs.Played.{played_course, played_more, played_starts}
-use Rattle.tap_lawful.proofs.Steps.{played_all, played_indices, played_steps}
+use Rattle.tap_lawful.proofs.BegunSteps.{played_all, played_indices, played_steps}
 use Rattle.tap_lawful.proofs.law.lawful_law.Goals as goal
 
 played_grows_holds : PlayedGrows

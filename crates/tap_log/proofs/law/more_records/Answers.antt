@@ -1,4 +1,4 @@
-use Rattle.tap_log.proofs.Growing.{more_records_hold}
+use Rattle.tap_log.proofs.MoreRecords.{more_records_hold}
 use Rattle.tap_log.proofs.law.more_records.Goals as goal
 
 pub returns : goal.returns

@@ -1,4 +1,4 @@
-use Rattle.tap_lookup_moves.proofs.Answers.{lookups_stay_of, no_lookups_at_rest, noted_answers_are_of}
+use Rattle.tap_lookup_moves.proofs.LookupAnswers.{lookups_stay_of, no_lookups_at_rest, noted_answers_are_of}
 use Rattle.tap_lookup_moves.proofs.law.answers_law.Goals as goal
 
 pub returns-clause-members : goal.returns-clause-members

@@ -1,4 +1,4 @@
-use Rattle.tap_lookup_moves.proofs.Moves.{lookups_at_rest, lookups_kept, never_back}
+use Rattle.tap_lookup_moves.proofs.LookupsKept.{lookups_at_rest, lookups_kept, never_back}
 use Rattle.tap_lookup_moves.proofs.law.lookups_law.Goals as goal
 
 pub returns-clause-members : goal.returns-clause-members

@@ -2,7 +2,7 @@ use Rattle.std.proofs.Common.{◌∙◌, ◌+◌, [], ap, arith}
 use Rattle.tap_make.specs.Draws.{DrawsValue}
 use Rattle.tap_make.specs.MadeNames.{marked_name}
 use Rattle.tap_make.specs.Mixer.{drawn}
-use Rattle.tap_make.proofs.Growing.{more_mapped}
+use Rattle.tap_make.proofs.LoopLists.{more_mapped}
 use Rattle.tap_make.proofs.Naming.{further_more}
 use Rattle.tap_make.proofs.names.draw_names.Goals as goal
 

@@ -1,7 +1,7 @@
 use Rattle.std.proofs.Common.{[], ◌∷◌, ap, arith, length}
 use Rattle.tap_scenario.specs.declared.step.Step.TheVariants.{Depart, Settle}
 use Rattle.tap_make.specs.MadeNames.{newcomer}
-use Rattle.tap_make.proofs.Growing.{more_flat}
+use Rattle.tap_make.proofs.LoopLists.{more_flat}
 use Rattle.tap_make.proofs.Scripted.{newcomer_at, two_more}
 use Rattle.tap_make.proofs.steps.add_departures.Goals as goal
 

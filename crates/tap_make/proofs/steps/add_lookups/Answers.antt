@@ -2,7 +2,7 @@ use Rattle.std.proofs.Common.{◌≡◌, ◌∙◌, ◌+◌, ◌*◌, ◌++◌, 
 use Rattle.std.specs.List.{range_with_len}
 use Rattle.tap_scenario.specs.declared.step.Step.TheVariants.{Find, Settle}
 use Rattle.tap_make.specs.MadeSteps.{lookup_count, made_lookup}
-use Rattle.tap_make.proofs.Growing.{more_flat}
+use Rattle.tap_make.proofs.LoopLists.{more_flat}
 use Rattle.tap_make.proofs.Naming.{further_more, place_is, same_names}
 use Rattle.tap_make.proofs.Scripted.{lookup_made, two_more}
 use Rattle.tap_make.proofs.steps.add_lookups.Goals as goal

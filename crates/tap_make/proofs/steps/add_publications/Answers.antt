@@ -4,7 +4,7 @@ use Rattle.tap_scenario.specs.declared.step.Step.TheVariants.{Publish}
 use Rattle.tap_make.specs.Draws.{further}
 use Rattle.tap_make.specs.MadeNames.{made_object, object_count}
 use Rattle.tap_make.specs.MadeSteps.{made_publication}
-use Rattle.tap_make.proofs.Growing.{more_mapped}
+use Rattle.tap_make.proofs.LoopLists.{more_mapped}
 use Rattle.tap_make.proofs.Naming.{count_of, further_more, place_is, same_names}
 use Rattle.tap_make.proofs.Scripted.{object_at, publication_made}
 use Rattle.tap_make.proofs.steps.add_publications.Goals as goal

@@ -3,7 +3,7 @@ use Rattle.std.specs.List.{range_with_len}
 use Rattle.tap_scenario.specs.declared.step.Step.TheVariants.{Join}
 use Rattle.tap_make.specs.Draws.{further}
 use Rattle.tap_make.specs.MadeNames.{drawn_member, newcomer}
-use Rattle.tap_make.proofs.Growing.{more_mapped}
+use Rattle.tap_make.proofs.LoopLists.{more_mapped}
 use Rattle.tap_make.proofs.Naming.{further_more, place_is, same_names}
 use Rattle.tap_make.proofs.Scripted.{join_made, newcomer_at}
 use Rattle.tap_make.proofs.waves.add_joins.Goals as goal

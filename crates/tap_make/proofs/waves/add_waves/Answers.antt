@@ -2,7 +2,7 @@ use Rattle.std.proofs.Common.{◌≡◌, ◌∙◌, ◌+◌, ◌*◌, ◌++◌, 
 use Rattle.std.specs.List.{range_with_len}
 use Rattle.tap_make.specs.Draws.{DrawsValue, further}
 use Rattle.tap_make.specs.MadeSteps.{made_wave, wave_count, wave_size}
-use Rattle.tap_make.proofs.Growing.{more_flat}
+use Rattle.tap_make.proofs.LoopLists.{more_flat}
 use Rattle.tap_make.proofs.Naming.{further_more, place_is, same_names}
 use Rattle.tap_make.proofs.waves.add_waves.Goals as goal
 

@@ -1,7 +1,7 @@
 use Rattle.std.proofs.Common.{◌+◌, ◌*◌, ◌<◌, ◌++◌, arith, ap, sym, ◌∙◌}
 use Rattle.tap_table.specs.ByName.{by_name}
 use Rattle.tap_table.proofs.Stepping.{in_range, in_ranges, in_ranges-all, in_ranges-first}
-use Rattle.tap_table.proofs.Steps.{added}
+use Rattle.tap_table.proofs.OneAdded.{added}
 use Rattle.tap_multicast.specs.Offer.{is_offered, offered_as}
 use Rattle.tap_multicast.specs.Slots.{offered_in}
 use Rattle.tap_multicast.proofs.Offering.{offer_by_slot}

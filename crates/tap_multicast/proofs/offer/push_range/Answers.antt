@@ -1,7 +1,7 @@
 use Rattle.std.proofs.Common.{◌+◌, ◌++◌, ◌&&◌, append-nil, ap, is_some, sym, ◌∙◌}
 use Rattle.tap_link.specs.LinkSet.{least_settled}
 use Rattle.tap_table.proofs.Stepping.{from_digit, in_range, in_range-first, slot_of_range}
-use Rattle.tap_table.proofs.Steps.{added}
+use Rattle.tap_table.proofs.OneAdded.{added}
 use Rattle.tap_multicast.specs.Offer.{has_slot}
 use Rattle.tap_multicast.specs.Slots.{offered_among, offered_in}
 use Rattle.tap_multicast.proofs.Unlinked.{in_range-unlinked}

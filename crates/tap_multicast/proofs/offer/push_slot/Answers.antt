@@ -1,6 +1,6 @@
 use Rattle.std.proofs.Common.{◌+◌, ◌++◌, [], ◌∷◌, drop, ap, sym, ◌∙◌}
 use Rattle.tap_table.proofs.Found.{link_to}
-use Rattle.tap_table.proofs.Steps.{added}
+use Rattle.tap_table.proofs.OneAdded.{added}
 use Rattle.tap_multicast.specs.Offer.{offered_as, offers}
 use Rattle.tap_multicast.proofs.Links.{link_got}
 use Rattle.tap_multicast.proofs.Picked.{passed_over, picked, picked-first}

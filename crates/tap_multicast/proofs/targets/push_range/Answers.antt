@@ -1,6 +1,6 @@
 use Rattle.std.proofs.Common.{◌+◌, ◌++◌, append-nil, ap, sym, ◌∙◌}
 use Rattle.tap_table.proofs.Stepping.{from_digit, in_range, in_range-first, slot_of_range}
-use Rattle.tap_table.proofs.Steps.{added}
+use Rattle.tap_table.proofs.OneAdded.{added}
 use Rattle.tap_multicast.specs.Slots.{told_among, told_in}
 use Rattle.tap_multicast.proofs.Unlinked.{in_range-unlinked}
 use Rattle.tap_multicast.proofs.targets.push_range.Goals as goal

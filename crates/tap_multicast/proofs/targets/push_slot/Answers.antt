@@ -1,7 +1,7 @@
 use Rattle.std.proofs.Common.{◌+◌, ◌++◌, [], ◌∷◌, drop, ap, sym, ◌∙◌}
 use Rattle.tap_link.specs.LinkSet.{least_settled}
 use Rattle.tap_table.proofs.Found.{link_to}
-use Rattle.tap_table.proofs.Steps.{added}
+use Rattle.tap_table.proofs.OneAdded.{added}
 use Rattle.tap_multicast.specs.Slots.{target_at, told_among}
 use Rattle.tap_multicast.specs.Targets.{tells}
 use Rattle.tap_multicast.proofs.Links.{link_got}

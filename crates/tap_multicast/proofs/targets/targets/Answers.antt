@@ -1,9 +1,9 @@
 use Rattle.std.proofs.Common.{◌+◌, ◌*◌, ◌<◌, ◌++◌, arith, ap, sym, ◌∙◌}
 use Rattle.tap_table.proofs.Stepping.{in_range, in_ranges, in_ranges-all, in_ranges-first}
-use Rattle.tap_table.proofs.Steps.{added}
+use Rattle.tap_table.proofs.OneAdded.{added}
 use Rattle.tap_multicast.specs.Slots.{told_in}
 use Rattle.tap_multicast.specs.Targets.{targets}
-use Rattle.tap_multicast.proofs.Told.{none_told, targets_by_slot}
+use Rattle.tap_multicast.proofs.ToldBySlot.{none_told, targets_by_slot}
 use Rattle.tap_multicast.proofs.targets.targets.Goals as goal
 use Rattle.tap_multicast.proofs.targets.targets.Goals.{then-is_told_over+in_ok-push_range, else-is_told_over}
 

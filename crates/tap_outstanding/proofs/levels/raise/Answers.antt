@@ -1,7 +1,7 @@
 use Rattle.std.proofs.Common.{ℕ, ◌+◌, ◌<◌, List, length, set, subst, sym, ap, arith}
 use Rattle.std.specs.List.{sum}
 use Rattle.tap_outstanding.proofs.Towers.{level-set_next}
-use Rattle.tap_outstanding.proofs.Growing.{IsWhole, one-more-grown, mark-added, whole-sum, grown-fits, grown-tower}
+use Rattle.tap_outstanding.proofs.GrowingMarks.{IsWhole, one-more-grown, mark-added, whole-sum, grown-fits, grown-tower}
 use Rattle.tap_outstanding.proofs.levels.raise.Goals as goal
 
 pub returns-then-end-ne0-clause-tower : goal.returns-then-end-ne0-clause-tower

@@ -1,5 +1,5 @@
 use Rattle.tap_outstanding.specs.Levels.{level}
-use Rattle.tap_outstanding.proofs.Growing.{IsGrownUpTo, IsWhole}
+use Rattle.tap_outstanding.proofs.GrowingMarks.{IsGrownUpTo, IsWhole}
 use Rattle.tap_outstanding.proofs.levels.raise.Given as goal
 
 abbrev pub invariant-loop-counts : goal.invariant-loop-counts

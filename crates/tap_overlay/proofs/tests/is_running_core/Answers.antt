@@ -5,7 +5,7 @@ use Rattle.tap_rule.specs.Node.{Status}
 use Rattle.tap_rule.specs.Node.Status.{Joining, Core, Leaving, Gone, Ceased}
 use Rattle.tap_node.specs.declared.status.NodeStatus.TheVariants as seen
 use Rattle.tap_node.specs.Node.{node_status, status_seen}
-use Rattle.tap_overlay.specs.Start.{IsCore}
+use Rattle.tap_overlay.specs.Start.{IsCoreOrEnded}
 use Rattle.tap_overlay.proofs.Stepped.{of_found}
 use Rattle.tap_overlay.proofs.tests.is_running_core.Goals as goal
 
@@ -23,5 +23,5 @@ pub returns-in-Some : goal.returns-in-Some
 returns-in-Some c = λ core other found.
     let node = c.in-Some.node.now in
     let is : node_status node ≡ seen.Core = sym c.status.ensures ∙ c.is_core.ensures.0 core in
-    of_found IsCore c.args.overlay.now.nodes c.args.name.now node other (sym c.in-Some.ensures.value)
+    of_found IsCoreOrEnded c.args.overlay.now.nodes c.args.name.now node other (sym c.in-Some.ensures.value)
     (is_seen node.ended node.state.status is) found

@@ -1,4 +1,4 @@
-use Rattle.tap_pointer_moves.proofs.Moves.{pointers_at_rest}
+use Rattle.tap_pointer_moves.proofs.PointersKept.{pointers_at_rest}
 use Rattle.tap_pointer_moves.proofs.law.members_have_no_pointers.Goals as goal
 
 pub returns : goal.returns

@@ -1,4 +1,4 @@
-use Rattle.tap_pointer_moves.proofs.Moves.{pointers_kept}
+use Rattle.tap_pointer_moves.proofs.PointersKept.{pointers_kept}
 use Rattle.tap_pointer_moves.proofs.law.pointers_law.Goals as goal
 
 pub returns : goal.returns

@@ -1,4 +1,4 @@
-use Rattle.tap_readable.proofs.Courses.{courses_are_readable}
+use Rattle.tap_readable.proofs.ReadableCourses.{courses_are_readable}
 use Rattle.tap_readable.proofs.law.readable_law.Goals as goal
 
 pub returns : goal.returns

@@ -2,7 +2,7 @@ use Rattle.std.proofs.Common.{◌≡◌, ◌<◌, ◌≤◌, inr, Ok, Some, ap, 
 use Rattle.tap_scenario.specs.declared.step.Step.TheVariants.{Deliver}
 use Rattle.tap_log.specs.declared.record.Refusal.TheVariants.{NoSuchFlight}
 use Rattle.tap_history.specs.Moments.{outstanding}
-use Rattle.tap_engine.specs.Outcome.{AnswersAs, mark_outcome}
+use Rattle.tap_engine.specs.Outcome.{WorldAnswersAs, mark_outcome}
 use Rattle.tap_replay.proofs.Stepping.{begun_last, deliver_chooses, deliver_refusable, has_marked, marked_count, mark_runs, noted_answers, place_missing, place_there}
 use Rattle.tap_replay.proofs.steps.choose_place.Goals as goal
 
@@ -14,11 +14,11 @@ returns-then-place-count c =
     let w = c.args.world.now in
     let v = c.mark.new.self in
     let step = Deliver c.args.place in
-    let marked = subst (λ r. AnswersAs (mark_outcome w c.args.index step) w r v) c.in_ok-mark.was c.mark.ensures.answers in
+    let marked = subst (λ r. WorldAnswersAs (mark_outcome w c.args.index step) w r v) c.in_ok-mark.was c.mark.ensures.answers in
     let begun = has_marked w v c.args.index step c.requires.may.runs marked in
     let there : c.args.place < length (outstanding w.log) =
     subst (λ n. c.args.place < n) (c.outstanding-count.ensures ∙ marked_count w v c.args.index step begun) c.if-place-count.true in
-    subst (λ o. AnswersAs o w (Ok tt) v)
+    subst (λ o. WorldAnswersAs o w (Ok tt) v)
     (mark_runs w c.requires.may c.args.index step (deliver_chooses c.args.place) (place_there w c.args.index c.args.place c.requires.may there)) marked
 
 pub note-requires : goal.note-requires
@@ -26,7 +26,7 @@ note-requires c =
     let w = c.args.world.now in
     let v = c.mark.new.self in
     let step = Deliver c.args.place in
-    let marked = subst (λ r. AnswersAs (mark_outcome w c.args.index step) w r v) c.in_ok-mark.was c.mark.ensures.answers in
+    let marked = subst (λ r. WorldAnswersAs (mark_outcome w c.args.index step) w r v) c.in_ok-mark.was c.mark.ensures.answers in
     let begun = has_marked w v c.args.index step c.requires.may.runs marked in
     record { step = step; last = begun_last w v c.args.index step begun; may = inr (deliver_refusable c.args.place) }
 
@@ -35,7 +35,7 @@ returns c =
     let w = c.args.world.now in
     let v = c.mark.new.self in
     let step = Deliver c.args.place in
-    let marked = subst (λ r. AnswersAs (mark_outcome w c.args.index step) w r v) c.in_ok-mark.was c.mark.ensures.answers in
+    let marked = subst (λ r. WorldAnswersAs (mark_outcome w c.args.index step) w r v) c.in_ok-mark.was c.mark.ensures.answers in
     let begun = has_marked w v c.args.index step c.requires.may.runs marked in
     let count : c.outstanding-count.result ≡ length (outstanding w.log) =
     c.outstanding-count.ensures ∙ marked_count w v c.args.index step begun in

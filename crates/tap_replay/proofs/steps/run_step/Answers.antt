@@ -1,7 +1,7 @@
 use Rattle.std.proofs.Common.{◌≡◌, inl, true, Err, ap, subst, ◌∙◌}
 use Rattle.tap_runs.specs.Course.{is_choice}
-use Rattle.tap_engine.specs.Outcome.{AnswersAs, step_outcome}
-use Rattle.tap_replay.specs.Steps.{IsCallOf}
+use Rattle.tap_engine.specs.Outcome.{WorldAnswersAs, step_outcome}
+use Rattle.tap_replay.specs.StepCalls.{IsCallOf}
 use Rattle.tap_replay.proofs.Stepping.{begun_last, has_refused, mark_runs, noted_answers, settle_goes}
 use Rattle.tap_replay.proofs.steps.run_step.Goals as goal
 
@@ -10,7 +10,7 @@ returns-in_default-call_of c =
     let w = c.args.world.now in
     let step = c.args.step.now in
     let chosen : is_choice step ≡ true = subst (IsCallOf step) c.in_default-call_of.is c.call_of.ensures in
-    subst (λ o. AnswersAs o w c.mark.result c.mark.new.self)
+    subst (λ o. WorldAnswersAs o w c.mark.result c.mark.new.self)
     (mark_runs w c.requires.may c.args.index step chosen (settle_goes w.log step c.requires.played c.in_default.not-Deliver chosen))
     c.mark.ensures.answers
 
@@ -22,7 +22,7 @@ note-requires c =
     let refusal = c.in-Err-Refused.refusal in
     let at = c.in-Err-Refused.is ∙ ap Err c.in-Err-Refused.field-0-is in
     let refused = has_refused w v c.args.index step refusal c.requires.may.runs
-    (subst (λ r. AnswersAs (step_outcome w c.args.index step) w r v) at c.try_step.ensures) in
+    (subst (λ r. WorldAnswersAs (step_outcome w c.args.index step) w r v) at c.try_step.ensures) in
     record { step = step; last = begun_last w v c.args.index step refused.begun; may = inl refused.noted }
 
 pub returns-in-Err-Refused : goal.returns-in-Err-Refused
@@ -33,6 +33,6 @@ returns-in-Err-Refused c =
     let refusal = c.in-Err-Refused.refusal in
     let at = c.in-Err-Refused.is ∙ ap Err c.in-Err-Refused.field-0-is in
     let refused = has_refused w v c.args.index step refusal c.requires.may.runs
-    (subst (λ r. AnswersAs (step_outcome w c.args.index step) w r v) at c.try_step.ensures) in
+    (subst (λ r. WorldAnswersAs (step_outcome w c.args.index step) w r v) at c.try_step.ensures) in
     noted_answers w v c.args.index step refused.begun c.note.new.self refusal c.note.result c.requires.may refused.first
     c.note.ensures.memory c.note.ensures.answers

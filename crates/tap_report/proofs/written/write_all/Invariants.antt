@@ -1,6 +1,6 @@
 use Rattle.std.proofs.Common.{◌≡◌, ◌≤◌, ◌-◌, length, take}
 use Rattle.std.specs.Io.KnownBytes.{Appends}
-use Rattle.tap_io.specs.Sink.{Follows}
+use Rattle.tap_io.specs.Sink.{IsAfterWrites}
 use Rattle.tap_report.proofs.written.write_all.Given as goal
 
 abbrev pub invariant-loop-done : goal.invariant-loop-done
@@ -11,7 +11,7 @@ invariant-loop-done g l =
       within : l.done ≤ length l.text;
       appends : Appends old.held new.held (take l.done l.text);
       faults : new.faults ≡ old.faults;
-      follows : Follows old new;
+      follows : IsAfterWrites old new;
     }
 
 abbrev pub decreases-loop-done : goal.decreases-loop-done

@@ -1,4 +1,4 @@
-use Rattle.tap_rule.proofs.Kept.{joiner_law, kept_law, member_law, start_kept_law}
+use Rattle.tap_rule.proofs.KeptNode.{joiner_law, kept_law, member_law, start_kept_law}
 use Rattle.tap_rule.proofs.Laid.{laid_law}
 use Rattle.tap_rule.proofs.law.kept_law.Goals as goal
 

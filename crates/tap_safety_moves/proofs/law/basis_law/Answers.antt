@@ -1,4 +1,4 @@
-use Rattle.tap_safety_moves.proofs.Moves.{basis_keeps}
+use Rattle.tap_safety_moves.proofs.SoundMoves.{basis_keeps}
 use Rattle.tap_safety_moves.proofs.law.basis_law.Goals as goal
 
 pub returns : goal.returns

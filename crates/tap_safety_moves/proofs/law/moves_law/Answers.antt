@@ -1,4 +1,4 @@
-use Rattle.tap_safety_moves.proofs.Moves.{move_keeps}
+use Rattle.tap_safety_moves.proofs.SoundMoves.{move_keeps}
 use Rattle.tap_safety_moves.proofs.law.moves_law.Goals as goal
 
 pub returns : goal.returns

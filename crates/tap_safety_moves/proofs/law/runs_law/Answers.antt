@@ -1,4 +1,4 @@
-use Rattle.tap_safety_moves.proofs.Moves.{run_is_sound}
+use Rattle.tap_safety_moves.proofs.SoundMoves.{run_is_sound}
 use Rattle.tap_safety_moves.proofs.law.runs_law.Goals as goal
 
 pub returns : goal.returns

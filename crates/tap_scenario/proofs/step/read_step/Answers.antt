@@ -1,6 +1,6 @@
 use Rattle.std.proofs.Common.{◌≡◌, ◌∙◌, ap}
 use Rattle.tap_scenario.specs.Step.{step_of_text, step_of_words}
-use Rattle.tap_scenario.proofs.Steps.{step_of_text-exact}
+use Rattle.tap_scenario.proofs.StepTexts.{step_of_text-exact}
 use Rattle.tap_scenario.proofs.step.read_step.Goals as goal
 
 pub returns-clause-exact : goal.returns-clause-exact

@@ -1,7 +1,7 @@
 use Rattle.std.proofs.Common.{◌+◌, ◌++◌, [], ◌∷◌, false, drop, arith, ap}
 use Rattle.tap_table.specs.ByName.{targets_of}
 use Rattle.tap_table.specs.Ties.{off_ties}
-use Rattle.tap_table.proofs.Steps.{added, drop_got}
+use Rattle.tap_table.proofs.OneAdded.{added, drop_got}
 use Rattle.tap_table.specs.declared.tie.Tie.{Tie}
 use Rattle.tap_table.proofs.off.push_links.Goals as goal
 

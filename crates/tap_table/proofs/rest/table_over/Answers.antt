@@ -5,7 +5,7 @@ use Rattle.std.proofs.lemmas.Slice.Eq.{bytes_eq-Decides}
 use Rattle.tap_name.specs.Name.{IsName}
 use Rattle.tap_table.specs.Table.{IsTable}
 use Rattle.tap_table.proofs.AtRest.{IsTable-at_rest}
-use Rattle.tap_table.proofs.Grown.{HasSettled, settled_on_all, settled_on_none, settled_on_other, settled_on_owner}
+use Rattle.tap_table.proofs.SettledOn.{HasSettled, settled_on_all, settled_on_none, settled_on_other, settled_on_owner}
 use Rattle.tap_table.proofs.rest.table_over.Goals as goal
 
 pub loop-name-init : goal.loop-name-init

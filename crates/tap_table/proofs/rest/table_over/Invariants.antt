@@ -1,5 +1,5 @@
 use Rattle.std.proofs.Common.{take}
-use Rattle.tap_table.proofs.Grown.{HasSettled}
+use Rattle.tap_table.proofs.SettledOn.{HasSettled}
 use Rattle.tap_table.proofs.rest.table_over.Given as goal
 
 abbrev pub invariant-loop-name : goal.invariant-loop-name

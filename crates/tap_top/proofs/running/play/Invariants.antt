@@ -1,7 +1,7 @@
 use Rattle.std.proofs.Common.{◌≡◌, None, length}
 use Rattle.std.specs.Prelude.{fold}
 use Rattle.tap_io.specs.Sink.{SinkState}
-use Rattle.tap_lawful.specs.Laws.{left_of}
+use Rattle.tap_lawful.specs.PlayedLaws.{left_of}
 use Rattle.tap_replay.specs.Player.{HasPlayed}
 use Rattle.tap_report.specs.Reporter.{Reports, settings_after}
 use Rattle.tap_report.specs.declared.mode.Mode.{Mode}

@@ -1,4 +1,4 @@
-use Rattle.tap_watch_runs.proofs.Moves.{watches_at_rest}
+use Rattle.tap_watch_runs.proofs.WatchesKept.{watches_at_rest}
 use Rattle.tap_watch_runs.proofs.law.answers_at_rest_law.Goals as goal
 
 pub returns : goal.returns

@@ -1,4 +1,4 @@
-use Rattle.tap_watch_runs.proofs.Moves.{move_keeps_watches}
+use Rattle.tap_watch_runs.proofs.WatchesKept.{move_keeps_watches}
 use Rattle.tap_watch_runs.proofs.law.answers_moves_law.Goals as goal
 
 pub returns : goal.returns

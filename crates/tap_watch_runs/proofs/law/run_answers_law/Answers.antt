@@ -1,4 +1,4 @@
-use Rattle.tap_watch_runs.proofs.Moves.{run_watches}
+use Rattle.tap_watch_runs.proofs.WatchesKept.{run_watches}
 use Rattle.tap_watch_runs.proofs.law.run_answers_law.Goals as goal
 
 pub returns : goal.returns

@@ -2,7 +2,7 @@ use Rattle.std.proofs.Common.{◌≡◌, refl, sym, ◌∙◌}
 use Rattle.tap_rule.specs.Casts.{cast_news, casts, is_root}
 use Rattle.tap_rule.specs.Node.{NodeState}
 use Rattle.tap_node_common.specs.declared.news.News.TheVariants.{Nothing}
-use Rattle.tap_node_common.specs.Step.{news_of}
+use Rattle.tap_node_common.specs.StepsAs.{news_seen}
 use Rattle.tap_core_node.specs.Requests.{copied_with}
 use Rattle.tap_core_node.specs.State.{core_state}
 use Rattle.tap_core_node.proofs.CastSteps.{cast_again, cast_alone, cast_few, cast_goes_on, cast_levels, cast_names}
@@ -14,7 +14,7 @@ returns-then-is_empty c =
     let node : NodeState = core_state c.args.self.now in
     let copy = copied_with c.args.copy.now c.args.word.now in
     let found = rw (c.table-table.ensures.value, c.ties.ensures) at c.in_ok-cast.ensures.turn in
-    let news : c.cast_news.result ≡ news_of (cast_news copy.cast c.in-Now.first (is_root copy.parent)) =
+    let news : c.cast_news.result ≡ news_seen (cast_news copy.cast c.in-Now.first (is_root copy.parent)) =
     rw c.is_root.ensures at c.cast_news.ensures in
     rw news (follows_quiet node (casts node copy) _ c.args.sent.now _ _ (casts_quiet node refl c.requires.sound.laid copy)
     (cast_alone node copy _ c.args.sent.now _ c.in_ok-cast.ensures.after c.in-Now.first c.in-Now.targets (sym found ∙ c.in-Now.is)

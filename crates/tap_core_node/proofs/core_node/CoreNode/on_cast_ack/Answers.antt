@@ -2,7 +2,7 @@ use Rattle.std.proofs.Common.{◌≡◌, false, refl, sym, ◌∙◌, inl, inr}
 use Rattle.tap_rule.specs.Casts.{cast_news, cast_of, is_root, takes_cast_ack}
 use Rattle.tap_rule.specs.Node.{NodeState, settings_of}
 use Rattle.tap_node_common.specs.declared.news.News.TheVariants.{Nothing}
-use Rattle.tap_node_common.specs.Step.{news_of}
+use Rattle.tap_node_common.specs.StepsAs.{news_seen}
 use Rattle.tap_node_common.proofs.Parents.{closed_parent}
 use Rattle.tap_core_node.specs.State.{core_state}
 use Rattle.tap_core_node.proofs.CastSteps.{cast_closed, cast_open, cast_unknown}
@@ -18,7 +18,7 @@ answer_cast-requires-clause-parent c =
 pub returns-in_ok-answer_cast-in-Closed : goal.returns-in_ok-answer_cast-in-Closed
 returns-in_ok-answer_cast-in-Closed c =
     let node : NodeState = core_state c.args.self.now in
-    let news : c.cast_news.result ≡ news_of (cast_news (cast_of node c.args.session) false (is_root c.in-Closed.parent)) =
+    let news : c.cast_news.result ≡ news_seen (cast_news (cast_of node c.args.session) false (is_root c.in-Closed.parent)) =
     rw (c.cast_of-cast.ensures, c.as_slice.ensures.value, c.is_root.ensures) at c.cast_news.ensures in
     rw news (follows_quiet node (takes_cast_ack node c.args.session) _ c.args.sent.now _ _
     (cast_answered_quiet node refl c.requires.sound.laid c.args.session)

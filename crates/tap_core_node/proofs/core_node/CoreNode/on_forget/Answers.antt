@@ -1,6 +1,6 @@
 use Rattle.std.proofs.Common.{refl}
 use Rattle.tap_core_node.specs.State.{core_state}
-use Rattle.tap_core_node.proofs.Steps.{forgotten_follows}
+use Rattle.tap_core_node.proofs.CoreSteps.{forgotten_follows}
 use Rattle.tap_core_node.proofs.core_node.CoreNode.on_forget.Goals as goal
 
 pub returns : goal.returns

@@ -2,10 +2,10 @@ use Rattle.std.proofs.Common.{◌≡◌, refl, sym, ◌∙◌}
 use Rattle.tap_table.proofs.Primaries.{primary_near}
 use Rattle.tap_table.specs.Ties.{removed}
 use Rattle.tap_rule.specs.Node.{NodeState}
-use Rattle.tap_node_common.proofs.Sound.{hops-sound}
+use Rattle.tap_node_common.proofs.NumbersLeft.{hops-sound}
 use Rattle.tap_core_node.specs.State.{core_state}
 use Rattle.tap_core_node.proofs.Laid.{same_primary}
-use Rattle.tap_core_node.proofs.Steps.{removed_quietly, silent_and_laid}
+use Rattle.tap_core_node.proofs.CoreSteps.{removed_quietly, silent_and_laid}
 use Rattle.tap_core_node.proofs.core_node.CoreNode.on_gone.Goals as goal
 
 pub reconcile-requires-clause-hops : goal.reconcile-requires-clause-hops

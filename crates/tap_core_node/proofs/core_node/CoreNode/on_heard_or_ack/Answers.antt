@@ -1,6 +1,6 @@
 use Rattle.std.proofs.Common.{refl}
 use Rattle.tap_core_node.specs.State.{core_state}
-use Rattle.tap_core_node.proofs.Steps.{answered_follows}
+use Rattle.tap_core_node.proofs.CoreSteps.{answered_follows}
 use Rattle.tap_core_node.proofs.core_node.CoreNode.on_heard_or_ack.Goals as goal
 
 pub returns : goal.returns

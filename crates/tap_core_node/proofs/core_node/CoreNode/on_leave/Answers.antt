@@ -1,11 +1,11 @@
 use Rattle.std.proofs.Common.{◌≡◌, true, IfSome, refl, sym, ◌∙◌}
 use Rattle.tap_rule.specs.Node.{NodeState}
-use Rattle.tap_depart.specs.Told.{told_leave}
-use Rattle.tap_node_common.proofs.Sound.{hops-sound}
+use Rattle.tap_depart.specs.ToldLeave.{told_leave}
+use Rattle.tap_node_common.proofs.NumbersLeft.{hops-sound}
 use Rattle.tap_core_node.specs.Primaries.{IsLevelOfLeave, has_other_primary}
 use Rattle.tap_core_node.specs.State.{core_state}
 use Rattle.tap_core_node.proofs.Laid.{laid-leave_at}
-use Rattle.tap_core_node.proofs.Steps.{left_quietly}
+use Rattle.tap_core_node.proofs.CoreSteps.{left_quietly}
 use Rattle.tap_core_node.proofs.core_node.CoreNode.on_leave.Goals as goal
 
 pub reconcile_beside-requires-clause-hops : goal.reconcile_beside-requires-clause-hops

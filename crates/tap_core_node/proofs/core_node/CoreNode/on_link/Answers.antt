@@ -1,6 +1,6 @@
 use Rattle.std.proofs.Common.{refl}
 use Rattle.tap_core_node.specs.State.{core_state}
-use Rattle.tap_core_node.proofs.Steps.{heard_follows}
+use Rattle.tap_core_node.proofs.CoreSteps.{heard_follows}
 use Rattle.tap_core_node.proofs.core_node.CoreNode.on_link.Goals as goal
 
 pub returns : goal.returns

@@ -5,10 +5,10 @@ use Rattle.tap_table.specs.Table.{TableValue, place_of, released as table_releas
 use Rattle.tap_table.specs.Ties.{TiesValue, released}
 use Rattle.tap_pointer.specs.Reconcile.{AreLaidBeside}
 use Rattle.tap_table.proofs.Primaries.{primary_near}
-use Rattle.tap_node_common.proofs.Sound.{hops-sound}
+use Rattle.tap_node_common.proofs.NumbersLeft.{hops-sound}
 use Rattle.tap_core_node.specs.State.{core_state}
 use Rattle.tap_core_node.proofs.Laid.{laid-released_beside, same_primary}
-use Rattle.tap_core_node.proofs.Steps.{released_and_laid, released_quietly}
+use Rattle.tap_core_node.proofs.CoreSteps.{released_and_laid, released_quietly}
 use Rattle.tap_core_node.proofs.core_node.CoreNode.on_release.Goals as goal
 
 pub reconcile_at-requires-clause-hops : goal.reconcile_at-requires-clause-hops

@@ -3,7 +3,7 @@ use Rattle.std.specs.Option.{is_none}
 use Rattle.tap_table.specs.Table.{kind_in}
 use Rattle.tap_rule.specs.Node.{NodeState, settings_of}
 use Rattle.tap_node_common.proofs.Ending.{told_named}
-use Rattle.tap_node_common.proofs.Sound.{numbers_left}
+use Rattle.tap_node_common.proofs.NumbersLeft.{numbers_left}
 use Rattle.tap_core_node.specs.Requests.{asked_with}
 use Rattle.tap_core_node.specs.State.{core_state}
 use Rattle.tap_core_node.proofs.Pins.{pinned_and_covered}

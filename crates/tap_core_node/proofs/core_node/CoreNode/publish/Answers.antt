@@ -4,9 +4,9 @@ use Rattle.tap_pointer.specs.Reconcile.{AreLaidBut}
 use Rattle.tap_pointer.proofs.Laws.{published_lays_others}
 use Rattle.tap_rule.specs.Node.{NodeState, settings_of}
 use Rattle.tap_node_common.proofs.Pairs.{hops-published, named-published}
-use Rattle.tap_node_common.proofs.Sound.{hops-sound}
+use Rattle.tap_node_common.proofs.NumbersLeft.{hops-sound}
 use Rattle.tap_core_node.specs.State.{core_state}
-use Rattle.tap_core_node.proofs.Steps.{silent_and_laid}
+use Rattle.tap_core_node.proofs.CoreSteps.{silent_and_laid}
 use Rattle.tap_core_node.proofs.core_node.CoreNode.publish.Goals as goal
 
 pub reconcile_own-requires-clause-names : goal.reconcile_own-requires-clause-names

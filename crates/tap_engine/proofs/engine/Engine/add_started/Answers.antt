@@ -3,9 +3,9 @@ use Rattle.std.proofs.Math.Nat.{le-max_right}
 use Rattle.tap_log.specs.declared.record.Record.{Record}
 use Rattle.tap_log.specs.declared.record.Record.TheVariants.{Spent, Step as StepRecord}
 use Rattle.tap_log.specs.Counts.{sent_count}
-use Rattle.tap_engine.specs.Seen.{turn_records}
+use Rattle.tap_engine.specs.SeenTurns.{turn_records}
 use Rattle.tap_engine.specs.declared.engine.Engine.{Engine}
-use Rattle.tap_log.specs.Laws.{at_most_one}
+use Rattle.tap_log.specs.MoreRecords.{at_most_one}
 use Rattle.tap_ledger.specs.Added.{CanAdd}
 use Rattle.tap_ledger.proofs.Adding.{can_first, can_rest}
 use Rattle.tap_engine.proofs.Counting.{group_may_be_added, logs_added, logs_spent, turn_added, turn_may_be_added}

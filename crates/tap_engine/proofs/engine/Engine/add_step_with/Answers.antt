@@ -1,6 +1,6 @@
 use Rattle.std.proofs.Common.{[], ◌∷◌, ◌++◌, ap, sym, subst, ◌∙◌}
 use Rattle.tap_log.specs.declared.record.Record.TheVariants.{Step as StepRecord}
-use Rattle.tap_log.specs.Laws.{at_most_one}
+use Rattle.tap_log.specs.MoreRecords.{at_most_one}
 use Rattle.tap_ledger.specs.Added.{CanAdd}
 use Rattle.tap_ledger.proofs.Adding.{can_first, can_rest}
 use Rattle.tap_engine.proofs.engine.Engine.add_step_with.Goals as goal

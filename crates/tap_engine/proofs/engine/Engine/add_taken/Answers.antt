@@ -3,7 +3,7 @@ use Rattle.std.proofs.Math.Nat.{le-max_right}
 use Rattle.tap_log.specs.declared.record.Record.{Record}
 use Rattle.tap_log.specs.declared.record.Record.TheVariants.{Taken}
 use Rattle.tap_log.specs.Counts.{sent_count}
-use Rattle.tap_engine.specs.Seen.{turn_records}
+use Rattle.tap_engine.specs.SeenTurns.{turn_records}
 use Rattle.tap_ledger.specs.Added.{CanAdd}
 use Rattle.tap_ledger.proofs.Adding.{can_first}
 use Rattle.tap_engine.specs.declared.engine.Acted.{Acted}

@@ -2,7 +2,7 @@ use Rattle.std.proofs.Common.{◌≡◌, Ok, sym, subst, ◌∙◌}
 use Rattle.tap_node.specs.Node.{running}
 use Rattle.tap_node.specs.Outcome.{start_outcome}
 use Rattle.tap_overlay.specs.Overlay.{node_at}
-use Rattle.tap_overlay.specs.Start.{MayStart, begun}
+use Rattle.tap_overlay.specs.Start.{MayStart, rule_start}
 use Rattle.tap_engine.specs.Working.{HasBegunOf}
 use Rattle.tap_engine.specs.declared.engine.Acted.{Acted}
 use Rattle.tap_engine.proofs.Starting.{has_done_nothing, has_started, only_memory, some_for}
@@ -26,14 +26,14 @@ returns-then-is_suited-clause-begun c =
     let o = c.args.self.now.overlay in
     let one = c.args.one.now in
     if_ok (λ (acted : Acted). (acted.name ≡ one.name) × (c.start.result ≡ Ok acted.turn))
-    (HasBegunOf o c.start.new.self one.name (begun one.start))
+    (HasBegunOf o c.start.new.self one.name (rule_start one.start))
     (λ acted is. has_started o c.start.new.self one.name one.start c.requires c.start.result c.start.ensures.step c.start.ensures.settings
     acted is.0 is.1)
     c.acted_by.result c.acted_by.ensures
 
 pub returns-then-is_suited-clause-still : goal.returns-then-is_suited-clause-still
 returns-then-is_suited-clause-still c =
-    still_has (λ node. start_outcome node (begun c.args.one.now.start)) c.args.self.now.overlay c.start.new.self c.args.one.now.name
+    still_has (λ node. start_outcome node (rule_start c.args.one.now.start)) c.args.self.now.overlay c.start.new.self c.args.one.now.name
     c.start.result c.start.ensures.step c.start.ensures.settings
 
 pub returns-clause-begun : goal.returns-clause-begun
@@ -41,4 +41,4 @@ returns-clause-begun c =
     let o = c.args.self.now.overlay in
     let one = c.args.one.now in
     let unsuited = sym (c.is_suited.ensures (running c.requires.node) c.requires.there) ∙ c.if-is_suited.false in
-    subst (HasBegunOf o o one.name (begun one.start)) (sym c.nothing_by.ensures) (has_done_nothing o one.name one.start c.requires unsuited)
+    subst (HasBegunOf o o one.name (rule_start one.start)) (sym c.nothing_by.ensures) (has_done_nothing o one.name one.start c.requires unsuited)

@@ -10,7 +10,7 @@ use Rattle.tap_node.specs.declared.turn.Turn.{Turn}
 use Rattle.tap_overlay.specs.declared.fault.OverlayFault.{OverlayFault}
 use Rattle.tap_overlay.specs.Overlay.{OverlayValue}
 use Rattle.tap_overlay.specs.Step.{StepsAt}
-use Rattle.tap_engine.specs.Kept.{AreReady}
+use Rattle.tap_engine.specs.KeptEngine.{AreReady}
 use Rattle.tap_wire.specs.Reading.{frame_of, head_of_frame}
 use Rattle.tap_node.specs.Outcome.{take_outcome}
 use Rattle.tap_engine.specs.Outcome.{takes_number}

@@ -1,12 +1,12 @@
 use Rattle.std.proofs.Common.{refl, ◌≡◌, inr, None, [], ◌∷◌, ◌++◌, ap, sym, ◌∙◌, arith}
 use Rattle.std.proofs.lemmas.Result.{err_from_is_err_and}
 use Rattle.tap_log.specs.declared.record.Record.TheVariants.{Step as StepRecord}
-use Rattle.tap_log.specs.Laws.{at_most_one}
+use Rattle.tap_log.specs.MoreRecords.{at_most_one}
 use Rattle.tap_history.specs.Refusals.{first_refusal}
 use Rattle.tap_engine.specs.declared.engine.Engine.{Engine}
 use Rattle.tap_engine.proofs.Leading.{reserved_ready}
-use Rattle.tap_engine.proofs.Named.{damaging_names}
-use Rattle.tap_engine.proofs.Quiet.{alone_fits, copied_group, log_alone, quiet_fits, quiet_refused, short_leads, quiet_whole, same_alone}
+use Rattle.tap_engine.proofs.NamedSteps.{damaging_names}
+use Rattle.tap_engine.proofs.QuietGroups.{alone_fits, copied_group, log_alone, quiet_fits, quiet_refused, short_leads, quiet_whole, same_alone}
 use Rattle.tap_engine.proofs.engine.Engine.garble.Goals as goal
 
 pub returns-in_err-refusal-clause-leads : goal.returns-in_err-refusal-clause-leads

@@ -2,12 +2,12 @@ use Rattle.std.proofs.Common.{refl, ◌≡◌, inl, false, None, [], ◌∷◌, 
 use Rattle.std.proofs.lemmas.Result.{err_from_is_err_and}
 use Rattle.tap_scenario.specs.Step.{IsStep}
 use Rattle.tap_log.specs.declared.record.Record.TheVariants.{Step as StepRecord}
-use Rattle.tap_log.specs.Laws.{at_most_one}
+use Rattle.tap_log.specs.MoreRecords.{at_most_one}
 use Rattle.tap_history.specs.Refusals.{first_refusal}
 use Rattle.tap_engine.specs.declared.engine.Engine.{Engine}
 use Rattle.tap_engine.proofs.Leading.{reserved_ready}
-use Rattle.tap_runs.proofs.Named.{step_has_names}
-use Rattle.tap_engine.proofs.Quiet.{alone_fits, seen_group, log_alone, quiet_fits, quiet_refused, short_leads, quiet_whole}
+use Rattle.tap_runs.proofs.StepNames.{step_has_names}
+use Rattle.tap_engine.proofs.QuietGroups.{alone_fits, seen_group, log_alone, quiet_fits, quiet_refused, short_leads, quiet_whole}
 use Rattle.tap_engine.proofs.engine.Engine.observe.Goals as goal
 
 pub returns-in_err-refusal-clause-leads : goal.returns-in_err-refusal-clause-leads

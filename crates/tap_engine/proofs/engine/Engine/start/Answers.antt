@@ -5,12 +5,12 @@ use Rattle.tap_scenario.specs.Step.{IsStep}
 use Rattle.tap_log.specs.declared.record.Record.{Record}
 use Rattle.tap_log.specs.declared.record.Record.TheVariants.{Spent, Step as StepRecord}
 use Rattle.tap_log.specs.Counts.{sent_count}
-use Rattle.tap_log.specs.Laws.{at_most_one}
+use Rattle.tap_log.specs.MoreRecords.{at_most_one}
 use Rattle.tap_history.specs.Core.{members_of}
 use Rattle.tap_history.specs.Refusals.{first_refusal}
 use Rattle.tap_ledger.specs.Added.{CanAdd}
-use Rattle.tap_engine.specs.Kept.{LeadsTo}
-use Rattle.tap_engine.specs.Outcome.{Outcome, unless_refused}
+use Rattle.tap_engine.specs.KeptEngine.{LeadsTo}
+use Rattle.tap_engine.specs.Outcome.{WorldOutcome, unless_refused}
 use Rattle.tap_engine.specs.Working.{StillHas}
 use Rattle.tap_engine.specs.declared.engine.Engine.{Engine}
 use Rattle.tap_engine.specs.declared.stop.Stop.TheVariants.{Refused}
@@ -18,9 +18,9 @@ use Rattle.tap_engine.proofs.Addable.{spent_fits, step_fits, step_sent}
 use Rattle.tap_engine.proofs.Counting.{can_add_turn, few_sent, few_sent_most, started_sent}
 use Rattle.tap_engine.proofs.Keeping.{refused_leads, seen, wanting}
 use Rattle.tap_engine.proofs.Leading.{lead_from, next_still, reserved_ready, start_leads, start_may}
-use Rattle.tap_runs.proofs.Named.{step_has_names}
-use Rattle.tap_engine.proofs.Quiet.{short_leads}
-use Rattle.tap_engine.proofs.Steps.{no_choice}
+use Rattle.tap_runs.proofs.StepNames.{step_has_names}
+use Rattle.tap_engine.proofs.QuietGroups.{short_leads}
+use Rattle.tap_engine.proofs.AddedGroups.{no_choice}
 use Rattle.tap_engine.proofs.engine.Engine.start.Goals as goal
 
 pub returns-in_err-refusal : goal.returns-in_err-refusal
@@ -147,7 +147,7 @@ returns c =
     ap (λ l. first_refusal l step) log ∙ sym c.in_ok-refusal.ensures.refusal ∙ c.in_default.is in
     let first : List Record = StepRecord c.args.index step ∷ at_most_one c.in_ok-item.item in
     let first_is = ap (λ l. StepRecord c.args.index step ∷ l) c.in_ok-item.ensures in
-    let of : SettingsValue → ℕ → List Record → Outcome = λ p f l. unless_refused (record {
+    let of : SettingsValue → ℕ → List Record → WorldOutcome = λ p f l. unless_refused (record {
       beginning = record { settings = p; frames = f; members = members_of l };
       log = l;
       refused = None;

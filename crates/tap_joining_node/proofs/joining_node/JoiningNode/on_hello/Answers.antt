@@ -1,4 +1,4 @@
-use Rattle.tap_joining_node.proofs.Named.{hello_named}
+use Rattle.tap_joining_node.proofs.HelloNamed.{hello_named}
 use Rattle.tap_joining_node.proofs.joining_node.JoiningNode.on_hello.Goals as goal
 
 pub send_words-requires-clause-to : goal.send_words-requires-clause-to

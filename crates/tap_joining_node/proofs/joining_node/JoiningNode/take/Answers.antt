@@ -6,7 +6,7 @@ use Rattle.tap_rule.specs.Links.{takes_forget, takes_link_joining}
 use Rattle.tap_node_common.specs.declared.news.News.TheVariants.{Nothing}
 use Rattle.tap_node_common.proofs.ReactionSteps.{silent_step}
 use Rattle.tap_joining_node.specs.State.{joining_state}
-use Rattle.tap_joining_node.proofs.Taken.{answer_follows, cast_follows, forget_follows, hello_follows, link_follows, release_follows, tell_follows, tells_other}
+use Rattle.tap_joining_node.proofs.JoiningTakes.{answer_follows, cast_follows, forget_follows, hello_follows, link_follows, release_follows, tell_follows, tells_other}
 use Rattle.tap_joining_node.proofs.joining_node.JoiningNode.take.Goals as goal
 
 pub on_tell-requires-clause-other : goal.on_tell-requires-clause-other

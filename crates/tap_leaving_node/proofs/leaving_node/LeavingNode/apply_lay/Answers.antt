@@ -1,4 +1,4 @@
-use Rattle.tap_node_common.proofs.Sound.{hops-sound}
+use Rattle.tap_node_common.proofs.NumbersLeft.{hops-sound}
 use Rattle.tap_node_common.proofs.ReactionSteps.{lay_step}
 use Rattle.tap_leaving_node.specs.State.{leaving_state}
 use Rattle.tap_leaving_node.proofs.leaving_node.LeavingNode.apply_lay.Goals as goal

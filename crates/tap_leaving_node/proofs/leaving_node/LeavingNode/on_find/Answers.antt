@@ -1,7 +1,7 @@
 use Rattle.std.proofs.lemmas.Result.{IfOk-weaker}
 use Rattle.tap_node_common.specs.declared.news.News.TheVariants.{Nothing}
 use Rattle.tap_leaving_node.specs.State.{leaving_state}
-use Rattle.tap_leaving_node.proofs.Taken.{find_follows}
+use Rattle.tap_leaving_node.proofs.LeavingTakes.{find_follows}
 use Rattle.tap_leaving_node.proofs.leaving_node.LeavingNode.on_find.Goals as goal
 
 pub returns : goal.returns

@@ -2,7 +2,7 @@ use Rattle.std.proofs.Common.{◌++◌, arith, map}
 use Rattle.tap_rule.specs.Leaving.{leave_for}
 use Rattle.tap_node_common.specs.Sender.{message_bytes, sender_of}
 use Rattle.tap_leaving_node.proofs.Ends.{all_notices_sent, notice_sent}
-use Rattle.tap_leaving_node.proofs.Named.{notice_named}
+use Rattle.tap_leaving_node.proofs.NoticeNamed.{notice_named}
 use Rattle.tap_leaving_node.proofs.leaving_node.LeavingNode.send_leaves.Goals as goal
 
 pub send-requires-clause-to : goal.send-requires-clause-to

@@ -3,7 +3,7 @@ use Rattle.std.proofs.lemmas.Result.{IfOk-weaker}
 use Rattle.tap_rule.specs.FrameRules.{frame_at_leaving}
 use Rattle.tap_node_common.specs.declared.news.News.TheVariants.{Nothing}
 use Rattle.tap_leaving_node.specs.State.{leaving_state}
-use Rattle.tap_leaving_node.proofs.Taken.{answer_follows, link_follows}
+use Rattle.tap_leaving_node.proofs.LeavingTakes.{answer_follows, link_follows}
 use Rattle.tap_leaving_node.proofs.leaving_node.LeavingNode.take.Goals as goal
 
 pub returns-in-Link : goal.returns-in-Link

@@ -2,9 +2,9 @@ use Rattle.std.proofs.Common.{◌≡◌, ◌∙◌, [], ◌∷◌, ◌++◌, Lis
 use Rattle.tap_log.specs.declared.record.Record.{Record}
 use Rattle.tap_log.specs.declared.record.Record.TheVariants.{Begin}
 use Rattle.tap_log.specs.Log.{LogValue}
-use Rattle.tap_ledger.specs.Kept.{Kept}
+use Rattle.tap_ledger.specs.KeptLedger.{Kept}
 use Rattle.tap_ledger.specs.NameLists.{RollValue, lists_of_members}
-use Rattle.tap_ledger.proofs.Begun.{kept_begin}
+use Rattle.tap_ledger.proofs.LedgerBegun.{kept_begin}
 use Rattle.tap_ledger.proofs.ledger.Ledger.new.Goals as goal
 
 pub invariant_of-result : goal.invariant_of-result

@@ -3,12 +3,12 @@ use Rattle.std.specs.Prelude.{option_and_then}
 use Rattle.tap_log.specs.declared.record.Record.{Record}
 use Rattle.tap_log.specs.Kinds.{asked_ticket, begins_group, begun_cast}
 use Rattle.tap_log.specs.Log.{last_of}
-use Rattle.tap_log.proofs.Growing.{one_more_record_holds}
+use Rattle.tap_log.proofs.MoreRecords.{one_more_record_holds}
 use Rattle.tap_history.specs.Departing.{departing_of}
-use Rattle.tap_history.specs.Steps.{depart_name}
+use Rattle.tap_history.specs.StepAsks.{depart_name}
 use Rattle.tap_ledger.specs.Added.{CanAdd}
 use Rattle.tap_ledger.specs.Flights.{followed}
-use Rattle.tap_ledger.specs.Kept.{Kept, leaver_next}
+use Rattle.tap_ledger.specs.KeptLedger.{Kept, leaver_next}
 use Rattle.tap_ledger.specs.Ledger.{LedgerValue}
 use Rattle.tap_ledger.specs.NameLists.{accepted_after, lists_after}
 use Rattle.tap_ledger.proofs.Keeping.{kept_push}

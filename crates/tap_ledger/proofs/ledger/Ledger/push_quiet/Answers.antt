@@ -3,11 +3,11 @@ use Rattle.std.specs.Prelude.{if◌then◌else◌, None}
 use Rattle.tap_log.specs.declared.record.Record.{Record}
 use Rattle.tap_log.specs.Kinds.{asked_ticket, begins_group, begun_cast, published_pair, withdrawn_pair}
 use Rattle.tap_log.specs.Log.{last_of}
-use Rattle.tap_log.proofs.Growing.{one_more_record_holds}
+use Rattle.tap_log.proofs.MoreRecords.{one_more_record_holds}
 use Rattle.tap_history.specs.Departing.{departing_of}
 use Rattle.tap_ledger.specs.Added.{CanAdd}
 use Rattle.tap_ledger.specs.Flights.{followed}
-use Rattle.tap_ledger.specs.Kept.{Kept, leaver_next}
+use Rattle.tap_ledger.specs.KeptLedger.{Kept, leaver_next}
 use Rattle.tap_ledger.specs.Ledger.{LedgerValue}
 use Rattle.tap_ledger.specs.Pairs.{has_key}
 use Rattle.tap_ledger.specs.Quiet.{is_quiet}

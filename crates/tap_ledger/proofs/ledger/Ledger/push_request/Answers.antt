@@ -2,11 +2,11 @@ use Rattle.std.proofs.Common.{◌≡◌, ◌≤◌, ◌+◌, ◌∙◌, true, []
 use Rattle.tap_log.specs.declared.record.Record.{Record}
 use Rattle.tap_log.specs.Kinds.{asked_ticket, begun_cast}
 use Rattle.tap_log.specs.Log.{last_of}
-use Rattle.tap_log.proofs.Growing.{one_more_record_holds}
+use Rattle.tap_log.proofs.MoreRecords.{one_more_record_holds}
 use Rattle.tap_history.specs.Departing.{departing_of}
 use Rattle.tap_ledger.specs.Added.{CanAdd}
 use Rattle.tap_ledger.specs.Flights.{followed}
-use Rattle.tap_ledger.specs.Kept.{Kept}
+use Rattle.tap_ledger.specs.KeptLedger.{Kept}
 use Rattle.tap_ledger.specs.Ledger.{LedgerValue}
 use Rattle.tap_ledger.specs.Quiet.{is_request}
 use Rattle.tap_ledger.proofs.Keeping.{kept_push}

@@ -7,7 +7,7 @@ use Rattle.tap_log.specs.Kinds.{asked_ticket, begun_cast, published_pair, withdr
 use Rattle.tap_log.specs.Log.{last_of}
 use Rattle.tap_history.specs.Departing.{departing_of}
 use Rattle.tap_ledger.specs.Added.{CanAdd}
-use Rattle.tap_ledger.specs.Kept.{Kept}
+use Rattle.tap_ledger.specs.KeptLedger.{Kept}
 use Rattle.tap_ledger.specs.Ledger.{LedgerValue}
 use Rattle.tap_ledger.specs.Pairs.{has_key}
 use Rattle.tap_ledger.specs.Quiet.{is_moving_step}

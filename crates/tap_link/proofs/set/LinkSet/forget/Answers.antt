@@ -1,6 +1,6 @@
 use Rattle.std.proofs.Common.{◌≡◌, Some, arith, refl, sym, ap, ◌∙◌}
 use Rattle.tap_link.specs.declared.kind.Kind.TheVariants.{Pin}
-use Rattle.tap_link.proofs.Kept.{counted-remove, uncounted_pin}
+use Rattle.tap_link.proofs.KeptLinks.{counted-remove, uncounted_pin}
 use Rattle.tap_link.proofs.Search.{set_of, absent-kind_of, found_as, found-target, remove-without, not_pinned}
 use Rattle.tap_link.proofs.set.LinkSet.forget.Goals as goal
 

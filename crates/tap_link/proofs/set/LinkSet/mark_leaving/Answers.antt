@@ -1,7 +1,7 @@
 use Rattle.std.proofs.Common.{◌≡◌, ◌-◌, true, Some, arith, refl, ap, ◌∙◌}
 use Rattle.tap_link.specs.LinkSet.{is_settled}
 use Rattle.tap_link.specs.declared.kind.Kind.TheVariants.{Leaving}
-use Rattle.tap_link.proofs.Kept.{counted-set, counted_link, one_counted}
+use Rattle.tap_link.proofs.KeptLinks.{counted-set, counted_link, one_counted}
 use Rattle.tap_link.proofs.Search.{set_of, absent-kind_of, found_as, set-with_kind, not_settled}
 use Rattle.tap_link.proofs.set.LinkSet.mark_leaving.Goals as goal
 

@@ -3,7 +3,7 @@ use Rattle.std.proofs.lemmas.Bool.{ltb-true}
 use Rattle.tap_link.specs.declared.kind.Kind.TheVariants.{Settled}
 use Rattle.tap_link.specs.LinkSet.{has_room, is_settled}
 use Rattle.tap_link.specs.Places.{IsGapFor}
-use Rattle.tap_link.proofs.Kept.{counted-insert, counted_link}
+use Rattle.tap_link.proofs.KeptLinks.{counted-insert, counted_link}
 use Rattle.tap_link.proofs.Search.{set_of, absent-kind_of, found-is_some, insert-with_link}
 use Rattle.tap_link.proofs.set.LinkSet.offer.Goals as goal
 

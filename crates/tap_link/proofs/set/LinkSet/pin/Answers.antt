@@ -2,7 +2,7 @@ use Rattle.std.proofs.Common.{◌≡◌, true, arith, refl, sym, ap, ◌∙◌, 
 use Rattle.tap_link.specs.declared.kind.Kind.TheVariants.{Pin}
 use Rattle.tap_link.specs.LinkSet.{is_settled}
 use Rattle.tap_link.specs.Places.{IsGapFor}
-use Rattle.tap_link.proofs.Kept.{counted-insert, uncounted_pin}
+use Rattle.tap_link.proofs.KeptLinks.{counted-insert, uncounted_pin}
 use Rattle.tap_link.proofs.Search.{set_of, absent-kind_of, found-is_some, insert-with_link}
 use Rattle.tap_link.proofs.set.LinkSet.pin.Goals as goal
 

@@ -2,7 +2,7 @@ use Rattle.std.proofs.Common.{rules, ◌≡◌, ◌+◌, arith, true, false, ref
 use Rattle.std.proofs.lemmas.Bool.{ltb-true}
 use Rattle.tap_link.specs.declared.kind.Kind.TheVariants.{Pin, Settled}
 use Rattle.tap_link.specs.LinkSet.{has_room}
-use Rattle.tap_link.proofs.Kept.{counted-remove, counted-set, uncounted_pin}
+use Rattle.tap_link.proofs.KeptLinks.{counted-remove, counted-set, uncounted_pin}
 use Rattle.tap_link.proofs.Search.{set_of, absent-kind_of, found_as, found-target, remove-without, set-with_kind, not_pinned}
 use Rattle.tap_link.proofs.set.LinkSet.release.Goals as goal
 

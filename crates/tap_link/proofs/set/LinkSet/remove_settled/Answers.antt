@@ -1,7 +1,7 @@
 use Rattle.std.proofs.Common.{◌≡◌, ◌-◌, true, Some, arith, refl, sym, ap, ◌∙◌}
 use Rattle.tap_link.specs.declared.kind.Kind.TheVariants.{Leaving}
 use Rattle.tap_link.specs.LinkSet.{is_settled}
-use Rattle.tap_link.proofs.Kept.{counted-remove, counted_link, one_counted, uncounted_leaving}
+use Rattle.tap_link.proofs.KeptLinks.{counted-remove, counted_link, one_counted, uncounted_leaving}
 use Rattle.tap_link.proofs.Search.{set_of, absent-kind_of, found_as, remove-without}
 use Rattle.tap_link.proofs.set.LinkSet.remove_settled.Goals as goal
 

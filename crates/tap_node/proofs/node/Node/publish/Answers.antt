@@ -1,6 +1,6 @@
 use Rattle.std.proofs.Common.{◌∙◌, sym}
 use Rattle.tap_rule.specs.Event.Start.{Publish}
-use Rattle.tap_node.proofs.Begun.{begun_answers, begun_keeps}
+use Rattle.tap_node.proofs.StartBegun.{begun_answers, begun_keeps}
 use Rattle.tap_node.proofs.node.Node.publish.Goals as goal
 
 pub invariant_of-self : goal.invariant_of-self

@@ -4,7 +4,7 @@ use Rattle.tap_wire.specs.Spelling.{IsFrame}
 use Rattle.tap_rule.specs.Node.{NodeState, settings_of}
 use Rattle.tap_rule.specs.Strange.{is_own_name, is_strange}
 use Rattle.tap_node.specs.Node.{NodeValue}
-use Rattle.tap_node.specs.Seen.{FollowsFrom, node_value, state_held}
+use Rattle.tap_node.specs.SeenNode.{FollowsFrom, node_value, state_held}
 use Rattle.tap_node.proofs.Answering.{IsTurned}
 use Rattle.tap_node.proofs.Calls.{frame_answers, frame_keeps}
 use Rattle.tap_node.proofs.node.Node.take_frame.Goals as goal

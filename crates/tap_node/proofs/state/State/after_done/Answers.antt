@@ -2,7 +2,7 @@ use Rattle.std.proofs.Common.{◌≡◌, true, false, Some, rules, refl, sym, su
 use Rattle.tap_rule.specs.Ceasing.{ceases, takes_done}
 use Rattle.tap_rule.specs.Node.Status.{Ceased as CeasedStatus}
 use Rattle.tap_node_common.specs.declared.news.News.TheVariants.{Core as CoreNews, Gone as GoneNews}
-use Rattle.tap_node_common.specs.Step.{FollowsAs}
+use Rattle.tap_node_common.specs.StepsAs.{FollowsAs}
 use Rattle.tap_joining_node.specs.State.{core_joined, joining_state}
 use Rattle.tap_node.specs.declared.state.State.TheVariants.{Core, Ceased}
 use Rattle.tap_node.proofs.ByStatus.{done_elsewhere, done_from}

@@ -3,7 +3,7 @@ use Rattle.tap_rule.specs.Leaving.{with_departure}
 use Rattle.tap_node_common.specs.States.{core_state_of}
 use Rattle.tap_core_node.specs.State.{core_state}
 use Rattle.tap_leaving_node.specs.State.{leaving_state}
-use Rattle.tap_node.proofs.Numbers.{departs}
+use Rattle.tap_node.proofs.LastNumbers.{departs}
 use Rattle.tap_node.proofs.state.State.after_leave.Goals as goal
 
 pub finish-requires-clause-pairs : goal.finish-requires-clause-pairs

@@ -4,7 +4,7 @@ use Rattle.tap_rule.specs.Leaving.{finishes}
 use Rattle.tap_rule.specs.Node.Status.{Gone as GoneStatus}
 use Rattle.tap_node_common.specs.declared.news.News.TheVariants.{Gone as GoneNews, Nothing}
 use Rattle.tap_node_common.specs.States.{ended_state}
-use Rattle.tap_node_common.proofs.Sound.{hops-sound}
+use Rattle.tap_node_common.proofs.NumbersLeft.{hops-sound}
 use Rattle.tap_leaving_node.specs.State.{leaving_state}
 use Rattle.tap_node.specs.declared.state.State.TheVariants.{Gone, Leaving}
 use Rattle.tap_node.proofs.ByStatus.{left_elsewhere, left_from}

@@ -1,8 +1,8 @@
 use Rattle.std.proofs.Common.{[], ◌∷◌, ◌++◌, arith, ap, map, refl, subst, sym, ◌∙◌}
 use Rattle.tap_wire.specs.Spelling.{IsFrame, spelling}
 use Rattle.tap_rule.specs.Sending.{link_frame}
-use Rattle.tap_node_common.specs.Spelled.{spelled}
-use Rattle.tap_node_common.proofs.Steps.{all_sent, here_spelled, one_sent, rest_spelled}
+use Rattle.tap_node_common.specs.Spellings.{spelled}
+use Rattle.tap_node_common.proofs.OneSent.{all_sent, here_spelled, one_sent, rest_spelled}
 use Rattle.tap_node_common.proofs.frame_list.FrameList.push_links.Goals as goal
 
 pub push-requires : goal.push-requires

@@ -1,6 +1,6 @@
 use Rattle.std.proofs.Common.{◌≡◌, ◌++◌, drop, map}
 use Rattle.tap_rule.specs.Sending.{link_frame}
-use Rattle.tap_node_common.specs.Spelled.{HaveSpellings, spelled}
+use Rattle.tap_node_common.specs.Spellings.{HaveSpellings, spelled}
 use Rattle.tap_node_common.proofs.frame_list.FrameList.push_links.Given as goal
 
 abbrev pub invariant-loop-word : goal.invariant-loop-word

@@ -5,9 +5,9 @@ use Rattle.tap_wire.specs.Spelling.{spelling}
 use Rattle.tap_cast.specs.declared.target.CastTarget.{CastTarget}
 use Rattle.tap_rule.specs.Reaction.{message}
 use Rattle.tap_rule.specs.Sending.{message_frame}
-use Rattle.tap_node_common.specs.Spelled.{spelled}
+use Rattle.tap_node_common.specs.Spellings.{spelled}
 use Rattle.tap_node_common.specs.Targets.{cast_to}
-use Rattle.tap_node_common.proofs.Steps.{here_spelled, one_sent, rest_spelled}
+use Rattle.tap_node_common.proofs.OneSent.{here_spelled, one_sent, rest_spelled}
 use Rattle.tap_node_common.proofs.frame_list.FrameList.send_casts.Goals as goal
 
 pub push-requires : goal.push-requires

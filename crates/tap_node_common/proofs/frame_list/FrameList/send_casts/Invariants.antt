@@ -1,7 +1,7 @@
 use Rattle.std.proofs.Common.{◌≡◌, ℕ, ◌++◌, drop, map}
 use Rattle.tap_wire.specs.declared.frame.Body.TheVariants.{Cast}
 use Rattle.tap_rule.specs.Sending.{message_frame}
-use Rattle.tap_node_common.specs.Spelled.{HaveSpellings, spelled}
+use Rattle.tap_node_common.specs.Spellings.{HaveSpellings, spelled}
 use Rattle.tap_node_common.specs.Targets.{cast_to}
 use Rattle.tap_node_common.proofs.frame_list.FrameList.send_casts.Given as goal
 

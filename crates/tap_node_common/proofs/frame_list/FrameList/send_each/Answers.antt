@@ -3,8 +3,8 @@ use Rattle.tap_wire.specs.declared.frame.Frame.{Frame}
 use Rattle.tap_wire.specs.Spelling.{spelling}
 use Rattle.tap_rule.specs.Reaction.{message, to_each}
 use Rattle.tap_rule.specs.Sending.{message_frame}
-use Rattle.tap_node_common.specs.Spelled.{spelled}
-use Rattle.tap_node_common.proofs.Steps.{here_spelled, one_sent, rest_spelled}
+use Rattle.tap_node_common.specs.Spellings.{spelled}
+use Rattle.tap_node_common.proofs.OneSent.{here_spelled, one_sent, rest_spelled}
 use Rattle.tap_node_common.proofs.frame_list.FrameList.send_each.Goals as goal
 
 pub push-requires : goal.push-requires

@@ -1,7 +1,7 @@
 use Rattle.std.proofs.Common.{◌≡◌, ◌++◌, drop, map}
 use Rattle.tap_rule.specs.Reaction.{to_each}
 use Rattle.tap_rule.specs.Sending.{message_frame}
-use Rattle.tap_node_common.specs.Spelled.{HaveSpellings, spelled}
+use Rattle.tap_node_common.specs.Spellings.{HaveSpellings, spelled}
 use Rattle.tap_node_common.proofs.frame_list.FrameList.send_each.Given as goal
 
 abbrev pub invariant-loop-name : goal.invariant-loop-name

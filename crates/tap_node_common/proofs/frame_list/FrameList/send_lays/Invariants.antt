@@ -1,6 +1,6 @@
 use Rattle.std.proofs.Common.{◌≡◌, ◌++◌, drop, map}
 use Rattle.tap_rule.specs.Sending.{lay_frame}
-use Rattle.tap_node_common.specs.Spelled.{HaveSpellings, spelled}
+use Rattle.tap_node_common.specs.Spellings.{HaveSpellings, spelled}
 use Rattle.tap_node_common.proofs.frame_list.FrameList.send_lays.Given as goal
 
 abbrev pub invariant-loop-lay : goal.invariant-loop-lay

@@ -4,7 +4,7 @@ use Rattle.std.proofs.lemmas.List.Elements.{All-head, All-same}
 use Rattle.tap_wire.specs.Spelling.{IsFrame, spelling}
 use Rattle.tap_join.specs.Hello.{words_of}
 use Rattle.tap_rule.specs.Sending.{by_receiver, link_frame}
-use Rattle.tap_node_common.specs.Spelled.{spelled}
+use Rattle.tap_node_common.specs.Spellings.{spelled}
 use Rattle.tap_node_common.proofs.ByReceiver.{links_of_none, links_of_one}
 use Rattle.tap_node_common.proofs.frame_list.FrameList.send_link.Goals as goal
 

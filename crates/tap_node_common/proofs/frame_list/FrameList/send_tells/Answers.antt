@@ -3,9 +3,9 @@ use Rattle.tap_wire.specs.declared.frame.Frame.{Frame}
 use Rattle.tap_wire.specs.Spelling.{IsFrame, spelling, tell_frame}
 use Rattle.tap_multicast.specs.declared.target.Target.{Target}
 use Rattle.tap_rule.specs.Sending.{message_frame}
-use Rattle.tap_node_common.specs.Spelled.{spelled}
+use Rattle.tap_node_common.specs.Spellings.{spelled}
 use Rattle.tap_node_common.specs.Targets.{tell_to}
-use Rattle.tap_node_common.proofs.Steps.{here_spelled, one_sent, rest_spelled}
+use Rattle.tap_node_common.proofs.OneSent.{here_spelled, one_sent, rest_spelled}
 use Rattle.tap_node_common.proofs.frame_list.FrameList.send_tells.Goals as goal
 
 pub push_tell-requires : goal.push_tell-requires

@@ -3,7 +3,7 @@ use Rattle.std.proofs.lemmas.Option.{slice_get_past}
 use Rattle.tap_outstanding.specs.Levels.{sum_before}
 use Rattle.tap_outstanding.specs.Outstanding.{frame_with, flights_from}
 use Rattle.tap_outstanding.proofs.Flights.{frame-found}
-use Rattle.tap_outstanding.proofs.Kept.{kept-size, kept-count}
+use Rattle.tap_outstanding.proofs.KeptMarks.{kept-size, kept-count}
 use Rattle.tap_outstanding.proofs.outstanding.Outstanding.frame_at.Goals as goal
 
 pub returns-then-place-self : goal.returns-then-place-self

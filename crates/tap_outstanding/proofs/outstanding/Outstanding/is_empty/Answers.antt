@@ -1,5 +1,5 @@
 use Rattle.std.proofs.Common.{ℕ, ◌==◌, ap}
-use Rattle.tap_outstanding.proofs.Kept.{kept-count}
+use Rattle.tap_outstanding.proofs.KeptMarks.{kept-count}
 use Rattle.tap_outstanding.proofs.outstanding.Outstanding.is_empty.Goals as goal
 
 pub returns : goal.returns

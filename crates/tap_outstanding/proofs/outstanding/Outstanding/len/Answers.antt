@@ -1,7 +1,7 @@
 use Rattle.std.proofs.Common.{sym}
 use Rattle.std.specs.Vec.{vec_len}
 use Rattle.tap_outstanding.proofs.Flights.{flights-outstanding}
-use Rattle.tap_outstanding.proofs.Kept.{kept-count}
+use Rattle.tap_outstanding.proofs.KeptMarks.{kept-count}
 use Rattle.tap_outstanding.proofs.outstanding.Outstanding.len.Goals as goal
 
 pub returns-clause-count : goal.returns-clause-count

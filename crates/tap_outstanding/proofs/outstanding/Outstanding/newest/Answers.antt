@@ -1,6 +1,6 @@
 use Rattle.std.proofs.Common.{length}
 use Rattle.tap_outstanding.specs.Outstanding.{flights_from}
-use Rattle.tap_outstanding.proofs.Kept.{kept-count, newest-of}
+use Rattle.tap_outstanding.proofs.KeptMarks.{kept-count, newest-of}
 use Rattle.tap_outstanding.proofs.outstanding.Outstanding.newest.Goals as goal
 
 pub returns : goal.returns

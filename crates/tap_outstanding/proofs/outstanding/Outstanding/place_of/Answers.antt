@@ -3,7 +3,7 @@ use Rattle.std.proofs.lemmas.Bool.{eqb-true}
 use Rattle.tap_outstanding.specs.Levels.{sum_before}
 use Rattle.tap_outstanding.proofs.Towers.{mark-within}
 use Rattle.tap_outstanding.proofs.Flights.{place-found, place-absent}
-use Rattle.tap_outstanding.proofs.Kept.{kept-size, unmarked}
+use Rattle.tap_outstanding.proofs.KeptMarks.{kept-size, unmarked}
 use Rattle.tap_outstanding.proofs.outstanding.Outstanding.place_of.Goals as goal
 
 pub returns-then-is_marked : goal.returns-then-is_marked

@@ -1,4 +1,4 @@
-use Rattle.tap_outstanding.proofs.Kept.{kept-asked, taken-same}
+use Rattle.tap_outstanding.proofs.KeptMarks.{kept-asked, taken-same}
 use Rattle.tap_outstanding.proofs.outstanding.Outstanding.reserve.Goals as goal
 
 pub invariant_of-self-in_err-reserve-3 : goal.invariant_of-self-in_err-reserve-3

@@ -1,6 +1,6 @@
 use Rattle.std.proofs.Common.{◌≤◌, ◌-◌, ap, arith}
 use Rattle.tap_outstanding.specs.Outstanding.{OutstandingValue}
-use Rattle.tap_outstanding.proofs.Kept.{kept-few, kept-sent, taken-sent, value-sent}
+use Rattle.tap_outstanding.proofs.KeptMarks.{kept-few, kept-sent, taken-sent, value-sent}
 use Rattle.tap_outstanding.proofs.outstanding.Outstanding.send_reserved.Goals as goal
 
 pub overflow_add-self : goal.overflow_add-self

@@ -3,7 +3,7 @@ use Rattle.std.proofs.lemmas.Option.{slice_get_past}
 use Rattle.tap_outstanding.specs.Levels.{sum_before}
 use Rattle.tap_outstanding.specs.Outstanding.{OutstandingValue, frame_with, flights_from}
 use Rattle.tap_outstanding.proofs.Flights.{frame-found}
-use Rattle.tap_outstanding.proofs.Kept.{kept-size, kept-count, kept-taken, taken-less, taken-further, value-taken, value-same}
+use Rattle.tap_outstanding.proofs.KeptMarks.{kept-size, kept-count, kept-taken, taken-less, taken-further, value-taken, value-same}
 use Rattle.tap_outstanding.proofs.outstanding.Outstanding.take.Goals as goal
 
 pub returns-then-place-self-clause-frame : goal.returns-then-place-self-clause-frame

@@ -3,10 +3,10 @@ use Rattle.std.specs.Option.{option_map_or}
 use Rattle.std.specs.Vec.{vec_len}
 use Rattle.std.proofs.lemmas.Bool.{eqb-true}
 use Rattle.tap_outstanding.specs.Levels.{sum_before}
-use Rattle.tap_outstanding.specs.Outstanding.{flights_from, taken_at}
+use Rattle.tap_outstanding.specs.Outstanding.{flights_from, taken_at_place}
 use Rattle.tap_outstanding.proofs.Towers.{mark-within}
 use Rattle.tap_outstanding.proofs.Flights.{place-found, place-absent}
-use Rattle.tap_outstanding.proofs.Kept.{kept-size, kept-taken, taken-further, taken-less, unmarked, value_of, value-taken}
+use Rattle.tap_outstanding.proofs.KeptMarks.{kept-size, kept-taken, taken-further, taken-less, unmarked, value_of, value-taken}
 use Rattle.tap_outstanding.proofs.outstanding.Outstanding.take_number.Goals as goal
 
 pub returns-then-not-is_marked-clause-taken : goal.returns-then-not-is_marked-clause-taken
@@ -28,7 +28,7 @@ returns-then-not-is_marked-clause-after c =
     (unmarked marks c.args.number c.self.invariant.kept.tower.ones
     (sym is ∙ c.if-not-is_marked.true)) in
     let v = value_of (vec_len c.self.inside.records) (flights_from 0 c.self.inside.records.items marks) c.self.inside.room in
-    rw (← c.self.view_is) (ap (λ (o : Option ℕ). option_map_or (taken_at v) o v) (sym absent))
+    rw (← c.self.view_is) (ap (λ (o : Option ℕ). option_map_or (taken_at_place v) o v) (sym absent))
 
 pub invariant_of-self : goal.invariant_of-self
 invariant_of-self c =
@@ -76,4 +76,4 @@ returns-clause-after c =
     rw (← c.self.view_is)
     (value-taken c.self.inside.records c.self.inside.marks c.self.inside.sums c.self.inside.count c.self.inside.room c.self.invariant.kept
     c.lower.new.marks.items c.args.number (sum_before marks c.args.number) c.lower.ensures.marks mark refl
-    ∙ ap (λ (o : Option ℕ). option_map_or (taken_at v) o v) (sym found))
+    ∙ ap (λ (o : Option ℕ). option_map_or (taken_at_place v) o v) (sym found))

@@ -1,6 +1,6 @@
 use Rattle.std.proofs.Common.{None}
 use Rattle.tap_replay.proofs.Alike.{may_turn}
-use Rattle.tap_replay.proofs.Headline.{run_has_headline}
+use Rattle.tap_replay.proofs.RunHeadline.{run_has_headline}
 use Rattle.tap_replay.proofs.Running.{starts_run}
 use Rattle.tap_replay.proofs.player.Player.new.Goals as goal
 

@@ -1,10 +1,10 @@
 use Rattle.std.proofs.Common.{◌≡◌, ◌<◌, MatchOption, Some, sym, subst}
-use Rattle.tap_lawful.specs.Laws.{left_of}
-use Rattle.tap_replay.specs.Player.{GoesOnUnless, IsLeft, MayTurn, PlayerValue, Turns, over_by}
-use Rattle.tap_replay.specs.Run.{GoesOn}
+use Rattle.tap_lawful.specs.PlayedLaws.{left_of}
+use Rattle.tap_replay.specs.Player.{GoesOnUnless, IsLeft, MayTurn, PlayerValue, TakesTurn, over_by}
+use Rattle.tap_replay.specs.Run.{WorldGoesOn}
 use Rattle.tap_replay.proofs.Again.{may_turn_again}
 use Rattle.tap_headline.specs.Scripts.{RunHasHeadline}
-use Rattle.tap_replay.proofs.Headline.{run_has_headline}
+use Rattle.tap_replay.proofs.RunHeadline.{run_has_headline}
 use Rattle.tap_replay.proofs.Alike.{left_alike, run_alike}
 use Rattle.tap_replay.proofs.player.Player.turn.Goals as goal
 
@@ -16,8 +16,8 @@ returns-in-Some-clause-played c =
     let seen : record { world = run.world; over = c.self.inside.over } ≡ c.args.self.now = c.self.view_is in
     let may = subst (λ (p : PlayerValue). MayTurn s p.world.log) (sym seen) c.requires.script in
     let left = subst (λ o. GoesOnUnless o script run) c.in-Some.is c.self.invariant.run_is in
-    subst (λ (p : PlayerValue). MatchOption p.over (GoesOn s p.world) (λ end. IsLeft s end p.world)) seen
-    (subst (λ o. MatchOption o (GoesOn s run.world) (λ end. IsLeft s end run.world)) (sym c.in-Some.is)
+    subst (λ (p : PlayerValue). MatchOption p.over (WorldGoesOn s p.world) (λ end. IsLeft s end p.world)) seen
+    (subst (λ o. MatchOption o (WorldGoesOn s run.world) (λ end. IsLeft s end run.world)) (sym c.in-Some.is)
     (left_alike script s c.in-Some.end run.world left may))
 
 pub returns-in-Some-clause-headline : goal.returns-in-Some-clause-headline
@@ -47,8 +47,8 @@ returns-clause-turns c =
     let given = c.turn-turned.result in
     let after : PlayerValue = record { world = c.turn-turned.new.self.world; over = c.end_in-self-inside.result } in
     let seen : record { world = run.world; over = c.self.inside.over } ≡ c.args.self.now = c.self.view_is in
-    subst (λ (p : PlayerValue). Turns s p given after) seen
-    (subst (λ o. Turns s (record { world = run.world; over = o }) given after) (sym c.in_default.is) c.turn-turned.ensures.turns)
+    subst (λ (p : PlayerValue). TakesTurn s p given after) seen
+    (subst (λ o. TakesTurn s (record { world = run.world; over = o }) given after) (sym c.in_default.is) c.turn-turned.ensures.turns)
 
 pub returns-clause-headline : goal.returns-clause-headline
 returns-clause-headline c =

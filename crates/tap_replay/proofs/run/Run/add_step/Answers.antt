@@ -1,9 +1,9 @@
 use Rattle.std.proofs.Common.{◌≡◌, ◌+◌, ◌<◌, false, IsTrue, Some, length, refl, sym, subst, arith}
 use Rattle.std.specs.Prelude.{slice_get}
 use Rattle.tap_scenario.specs.Step.{IsStep, is_played}
-use Rattle.tap_engine.specs.Outcome.{AnswersAs, IsNextIndex}
+use Rattle.tap_engine.specs.Outcome.{IsNextIndex, WorldAnswersAs}
 use Rattle.tap_lawful.specs.Next.{begun_count}
-use Rattle.tap_replay.specs.Steps.{run_outcome}
+use Rattle.tap_replay.specs.StepCalls.{run_outcome}
 use Rattle.tap_replay.proofs.Running.{all_at, may_run, next_index, step_adds}
 use Rattle.tap_replay.proofs.run.Run.add_step.Goals as goal
 
@@ -41,4 +41,4 @@ returns c =
     let begun = c.requires.run.begun in
     step_adds s before _ c.requires.run step c.requires.none
     (subst (λ n. slice_get s.steps n ≡ Some step) begun c.step_at-step.ensures.value) c.run_step.result refl c.of-self.ensures
-    (subst (λ n. AnswersAs (run_outcome w (n + 1) step) w c.run_step.result c.run_step.new.world) begun c.run_step.ensures)
+    (subst (λ n. WorldAnswersAs (run_outcome w (n + 1) step) w c.run_step.result c.run_step.new.world) begun c.run_step.ensures)

@@ -1,6 +1,6 @@
 use Rattle.tap_link.specs.LinkSet.{forgotten}
 use Rattle.tap_table.specs.Table.{name_cmp}
-use Rattle.tap_table.proofs.Kept.{IsTable-forgotten, width-forgotten}
+use Rattle.tap_table.proofs.KeptTable.{IsTable-forgotten, width-forgotten}
 use Rattle.tap_table.proofs.SetChanges.{IsNear, is_table, near_is, sets_after, table_after, within_sets}
 use Rattle.tap_table.proofs.table.Table.forget.Goals as goal
 use Rattle.tap_table.proofs.table.Table.forget.Goals.{After-number_of-number}

@@ -1,6 +1,6 @@
 use Rattle.tap_link.specs.LinkSet.{marked}
 use Rattle.tap_table.specs.Table.{name_cmp}
-use Rattle.tap_table.proofs.Kept.{IsTable-marked, width-marked}
+use Rattle.tap_table.proofs.KeptTable.{IsTable-marked, width-marked}
 use Rattle.tap_table.proofs.SetChanges.{IsNear, is_table, near_is, sets_after, table_after, within_sets}
 use Rattle.tap_table.proofs.table.Table.mark_leaving.Goals as goal
 use Rattle.tap_table.proofs.table.Table.mark_leaving.Goals.{After-number_of-number}

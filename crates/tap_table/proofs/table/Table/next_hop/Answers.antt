@@ -1,6 +1,6 @@
 use Rattle.std.proofs.Common.{◌∙◌, sym, arith}
 use Rattle.tap_table.proofs.Hops.{hop_exactly, hop_is}
-use Rattle.tap_table.proofs.Taken.{root_exactly}
+use Rattle.tap_table.proofs.DigitTaken.{root_exactly}
 use Rattle.tap_table.proofs.table.Table.next_hop.Goals as goal
 
 pub returns-clause-root : goal.returns-clause-root

@@ -1,6 +1,6 @@
 use Rattle.tap_link.specs.LinkSet.{offered}
 use Rattle.tap_table.specs.Table.{name_cmp}
-use Rattle.tap_table.proofs.Kept.{IsTable-offered, width-offered}
+use Rattle.tap_table.proofs.KeptTable.{IsTable-offered, width-offered}
 use Rattle.tap_table.proofs.SetChanges.{IsNear, is_table, near_is, sets_after_result, table_after_result, within_sets}
 use Rattle.tap_table.proofs.table.Table.offer.Goals as goal
 use Rattle.tap_table.proofs.table.Table.offer.Goals.{After-number_of-number}

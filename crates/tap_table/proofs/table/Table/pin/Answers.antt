@@ -1,6 +1,6 @@
 use Rattle.tap_link.specs.LinkSet.{pinned}
 use Rattle.tap_table.specs.Table.{name_cmp}
-use Rattle.tap_table.proofs.Kept.{IsTable-pinned, width-pinned}
+use Rattle.tap_table.proofs.KeptTable.{IsTable-pinned, width-pinned}
 use Rattle.tap_table.proofs.SetChanges.{IsNear, is_table, sets_after_result, table_after_result, within_sets}
 use Rattle.tap_table.proofs.table.Table.pin.Goals as goal
 use Rattle.tap_table.proofs.table.Table.pin.Goals.{After-number_of-number}

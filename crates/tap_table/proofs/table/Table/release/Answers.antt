@@ -1,7 +1,7 @@
 use Rattle.std.proofs.Common.{refl}
 use Rattle.tap_link.specs.LinkSet.{released}
 use Rattle.tap_table.specs.Table.{name_cmp}
-use Rattle.tap_table.proofs.Kept.{IsTable-released}
+use Rattle.tap_table.proofs.KeptTable.{IsTable-released}
 use Rattle.tap_table.proofs.SetChanges.{IsNear, is_table, near_is, sets_after, table_after, within_sets}
 use Rattle.tap_table.proofs.table.Table.release.Goals as goal
 use Rattle.tap_table.proofs.table.Table.release.Goals.{After-number_of-number}

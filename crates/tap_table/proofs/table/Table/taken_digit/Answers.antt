@@ -1,7 +1,7 @@
 use Rattle.std.proofs.Common.{◌≡◌, arith, sym, subst, ◌∙◌, ◌-◌, true, false, ◌+◌, ℕ}
 use Rattle.tap_name.specs.Cyclic.{first_from}
 use Rattle.tap_table.specs.Next.{can_take}
-use Rattle.tap_table.proofs.Taken.{taken_later, taken_now}
+use Rattle.tap_table.proofs.DigitTaken.{taken_later, taken_now}
 use Rattle.tap_table.proofs.table.Table.taken_digit.Goals as goal
 
 pub loop-tried-preserved : goal.loop-tried-preserved

@@ -1,7 +1,7 @@
 use Rattle.std.proofs.Common.{slice_get, ap, ◌∙◌, subst}
 use Rattle.tap_history.specs.Moments.{outstanding}
 use Rattle.tap_overlay.specs.Overlay.{OverlayValue}
-use Rattle.tap_engine.specs.Headline.{WorldHasHeadline}
+use Rattle.tap_engine.specs.WorldHeadline.{WorldHasHeadline}
 use Rattle.tap_engine.specs.World.{WorldValue}
 use Rattle.tap_world.proofs.Worlds.{deliver_answers, deliver_keeps, takes_unended}
 use Rattle.tap_engine.specs.Holders.{HoldersAreExactAtRest}

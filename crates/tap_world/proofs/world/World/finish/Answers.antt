@@ -1,6 +1,6 @@
 use Rattle.std.proofs.Common.{length, sym, ap, ◌∙◌, None, false, subst}
 use Rattle.tap_log.specs.Log.{begun_steps}
-use Rattle.tap_engine.specs.Headline.{WorldHasHeadline}
+use Rattle.tap_engine.specs.WorldHeadline.{WorldHasHeadline}
 use Rattle.tap_engine.specs.World.{WorldValue}
 use Rattle.tap_engine.specs.declared.engine.Engine.{Engine}
 use Rattle.tap_engine.proofs.Addable.{finished_fits}

@@ -1,7 +1,7 @@
 use Rattle.std.proofs.Common.{subst, ◌+◌, ◌≤◌}
 use Rattle.tap_log.specs.Counts.{ticket_count}
-use Rattle.tap_engine.specs.Headline.{WorldHasHeadline}
-use Rattle.tap_engine.specs.Kept.{world_value}
+use Rattle.tap_engine.specs.WorldHeadline.{WorldHasHeadline}
+use Rattle.tap_engine.specs.KeptEngine.{world_value}
 use Rattle.tap_engine.specs.Kinds.{most_index}
 use Rattle.tap_engine.specs.World.{WorldValue}
 use Rattle.tap_engine.proofs.Endings.{few_tickets}

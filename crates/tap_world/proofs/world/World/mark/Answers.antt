@@ -1,6 +1,6 @@
 use Rattle.std.proofs.Common.{true, sym, ap, subst, None, false}
-use Rattle.tap_engine.specs.Headline.{WorldHasHeadline}
-use Rattle.tap_engine.specs.Kept.{AreKept}
+use Rattle.tap_engine.specs.WorldHeadline.{WorldHasHeadline}
+use Rattle.tap_engine.specs.KeptEngine.{AreKept}
 use Rattle.tap_engine.specs.declared.engine.Engine.{Engine}
 use Rattle.tap_engine.proofs.Addable.{step_fits}
 use Rattle.tap_engine.proofs.Counting.{few_sent_most}

@@ -3,7 +3,7 @@ use Rattle.std.specs.Prelude.{true, if◌then◌else◌}
 use Rattle.tap_node.specs.Node.{NodeValue, has_room_left}
 use Rattle.tap_overlay.specs.Overlay.{node_at}
 use Rattle.tap_readable.specs.Range.{IsInRange}
-use Rattle.tap_engine.specs.Kept.{AreKept, world_value}
+use Rattle.tap_engine.specs.KeptEngine.{AreKept, world_value}
 use Rattle.tap_engine.specs.World.{WorldValue, node_of}
 use Rattle.tap_world.proofs.Nodes.{in_range, lent_each, room_left}
 use Rattle.tap_world.proofs.world.World.node.Goals as goal

@@ -1,6 +1,6 @@
 use Rattle.std.proofs.Common.{None, false, subst, sym, ap, arith}
-use Rattle.tap_engine.specs.Headline.{WorldHasHeadline}
-use Rattle.tap_engine.specs.Kept.{AreKept, world_value}
+use Rattle.tap_engine.specs.WorldHeadline.{WorldHasHeadline}
+use Rattle.tap_engine.specs.KeptEngine.{AreKept, world_value}
 use Rattle.tap_engine.specs.Outcome.{MayNote}
 use Rattle.tap_engine.specs.declared.engine.Engine.{Engine}
 use Rattle.tap_world.proofs.Marks.{note_fits, note_room, noted_kept}

@@ -1,7 +1,7 @@
 use Rattle.std.proofs.Common.{inl, ap, ◌∙◌, subst}
 use Rattle.tap_history.specs.Refusals.{first_refusal}
 use Rattle.tap_overlay.specs.Overlay.{OverlayValue}
-use Rattle.tap_engine.specs.Headline.{WorldHasHeadline}
+use Rattle.tap_engine.specs.WorldHeadline.{WorldHasHeadline}
 use Rattle.tap_engine.specs.World.{WorldValue}
 use Rattle.tap_engine.specs.declared.engine.Engine.{Engine}
 use Rattle.tap_world.proofs.Worlds.{ready_of, step_answers, step_keeps, step_unended, unspent}

@@ -1,7 +1,7 @@
 use Rattle.std.proofs.Common.{ap, ◌∙◌, subst}
 use Rattle.tap_history.specs.Refusals.{first_refusal}
 use Rattle.tap_overlay.specs.Overlay.{OverlayValue}
-use Rattle.tap_engine.specs.Headline.{WorldHasHeadline}
+use Rattle.tap_engine.specs.WorldHeadline.{WorldHasHeadline}
 use Rattle.tap_engine.specs.World.{WorldValue}
 use Rattle.tap_world.proofs.Worlds.{step_answers, step_keeps, step_unended}
 use Rattle.tap_engine.specs.Outcome.{refusal_in, stops}
