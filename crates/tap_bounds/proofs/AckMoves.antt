@@ -1,4 +1,5 @@
 -- Each possible move keeps that few Acks are sent; so it holds at each moment of a run.
+-- Cited above: run_acks_few
 use Rattle.std.proofs.Common.{◌≡◌, ◌≢◌, ◌⊎◌, ℕ, nat_eq, ◌+◌, ◌≤◌, Bool, true, false, cond, List, [], ◌∷◌, ◌++◌, map, Option, None, Some, arith, ap, refl, sym, subst, ◌∙◌, inl, inr}
 use Rattle.std.specs.Prelude.{◌&&◌}
 use Rattle.std.specs.Cmp.Lexicographic.{pointwise}

@@ -1,4 +1,5 @@
 -- Each possible move keeps that few Dones are sent; so it holds at each moment of a run.
+-- Cited above: run_dones_few
 use Rattle.std.proofs.Common.{◌≡◌, ◌⊎◌, ℕ, nat_eq, ◌+◌, ◌≤◌, true, false, cond, List, [], ◌∷◌, Option, None, Some, arith, ap, refl, sym, subst, ◌∙◌, inl, inr}
 use Rattle.std.specs.Prelude.{count_by}
 use Rattle.std.specs.Cmp.Lexicographic.{pointwise}

@@ -1,4 +1,5 @@
 -- Each possible move keeps what is said of the frames of joins; so it holds at each moment of a run.
+-- Cited above: run_sends_few
 use Rattle.std.proofs.Common.{◌≡◌, ◌⊎◌, ℕ, nat_eq, ◌≤◌, true, cond, List, [], ◌∷◌, ◌++◌, Option, None, Some, arith, ap, refl, sym, subst, ◌∙◌, inl, inr}
 use Rattle.std.specs.Prelude.{count_by}
 use Rattle.std.specs.Cmp.Lexicographic.{pointwise}

@@ -1,4 +1,5 @@
 -- Each possible move keeps that few Hellos are sent; so it holds at each moment of a run.
+-- Cited above: few_are_once, run_hellos_few
 use Rattle.std.proofs.Common.{◌≡◌, ◌≢◌, ◌⊎◌, ℕ, ◌+◌, ◌≤◌, Bool, false, List, [], ◌∷◌, ◌++◌, Option, None, Some, arith, ap, refl, sym, subst, ◌∙◌, inl, inr}
 use Rattle.std.specs.Prelude.{IfSome, count_by}
 use Rattle.std.proofs.lemmas.List.Elements.{All-cons, All-nil}

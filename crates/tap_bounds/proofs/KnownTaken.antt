@@ -1,4 +1,5 @@
 -- Each possible move keeps that of whichever frames as many were sent as were taken and are under way.
+-- Cited above: heards_by_hellos, run_knows_all
 use Rattle.std.proofs.Common.{◌≡◌, ℕ, ◌+◌, Bool, List, [], ◌∷◌, ◌++◌, Some, arith, ap, refl}
 use Rattle.std.specs.Prelude.{count_by}
 use Rattle.tap_name.specs.Settings.{SettingsValue}

@@ -1,27 +1,27 @@
 pub mod Counting
-pub mod PlainRules
-pub mod Sent
-pub mod SeekMoves
+mod PlainRules
+mod Sent
+mod SeekMoves
 pub mod FewSent
-pub mod OneWay
-pub mod PairLays
+mod OneWay
+mod PairLays
 pub mod Publications
 pub mod Lookups
-pub mod TellRules
-pub mod TellSteps
+mod TellRules
+mod TellSteps
 pub mod TellMoves
-pub mod HelloRules
-pub mod Greeted
-pub mod HelloSteps
+mod HelloRules
+mod Greeted
+mod HelloSteps
 pub mod HelloMoves
 pub mod KnownTaken
-pub mod AckRules
-pub mod AckSteps
+mod AckRules
+mod AckSteps
 pub mod AckMoves
-pub mod DoneRules
+mod DoneRules
 pub mod Dones
-pub mod Depths
-pub mod OpenRules
-pub mod OpenSteps
-pub mod OpenActs
-pub mod Openings
+mod Depths
+mod OpenRules
+mod OpenSteps
+mod OpenActs
+mod Openings

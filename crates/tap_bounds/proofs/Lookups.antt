@@ -1,4 +1,5 @@
 -- A lookup that starts at rest has one frame under way at most: a Find that goes up from level to level, and then its Answer.
+-- Cited above: lookup_sends_few
 use Rattle.std.proofs.Common.{◌≡◌, ◌⊎◌, ℕ, ◌+◌, ◌-◌, ◌≤◌, ◌<◌, List, [], ◌++◌, drop, map, Option, None, Some, arith, ap, refl, sym, subst, ◌∙◌, inl, inr}
 use Rattle.tap_name.specs.Name.{IsName}
 use Rattle.tap_name.specs.Settings.{SettingsValue}

@@ -1,5 +1,6 @@
 -- A publication that starts at rest has one frame under way at most: a Lay that goes up from level to level, to nodes that don't hold its
 -- pair.
+-- Cited above: publication_sends_few
 use Rattle.std.proofs.Common.{◌≡◌, ◌⊎◌, ℕ, ◌+◌, ◌-◌, ◌≤◌, ◌<◌, Bool, true, false, List, [], ◌++◌, drop, Option, None, Some, arith, ap, refl, sym, subst, ◌∙◌, inl, inr}
 use Rattle.std.proofs.lemmas.Bool.{cases_Bool}
 use Rattle.tap_name.specs.Name.{IsName}

@@ -1,4 +1,5 @@
 -- Each possible move keeps that few Tells are sent; so it holds at each moment of a run.
+-- Cited above: run_tells_few
 use Rattle.std.proofs.Common.{◌≡◌, ◌≢◌, ◌⊎◌, ℕ, ◌+◌, ◌≤◌, false, List, [], ◌∷◌, ◌++◌, Option, None, Some, arith, ap, refl, sym, subst, ◌∙◌, inl, inr}
 use Rattle.std.specs.Prelude.{IfSome, count_by}
 use Rattle.std.proofs.lemmas.List.Elements.{All-cons, All-nil}

@@ -1,4 +1,5 @@
 -- A lookup and a publication that are accepted at a rest of a run, and no other start after them, send few frames.
+-- Cited above: lookups_at, publications_at
 use Rattle.std.proofs.Common.{◌≡◌, ℕ, true, false, List, [], ◌∷◌, length, take, Option, Some, arith, refl, ap, sym, subst, ◌∙◌}
 use Rattle.std.specs.Prelude.{◌&&◌, ◌||◌, not}
 use Rattle.std.proofs.lemmas.Bool.{and_parts}

@@ -1,4 +1,5 @@
 -- In a run in which nothing but joins is accepted few frames are sent, in the words of its log.
+-- Cited above: joins_at
 use Rattle.std.proofs.Common.{◌≡◌, inl, inr, ℕ, ◌+◌, ◌≤◌, Bool, true, false, not, List, [], ◌∷◌, ◌++◌, filter, length, take, refl, ap, sym, subst, ◌∙◌, append-nil, append_assoc, length-append}
 use Rattle.std.specs.Prelude.{fold, if◌then◌else◌}
 use Rattle.std.specs.List.{filter_map}

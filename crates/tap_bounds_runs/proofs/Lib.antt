@@ -1,13 +1,13 @@
-pub mod RunMoves
-pub mod Agreeing
-pub mod Few
-pub mod Sums
-pub mod NamedRuns
-pub mod ByKind
-pub mod Sum
-pub mod Accepts
+mod RunMoves
+mod Agreeing
+mod Few
+mod Sums
+mod NamedRuns
+mod ByKind
+mod Sum
+mod Accepts
 pub mod JoinLogs
-pub mod JoinsBegun
+mod JoinsBegun
 pub mod Enough
-pub mod Since
+mod Since
 pub mod AtRest

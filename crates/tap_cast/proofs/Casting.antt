@@ -1,4 +1,5 @@
 -- To whom a cast is sent on: each of them is a primary, or a pin of a slot without one; and all of these are told.
+-- Cited above: IsTarget, pin_told, primary_told, targets_are
 use Rattle.std.proofs.Common.{◌≡◌, ◌≢◌, ◌⊎◌, ℕ, ◌+◌, ◌<◌, ◌≤◌, zero, suc, nat_le, nat_lt, true, false, Option, None, Some, List, [], ◌∷◌, map, filter, get_or, slice_get, All, arith, ap, sym, refl, ◌∙◌, inl, inr}
 use Rattle.std.specs.List.{flat_map}
 use Rattle.std.specs.Option.{option_map}

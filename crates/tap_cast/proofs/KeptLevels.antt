@@ -1,4 +1,5 @@
 -- The level that is kept of each cast, after a further copy of one.
+-- Cited above: cast_again, cast_anew, kept_exactly, others_keep
 use Rattle.std.proofs.Common.{◌≡◌, ◌≢◌, ◌↔◌, ℕ, ◌<◌, ◌≤◌, nat_eq, true, false, if◌then◌else◌, Option, None, Some, [], ◌∷◌, arith, refl, ◌∙◌, inl, inr, eqb-true}
 use Rattle.std.specs.BTreeMap.{insert_entry}
 use Rattle.std.specs.Cmp.{ranked}

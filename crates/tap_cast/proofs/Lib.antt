@@ -1,6 +1,6 @@
-pub mod Levels
-pub mod Pins
+mod Levels
+mod Pins
 pub mod KeptLevels
 pub mod Casting
-pub mod Thinned
-pub mod Ascending
+mod Thinned
+mod Ascending

@@ -1,21 +1,21 @@
-pub mod Made
-pub mod Turning
+mod Made
+mod Turning
 pub mod View
 pub mod AsideRules
-pub mod AsideKept
-pub mod CastsQuiet
+mod AsideKept
+mod CastsQuiet
 pub mod AsideMade
-pub mod Noted
-pub mod CastTurns
-pub mod Targets
-pub mod CastSent
-pub mod CastPlaces
-pub mod CastMade
-pub mod CastTaken
-pub mod AckTaken
-pub mod StartTaken
-pub mod CastKept
-pub mod CastDelivered
-pub mod AckDelivered
-pub mod StartDelivered
+mod Noted
+mod CastTurns
+mod Targets
+mod CastSent
+mod CastPlaces
+mod CastMade
+mod CastTaken
+mod AckTaken
+mod StartTaken
+mod CastKept
+mod CastDelivered
+mod AckDelivered
+mod StartDelivered
 pub mod SoundCasts

@@ -1,4 +1,5 @@
 -- Each possible move keeps what is said of casts; so it holds at each moment of a run.
+-- Cited above: casts_at_rest, casts_quietly, move_keeps_casts, news_are_true, rest_closes
 use Rattle.std.proofs.Common.{◌≡◌, ℕ, Bool, true, false, List, [], ◌∷◌, Option, None, Some, refl, sym, ap, subst, ◌∙◌}
 use Rattle.std.specs.Option.{option_map}
 use Rattle.tap_name.specs.Settings.{SettingsValue}

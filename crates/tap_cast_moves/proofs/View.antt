@@ -1,4 +1,5 @@
 -- A system whose casts are seen as joins: its frames, its nodes, and how many of the frames that a step sends belong to a session.
+-- Cited above: among_seen, session_seen
 use Rattle.std.proofs.Common.{◌≡◌, ◌==◌, ℕ, ◌+◌, ◌≤◌, Bool, true, false, List, [], ◌∷◌, ◌++◌, length, map, if◌then◌else◌, arith, ap, refl, sym, subst, ◌∙◌, inl, inr}
 use Rattle.std.specs.Option.{option_map}
 use Rattle.std.specs.List.{sum_by}

@@ -1,8 +1,8 @@
-pub mod Casts
-pub mod Plain
-pub mod ToldOnce
-pub mod Once
-pub mod CastsBegun
-pub mod Said
+mod Casts
+mod Plain
+mod ToldOnce
+mod Once
+mod CastsBegun
+mod Said
 pub mod ReachAll
 pub mod Sessions

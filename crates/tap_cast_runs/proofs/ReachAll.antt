@@ -1,4 +1,5 @@
 -- At each moment of a run its casts reach all whom they are for.
+-- Cited above: reach_all_at
 use Rattle.std.proofs.Common.{◌≡◌, ℕ, nat_le, Bool, true, List, [], ◌++◌, take, Some, refl, ap, subst, ◌∙◌}
 use Rattle.std.specs.Prelude.{◌&&◌}
 use Rattle.std.proofs.lemmas.Bool.{le-leb}

@@ -1,4 +1,5 @@
 -- In each run an answer that is outstanding comes to an open session, and at rest no session of casts is open.
+-- Cited above: answers_awaited_at, rest_sessions_at
 use Rattle.std.proofs.Common.{◌≡◌, ℕ, List, take, Option, None, Some, refl, ap, sym, ◌∙◌}
 use Rattle.std.specs.Option.{option_map}
 use Rattle.tap_name.specs.Settings.{SettingsValue}

@@ -1,8 +1,8 @@
-pub mod Laid
-pub mod Followed
-pub mod Covers
-pub mod Spreads
-pub mod CastSteps
-pub mod CoreSteps
-pub mod Pins
-pub mod Asked
+mod Laid
+mod Followed
+mod Covers
+mod Spreads
+mod CastSteps
+mod CoreSteps
+mod Pins
+mod Asked

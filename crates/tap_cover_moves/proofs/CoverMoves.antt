@@ -1,4 +1,5 @@
 -- A Tell at a core node, a Seek at the surrogate and a Done, from the invariant; and with them each frame that a rule takes.
+-- Cited above: taken_peaceful, taken_seeks, taken_soft
 use Rattle.std.proofs.Common.{◌≡◌, ℕ, ◌<◌, ◌≤◌, Bool, false, List, [], Option, None, Some, arith, ap, refl, sym, subst, ◌∙◌, inl, inr}
 use Rattle.std.specs.Option.{unwrap_or}
 use Rattle.std.proofs.lemmas.Bool.{cases_lt}

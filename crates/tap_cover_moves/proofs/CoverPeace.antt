@@ -1,4 +1,5 @@
 -- While nobody departs: a node that takes a frame, sends no notice and doesn't begin to leave keeps it so.
+-- Cited above: is_peaceful
 use Rattle.std.proofs.Common.{◌≡◌, inl, inr, ℕ, List, None, Some, sym, ◌∙◌}
 use Rattle.tap_link.specs.declared.kind.Kind.TheVariants.{Leaving as LeavingKind}
 use Rattle.tap_wire.specs.declared.frame.Body.{Body}

@@ -1,4 +1,5 @@
 -- The Done of a join that was given up: its node has ceased, with no link and no cover, and what it has sent are words and Forgets.
+-- Cited above: given_up_ended, given_up_fills, given_up_peaceful, given_up_seeks, given_up_soft, given_up_stamped, off_numbered
 use Rattle.std.proofs.Common.{◌≡◌, ◌⊎◌, ℕ, zero, suc, ◌+◌, Bool, true, false, List, [], ◌∷◌, Option, None, Some, slice_get, arith, ap, refl, sym, subst, ◌∙◌, inl, inr}
 use Rattle.std.specs.Option.{unwrap_or}
 use Rattle.tap_name.specs.Prefix.{lcp}

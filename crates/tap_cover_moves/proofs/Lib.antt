@@ -1,11 +1,11 @@
-pub mod CoverSent
-pub mod CoverSound
+mod CoverSent
+mod CoverSound
 pub mod CoverPeace
 pub mod CoverMoves
 pub mod Silent
-pub mod Freed
-pub mod LinkEnds
-pub mod AsBefore
+mod Freed
+mod LinkEnds
+mod AsBefore
 pub mod WordsAnew
 pub mod WordMoves
 pub mod Stamped

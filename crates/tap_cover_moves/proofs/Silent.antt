@@ -1,4 +1,5 @@
 -- A frame that is no word, whose taker keeps its status and its ties and sends no word: what is said of links stands.
+-- Cited above: IsNoWord, last_stays, same_in, silent_stand
 use Rattle.std.proofs.Common.{◌≡◌, ℕ, List, Option, Some, ap, sym, subst, ◌∙◌, inl, inr}
 use Rattle.tap_register.specs.Registers.{entry_of}
 use Rattle.tap_name.specs.Order.{name_cmp}

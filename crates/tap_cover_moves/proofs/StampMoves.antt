@@ -1,4 +1,5 @@
 -- The stamps of nodes are no less than their words' versions after each frame that a rule takes.
+-- Cited above: taken_stamped
 use Rattle.std.proofs.Common.{◌≡◌, ◌==◌, ◌&&◌, ℕ, ◌+◌, Bool, true, false, cond, if◌then◌else◌, List, [], ◌∷◌, ◌++◌, map, length, Option, None, Some, is_none, not, arith, ap, refl, sym, subst, inl, inr}
 use Rattle.tap_name.specs.Names.{has_name}
 use Rattle.tap_name.specs.Settings.{SettingsValue}

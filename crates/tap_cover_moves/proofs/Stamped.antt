@@ -1,4 +1,5 @@
 -- A node stamps its words: what its rule says has numbers that its stamp had not given, and then has.
+-- Cited above: AreNewWords, got_among, got_within, in_order_once, NoLinks, none_new, numbered_new, one_new, rule_stamps, silent_stamps
 use Rattle.std.proofs.Common.{◌≡◌, ℕ, zero, suc, ◌+◌, ◌<◌, ◌≤◌, Bool, true, false, List, [], ◌∷◌, ◌++◌, map, cond, length, Some, slice_get, arith, ap, refl, sym, subst, ◌∙◌, inl, inr}
 use Rattle.tap_name.specs.Order.{name_cmp}
 use Rattle.std.specs.Ordering.{is_gt}

@@ -1,4 +1,5 @@
 -- What a node starts, but a departure: it changes no link and says no word.
+-- Cited above: start_ended, start_stamped
 use Rattle.std.proofs.Common.{◌≡◌, ℕ, ◌≤◌, Bool, List, [], ◌∷◌, None, Some, arith, ap, refl, sym, subst, ◌∙◌, inl, inr}
 use Rattle.tap_name.specs.Settings.{SettingsValue}
 use Rattle.tap_table.specs.Table.{kind_in}

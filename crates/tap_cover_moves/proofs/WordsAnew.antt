@@ -1,4 +1,5 @@
 -- A Tell at a core node, a Seek at the surrogate and a Done: what is said of links stands.
+-- Cited above: among_names, changes_at, has_done, is_taken, stood
 use Rattle.std.proofs.Common.{◌≡◌, ◌⊎◌, ℕ, ◌+◌, Bool, true, false, List, [], ◌∷◌, Option, None, Some, is_none, arith, ap, refl, sym, subst, ◌∙◌, inl, inr}
 use Rattle.tap_name.specs.Names.{Among}
 use Rattle.tap_name.specs.Order.{name_cmp}

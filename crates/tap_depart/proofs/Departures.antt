@@ -1,4 +1,5 @@
 -- The notices of a departure, and whom the leaving node awaits.
+-- Cited above: holders_on-ascending, still_awaited
 use Rattle.std.proofs.Common.{◌≡◌, ◌≢◌, ◌↔◌, ℕ, Bool, true, false, not, Some, List, [], ◌∷◌, map, filter, slice_get, arith, ap, sym, refl, ◌∙◌, inl, inr}
 use Rattle.std.specs.Prelude.{bytes_eq}
 use Rattle.std.specs.Option.{option_map}

@@ -1,4 +1,4 @@
-pub mod Above
+mod Above
 pub mod Replacements
 pub mod Departures
 pub mod Notices

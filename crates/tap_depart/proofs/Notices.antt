@@ -1,4 +1,5 @@
 -- What the notice of a leaving node makes of the ties of a holder.
+-- Cited above: AreTies-told, leaver_marked, links_stay, new_is_told, slot_filled, told_holders, told_is_new, told_owner, told_settings
 use Rattle.std.proofs.Common.{◌≡◌, ◌≢◌, ℕ, ◌+◌, ◌&&◌, Bool, true, false, is_some, Option, None, Some, List, [], get_or, ap, sym, refl, subst, ◌∙◌, inl, inr}
 use Rattle.std.specs.Prelude.{◌||◌, bytes_eq}
 use Rattle.std.specs.Option.{is_none}

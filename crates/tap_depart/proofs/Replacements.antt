@@ -1,4 +1,5 @@
 -- The replacement for a holder: what it is, and when there is one.
+-- Cited above: least_above_is, none_given, replacement_fits
 use Rattle.std.proofs.Common.{◌≡◌, ◌≢◌, ◌↔◌, ℕ, ◌<◌, ◌≤◌, nat_lt, zero, suc, true, None, Some, List, [], ◌∷◌, All, slice_get, arith, ap, sym, refl, subst, ◌∙◌, inl, inr}
 use Rattle.std.proofs.lemmas.Bool.{and_parts, cases_Bool, cases_lt, lt-ltb, ltb-true}
 use Rattle.std.proofs.lemmas.List.Elements.{All-head, All-tail}

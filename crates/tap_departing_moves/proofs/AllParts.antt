@@ -1,4 +1,5 @@
 -- The whole invariant after each notice, and once a node has started to leave.
+-- Cited above: leaving_keeps, notice_keeps
 use Rattle.tap_name.specs.Settings.{SettingsValue}
 use Rattle.tap_rule.specs.Event.Start.{Leave}
 use Rattle.tap_rule.specs.RuleLaws.{frame_to}

@@ -1,4 +1,5 @@
 -- Departures and their notices after each frame that is no notice, from the invariant.
+-- Cited above: frame_in_order
 use Rattle.std.proofs.Common.{◌≡◌, inl, inr, ℕ, true, List, [], ◌⊎◌, Option, None, Some, refl, subst}
 use Rattle.std.proofs.lemmas.Bool.{cases_Bool}
 use Rattle.tap_name.specs.Settings.{SettingsValue}

@@ -1,21 +1,21 @@
-pub mod Alike
-pub mod Aside
-pub mod AsideMade
+mod Alike
+mod Aside
+mod AsideMade
 pub mod DepartingMoves
-pub mod NobodyJoins
-pub mod WordsKept
-pub mod WordsSaid
-pub mod GoneKept
-pub mod LeaveMade
-pub mod OneFrame
-pub mod LeaveKept
-pub mod LeftKept
-pub mod HasLeft
-pub mod StartKept
-pub mod Holders
-pub mod NoticeMoves
-pub mod StartMoves
-pub mod PartMoves
-pub mod StampMoves
-pub mod WordMoves
+mod NobodyJoins
+mod WordsKept
+mod WordsSaid
+mod GoneKept
+mod LeaveMade
+mod OneFrame
+mod LeaveKept
+mod LeftKept
+mod HasLeft
+mod StartKept
+mod Holders
+mod NoticeMoves
+mod StartMoves
+mod PartMoves
+mod StampMoves
+mod WordMoves
 pub mod AllParts

@@ -1,4 +1,5 @@
 -- The headline of the log of a world, by that of the run which it is up to its last moment.
+-- Cited above: kept_headline, kept_holders
 use Rattle.std.proofs.Common.{Bool, List, [], ◌∷◌, length, Option, sym, subst}
 use Rattle.tap_log.specs.declared.record.Record.{Record}
 use Rattle.tap_log.specs.declared.record.Record.TheVariants.{Finished, Spent, Step as StepRecord}

@@ -1,4 +1,5 @@
 -- The indices of the steps that have begun, as the log of a world grows.
+-- Cited above: few_steps, steps_are
 use Rattle.std.proofs.Common.{◌≡◌, ℕ, ◌+◌, ◌<◌, ◌≤◌, List, [], ◌∷◌, ◌++◌, length, All, Option, None, Some, refl, ap, sym, subst, ◌∙◌, arith, append-nil, length-append}
 use Rattle.std.specs.Prelude.{IfSome}
 use Rattle.std.specs.List.{filter_map, last_or}

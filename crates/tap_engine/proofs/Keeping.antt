@@ -1,4 +1,5 @@
 -- What a world keeps, once a step stands alone after its log, the log has its end, or memory was refused.
+-- Cited above: all_still, as_log, begun, end_same, grown_log, grown_named, HasGrown, kept_same, kept_short, on, same_beginning, seen, there
 use Rattle.std.proofs.Common.{◌≡◌, ◌≢◌, ℕ, ◌≤◌, Bool, true, false, List, [], ◌∷◌, ◌++◌, length, append-nil, Option, None, Some, Result, Err, is_some, refl, ap, sym, subst, ◌∙◌, arith}
 use Rattle.std.specs.Option.{option_map}
 use Rattle.std.proofs.lemmas.List.Elements.{All-nil}

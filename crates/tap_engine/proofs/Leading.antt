@@ -1,4 +1,5 @@
 -- Where each call leads: the group that it has added, and the nodes then.
+-- Cited above: kept_group
 use Rattle.std.proofs.Common.{◌≡◌, ◌≢◌, ◌⊎◌, inl, inr, ℕ, ◌<◌, ◌≤◌, IfSome, Bool, true, false, List, [], ◌∷◌, ◌++◌, slice_get, All, Option, None, Some, Result, Ok, Err, refl, ap, sym, subst, ◌∙◌, arith, append-nil, append_assoc}
 use Rattle.std.specs.Prelude.{if◌then◌else◌}
 use Rattle.std.specs.Option.{option_zip}

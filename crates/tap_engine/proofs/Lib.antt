@@ -7,15 +7,15 @@ pub mod Endings
 pub mod HeadlineOfWorld
 pub mod StandingAlone
 pub mod Addable
-pub mod Deliveries
+mod Deliveries
 pub mod Keeping
-pub mod SoundCourse
-pub mod Taking
-pub mod Starting
+mod SoundCourse
+mod Taking
+mod Starting
 pub mod Leading
 pub mod Counting
-pub mod QuietGroups
-pub mod Seeing
-pub mod Damaging
-pub mod Mapped
-pub mod TurnRecords
+mod QuietGroups
+mod Seeing
+mod Damaging
+mod Mapped
+mod TurnRecords

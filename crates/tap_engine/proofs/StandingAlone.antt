@@ -1,4 +1,5 @@
 -- What a log says of its system and its names, once a step stands alone after it, a refusal, or how the run has ended.
+-- Cited above: end_system, pending_system, refused_names, system_group
 use Rattle.std.proofs.Common.{◌≡◌, ℕ, ◌≤◌, Bool, true, false, List, [], ◌∷◌, ◌++◌, length, take, Option, None, Some, refl, ap, sym, ◌∙◌, arith, append-nil, append_assoc}
 use Rattle.std.specs.Prelude.{◌&&◌, fold, if◌then◌else◌}
 use Rattle.std.specs.List.{cons_option, filter_map}

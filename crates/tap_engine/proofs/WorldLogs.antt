@@ -1,4 +1,5 @@
 -- Each call leaves a world with the log of one.
+-- Cited above: finish_log, IsNoted, mark_log, note_log, noted, world_log_grows
 use Rattle.std.proofs.Common.{◌≡◌, ◌⊎◌, inl, inr, ℕ, Bool, true, false, List, [], ◌∷◌, ◌++◌, length, slice_get, All, Option, None, Some, refl, ap, sym, subst, ◌∙◌, arith, append_assoc}
 use Rattle.std.specs.Prelude.{if◌then◌else◌}
 use Rattle.std.specs.Option.{option_map_or}

@@ -1,4 +1,5 @@
 -- What the log of a run and the longer one with its ending have in common.
+-- Cited above: may_cut, may_finish, may_refuse, may_spend
 use Rattle.std.proofs.Common.{◌≡◌, ◌⊎◌, inl, inr, ℕ, ◌<◌, Bool, true, false, All, List, [], ◌∷◌, ◌++◌, length, filter, None, Some, refl, ap, sym, ◌∙◌, append_assoc}
 use Rattle.std.proofs.lemmas.List.Elements.{All-cons, All-nil}
 use Rattle.tap_scenario.specs.declared.step.Step.{Step}

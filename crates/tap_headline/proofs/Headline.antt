@@ -1,4 +1,5 @@
 -- Each log of a run has the headline, and so it has with its ending.
+-- Cited above: ended_logs_have_headline
 use Rattle.std.proofs.Common.{List, [], ◌∷◌, ◌++◌}
 use Rattle.tap_log.specs.declared.record.Record.{Record}
 use Rattle.tap_log.specs.declared.record.Record.TheVariants.{Finished, Spent, Step as StepRecord}

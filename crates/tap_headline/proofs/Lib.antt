@@ -1,13 +1,13 @@
 pub mod LastRecord
 pub mod Scripts
-pub mod PrintedRecords
-pub mod Groups
+mod PrintedRecords
+mod Groups
 pub mod Printable
-pub mod Starts
+mod Starts
 pub mod Ended
-pub mod Memory
-pub mod KeptByEnds
-pub mod Stays
-pub mod FewStay
+mod Memory
+mod KeptByEnds
+mod Stays
+mod FewStay
 pub mod Headline
-pub mod HasInvariant
+mod HasInvariant

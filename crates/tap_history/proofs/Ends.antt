@@ -1,4 +1,5 @@
 -- The moments of a log are the ends of its beginning and of its groups.
+-- Cited above: holds_at_each_moment, log_in_groups_holds
 use Rattle.std.proofs.Common.{◌≡◌, ℕ, zero, suc, ◌+◌, ◌<◌, ◌≤◌, Bool, true, false, List, [], ◌∷◌, ◌++◌, length, take, All, ◌⊎◌, inl, inr, refl, ap, sym, subst, ◌∙◌, arith, append-nil, append_assoc, length-append, length-take}
 use Rattle.std.specs.Prelude.{◌&&◌, ◌||◌, nat_eq, nat_le, slice_get, if◌then◌else◌}
 use Rattle.std.specs.List.{list_any}

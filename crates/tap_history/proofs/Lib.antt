@@ -2,7 +2,7 @@ pub mod OneMoreGroup
 pub mod RecordChanges
 pub mod Instants
 pub mod Less
-pub mod Acknowledging
+mod Acknowledging
 pub mod Stepwise
 pub mod Parts
 pub mod Numbering

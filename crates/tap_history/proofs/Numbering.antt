@@ -1,4 +1,5 @@
 -- What one more group changes if frames, tickets and packets are numbered on: frames and packets that wait, and their places.
+-- Cited above: numbered-group, outstanding-group, range-append
 use Rattle.std.proofs.Common.{◌≡◌, ℕ, zero, suc, ◌+◌, ◌<◌, ◌≤◌, false, not, nat_eq, filter, List, [], ◌∷◌, ◌++◌, length, get_or, All, Option, None, Some, refl, ap, sym, subst, ◌∙◌, arith, length-append, cond, Bool, true, append-nil}
 use Rattle.std.specs.Prelude.{◌||◌, if◌then◌else◌, ◌&&◌, option_and_then, slice_get}
 use Rattle.std.specs.List.{filter_map, cons_option, range_with_len}

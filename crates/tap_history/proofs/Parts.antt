@@ -1,4 +1,5 @@
 -- A log is its beginning, its groups and its ending.
+-- Cited above: beginning_of-group, EachGroup-push, groups_of-ended, groups_of-group, is_ended-append, log_is_groups
 use Rattle.std.proofs.Common.{◌≡◌, ◌≢◌, ℕ, zero, suc, ◌≤◌, Bool, true, false, List, [], ◌∷◌, ◌++◌, length, take, drop, All, refl, ap, sym, subst, ◌∙◌, arith, append-nil, append_assoc}
 use Rattle.std.specs.Prelude.{◌&&◌, slice_get, if◌then◌else◌}
 use Rattle.std.proofs.lemmas.Bool.{true≢false}

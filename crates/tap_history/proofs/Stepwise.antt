@@ -1,4 +1,5 @@
 -- The last of the numbers from 1 that pass a test, with one number more.
+-- Cited above: last_passes
 use Rattle.std.proofs.Common.{◌≡◌, ℕ, zero, suc, ◌+◌, Bool, true, false, List, [], ◌∷◌, ◌++◌, filter, Option, None, Some, refl, ap, sym, ◌∙◌, arith, append-nil, add-zero}
 use Rattle.std.specs.Prelude.{unwrap_or, if◌then◌else◌}
 use Rattle.std.specs.List.{last_or, range_with_len}

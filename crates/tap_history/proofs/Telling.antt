@@ -1,4 +1,5 @@
 -- What one more whole group of records changes.
+-- Cited above: core_of-group, names_of-group, present_of-group, published_of-group
 use Rattle.std.proofs.Common.{◌≡◌, ℕ, ◌≤◌, not, List, [], ◌∷◌, ◌++◌, length, Option, None, Some, refl, ap, sym, ◌∙◌, arith, append_assoc}
 use Rattle.std.specs.Prelude.{fold, if◌then◌else◌}
 use Rattle.std.specs.List.{filter_map, cons_option}

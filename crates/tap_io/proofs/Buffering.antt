@@ -1,4 +1,5 @@
 -- A sink over another one, in which bytes wait.
+-- Cited above: all_passed_on, first_part
 use Rattle.std.proofs.Common.{◌≡◌, ◌≤◌, ℕ, List, [], ◌++◌, length, take, Option, None, Some, refl, ap, sym, subst, ◌∙◌, arith, append-nil, append_assoc, length-append, length-take-le}
 use Rattle.std.proofs.KnownBytes.{Appends-kept, Appends-nil, Keeps-refl, Keeps-trans, append_known-grown, append_known-kept, append_known-moved, append_known-passed}
 use Rattle.std.proofs.Math.Seq.{take-append_seam, take-length}

@@ -1,4 +1,5 @@
 -- The states of a sink, one after another.
+-- Cited above: Follows-refl, Follows-trans, Grows-trans
 use Rattle.std.proofs.Common.{ℕ, List, [], ◌∷◌, ◌++◌, Option, refl, ◌∙◌, arith}
 use Rattle.std.proofs.KnownBytes.{Appends-nil, Appends-trans}
 use Rattle.tap_io.specs.Sink.{EachGrows, Grows, IsAfterWrites, SinkBehind, SinkState}

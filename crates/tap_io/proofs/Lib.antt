@@ -1,4 +1,4 @@
 pub mod Buffering
 pub mod Following
-pub mod Reading
+mod Reading
 pub mod Writing

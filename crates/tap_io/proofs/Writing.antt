@@ -1,4 +1,5 @@
 -- What a sink holds after several writes, one after another.
+-- Cited above: Appends-AppendsPrefixOf, AppendsPrefixOf-append, failed_write, next_write
 use Rattle.std.proofs.Common.{◌≡◌, ◌≤◌, ℕ, ◌+◌, ◌-◌, List, ◌++◌, length, take, drop, Option, length-append, take-add, arith, sym, subst}
 use Rattle.std.proofs.KnownBytes.{Appends-trans, Appends-kept}
 use Rattle.std.proofs.Math.Seq.{take-append-add}

@@ -1,4 +1,6 @@
 -- What a Hello makes of the ties of a joining node.
+-- Cited above: all_named, AreOf, AreTies-after_hello, hello_links_stay, hello_new_links, hello_serves, holders_stay, IsNamed, IsServed, links_stay,
+-- named, new_links, of_one, offered_cases, owner_stays, settings_stay
 use Rattle.std.proofs.Common.{◌≡◌, ◌≢◌, ◌⊎◌, ℕ, zero, suc, Bool, true, false, if◌then◌else◌, Option, None, Some, List, [], ◌∷◌, slice_get, All, ap, sym, refl, ◌∙◌, inl, inr}
 use Rattle.std.proofs.lemmas.Bool.{cases_Bool}
 use Rattle.std.proofs.lemmas.List.Elements.{All-cons, All-head, All-nil, All-tail}

@@ -1,6 +1,6 @@
 pub mod Hellos
-pub mod NewKinds
-pub mod Greetings
-pub mod Words
+mod NewKinds
+mod Greetings
+mod Words
 pub mod Seeking
 pub mod TellsNew

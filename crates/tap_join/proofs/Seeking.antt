@@ -1,4 +1,5 @@
 -- To whom a seeker goes on, and when a core node is its surrogate.
+-- Cited above: forward_is, surrogate_is
 use Rattle.std.proofs.Common.{◌≡◌, ◌≢◌, ℕ, ◌+◌, ◌≤◌, Option, None, Some, List, arith, ap, sym, refl, ◌∙◌}
 use Rattle.std.proofs.lemmas.Cmp.{nat_list_cmp_total}
 use Rattle.tap_name.specs.Name.{IsName}

@@ -1,4 +1,5 @@
 -- Whom a Hello makes a joining node tell: exactly the nodes to which it has a new link, each once, with the next numbers.
+-- Cited above: hello_tells_new, TellsNew
 use Rattle.std.proofs.Common.{◌≡◌, ◌≢◌, ◌&&◌, ℕ, ◌+◌, ◌<◌, zero, suc, Bool, true, Option, None, Some, List, [], ◌∷◌, ◌++◌, slice_get, All, arith, ap, sym, refl, ◌∙◌, inl, inr}
 use Rattle.std.specs.Option.{is_none}
 use Rattle.std.proofs.lemmas.Bool.{and_parts}

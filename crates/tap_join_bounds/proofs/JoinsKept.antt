@@ -1,4 +1,5 @@
 -- What is so of a system and its frames while nothing but joins is started, and that a move of such a run keeps it.
+-- Cited above: joiner_joins
 use Rattle.std.proofs.Common.{◌≡◌, ◌⊎◌, ℕ, true, false, List, [], ◌∷◌, ◌++◌, map, Option, None, Some, ap, refl, sym, subst, ◌∙◌, inl, inr}
 use Rattle.std.proofs.lemmas.Bool.{cases_Bool}
 use Rattle.std.proofs.lemmas.List.Elements.{All-head, All-tail}

@@ -1,12 +1,12 @@
-pub mod JoinRules
+mod JoinRules
 pub mod Made
 pub mod JoinsKept
 pub mod OfJoins
-pub mod Words
-pub mod Links
-pub mod LinkSteps
-pub mod LinkMoves
-pub mod Releases
-pub mod ReleaseMoves
-pub mod NamedFew
+mod Words
+mod Links
+mod LinkSteps
+mod LinkMoves
+mod Releases
+mod ReleaseMoves
+mod NamedFew
 pub mod LinkRuns

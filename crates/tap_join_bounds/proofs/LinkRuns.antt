@@ -1,4 +1,5 @@
 -- How few Links and Releases are sent in a run of joins alone.
+-- Cited above: run_links_few
 use Rattle.std.proofs.Common.{◌≡◌, ℕ, ◌≤◌, Bool, true, false, cond, List, [], ◌∷◌, Option, None, Some, arith, refl}
 use Rattle.tap_name.specs.Names.{Among, has_name}
 use Rattle.tap_name.specs.Settings.{SettingsValue}

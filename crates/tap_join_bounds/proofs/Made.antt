@@ -1,4 +1,5 @@
 -- What a move makes of a system and of what is remembered of its frames: one node does something, and what it sends is under way.
+-- Cited above: delivery_made, IsMade, join_made
 use Rattle.std.proofs.Common.{◌≡◌, ◌⊎◌, ℕ, List, [], ◌∷◌, ◌++◌, Some, ap, refl, sym, subst, inl, inr}
 use Rattle.tap_name.specs.Settings.{SettingsValue}
 use Rattle.tap_wire.specs.declared.frame.Body.{Body}

@@ -1,4 +1,5 @@
 -- What is sent in runs in which nothing but joins is started: each move keeps it, so it holds at each moment of such a run.
+-- Cited above: run_sent_are_of_joins
 use Rattle.std.proofs.Common.{◌≡◌, ℕ, false, true, List, [], ◌∷◌, Option, None, Some, refl, subst, inl, inr, Bool}
 use Rattle.std.specs.Prelude.{IfSome}
 use Rattle.std.proofs.lemmas.List.Elements.{All-cons, All-nil}

@@ -1,2 +1,2 @@
-pub mod JoiningTakes
-pub mod HelloNamed
+mod JoiningTakes
+mod HelloNamed

@@ -260,12 +260,7 @@ impl JoiningNode {
     }
 
     // Cast: it is answered.
-    fn on_cast(
-        &mut self,
-        sent: &mut FrameList,
-        from: Name,
-        session: u32,
-    ) -> Result<(), NoMemory>
+    fn on_cast(&mut self, sent: &mut FrameList, from: Name, session: u32) -> Result<(), NoMemory>
         requires sender { IsName self.old.joining.ties.table.settings from }
         requires session { 1 ≤ session }
         ensures { OnOk result (StepsAs (joining_state self.old) (takes_cast_outside (joining_state self.old) from session)

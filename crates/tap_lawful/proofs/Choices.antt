@@ -1,4 +1,5 @@
 -- Why a step that chooses frames is refused: a settle never is, and a `deliver` only if no frame is at its place.
+-- Cited above: deliver_refusal, mixed_accepted, newest_accepted, settle_accepted
 use Rattle.std.proofs.Common.{◌≡◌, ℕ, ◌+◌, Bool, true, false, not, List, [], ◌∷◌, length, Option, None, Some, refl, ap, ◌∙◌}
 use Rattle.std.specs.Prelude.{◌&&◌, nat_le, nat_lt, if◌then◌else◌}
 use Rattle.tap_name.specs.Names.{has_name}

@@ -1,4 +1,5 @@
 -- A scenario has one log: of two one begins with the other.
+-- Cited above: one_log_holds
 use Rattle.std.proofs.Common.{◌≡◌, ◌⊎◌, inl, inr, ◌<◌, ◌≤◌, List, [], ◌∷◌, ◌++◌, length, take, refl, ap, sym, subst, ◌∙◌, arith, append-nil, append_assoc}
 use Rattle.std.proofs.Math.Seq.{take-append_seam}
 use Rattle.tap_scenario.specs.Scenario.{ScenarioValue}

@@ -1,4 +1,5 @@
 -- How the log of a run grows: group by group, and as a course.
+-- Cited above: played_course, played_more, played_starts, sent_count-append, sent_no_fewer
 use Rattle.std.proofs.Common.{◌≡◌, ◌+◌, ◌≤◌, List, [], ◌∷◌, ◌++◌, length, take, refl, ap, sym, subst, ◌∙◌, arith, append-nil, append_assoc, length-append}
 use Rattle.std.specs.Prelude.{if◌then◌else◌}
 use Rattle.std.specs.List.{filter_map}

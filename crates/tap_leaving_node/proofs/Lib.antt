@@ -1,3 +1,3 @@
-pub mod NoticeNamed
-pub mod LeavingTakes
-pub mod Ends
+mod NoticeNamed
+mod LeavingTakes
+mod Ends

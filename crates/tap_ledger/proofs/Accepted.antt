@@ -1,4 +1,5 @@
 -- The step that one more record accepts, and what it makes of the names of a log.
+-- Cited above: last_at
 use Rattle.std.proofs.Common.{◌≡◌, ℕ, ◌-◌, false, List, [], ◌∷◌, ◌++◌, length, Option, None, Some, refl, ap, ◌∙◌}
 use Rattle.std.specs.Prelude.{fold, option_and_then, slice_get}
 use Rattle.std.specs.List.{filter_map, last_or}

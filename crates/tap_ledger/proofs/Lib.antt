@@ -1,15 +1,15 @@
-pub mod Conditions
-pub mod Less
+mod Conditions
+mod Less
 pub mod Accepted
-pub mod Published
-pub mod Departing
-pub mod Frames
-pub mod Keeping
-pub mod Keys
-pub mod Uncarried
+mod Published
+mod Departing
+mod Frames
+mod Keeping
+mod Keys
+mod Uncarried
 pub mod Adding
-pub mod Single
-pub mod LedgerBegun
-pub mod Asked
-pub mod Staying
-pub mod Sending
+mod Single
+mod LedgerBegun
+mod Asked
+mod Staying
+mod Sending

@@ -1,4 +1,5 @@
 -- The least settled link.
+-- Cited above: ascending_tail, least_settled_is, never_settled
 use Rattle.std.proofs.Common.{◌≡◌, ◌≢◌, ℕ, ◌+◌, ◌<◌, nat_lt, Option, is_some, true, false, cond, List, [], ◌∷◌, length, drop, get_or, slice_get, None, Some, arith, suc, refl, sym, ap, ◌∙◌, inl, inr}
 use Rattle.std.specs.Cmp.{IsTotalOrder}
 use Rattle.std.specs.Ordering.{is_eq, ordering_reverse}

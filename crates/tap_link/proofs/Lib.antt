@@ -1,9 +1,9 @@
-pub mod Present
-pub mod Search
-pub mod KeptLinks
+mod Present
+mod Search
+mod KeptLinks
 pub mod Least
-pub mod LookUps
-pub mod Counts
+mod LookUps
+mod Counts
 pub mod Targets
 pub mod TargetKinds
 pub mod Valid

@@ -1,4 +1,6 @@
 -- What each change of a link set makes of its primary, the least settled link. The order of targets tells each from all others.
+-- Cited above: least_settled-forgotten, least_settled-marked, least_settled-marked_other, least_settled-offered, least_settled-pinned,
+-- least_settled-released, least_settled-removed, least_settled-removed_other, lesser_of, TellsApart
 use Rattle.std.proofs.Common.{◌≡◌, ◌≢◌, ◌&&◌, ◌↔◌, ◌⊎◌, Bool, true, false, List, Option, None, Some, refl, sym, ap, ◌∙◌, inl, inr, if◌then◌else◌}
 use Rattle.std.specs.Cmp.{IsTotalOrder}
 use Rattle.std.specs.Option.{is_none}

@@ -1,4 +1,6 @@
 -- How wide a link set is after each of its changes, how many links it has, and how many of them are settled.
+-- Cited above: full-has_primary, length-forgotten, length-marked, length-offered, length-offered_le, length-pinned, length-pinned_le,
+-- length-released, length-removed, one_if, settled_count-offered, settled_count-pinned
 use Rattle.std.proofs.Common.{◌≡◌, ◌&&◌, ℕ, ◌+◌, ◌≤◌, Bool, true, false, not, cond, if◌then◌else◌, List, length, Option, None, Some, arith, refl}
 use Rattle.std.specs.Cmp.{IsTotalOrder}
 use Rattle.std.specs.Option.{is_none}

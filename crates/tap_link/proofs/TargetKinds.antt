@@ -1,4 +1,6 @@
 -- The kind of every target after each change of a link set.
+-- Cited above: kind_forgotten, kind_marked, kind_of-forgotten, kind_of-marked, kind_of-offered, kind_of-pinned, kind_of-released, kind_of-removed,
+-- kind_offered, kind_pinned, kind_released, kind_removed
 use Rattle.std.proofs.Common.{◌≡◌, ◌&&◌, Bool, true, false, List, Option, None, Some, refl, ap, ◌∙◌, inl, inr, if◌then◌else◌}
 use Rattle.std.specs.Cmp.{IsTotalOrder}
 use Rattle.std.specs.Option.{is_none, is_some, option_map}

@@ -1,4 +1,5 @@
 -- What holds of each target of a link set holds after each of its changes.
+-- Cited above: all_targets-with_kind, all_targets-with_link, all_targets-without, AllTargets
 use Rattle.std.proofs.Common.{◌&&◌, Bool, true, false, List, ◌∷◌, filter, not, get_or, if◌then◌else◌, inl, inr}
 use Rattle.std.specs.List.{All}
 use Rattle.std.specs.Option.{is_none}

@@ -1,4 +1,5 @@
 -- Each change of a link set keeps what every link set keeps.
+-- Cited above: valid-forgotten, valid-marked, valid-offered, valid-pinned, valid-released, valid-removed
 use Rattle.std.proofs.Common.{◌≡◌, ◌<◌, ◌≤◌, ◌⊎◌, ℕ, Bool, true, false, List, [], ◌∷◌, length, slice_get, slice_index_or, Option, None, Some, arith, zero, suc, refl, subst, sym, ◌∙◌, inl, inr}
 use Rattle.std.specs.Cmp.{IsTotalOrder}
 use Rattle.std.specs.declared.cmp.Ordering.{Ordering}

@@ -1,4 +1,5 @@
 -- Lists that a loop over records gathers.
+-- Cited above: last_is
 use Rattle.std.proofs.Common.{◌≡◌, ℕ, zero, suc, ◌+◌, ◌<◌, Bool, true, false, arith, List, [], ◌∷◌, ◌++◌, length, take, drop, ◌-◌, length-drop, get_or, Option, None, Some, refl, ap, sym, ◌∙◌, append-nil}
 use Rattle.std.specs.Prelude.{◌||◌, slice_get}
 use Rattle.std.specs.List.{filter_map, cons_option, list_any, last_or}

@@ -1,3 +1,3 @@
 pub mod Gathering
-pub mod Equality
+mod Equality
 pub mod MoreRecords

@@ -1,4 +1,5 @@
 -- A lookup that is made alone changes no node, goes along its walk, and is answered exactly.
+-- Cited above: lookup_begins_alone, lookup_goes_on_alone
 use Rattle.std.proofs.Common.{◌≡◌, ◌⊎◌, ℕ, ◌+◌, false, List, [], ◌∷◌, ◌++◌, map, All, Option, None, Some, refl, ap, sym, subst, ◌∙◌, inl, inr}
 use Rattle.std.specs.Option.{option_map}
 use Rattle.std.proofs.lemmas.List.Elements.{All-cons, All-nil}

@@ -1,11 +1,11 @@
 pub mod LookupRules
 pub mod LookupActs
 pub mod LookupsKept
-pub mod Held
+mod Held
 pub mod LookupAnswers
-pub mod Rest
+mod Rest
 pub mod Alone
-pub mod Emptied
-pub mod AsAtRest
+mod Emptied
+mod AsAtRest
 pub mod Walks
 pub mod NoServer

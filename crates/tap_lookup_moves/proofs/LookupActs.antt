@@ -1,4 +1,5 @@
 -- What a step of a node says of lookups, and what it leaves of core nodes.
+-- Cited above: start_acts
 use Rattle.std.proofs.Common.{◌≡◌, ◌⊎◌, ℕ, Bool, true, false, List, [], All, Option, None, Some, refl, ap, sym, subst, ◌∙◌, inl, inr}
 use Rattle.std.specs.Prelude.{IfSome}
 use Rattle.tap_name.specs.Settings.{SettingsValue}

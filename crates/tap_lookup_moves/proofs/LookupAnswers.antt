@@ -1,4 +1,5 @@
 -- What lookups say, after each move, and what a move notes of them.
+-- Cited above: lookups_stay_of, no_lookups_at_rest, noted_answers_are_of, noted_delivery, noted_start, started_answer
 use Rattle.std.proofs.Common.{◌≡◌, ℕ, Bool, true, List, Option, Some, ap, sym, subst, ◌∙◌, inl, inr}
 use Rattle.std.specs.Option.{option_map}
 use Rattle.tap_name.specs.Settings.{SettingsValue}

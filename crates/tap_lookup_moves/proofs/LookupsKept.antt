@@ -1,4 +1,5 @@
 -- Where lookups go, after each move.
+-- Cited above: find_spelled, lookups_at_rest, lookups_kept
 use Rattle.std.proofs.Common.{◌≡◌, ℕ, ◌≤◌, List, length, Option, None, Some, arith, refl, ap, sym, subst, ◌∙◌, inl, inr}
 use Rattle.tap_name.specs.Name.{IsName}
 use Rattle.tap_name.specs.Prefix.{lcp}

@@ -1,4 +1,5 @@
 -- Where answers without a server come from, and that Finds stay on the walks of their objects while lookups alone are under way.
+-- Cited above: ends_at_once_are_exact, ends_of_walks_are_exact, finds_stay_on_walks, none_comes_from_ends, none_is_noted_at_ends
 use Rattle.std.proofs.Common.{◌≡◌, ◌⊎◌, ℕ, true, List, None, Some, refl, ap, sym, subst, ◌∙◌, inl, inr}
 use Rattle.tap_name.specs.Settings.{SettingsValue}
 use Rattle.tap_surrogate.specs.Entered.{walk_entered}

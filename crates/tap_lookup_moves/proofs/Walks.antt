@@ -1,4 +1,5 @@
 -- What a walk reads of the nodes stays after a move, if lookups alone are under way before and after it.
+-- Cited above: lookups_before
 use Rattle.std.proofs.Common.{◌≡◌, ◌⊎◌, ℕ, Bool, List, Option, None, Some, refl, ap, sym, ◌∙◌, inl, inr}
 use Rattle.std.specs.Prelude.{option_and_then}
 use Rattle.std.specs.Option.{option_map}

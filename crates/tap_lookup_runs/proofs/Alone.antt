@@ -1,4 +1,5 @@
 -- A lookup that is made alone from a rest of a run is answered exactly.
+-- Cited above: alone_at
 use Rattle.std.proofs.Common.{◌≡◌, inl, inr, ℕ, true, false, List, [], ◌∷◌, ◌++◌, All, Option, None, Some, append-nil, refl, ap, sym, subst, ◌∙◌}
 use Rattle.std.proofs.lemmas.List.Elements.{All-cons, All-head, All-weaker}
 use Rattle.tap_name.specs.Settings.{SettingsValue}

@@ -1,4 +1,5 @@
 -- What is said of answers without a server stays so once it stands after the log how its run has ended.
+-- Cited above: disturbed_kept, ends_kept
 use Rattle.std.proofs.Common.{◌≡◌, ◌⊎◌, inl, inr, ℕ, ◌<◌, ◌≤◌, true, false, List, ◌∷◌, ◌++◌, length, take, All, None, Some, arith, ap, sym, subst, ◌∙◌, length-append}
 use Rattle.std.specs.Prelude.{nat_le, slice_get}
 use Rattle.std.proofs.Math.Seq.{take-append_seam, take-length}

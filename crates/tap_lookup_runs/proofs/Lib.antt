@@ -1,11 +1,11 @@
 pub mod Unanswered
-pub mod LookupsGrow
+mod LookupsGrow
 pub mod Runs
-pub mod Starting
+mod Starting
 pub mod Alone
-pub mod Moments
-pub mod Tickets
-pub mod Failing
-pub mod AtOnce
+mod Moments
+mod Tickets
+mod Failing
+mod AtOnce
 pub mod NoServer
 pub mod Endings

@@ -1,4 +1,5 @@
 -- Lookups of a run that are answered without a server: where they end, and what has disturbed them.
+-- Cited above: disturbed_at_moments, ends_at_moments
 use Rattle.std.proofs.Common.{◌≡◌, inl, inr, ℕ, true, false, List, [], ◌∷◌, ◌++◌, All, None, ap, sym, subst, ◌∙◌}
 use Rattle.std.specs.Prelude.{◌&&◌, ◌||◌, if◌then◌else◌, nat_eq, nat_le}
 use Rattle.std.proofs.lemmas.List.Elements.{All-append, All-cons, All-weaker}

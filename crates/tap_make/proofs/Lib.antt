@@ -1,5 +1,5 @@
-pub mod LoopLists
-pub mod Naming
-pub mod Scripted
-pub mod Marked
+mod LoopLists
+mod Naming
+mod Scripted
+mod Marked
 pub mod Limits

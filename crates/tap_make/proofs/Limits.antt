@@ -1,4 +1,5 @@
 -- made scenarios are within the limits of scenarios
+-- Cited above: made_well
 use Rattle.std.proofs.Common.{◌≡◌, ℕ, zero, suc, ◌+◌, ◌*◌, ◌^◌, ◌<◌, ◌≤◌, false, min, List, [], ◌∷◌, ◌++◌, map, length, get_or, All, flat_map, refl, ap, sym, subst, ◌∙◌, arith, length-append, mul-suc}
 use Rattle.std.specs.Prelude.{IsTrue}
 use Rattle.std.specs.List.{range_with_len}

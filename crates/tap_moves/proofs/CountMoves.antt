@@ -1,4 +1,5 @@
 -- What is awaited after each delivered frame: each session awaits an answer, as many as its node waits for.
+-- Cited above: frame_counts
 use Rattle.std.proofs.Common.{◌≡◌, ◌⊎◌, ◌==◌, ℕ, ◌+◌, ◌-◌, ◌<◌, ◌≤◌, Bool, true, false, List, [], ◌∷◌, length, Some, if◌then◌else◌, arith, ap, refl, sym, subst, ◌∙◌, inl, inr}
 use Rattle.std.proofs.lemmas.Bool.{eqb-true}
 use Rattle.tap_name.specs.Settings.{SettingsValue}

@@ -1,4 +1,5 @@
 -- The Tells that a node sends for a joiner: each is one deeper than the session that it opens, and at a level above the prefix.
+-- Cited above: frame_deeper
 use Rattle.std.proofs.Common.{◌≡◌, ◌==◌, ℕ, ◌+◌, ◌<◌, ◌≤◌, Bool, true, false, List, [], ◌∷◌, ◌++◌, length, map, cond, if◌then◌else◌, arith, ap, refl, sym, ◌∙◌, inl, inr}
 use Rattle.std.proofs.lemmas.List.Elements.{All-nil}
 use Rattle.tap_name.specs.Name.{IsName}

@@ -1,4 +1,5 @@
 -- After each frame that a rule takes, but the Done of a join that was given up, a node that has ended has no link.
+-- Cited above: frame_ended
 use Rattle.std.proofs.Common.{◌≡◌, ◌⊎◌, ℕ, List, Some, ap, refl, sym, subst, ◌∙◌, inl, inr}
 use Rattle.tap_name.specs.Settings.{SettingsValue}
 use Rattle.tap_name.specs.declared.slot.Slot.{Slot}

@@ -1,4 +1,5 @@
 -- A frame that is taken goes, those that are sent come, and no two frames under way have one number.
+-- Cited above: exchanges, in_either, in_first, sent_numbered
 use Rattle.std.proofs.Common.{◌≡◌, inl, inr, ℕ, ◌+◌, List, [], ◌∷◌, ◌++◌, ◌⊎◌, length, arith, refl}
 use Rattle.tap_wire.specs.declared.frame.Frame.{Frame}
 use Rattle.tap_rule.specs.Sent.{IsAmong}

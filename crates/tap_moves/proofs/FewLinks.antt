@@ -1,4 +1,5 @@
 -- A frame that isn't strange leaves a node no more links than it may have.
+-- Cited above: none_linked
 use Rattle.std.proofs.Common.{◌≡◌, ◌≢◌, ◌⊎◌, ℕ, zero, suc, ◌≤◌, Bool, List, [], ◌∷◌, length, get_or, map, slice_get, Option, None, Some, All, false, refl, sym, ap, subst, ◌∙◌, inl, inr}
 use Rattle.std.specs.Ordering.{is_eq}
 use Rattle.std.proofs.lemmas.Bool.{cases_Bool}

@@ -3,7 +3,7 @@ pub mod Nearness
 pub mod CoverMade
 pub mod Made
 pub mod SeekMade
-pub mod Counts
+mod Counts
 pub mod InSession
 pub mod Exchanged
 pub mod Plain
@@ -14,7 +14,7 @@ pub mod OutsideMade
 pub mod LinkMade
 pub mod MovesMade
 pub mod WordsMade
-pub mod SoftMade
+mod SoftMade
 pub mod StartsMade
 pub mod InvariantMoves
 pub mod SessionMoves

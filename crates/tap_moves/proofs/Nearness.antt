@@ -1,4 +1,5 @@
 -- The primary of the slot in which a name stands, by the digits that the names share.
+-- Cited above: name_inside, primary_stands_near
 use Rattle.std.proofs.Common.{◌≡◌, ◌≢◌, ℕ, ◌<◌, List, Some, arith}
 use Rattle.tap_name.specs.Name.{IsName}
 use Rattle.tap_name.specs.Prefix.{lcp}

@@ -1,4 +1,5 @@
 -- Each node stays one that speaks of names, and each frame has a spelling, once a frame is delivered and once something is started.
+-- Cited above: parts_kept, start_keeps_parts
 use Rattle.std.proofs.Common.{◌≡◌, ◌⊎◌, arith, ℕ, Bool, List, ◌++◌, length, map, Option, None, Some, All, true, false, refl, sym, ap, subst, ◌∙◌, inl, inr}
 use Rattle.std.specs.Prelude.{IfSome}
 use Rattle.std.proofs.lemmas.Bool.{cases_Bool}

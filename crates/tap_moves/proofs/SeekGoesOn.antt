@@ -1,4 +1,5 @@
 -- A Seek that a core node sends on goes to a core node, and is all that is sent.
+-- Cited above: goes_on_sent, one_sent
 use Rattle.std.proofs.Common.{◌≡◌, ℕ, ◌+◌, List, [], ◌∷◌, map, ap, refl, sym, subst, ◌∙◌, inl, inr}
 use Rattle.tap_name.specs.Name.{IsName}
 use Rattle.tap_name.specs.Settings.{SettingsValue}

@@ -1,4 +1,5 @@
 -- Of what a node keeps: parents of sessions, pairs and hops that are names, and the Lays that reconciling sends.
+-- Cited above: IsNamedLay, reconciled_lays, reconciled_pairs
 use Rattle.std.proofs.Common.{◌≡◌, ℕ, ◌≤◌, ◌==◌, ◌-◌, Bool, List, [], ◌∷◌, length, map, drop, get_or, Option, None, Some, All, true, false, arith, refl, sym, ap, subst, ◌∙◌, inl, inr}
 use Rattle.std.specs.Prelude.{IfSome}
 use Rattle.std.specs.BTreeMap.{is_at}

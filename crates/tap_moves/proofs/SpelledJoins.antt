@@ -1,4 +1,5 @@
 -- What a rule is to leave and send: a node that speaks of names, and frames that have spellings; and what a cover offers and tells.
+-- Cited above: IsForName, IsSpelled
 use Rattle.std.proofs.Common.{◌≡◌, ◌≢◌, ℕ, ◌+◌, ◌<◌, ◌≤◌, Bool, cond, not, List, [], ◌∷◌, length, map, filter, Option, None, Some, is_none, All, true, false, arith, refl, ap, ◌∙◌, inl, inr}
 use Rattle.std.specs.Prelude.{AllPairs}
 use Rattle.std.specs.Ordering.{nat_cmp}

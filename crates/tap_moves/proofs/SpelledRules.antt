@@ -1,4 +1,5 @@
 -- What each rule leaves and sends: a node that speaks of names, and frames that have spellings.
+-- Cited above: frame_spelled, SaysNames, start_spelled
 use Rattle.std.proofs.Common.{◌≡◌, ℕ, ◌+◌, ◌≤◌, Bool, cond, List, [], ◌∷◌, length, get_or, Option, None, Some, is_none, All, true, false, arith, refl, sym, subst, ◌-◌, ◌<◌}
 use Rattle.std.specs.Prelude.{IfSome}
 use Rattle.std.proofs.lemmas.List.Elements.{All-cons, All-map, All-nil}

@@ -1,4 +1,5 @@
 -- The level that is kept of each joiner, after a further word of one.
+-- Cited above: cover_anew, kept_exactly, others_keep
 use Rattle.std.proofs.Common.{◌≡◌, ◌≢◌, ◌↔◌, ℕ, ◌≤◌, true, false, if◌then◌else◌, List, Option, None, Some, [], ◌∷◌, arith, ap, refl, ◌∙◌, inl, inr}
 use Rattle.std.specs.BTreeMap.{insert_entry}
 use Rattle.std.specs.Ordering.{is_eq, ordering_reverse}

@@ -1,9 +1,9 @@
-pub mod Picked
-pub mod Links
+mod Picked
+mod Links
 pub mod Linked
-pub mod Answering
-pub mod ToldBySlot
-pub mod Offering
+mod Answering
+mod ToldBySlot
+mod Offering
 pub mod KeptLevels
 pub mod Telling
 pub mod Offers

@@ -1,4 +1,5 @@
 -- The primary of a slot is linked, and stands in that slot; links that are picked ascend.
+-- Cited above: picked-ascend, primary_near-stands, primary_stands
 use Rattle.std.proofs.Common.{◌≡◌, ◌≢◌, ℕ, ◌<◌, Bool, Some, List, [], ◌∷◌, filter, map, arith, ap, refl, sym, subst, ◌∙◌}
 use Rattle.std.proofs.lemmas.Cmp.{nat_list_cmp_total}
 use Rattle.std.proofs.lemmas.List.{get_or-map, length-map}

@@ -1,5 +1,6 @@
 -- What a first cover offers: all pins but the joiner, and the primaries of the answered slots, in ascending order; and what
 -- is left to watch.
+-- Cited above: all_left, IsOffered, left_exactly, no_offer, offer_ascends, offers_are, pin_offered, primary_offered
 use Rattle.std.proofs.Common.{◌≡◌, ◌≢◌, ◌↔◌, ◌⊎◌, ◌&&◌, ℕ, ◌<◌, true, false, not, Some, List, [], Contains, filter, map, nat_eq, slice_get, All, ap, refl, sym, ◌∙◌, inl, inr}
 use Rattle.std.specs.Cmp.Lexicographic.{pointwise}
 use Rattle.std.proofs.lemmas.Bool.{and_parts, cases_Bool, not-true, not_from_false, or_cases}

@@ -1,4 +1,5 @@
 -- Where a cover reaches: its targets share the joiner's prefix, and what is offered in a watched slot fits it at the joiner.
+-- Cited above: joiner_is_name, MayBeTold, prefix_within, primary_fits, targets_near
 use Rattle.std.proofs.Common.{◌≡◌, ℕ, ◌<◌, ◌≤◌, Option, Some, List, get_or, arith, ap, refl, sym, ◌∙◌, inl, inr}
 use Rattle.std.specs.Prelude.{nat_le, nat_lt}
 use Rattle.std.proofs.lemmas.Bool.{and_parts, cases_lt, leb-true}

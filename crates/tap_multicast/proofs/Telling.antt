@@ -1,5 +1,6 @@
 -- Whom a cover tells: each target is a pin or a primary of the levels that are covered, or an introduced pin, and all of
 -- these but the joiner are told, in ascending order.
+-- Cited above: first_cover_tells, IsTarget, pin_told, primary_told, targets_are, targets_distinct
 use Rattle.std.proofs.Common.{◌≡◌, ◌≢◌, ◌⊎◌, ◌||◌, ◌&&◌, ℕ, ◌+◌, ◌<◌, ◌≤◌, Bool, true, false, not, Option, None, Some, List, filter, map, nat_eq, slice_get, All, ap, refl, sym, ◌∙◌, inl, inr}
 use Rattle.std.specs.Cmp.Lexicographic.{pointwise}
 use Rattle.std.proofs.lemmas.Bool.{and_parts, cases_lt, le-leb, lt-ltb, not-true, not_from_false, or_cases, or_right}

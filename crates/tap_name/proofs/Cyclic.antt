@@ -1,4 +1,5 @@
 -- the first digit, cyclically, that passes
+-- Cited above: first_cyclic-below, first_cyclic-passes
 use Rattle.std.proofs.Common.{◌≡◌, ◌⊎◌, inl, inr, ℕ, ◌+◌, ◌<◌, ◌≤◌, Bool, true, zero, suc, arith, ap, sym, ◌∙◌}
 use Rattle.std.proofs.lemmas.Bool.{cases_Bool, cases_lt, true≢false}
 use Rattle.tap_name.specs.Cyclic.{first_cyclic, first_from, next_digit}

@@ -1,4 +1,5 @@
 -- digits in their cyclic order
+-- Cited above: next_below, next_is
 use Rattle.std.proofs.Common.{◌≡◌, ◌==◌, ◌⊎◌, inl, inr, ℕ, ◌+◌, ◌<◌, arith, refl}
 use Rattle.std.proofs.lemmas.Bool.{cases_Bool, eqb-true, eqb-false}
 use Rattle.tap_name.specs.Cyclic.{next_digit}

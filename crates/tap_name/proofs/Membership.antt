@@ -1,4 +1,6 @@
 -- the forms in which a name is said to be among some, and names without others
+-- Cited above: among-append, among-from_Contains, among-names_without, among_at, are_distinct-Decides, Contains-from_among, few_among,
+-- has_name-Decides, has_name-no
 use Rattle.std.proofs.Common.{All, ◌≡◌, ◌↔◌, ◌⊎◌, inl, inr, ℕ, ◌<◌, ◌≤◌, true, not, zero, suc, List, [], ◌∷◌, ◌++◌, length, get_or, arith, sym, refl, subst, ◌∙◌}
 use Rattle.std.specs.Bool.{Decides}
 use Rattle.std.specs.Prelude.{bytes_eq}

@@ -1,4 +1,6 @@
 -- sets of names, and names that share their first digits
+-- Cited above: All-among, among-All, among-filter, among-filter_from, among-take, among_item, has_digit-from, has_digit-to, only_left, same_at,
+-- same_tests, share_all, share_fewer, share_more
 use Rattle.std.proofs.Common.{◌≡◌, inl, inr, ℕ, ◌+◌, ◌<◌, ◌≤◌, zero, suc, Bool, true, false, List, [], ◌∷◌, length, take, get_or, Some, filter, All, arith, ap, sym, refl, ◌∙◌, eqb, take_all}
 use Rattle.std.proofs.lemmas.Bool.{cases_Bool, eqb-true, eq-eqb, true≢false}
 use Rattle.std.proofs.lemmas.List.{take_more_same, take-take, get_or-take}

@@ -1,4 +1,5 @@
 -- Slots by levels alone: two names stand in one slot of a third exactly where they share more with each other than with it.
+-- Cited above: ball-both, near_in_slot, near_where_same_slot, same_slot_where_near, slot_at-some
 use Rattle.std.proofs.Common.{◌≡◌, ◌⊎◌, inl, inr, ℕ, ◌+◌, ◌<◌, ◌≤◌, List, length, get_or, nat_eq, None, Some, arith, refl, sym, ap, ◌∙◌, eqb, true, false}
 use Rattle.std.specs.List.{common_prefix_len}
 use Rattle.std.proofs.lemmas.Bool.{cases_Bool, cases_lt, eq-eqb, eqb-false, ne_eqb}

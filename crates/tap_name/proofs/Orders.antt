@@ -1,4 +1,5 @@
 -- the order of names: their first digits that differ decide it
+-- Cited above: below-cases, below-digits, below-itself, below-one_way, below-trans, name_cmp-equal, name_cmp-itself
 use Rattle.std.proofs.Common.{◌≡◌, ◌↔◌, ◌⊎◌, inl, inr, ℕ, ◌<◌, true, suc, List, [], ◌∷◌, length, get_or, nat_eq, arith, ap, sym, refl, ◌∙◌}
 use Rattle.std.specs.List.{common_prefix_len}
 use Rattle.std.specs.Cmp.Lexicographic.{slice_cmp}

@@ -1,4 +1,5 @@
 -- the longest common prefix, as a loop finds it
+-- Cited above: prefix_of_itself, whole_prefix
 use Rattle.std.proofs.Common.{◌≡◌, inl, inr, ℕ, ◌+◌, ◌≤◌, List, [], ◌∷◌, length, drop, nat_eq, arith, min, length-drop, refl}
 use Rattle.std.proofs.lemmas.Bool.{cases_Bool, eqb-true, eq-eqb}
 use Rattle.std.specs.List.{common_prefix_len}

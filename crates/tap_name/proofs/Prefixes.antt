@@ -1,4 +1,5 @@
 -- arithmetic of names: how many digits they share, two by two
+-- Cited above: lcp-differs, lcp-digits, lcp-is, lcp-itself, lcp-least, lcp-more, lcp-most, lcp-sym, lcp-triangle, lcp-whole
 use Rattle.std.proofs.Common.{◌≡◌, inl, inr, ℕ, ◌+◌, ◌<◌, ◌≤◌, min, zero, suc, List, [], ◌∷◌, length, get_or, take, nat_eq, arith, refl, sym, ◌∙◌, true, false}
 use Rattle.std.specs.List.{common_prefix_len}
 use Rattle.std.proofs.lemmas.Bool.{cases_Bool, cases_lt, eqb-true, eq-eqb, eqb-false, ne_eqb}

@@ -1,4 +1,5 @@
 -- what a loop over digits answers
+-- Cited above: all_good
 use Rattle.std.proofs.Common.{◌≡◌, ℕ, ◌<◌, ◌≤◌, List, length, get_or, nat_le, arith, Ok, Err, take, take_all, ap, sym, ◌∙◌}
 use Rattle.std.proofs.lemmas.List.Sums.{position_or_len_is}
 use Rattle.std.specs.List.{position_or_len}

@@ -1,4 +1,5 @@
 -- the slot of one name at another: what the two share, and where they differ
+-- Cited above: fits_what_shares, same_slot, shares_what_fits
 use Rattle.std.proofs.Common.{◌≡◌, inl, inr, ℕ, ◌<◌, ap, zero, suc, true, false, List, [], ◌∷◌, length, take, get_or, None, Some, nat_eq, arith, refl, sym, subst, ◌∙◌, eqb}
 use Rattle.std.specs.List.{common_prefix_len}
 use Rattle.std.proofs.lemmas.Bool.{cases_Bool, eqb-true, eq-eqb, eqb-false, ne_eqb}

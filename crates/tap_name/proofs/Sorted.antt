@@ -1,4 +1,6 @@
 -- names in their order
+-- Cited above: among-sorted, ascending-first, ascending-others, distinct-from_ascending, sorted-ascending, sorted-is, sorted-names,
+-- sorted-of_ascending, sorted-permutation, sorted-same
 use Rattle.std.proofs.Common.{◌≡◌, ◌↔◌, ◌⊎◌, inl, inr, ℕ, ◌+◌, ◌<◌, true, false, zero, suc, List, [], ◌∷◌, length, get_or, All, arith, ap, sym, refl, subst, ◌∙◌, cond}
 use Rattle.std.specs.Prelude.{bytes_eq}
 use Rattle.std.specs.List.Sorted.{IsPermutation, IsSorted}

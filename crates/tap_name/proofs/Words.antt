@@ -1,4 +1,5 @@
 -- the bytes of a word
+-- Cited above: is_word-Decides, word-no_space, word_passes, word_where_passes
 use Rattle.std.proofs.Common.{◌≡◌, ◌==◌, ◌&&◌, ℕ, ◌≤◌, nat_le, refl, false, List, length, All, arith}
 use Rattle.std.specs.Prelude.{IsTrue}
 use Rattle.std.specs.List.{list_all}

@@ -1,14 +1,14 @@
-pub mod Followed
-pub mod Few
-pub mod KeptSound
-pub mod KeptRules
-pub mod KeptSteps
-pub mod Starting
-pub mod Ends
-pub mod Started
-pub mod Answering
-pub mod Calls
-pub mod ByStatus
-pub mod LastNumbers
-pub mod Taking
-pub mod StartBegun
+mod Followed
+mod Few
+mod KeptSound
+mod KeptRules
+mod KeptSteps
+mod Starting
+mod Ends
+mod Started
+mod Answering
+mod Calls
+mod ByStatus
+mod LastNumbers
+mod Taking
+mod StartBegun

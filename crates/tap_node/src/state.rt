@@ -71,12 +71,7 @@ impl State {
 
     // Takes a Done.
     #[inline(never)]
-    fn on_done(
-        &mut self,
-        alloc: Global,
-        sender: &Sender,
-        turn: &mut Turn,
-    ) -> Result<(), NoMemory>
+    fn on_done(&mut self, alloc: Global, sender: &Sender, turn: &mut Turn) -> Result<(), NoMemory>
         requires held { IsHeldBy sender.now.settings sender.now.name self.old }
         requires sound { IsSoundNode (state_held sender.now.settings sender.now.name self.old) }
         requires room { has_numbers_left (state_held sender.now.settings sender.now.name self.old) ≡ true }

@@ -1,4 +1,5 @@
 -- The words and the holders of a node that ends are for names.
+-- Cited above: ended_named, holders_named, IsToName, told_named
 use Rattle.std.proofs.Common.{ℕ, ◌+◌, Bool, List, [], ◌∷◌, filter, All, true, false}
 use Rattle.std.specs.Prelude.{IfSome}
 use Rattle.std.proofs.lemmas.List.Elements.{All-cons, All-filter, All-head, All-map, All-nil, All-tail}

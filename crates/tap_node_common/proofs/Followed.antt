@@ -1,4 +1,5 @@
 -- What a node does at a frame or a start, from the step of its rule.
+-- Cited above: asks_alone, finds_alone, follows_alone, follows_quietly, follows_rule, LeavesAlone
 use Rattle.std.proofs.Common.{◌≡◌, ℕ, List, [], Option, None, Some, refl, sym, subst}
 use Rattle.tap_table.specs.declared.next.Next.{Next}
 use Rattle.tap_table.specs.declared.next.Next.TheVariants.{Root, Hop}

@@ -1,4 +1,5 @@
 -- The Lays of reconciling and of clearing are for names, and of names.
+-- Cited above: lays-cleared
 use Rattle.std.proofs.Common.{ℕ, ◌+◌, Bool, List, [], ◌∷◌, ◌++◌, Option, None, Some, All, true, false, inl, inr}
 use Rattle.std.specs.List.{flat_map}
 use Rattle.std.proofs.lemmas.Bool.{cases_Bool}

@@ -1,17 +1,17 @@
-pub mod Stable
-pub mod ByReceiver
+mod Stable
+mod ByReceiver
 pub mod OneSent
-pub mod Spellings
-pub mod OfRule
+mod Spellings
+mod OfRule
 pub mod Sending
 pub mod Pairs
 pub mod Lays
 pub mod Parents
 pub mod ReactionSteps
 pub mod NumbersLeft
-pub mod Finds
-pub mod QuietStep
+mod Finds
+mod QuietStep
 pub mod Followed
 pub mod Ending
 pub mod Rows
-pub mod Counting
+mod Counting

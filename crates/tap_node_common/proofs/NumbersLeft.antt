@@ -1,4 +1,5 @@
 -- What follows from a node's being sound.
+-- Cited above: hops-sound, numbers_left
 use Rattle.std.proofs.Common.{◌≡◌, ◌<◌, true}
 use Rattle.std.proofs.lemmas.Bool.{and_parts, ltb-true}
 use Rattle.std.specs.Prelude.{◌&&◌, nat_lt}

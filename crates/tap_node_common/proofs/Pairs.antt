@@ -1,4 +1,5 @@
 -- The pairs of a node are of names, and laid on to names, whatever is put in.
+-- Cited above: hops-all_withdrawn, hops-published, hops-withdrawn, named-all_withdrawn, named-published, named-put, named-reconciled, named-withdrawn
 use Rattle.std.proofs.Common.{◌≡◌, ℕ, ◌≤◌, drop, length, List, [], ◌∷◌, Option, None, Some, All, true, false, arith, refl, sym, subst, ◌∙◌, inl, inr}
 use Rattle.std.specs.Prelude.{IfSome}
 use Rattle.std.specs.BTreeMap.{is_at}

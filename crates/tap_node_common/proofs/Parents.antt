@@ -1,4 +1,5 @@
 -- The parents of a node's sessions are names with sessions that have numbers, whatever is opened and answered.
+-- Cited above: closed_parent, parents-answered, parents-opened
 use Rattle.std.proofs.Common.{◌≡◌, ◌==◌, ◌-◌, ℕ, List, [], ◌∷◌, Option, None, Some, All, refl, subst, inl, inr}
 use Rattle.std.proofs.lemmas.Bool.{cases_Bool}
 use Rattle.std.proofs.lemmas.List.Elements.{All-cons, All-head, All-nil, All-push, All-tail}

@@ -1,4 +1,5 @@
 -- A step of a rule, from the frames that were added.
+-- Cited above: lay_step, messages_step, no_words, reconciled_is, reconciled_step, silent_step, words_step
 use Rattle.std.proofs.Common.{◌≡◌, ℕ, ◌+◌, List, [], ◌++◌, length, refl, sym, ap, ◌∙◌, append_assoc, append-nil}
 use Rattle.tap_table.specs.declared.tie.Tie.{Tie}
 use Rattle.tap_pointer.specs.Pointers.{PointersValue, pair_of}

@@ -1,4 +1,5 @@
 -- The targets by name are as many as the links of a table, and a table without links has none.
+-- Cited above: rows_by_name
 use Rattle.std.proofs.Common.{◌≡◌, ◌≢◌, ℕ, ◌+◌, ◌<◌, zero, suc, List, [], ◌∷◌, ◌++◌, length, get_or, map, replicate, ◌*◌, All, arith, refl, ap, subst, ◌∙◌}
 use Rattle.std.specs.List.{enumerate_from, flat_map}
 use Rattle.std.proofs.lemmas.Option.{slice_get-get_or}

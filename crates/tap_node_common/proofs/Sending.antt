@@ -1,4 +1,5 @@
 -- The frames that a node sends keep the rules of their fields, and come in the order of a reaction.
+-- Cited above: all_words_of, messages_spelled
 use Rattle.std.proofs.Common.{◌≡◌, ℕ, List, [], ◌∷◌, map, Option, None, Some, All, refl, inl, inr}
 use Rattle.std.specs.Prelude.{IfSome}
 use Rattle.std.specs.Ordering.{is_gt}

@@ -1,8 +1,8 @@
-pub mod Sums
-pub mod Towers
-pub mod GrowingMarks
-pub mod Lowering
-pub mod Searching
-pub mod Reserving
-pub mod Flights
-pub mod KeptMarks
+mod Sums
+mod Towers
+mod GrowingMarks
+mod Lowering
+mod Searching
+mod Reserving
+mod Flights
+mod KeptMarks

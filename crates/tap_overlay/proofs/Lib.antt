@@ -1,6 +1,6 @@
-pub mod AtRest
-pub mod Found
-pub mod Joined
-pub mod Nodes
-pub mod Stepped
+mod AtRest
+mod Found
+mod Joined
+mod Nodes
+mod Stepped
 pub mod Systems

@@ -1,4 +1,5 @@
 -- An overlay with the nodes of a system: at rest, as a walk reads it, and after a change.
+-- Cited above: rest_nodes, same_changes, same_walks
 use Rattle.std.proofs.Common.{◌≡◌, ℕ, Bool, true, false, List, Option, None, Some, ap, refl, sym, subst, ◌∙◌}
 use Rattle.std.specs.Prelude.{◌≢◌, bytes_eq, if◌then◌else◌, option_and_then}
 use Rattle.std.specs.Option.{option_map}

@@ -1,4 +1,5 @@
 -- After a change of primaries at one level alone, each pair whose way doesn't pass that level is laid as wanted, as it was.
+-- Cited above: laid_beside
 use Rattle.std.proofs.Common.{◌≡◌, ◌≢◌, ℕ, ◌+◌, ◌-◌, ◌<◌, ◌≤◌, ◌||◌, ◌&&◌, not, zero, suc, Bool, true, false, Option, None, Some, List, [], ◌∷◌, get_or, drop, arith, ap, eq-eqb, eqb-true, subst, sym, refl, ◌∙◌, inl, inr, eqb, is_some, nat_lt}
 use Rattle.std.specs.List.{All}
 use Rattle.std.proofs.lemmas.Bool.{cases_Bool, ltb-false, ltb-true, not-false, or_left}

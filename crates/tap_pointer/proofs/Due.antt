@@ -1,4 +1,5 @@
 -- Which Lays reconciling and clearing send: exactly those that are due, with the next numbers of the stamp.
+-- Cited above: clear_lays-due, clear_lays-sent, clear_lays-versions, none_due, reconcile_lays-due, reconcile_lays-sent, reconcile_lays-versions
 use Rattle.std.proofs.Common.{◌≡◌, ◌≢◌, ℕ, ◌+◌, ◌==◌, Bool, true, false, List, [], ◌∷◌, ◌++◌, length, map, Option, None, Some, eqb-true, refl, sym, ap, subst, ◌∙◌, inl, inr, arith}
 use Rattle.std.specs.BTreeMap.{is_at}
 use Rattle.std.specs.Cmp.Lexicographic.{texts_ties}

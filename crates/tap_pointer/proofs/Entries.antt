@@ -1,4 +1,5 @@
 -- The entries of an ordered map after one of them was put in: what its key and the others find, and what stays.
+-- Cited above: All-put, lookup-put, sorted-put
 use Rattle.std.proofs.Common.{◌≡◌, ℕ, ◌+◌, Bool, false, List, [], ◌∷◌, length, filter, Option, None, Some, refl, sym, ap, ◌∙◌, inl, inr, arith, if◌then◌else◌}
 use Rattle.std.specs.BTreeMap.{insert_entry, is_at}
 use Rattle.std.specs.Cmp.{IsTotalOrder}

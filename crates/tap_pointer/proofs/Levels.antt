@@ -1,4 +1,5 @@
 -- The level at which a pair is held: the least of the registers that are on.
+-- Cited above: level_most, no_level
 use Rattle.std.proofs.Common.{◌≡◌, ℕ, ◌≤◌, min, true, false, List, [], ◌∷◌, Option, None, Some, refl, sym, ap, ◌∙◌, inl, inr, arith}
 use Rattle.std.specs.List.{All, fold, list_any, reduce}
 use Rattle.std.specs.Option.{is_some, unwrap_or}

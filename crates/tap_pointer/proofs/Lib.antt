@@ -4,12 +4,12 @@ pub mod Known
 pub mod Laws
 pub mod Layings
 pub mod Beside
-pub mod Least
+mod Least
 pub mod Levels
 pub mod Lookups
-pub mod Lowest
+mod Lowest
 pub mod NamesHeld
 pub mod OnePair
-pub mod Relaying
-pub mod Telling
-pub mod Ways
+mod Relaying
+mod Telling
+mod Ways

@@ -1,4 +1,5 @@
 -- A lookup: the pairs of one object stand side by side, from where that of the empty name would stand.
+-- Cited above: server-first, server-not_held, server-other
 use Rattle.std.proofs.Common.{◌≡◌, ℕ, Bool, true, false, List, [], ◌∷◌, filter, None, Some, refl, sym, ap, ◌∙◌, inl, inr}
 use Rattle.std.specs.Bool.{⊤}
 use Rattle.std.specs.BTreeMap.Range.{range_contains}

@@ -1,4 +1,5 @@
 -- Reconciling where one pair alone may not be laid as wanted.
+-- Cited above: settles
 use Rattle.std.proofs.Common.{◌≡◌, false, List, [], ◌∷◌, ◌++◌, map, append-nil, Option, None, Some, refl, sym, ap, subst, ◌∙◌}
 use Rattle.std.specs.BTreeMap.{insert_entry, is_at}
 use Rattle.std.specs.List.{All, AllByRecursion}

@@ -1,4 +1,5 @@
 -- The level at which a pair is held, and the register that it comes from.
+-- Cited above: held_at, held_below
 use Rattle.std.proofs.Common.{◌≡◌, ◌⊎◌, ℕ, zero, suc, ◌≤◌, min, true, false, List, [], ◌∷◌, slice_get, Option, None, Some, refl, sym, ap, ◌∙◌, inl, inr, arith}
 use Rattle.std.specs.Cmp.Lexicographic.{nat_list_cmp_total}
 use Rattle.std.specs.List.{fold, list_any, reduce}

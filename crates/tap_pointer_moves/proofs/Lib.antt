@@ -1,9 +1,9 @@
-pub mod Hearing
+mod Hearing
 pub mod PointerRules
-pub mod RisingStamps
-pub mod Turns
-pub mod Hops
-pub mod ActsKeep
+mod RisingStamps
+mod Turns
+mod Hops
+mod ActsKeep
 pub mod Wanted
 pub mod PointersKept
 pub mod Levels

@@ -1,4 +1,5 @@
 -- Pointers stand at rest, and after each possible move.
+-- Cited above: pointers_at_rest, pointers_kept
 use Rattle.std.proofs.Common.{false, ◌≡◌, ◌⊎◌, ℕ, ◌+◌, ◌≤◌, List, [], ◌∷◌, ◌++◌, Option, None, Some, refl, ap, sym, subst, ◌∙◌, inl, inr}
 use Rattle.tap_name.specs.Name.{IsName}
 use Rattle.tap_name.specs.Order.{name_cmp}

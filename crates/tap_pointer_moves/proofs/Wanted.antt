@@ -1,4 +1,5 @@
 -- Where pairs are laid.
+-- Cited above: laid_as_wanted
 use Rattle.std.proofs.Common.{◌≡◌, ℕ, ◌+◌, ◌≤◌, List, drop, length, Option, None, Some, All, refl, ap, sym, subst, ◌∙◌, inl, inr}
 use Rattle.std.specs.BTreeMap.{is_at}
 use Rattle.std.specs.Map.{lookup}

@@ -1,4 +1,4 @@
-pub mod Pairs
+mod Pairs
 pub mod Unpaired
 pub mod ServersGrow
 pub mod Runs

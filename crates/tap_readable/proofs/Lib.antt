@@ -1,12 +1,12 @@
-pub mod Typed
-pub mod TypedRules
-pub mod ReadableActs
-pub mod ReadableMoves
-pub mod Members
-pub mod Own
+mod Typed
+mod TypedRules
+mod ReadableActs
+mod ReadableMoves
+mod Members
+mod Own
 pub mod ReadableCourses
-pub mod RangeRules
-pub mod RangeActs
-pub mod RangeMoves
-pub mod RangeRecords
+mod RangeRules
+mod RangeActs
+mod RangeMoves
+mod RangeRecords
 pub mod RangeCourses

@@ -1,4 +1,5 @@
 -- The numbers of a course stay in range.
+-- Cited above: numbers_in_range_holds
 use Rattle.std.proofs.Common.{◌≡◌, inl, inr, ℕ, ◌+◌, ◌<◌, ◌≤◌, Bool, true, false, List, [], ◌∷◌, ◌++◌, length, Option, None, Some, refl, ap, sym, subst, ◌∙◌, arith}
 use Rattle.std.specs.Prelude.{IfSome, nat_le, nat_lt, if◌then◌else◌}
 use Rattle.std.specs.Cmp.{nat_cmp_is}

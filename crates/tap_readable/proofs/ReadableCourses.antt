@@ -1,4 +1,5 @@
 -- Of a course: each node has its own name, and each frame under way is read back from its bytes.
+-- Cited above: courses_are_readable
 use Rattle.std.proofs.Common.{◌≡◌, inl, inr, ℕ, ◌+◌, ◌<◌, ◌≤◌, ◌^◌, Bool, true, false, List, ◌∷◌, ◌++◌, length, get_or, All, Option, Some, sym, subst, ◌∙◌, arith}
 use Rattle.std.specs.Prelude.{IfSome, nat_le, if◌then◌else◌}
 use Rattle.std.proofs.lemmas.List.Elements.{All-head, filter_map-append}

@@ -1,4 +1,5 @@
 -- What every key has after a write is applied, and what stays of the list: its order, its length, what holds of each entry.
+-- Cited above: All-applied, entry_of-applied, IsAscending-applied
 use Rattle.std.proofs.Common.{◌≡◌, ℕ, ◌+◌, ◌<◌, ◌≤◌, true, false, Bool, List, ◌∷◌, length, get_or, Option, None, Some, refl, sym, ap, ◌∙◌, inl, inr, arith, ltb, set, insert, if◌then◌else◌}
 use Rattle.std.specs.List.{All}
 use Rattle.std.specs.Option.{IsSomeAnd, is_none}

@@ -1,5 +1,5 @@
 pub mod Orderings
 pub mod Lists
 pub mod Places
-pub mod Written
+mod Written
 pub mod Applied

@@ -1,4 +1,5 @@
 -- What a filter keeps and what a look-up finds, in a list and in two lists together.
+-- Cited above: AllPairs-append
 use Rattle.std.proofs.Common.{◌≡◌, ℕ, ◌<◌, ◌≤◌, true, false, Bool, List, [], ◌∷◌, ◌++◌, length, take, drop, zero, suc, Option, None, Some, refl, ap, arith, slice_get, find}
 use Rattle.std.specs.List.{AllWithin, HoldsAt, filter, All, AllPairs}
 use Rattle.std.specs.Option.{option_or}

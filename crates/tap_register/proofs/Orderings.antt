@@ -1,4 +1,5 @@
 -- What a test of an ordering means.
+-- Cited above: is_equal, is_less
 use Rattle.std.proofs.Common.{◌≡◌, true, refl}
 use Rattle.std.specs.Ordering.{is_lt, is_eq, is_gt}
 use Rattle.std.specs.declared.cmp.Ordering.{Ordering}

@@ -1,5 +1,6 @@
 -- The place of a key's entry in an ascending list: from what a search by halves answers, and that what stands at a place
 -- is what its key finds, both ways.
+-- Cited above: entry_at-found, found-entry_at
 use Rattle.std.proofs.Common.{◌≡◌, ℕ, zero, suc, ◌+◌, ◌<◌, ◌≤◌, true, List, [], ◌∷◌, length, slice_get, Some, refl, Result, Ok, Err, IfOk, IfErr, ◌⊎◌, sym, ap, ◌∙◌, inl, inr, arith}
 use Rattle.std.specs.List.{All, AllWithin, HoldsAt, slice_index_or}
 use Rattle.std.specs.List.Sorted.{IsBinarySearchResult, IsNonDecreasingBy, IsSearchInRange}

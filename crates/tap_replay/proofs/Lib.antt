@@ -1,8 +1,8 @@
-pub mod Choosing
-pub mod Stepping
+mod Choosing
+mod Stepping
 pub mod Running
 pub mod Alike
-pub mod Turning
-pub mod Again
+mod Turning
+mod Again
 pub mod Lawfulness
-pub mod RunHeadline
+mod RunHeadline

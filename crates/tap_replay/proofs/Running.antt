@@ -1,4 +1,5 @@
 -- The group that comes next in the run of a scenario is added.
+-- Cited above: unfinished
 use Rattle.std.proofs.Common.{◌≡◌, inl, inr, ℕ, zero, suc, ◌+◌, ◌<◌, ◌≤◌, Bool, true, false, List, [], ◌∷◌, ◌++◌, length, get_or, All, Option, None, Some, Result, Ok, Err, IfSome, refl, ap, sym, subst, ◌∙◌, arith, append-nil, length-append}
 use Rattle.std.specs.Prelude.{if◌then◌else◌, is_some, nat_eq, nat_le, nat_lt, option_and_then, slice_get}
 use Rattle.std.specs.List.{filter_map, last_or, range_with_len}

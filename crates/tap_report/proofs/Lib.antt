@@ -1,9 +1,9 @@
 pub mod WritesLemmas
-pub mod PrintsLemmas
+mod PrintsLemmas
 pub mod DecimalLemmas
 pub mod TextLemmas
-pub mod HeadLemmas
-pub mod DepartedLemmas
-pub mod TallyLemmas
+mod HeadLemmas
+mod DepartedLemmas
+mod TallyLemmas
 pub mod ReportsLemmas
 pub mod PiecewiseLemmas

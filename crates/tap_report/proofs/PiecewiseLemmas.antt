@@ -1,4 +1,5 @@
 -- A log that is printed piece by piece while it grows: its records from a place on, and what is reported with them.
+-- Cited above: ArePrintable-rest, BeginsAfter-rest, Reports-rest, rest_of, settings_so_far-rest
 use Rattle.std.proofs.Common.{◌≡◌, ℕ, ◌-◌, List, ◌++◌, length, take, drop, Option, None, refl, sym, subst, ◌∙◌, arith, length-drop, take-append-drop}
 use Rattle.std.specs.Prelude.{fold, slice_range}
 use Rattle.std.proofs.lemmas.List.{take_all}

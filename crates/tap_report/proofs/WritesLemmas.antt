@@ -1,4 +1,5 @@
 -- Texts that are written one after another.
+-- Cited above: WritesText-then
 use Rattle.std.proofs.Common.{◌≡◌, ℕ, List, [], ◌++◌, append_assoc, refl, sym, ◌∙◌, subst, arith}
 use Rattle.std.proofs.KnownBytes.{Appends-nil, Appends-trans}
 use Rattle.tap_io.specs.Sink.{SinkState}

@@ -1,4 +1,5 @@
 -- What is among the elements of a list: of two lists, of a mapped one, and of words in order.
+-- Cited above: all_among, among-by_receiver_from, among-either, among-first, among-inserted_from, among-map, among-map_from, among-second, among_all
 use Rattle.std.proofs.Common.{◌≡◌, ◌⊎◌, List, [], ◌∷◌, ◌++◌, map, All, Bool, true, false, cond, ap, inl, inr, refl, subst, sym}
 use Rattle.std.proofs.lemmas.List.Elements.{All-cons, All-head, All-nil, All-tail}
 use Rattle.std.specs.Ordering.{is_gt}

@@ -1,4 +1,5 @@
 -- What Heard and Ack change.
+-- Cited above: ack_law, heard_law, other_number, same_number
 use Rattle.std.proofs.Common.{◌≡◌, ◌==◌, ℕ, ◌<◌, [], ◌∷◌, Option, None, Some, true, false, arith, refl, sym, ap, subst, ◌∙◌, inl, inr, eqb-true, if◌then◌else◌}
 use Rattle.std.specs.Option.{option_and_then}
 use Rattle.std.proofs.lemmas.Bool.{cases_Bool}

@@ -1,4 +1,5 @@
 -- The words of links by receiver: they are the same words, and ascend.
+-- Cited above: by_receiver-permutation
 use Rattle.std.proofs.Common.{◌≡◌, List, [], ◌∷◌, All, true, false, arith, sym, inl, inr}
 use Rattle.std.specs.List.{AllPairs}
 use Rattle.std.specs.List.Sorted.{IsPermutation}

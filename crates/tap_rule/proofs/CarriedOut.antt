@@ -1,4 +1,5 @@
 -- A step goes as its rule says.
+-- Cited above: frame_law, start_law, strange_law, unruled_law, unruled_start_law
 use Rattle.std.proofs.Common.{◌≡◌, ℕ, List, map, ◌++◌, Bool, cond, true, false, arith, refl, inl, inr}
 use Rattle.tap_wire.specs.declared.frame.Frame.{Frame}
 use Rattle.tap_rule.specs.Node.{IsRunning, NodeState, Status, name_of}

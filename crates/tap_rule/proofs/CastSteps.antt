@@ -1,4 +1,5 @@
 -- What Cast and CastAck change of the casts of a core node.
+-- Cited above: cast_ack_law
 use Rattle.std.proofs.Common.{◌≡◌, ◌==◌, ℕ, ◌+◌, Bool, List, [], ◌∷◌, Option, None, Some, false, arith, refl, sym, ap, ◌∙◌, inl, inr, eqb-true, if◌then◌else◌}
 use Rattle.std.specs.Option.{option_and_then}
 use Rattle.std.proofs.lemmas.Bool.{cases_Bool}

@@ -1,4 +1,5 @@
 -- The end of a step, from that of its rule.
+-- Cited above: one_offer, one_word, runs_or_ended
 use Rattle.std.proofs.Common.{◌≡◌, ◌⊎◌, ℕ, ◌+◌, Bool, List, [], length, map, Option, None, Some, true, false, arith, sym, ap, subst, ◌∙◌, inl, inr}
 use Rattle.std.proofs.lemmas.List.{append-nil}
 use Rattle.tap_table.specs.Ties.{TiesValue, stamp_after, tie_where}

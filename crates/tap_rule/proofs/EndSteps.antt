@@ -1,4 +1,5 @@
 -- What the steps change at which a node leaves or ends, and those of its holders.
+-- Cited above: cease_law, gone_law, leave_law, left_law, unlinked
 use Rattle.std.proofs.Common.{◌≡◌, ◌≢◌, ◌==◌, ℕ, ◌*◌, Bool, cond, List, [], length, get_or, replicate, None, true, false, arith, refl, ap, subst, ◌∙◌, inl, inr, eqb-true}
 use Rattle.std.proofs.lemmas.Bool.{cases_lt, eqb-false}
 use Rattle.std.proofs.lemmas.List.{get_or-replicate, get_or_past, length-replicate}

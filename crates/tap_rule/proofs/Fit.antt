@@ -1,4 +1,5 @@
 -- A frame isn't strange exactly if it is fit.
+-- Cited above: fit_law
 use Rattle.std.proofs.Common.{◌≡◌, ◌≢◌, ◌⊎◌, ◌==◌, ◌||◌, ℕ, ◌≤◌, Bool, List, [], ◌∷◌, Option, Some, None, true, false, not, is_some, nat_lt, length, arith, refl, sym, ap, subst, ◌∙◌, inl, inr}
 use Rattle.std.specs.Prelude.{bytes_eq}
 use Rattle.std.proofs.lemmas.List.Kept.{AllPairs-filter}

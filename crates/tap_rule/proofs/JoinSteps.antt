@@ -1,4 +1,5 @@
 -- What Tell, Hello and Done change at a joining node.
+-- Cited above: done_law, hello_law, IsTellFit, meet_law, tell_fits
 use Rattle.std.proofs.Common.{◌≡◌, ◌≢◌, ◌⊎◌, ◌||◌, ℕ, ◌+◌, nat_lt, ◌==◌, Bool, cond, List, [], ◌∷◌, ◌++◌, Option, Some, None, true, false, arith, refl, sym, ap, ◌∙◌, inl, inr}
 use Rattle.std.specs.Prelude.{bytes_eq}
 use Rattle.std.proofs.lemmas.Bool.{cases_Bool, or_parts, or_right, true≢false}

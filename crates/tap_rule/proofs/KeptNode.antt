@@ -1,4 +1,5 @@
 -- What each step of a node keeps: that it has ties and sessions, its name and the settings.
+-- Cited above: joiner_law, kept_law, member_law, start_kept_law
 use Rattle.std.proofs.Common.{◌≡◌, ◌≢◌, ◌==◌, ℕ, ◌+◌, ◌≤◌, Bool, List, [], ◌∷◌, ◌++◌, length, Option, Some, None, All, get_or, true, false, arith, refl, sym, ap, subst, ◌∙◌, inl, inr, length-append}
 use Rattle.std.specs.Prelude.{IfSome}
 use Rattle.std.specs.BTreeMap.{insert_entry, is_at}

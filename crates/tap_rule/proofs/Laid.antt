@@ -1,4 +1,5 @@
 -- Each pair of a node is laid as wanted after each step, if it was before.
+-- Cited above: laid_law
 use Rattle.std.proofs.Common.{◌≡◌, ℕ, Bool, cond, List, Option, Some, None, true, false, refl}
 use Rattle.tap_pointer.specs.Reconcile.{AreLaid}
 use Rattle.tap_pointer.proofs.Laws.{reconciled_is_laid}

@@ -14,11 +14,11 @@ pub mod Laid
 pub mod StartSteps
 pub mod CastSteps
 pub mod PointerSteps
-pub mod CeasedSteps
+mod CeasedSteps
 pub mod Fit
-pub mod HasRule
+mod HasRule
 pub mod Said
-pub mod Begins
+mod Begins
 pub mod Cases
 pub mod EachRule
 pub mod Named

@@ -1,4 +1,5 @@
 -- What a rule for the link to one name says of all, whom a parent is told by, and that a frame is from another node.
+-- Cited above: not_own, others_stay, parent_told
 use Rattle.std.proofs.Common.{◌≡◌, ◌≢◌, ◌⊎◌, ℕ, List, Option, true, false, refl, sym, ◌∙◌, inl, inr}
 use Rattle.std.specs.Ordering.{is_eq}
 use Rattle.std.proofs.lemmas.Bool.{cases_Bool, true≢false}

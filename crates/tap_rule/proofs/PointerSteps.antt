@@ -1,4 +1,5 @@
 -- What the steps about pointers and lookups change.
+-- Cited above: find_law, found_law, lay_law, lookup_law, publish_law
 use Rattle.std.proofs.Common.{◌≡◌, ◌⊎◌, ℕ, List, Option, None, Some, Bool, arith, refl, sym, ◌∙◌, inl, inr}
 use Rattle.tap_table.specs.declared.next.Next.{Next}
 use Rattle.tap_table.specs.declared.next.Next.TheVariants.{Root, Hop}

@@ -1,4 +1,5 @@
 -- Steps about pointers, lookups and casts change nothing of joins and departures.
+-- Cited above: quiet_law, quiet_start_law
 use Rattle.std.proofs.Common.{◌≡◌, ℕ, ◌≤◌, List, [], All, arith, refl, sym, ap, subst, ◌∙◌, inl, inr}
 use Rattle.tap_wire.specs.declared.frame.Frame.{Frame}
 use Rattle.tap_wire.specs.declared.frame.Body.{Body}

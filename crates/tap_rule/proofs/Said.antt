@@ -1,4 +1,5 @@
 -- What the words mean by which rules and laws name what is sent and noted.
+-- Cited above: cast_of_law
 use Rattle.std.proofs.Common.{◌≡◌, ℕ, ◌+◌, ◌-◌, List, [], ◌∷◌, length, get_or, map, true, false, arith, refl, ap, ◌∙◌, inl, inr}
 use Rattle.std.proofs.Math.Seq.{get_or-append_seam}
 use Rattle.std.proofs.lemmas.List.Elements.{All-map}

@@ -1,4 +1,5 @@
 -- What the starts of joins and departures change.
+-- Cited above: give_up_law, leave_start_law, seek_start_law
 use Rattle.std.proofs.Common.{◌≡◌, ◌==◌, ◌+◌, Bool, cond, List, length, map, None, true, false, arith, refl, ap, eqb-true}
 use Rattle.std.proofs.lemmas.Bool.{eqb-false}
 use Rattle.std.proofs.lemmas.List.Folds.{flat_map-map}

@@ -1,4 +1,6 @@
 -- One more group of a course.
+-- Cited above: by_groups, course_grows_holds, grown, grown_going, grown_groups, grown_system, log_is, start_course, start_system, starts_begun,
+-- starts_uncarried, whole
 use Rattle.std.proofs.Common.{◌≡◌, ℕ, ◌≤◌, Bool, true, false, List, [], ◌∷◌, ◌++◌, length, take, refl, ap, sym, subst, ◌∙◌, arith, append-nil, append_assoc}
 use Rattle.std.specs.Prelude.{drop, slice_get, if◌then◌else◌}
 use Rattle.tap_name.specs.Name.{IsName}

@@ -1,4 +1,5 @@
 -- Who departs is the same in the log of a course and in its system.
+-- Cited above: course_nodes_holds
 use Rattle.std.proofs.Common.{◌≡◌, ◌⊎◌, inl, inr, ℕ, ◌≤◌, true, false, not, List, [], ◌∷◌, ◌++◌, length, All, Option, None, Some, refl, ap, sym, subst, ◌∙◌, arith, ltb-false}
 use Rattle.std.specs.Prelude.{◌&&◌, drop, nat_lt, if◌then◌else◌}
 use Rattle.std.proofs.lemmas.List.Elements.{All-cons}

@@ -1,4 +1,5 @@
 -- The frames under way, in a course, are those that its log has as outstanding.
+-- Cited above: course_frames_holds, exchange, Exchanges, frames_kept, none_of, starting_moves, step_moves, taken_moves
 use Rattle.std.proofs.Common.{◌≡◌, inl, inr, ℕ, zero, suc, ◌+◌, ◌<◌, ◌≤◌, Bool, true, false, not, nat_eq, eqb, List, [], ◌∷◌, ◌++◌, length, get_or, All, Option, None, Some, refl, ap, sym, subst, cond, ◌∙◌, arith, append-nil}
 use Rattle.std.specs.Prelude.{◌||◌, if◌then◌else◌, slice_get}
 use Rattle.std.specs.List.{cons_option, filter_map, range_with_len}

@@ -4,5 +4,5 @@ pub mod Frames
 pub mod Status
 pub mod Nodes
 pub mod Departing
-pub mod OneCourse
+mod OneCourse
 pub mod StepNames

@@ -1,4 +1,6 @@
 -- Who takes part in a run is the same in its log and in its system.
+-- Cited above: acted_accepted, Agree, asked_is_present, cause_fails, core_announced, first_none, HasNoStep, IsThere, join_accepted, joiner_is_new,
+-- name_at, named_in_group, no_steps, nodes_agree, none_accepted, none_named, one_if, start_in, starts_of, step_begins, taken_begins, taken_no_step
 use Rattle.std.proofs.Common.{◌≡◌, ◌⊎◌, inl, inr, ℕ, ◌+◌, ◌≤◌, Bool, true, false, not, List, [], ◌∷◌, ◌++◌, length, get_or, All, Option, None, Some, refl, ap, sym, subst, cond, ◌∙◌, append-nil}
 use Rattle.std.specs.Prelude.{◌&&◌, ◌||◌, bytes_eq, drop, fold, is_some, if◌then◌else◌}
 use Rattle.std.specs.List.{cons_option, filter_map}

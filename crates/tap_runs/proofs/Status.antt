@@ -1,4 +1,5 @@
 -- What a step does to the status of its node, and how it is noted.
+-- Cited above: frame_noted, IsNoted, start_noted, tells_core, tells_gone
 use Rattle.std.proofs.Common.{◌≡◌, ℕ, Bool, true, false, not, refl, ap, sym, subst, ◌∙◌}
 use Rattle.std.specs.Prelude.{◌&&◌, ◌||◌}
 use Rattle.tap_wire.specs.declared.frame.Frame.{Frame}

@@ -1,4 +1,5 @@
 -- Steps of a scenario have names of its settings, and so do damaged copies and choices.
+-- Cited above: choice_has_names, step_has_names
 use Rattle.std.proofs.Common.{◌≡◌, ◌++◌, false, true, List, sym, subst}
 use Rattle.std.specs.Prelude.{All}
 use Rattle.std.proofs.lemmas.List.Elements.{All-append, filter_map-append}

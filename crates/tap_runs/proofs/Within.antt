@@ -1,4 +1,5 @@
 -- What follows the first record of a group begins no other one, and doesn't end the log.
+-- Cited above: is_accepted, is_group, IsIdle, IsQuiet, IsStarting, IsWhole, step_kind, step_within, taken_within, whole_group, Within
 use Rattle.std.proofs.Common.{◌≡◌, ◌⊎◌, inl, inr, ℕ, ◌+◌, ◌≤◌, Bool, true, false, List, [], ◌∷◌, ◌++◌, length, get_or, All, Option, None, Some, refl, ap, sym, subst, ◌∙◌}
 use Rattle.std.proofs.lemmas.List.Elements.{All-append, All-cons, All-head, All-nil, All-tail}
 use Rattle.tap_name.specs.Settings.{SettingsValue}

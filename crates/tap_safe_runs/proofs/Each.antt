@@ -1,4 +1,5 @@
 -- What holds of each group that may follow the run before it holds of each group of a run; so each says what is right, after the records before it.
+-- Cited above: each_of_run, groups_are_right, StandsIn
 use Rattle.std.proofs.Common.{◌≡◌, List, [], ◌∷◌, ◌++◌, sym, subst, ◌∙◌, append_assoc}
 use Rattle.std.proofs.lemmas.List.Elements.{All-head}
 use Rattle.tap_scenario.specs.declared.step.Step.TheVariants.{Root, Walk}

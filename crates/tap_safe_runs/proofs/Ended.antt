@@ -1,4 +1,7 @@
 -- A log to which is added how its run has ended, or a step that is refused, says of nodes and frames what it said before.
+-- Cited above: cut_carried, cut_says, cut_system, finished_groups, finished_is_carried, finished_says, finished_system, IsOpen, no_start_after,
+-- nothing_moves, open_after_step, refused_system, run_is_open, same_beginning, SaysTheSame, spent_groups, spent_is_carried, spent_says, spent_system,
+-- start_groups, starts_no_join, step_groups, step_is_carried, step_says
 use Rattle.std.proofs.Common.{◌≡◌, ℕ, ◌≤◌, Bool, true, false, List, [], ◌∷◌, ◌++◌, length, take, Option, None, Some, refl, ap, sym, subst, ◌∙◌, arith, append-nil, append_assoc}
 use Rattle.std.specs.Prelude.{◌&&◌, drop, is_some, if◌then◌else◌}
 use Rattle.std.specs.List.{cons_option, filter_map}

@@ -1,4 +1,5 @@
 -- What a step does with a join that is given up, and that only a joining node becomes core.
+-- Cited above: frame_goes_on, start_goes_on
 use Rattle.std.proofs.Common.{◌≡◌, ◌⊎◌, ℕ, Bool, true, false, ap, refl, sym, ◌∙◌, inl, inr}
 use Rattle.tap_wire.specs.declared.frame.Frame.{Frame}
 use Rattle.tap_rule.specs.Node.{NodeState, Status}

@@ -1,4 +1,5 @@
 -- The groups that may follow a log: of a step that moves nothing, of a start, and of a frame that is taken.
+-- Cited above: group_kind, IsIdleGroup, IsKnownGroup, IsStartGroup, IsTakenGroup, run_kind, run_moves
 use Rattle.std.proofs.Common.{◌≡◌, ◌⊎◌, inl, inr, ℕ, List, ◌∷◌, ◌++◌, All, Option, None, Some, refl, ap, ◌∙◌}
 use Rattle.tap_name.specs.Settings.{SettingsValue}
 use Rattle.tap_scenario.specs.declared.step.Step.{Step}

@@ -1,4 +1,5 @@
 -- The log of a run of a scenario is a run, as its steps are the scenario's; so it is safe throughout.
+-- Cited above: lawful_logs_are_safe
 use Rattle.std.proofs.Common.{List, All, get_or, sym, subst}
 use Rattle.std.proofs.lemmas.List.Elements.{All-take}
 use Rattle.tap_scenario.specs.Scenario.{IsScript, ScenarioValue}

@@ -1,13 +1,13 @@
 pub mod GivenUp
-pub mod There
-pub mod Accepted
+mod There
+mod Accepted
 pub mod ToldCore
-pub mod Distinct
-pub mod Groups
+mod Distinct
+mod Groups
 pub mod Possible
 pub mod Safe
 pub mod Moments
-pub mod Printed
+mod Printed
 pub mod Received
 pub mod Each
 pub mod NeverAlone

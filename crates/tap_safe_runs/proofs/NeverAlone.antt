@@ -1,5 +1,6 @@
 -- No start stands alone in a group: its refusal stands after it, or what is said of it first, or what its node does. So a run doesn't end
 -- with the step of a start.
+-- Cited above: HasNoStartLast, no_start_last
 use Rattle.std.proofs.Common.{◌≡◌, ◌≢◌, inl, inr, ℕ, Bool, true, false, List, [], ◌∷◌, ◌++◌, length, All, Option, None, Some, refl, ap, sym, subst, ◌∙◌}
 use Rattle.std.specs.Prelude.{map}
 use Rattle.std.proofs.lemmas.Bool.{cases_eq}

@@ -1,4 +1,5 @@
 -- The move that a group of a course makes is possible.
+-- Cited above: group_may_move, may_take
 use Rattle.std.proofs.Common.{◌≡◌, inl, inr, ℕ, ◌==◌, true, false, not, List, [], ◌∷◌, length, Option, None, Some, refl, ap, sym, subst, ◌∙◌, arith}
 use Rattle.std.specs.Prelude.{◌&&◌, IfSome, bytes_eq, is_some, nat_eq}
 use Rattle.std.proofs.lemmas.Bool.{and_parts, cases_Bool, eqb-true}

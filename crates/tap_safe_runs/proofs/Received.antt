@@ -1,4 +1,5 @@
 -- What a run says of a frame that is taken.
+-- Cited above: frames_are_received
 use Rattle.std.proofs.Common.{◌≡◌, ℕ, List, ◌∷◌, Some, ap, ◌∙◌}
 use Rattle.tap_log.specs.declared.record.Record.{Record}
 use Rattle.tap_log.specs.declared.record.Record.TheVariants.{Taken}

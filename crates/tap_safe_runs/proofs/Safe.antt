@@ -1,4 +1,5 @@
 -- The whole invariant holds of the system of each run, and each moment of a run is one.
+-- Cited above: run_at_moment, run_begins, run_more, runs_are_sound, runs_grow, steps_after, steps_before
 use Rattle.std.proofs.Common.{◌≡◌, ℕ, false, true, List, [], ◌∷◌, ◌++◌, take, Option, None, Some, refl, sym, subst}
 use Rattle.std.specs.Prelude.{All, drop}
 use Rattle.std.proofs.lemmas.List.{take-append-drop}

@@ -1,4 +1,5 @@
 -- Each log of a run is safe throughout, and so it is once how the run has ended stands after it, or a step that is refused.
+-- Cited above: at_moments, cut_last, ended_logs_are_safe, one_more
 use Rattle.std.proofs.Common.{◌≡◌, inl, inr, ℕ, zero, suc, ◌+◌, ◌<◌, ◌≤◌, Bool, true, false, not, List, [], ◌∷◌, ◌++◌, length, take, All, None, Some, refl, ap, sym, subst, ◌∙◌, arith, length-append}
 use Rattle.std.specs.Prelude.{◌&&◌, ◌||◌, drop, nat_eq, nat_le, slice_get, unwrap_or, filter}
 use Rattle.std.specs.List.{last_or, list_any, range_with_len}

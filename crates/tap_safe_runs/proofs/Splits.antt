@@ -1,4 +1,5 @@
 -- Parts of lists of records, and which starts they accept.
+-- Cited above: all_at, no_step_among, none_in_first, none_in_second, parted_where, start_accepted
 use Rattle.std.proofs.Common.{◌≡◌, ◌⊎◌, inl, inr, ℕ, true, false, List, [], ◌∷◌, ◌++◌, filter, All, Option, None, Some, refl, ap, sym, subst, ◌∙◌}
 use Rattle.std.specs.List.{cons_option}
 use Rattle.std.proofs.lemmas.Bool.{cases_Bool}

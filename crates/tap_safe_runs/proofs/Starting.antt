@@ -1,4 +1,5 @@
 -- A start that is accepted: the records after its step accept it.
+-- Cited above: leave_accepted, start_group_accepts, starting_accepted, starts_is_start
 use Rattle.std.proofs.Common.{◌≡◌, inl, ℕ, true, false, List, [], ◌∷◌, ◌++◌, length, Option, None, Some, arith, refl, ap, sym, subst, ◌∙◌}
 use Rattle.std.specs.Option.{is_some, option_zip}
 use Rattle.tap_name.specs.Settings.{SettingsValue}

@@ -1,4 +1,5 @@
 -- What the records of a group tell of nodes that become core, and of joins that are given up.
+-- Cited above: core_started, core_step, core_taken
 use Rattle.std.proofs.Common.{◌≡◌, ◌⊎◌, inl, inr, ℕ, ◌+◌, Bool, true, false, List, [], ◌∷◌, ◌++◌, length, Option, None, Some, refl, ap, sym, ◌∙◌, append-nil}
 use Rattle.std.specs.Prelude.{◌||◌, bytes_eq}
 use Rattle.std.specs.List.{cons_option, filter_map}

@@ -1,4 +1,5 @@
 -- The answers that a session awaits differ, also after others have come in place of one.
+-- Cited above: ways_of-child
 use Rattle.std.proofs.Common.{◌≡◌, inl, inr, ℕ, ◌+◌, List, [], ◌∷◌, ◌++◌, ◌⊎◌, arith, sym, ap, eqb}
 use Rattle.std.proofs.lemmas.Bool.{cases_Bool, eqb-true}
 use Rattle.tap_wire.specs.declared.frame.Frame.{Frame}

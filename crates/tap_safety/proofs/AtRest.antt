@@ -1,4 +1,5 @@
 -- The members of an overlay at rest have the invariant.
+-- Cited above: at_rest_law
 use Rattle.std.proofs.Common.{◌≡◌, ◌≢◌, inl, inr, ℕ, zero, suc, ◌*◌, ◌<◌, ◌≤◌, true, Bool, List, [], ◌∷◌, ◌⊎◌, Option, None, Some, All, map, filter, take, arith, refl, sym, ap, ◌∙◌}
 use Rattle.std.specs.Ordering.{is_eq}
 use Rattle.std.proofs.lemmas.Bool.{cases_Bool, cases_lt, true≢false}

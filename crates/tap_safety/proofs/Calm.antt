@@ -1,4 +1,5 @@
 -- A step that makes no node core, starts no joiner and adds no cover and no pin of a core node keeps what is about tables without holes.
+-- Cited above: AddsNoCover, filled_calm, still_told
 use Rattle.std.proofs.Common.{◌≡◌, inl, inr, ℕ, List, [], ap}
 use Rattle.std.specs.Option.{unwrap_or}
 use Rattle.tap_name.specs.Prefix.{lcp}

@@ -1,4 +1,5 @@
 -- What follows from the chain of sessions up to the root.
+-- Cited above: no_session
 use Rattle.std.proofs.Common.{◌≡◌, inl, inr, ℕ, zero, suc, List, [], ◌∷◌, Option, None, Some, arith, refl, sym, ◌∙◌}
 use Rattle.tap_wire.specs.declared.frame.Frame.{Frame}
 use Rattle.tap_safety.specs.Remembered.{OpenSession}

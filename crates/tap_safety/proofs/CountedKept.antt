@@ -1,4 +1,5 @@
 -- The sessions that are remembered are those that the nodes keep, after each kind of step.
+-- Cited above: counted_answer, counted_answering, counted_closing, counted_last, counted_opening, counted_others, counted_root, for_way-length
 use Rattle.std.proofs.Common.{◌≡◌, inl, inr, ℕ, ◌+◌, List, [], ◌∷◌, ◌⊎◌, None, Some, length, arith, refl, sym, ap, ◌∙◌, eqb}
 use Rattle.std.proofs.lemmas.Bool.{cases_Bool, eqb-false, eqb-true}
 use Rattle.std.proofs.lemmas.List.{length-append}

@@ -1,4 +1,5 @@
 -- Cover is kept by a Tell that is taken anew at a core node.
+-- Cited above: core_or_joiner
 use Rattle.std.proofs.Common.{◌≡◌, inl, inr, ℕ, ◌+◌, ◌<◌, ◌≤◌, List, ◌⊎◌, Option, None, Some, arith, refl, sym, ap, ◌∙◌}
 use Rattle.std.proofs.lemmas.Bool.{cases_lt}
 use Rattle.tap_name.specs.declared.slot.Slot.{Slot}

@@ -1,4 +1,5 @@
 -- Seekers stay unknown, and Tells sound, when a core node covers a joiner, and when a joiner becomes core.
+-- Cited above: cover_leaves_seekers, cover_leaves_tells, joiners_same
 use Rattle.std.proofs.Common.{◌≡◌, inl, inr, ℕ, List, [], ◌⊎◌, Some, refl, sym, ap, ◌∙◌}
 use Rattle.std.specs.Option.{unwrap_or}
 use Rattle.tap_name.specs.Prefix.{lcp}

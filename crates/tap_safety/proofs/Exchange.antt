@@ -1,4 +1,5 @@
 -- What a session awaits after other tokens have come in place of a frame or of a session.
+-- Cited above: is_place-here, is_place-same
 use Rattle.std.proofs.Common.{◌≡◌, inl, inr, ℕ, true, false, List, [], ◌∷◌, ◌++◌, ◌⊎◌, sym, ap, ◌∙◌, eqb}
 use Rattle.std.proofs.lemmas.Bool.{and_from, and_parts, cases_Bool, eq-eqb, eqb-false, eqb-true, ne_eqb, true≢false}
 use Rattle.std.proofs.lemmas.Slice.Eq.{bytes_eq-Decides}

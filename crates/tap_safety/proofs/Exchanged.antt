@@ -1,4 +1,5 @@
 -- A frame that is taken goes for good, and what is sent comes with new numbers.
+-- Cited above: exchanged
 use Rattle.std.proofs.Common.{◌≡◌, inl, inr, ℕ, ◌+◌, ◌<◌, List, [], ◌∷◌, ◌++◌, ◌⊎◌, length, arith, refl}
 use Rattle.tap_wire.specs.declared.frame.Frame.{Frame}
 use Rattle.tap_safety.specs.System.{System, AmongFrames}

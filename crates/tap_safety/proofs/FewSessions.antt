@@ -1,4 +1,5 @@
 -- Each node has few sessions of one joiner open.
+-- Cited above: few_at_rest, few_sessions_kept, few_sessions_opened
 use Rattle.std.proofs.Common.{◌≡◌, inl, inr, ℕ, ◌+◌, ◌≤◌, List, [], ◌∷◌, ◌⊎◌, Option, None, Some, arith, sym, ◌∙◌}
 use Rattle.std.proofs.lemmas.Bool.{cases_Bool, true≢false}
 use Rattle.std.proofs.lemmas.Slice.Eq.{bytes_eq-Decides}

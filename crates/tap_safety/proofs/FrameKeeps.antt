@@ -1,4 +1,5 @@
 -- What the steps at one node keep that make no node core, start no joiner and change no cover.
+-- Cited above: core_not, covers_on, frame_cores, joiner_not_ceased, one_state
 use Rattle.std.proofs.Common.{◌≡◌, inl, inr, ℕ, List, ◌⊎◌, None, Some, sym, ap, ◌∙◌}
 use Rattle.tap_name.specs.Settings.{SettingsValue}
 use Rattle.tap_name.specs.declared.slot.Slot.{Slot}

@@ -1,4 +1,5 @@
 -- Seekers and Tells after a frame whose taker stays what it is, and sends nobody on.
+-- Cited above: frame_joiners, node_stays, seeker_back, seeker_stays
 use Rattle.std.proofs.Common.{◌≡◌, inl, inr, ℕ, List, ◌⊎◌, Some, sym, ap, ◌∙◌}
 use Rattle.tap_name.specs.Settings.{SettingsValue}
 use Rattle.tap_link.specs.declared.kind.Kind.{Kind}

@@ -1,4 +1,5 @@
 -- A frame whose taker says of each link that it changes: what is then said of links and stands.
+-- Cited above: last_cases
 use Rattle.std.proofs.Common.{◌≡◌, inl, inr, ℕ, Bool, List, [], ◌∷◌, ◌⊎◌, Option, None, Some, arith, refl, sym, ap, ◌∙◌}
 use Rattle.std.proofs.lemmas.Bool.{cases_Bool, true≢false}
 use Rattle.std.proofs.lemmas.Slice.Eq.{bytes_eq-Decides}

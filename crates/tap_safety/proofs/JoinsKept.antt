@@ -1,4 +1,5 @@
 -- Whose the sessions are, what they await, where they stand, and that each join has one end: what turns of sessions keep of it.
+-- Cited above: one_session
 use Rattle.std.proofs.Common.{◌≡◌, inl, inr, ℕ, List, ◌⊎◌, None, Some, sym, ap, ◌∙◌}
 use Rattle.tap_wire.specs.declared.frame.Body.TheVariants.{Done}
 use Rattle.tap_wire.specs.declared.frame.Frame.{Frame}

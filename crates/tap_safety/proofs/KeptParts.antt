@@ -1,4 +1,5 @@
 -- what a step leaves as it was, and what follows for the words and parts of the invariant
+-- Cited above: AddsNone, Keeps, TakesNoTell
 use Rattle.std.proofs.Common.{◌≡◌, inl, inr, ℕ, ◌<◌, ◌≤◌, List, ◌⊎◌, arith}
 use Rattle.tap_name.specs.Settings.{SettingsValue}
 use Rattle.tap_name.specs.Prefix.{lcp}

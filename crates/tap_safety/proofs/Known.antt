@@ -1,4 +1,5 @@
 -- What the frames, the names and the stamps of a system keep, whatever the kind of step.
+-- Cited above: core_kept, ended_kept, ends_frame, ends_start, few_join, few_kept, names_kept, stamps_frame, stamps_join, stamps_start
 use Rattle.std.proofs.Common.{◌≡◌, inl, inr, ℕ, ◌+◌, ◌≤◌, List, [], ◌∷◌, ◌⊎◌, Bool, Option, None, Some, arith, sym, ap, ◌∙◌}
 use Rattle.tap_name.specs.Settings.{SettingsValue}
 use Rattle.tap_wire.specs.declared.frame.Body.TheVariants.{Link}

@@ -2,34 +2,34 @@ pub mod Names
 pub mod Moved
 pub mod KeptParts
 pub mod UnderWay
-pub mod KeepsAll
+mod KeepsAll
 pub mod Calm
-pub mod KeepsNear
+mod KeepsNear
 pub mod TellKeeps
 pub mod FrameKeeps
 pub mod LinkKeeps
 pub mod StartKeeps
-pub mod CoverStep
+mod CoverStep
 pub mod CoverKept
-pub mod MeetKept
-pub mod KnownTell
-pub mod TellLaws
-pub mod DoneKept
-pub mod DoneCover
-pub mod DoneLaws
-pub mod SeekLow
+mod MeetKept
+mod KnownTell
+mod TellLaws
+mod DoneKept
+mod DoneCover
+mod DoneLaws
+mod SeekLow
 pub mod SeekLaws
 pub mod Chains
-pub mod Quiet
+mod Quiet
 pub mod Exchange
-pub mod Turns
+mod Turns
 pub mod SessionsKept
 pub mod Said
 pub mod SessionLaws
 pub mod Apart
-pub mod AwaitedKept
-pub mod TiesKept
-pub mod VersionsKept
+mod AwaitedKept
+mod TiesKept
+mod VersionsKept
 pub mod TiesLaws
 pub mod WordsKept
 pub mod SoftKept
@@ -39,14 +39,14 @@ pub mod SeekingKept
 pub mod FrameSeeking
 pub mod PlacesKept
 pub mod SoftSteps
-pub mod DoneCalm
+mod DoneCalm
 pub mod Exchanged
 pub mod FrameWords
-pub mod SeekFilled
-pub mod TellFilled
-pub mod RootSteps
+mod SeekFilled
+mod TellFilled
+mod RootSteps
 pub mod SeatSoft
-pub mod SeekOn
+mod SeekOn
 pub mod CountedKept
 pub mod AtRest
 pub mod FewSessions
@@ -55,6 +55,6 @@ pub mod Known
 pub mod Peace
 pub mod NoticesKept
 pub mod CoverSeeking
-pub mod FromInvariant
-pub mod JoinSeeking
+mod FromInvariant
+mod JoinSeeking
 pub mod StepLaws

@@ -1,4 +1,6 @@
 -- What a move leaves of frames, nodes and words.
+-- Cited above: ascend_below, ascend_from, ascend_numbered, ascend_one, ascend_under, delivers, found, lost, numbers_sent, numbers_taken, starts,
+-- with_at-here, with_at-others
 use Rattle.std.proofs.Common.{◌≡◌, inl, inr, ℕ, ◌+◌, ◌<◌, ◌≤◌, true, false, List, [], ◌∷◌, ◌++◌, ◌⊎◌, Option, None, Some, length, arith, refl, sym, ap, ◌∙◌, eqb}
 use Rattle.std.proofs.lemmas.Bool.{cases_Bool, eqb-true, eq-eqb, ne_eqb}
 use Rattle.std.proofs.lemmas.List.{append_assoc, append-nil}

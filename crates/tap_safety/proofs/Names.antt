@@ -1,4 +1,5 @@
 -- What names of the settings share.
+-- Cited above: lcp_whole, same_level, same_slot_near
 use Rattle.std.proofs.Common.{◌≡◌, ℕ, ◌<◌, ◌≤◌, List, get_or, nat_eq, arith, ap, sym, ◌∙◌}
 use Rattle.std.specs.List.{common_prefix_len}
 use Rattle.tap_name.specs.declared.slot.Slot.{Slot}

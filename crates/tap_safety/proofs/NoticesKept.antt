@@ -1,4 +1,5 @@
 -- What is said of notices is kept by a step that takes none and sends none.
+-- Cited above: frame_leaves_law, gone_leaver_stays, notices_step_law, until_rest_law
 use Rattle.std.proofs.Common.{◌≡◌, inl, inr, ℕ, true, List, [], ◌∷◌, ◌⊎◌, Option, None, Some, refl, sym, ap, ◌∙◌}
 use Rattle.std.proofs.lemmas.Bool.{true≢false}
 use Rattle.tap_link.specs.declared.kind.Kind.{Kind}

@@ -1,4 +1,5 @@
 -- What a step keeps of departures while nobody departs.
+-- Cited above: frame_peace_law, notices_law, peace_kept
 use Rattle.std.proofs.Common.{◌≡◌, inl, inr, ℕ, List, [], ◌∷◌, Option, None, Some, refl, sym, ◌∙◌}
 use Rattle.tap_link.specs.declared.kind.Kind.TheVariants.{Leaving as LeavingKind}
 use Rattle.tap_wire.specs.declared.frame.Body.{Body}

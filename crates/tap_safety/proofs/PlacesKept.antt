@@ -1,4 +1,5 @@
 -- The bookkeeping of sessions after a step: places, depths, and that each awaits an answer.
+-- Cited above: deeper_kept
 use Rattle.std.proofs.Common.{◌≡◌, inl, inr, ℕ, ◌+◌, ◌<◌, List, [], ◌⊎◌, None, Some, arith, refl, sym, ap, ◌∙◌}
 use Rattle.tap_name.specs.declared.slot.Slot.{Slot}
 use Rattle.tap_wire.specs.declared.frame.Frame.{Frame}

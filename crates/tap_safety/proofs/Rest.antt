@@ -1,4 +1,5 @@
 -- While no frame is under way, nothing of joins and departures is left.
+-- Cited above: rest_holds
 use Rattle.std.proofs.Common.{◌≡◌, inl, inr, ℕ, zero, suc, ◌+◌, ◌<◌, ◌≤◌, List, [], ◌∷◌, Option, None, Some, arith, refl, sym, ap, ◌∙◌}
 use Rattle.std.proofs.lemmas.Bool.{cases_lt, true≢false}
 use Rattle.tap_name.specs.Names.{Among}

@@ -2,6 +2,7 @@
 -- names none of their fields.
 --
 -- Cited from outside: by the laws of one move.
+-- Cited above: Said, said_of
 use Rattle.std.specs.Prelude.{ℕ, Bool, List, Option}
 use Rattle.tap_name.specs.declared.slot.Slot.{Slot}
 use Rattle.tap_wire.specs.declared.frame.Body.{Body}

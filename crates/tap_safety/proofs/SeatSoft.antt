@@ -1,4 +1,5 @@
 -- Who is named stays core or soft by a Seek at the surrogate; and what becomes of the joiners.
+-- Cited above: joiner_is_new, seat_softs
 use Rattle.std.proofs.Common.{◌≡◌, inl, inr, ℕ, List, ◌⊎◌, None, Some, sym, ap, ◌∙◌}
 use Rattle.tap_name.specs.Settings.{SettingsValue}
 use Rattle.tap_link.specs.declared.kind.Kind.{Kind}

@@ -1,4 +1,5 @@
 -- What the surrogate's Hello gives its joiner.
+-- Cited above: low_law
 use Rattle.tap_safety.specs.KeptLaws.{LowOfNewJoiner}
 use Rattle.tap_safety.proofs.SeekLow.{low_new}
 

@@ -1,4 +1,5 @@
 -- Seekers stay unknown, and Tells sound, where a step that changes no cover sends no Seek and no Tell.
+-- Cited above: seeker_not_soft, seekers_kept, seeking_kept, tells_kept
 use Rattle.std.proofs.Common.{◌≡◌, inl, inr, ℕ, List, [], None, Some, refl, sym, ap, ◌∙◌}
 use Rattle.std.specs.Option.{unwrap_or}
 use Rattle.tap_name.specs.Prefix.{lcp}

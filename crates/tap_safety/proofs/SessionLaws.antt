@@ -1,4 +1,5 @@
 -- What holds of the sessions of joins.
+-- Cited above: opened_law, quiet_law
 use Rattle.tap_safety.specs.KeptLaws.{NoSessionWithoutRoot, OnlyTheLastFrameIsLeft, OnlyTheRootIsLeft, QuietOnceDone, SessionsKeptByOpening}
 use Rattle.tap_safety.proofs.Chains.{no_session, only_frame, only_session}
 use Rattle.tap_safety.proofs.Quiet.{quiet}

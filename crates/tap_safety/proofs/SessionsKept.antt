@@ -1,4 +1,5 @@
 -- The sessions are exact after each kind of step.
+-- Cited above: placed_at, same_place, ways_of-has
 use Rattle.std.proofs.Common.{◌≡◌, inl, inr, ℕ, true, List, [], ◌∷◌, ◌⊎◌, Option, None, Some, refl, sym, ap, ◌∙◌}
 use Rattle.std.proofs.lemmas.Bool.{cases_Bool, true≢false}
 use Rattle.tap_wire.specs.declared.frame.Frame.{Frame}

@@ -1,4 +1,5 @@
 -- Who is named stays core or soft, if the links that are new and the messages that are sent are sound.
+-- Cited above: forget_links, frame_softs, hello_links, joining_links, not_new, one_sound, only_message, release_links, sent_each, soft_kept
 use Rattle.std.proofs.Common.{◌≡◌, inl, inr, ℕ, Bool, true, false, List, [], ◌∷◌, ◌⊎◌, None, Some, refl, sym, ap, ◌∙◌}
 use Rattle.std.proofs.lemmas.Bool.{true≢false}
 use Rattle.tap_name.specs.declared.slot.Offered.{Offered}

@@ -1,4 +1,5 @@
 -- Who is named stays core or soft by a Tell at a core node, a Seek at the surrogate, a Done, and starts.
+-- Cited above: links_sound, softs_same, start_ways
 use Rattle.std.proofs.Common.{◌≡◌, inl, inr, ℕ, List, ◌⊎◌, None, Some, sym, ap, ◌∙◌}
 use Rattle.tap_name.specs.declared.slot.Slot.{Slot}
 use Rattle.tap_link.specs.declared.kind.Kind.{Kind}

@@ -1,4 +1,5 @@
 -- What starts keep that leave a node what it is, and the start of a join.
+-- Cited above: join_cores, node_was, old_node, way_stays
 use Rattle.std.proofs.Common.{◌≡◌, inl, inr, ℕ, List, ◌⊎◌, None, Some, sym, ◌∙◌}
 use Rattle.tap_name.specs.Settings.{SettingsValue}
 use Rattle.tap_link.specs.declared.kind.Kind.{Kind}

@@ -1,4 +1,13 @@
 -- What the steps keep that change no cover, and what moves are.
+-- Cited above: await_closing_law, await_handing_on_law, await_last_law, await_opening_law, await_others_law, await_root_law, awaited_closing_law,
+-- awaited_handing_on_law, awaited_last_law, awaited_opening_law, awaited_others_law, awaited_root_law, ceased_words_law, closing_law,
+-- closing_turns_law, depths_law, exchanged_law, filled_done_law, filled_known_law, filled_seat_law, filled_tell_law, forget_filled_law,
+-- gives_quiet_law, handing_on_law, handing_on_turns_law, hello_filled_law, join_filled_law, joins_closing_law, joins_handing_on_law, joins_last_law,
+-- joins_opening_law, joins_root_law, last_answer_law, last_turns_law, numbers_new_law, opening_turns_law, others_law, places_law, plain_law,
+-- release_filled_law, root_opened_law, root_turns_law, seek_on_law, seeking_done_law, seeking_frame_law, seeking_join_law, seeking_law,
+-- seeking_seat_law, seeking_tell_law, soft_ceased_law, soft_done_law, soft_forget_law, soft_hello_law, soft_join_law, soft_joining_law,
+-- soft_plain_law, soft_release_law, soft_seat_law, soft_tell_law, start_filled_law, tell_ceased_law, tell_joining_law, tells_frame_law, tells_law,
+-- ties_words_law, versions_words_law, words_said_law
 use Rattle.tap_safety.specs.StepLaws.{InvariantGivesBefore, InvariantGivesQuiet, InvariantGivesSeat, InvariantGivesTell}
 use Rattle.tap_safety.specs.StepLaws.{SeekingKeptByDone, SeekingKeptByKnownTell, SeekingKeptBySeat, SeekingKeptByTell}
 use Rattle.tap_safety.specs.StepLaws.{JoinerIsNewBySeat, JoinsKeptByRoot, SeekingKeptBySeek, SoftKeptBySeat}

@@ -1,4 +1,5 @@
 -- What a step at one node leaves as it was, and what a Tell leaves that is taken anew at a core node.
+-- Cited above: core_kept, covers_same, joiner_after, joiner_before, links_same, node_after, node_before
 use Rattle.std.proofs.Common.{◌≡◌, inl, inr, ℕ, List, ◌⊎◌, None, Some, sym, ◌∙◌}
 use Rattle.tap_name.specs.declared.slot.Slot.{Slot}
 use Rattle.tap_link.specs.declared.kind.Kind.{Kind}

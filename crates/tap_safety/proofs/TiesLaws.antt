@@ -1,4 +1,5 @@
 -- What a Link keeps that is taken.
+-- Cited above: ties_law, versions_law
 use Rattle.tap_safety.specs.KeptLaws.{TiesKeptByLink, VersionsKeptByLink}
 use Rattle.tap_safety.proofs.TiesKept.{ties_kept}
 use Rattle.tap_safety.proofs.VersionsKept.{versions_kept}

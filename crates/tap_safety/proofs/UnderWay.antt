@@ -1,4 +1,6 @@
 -- What is under way after a frame is taken and others are sent.
+-- Cited above: among_either, among_left, among_numbered, among_out, among_right, among_sent, among_there, among_was, sent_under_way, still_under_way,
+-- taken_under_way, told_by, was_under_way
 use Rattle.std.proofs.Common.{◌≡◌, inl, inr, ℕ, ◌+◌, List, [], ◌∷◌, ◌++◌, ◌⊎◌, refl, ap}
 use Rattle.tap_wire.specs.declared.frame.Body.{Body}
 use Rattle.tap_wire.specs.declared.frame.Frame.{Frame}

@@ -1,4 +1,5 @@
 -- Ties, their versions and what is said to nodes that join or have ceased are kept by a step that says of each link that it changes.
+-- Cited above: at_link, link_at
 use Rattle.std.proofs.Common.{◌≡◌, inl, inr, ℕ, ◌<◌, Bool, true, false, List, ◌⊎◌, Option, None, Some, arith, refl, sym, ap, ◌∙◌}
 use Rattle.tap_link.specs.declared.kind.Kind.{Kind}
 use Rattle.tap_link.specs.declared.kind.Kind.TheVariants.{Pin}

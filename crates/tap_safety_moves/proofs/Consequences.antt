@@ -1,4 +1,5 @@
 -- What the whole invariant says of a frame as it comes to its receiver, and of a system in which no frame is under way.
+-- Cited above: none_is_strange, nothing_is_left
 use Rattle.std.proofs.Common.{◌≡◌, ℕ, ap, sym, ◌∙◌}
 use Rattle.tap_wire.specs.declared.frame.Body.{Body}
 use Rattle.tap_wire.specs.declared.frame.Body.TheVariants.{Ack, Heard}

@@ -1,4 +1,5 @@
 -- A frame under way whose receiver is a node is a delivery: it isn't strange to it.
+-- Cited above: is_delivery, is_to_receiver
 use Rattle.std.proofs.Common.{◌≡◌, ℕ, false, Some, ap, sym, subst, ◌∙◌}
 use Rattle.tap_name.specs.Settings.{SettingsValue}
 use Rattle.tap_wire.specs.declared.frame.Frame.{Frame}

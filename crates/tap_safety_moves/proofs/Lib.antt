@@ -1,15 +1,15 @@
-pub mod ShallowRules
-pub mod Shallow
+mod ShallowRules
+mod Shallow
 pub mod Members
-pub mod Lost
-pub mod LostWords
-pub mod Together
-pub mod Ignored
+mod Lost
+mod LostWords
+mod Together
+mod Ignored
 pub mod SoundMoves
 pub mod Consequences
 pub mod Delivered
 pub mod Walks
-pub mod Takers
-pub mod FewLinked
-pub mod NotStrange
-pub mod Arrivals
+mod Takers
+mod FewLinked
+mod NotStrange
+mod Arrivals

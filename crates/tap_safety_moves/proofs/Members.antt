@@ -1,4 +1,5 @@
 -- The members with which an overlay begins have the whole invariant.
+-- Cited above: node_is_member, sound_at_rest
 use Rattle.std.proofs.Common.{◌≡◌, ℕ, ◌≤◌, List, ◌∷◌, length, None, Some, true, arith, refl, ap, sym, subst, ◌∙◌, inl, inr}
 use Rattle.std.specs.Prelude.{not, ◌&&◌}
 use Rattle.std.proofs.lemmas.Bool.{cases_Bool}

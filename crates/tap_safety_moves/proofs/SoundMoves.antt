@@ -1,4 +1,5 @@
 -- Each possible move keeps the whole invariant, and its basis from itself alone outside departures.
+-- Cited above: move_keeps, run_is_sound
 use Rattle.std.proofs.Common.{◌≡◌, ◌⊎◌, ℕ, List, [], ◌∷◌, None, refl, inl, inr}
 use Rattle.tap_name.specs.Settings.{SettingsValue}
 use Rattle.tap_wire.specs.declared.frame.Body.{Body}

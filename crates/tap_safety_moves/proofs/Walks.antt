@@ -1,4 +1,5 @@
 -- Tables have no hole, as a walk reads them; so each walk leads to the root.
+-- Cited above: core_listed, core_read, read_core, tables_hole_free, walks_lead
 use Rattle.std.proofs.Common.{◌≡◌, ◌≢◌, ◌⊎◌, ℕ, zero, suc, ◌<◌, nat_lt, nat_eq, Bool, true, false, List, [], ◌∷◌, filter, get_or, map, slice_get, Option, None, Some, arith, ap, refl, sym, subst, ◌∙◌, inl, inr}
 use Rattle.std.specs.List.{common_prefix_len}
 use Rattle.std.proofs.lemmas.Bool.{cases_Bool, lt-ltb}

@@ -1,12 +1,12 @@
-pub mod Arrays
-pub mod Bytes
-pub mod Casts
-pub mod Keys
-pub mod Members
-pub mod Numbers
+mod Arrays
+mod Bytes
+mod Casts
+mod Keys
+mod Members
+mod Numbers
 pub mod Options
-pub mod Pairs
-pub mod Scripts
-pub mod Shapes
-pub mod Splits
+mod Pairs
+mod Scripts
+mod Shapes
+mod Splits
 pub mod StepTexts

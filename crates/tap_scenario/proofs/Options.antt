@@ -1,4 +1,5 @@
 -- what a value that was found says of what it was found from
+-- Cited above: option_map-back
 use Rattle.std.proofs.Common.{◌≡◌, Bool, true, List, [], ◌∷◌, Option, None, Some, Ok, option_map, refl, ap, inl, inr}
 use Rattle.std.specs.List.{find}
 use Rattle.std.specs.Option.{ok_or, option_and_then, option_zip}

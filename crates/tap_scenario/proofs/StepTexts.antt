@@ -1,4 +1,5 @@
 -- a step and its text
+-- Cited above: step_of_text-text
 use Rattle.std.proofs.Common.{◌≡◌, ◌==◌, ◌&&◌, ◌↔◌, ℕ, ◌^◌, ◌<◌, ◌≤◌, Bool, true, false, not, bytes_eq, arith, List, [], ◌∷◌, append_assoc, codes, decimal, None, Some, option_map, if◌then◌else◌, refl, ap, sym, subst, ◌∙◌, inl, inr}
 use Rattle.std.specs.List.{join_with_byte, list_all}
 use Rattle.std.specs.Option.{option_zip}

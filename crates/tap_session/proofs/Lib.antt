@@ -1,2 +1,2 @@
 pub mod Transitions
-pub mod Entries
+mod Entries

@@ -1,4 +1,5 @@
 -- What each number has after a session is opened or answered, and that the sessions stay in order.
+-- Cited above: All-found, answered-unknown, AreSessions-answered, AreSessions-none, AreSessions-opened, session_of-answered, session_of-opened
 use Rattle.std.proofs.Common.{◌≡◌, ◌==◌, ℕ, ◌+◌, ◌-◌, ◌<◌, ◌≤◌, true, false, Bool, List, [], ◌∷◌, length, length-append, Option, None, Some, refl, sym, ap, ◌∙◌, suc, inl, inr, arith, cond, if◌then◌else◌, eqb-true}
 use Rattle.std.specs.List.{All, AllPairs}
 use Rattle.std.specs.Option.{option_or, option_and_then}

@@ -1,4 +1,5 @@
 -- A session is less deep than there are open sessions of its joiner, and these are few.
+-- Cited above: sessions_shallow, tells_shallow
 use Rattle.std.proofs.Common.{◌≡◌, ℕ, zero, suc, ◌+◌, ◌*◌, ◌≤◌, Bool, true, false, List, [], ◌∷◌, ◌++◌, length, map, Option, None, Some, arith, refl, sym, subst, ◌∙◌, inl, inr}
 use Rattle.std.proofs.lemmas.List.{length-append, length-map}
 use Rattle.tap_name.specs.Names.{Among, has_name}

@@ -1,4 +1,5 @@
 -- Each node has few sessions of one joiner open after each frame that a rule takes, and after a start.
+-- Cited above: frame_few, start_few
 use Rattle.std.proofs.Common.{◌≡◌, ◌⊎◌, ℕ, ◌+◌, ◌<◌, ◌≤◌, Bool, true, false, List, [], if◌then◌else◌, Option, None, Some, arith, ap, refl, sym, subst, ◌∙◌, inl, inr}
 use Rattle.std.proofs.lemmas.Bool.{cases_lt}
 use Rattle.tap_name.specs.Names.{has_name}

@@ -1,4 +1,5 @@
 -- A step that leaves the sessions alone keeps whose they are, and the one end of each join.
+-- Cited above: joins_others_law
 use Rattle.std.proofs.Common.{◌≡◌, ℕ, List, Some, ap, sym, ◌∙◌, inl, inr}
 use Rattle.tap_wire.specs.declared.frame.Body.TheVariants.{Done}
 use Rattle.tap_wire.specs.declared.frame.Frame.{Frame}

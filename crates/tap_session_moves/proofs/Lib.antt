@@ -1,12 +1,12 @@
 pub mod LeavesJoins
-pub mod SentFor
+mod SentFor
 pub mod JoinMoves
 pub mod StartMoves
 pub mod Depths
 pub mod FewMoves
-pub mod PinsRule
-pub mod Receivers
-pub mod RulesSend
-pub mod StepSends
+mod PinsRule
+mod Receivers
+mod RulesSend
+mod StepSends
 pub mod EndMoves
 pub mod NoticeMoves

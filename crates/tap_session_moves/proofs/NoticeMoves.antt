@@ -1,4 +1,5 @@
 -- What the notices of a departure keep of the sessions of joins: they belong to none, and end no join.
+-- Cited above: notice_few, notice_joins
 use Rattle.std.proofs.Common.{◌≡◌, ◌⊎◌, ◌==◌, ℕ, Bool, true, false, cond, List, [], length, Option, None, Some, arith, ap, refl, sym, subst, ◌∙◌, inl, inr}
 use Rattle.tap_name.specs.Settings.{SettingsValue}
 use Rattle.tap_session.specs.Session.{SessionsValue}

@@ -1,4 +1,5 @@
 -- Whose the sessions of joins are, and the one end of each join, once a node has started something.
+-- Cited above: never_started, sent_aside, start_joins
 use Rattle.std.proofs.Common.{◌≡◌, ℕ, List, [], ◌∷◌, length, map, Option, None, Some, ap, refl, sym, subst, ◌∙◌, inl, inr}
 use Rattle.std.proofs.lemmas.Bool.{cases_eq}
 use Rattle.tap_name.specs.Settings.{SettingsValue}

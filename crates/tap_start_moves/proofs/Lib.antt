@@ -1,7 +1,7 @@
-pub mod StartKinds
-pub mod SoftStarts
-pub mod SeekStarts
-pub mod WordStarts
-pub mod SessionStarts
-pub mod PeaceStarts
+mod StartKinds
+mod SoftStarts
+mod SeekStarts
+mod WordStarts
+mod SessionStarts
+mod PeaceStarts
 pub mod WholeStarts

@@ -1,4 +1,5 @@
 -- The basis of the invariant, and the whole of it, once a node has started something but a departure.
+-- Cited above: start_keeps, start_keeps_filled
 use Rattle.std.proofs.Common.{ℕ, List}
 use Rattle.tap_name.specs.Settings.{SettingsValue}
 use Rattle.tap_rule.specs.Event.{Start}

@@ -1,4 +1,5 @@
 -- where all links of core nodes are settled and to core nodes, a walk is a chain of next hops
+-- Cited above: chain_law_holds
 use Rattle.std.proofs.Common.{◌≡◌, ◌⊎◌, inl, inr, ℕ, ◌+◌, ◌<◌, true, false, List, [], ◌∷◌, length, drop, map, get_or, Option, None, Some, All, IsSomeAnd, arith, ap, sym, subst, refl, ◌∙◌, eqb}
 use Rattle.std.specs.Option.{is_some}
 use Rattle.std.proofs.lemmas.Bool.{cases_Bool, true≢false}

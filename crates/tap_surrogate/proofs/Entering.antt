@@ -1,4 +1,5 @@
 -- a walk enters its nodes in turn
+-- Cited above: entered_begins, entered_law_holds
 use Rattle.std.proofs.Common.{◌≡◌, inl, inr, ℕ, ◌+◌, ◌≤◌, zero, suc, List, [], ◌∷◌, length, map, get_or, Option, None, Some, All, arith, ap, sym, refl, ◌∙◌, eqb}
 use Rattle.std.specs.List.{AllAdjacentBelow}
 use Rattle.std.proofs.lemmas.Bool.{cases_Bool}

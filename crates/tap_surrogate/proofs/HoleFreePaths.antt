@@ -1,4 +1,5 @@
 -- a walk over tables without holes leads to the root
+-- Cited above: walk_law_holds
 use Rattle.std.proofs.Common.{◌≡◌, ◌==◌, ◌⊎◌, inl, inr, ℕ, ◌+◌, ◌<◌, ◌≤◌, suc, true, false, List, [], ◌∷◌, length, take, get_or, Option, None, Some, filter, All, arith, sym, refl, ◌∙◌, eqb}
 use Rattle.std.specs.Option.{is_some}
 use Rattle.std.specs.List.{last_or}

@@ -1,15 +1,15 @@
-pub mod Cyclic
-pub mod Nearest
-pub mod Paths
+mod Cyclic
+mod Nearest
+mod Paths
 pub mod Entering
-pub mod CoreLinks
-pub mod Standing
+mod CoreLinks
+mod Standing
 pub mod HoleFreePaths
-pub mod AtRest
-pub mod RestTables
-pub mod Least
-pub mod NextHops
+mod AtRest
+mod RestTables
+mod Least
+mod NextHops
 pub mod Chains
-pub mod SettledAtRest
-pub mod HoleFreeLinks
-pub mod EmptyLevels
+mod SettledAtRest
+mod HoleFreeLinks
+mod EmptyLevels

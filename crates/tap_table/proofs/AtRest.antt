@@ -1,4 +1,5 @@
 -- What tables and ties at rest keep.
+-- Cited above: All-filtered, AreTies-at_rest, links_at_rest
 use Rattle.std.proofs.Common.{◌≡◌, ◌≢◌, ℕ, ◌*◌, ◌<◌, ◌≤◌, true, false, Bool, None, Some, List, [], ◌∷◌, get_or, map, filter, All, AllPairs, arith, ap, sym, refl, ◌∙◌, inl, inr}
 use Rattle.std.proofs.lemmas.Bool.{cases_Bool, cases_lt}
 use Rattle.std.proofs.lemmas.List.{get_or-map, get_or_past, length-map, length-take}

@@ -1,4 +1,5 @@
 -- Slot by slot in the order of the names that fit, the links of a table ascend by name, and each of them is there.
+-- Cited above: by_name-ascending, by_name_is_found, found_by_name, slot_visited, slots_inside
 use Rattle.std.proofs.Common.{◌≡◌, inl, inr, ℕ, ◌+◌, ◌-◌, ◌*◌, ◌<◌, ◌≤◌, nat_lt, false, Some, List, length, get_or, slice_get, All, AllPairs, arith, ap, sym, refl, subst, ◌∙◌}
 use Rattle.std.specs.List.{range_with_len}
 use Rattle.std.proofs.lemmas.Bool.{cases_Bool, cases_lt, cases_order, lt-ltb, le-ltb, ltb-false, ltb-true}

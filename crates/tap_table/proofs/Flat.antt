@@ -1,4 +1,5 @@
 -- What holds of the elements of a flat list, and of any two of them.
+-- Cited above: All-flat_map, got-flat_map
 use Rattle.std.proofs.Common.{◌≡◌, ℕ, ◌+◌, zero, suc, Some, List, [], ◌∷◌, length, get_or, slice_get, All, AllPairs, arith, ap, ◌∙◌}
 use Rattle.std.specs.List.{flat_map}
 use Rattle.std.proofs.lemmas.List.Elements.{All-append, All-head, All-nil, All-tail}

@@ -1,4 +1,5 @@
 -- What a look-up in the links of a slot finds is one of them, and each of them is found.
+-- Cited above: kind_of_target, link_found, link_gives, link_to, linked_is_name, linked_is_other, slot_is_own, target_is_name, target_is_other
 use Rattle.std.proofs.Common.{◌≡◌, ◌≢◌, ℕ, ◌+◌, ◌*◌, ◌<◌, zero, suc, Option, None, Some, List, [], ◌∷◌, length, get_or, slice_get, nat_eq, arith, ap, sym, refl, subst, ◌∙◌, inl, inr}
 use Rattle.std.specs.Ordering.{is_eq, ordering_reverse}
 use Rattle.std.specs.declared.cmp.Ordering.TheVariants.{Less, Greater}

@@ -1,4 +1,5 @@
 -- A member at rest is a holder of another that is on exactly where its own table, at rest over the same members, has it.
+-- Cited above: holds_exactly
 use Rattle.std.proofs.Common.{◌≡◌, ◌≢◌, ◌↔◌, ℕ, Bool, true, false, None, Some, List, [], ◌∷◌, map, filter, All, ap, sym, refl, subst, ◌∙◌, inl, inr}
 use Rattle.std.specs.Prelude.{Contains}
 use Rattle.std.specs.List.Sorted.{IsPermutation}

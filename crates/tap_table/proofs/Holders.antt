@@ -1,4 +1,5 @@
 -- The holders that have a link, one after another.
+-- Cited above: on
 use Rattle.std.proofs.Common.{◌≡◌, ℕ, ◌+◌, ◌<◌, ◌≤◌, suc, None, Some, List, ◌∷◌, length, get_or, slice_get, map, filter, drop, Bool, true, false, arith, ap, sym, refl, ◌∙◌}
 use Rattle.std.proofs.lemmas.List.{drop_all, drop_more, length-map}
 use Rattle.std.specs.List.{count_by}

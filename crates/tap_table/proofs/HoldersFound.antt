@@ -1,4 +1,5 @@
 -- The holders of ties are what look-ups among them find.
+-- Cited above: entry_of-held_word, on_exactly
 use Rattle.std.proofs.Common.{◌≡◌, ◌≢◌, ◌↔◌, ℕ, zero, suc, Bool, true, Option, None, Some, List, [], ◌∷◌, slice_get, arith, ap, sym, refl, subst, ◌∙◌, inl, inr, if◌then◌else◌}
 use Rattle.std.specs.Ordering.{is_eq}
 use Rattle.std.specs.declared.cmp.Ordering.TheVariants.{Less}

@@ -1,4 +1,5 @@
 -- The registers of holders over ascending names, and whether a member's table has a link to the owner.
+-- Cited above: word_of
 use Rattle.std.proofs.Common.{◌≡◌, inl, inr, ℕ, ◌+◌, ◌<◌, nat_eq, eqb, cond, Bool, true, false, List, [], ◌∷◌, ◌++◌, length, map, take, filter, get_or, All, AllPairs, refl, ap, sym, ◌∙◌}
 use Rattle.std.specs.List.{common_prefix_len}
 use Rattle.std.specs.declared.cmp.Ordering.TheVariants.{Less}

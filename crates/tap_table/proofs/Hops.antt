@@ -1,4 +1,5 @@
 -- What a next hop is: told level by level, and what holds of its node.
+-- Cited above: hop_exactly, hop_is, same_hops
 use Rattle.std.proofs.Common.{◌≡◌, ◌≢◌, ◌↔◌, ℕ, ◌+◌, ◌-◌, ◌<◌, ◌≤◌, zero, suc, Bool, true, false, Option, None, Some, List, [], ◌∷◌, length, get_or, drop, arith, ap, sym, refl, subst, ◌∙◌, inl, inr, eqb, is_some}
 use Rattle.std.specs.Prelude.{◌||◌}
 use Rattle.std.proofs.lemmas.Bool.{cases_Bool, cases_eq, eq-eqb, eqb-false, eqb-true}

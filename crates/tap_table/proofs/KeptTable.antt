@@ -1,4 +1,5 @@
 -- Each change of a table keeps what every table keeps.
+-- Cited above: IsTable-forgotten, IsTable-marked, IsTable-pinned, IsTable-released, IsTable-removed
 use Rattle.std.proofs.Common.{◌≡◌, ◌≢◌, ℕ, Bool, true, false, if◌then◌else◌, List, refl, subst, ◌&&◌}
 use Rattle.std.specs.Option.{is_none}
 use Rattle.std.proofs.lemmas.Cmp.{nat_list_cmp_total}

@@ -1,4 +1,5 @@
 -- of ascending members the first ones that fit a slot are the least ones
+-- Cited above: below_later, first_fitting_law_holds, is_slot-from, is_slot-to, ties_law_holds
 use Rattle.std.proofs.Common.{◌≡◌, ◌⊎◌, inl, inr, ℕ, ◌<◌, zero, suc, true, Option, None, Some, List, [], ◌∷◌, length, take, All, arith, sym, refl, ap, eqb}
 use Rattle.std.proofs.lemmas.Bool.{and_parts, and_from, eqb-true, eq-eqb, true≢false}
 use Rattle.std.proofs.lemmas.List.{length-take, get_or-take}

@@ -1,13 +1,13 @@
 pub mod Slots
-pub mod SetChanges
-pub mod Counted
-pub mod WithPrimaries
-pub mod DigitTaken
-pub mod RowLists
+mod SetChanges
+mod Counted
+mod WithPrimaries
+mod DigitTaken
+mod RowLists
 pub mod Holders
 pub mod Near
 pub mod Found
-pub mod Listed
+mod Listed
 pub mod KeptTable
 pub mod LookUps
 pub mod Sizes
@@ -16,10 +16,10 @@ pub mod TiesKept
 pub mod HoldersFound
 pub mod Hops
 pub mod Fitting
-pub mod SettledOn
+mod SettledOn
 pub mod Holding
 pub mod Least
-pub mod LeastShared
+mod LeastShared
 pub mod AtRest
 pub mod Held
 pub mod Flat
@@ -28,6 +28,6 @@ pub mod OneAdded
 pub mod Stepping
 pub mod LinksByName
 pub mod Targets
-pub mod EmptyLevels
+mod EmptyLevels
 pub mod OffTies
 pub mod NewLinks

@@ -1,4 +1,5 @@
 -- The links of a table by name, from one range of slots on and from one slot of a range on, and the words for their targets.
+-- Cited above: links_from, links_in, range_at_level, slot_at_level
 use Rattle.std.proofs.Common.{◌≡◌, ℕ, ◌+◌, ◌-◌, ◌*◌, ◌<◌, ◌≤◌, false, List, [], ◌∷◌, ◌++◌, get_or, length, All, arith, ap, sym, refl, ◌∙◌}
 use Rattle.std.proofs.lemmas.List.{length-append, map-append}
 use Rattle.std.proofs.lemmas.List.FromFn.{get_or-map-range_with_len, length-map-range_with_len}

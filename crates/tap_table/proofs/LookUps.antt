@@ -1,4 +1,5 @@
 -- The kind of every name after each change of a table: that of the name changes as in its slot's set, and others stay.
+-- Cited above: by_rule, kind_in-forgotten, kind_in-marked, kind_in-offered, kind_in-pinned, kind_in-released, kind_in-removed, of_itself, of_others
 use Rattle.std.proofs.Common.{◌≡◌, ◌≢◌, if◌then◌else◌, Option, List, [], ℕ, get_or, ap, refl, ◌∙◌, inl, inr}
 use Rattle.std.specs.Ordering.{is_eq}
 use Rattle.std.proofs.lemmas.Bool.{cases_eq}

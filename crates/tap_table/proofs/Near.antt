@@ -1,4 +1,5 @@
 -- What another set in the slot of a name does to a table.
+-- Cited above: apart_names, links_elsewhere, links_here, number_near, tied_itself, tied_names
 use Rattle.std.proofs.Common.{◌≡◌, ◌≢◌, ℕ, ◌<◌, true, false, List, [], length, get_or, All, arith, ap, sym, refl, subst, ◌∙◌, inl, inr}
 use Rattle.std.specs.Ordering.{is_eq}
 use Rattle.std.proofs.lemmas.Bool.{cases_Bool, cases_eq}

@@ -1,4 +1,5 @@
 -- Pins and offers: which kinds are new after them, and which words they give.
+-- Cited above: link_word, offered_rule_new, pinned_rule_new, word_given
 use Rattle.std.proofs.Common.{◌≡◌, ◌⊎◌, ℕ, ◌+◌, Bool, true, false, Option, None, Some, List, sym, refl, inl, inr}
 use Rattle.std.specs.Ordering.{is_eq}
 use Rattle.std.proofs.lemmas.Bool.{cases_Bool}

@@ -1,4 +1,5 @@
 -- The words of a node's end: one for each node that it has a link to, that there is none any more.
+-- Cited above: length-off_ties, linked_is_let_go
 use Rattle.std.proofs.Common.{◌≡◌, ℕ, ◌+◌, zero, suc, false, Some, List, [], ◌∷◌, length, slice_get, arith, ap, sym, refl, ◌∙◌}
 use Rattle.std.specs.Option.{option_map}
 use Rattle.std.proofs.lemmas.Option.{get_or_from_slice_get, slice_get-map, slice_get_within}

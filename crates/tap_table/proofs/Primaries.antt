@@ -1,4 +1,6 @@
 -- What each change of a table makes of the primaries of its slots.
+-- Cited above: full_has_primary, primary_at-forgotten, primary_at-marked_other, primary_at-pinned, primary_elsewhere, primary_near,
+-- primary_near-offered
 use Rattle.std.proofs.Common.{◌≡◌, ◌≢◌, ◌&&◌, ℕ, false, if◌then◌else◌, Option, Some, List, [], get_or, ap, sym, ◌∙◌, inl, inr}
 use Rattle.std.specs.Option.{is_none}
 use Rattle.std.specs.Ordering.{is_eq}

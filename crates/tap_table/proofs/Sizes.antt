@@ -1,4 +1,5 @@
 -- How many links a table has after each of its changes.
+-- Cited above: length-forgotten_rows, length-released_rows, length-removed_rows
 use Rattle.std.proofs.Common.{◌≡◌, ◌≢◌, ◌&&◌, ℕ, ◌+◌, not, List, [], length, arith}
 use Rattle.std.specs.Option.{is_none}
 use Rattle.std.proofs.lemmas.Cmp.{nat_list_cmp_total}

@@ -1,4 +1,5 @@
 -- The slots of a table, and what a change of one of them keeps.
+-- Cited above: empty_is, empty_sets-are, number_back, number_inside, place_inside
 use Rattle.std.proofs.Common.{◌≡◌, ◌≢◌, ℕ, ◌*◌, ◌<◌, zero, suc, List, [], ◌∷◌, replicate, length, get_or, map, nat_eq, arith, ap, sym, refl, ◌∙◌, inl, inr}
 use Rattle.std.specs.List.{FoldsTo, common_prefix_len}
 use Rattle.std.proofs.Math.Nat.{mul-le-mul_left}

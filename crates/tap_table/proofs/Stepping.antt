@@ -1,4 +1,5 @@
 -- What the slots of a table give, from one range by name on, and from one slot of a range on.
+-- Cited above: from_digit, in_range, in_range-first, in_ranges, in_ranges-all, in_ranges-first, slot_of_range
 use Rattle.std.proofs.Common.{◌≡◌, ℕ, ◌+◌, ◌-◌, ◌*◌, ◌<◌, ◌≤◌, suc, List, [], ◌∷◌, ◌++◌, map, arith, ap, ◌∙◌}
 use Rattle.std.specs.List.{flat_map, range_with_len}
 use Rattle.std.proofs.lemmas.Grind.{flat_map-append}

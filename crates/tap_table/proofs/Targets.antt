@@ -1,4 +1,5 @@
 -- The targets of a table by name: they ascend, are all that have a link, and are no more than the rows.
+-- Cited above: few_by_name, linked_is_target, target_is_linked, targets-ascending
 use Rattle.std.proofs.Common.{◌≡◌, ℕ, ◌≤◌, zero, suc, Some, List, [], ◌∷◌, length, map, slice_get, All, arith, ap, sym, ◌∙◌, inl, inr}
 use Rattle.std.proofs.lemmas.List.{get_or-map, length-map}
 use Rattle.std.proofs.lemmas.List.Elements.{All-head, All-tail}

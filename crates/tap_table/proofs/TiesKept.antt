@@ -1,4 +1,5 @@
 -- Each change of ties keeps what all ties keep.
+-- Cited above: AreTies-forgotten, AreTies-held_word, AreTies-marked, AreTies-offered, AreTies-pinned, AreTies-released, AreTies-removed
 use Rattle.std.proofs.Common.{◌≡◌, ◌≢◌, ℕ, Bool, Result, Ok, Err, List, refl, sym, subst}
 use Rattle.std.specs.Prelude.{OnErr, OnOk}
 use Rattle.std.proofs.lemmas.Cmp.{nat_list_cmp_total}

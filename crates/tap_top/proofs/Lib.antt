@@ -1,4 +1,4 @@
-pub mod Flushing
-pub mod Texts
-pub mod Turning
-pub mod Causes
+mod Flushing
+mod Texts
+mod Turning
+mod Causes

@@ -1,3 +1,3 @@
-pub mod Order
+mod Order
 pub mod Levels
 pub mod Watches

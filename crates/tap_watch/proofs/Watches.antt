@@ -1,4 +1,5 @@
 -- Which slots a watch has, and that it keeps its form: when it is full, after a strike, and with one slot more.
+-- Cited above: Contains-filter, Contains-full, IsWatch-filter, IsWatch-full, length-full
 use Rattle.std.proofs.Common.{◌≡◌, ◌≢◌, ◌↔◌, ◌⊎◌, ℕ, zero, suc, ◌+◌, ◌*◌, ◌-◌, ◌<◌, true, false, Bool, List, [], ◌∷◌, length, filter, Contains, Some, refl, sym, ap, ◌∙◌, inl, inr, arith}
 use Rattle.std.specs.List.{All}
 use Rattle.std.proofs.lemmas.Bool.{cases_Bool}

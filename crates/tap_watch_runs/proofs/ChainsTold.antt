@@ -1,4 +1,5 @@
 -- In each run the log says of each chain that each of its nodes but the last was told of the joiner by the next one.
+-- Cited above: told_longer
 use Rattle.std.proofs.Common.{◌≡◌, ℕ, nat_eq, false, All, List, [], ◌∷◌, ◌++◌, Option, None, Some, ap, refl, sym, subst, ◌∙◌, inl, inr}
 use Rattle.std.proofs.lemmas.Bool.{cases_Bool, eqb-true}
 use Rattle.std.proofs.lemmas.List.Elements.{All-head, All-tail}

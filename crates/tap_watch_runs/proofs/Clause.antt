@@ -1,4 +1,5 @@
 -- The watch clause holds of each run.
+-- Cited above: clause_at
 use Rattle.std.proofs.Common.{◌≡◌, ◌≢◌, ◌⊎◌, ℕ, List, ◌++◌, take, None, Some, ap, sym, subst, ◌∙◌, inl, inr}
 use Rattle.tap_name.specs.Name.{IsName}
 use Rattle.tap_name.specs.Settings.{SettingsValue}

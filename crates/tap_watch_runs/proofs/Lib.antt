@@ -1,17 +1,17 @@
-pub mod Aside
-pub mod Spread
-pub mod Asks
-pub mod AnswersGrow
-pub mod WatchesKept
-pub mod Chains
-pub mod Runs
-pub mod Full
-pub mod Joining
-pub mod Follow
-pub mod HeldSteps
-pub mod HeldMoves
-pub mod HeldAnew
-pub mod Becomes
+mod Aside
+mod Spread
+mod Asks
+mod AnswersGrow
+mod WatchesKept
+mod Chains
+mod Runs
+mod Full
+mod Joining
+mod Follow
+mod HeldSteps
+mod HeldMoves
+mod HeldAnew
+mod Becomes
 pub mod ChainsTold
 pub mod Clause
-pub mod HandedOn
+mod HandedOn

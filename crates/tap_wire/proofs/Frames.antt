@@ -1,4 +1,5 @@
 -- whole frames: read where they were written, and written as they are read
+-- Cited above: head_reads_back, reads_back
 use Rattle.std.proofs.Common.{◌≡◌, ◌<◌, ◌≤◌, ◌++◌, ◌+◌, ◌-◌, ℕ, Bool, true, false, cond, List, [], ◌∷◌, length, drop, All, Result, Ok, Err, IsOk, IsTrue, arith, refl, ap, sym, subst, ◌∙◌, append_assoc, length-append}
 use Rattle.byteorder.specs.Endian.{big_bytes}
 use Rattle.byteorder.specs.Numbers.{length-bytes_high_first}

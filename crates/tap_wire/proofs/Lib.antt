@@ -1,17 +1,17 @@
 pub mod Appending
-pub mod Codes
+mod Codes
 pub mod ReadingSteps
-pub mod Numbers
+mod Numbers
 pub mod Pieces
-pub mod Slots
-pub mod Links
-pub mod TakesParts
-pub mod ShortBodies
-pub mod LongBodies
-pub mod ListBodies
-pub mod Bodies
-pub mod Lengths
+mod Slots
+mod Links
+mod TakesParts
+mod ShortBodies
+mod LongBodies
+mod ListBodies
+mod Bodies
+mod Lengths
 pub mod Openings
-pub mod RightHeads
+mod RightHeads
 pub mod Frames
-pub mod Loops
+mod Loops

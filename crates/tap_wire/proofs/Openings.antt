@@ -1,4 +1,5 @@
 -- the heads of frames: read where they were written, and written as they are read
+-- Cited above: opening_parts
 use Rattle.std.proofs.Common.{◌≡◌, ◌≤◌, ◌++◌, ◌+◌, ◌-◌, ℕ, zero, suc, Bool, true, false, cond, eqb, nat_lt, not, ◌&&◌, List, [], ◌∷◌, length, drop, slice_index, slice_get, Option, None, Some, Result, Ok, Err, arith, refl, ap, sym, subst, ◌∙◌}
 use Rattle.std.proofs.lemmas.Bool.{eqb-true, eq-eqb, ltb-false, le-ltb, not-false}
 use Rattle.tap_name.specs.Settings.{SettingsValue}

@@ -1,4 +1,5 @@
 -- pieces of bytes at their places: read where they were written, and written as they are read
+-- Cited above: name_taken
 use Rattle.std.proofs.Common.{◌≡◌, ◌<◌, ◌≤◌, ◌^◌, ◌++◌, ◌+◌, ◌*◌, ◌-◌, ℕ, suc, Bool, true, false, cond, nat_lt, nat_le, List, [], ◌∷◌, length, take, drop, get_or, slice_index, All, Option, Some, None, Ok, arith, refl, ap, sym, subst, ◌∙◌, inl, inr}
 use Rattle.std.specs.Bool.{OnTrue}
 use Rattle.std.specs.List.{position, position_or_len}

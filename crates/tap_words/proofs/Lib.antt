@@ -1,6 +1,6 @@
-pub mod Known
-pub mod Numbers
-pub mod Rows
-pub mod Walks
-pub mod Ends
-pub mod Plain
+mod Known
+mod Numbers
+mod Rows
+mod Walks
+mod Ends
+mod Plain

@@ -1,6 +1,6 @@
-pub mod Worlds
-pub mod Marks
-pub mod Nodes
-pub mod Places
-pub mod Lasts
-pub mod Small
+mod Worlds
+mod Marks
+mod Nodes
+mod Places
+mod Lasts
+mod Small
