@@ -133,13 +133,13 @@ module _ (p : SettingsValue) (s : System) (sound : Sound p s) (stand : PointersS
   links_settled x node at =
       let of = sound.nodes.nodes x node at in
       let t = node.ties.table in
-      let kind_is = λ (number k : ℕ) (d : links.Entry (List ℕ)) (inside : k < length (slice_index_or t.slots number [])).
+      let kind_is = λ (number k : ℕ) (d : links.LinkEntry (List ℕ)) (inside : k < length (slice_index_or t.slots number [])).
       kind_of_target t of.is_node.ties.table number (slice_index_or (slice_index_or t.slots number []) k d) k
       (slice_get-get_or (slice_index_or t.slots number []) k d inside) in
       record {
         settled = λ number k d inside. settled x node at _ _ (kind_is number k d inside);
         core = λ number k d inside.
-            let e : links.Entry (List ℕ) = slice_index_or (slice_index_or t.slots number []) k d in
+            let e : links.LinkEntry (List ℕ) = slice_index_or (slice_index_or t.slots number []) k d in
             let same = settled x node at e.target e.kind (kind_is number k d inside) in
             let link : kind_in t e.target ≡ Some Settled = kind_is number k d inside ∙ ap Some same in
             read_core s e.target (sound.invariant.basis.soft.settled x e.target (record { state = node; is = at; link = link }));
