@@ -37,6 +37,7 @@ use Rattle.tap_safety.specs.Move.Move.{Begins, Delivers}
 use Rattle.tap_safety.specs.Moved.{moved}
 use Rattle.tap_safety.specs.System.{System, AmongFrames, IsCoreNode}
 use Rattle.tap_safety.specs.Ties.{link_in, status_in}
+use Rattle.tap_safety.proofs.Said.{said_of}
 use Rattle.tap_moves.specs.ByRule.{taken_at}
 use Rattle.tap_moves.specs.InvariantLaws.{IsDelivery}
 use Rattle.tap_moves.proofs.InvariantMoves.{hello_names_are, joiner_name, known_name, of_node, seeker_not_core, sender_name, way}
@@ -183,7 +184,7 @@ module _ (p : SettingsValue) (members : List (List ℕ)) (s : System) (r : Traff
   delivery_links number frame node among at =
       let is = is_delivery p s number frame node sound among at in
       let plain = are.nodes frame.to node at in
-      let of = of_frame frame.body (are.ways number frame among) in
+      let of = of_frame (said_of frame.body) (are.ways number frame among) in
       let made = delivery_made p s r number node frame.from frame.body is in
       let does = frame_acts node (frame_to node frame.from frame.body) is.known plain of in
       let acted = taken_at node frame.from frame.body in

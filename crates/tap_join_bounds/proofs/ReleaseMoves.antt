@@ -34,6 +34,7 @@ use Rattle.tap_safety.specs.Move.{MayJoin}
 use Rattle.tap_safety.specs.Move.Move.{Begins, Delivers}
 use Rattle.tap_safety.specs.Moved.{moved}
 use Rattle.tap_safety.specs.System.{System, AmongFrames}
+use Rattle.tap_safety.proofs.Said.{said_of}
 use Rattle.tap_moves.specs.ByRule.{taken_at}
 use Rattle.tap_moves.specs.InvariantLaws.{IsDelivery}
 use Rattle.tap_moves.proofs.Got.{same_name}
@@ -240,7 +241,7 @@ module _ (p : SettingsValue) (members : List (List ℕ)) (s : System) (r : Traff
       → s.node frame.to ≡ Some node → ReleasesAreFew (moved p s (Delivers number)) (traffic_after p s r (Delivers number))
   delivery_releases number frame node among at =
       let is = is_delivery p s number frame node sound among at in
-      let of = of_frame frame.body (are.ways number frame among) in
+      let of = of_frame (said_of frame.body) (are.ways number frame among) in
       let acts = frame_releases p s number node frame.from frame.body is (are.nodes frame.to node at) of in
       let here = is.at in
       releases_kept s (moved p s (Delivers number)) r (traffic_after p s r (Delivers number)) node (taken_at node frame.from frame.body)
