@@ -9,3 +9,5 @@ mod Emptied
 mod AsAtRest
 pub mod Walks
 pub mod NoServer
+mod LookupFramesSent
+pub mod LookupFrames

@@ -2,3 +2,4 @@ pub mod Lookups
 pub mod LookupAnswers
 pub mod Alone
 pub mod NoServer
+pub mod LookupFrames

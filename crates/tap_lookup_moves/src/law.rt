@@ -1,5 +1,6 @@
 ghost use Rattle.tap_lookup_moves.specs.Alone.{LookupBeginsAlone, LookupGoesOnAlone};
 ghost use Rattle.tap_lookup_moves.specs.LookupAnswers.{LookupsStayOf, NoLookupsAtRest, NotedAnswersAreOf};
+ghost use Rattle.tap_lookup_moves.specs.LookupFrames.{LookupsGoOn, NoLookupFramesAtRest};
 ghost use Rattle.tap_lookup_moves.specs.Lookups.{LookupsAtRest, LookupsKept, NeverComesBack};
 ghost use Rattle.tap_lookup_moves.specs.NoServer.{
   EndsOfWalksAreExact,
@@ -69,4 +70,16 @@ pub fn beside_law()
 pub fn no_server_law()
     ensures frames { NoneComesFromEnds }
     ensures starts { NoneIsNotedAtEnds }
+{}
+
+/// No possible move loses a lookup or doubles it, if the whole invariant of joins holds and lookups go to core nodes: as many frames of a lookup
+/// are under way before the move, with one for its start if it starts with the move, as after it, with one for its answer if the move notes it.
+/// With the members at rest none is.
+///
+/// It does nothing: its contract is the law.
+///
+/// Rule: docs/PROTOCOL.md, "Find" and "Answer".
+pub fn going_on_law()
+    ensures members { NoLookupFramesAtRest }
+    ensures moves { LookupsGoOn }
 {}

@@ -5,4 +5,4 @@
 
 mod law;
 
-pub use law::{alone_law, answers_law, beside_law, lookups_law, no_server_law};
+pub use law::{alone_law, answers_law, beside_law, going_on_law, lookups_law, no_server_law};

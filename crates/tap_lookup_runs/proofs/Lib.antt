@@ -9,3 +9,5 @@ mod Failing
 mod AtOnce
 pub mod NoServer
 pub mod Endings
+mod LookupsCounted
+pub mod AnsweredOnce

@@ -1,9 +1,9 @@
 -- A ticket is of one lookup.
-use Rattle.std.proofs.Common.{◌≡◌, ◌⊎◌, inl, inr, ℕ, zero, suc, ◌+◌, ◌≤◌, true, false, List, [], ◌∷◌, None, arith, refl, ap, sym, subst, ◌∙◌}
-use Rattle.std.specs.Prelude.{◌&&◌, ◌||◌, nat_eq}
+use Rattle.std.proofs.Common.{◌≡◌, ◌⊎◌, inl, inr, ℕ, zero, suc, ◌+◌, ◌≤◌, ◌<◌, true, false, List, [], ◌∷◌, None, arith, refl, ap, sym, subst, ◌∙◌}
+use Rattle.std.specs.Prelude.{◌==◌, ◌&&◌, ◌||◌, nat_eq}
 use Rattle.std.specs.Cmp.Lexicographic.{pointwise}
 use Rattle.std.specs.List.{cons_option, filter_map, range_with_len}
-use Rattle.std.proofs.lemmas.Bool.{and_parts, cases_Bool, eqb-true, true≢false}
+use Rattle.std.proofs.lemmas.Bool.{and_parts, cases_Bool, eqb-true, ne_eqb, true≢false}
 use Rattle.std.proofs.lemmas.Slice.Eq.{bytes_eq-Decides}
 use Rattle.tap_log.specs.Kinds.{asked_ticket}
 use Rattle.tap_log.specs.declared.record.Record.{Record}
@@ -11,7 +11,9 @@ use Rattle.tap_log.specs.declared.record.Record.TheVariants.{Asked}
 use Rattle.tap_runs.specs.Beginning.{Beginning}
 use Rattle.tap_runs.proofs.Frames.{frames_kept}
 use Rattle.tap_safe_runs.specs.Safe.{IsRun}
+use Rattle.tap_lookup_runs.specs.AnsweredOnce.{asks_under, times_asked}
 use Rattle.tap_lookup_runs.specs.LookupAnswers.{asks_for, was_asked}
+use Rattle.tap_lookup_runs.proofs.LookupsCounted.{one_if, times-cons, unasked}
 
 -- a record that asks for a lookup, or one that asks for none
 record IsAsk (item : Record) : Type 0 where
@@ -137,3 +139,65 @@ one_object (item ∷ items) from count ticket one two are first second =
 pub asked_once : (b : Beginning) (log : List Record) → IsRun b log → (ticket : ℕ) (one two : List ℕ) → was_asked log ticket one ≡ true
     → was_asked log ticket two ≡ true → one ≡ two
 asked_once b log run ticket one two = one_object log 1 _ ticket one two (frames_kept b log run.course run.going).log_is.asked
+
+-- ---- how often a ticket is asked for
+
+asks_is : (ticket number : ℕ) (object asker : List ℕ) → asks_under ticket (Asked number object asker) ≡ (number == ticket)
+unfolding asks_under
+asks_is ticket number object asker = refl
+
+-- the first record asks under the ticket as its number is this one
+asks_first : (ticket : ℕ) (item : Record) (ask : IsAsk item) → one_if (asks_under ticket item) ≡ one_if (ask.ticket == ticket)
+asks_first ticket item ask =
+    ap (λ i. one_if (asks_under ticket i)) ask.is ∙ ap one_if (asks_is ticket ask.ticket ask.object ask.asker)
+
+-- no lower ticket is among these, and none is twice
+none_below : (ticket : ℕ) (items : List Record) (from count : ℕ) → AreFrom items from count → ticket < from → times_asked ticket items ≡ 0
+none_below ticket [] from count are below = refl
+none_below ticket (item ∷ items) from count are below =
+    let all = times-cons (asks_under ticket) item items in
+    elim (ask_or_none item) [
+      | inr asks ↦
+          let first = ap one_if (unasked ticket item asks.none) in
+          let others = none_below ticket items from count (others_of_numbers item items from count asks are) below in
+          omega (arith, all, first, others)
+      | inl ask ↦
+          let head = first_of_numbers ask.ticket ask.object ask.asker items from count
+          (subst (λ i. AreFrom (i ∷ items) from count) ask.is are) in
+          let here = head.here in
+          let apart = ap one_if (ne_eqb ask.ticket ticket (λ is. absurd (omega (arith, is, here, below)))) in
+          let first = asks_first ticket item ask in
+          let others = none_below ticket items (from + 1) head.count head.later (omega (arith, below)) in
+          omega (arith, all, first, apart, others)
+    ]
+
+one_at_most : (ticket : ℕ) (items : List Record) (from count : ℕ) → AreFrom items from count → times_asked ticket items ≤ 1
+one_at_most ticket [] from count are = omega arith
+one_at_most ticket (item ∷ items) from count are =
+    let all = times-cons (asks_under ticket) item items in
+    elim (ask_or_none item) [
+      | inr asks ↦
+          let first = ap one_if (unasked ticket item asks.none) in
+          let others = one_at_most ticket items from count (others_of_numbers item items from count asks are) in
+          omega (arith, all, first, others)
+      | inl ask ↦
+          let head = first_of_numbers ask.ticket ask.object ask.asker items from count
+          (subst (λ i. AreFrom (i ∷ items) from count) ask.is are) in
+          let here = head.here in
+          let first = asks_first ticket item ask in
+          elim (cases_Bool (ask.ticket == ticket)) [
+            | inl is ↦
+                let same = eqb-true ask.ticket ticket is in
+                let one = ap one_if is in
+                let others = none_below ticket items (from + 1) head.count head.later (omega (arith, same, here)) in
+                omega (arith, all, first, one, others)
+            | inr apart ↦
+                let none = ap one_if apart in
+                let others = one_at_most ticket items (from + 1) head.count head.later in
+                omega (arith, all, first, none, others)
+          ]
+    ]
+
+-- So a run has asked for one lookup at most under a ticket.
+pub asked_at_most_once : (b : Beginning) (log : List Record) → IsRun b log → (ticket : ℕ) → times_asked ticket log ≤ 1
+asked_at_most_once b log run ticket = one_at_most ticket log 1 _ (frames_kept b log run.course run.going).log_is.asked

@@ -1,3 +1,4 @@
 pub mod LookupAnswers
 pub mod Alone
 pub mod NoServer
+pub mod AnsweredOnce

@@ -1,6 +1,7 @@
 ghost use Rattle.tap_safe_runs.specs.SafeLogs.{OfLawfulLogs};
 ghost use Rattle.tap_safe_runs.specs.Moments.{AtEachMoment};
 ghost use Rattle.tap_lookup_runs.specs.Alone.{LookupsAloneAreExact};
+ghost use Rattle.tap_lookup_runs.specs.AnsweredOnce.{LookupsAreAnswered};
 ghost use Rattle.tap_lookup_runs.specs.LookupAnswers.{AnswersWerePublished, LookupsGoToCoreIn};
 ghost use Rattle.tap_lookup_runs.specs.NoServer.{AnsweredNoneWereDisturbed, LookupsEndWithoutServer};
 
@@ -11,6 +12,18 @@ ghost use Rattle.tap_lookup_runs.specs.NoServer.{AnsweredNoneWereDisturbed, Look
 /// Rule: docs/FORMATS.md, "The course of a run", and docs/PROTOCOL.md, "Find" and "Answer".
 pub fn run_lookups_law()
     ensures { AtEachMoment LookupsGoToCoreIn }
+{}
+
+/// Each lookup is answered once: the log of a run asks for one lookup at most under a ticket, and answers it no more often than it asks for it; and
+/// at rest it has answered each lookup that it has asked for. So it is in the log of each run of a scenario that isn't over, up to each of
+/// its moments.
+///
+/// It does nothing: its contract is the law.
+///
+/// Rule: docs/FORMATS.md, "What comes next" and "The course of a run", and docs/PROTOCOL.md, "Find" and "Answer".
+pub fn answered_once_law()
+    ensures runs { AtEachMoment LookupsAreAnswered }
+    ensures lawful { OfLawfulLogs LookupsAreAnswered }
 {}
 
 /// However lookups overlap, each answer in the log of a run is one of a lookup that the log has asked before; and if it names a server, the log
