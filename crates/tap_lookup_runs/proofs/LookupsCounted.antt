@@ -7,6 +7,7 @@ use Rattle.std.proofs.lemmas.List.Sums.{sum_by-append, sum_by-cons}
 use Rattle.tap_name.specs.Settings.{SettingsValue}
 use Rattle.tap_scenario.specs.declared.step.Step.{Step}
 use Rattle.tap_scenario.specs.declared.step.Step.TheVariants.{Abandon, Cast, Depart, Find, Join, Publish, Withdraw}
+use Rattle.tap_wire.specs.Spelling.{spelling}
 use Rattle.tap_wire.specs.declared.frame.Frame.{Frame}
 use Rattle.tap_log.specs.Counts.{sent_count}
 use Rattle.tap_log.specs.Kinds.{asked_ticket}
@@ -94,8 +95,8 @@ module _ (t : Record → Bool) where
     sent_times : (p : SettingsValue) (number : ℕ) (frames : List Frame) → count_by t (sent_records p number frames) ≡ 0
     sent_times p number [] = refl
     sent_times p number (frame ∷ frames) =
-        let all = times-cons _ (sent_records p (number + 1) frames) in
-        let first = ap one_if (passes.sent number _) in
+        let all = times-cons (Sent number (spelling p frame)) (sent_records p (number + 1) frames) in
+        let first = ap one_if (passes.sent number (spelling p frame)) in
         let others = sent_times p (number + 1) frames in
         omega (arith, all, first, others)
 
