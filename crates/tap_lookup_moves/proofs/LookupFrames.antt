@@ -1,6 +1,6 @@
 -- How many frames of a lookup are under way, after each move.
--- Cited above: lookups_go_on, no_lookup_frames_at_rest
-use Rattle.std.proofs.Common.{◌≡◌, ◌⊎◌, ℕ, ◌+◌, Bool, true, false, cond, List, [], ◌∷◌, ◌++◌, Option, None, Some, arith, refl, ap, sym, subst, ◌∙◌, inl, inr}
+-- Cited above: lookups_go_on
+use Rattle.std.proofs.Common.{◌≡◌, ◌⊎◌, ℕ, ◌+◌, List, [], ◌∷◌, ◌++◌, Some, arith, refl, ap, sym, subst, ◌∙◌, inl, inr}
 use Rattle.std.specs.Option.{option_map}
 use Rattle.std.specs.Prelude.{count_by}
 use Rattle.std.proofs.lemmas.List.Sums.{sum_by-append, sum_by-cons}

@@ -1,8 +1,7 @@
 -- How many frames of a lookup a node sends as it takes a frame, or starts something.
--- Cited above: IsCarriedOn
-use Rattle.std.proofs.Common.{◌≡◌, ◌⊎◌, ℕ, ◌+◌, Bool, true, false, cond, List, [], ◌∷◌, ◌++◌, map, drop, Option, None, Some, arith, refl, ap, sym, subst, ◌∙◌, inl, inr}
+use Rattle.std.proofs.Common.{◌≡◌, ◌⊎◌, ℕ, ◌+◌, Bool, false, cond, List, [], ◌∷◌, map, drop, Option, None, Some, arith, refl, ap, subst, inl, inr}
 use Rattle.std.specs.Prelude.{◌==◌, count_by}
-use Rattle.std.proofs.lemmas.List.Sums.{sum_by-append, sum_by-cons}
+use Rattle.std.proofs.lemmas.List.Sums.{sum_by-cons}
 use Rattle.tap_table.specs.Next.{next_from}
 use Rattle.tap_table.specs.declared.next.Next.{Next}
 use Rattle.tap_table.specs.declared.next.Next.TheVariants.{Hop, Root}
@@ -32,7 +31,7 @@ use Rattle.tap_lookup_moves.specs.NoServer.{IsLookup}
 use Rattle.tap_lookup_moves.proofs.LookupActs.{frame_acts, start_acts}
 use Rattle.tap_lookup_moves.proofs.LookupRules.{AskNotes, AskSays, FoundNotes, FoundSays, IsAside}
 
--- as many as there is to count
+-- one if it is so, and none if it isn't
 abbrev pub one_if : Bool → ℕ
 one_if there = cond {A = ℕ} there 1 0
 
@@ -41,9 +40,9 @@ module _ (ticket : ℕ) where
   abbrev pub frames_of_it : List Frame → ℕ
   frames_of_it sent = count_by (λ (f : Frame). is_of_ticket ticket f.body) sent
 
-  -- A node has sent as many frames of the lookup, with one for its answer if this is noted, as there was of the lookup before: one or none.
+  -- A node has sent as many frames of the lookup, with one for its answer if it notes this, as it has got of it: one or none.
   abbrev pub IsCarriedOn : Bool → Acted → Type 0
-  IsCarriedOn before acted = frames_of_it acted.sent + one_if (is_its_answer ticket acted.news) ≡ one_if before
+  IsCarriedOn got acted = frames_of_it acted.sent + one_if (is_its_answer ticket acted.news) ≡ one_if got
 
   first_and_others : (f : Frame) (fs : List Frame) → frames_of_it (f ∷ fs) ≡ one_if (is_of_ticket ticket f.body) + frames_of_it fs
   first_and_others f fs = sum_by-cons (λ (g : Frame). one_if (is_of_ticket ticket g.body)) f fs
@@ -110,20 +109,19 @@ module _ (ticket : ℕ) where
       omega (arith, all, others)
 
   module _ (node : NodeState) (acted : Acted) where
-    own : List ℕ
-    own = name_of node
+    abbrev laid : List Frame
+    laid = map (lay_frame (name_of node)) (lays_after node node.pointers [] acted)
 
-    lays : List Lay
-    lays = lays_after node node.pointers [] acted
+    none_laid : frames_of_it laid ≡ 0
+    none_laid = no_lay_of_it (name_of node) (lays_after node node.pointers [] acted)
 
     one_sent_on : (m : Message) (number : ℕ) → is_of_ticket ticket m.body ≡ (number == ticket)
         → IsCompleted node node.pointers [] (m ∷ []) Nothing acted → IsCarriedOn (number == ticket) acted
     unfolding by_receiver
     one_sent_on m number is completed =
-        let all : frames_of_it acted.sent ≡ frames_of_it (message_frame (name_of node) m ∷ map (lay_frame (name_of node)) (lays_after node node.pointers [] acted)) =
-        ap frames_of_it completed.sent.all in
-        let both = first_and_others (message_frame (name_of node) m) (map (lay_frame (name_of node)) (lays_after node node.pointers [] acted)) in
-        let none = no_lay_of_it (name_of node) (lays_after node node.pointers [] acted) in
+        let all : frames_of_it acted.sent ≡ frames_of_it (message_frame (name_of node) m ∷ laid) = ap frames_of_it completed.sent.all in
+        let both = first_and_others (message_frame (name_of node) m) laid in
+        let none = none_laid in
         let quiet = ap (λ n. one_if (is_its_answer ticket n)) completed.news in
         let same = ap one_if is in
         omega (arith, all, both, none, quiet, same)
@@ -132,9 +130,8 @@ module _ (ticket : ℕ) where
         → IsCarriedOn (number == ticket) acted
     unfolding by_receiver
     answer_noted number server completed =
-        let all : frames_of_it acted.sent ≡ frames_of_it (map (lay_frame (name_of node)) (lays_after node node.pointers [] acted)) =
-        ap frames_of_it completed.sent.all in
-        let none = no_lay_of_it (name_of node) (lays_after node node.pointers [] acted) in
+        let all : frames_of_it acted.sent ≡ frames_of_it laid = ap frames_of_it completed.sent.all in
+        let none = none_laid in
         let said = ap (λ n. one_if (is_its_answer ticket n)) completed.news in
         omega (arith, all, none, said)
 
