@@ -25,10 +25,10 @@ use Rattle.tap_safety_moves.specs.Sound.{Sound}
 use Rattle.tap_safety_moves.proofs.Delivered.{is_delivery, is_to_receiver}
 use Rattle.tap_pointer_moves.proofs.Publications.{starter_of}
 use Rattle.tap_lookup_moves.specs.LookupAnswers.{news_of, news_of_frame}
-use Rattle.tap_lookup_moves.specs.LookupFrames.{LookupsGoOn, NoLookupFramesAtRest, is_its_answer, is_its_start, is_noted_in, is_of_ticket, lookup_frames}
+use Rattle.tap_lookup_moves.specs.LookupFrames.{LookupsGoOn, NoLookupFramesAtRest, is_its_answer, is_its_start, is_noted_in, is_of_ticket, lookup_frames, one_if}
 use Rattle.tap_lookup_moves.specs.Lookups.{LookupsGoToCore}
 use Rattle.tap_lookup_moves.specs.NoServer.{IsLookup}
-use Rattle.tap_lookup_moves.proofs.LookupFramesSent.{IsCarriedOn, frame_goes_on, frames_of_it, one_if, start_goes_on}
+use Rattle.tap_lookup_moves.proofs.LookupFramesSent.{IsCarriedOn, frame_goes_on, frames_of_it, start_goes_on}
 
 -- ---- frames with their numbers
 

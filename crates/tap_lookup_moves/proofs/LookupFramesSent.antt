@@ -1,5 +1,5 @@
 -- How many frames of a lookup a node sends as it takes a frame, or starts something.
-use Rattle.std.proofs.Common.{◌≡◌, ◌⊎◌, ℕ, ◌+◌, Bool, false, cond, List, [], ◌∷◌, map, drop, Option, None, Some, arith, refl, ap, subst, inl, inr}
+use Rattle.std.proofs.Common.{◌≡◌, ◌⊎◌, ℕ, ◌+◌, Bool, false, List, [], ◌∷◌, map, drop, Option, None, Some, arith, refl, ap, subst, inl, inr}
 use Rattle.std.specs.Prelude.{◌==◌, count_by}
 use Rattle.std.proofs.lemmas.List.Sums.{sum_by-cons}
 use Rattle.tap_table.specs.Next.{next_from}
@@ -26,14 +26,10 @@ use Rattle.tap_rule.specs.Sent.{IsAmong}
 use Rattle.tap_rule.specs.Strange.{is_strange}
 use Rattle.tap_rule.proofs.PointerSteps.{find_law, found_law, lookup_law}
 use Rattle.tap_moves.specs.ByRule.{taken_at}
-use Rattle.tap_lookup_moves.specs.LookupFrames.{is_its_answer, is_its_start, is_of_ticket}
+use Rattle.tap_lookup_moves.specs.LookupFrames.{is_its_answer, is_its_start, is_of_ticket, one_if}
 use Rattle.tap_lookup_moves.specs.NoServer.{IsLookup}
 use Rattle.tap_lookup_moves.proofs.LookupActs.{frame_acts, start_acts}
 use Rattle.tap_lookup_moves.proofs.LookupRules.{AskNotes, AskSays, FoundNotes, FoundSays, IsAside}
-
--- one if it is so, and none if it isn't
-abbrev pub one_if : Bool → ℕ
-one_if there = cond {A = ℕ} there 1 0
 
 module _ (ticket : ℕ) where
   -- how many of these frames are of the lookup

@@ -44,6 +44,10 @@ abbrev pub is_noted_in : ℕ → Option News → Bool
 is_noted_in ticket None = false
 is_noted_in ticket (Some news) = is_its_answer ticket news
 
+-- one if it is so, and none if it isn't
+abbrev pub one_if : Bool → ℕ
+one_if there = if there then 1 else 0
+
 -- with the members at rest no frame of it is under way
 abbrev pub NoLookupFramesAtRest : Type 0
 NoLookupFramesAtRest = (p : SettingsValue) (members : List (List ℕ)) (ticket : ℕ) → AreMembers p members
@@ -53,5 +57,5 @@ NoLookupFramesAtRest = (p : SettingsValue) (members : List (List ℕ)) (ticket :
 -- with the move, as after it, with one for its answer if the move notes it.
 abbrev pub LookupsGoOn : Type 0
 LookupsGoOn = (p : SettingsValue) (s : System) (move : Move) (ticket : ℕ) → may_move p s move → Sound p s → LookupsGoToCore s
-    → lookup_frames ticket s + (if is_started_by ticket move then 1 else 0)
-    ≡ lookup_frames ticket (moved p s move) + (if is_noted_in ticket (news_of p s move) then 1 else 0)
+    → lookup_frames ticket s + one_if (is_started_by ticket move)
+    ≡ lookup_frames ticket (moved p s move) + one_if (is_noted_in ticket (news_of p s move))

@@ -1,16 +1,13 @@
 -- Each lookup of a run was answered, or has one frame under way.
--- Cited above: answered_at_moments, answered_kept, IsUnasked
-use Rattle.std.proofs.Common.{◌≡◌, inl, inr, ℕ, zero, suc, ◌+◌, ◌≤◌, ◌<◌, Bool, true, false, cond, List, [], ◌∷◌, ◌++◌, All, Option, None, Some, arith, refl, ap, sym, subst, ◌∙◌}
-use Rattle.std.specs.Prelude.{◌==◌, count_by, nat_eq}
-use Rattle.std.proofs.lemmas.Bool.{cases_Bool, eqb-true, ne_eqb}
-use Rattle.std.proofs.lemmas.List.Elements.{All-weaker}
+-- Cited above: answered_at_moments
+use Rattle.std.proofs.Common.{◌≡◌, inl, inr, ℕ, ◌+◌, Bool, false, List, [], ◌∷◌, ◌++◌, All, Option, Some, arith, refl, ap, sym, subst, ◌∙◌}
+use Rattle.std.specs.Prelude.{count_by}
 use Rattle.tap_name.specs.Settings.{SettingsValue}
 use Rattle.tap_scenario.specs.declared.step.Step.{Step}
 use Rattle.tap_wire.specs.declared.frame.Frame.{Frame}
 use Rattle.tap_log.specs.declared.record.Record.{Record}
-use Rattle.tap_log.specs.declared.record.Record.TheVariants.{Asked, Begin, Step as StepRecord, Taken}
+use Rattle.tap_log.specs.declared.record.Record.TheVariants.{Step as StepRecord, Taken}
 use Rattle.tap_history.specs.Groups.{is_ended}
-use Rattle.tap_history.specs.Moments.{is_rest}
 use Rattle.tap_rule.specs.Event.Event.{Starts}
 use Rattle.tap_safety.specs.AtRest.{system_at_rest}
 use Rattle.tap_safety.specs.Move.{Move, may_move}
@@ -22,8 +19,8 @@ use Rattle.tap_runs.specs.Course.{Follows, IsCourse, MayFollow, is_choice, move_
 use Rattle.tap_runs.specs.Group.{received_records, records_of_act}
 use Rattle.tap_runs.specs.Named.{HaveNames}
 use Rattle.tap_runs.specs.Starts.{announced}
-use Rattle.tap_runs.proofs.CourseGrows.{by_groups, course_grows_holds, grown_system, start_system}
-use Rattle.tap_runs.proofs.Frames.{frames_kept, starting_moves, step_moves, taken_moves}
+use Rattle.tap_runs.proofs.CourseGrows.{by_groups, grown_system, start_system}
+use Rattle.tap_runs.proofs.Frames.{starting_moves, step_moves, taken_moves}
 use Rattle.tap_runs.proofs.Within.{IsIdle, IsStarting, step_kind}
 use Rattle.tap_safety_moves.specs.Sound.{Sound}
 use Rattle.tap_lawful.specs.Next.{beginning_in}
@@ -34,12 +31,12 @@ use Rattle.tap_safe_runs.proofs.Lawful.{lawful_logs_are_safe}
 use Rattle.tap_safe_runs.proofs.Possible.{group_may_move}
 use Rattle.tap_safe_runs.proofs.Safe.{run_at_moment, runs_are_sound, steps_after, steps_before}
 use Rattle.tap_pointer_runs.proofs.Runs.{idle_starts_none, run_rests}
-use Rattle.tap_lookup_moves.specs.LookupFrames.{is_its_start, is_noted_in, is_of_ticket, lookup_frames}
+use Rattle.tap_lookup_moves.specs.LookupFrames.{is_its_start, is_noted_in, is_of_ticket, lookup_frames, one_if}
 use Rattle.tap_lookup_moves.specs.LookupAnswers.{news_of}
 use Rattle.tap_lookup_moves.specs.Lookups.{LookupsGoToCore}
-use Rattle.tap_lookup_moves.proofs.LookupFrames.{lookups_go_on, no_lookup_frames_at_rest}
+use Rattle.tap_lookup_moves.proofs.LookupFrames.{lookups_go_on}
 use Rattle.tap_lookup_runs.specs.AnsweredOnce.{LookupsAreAnswered, answers_under, asks_under, times_answered, times_asked}
-use Rattle.tap_lookup_runs.proofs.LookupsCounted.{IsUnasked, act_answers, act_asks, all_unanswered_times, all_unasked_times, announced_asks, no_times, one_if, quiet_asks, receive_answers, receive_asks, step_answers, step_asks, taken_answers, taken_asks, times-append, times-cons}
+use Rattle.tap_lookup_runs.proofs.LookupsCounted.{act_answers, act_asks, all_unanswered_times, announced_asks, quiet_asks, receive_answers, receive_asks, step_answers, step_asks, taken_answers, taken_asks, times-append, times-cons}
 use Rattle.tap_lookup_runs.proofs.Runs.{run_looked}
 use Rattle.tap_lookup_runs.proofs.Tickets.{asked_at_most_once}
 use Rattle.tap_lookup_runs.proofs.Unanswered.{IsUnanswered, announced_unanswered, follow_unanswered}
@@ -195,29 +192,3 @@ answered_at_moments b log m run is = run_answered b _ (run_at_moment b log m run
 
 pub lawful_answered : OfLawfulLogs LookupsAreAnswered
 lawful_answered s log valid played m = answered_at_moments (beginning_in s) log m (lawful_logs_are_safe.runs s log valid played)
-
--- ---- an ending
-
--- With records that neither ask for a lookup nor answer one it stays so, if a rest was one before them.
-pub answered_kept : (p : SettingsValue) (log ending : List Record) → All IsUnasked ending → All IsUnanswered ending
-    → (is_rest (log ++ ending) ≡ true → is_rest log ≡ true) → LookupsAreAnswered p log → LookupsAreAnswered p (log ++ ending)
-answered_kept p log ending unasked unanswered before are =
-    let asks : (ticket : ℕ) → times_asked ticket (log ++ ending) ≡ times_asked ticket log = λ ticket.
-    let all = times-append (asks_under ticket) log ending in
-    let none = all_unasked_times ticket ending unasked in
-    omega (arith, all, none) in
-    let answers : (ticket : ℕ) → times_answered ticket (log ++ ending) ≡ times_answered ticket log = λ ticket.
-    let all = times-append (answers_under ticket) log ending in
-    let none = all_unanswered_times ticket ending unanswered in
-    omega (arith, all, none) in
-    record {
-      asked = λ ticket. let same = asks ticket in let few = are.asked ticket in omega (arith, same, few);
-      answered = λ ticket.
-          let same = asks ticket in
-          let then = answers ticket in
-          let few = are.answered ticket in omega (arith, same, then, few);
-      rest = λ rest ticket.
-          let same = asks ticket in
-          let then = answers ticket in
-          let all = are.rest (before rest) ticket in omega (arith, same, then, all);
-    }

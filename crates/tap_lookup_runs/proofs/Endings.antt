@@ -1,5 +1,5 @@
--- What is said of answers without a server stays so once it stands after the log how its run has ended.
--- Cited above: disturbed_kept, ends_kept
+-- What is said of lookups and their answers stays so once it stands after the log how its run has ended.
+-- Cited above: answered_kept, disturbed_kept, ends_kept
 use Rattle.std.proofs.Common.{◌≡◌, ◌⊎◌, inl, inr, ℕ, ◌<◌, ◌≤◌, true, false, List, ◌∷◌, ◌++◌, length, take, All, None, Some, arith, ap, sym, subst, ◌∙◌, length-append}
 use Rattle.std.specs.Prelude.{nat_le, slice_get}
 use Rattle.std.proofs.Math.Seq.{take-append_seam, take-length}
@@ -11,18 +11,48 @@ use Rattle.tap_pointer.specs.Pointers.{pair_of}
 use Rattle.tap_log.specs.Kinds.{is_carried}
 use Rattle.tap_log.specs.declared.record.Record.{Record}
 use Rattle.tap_log.specs.declared.record.Record.TheVariants.{Answered, Taken}
-use Rattle.tap_history.specs.Moments.{ends_before, is_moment}
+use Rattle.tap_history.specs.Moments.{ends_before, is_moment, is_rest}
 use Rattle.tap_history.specs.Published.{has_pair, published_of}
 use Rattle.tap_history.proofs.Instants.{moment-within}
 use Rattle.tap_history.proofs.OneMoreGroup.{moment_by}
 use Rattle.tap_runs.specs.Course.{system_of}
 use Rattle.tap_runs.specs.Observed.{pair_line}
+use Rattle.tap_lookup_runs.specs.AnsweredOnce.{LookupsAreAnswered, answers_under, asks_under, times_answered, times_asked}
 use Rattle.tap_lookup_runs.specs.LookupAnswers.{was_asked}
 use Rattle.tap_lookup_runs.specs.NoServer.{AnsweredNoneWereDisturbed, IsBusy, IsDisturbed, LookupsEndWithoutServer, WasDisturbed}
+use Rattle.tap_lookup_runs.proofs.LookupsCounted.{all_unanswered_times, all_unasked_times, times-append}
 use Rattle.tap_lookup_runs.proofs.LookupsGrow.{asked_grows}
 use Rattle.tap_lookup_runs.proofs.Moments.{ends_longer}
 use Rattle.tap_safe_runs.proofs.Splits.{all_at, parted_where}
-use Rattle.tap_lookup_runs.proofs.Unanswered.{IsUnanswered}
+use Rattle.tap_lookup_runs.proofs.Unanswered.{IsUnanswered, IsUnasked}
+
+-- ---- each is answered once
+
+-- With records that neither ask for a lookup nor answer one it stays so, if a rest was one before them.
+pub answered_kept : (p : SettingsValue) (log ending : List Record) → All IsUnasked ending → All IsUnanswered ending
+    → (is_rest (log ++ ending) ≡ true → is_rest log ≡ true) → LookupsAreAnswered p log → LookupsAreAnswered p (log ++ ending)
+answered_kept p log ending unasked unanswered before are =
+    let asks : (ticket : ℕ) → times_asked ticket (log ++ ending) ≡ times_asked ticket log = λ ticket.
+    let all = times-append (asks_under ticket) log ending in
+    let none = all_unasked_times ticket ending unasked in
+    omega (arith, all, none) in
+    let answers : (ticket : ℕ) → times_answered ticket (log ++ ending) ≡ times_answered ticket log = λ ticket.
+    let all = times-append (answers_under ticket) log ending in
+    let none = all_unanswered_times ticket ending unanswered in
+    omega (arith, all, none) in
+    record {
+      asked = λ ticket. let same = asks ticket in let few = are.asked ticket in omega (arith, same, few);
+      answered = λ ticket.
+          let same = asks ticket in
+          let then = answers ticket in
+          let few = are.answered ticket in omega (arith, same, then, few);
+      rest = λ rest ticket.
+          let same = asks ticket in
+          let then = answers ticket in
+          let all = are.rest (before rest) ticket in omega (arith, same, then, all);
+    }
+
+-- ---- without a server
 
 module _ (p : SettingsValue) (log ending : List Record) (uncarried : is_carried log ≡ false) (still : is_carried (log ++ ending) ≡ false)
     (none : All IsUnanswered ending) where

@@ -1,7 +1,7 @@
 -- How often the records of a group ask for a lookup, and answer it.
-use Rattle.std.proofs.Common.{◌≡◌, inl, inr, ℕ, ◌+◌, Bool, true, false, cond, List, [], ◌∷◌, ◌++◌, length, All, Option, None, Some, arith, refl, ap, sym, subst, ◌∙◌}
+use Rattle.std.proofs.Common.{◌≡◌, ℕ, ◌+◌, Bool, true, false, List, [], ◌∷◌, ◌++◌, length, All, Option, None, Some, arith, refl, ap, ◌∙◌}
 use Rattle.std.specs.Option.{option_map}
-use Rattle.std.specs.Prelude.{◌==◌, count_by}
+use Rattle.std.specs.Prelude.{count_by}
 use Rattle.std.proofs.lemmas.List.Elements.{All-head, All-tail, All-weaker}
 use Rattle.std.proofs.lemmas.List.Sums.{sum_by-append, sum_by-cons}
 use Rattle.tap_name.specs.Settings.{SettingsValue}
@@ -27,18 +27,9 @@ use Rattle.tap_runs.specs.Starts.{announced, next_cast, next_ticket, start_of_st
 use Rattle.tap_runs.proofs.Nodes.{start_in}
 use Rattle.tap_runs.proofs.Within.{IsQuiet}
 use Rattle.tap_lookup_moves.specs.LookupAnswers.{news_of_frame}
-use Rattle.tap_lookup_moves.specs.LookupFrames.{is_its_answer, is_its_start, is_noted_in}
+use Rattle.tap_lookup_moves.specs.LookupFrames.{is_its_answer, is_its_start, is_noted_in, one_if}
 use Rattle.tap_lookup_runs.specs.AnsweredOnce.{answers_under, asks_under, times_answered, times_asked}
-use Rattle.tap_lookup_runs.proofs.Unanswered.{IsUnanswered}
-
--- as many as there is to count
-abbrev pub one_if : Bool → ℕ
-one_if there = cond {A = ℕ} there 1 0
-
--- a record asks for no lookup
-abbrev pub IsUnasked : Record → Type 0
-IsUnasked (Asked ticket object asker) = ⊥
-IsUnasked other = Unit {0}
+use Rattle.tap_lookup_runs.proofs.Unanswered.{IsUnanswered, IsUnasked}
 
 module _ (t : Record → Bool) where
   abbrev times : List Record → ℕ

@@ -11,9 +11,10 @@ use Rattle.tap_log.specs.declared.record.Record.TheVariants.{Asked}
 use Rattle.tap_runs.specs.Beginning.{Beginning}
 use Rattle.tap_runs.proofs.Frames.{frames_kept}
 use Rattle.tap_safe_runs.specs.Safe.{IsRun}
+use Rattle.tap_lookup_moves.specs.LookupFrames.{one_if}
 use Rattle.tap_lookup_runs.specs.AnsweredOnce.{asks_under, times_asked}
 use Rattle.tap_lookup_runs.specs.LookupAnswers.{asks_for, was_asked}
-use Rattle.tap_lookup_runs.proofs.LookupsCounted.{one_if, times-cons, unasked}
+use Rattle.tap_lookup_runs.proofs.LookupsCounted.{times-cons, unasked}
 
 -- a record that asks for a lookup, or one that asks for none
 record IsAsk (item : Record) : Type 0 where

@@ -1,5 +1,5 @@
 -- Which records of a group answer no lookup.
--- Cited above: IsUnanswered
+-- Cited above: IsUnanswered, IsUnasked
 use Rattle.std.proofs.Common.{◌≡◌, ◌⊎◌, inl, inr, ℕ, Bool, true, false, List, [], ◌∷◌, map, All, Option, None, Some, refl, sym, subst, ◌∙◌}
 use Rattle.std.specs.Option.{option_map}
 use Rattle.std.specs.Prelude.{option_and_then}
@@ -16,7 +16,7 @@ use Rattle.tap_log.specs.MoreRecords.{at_most_one}
 use Rattle.tap_log.specs.declared.record.LinkLine.{LinkLine}
 use Rattle.tap_log.specs.declared.record.NodeWord.{NodeWord}
 use Rattle.tap_log.specs.declared.record.Record.{Record}
-use Rattle.tap_log.specs.declared.record.Record.TheVariants.{Answered, Refused, RootOf, Step as StepRecord, TableOf, Walked}
+use Rattle.tap_log.specs.declared.record.Record.TheVariants.{Answered, Asked, Refused, RootOf, Step as StepRecord, TableOf, Walked}
 use Rattle.tap_log.specs.declared.record.Refusal.{Refusal}
 use Rattle.tap_history.specs.Core.{core_of}
 use Rattle.tap_history.specs.Refusals.{first_refusal}
@@ -36,6 +36,11 @@ use Rattle.tap_pointer_runs.proofs.Unpaired.{StartsSome}
 abbrev pub IsUnanswered : Record → Type 0
 IsUnanswered (Answered ticket server) = ⊥
 IsUnanswered other = Unit {0}
+
+-- a record asks for no lookup
+abbrev pub IsUnasked : Record → Type 0
+IsUnasked (Asked ticket object asker) = ⊥
+IsUnasked other = Unit {0}
 
 none_unanswered : All IsUnanswered []
 none_unanswered = All-nil IsUnanswered
