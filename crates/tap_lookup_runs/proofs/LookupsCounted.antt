@@ -32,9 +32,6 @@ use Rattle.tap_lookup_runs.specs.AnsweredOnce.{answers_under, asks_under, times_
 use Rattle.tap_lookup_runs.proofs.Unanswered.{IsUnanswered, IsUnasked}
 
 module _ (t : Record → Bool) where
-  abbrev times : List Record → ℕ
-  times items = count_by t items
-
   pub times-append : (xs ys : List Record) → count_by t (xs ++ ys) ≡ count_by t xs + count_by t ys
   times-append xs ys = sum_by-append (λ item. one_if (t item)) xs ys
 
