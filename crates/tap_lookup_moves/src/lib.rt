@@ -1,4 +1,4 @@
-//! Lookups that are under way: where their frames go, and what they say.
+//! Lookups that are under way: where their frames go, that none is lost or doubled, and what they say.
 //!
 //! No code is here. Each function states what holds after a move.
 #![tactic(auto)]
