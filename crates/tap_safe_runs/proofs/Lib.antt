@@ -7,6 +7,8 @@ mod Groups
 pub mod Possible
 pub mod Safe
 pub mod Moments
+mod Departed
+mod Leavers
 mod Printed
 pub mod Received
 pub mod Each

@@ -13,7 +13,7 @@ use Rattle.tap_log.specs.declared.record.Record.{Record}
 use Rattle.tap_log.specs.Kinds.{is_carried}
 use Rattle.tap_history.specs.Core.{abandoned_of, core_of, gone_of}
 use Rattle.tap_history.specs.Groups.{is_ended}
-use Rattle.tap_history.specs.Moments.{awaiting, is_none, is_still, under_way}
+use Rattle.tap_history.specs.Moments.{awaiting, is_none, is_rest, is_still, under_way}
 use Rattle.tap_rule.specs.Event.{Start}
 use Rattle.tap_rule.specs.Node.{NodeState, Status, join_session_at}
 use Rattle.tap_rule.specs.Node.Status.{Ceased, Core, Gone, Joining, Leaving}
@@ -109,7 +109,7 @@ module _ (b : Beginning) (log : List Record) (run : IsRun b log) where
   sound = runs_are_sound b log run
 
   -- log and system agree on nodes
-  nodes : NodesAgree log s
+  pub nodes : NodesAgree log s
   nodes = course_nodes_holds b log run.course run.going
 
   -- the core names of the log are those of the core nodes
@@ -136,7 +136,7 @@ module _ (b : Beginning) (log : List Record) (run : IsRun b log) where
   -- while no frame is under way
   module _ (none : s.frames ≡ []) where
     -- nothing of joins and departures is left
-    left : Rest s
+    pub left : Rest s
     left = nothing_is_left p s sound none
 
     -- who is present is core, as nobody joins
@@ -186,11 +186,14 @@ module _ (b : Beginning) (log : List Record) (run : IsRun b log) where
     }
 
   -- at rest no frame is under way
-  pub rest_is_all_core : RestIsAllCore p log
-  rest_is_all_core rest =
+  pub rests_without_frames : is_rest log ≡ true → s.frames ≡ []
+  rests_without_frames rest =
       let still = (and_parts (is_still log) (not (is_carried log) || (is_none (under_way log) && is_none (awaiting log))) rest).0 in
       let frames = course_frames_holds b log run.course run.going in
-      all_core (no_frames s.frames (ap is_none frames.numbers ∙ still))
+      no_frames s.frames (ap is_none frames.numbers ∙ still)
+
+  pub rest_is_all_core : RestIsAllCore p log
+  rest_is_all_core rest = all_core (rests_without_frames rest)
 
 -- ---- each moment
 

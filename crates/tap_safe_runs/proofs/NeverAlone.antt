@@ -172,7 +172,7 @@ last_within index step item [] within is =
 last_within index step item (next ∷ items) within is =
     last_within index step next items (All-tail Within item (next ∷ items) within) is
 
-last_of-append : (log : List Record) (first : Record) (after : List Record) → last_of (log ++ first ∷ after) ≡ last_of (first ∷ after)
+pub last_of-append : (log : List Record) (first : Record) (after : List Record) → last_of (log ++ first ∷ after) ≡ last_of (first ∷ after)
 last_of-append [] first after = refl
 last_of-append (item ∷ []) first after = refl
 last_of-append (item ∷ next ∷ items) first after = last_of-append (next ∷ items) first after

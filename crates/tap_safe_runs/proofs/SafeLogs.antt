@@ -33,9 +33,11 @@ use Rattle.tap_runs.specs.Beginning.{Beginning}
 use Rattle.tap_runs.specs.Course.{system_of}
 use Rattle.tap_runs.specs.Observed.{nodes_of}
 use Rattle.tap_safe_runs.specs.SafeLogs.{AtMomentsOf, EndedLogsAreSafe, IsSafeThroughout}
+use Rattle.tap_safe_runs.specs.Leavers.{LeaversAreGone}
 use Rattle.tap_safe_runs.specs.Moments.{HasCoreNodes, HasNoHole, RestIsAllCore, WalksEndAtRoots, tables_of}
 use Rattle.tap_safe_runs.specs.Safe.{IsRun}
 use Rattle.tap_safe_runs.proofs.NeverAlone.{no_start_last}
+use Rattle.tap_safe_runs.proofs.Leavers.{HasNoDeparture, cut_departs_none, leavers_are_gone, leavers_at, leavers_stay, one_departs_none}
 use Rattle.tap_safe_runs.proofs.Ended.{IsOpen, SaysTheSame, cut_carried, cut_says, cut_system, finished_is_carried, finished_says, finished_system, refused_system, run_is_open, spent_is_carried, spent_says, spent_system, step_is_carried, step_says}
 use Rattle.tap_safe_runs.proofs.Moments.{all_core_at, core_nodes_at, no_hole, no_hole_at, rest_is_all_core, some_core, walks_end, walks_end_at}
 
@@ -45,6 +47,7 @@ run_is_safe b log run = record {
   hole_free = λ m is. no_hole_at b log m run is;
   walks = λ m is. walks_end_at b log m run is;
   rest = λ m is. all_core_at b log m run is;
+  leavers = λ m is. leavers_at b log m run is;
 }
 
 -- ---- who departs at a moment at which no frame is outstanding
@@ -166,10 +169,10 @@ module _ (b : Beginning) (log : List Record) (run : IsRun b log) where
   is_open = run_is_open b log run
 
   with_ending : (ending : List Record) → is_carried (log ++ ending) ≡ false → SaysTheSame log (log ++ ending)
-      → system_of (log ++ ending) ≡ system_of log
+      → system_of (log ++ ending) ≡ system_of log → HasNoDeparture ending
       → ((m : ℕ) → length log < m → is_moment (log ++ ending) m ≡ true → m ≡ length (log ++ ending))
       → IsSafeThroughout b.settings (log ++ ending)
-  with_ending ending still says system last =
+  with_ending ending still says system none last =
       let p = b.settings in
       let has = run_is_safe b log run in
       let longer = log ++ ending in
@@ -184,6 +187,9 @@ module _ (b : Beginning) (log : List Record) (run : IsRun b log) where
         walks = at (WalksEndAtRoots p) has.walks (λ moment. same_walks p log longer says system (walks_end b log run));
         rest = at (RestIsAllCore p) has.rest
             (λ moment. same_rest p log longer says system is_open.uncarried begun moment (rest_is_all_core b log run));
+        leavers = at (LeaversAreGone p) has.leavers
+            (λ moment. leavers_stay p log ending (no_start_last b log run) none
+            (rests p log longer says system is_open.uncarried begun moment) (leavers_are_gone b log run));
       }
 
   -- one record after the log is its end
@@ -222,23 +228,25 @@ module _ (b : Beginning) (log : List Record) (run : IsRun b log) where
   pub finished_safe : (steps : ℕ) → IsSafeThroughout b.settings (log ++ Finished steps ∷ [])
   finished_safe steps =
       with_ending (Finished steps ∷ []) (finished_is_carried log steps ∙ is_open.uncarried)
-      (finished_says log steps (no_start_last b log run)) (finished_system log is_open steps) (one_more (Finished steps))
+      (finished_says log steps (no_start_last b log run)) (finished_system log is_open steps) (one_departs_none (Finished steps))
+      (one_more (Finished steps))
 
   pub spent_safe : (limit : ℕ) → IsSafeThroughout b.settings (log ++ Spent limit ∷ [])
   spent_safe limit =
       with_ending (Spent limit ∷ []) (spent_is_carried log limit ∙ is_open.uncarried)
-      (spent_says log limit) (spent_system log is_open limit (no_start_last b log run)) (one_more (Spent limit))
+      (spent_says log limit) (spent_system log is_open limit (no_start_last b log run)) (one_departs_none (Spent limit)) (one_more (Spent limit))
 
   pub cut_safe : (index : ℕ) (step : Step) (limit : ℕ) → IsSafeThroughout b.settings (log ++ StepRecord index step ∷ Spent limit ∷ [])
   cut_safe index step limit =
       with_ending (StepRecord index step ∷ Spent limit ∷ []) (cut_carried log is_open index step limit)
-      (cut_says log index step limit) (cut_system b log run index step limit) (cut_last index step limit)
+      (cut_says log index step limit) (cut_system b log run index step limit) (cut_departs_none index step limit) (cut_last index step limit)
 
   pub refused_safe : (index : ℕ) (step : Step) (refusal : Refusal) → first_refusal log step ≡ Some refusal
       → IsSafeThroughout b.settings (log ++ StepRecord index step ∷ [])
   refused_safe index step refusal is =
       with_ending (StepRecord index step ∷ []) (step_is_carried log index step ∙ is_open.uncarried)
-      (step_says log index step) (refused_system b log run index step refusal is) (one_more (StepRecord index step))
+      (step_says log index step) (refused_system b log run index step refusal is) (one_departs_none (StepRecord index step))
+      (one_more (StepRecord index step))
 
 pub ended_logs_are_safe : EndedLogsAreSafe
 ended_logs_are_safe = record {

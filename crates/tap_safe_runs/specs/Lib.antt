@@ -1,6 +1,7 @@
 pub mod GroupMayMove
 pub mod Safe
 pub mod Moments
+pub mod Leavers
 pub mod Printed
 pub mod Taken
 pub mod Each

@@ -47,9 +47,9 @@ WalksEndAtRoots p log = (from object : List ℕ) → Among from (core_of log) �
 
 -- ---- at rest
 
--- Each node that is present is core, whoever was to give its join up is gone, and nobody departs. No session of a join is open at any
--- node, no link is a pin or marked, and of two nodes, the second one core, the first is a holder that is on exactly if it has a link to
--- the second.
+-- Each node that is present is core, whoever was to give its join up is gone, and nobody departs; that whoever departed is gone is said in
+-- Leavers.antt. No session of a join is open at any node, no link is a pin or marked, and of two nodes, the second one core, the first is a
+-- holder that is on exactly if it has a link to the second.
 pub record IsAllCore (log : List Record) (s : System) : Type 0 where
   pub joined : (x : List ℕ) → has_name (present_of log) x ≡ has_name (core_of log) x
   pub given_up : (x : List ℕ) → has_name (abandoned_of log) x ≡ true → has_name (gone_of log) x ≡ true

@@ -12,6 +12,7 @@ use Rattle.tap_history.specs.Moments.{is_moment}
 use Rattle.tap_history.specs.Refusals.{first_refusal}
 use Rattle.tap_runs.specs.Beginning.{Beginning}
 use Rattle.tap_lawful.specs.Lawful.{IsPlayed}
+use Rattle.tap_safe_runs.specs.Leavers.{LeaversAreGone}
 use Rattle.tap_safe_runs.specs.Moments.{HasCoreNodes, HasNoHole, RestIsAllCore, WalksEndAtRoots}
 use Rattle.tap_safe_runs.specs.Safe.{IsRun}
 
@@ -24,12 +25,13 @@ abbrev pub OfLawfulLogs : (SettingsValue → List Record → Type 0) → Type 0
 OfLawfulLogs Holds = (s : ScenarioValue) (log : List Record) → IsScript s → IsPlayed s log → AtMomentsOf log (Holds s.settings)
 
 -- At each moment there is a core node, no core node's table has a hole that another core node could fill, each walk from a core node leads to
--- the one root of its object, and at rest each node that is present is core.
+-- the one root of its object, and at rest each node that is present is core, and each that departed is gone.
 pub record IsSafeThroughout (p : SettingsValue) (log : List Record) : Type 0 where
   pub core : AtMomentsOf log (HasCoreNodes p)
   pub hole_free : AtMomentsOf log (HasNoHole p)
   pub walks : AtMomentsOf log (WalksEndAtRoots p)
   pub rest : AtMomentsOf log (RestIsAllCore p)
+  pub leavers : AtMomentsOf log (LeaversAreGone p)
 
 -- So it is of the log of a run, and so it is still if how the run has ended stands after it: how many steps were run; or how many frames may be
 -- sent, alone or after the step that would send more. So it is after a step that is refused, before its refusal stands there.

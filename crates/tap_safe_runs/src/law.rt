@@ -1,6 +1,7 @@
 ghost use Rattle.tap_safe_runs.specs.Each.{GroupsAreRight};
 ghost use Rattle.tap_safe_runs.specs.SafeLogs.{EndedLogsAreSafe};
 ghost use Rattle.tap_safe_runs.specs.Lawful.{LawfulLogsAreSafe};
+ghost use Rattle.tap_safe_runs.specs.Leavers.{LeaversAreGone};
 ghost use Rattle.tap_safe_runs.specs.Moments.{AtEachMoment, HasCoreNodes, HasNoHole, RestIsAllCore, WalksEndAtRoots};
 ghost use Rattle.tap_safe_runs.specs.GroupMayMove.{GroupMayMove};
 ghost use Rattle.tap_safe_runs.specs.Printed.{RootsAreFound, WalksAreToRoots};
@@ -84,6 +85,15 @@ pub fn run_rest_law()
     ensures { AtEachMoment RestIsAllCore }
 {}
 
+/// At each rest of a run each node that departed is gone: after the step by which it departs, if this took effect, stands its `Gone`.
+///
+/// It does nothing: its contract is the law.
+///
+/// Rule: docs/FORMATS.md, "The course of a run".
+pub fn leavers_law()
+    ensures { AtEachMoment LeaversAreGone }
+{}
+
 /// What a run says of a walk is a refusal, or it leads from a core node to the one root of the object. A step that asks for a root is never
 /// refused, and the root that the run says is that of the core nodes.
 ///
@@ -115,8 +125,9 @@ pub fn lawful_logs_law()
 {}
 
 /// At each of its moments the log of a run is safe: there is a core node, no core node's table has a hole that another core node could
-/// fill, each walk from a core node leads to the one root of its object, and at rest each node that is present is core. So it is too once how
-/// the run has ended stands after it, or a step that is refused and whose refusal doesn't stand there yet: this changes no node.
+/// fill, each walk from a core node leads to the one root of its object, and at rest each node that is present is core, and each that departed
+/// is gone. So it is too once how the run has ended stands after it, or a step that is refused and whose refusal doesn't stand there yet: this
+/// changes no node.
 ///
 /// It does nothing: its contract is the law.
 ///
