@@ -10,8 +10,10 @@ use Rattle.tap_safe_runs.proofs.SafeLogs.{ended_logs_are_safe}
 use Rattle.tap_pointer_runs.specs.Paths.{PointersOnTheirPaths}
 use Rattle.tap_pointer_runs.proofs.Runs.{on_paths_at}
 use Rattle.tap_lookup_runs.specs.Alone.{LookupsAloneAreExact}
+use Rattle.tap_lookup_runs.specs.AnsweredOnce.{LookupsAreAnswered}
 use Rattle.tap_lookup_runs.specs.LookupAnswers.{AnswersWerePublished}
 use Rattle.tap_lookup_runs.proofs.Alone.{alone_at}
+use Rattle.tap_lookup_runs.proofs.AnsweredOnce.{answered_at_moments}
 use Rattle.tap_lookup_runs.proofs.Runs.{answers_at}
 use Rattle.tap_lookup_runs.specs.NoServer.{AnsweredNoneWereDisturbed, LookupsEndWithoutServer}
 use Rattle.tap_lookup_runs.proofs.NoServer.{disturbed_at_moments, ends_at_moments}
@@ -32,7 +34,7 @@ use Rattle.tap_headline.proofs.Ended.{IsEnded, run_ended}
 use Rattle.tap_headline.proofs.KeptByEnds.{at_ended, at_run}
 use Rattle.tap_headline.proofs.FewStay.{joins_stay, lookup_frames_stay, publication_frames_stay}
 use Rattle.tap_headline.proofs.HasInvariant.{invariant_at, invariant_stays, received_at, received_stay}
-use Rattle.tap_headline.proofs.Stays.{answers_stay, awaited_stay, cast_sessions_stay, casts_stay, disturbed_lookups_stay, lookup_ends_stay, lookups_stay, pointers_stay, watches_stay}
+use Rattle.tap_headline.proofs.Stays.{answered_lookups_stay, answers_stay, awaited_stay, cast_sessions_stay, casts_stay, disturbed_lookups_stay, lookup_ends_stay, lookups_stay, pointers_stay, watches_stay}
 
 -- by how it has ended it is safe throughout
 safe_with : (b : Beginning) (log ending : List Record) → IsRun b log → MayEnd log ending → IsSafeThroughout b.settings (log ++ ending)
@@ -49,6 +51,7 @@ run_has_headline b log run = record {
   received = at_run FramesAreReceivedIn received_at b log run;
   safe = ended_logs_are_safe.going b log run;
   pointers = at_run PointersOnTheirPaths on_paths_at b log run;
+  answered_lookups = at_run LookupsAreAnswered answered_at_moments b log run;
   lookups = at_run LookupsAloneAreExact alone_at b log run;
   answers = at_run AnswersWerePublished answers_at b log run;
   lookup_ends = at_run LookupsEndWithoutServer ends_at_moments b log run;
@@ -69,6 +72,7 @@ ended_has_headline b log ending may ended = record {
   received = at_ended FramesAreReceivedIn received_at received_stay b log ending ended;
   safe = safe_with b log ending ended.run may;
   pointers = at_ended PointersOnTheirPaths on_paths_at pointers_stay b log ending ended;
+  answered_lookups = at_ended LookupsAreAnswered answered_at_moments answered_lookups_stay b log ending ended;
   lookups = at_ended LookupsAloneAreExact alone_at lookups_stay b log ending ended;
   answers = at_ended AnswersWerePublished answers_at answers_stay b log ending ended;
   lookup_ends = at_ended LookupsEndWithoutServer ends_at_moments lookup_ends_stay b log ending ended;

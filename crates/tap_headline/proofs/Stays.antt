@@ -27,10 +27,11 @@ use Rattle.tap_runs.specs.Observed.{nodes_of, pair_line}
 use Rattle.tap_pointer_moves.specs.Paths.{HoldsPair}
 use Rattle.tap_pointer_runs.specs.Paths.{IsPublishedIn, PointersOnTheirPaths}
 use Rattle.tap_lookup_runs.specs.Alone.{LookupsAloneAreExact}
+use Rattle.tap_lookup_runs.specs.AnsweredOnce.{LookupsAreAnswered}
 use Rattle.tap_lookup_runs.specs.LookupAnswers.{AnswersWerePublished}
 use Rattle.tap_lookup_runs.specs.NoServer.{AnsweredNoneWereDisturbed, LookupsEndWithoutServer}
-use Rattle.tap_lookup_runs.proofs.Endings.{disturbed_kept, ends_kept}
-use Rattle.tap_lookup_runs.proofs.Unanswered.{IsUnanswered}
+use Rattle.tap_lookup_runs.proofs.Endings.{answered_kept, disturbed_kept, ends_kept}
+use Rattle.tap_lookup_runs.proofs.Unanswered.{IsUnanswered, IsUnasked}
 use Rattle.tap_cast_runs.specs.ReachAll.{CastsReachAll, HasReachedAll, ReachesWhomItHasTo, ReachesWhomItMay}
 use Rattle.tap_cast_runs.specs.AwaitedAnswers.{AnswersAreAwaited, HasCastSession, HasJoinSession, RestHasNoCastSessions}
 use Rattle.tap_cast_runs.specs.ReachedOnce.{closed_count, reached_count, says_closed, says_reached}
@@ -98,6 +99,16 @@ plain_unanswered : (item : Record) → IsPlain item → IsUnanswered item
 unfolding IsPlain
 plain_unanswered (Answered ticket server) plain = absurd plain
 plain_unanswered item plain = tt
+
+plain_unasked : (item : Record) → IsPlain item → IsUnasked item
+unfolding IsPlain
+plain_unasked (Asked ticket object asker) plain = absurd plain
+plain_unasked item plain = tt
+
+pub answered_lookups_stay : IsKept LookupsAreAnswered
+answered_lookups_stay b log ending ended moment =
+    answered_kept b.settings log ending (All-weaker IsPlain IsUnasked plain_unasked ending ended.plain)
+    (All-weaker IsPlain IsUnanswered plain_unanswered ending ended.plain) (rest_before b log ending ended)
 
 pub lookup_ends_stay : IsKept LookupsEndWithoutServer
 lookup_ends_stay b log ending ended moment =

@@ -9,6 +9,7 @@ use Rattle.tap_safe_runs.specs.SafeLogs.{AtMomentsOf, IsSafeThroughout}
 use Rattle.tap_safe_runs.specs.Safe.{IsRun}
 use Rattle.tap_pointer_runs.specs.Paths.{PointersOnTheirPaths}
 use Rattle.tap_lookup_runs.specs.Alone.{LookupsAloneAreExact}
+use Rattle.tap_lookup_runs.specs.AnsweredOnce.{LookupsAreAnswered}
 use Rattle.tap_lookup_runs.specs.LookupAnswers.{AnswersWerePublished}
 use Rattle.tap_lookup_runs.specs.NoServer.{AnsweredNoneWereDisturbed, LookupsEndWithoutServer}
 use Rattle.tap_cast_runs.specs.ReachAll.{CastsReachAll}
@@ -21,7 +22,8 @@ use Rattle.tap_headline.specs.HasInvariant.{FramesAreReceivedIn, HasInvariant}
 
 -- The headline, at each moment of the log. The whole invariant holds of its nodes, and each frame that was taken was received by a node to
 -- which it wasn't strange. It is safe: there is a core node, no table has a hole, walks lead to the one root, and at rest who is
--- present is core. At rest pointers stand exactly on their paths. A lookup made alone from a rest is answered exactly. However lookups overlap,
+-- present is core, and who departed is gone. At rest pointers stand exactly on their paths. Each lookup is answered once at most, and at rest it is answered. One made alone
+-- from a rest is answered exactly. However lookups overlap,
 -- each answer names a server that was published; one without a server comes from a node that held no pair of the object and had no next hop,
 -- and at some moment of the lookup no such pair was published, or a frame was outstanding that is of no lookup. Casts reach all whom they are
 -- for. Each answer that is outstanding comes to an open session, and at rest no session of casts is open. The watch clause holds. Few frames were
@@ -31,6 +33,7 @@ pub record HasHeadline (p : SettingsValue) (log : List Record) : Type 0 where
   pub received : AtMomentsOf log (FramesAreReceivedIn p)
   pub safe : IsSafeThroughout p log
   pub pointers : AtMomentsOf log (PointersOnTheirPaths p)
+  pub answered_lookups : AtMomentsOf log (LookupsAreAnswered p)
   pub lookups : AtMomentsOf log (LookupsAloneAreExact p)
   pub answers : AtMomentsOf log (AnswersWerePublished p)
   pub lookup_ends : AtMomentsOf log (LookupsEndWithoutServer p)

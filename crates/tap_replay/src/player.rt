@@ -82,7 +82,7 @@ impl Player {
         ensures may { MayTurn scenario.now self.new.world.log }
 
         // At each moment of the log there is a core node, no table has a hole, each walk leads to the one root, and at rest each node that
-        // is present is core; and what is said of pointers, lookups, casts, sessions, watch lists and the frames of joins holds.
+        // is present is core, who departed is gone and each lookup is answered; and what is said of pointers, lookups, casts, sessions, watch lists and the frames of joins holds.
         ensures headline { RunHasHeadline scenario.now self.new.world.log }
 
         // So a caller that takes one turn after the other comes to an end.
