@@ -3,8 +3,8 @@ use std::fmt;
 use tap_name::Name;
 use tap_wire::WireFault;
 
-/// Why a node took no step. Of several causes the earliest here counts, but that `Ended` goes before all others. `Wire`,
-/// `NotMine`, `Strange` and `Ended` leave the node as it was.
+/// Why a node took no step. `Ended` goes before all others, and of `Wire`, `NotMine` and `Strange` the first that is so is the answer.
+/// `NoMemory` may come in place of `NotMine`, of `Strange` or of a step. All but `NoMemory` leave the node as it was.
 ///
 /// Rule: docs/PROTOCOL.md, "Refused frames".
 #[derive(Clone, Copy, Debug, PartialEq, Eq)]

@@ -7,6 +7,8 @@ use crate::command::matches;
 use clap::ArgMatches;
 use clap::error::ErrorKind;
 use std::alloc::Global;
+use std::error::Error;
+use std::fmt;
 
 /// For how many joins a scenario may be made.
 ///
@@ -36,6 +38,17 @@ pub enum WordsRefusal {
     /// Memory was refused.
     NoMemory,
 }
+
+impl fmt::Display for WordsRefusal {
+    fn fmt<W: fmt::Write>(&self, f: &mut fmt::Formatter<W>) -> fmt::Result {
+        match self {
+            WordsRefusal::Usage => f.write_str("no words of the program"),
+            WordsRefusal::NoMemory => f.write_str("no memory"),
+        }
+    }
+}
+
+impl Error for WordsRefusal {}
 
 /// What the words of a command line, without the program's name, ask for.
 ///
