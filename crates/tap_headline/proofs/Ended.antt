@@ -6,10 +6,12 @@ use Rattle.tap_scenario.specs.declared.step.Step.{Step}
 use Rattle.tap_log.specs.declared.record.Record.{Record}
 use Rattle.tap_log.specs.declared.record.Record.TheVariants.{Finished, Spent, Step as StepRecord}
 use Rattle.tap_log.specs.declared.record.Refusal.{Refusal}
-use Rattle.tap_log.specs.Kinds.{is_carried}
+use Rattle.tap_log.specs.Kinds.{begins_group, is_carried}
 use Rattle.tap_history.specs.Core.{accepted_steps}
 use Rattle.tap_history.specs.Groups.{beginning_of, groups_of}
+use Rattle.tap_history.specs.Departing.{departing_of}
 use Rattle.tap_history.specs.Moments.{is_moment}
+use Rattle.tap_history.specs.Names.{names_of}
 use Rattle.tap_history.specs.Published.{published_of}
 use Rattle.tap_history.specs.Refusals.{first_refusal}
 use Rattle.tap_history.specs.StepAsks.{is_start}
@@ -22,7 +24,8 @@ use Rattle.tap_safe_runs.proofs.NeverAlone.{no_start_last}
 use Rattle.tap_safe_runs.proofs.Ended.{IsOpen, SaysTheSame, cut_carried, cut_says, cut_system, finished_groups, finished_is_carried, finished_says, finished_system, no_start_after, nothing_moves, open_after_step, refused_system, run_is_open, same_beginning, spent_groups, spent_is_carried, spent_says, spent_system, start_groups, step_groups, step_is_carried, step_says}
 use Rattle.tap_safe_runs.proofs.SafeLogs.{cut_last, one_more}
 use Rattle.tap_headline.specs.Endings.{ChangesNothing, EndingsChangeNothing, IsRefusedAfter, MayEnd}
-use Rattle.tap_headline.proofs.Starts.{IsIdle, finished_idle, idle_published, idle_starts, spent_idle, step_idle}
+use Rattle.tap_headline.proofs.Departing.{IsBegunOrGrown, begun_or_grown, idle_departs, step_departs, step_grown}
+use Rattle.tap_headline.proofs.Starts.{IsIdle, finished_idle, idle_names, idle_published, idle_starts, spent_idle, step_idle}
 
 -- the record says which step begins, or how the run has ended
 unfoldable pub IsPlain : Record → Type 0
@@ -57,7 +60,8 @@ beginning_stays b log ending ended =
 
 module _ (log ending : List Record) (says : SaysTheSame log (log ++ ending)) (system : system_of (log ++ ending) ≡ system_of log)
     (published : published_of (log ++ ending) ≡ published_of log)
-    (starts : filter is_start (accepted_steps (log ++ ending)) ≡ filter is_start (accepted_steps log)) where
+    (starts : filter is_start (accepted_steps (log ++ ending)) ≡ filter is_start (accepted_steps log))
+    (names : names_of (log ++ ending) ≡ names_of log) (departing : departing_of (log ++ ending) ≡ departing_of log) where
   nothing_changes : ChangesNothing log ending
   nothing_changes = record {
     system = system;
@@ -65,24 +69,30 @@ module _ (log ending : List Record) (says : SaysTheSame log (log ++ ending)) (sy
     present = says.present;
     abandoned = says.abandoned;
     gone = says.gone;
+    names = names;
+    departing = departing;
     published = published;
     frames = says.frames;
     starts = starts;
   }
 
 one_changes : (log : List Record) (item : Record) → IsIdle log item → SaysTheSame log (log ++ item ∷ [])
-    → system_of (log ++ item ∷ []) ≡ system_of log → ChangesNothing log (item ∷ [])
-one_changes log item idle says system =
-    nothing_changes log (item ∷ []) says system (idle_published log item idle) (idle_starts log item idle)
+    → system_of (log ++ item ∷ []) ≡ system_of log → departing_of (log ++ item ∷ []) ≡ departing_of log → ChangesNothing log (item ∷ [])
+one_changes log item idle says system departing =
+    nothing_changes log (item ∷ []) says system (idle_published log item idle) (idle_starts log item idle) (idle_names log item idle) departing
 
 two_change : (log : List Record) (one other : Record) → IsIdle log one → IsIdle (log ++ one ∷ []) other
-    → SaysTheSame log (log ++ one ∷ other ∷ []) → system_of (log ++ one ∷ other ∷ []) ≡ system_of log → ChangesNothing log (one ∷ other ∷ [])
-two_change log one other first second says system =
+    → SaysTheSame log (log ++ one ∷ other ∷ []) → system_of (log ++ one ∷ other ∷ []) ≡ system_of log
+    → departing_of (log ++ one ∷ []) ≡ departing_of log → departing_of ((log ++ one ∷ []) ++ other ∷ []) ≡ departing_of (log ++ one ∷ [])
+    → ChangesNothing log (one ∷ other ∷ [])
+two_change log one other first second says system departing then_departing =
     let begun = log ++ one ∷ [] in
     let both : begun ++ other ∷ [] ≡ log ++ one ∷ other ∷ [] = append_assoc log (one ∷ []) (other ∷ []) in
     nothing_changes log (one ∷ other ∷ []) says system
     (ap published_of (sym both) ∙ idle_published begun other second ∙ idle_published log one first)
     (ap (λ l. filter is_start (accepted_steps l)) (sym both) ∙ idle_starts begun other second ∙ idle_starts log one first)
+    (ap names_of (sym both) ∙ idle_names begun other second ∙ idle_names log one first)
+    (ap departing_of (sym both) ∙ then_departing ∙ departing)
 
 -- ---- each ending
 
@@ -101,9 +111,20 @@ finished_plain steps = tt
 pub one_plain : (item : Record) → IsPlain item → All IsPlain (item ∷ [])
 one_plain item is = All-cons IsPlain item [] is (All-nil IsPlain)
 
+finished_within : (steps : ℕ) → begins_group false (Finished steps) ≡ false
+unfolding begins_group
+finished_within steps = refl
+
+spent_within : (limit : ℕ) → begins_group false (Spent limit) ≡ false
+unfolding begins_group
+spent_within limit = refl
+
 module _ (b : Beginning) (log : List Record) (run : IsRun b log) where
   abbrev is_open : IsOpen log
   is_open = run_is_open b log run
+
+  abbrev grown : IsBegunOrGrown b log
+  grown = begun_or_grown b log run
 
   finished_ended : (steps : ℕ) → IsEnded b log (Finished steps ∷ [])
   finished_ended steps =
@@ -111,7 +132,9 @@ module _ (b : Beginning) (log : List Record) (run : IsRun b log) where
       record {
         run = run;
         same = one_changes log (Finished steps) (finished_idle log steps alone) (finished_says log steps alone)
-            (finished_system log is_open steps);
+            (finished_system log is_open steps)
+            (idle_departs b log (Finished steps) grown is_open.uncarried (finished_idle log steps alone) (finished_within steps)
+            (finished_says log steps alone).frames);
         plain = one_plain (Finished steps) (finished_plain steps);
         uncarried = finished_is_carried log steps ∙ is_open.uncarried;
         groups = inl (finished_groups log is_open steps);
@@ -123,7 +146,8 @@ module _ (b : Beginning) (log : List Record) (run : IsRun b log) where
       let alone = no_start_last b log run in
       record {
         run = run;
-        same = one_changes log (Spent limit) (spent_idle log limit) (spent_says log limit) (spent_system log is_open limit alone);
+        same = one_changes log (Spent limit) (spent_idle log limit) (spent_says log limit) (spent_system log is_open limit alone)
+            (idle_departs b log (Spent limit) grown is_open.uncarried (spent_idle log limit) (spent_within limit) (spent_says log limit).frames);
         plain = one_plain (Spent limit) (spent_plain limit);
         uncarried = spent_is_carried log limit ∙ is_open.uncarried;
         groups = inl (spent_groups log is_open limit alone);
@@ -136,7 +160,7 @@ module _ (b : Beginning) (log : List Record) (run : IsRun b log) where
       record {
         run = run;
         same = one_changes log item (step_idle log index step) (step_says log index step)
-            (refused_system b log run index step refused.refusal refused.is);
+            (refused_system b log run index step refused.refusal refused.is) (step_departs b log index step grown is_open.begun);
         plain = one_plain item (step_plain index step);
         uncarried = step_is_carried log index step ∙ is_open.uncarried;
         groups = inr (record {
@@ -168,10 +192,13 @@ module _ (b : Beginning) (log : List Record) (run : IsRun b log) where
   cut_ended : (index : ℕ) (step : Step) (limit : ℕ) → IsEnded b log (StepRecord index step ∷ Spent limit ∷ [])
   cut_ended index step limit =
       let item = StepRecord index step in
+      let begun = log ++ item ∷ [] in
       record {
         run = run;
-        same = two_change log item (Spent limit) (step_idle log index step) (spent_idle (log ++ item ∷ []) limit)
-            (cut_says log index step limit) (cut_system b log run index step limit);
+        same = two_change log item (Spent limit) (step_idle log index step) (spent_idle begun limit)
+            (cut_says log index step limit) (cut_system b log run index step limit) (step_departs b log index step grown is_open.begun)
+            (idle_departs b begun (Spent limit) (step_grown b log index step is_open.begun)
+            (step_is_carried log index step ∙ is_open.uncarried) (spent_idle begun limit) (spent_within limit) (spent_says begun limit).frames);
         plain = All-cons IsPlain item (Spent limit ∷ []) (step_plain index step) (one_plain (Spent limit) (spent_plain limit));
         uncarried = cut_carried log is_open index step limit;
         groups = cut_groups index step limit (is_start step) refl;

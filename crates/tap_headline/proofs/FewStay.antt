@@ -53,7 +53,7 @@ module _ (b : Beginning) (log ending : List Record) (ended : IsEnded b log endin
   abbrev longer : List Record
   longer = log ++ ending
 
-  same_sent : sent_count longer ≡ sent_count log
+  pub same_sent : sent_count longer ≡ sent_count log
   same_sent = sent_with log ending longer ended.plain refl
 
   same_joins : joins_of longer ≡ joins_of log

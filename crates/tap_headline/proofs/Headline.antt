@@ -27,9 +27,11 @@ use Rattle.tap_bounds_runs.specs.AtRest.{LookupsAtRestSendFew, PublicationsAtRes
 use Rattle.tap_bounds_runs.proofs.AtRest.{lookups_at, publications_at}
 use Rattle.tap_bounds_runs.specs.Joins.{JoinsSendFew}
 use Rattle.tap_bounds_runs.proofs.JoinLogs.{joins_at}
+use Rattle.tap_headline.specs.AsLogged.{FramesAreAsLogged, NodesAreAsLogged}
 use Rattle.tap_headline.specs.Endings.{MayEnd}
 use Rattle.tap_headline.specs.Headline.{EndedLogsHaveHeadline, HasHeadline}
 use Rattle.tap_headline.specs.HasInvariant.{FramesAreReceivedIn, HasInvariant}
+use Rattle.tap_headline.proofs.AsLogged.{frames_at, frames_stay, nodes_at, nodes_stay}
 use Rattle.tap_headline.proofs.Ended.{IsEnded, run_ended}
 use Rattle.tap_headline.proofs.KeptByEnds.{at_ended, at_run}
 use Rattle.tap_headline.proofs.FewStay.{joins_stay, lookup_frames_stay, publication_frames_stay}
@@ -47,6 +49,8 @@ safe_with b log ending run may = absurd may
 
 run_has_headline : (b : Beginning) (log : List Record) → IsRun b log → HasHeadline b.settings log
 run_has_headline b log run = record {
+  frames_as_logged = at_run FramesAreAsLogged frames_at b log run;
+  nodes_as_logged = at_run NodesAreAsLogged nodes_at b log run;
   invariant = at_run HasInvariant invariant_at b log run;
   received = at_run FramesAreReceivedIn received_at b log run;
   safe = ended_logs_are_safe.going b log run;
@@ -68,6 +72,8 @@ run_has_headline b log run = record {
 ended_has_headline : (b : Beginning) (log ending : List Record) → MayEnd log ending → IsEnded b log ending
     → HasHeadline b.settings (log ++ ending)
 ended_has_headline b log ending may ended = record {
+  frames_as_logged = at_ended FramesAreAsLogged frames_at frames_stay b log ending ended;
+  nodes_as_logged = at_ended NodesAreAsLogged nodes_at nodes_stay b log ending ended;
   invariant = at_ended HasInvariant invariant_at invariant_stays b log ending ended;
   received = at_ended FramesAreReceivedIn received_at received_stay b log ending ended;
   safe = safe_with b log ending ended.run may;

@@ -4,6 +4,7 @@ mod PrintedRecords
 mod Groups
 pub mod Printable
 mod Starts
+mod Departing
 pub mod Ended
 mod Memory
 mod KeptByEnds
@@ -11,3 +12,4 @@ mod Stays
 mod FewStay
 pub mod Headline
 mod HasInvariant
+mod AsLogged

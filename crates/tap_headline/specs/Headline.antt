@@ -17,18 +17,22 @@ use Rattle.tap_cast_runs.specs.AwaitedAnswers.{AnswersAreAwaited, RestHasNoCastS
 use Rattle.tap_watch_runs.specs.Clause.{WatchClauseHolds}
 use Rattle.tap_bounds_runs.specs.AtRest.{LookupsAtRestSendFew, PublicationsAtRestSendFew}
 use Rattle.tap_bounds_runs.specs.Joins.{JoinsSendFew}
+use Rattle.tap_headline.specs.AsLogged.{FramesAreAsLogged, NodesAreAsLogged}
 use Rattle.tap_headline.specs.Endings.{MayEnd}
 use Rattle.tap_headline.specs.HasInvariant.{FramesAreReceivedIn, HasInvariant}
 
--- The headline, at each moment of the log. The whole invariant holds of its nodes, and each frame that was taken was received by a node to
--- which it wasn't strange. It is safe: there is a core node, no table has a hole, walks lead to the one root, and at rest who is
--- present is core, and who departed is gone. At rest pointers stand exactly on their paths. Each lookup is answered once at most, and at rest it is answered. One made alone
--- from a rest is answered exactly. However lookups overlap,
+-- The headline, at each moment of the log. The system to which the log has come has the frames and nodes that the log says: those that are
+-- outstanding under way, and who is core, present, gone, joining and departing. The whole invariant holds of its nodes, and each frame that
+-- was taken was received by a node to which it wasn't strange. It is safe: there is a core node, no table has a hole, walks lead to the one
+-- root, and at rest who is present is core, and who departed is gone. At rest pointers stand exactly on their paths. Each lookup is answered
+-- once at most, and at rest it is answered. One made alone from a rest is answered exactly. However lookups overlap,
 -- each answer names a server that was published; one without a server comes from a node that held no pair of the object and had no next hop,
 -- and at some moment of the lookup no such pair was published, or a frame was outstanding that is of no lookup. Casts reach all whom they are
 -- for. Each answer that is outstanding comes to an open session, and at rest no session of casts is open. The watch clause holds. Few frames were
 -- sent if nothing but joins was accepted; and few by a lookup or a publication that is accepted at a rest, until another start is accepted.
 pub record HasHeadline (p : SettingsValue) (log : List Record) : Type 0 where
+  pub frames_as_logged : AtMomentsOf log (FramesAreAsLogged p)
+  pub nodes_as_logged : AtMomentsOf log (NodesAreAsLogged p)
   pub invariant : AtMomentsOf log (HasInvariant p)
   pub received : AtMomentsOf log (FramesAreReceivedIn p)
   pub safe : IsSafeThroughout p log

@@ -4,3 +4,4 @@ pub mod Printable
 pub mod Endings
 pub mod Headline
 pub mod HasInvariant
+pub mod AsLogged

@@ -5,7 +5,8 @@ ghost use Rattle.tap_headline.specs.Endings.{EndingsChangeNothing};
 ghost use Rattle.tap_headline.specs.Headline.{EndedLogsHaveHeadline};
 
 /// The log of a run begins as its scenario does, and its steps are the scenario's first ones. It has the headline, at each of its moments,
-/// also once it says how the run has ended: of nodes and tables, pointers, lookups, casts, sessions, watch lists and the frames of joins.
+/// also once it says how the run has ended: that its system has the frames and nodes that it says, and of tables, pointers, lookups, casts,
+/// sessions, watch lists and the frames of joins.
 ///
 /// It does nothing: its contract is the law.
 ///
@@ -38,7 +39,8 @@ pub fn printable_law()
 
 /// What stands at the end of the log of a run changes nothing, be it how many steps were run, how many frames may be sent, alone or after the
 /// step that would send more, or a step that is refused and whose refusal doesn't stand there yet: the log has come to the same system, says
-/// the same of who takes part, of the pairs that are published and of the frames that are outstanding, and accepts the same starts.
+/// the same of who takes part and who departs, of the pairs that are published and of the frames that are outstanding, and accepts the same
+/// starts.
 ///
 /// It does nothing: its contract is the law.
 ///
