@@ -1,0 +1,165 @@
+ghost use Rattle.std.specs.Prelude.{◌≡◌, ◌==◌, ◌<◌, ◌≤◌, ℕ, [], length, slice_get, if◌then◌else◌, None, Some, IfOk, OnOk, OnErr, IfSome};
+ghost use Rattle.tap_carry.specs.Net.{AreUnderWay, most_packets, packet_of, packets_less, put_with, taken_at};
+
+use crate::memory::NoMemory;
+use indexmap::IndexMap;
+use std::alloc::Global;
+use std::marker::Model;
+use tap_name::Name;
+use tap_outstanding::Outstanding;
+
+/// How many packets may be put into a net.
+///
+/// Rule: docs/PROTOCOL.md, "Packets".
+pub const MOST_PACKETS: u32 = 4_000_000_000;
+
+// For so many packets places are made at once.
+const PLACES: u32 = 64;
+
+/// A packet: it carries a frame, or the acknowledgement of one.
+///
+/// Rule: docs/PROTOCOL.md, "Packets".
+#[derive(Clone, Copy, Debug, PartialEq, Eq)]
+pub struct Packet {
+    /// The node that sends the packet: the frame's sender, or its receiver if this acknowledges it.
+    pub from: Name,
+    /// The node that it goes to.
+    pub to: Name,
+    /// The sequence number of the frame, from 1.
+    pub seq: u32,
+    /// The number of the frame among all frames of the run.
+    pub frame: u32,
+    /// Whether this acknowledges the frame.
+    pub ack: bool,
+}
+
+/// A packet with its number.
+///
+/// Rule: docs/PROTOCOL.md, "Packets".
+#[derive(Clone, Copy, Debug, PartialEq, Eq)]
+pub struct Numbered {
+    /// How many packets were put before it.
+    pub number: u32,
+    /// The packet.
+    pub packet: Packet,
+}
+
+/// The net: the packets that were put and not yet taken.
+///
+/// Contracts see how many were put, and those under way in the order of their numbers.
+///
+/// The places of the numbers under way are found as those of outstanding frames are, and the packets lie beside them
+/// in a hash map by number, whose order nobody reads. So a call takes time that grows with the logarithm of how many
+/// were put. Some 9 bytes are kept for each packet that was put, and the packet itself only while it is under way.
+///
+/// Rule: docs/PROTOCOL.md, "Packets".
+#[derive(Drop)]
+pub struct Net {
+    places: Outstanding,
+    packets: IndexMap<u32, Packet>,
+    // For so many more packets there are places at least.
+    room: u32,
+}
+
+impl Model for Net {
+    ghost use Rattle.tap_carry.specs.Net.{NetValue};
+
+    ghost Value = { NetValue };
+
+    ghost use Rattle.tap_carry.specs.NetKept.{IsNet, packets_of};
+
+    ghost view = { λ n. record { made = n.places.sent; packets = packets_of n.packets n.places.frames } };
+
+    ghost invariant = { λ n. IsNet n.places n.packets n.room };
+}
+
+impl Net {
+    /// None put. This takes no memory; later calls take it of `alloc`.
+    pub fn new(alloc: Global) -> Net
+        ensures { result ≡ record { made = 0; packets = [] } }
+    {
+        Net {
+            places: Outstanding::new(alloc),
+            packets: IndexMap::new(alloc),
+            room: 0,
+        }
+    }
+
+    /// How many packets were put, which is the number of the next one.
+    pub fn made(&self) -> u32
+        ensures count { result ≡ self.now.made }
+        ensures most { result ≤ most_packets }
+    {
+        self.places.sent()
+    }
+
+    /// How many packets are under way.
+    pub fn len(&self) -> u32
+        ensures count { result ≡ length self.now.packets }
+        ensures under_way { AreUnderWay self.now }
+    {
+        self.places.len()
+    }
+
+    /// Puts a packet, and gives its number, from 0. A refused call changes nothing.
+    pub fn put(&mut self, packet: Packet) -> Result<u32, NoMemory>
+        requires { self.old.made < most_packets }
+        ensures number { IfOk result (λ number. number ≡ self.old.made) }
+        ensures after { OnOk result (self.new ≡ put_with self.old packet) }
+        ensures look_up { OnOk result ((n : ℕ) →
+            packet_of self.new.packets n ≡
+            (if n == self.old.made then Some packet else packet_of self.old.packets n)) }
+        ensures err { OnErr result (self.new ≡ self.old) }
+    {
+        let number = self.places.sent();
+        self.room = make_room(&mut self.places, self.room)?;
+        let _ = self.packets.insert(number, packet)?;
+        self.room -= 1;
+        Ok(self.places.send_reserved(0))
+    }
+
+    /// The packet at a place, from 0 for the least number, and `None` exactly if the place is at or above how many are
+    /// under way.
+    pub fn look(&self, place: u32) -> Option<Numbered>
+        ensures { result ≡ slice_get self.now.packets place }
+    {
+        let number = self.places.frame_at(place)?.number;
+        let packet = *self.packets.get(&number)?;
+        Some(Numbered { number, packet })
+    }
+
+    /// Takes the packet at a place; the order of the others stays. `None` comes exactly if the place is at or above
+    /// how many are under way, and then nothing changes.
+    pub fn take(&mut self, place: u32) -> Option<Numbered>
+        ensures packet { result ≡ slice_get self.old.packets place }
+        ensures after { self.new ≡ taken_at self.old place }
+        ensures less { IfSome result (λ p. self.new.packets ≡ packets_less self.old.packets p.number) }
+        ensures look_up { IfSome result (λ p. (n : ℕ) →
+            packet_of self.new.packets n ≡
+            (if n == p.number then None else packet_of self.old.packets n)) }
+        ensures none { result ≡ None → self.new ≡ self.old }
+    {
+        if place >= self.places.len() {
+            return None;
+        }
+        let number = self.places.take(place)?.number;
+        let packet = self.packets.swap_remove(&number)?;
+        Some(Numbered { number, packet })
+    }
+}
+
+// Sees that there is room for one more packet, of which there was so much, and answers how much there is. It is made for several at
+// once.
+fn make_room(places: &mut Outstanding, room: u32) -> Result<u32, NoMemory>
+    requires { room ≤ places.old.room }
+    ensures sent { places.new.sent ≡ places.old.sent }
+    ensures frames { places.new.frames ≡ places.old.frames }
+    ensures ok { IfOk result (λ more. (1 ≤ more) × (more ≤ places.new.room)) }
+    ensures err { OnErr result (places.new ≡ places.old) }
+{
+    if room > 0 {
+        return Ok(room);
+    }
+    places.reserve(PLACES)?;
+    Ok(PLACES)
+}
