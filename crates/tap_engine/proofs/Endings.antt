@@ -74,7 +74,7 @@ asks_no_more w is =
     w.stopped w.refused is.gone_to
 
 -- so lookups are no more than steps may be
-pub few_tickets : (w : WorldValue) → IsWorldLog w → ticket_count w.log ≤ most_index + 1
+pub few_tickets : (w : WorldValue) → IsWorldLog w → ticket_count w.log ≤ most_index
 few_tickets w is =
     let m = asks_no_more w is in
     let asked = ap ticket_count m.is ∙ ticket_count-append is.course m.more in

@@ -1,7 +1,7 @@
 -- The indices of the steps that have begun, as the log of a world grows.
 -- Cited above: few_steps, steps_are
 use Rattle.std.proofs.Common.{◌≡◌, ℕ, ◌+◌, ◌<◌, ◌≤◌, List, [], ◌∷◌, ◌++◌, length, All, Option, None, Some, refl, ap, sym, subst, ◌∙◌, arith, append-nil, length-append}
-use Rattle.std.specs.Prelude.{IfSome}
+use Rattle.std.specs.Prelude.{unwrap_or}
 use Rattle.std.specs.List.{filter_map, last_or}
 use Rattle.std.proofs.lemmas.List.Elements.{filter_map-append}
 use Rattle.tap_scenario.specs.declared.step.Step.{Step}
@@ -11,7 +11,7 @@ use Rattle.tap_log.specs.Kinds.{step_of}
 use Rattle.tap_log.specs.Log.{begun_steps}
 use Rattle.tap_runs.proofs.Frames.{none_of}
 use Rattle.tap_engine.specs.Kinds.{begun_index, begun_indices, last_index, most_index}
-use Rattle.tap_engine.specs.WorldLog.{HasIndices, indices_to}
+use Rattle.tap_engine.specs.WorldLog.{HasIndices}
 
 -- a record that begins no step has no index
 pub unbegun : (item : Record) → step_of item ≡ None → begun_index item ≡ None
@@ -33,37 +33,24 @@ module _ (log items : List Record) (none : All (λ item. step_of item ≡ None) 
 
   pub indices_stay : HasIndices log → HasIndices (log ++ items)
   indices_stay are =
-      let Kept : List ℕ → Type 0 = λ l. (length l ≤ indices_to (last_or None l)) × (indices_to (last_or None l) ≤ most_index + 1) in
+      let Kept : List ℕ → Type 0 = λ l. (length l ≤ unwrap_or (last_or None l) 0) × (unwrap_or (last_or None l) 0 ≤ most_index) in
       let both = subst Kept (sym indices_same) (are.count, are.most) in
       record { count = both.0; most = both.1 }
 
 -- a step with the next index, and records that begin none
-module _ (log : List Record) (index : ℕ) (step : Step) (are : HasIndices log) (above : IfSome (last_index log) (λ last. last < index))
-    (most : index ≤ most_index) where
+module _ (log : List Record) (index : ℕ) (step : Step) (are : HasIndices log) (above : last_index log < index) (most : index ≤ most_index) where
   indices_push : begun_indices (log ++ StepRecord index step ∷ []) ≡ begun_indices log ++ index ∷ []
   unfolding begun_index
   indices_push = filter_map-append begun_index log (StepRecord index step ∷ [])
 
-  fits : (last : Option ℕ) → last_index log ≡ last → IfSome last (λ l. l < index) → length (begun_indices log) ≤ index
-  fits None is below =
-      let count : length (begun_indices log) ≤ 0 = subst (λ l. length (begun_indices log) ≤ indices_to l) is are.count in
-      omega (arith, count)
-  fits (Some last) is below =
-      let count : length (begun_indices log) ≤ last + 1 = subst (λ l. length (begun_indices log) ≤ indices_to l) is are.count in
-      omega (arith, count, below)
-
   pub indices_next : HasIndices (log ++ StepRecord index step ∷ [])
   indices_next =
-      let few = fits (last_index log) refl above in
+      let few = are.count in
       let size : length (begun_indices (log ++ StepRecord index step ∷ [])) ≡ length (begun_indices log) + 1 =
       ap length indices_push ∙ length-append (begun_indices log) (index ∷ []) in
-      let last : last_index (log ++ StepRecord index step ∷ []) ≡ Some index =
-      ap (last_or None) indices_push ∙ last_push None (begun_indices log) index in
-      record {
-        count = subst (λ l. length (begun_indices (log ++ StepRecord index step ∷ [])) ≤ indices_to l) (sym last)
-            (let at : length (begun_indices (log ++ StepRecord index step ∷ [])) ≤ index + 1 = omega (arith, size, few) in at);
-        most = subst (λ l. indices_to l ≤ most_index + 1) (sym last) (let at : index + 1 ≤ most_index + 1 = omega (arith, most) in at);
-      }
+      let last : last_index (log ++ StepRecord index step ∷ []) ≡ index =
+      ap (λ l. unwrap_or (last_or None l) 0) indices_push ∙ ap (λ o. unwrap_or o 0) (last_push None (begun_indices log) index) in
+      record { count = omega (arith, size, few, above, last); most = omega (arith, most, last) }
 
 -- as many steps have begun as indices
 steps_one : (item : Record) (items : List Record) → length (filter_map step_of items) ≡ length (filter_map begun_index items)
@@ -76,7 +63,7 @@ pub steps_are : (log : List Record) → length (begun_steps log) ≡ length (beg
 steps_are [] = refl
 steps_are (item ∷ items) = steps_one item items (steps_are items)
 
-pub few_steps : (log : List Record) → HasIndices log → length (begun_steps log) ≤ most_index + 1
+pub few_steps : (log : List Record) → HasIndices log → length (begun_steps log) ≤ most_index
 few_steps log are =
     let same = steps_are log in
     let count = are.count in

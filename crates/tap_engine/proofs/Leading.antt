@@ -571,7 +571,7 @@ reserved_ready m n ready same log three =
 
 pub next_still : (m n : Engine) (index : ℕ) → n.ledger.records ≡ m.ledger.records → IsNextIndex (seen m) index → IsNextIndex (seen n) index
 next_still m n index log next = record {
-  above = subst (λ l. IfSome (last_index l) (λ last. last < index)) (sym log) next.above;
+  above = subst (λ l. last_index l < index) (sym log) next.above;
   most = next.most;
 }
 

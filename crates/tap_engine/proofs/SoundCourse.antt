@@ -37,7 +37,7 @@ if_some : (P : NodeState → Type 0) (found : Option NodeState) (node : NodeStat
 if_some P found node is at = subst (λ o. IfSome o P) at is
 
 pub course_is_sound : (b : Beginning) (log : List Record) → IsCourse b log → is_ended log ≡ false
-    → HaveNames b.settings log → length (begun_steps log) ≤ most_index + 1 → IsSound b log
+    → HaveNames b.settings log → length (begun_steps log) ≤ most_index → IsSound b log
 course_is_sound b log course going named few =
     let ranges = numbers_in_range_holds in
     let readable = courses_are_readable in

@@ -56,13 +56,13 @@ agrees engine ready =
     record { core = nodes.core; present = nodes.present; gone = nodes.gone; ever = nodes.ever }
 
 -- lookups and casts are far fewer than numbers
-pub few_tickets : (engine : Engine) → AreReady engine → ticket_count engine.ledger.records ≤ most_index + 1
+pub few_tickets : (engine : Engine) → AreReady engine → ticket_count engine.ledger.records ≤ most_index
 few_tickets engine ready =
     let least = (sound engine ready).tickets in
     let steps = few_steps engine.ledger.records (on engine ready).indices in
     omega (arith, least, steps)
 
-pub few_casts : (engine : Engine) → AreReady engine → cast_count engine.ledger.records ≤ most_index + 1
+pub few_casts : (engine : Engine) → AreReady engine → cast_count engine.ledger.records ≤ most_index
 few_casts engine ready =
     let least = (sound engine ready).casts in
     let steps = few_steps engine.ledger.records (on engine ready).indices in

@@ -1,7 +1,7 @@
 -- Which steps each call of a world takes, and what the last records of a log are.
 --
 -- Rule: docs/FORMATS.md, "The course of a run".
-use Rattle.std.specs.Prelude.{ℕ, Bool, true, false, List, Option, None, Some}
+use Rattle.std.specs.Prelude.{ℕ, Bool, true, false, List, Option, None, Some, unwrap_or}
 use Rattle.std.specs.List.{filter_map, last_or}
 use Rattle.std.specs.Option.{option_map_or}
 use Rattle.tap_scenario.specs.declared.step.Step.{Step}
@@ -38,12 +38,12 @@ unfoldable pub begun_index : Record → Option ℕ
 begun_index (StepRecord index step) = Some index
 begun_index other = None
 
--- the indices of the steps that have begun, and the last one
+-- the indices of the steps that have begun, and the last one, 0 if none has
 abbrev pub begun_indices : List Record → List ℕ
 begun_indices log = filter_map begun_index log
 
-abbrev pub last_index : List Record → Option ℕ
-last_index log = last_or None (begun_indices log)
+abbrev pub last_index : List Record → ℕ
+last_index log = unwrap_or (last_or None (begun_indices log)) 0
 
 -- the greatest index of a step
 abbrev pub most_index : ℕ

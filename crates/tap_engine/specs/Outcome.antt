@@ -1,7 +1,7 @@
 -- What the calls of a world answer, and what its log is then.
 --
 -- Rule: docs/FORMATS.md, "The course of a run" and "The ways a run ends".
-use Rattle.std.specs.Prelude.{◌≡◌, ◌≢◌, ◌<◌, ◌≤◌, ◌⊎◌, ℕ, nat_le, Bool, true, false, if◌then◌else◌, List, [], ◌∷◌, ◌++◌, length, slice_get, Option, None, Some, IfSome, Result, Ok, Err}
+use Rattle.std.specs.Prelude.{◌≡◌, ◌≢◌, ◌<◌, ◌≤◌, ◌⊎◌, ℕ, nat_le, Bool, true, false, if◌then◌else◌, List, [], ◌∷◌, ◌++◌, length, slice_get, Option, None, Some, Result, Ok, Err}
 use Rattle.tap_scenario.specs.declared.step.Step.{Step}
 use Rattle.tap_log.specs.declared.record.Record.{Record}
 use Rattle.tap_log.specs.declared.record.Record.TheVariants.{Step as StepRecord, Refused as RefusedRecord, Spent as SpentRecord, Finished}
@@ -126,9 +126,9 @@ pub record MayGoOn (w : WorldValue) : Type 0 where
   pub noted : w.refused ≡ None
   pub unfinished : is_finished w.log ≡ false
 
--- the index is above that of the last step, and at most 1,000,000
+-- the index is above that of the last step, from 1 on, and at most 1,000,000
 pub record IsNextIndex (w : WorldValue) (index : ℕ) : Type 0 where
-  pub above : IfSome (last_index w.log) (λ last. last < index)
+  pub above : last_index w.log < index
   pub most : index ≤ most_index
 
 -- The refusal may be noted: the last record is the step with this index, whose refusal it is; or the step is a choice that may be

@@ -12,6 +12,7 @@ use Rattle.tap_overlay.specs.Overlay.{node_among}
 use Rattle.tap_safety.specs.AtRest.{system_at_rest}
 use Rattle.tap_safety.specs.System.{System}
 use Rattle.tap_runs.specs.Beginning.{Beginning, begin_record}
+use Rattle.tap_runs.specs.Course.{system_of}
 
 -- With what its log begins; the log; the refusal that isn't noted yet; whether it was stopped, by want of memory or since more
 -- frames would have been sent than may be; and the nodes, each under its name, ascending.
@@ -29,6 +30,10 @@ node_of w name = if has_name (names_of w.log) name then node_among w.nodes name 
 -- the nodes of a system, each of which takes steps
 abbrev pub nodes_running : System → List ℕ → Option NodeValue
 nodes_running s name = option_map running (s.node name)
+
+-- the nodes of the world are those of the system that its log has come to
+abbrev pub HasNodesOfLog : WorldValue → Type 0
+HasNodesOfLog w = (name : List ℕ) → node_of w name ≡ nodes_running (system_of w.log) name
 
 -- a world that has just begun so: each member is there at rest, and nobody else
 pub record HasBegun (b : Beginning) (w : WorldValue) : Type 0 where

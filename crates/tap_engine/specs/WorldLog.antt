@@ -1,7 +1,7 @@
 -- What the log of a world is: the course of a run, and what stands after that.
 --
 -- Rule: docs/FORMATS.md, "The course of a run".
-use Rattle.std.specs.Prelude.{◌≡◌, ◌≤◌, ◌⊎◌, ℕ, ◌+◌, Bool, true, false, List, [], ◌∷◌, ◌++◌, length, Option, None, Some}
+use Rattle.std.specs.Prelude.{◌≡◌, ◌≤◌, ◌⊎◌, ℕ, Bool, true, false, List, [], ◌∷◌, ◌++◌, length, Option, None, Some}
 use Rattle.tap_scenario.specs.declared.step.Step.{Step}
 use Rattle.tap_log.specs.declared.record.Record.{Record}
 use Rattle.tap_log.specs.declared.record.Record.TheVariants.{Step as StepRecord, Spent, Finished}
@@ -61,15 +61,10 @@ HasGoneTo b false refused course log = HasCome course refused log
 HasGoneTo b true None course log = HasStopped b course log
 HasGoneTo b true (Some refusal) course log = ⊥
 
--- one more than the last index, 0 if there is none
-abbrev pub indices_to : Option ℕ → ℕ
-indices_to None = 0
-indices_to (Some last) = last + 1
-
--- no more steps have begun than up to the last index there may be, which is 1,000,000 at most
+-- no more steps have begun than the last index says, which is 1,000,000 at most
 pub record HasIndices (log : List Record) : Type 0 where
-  pub count : length (begun_indices log) ≤ indices_to (last_index log)
-  pub most : indices_to (last_index log) ≤ most_index + 1
+  pub count : length (begun_indices log) ≤ last_index log
+  pub most : last_index log ≤ most_index
 
 -- The log of a world, up to its last moment, is a course, and what stands after that is as the world has gone.
 pub record IsWorldLog (w : WorldValue) : Type 0 where

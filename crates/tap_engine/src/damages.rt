@@ -23,7 +23,8 @@ impl Engine {
     /// A step offers a damaged copy of an outstanding frame to its receiver: its group is the step, and why the copy is no frame. The
     /// frame stays outstanding, and no node changes.
     ///
-    /// The index is above that of the last step, and 1,000,000 at most. No refusal is left to be noted, and the log hasn't its end.
+    /// The index is above that of the last step, from 1 on, and 1,000,000 at most. No refusal is left to be noted, and the log hasn't its
+    /// end.
     ///
     /// `Refused` comes exactly if the step is refused, with the first refusal whose cause holds: the step is added alone. `NoMemory`
     /// adds nothing, and the engine takes no further call. No other answer comes.

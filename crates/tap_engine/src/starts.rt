@@ -37,7 +37,7 @@ impl Engine {
 
     /// A step has a node start something: its group is added, the step first.
     ///
-    /// What the step names are names of the settings. Its index is above that of the last step, and 1,000,000 at most. No refusal is
+    /// What the step names are names of the settings. Its index is above that of the last step, from 1 on, and 1,000,000 at most. No refusal is
     /// left to be noted, and the log hasn't its end.
     ///
     /// `Refused` comes exactly if the step is refused, with the first refusal whose cause holds: the step is added alone, and no node

@@ -218,6 +218,7 @@ left_alike s other end w left may = record {
   beginning = left.beginning ∙ sym (begin_alike s other end w.log left.ended may);
   noted = left.noted;
   stopped = left.stopped;
+  nodes = left.nodes;
 }
 
 -- ---- the scenario itself

@@ -1,11 +1,11 @@
 -- The log of a run that has ended is lawful, and a scenario has one such run.
 -- Cited above: ended_log
 use Rattle.std.proofs.Common.{◌≡◌, ◌≢◌, inl, inr, true, false, List, [], ◌∷◌, ◌++◌, length, refl, ap, sym, ◌∙◌, append_assoc}
-use Rattle.tap_scenario.specs.Scenario.{ScenarioValue}
+use Rattle.tap_scenario.specs.Scenario.{EachStepIsPlayed, IsScript, ScenarioValue}
 use Rattle.tap_log.specs.declared.record.Record.{Record}
 use Rattle.tap_log.specs.declared.record.Record.TheVariants.{Spent as SpentRecord}
 use Rattle.tap_engine.specs.Kinds.{is_finished}
-use Rattle.tap_lawful.specs.Lawful.{IsFinished, IsLogOf, IsSpent, IsWholeLogOf, step_alone}
+use Rattle.tap_lawful.specs.Lawful.{IsFinished, IsLawful, IsLogOf, IsSpent, IsWholeLogOf, step_alone}
 use Rattle.tap_lawful.proofs.OneLog.{one_log_holds}
 use Rattle.tap_replay.specs.LawfulRuns.{AreOneRun, RunsAreLawful}
 use Rattle.tap_replay.specs.Player.{HasEnded}
@@ -23,6 +23,9 @@ pub ended_log : (s : ScenarioValue) (end : End) (log : List Record) → HasEnded
 ended_log s Done log ended = record { played = ended.0; is_played = ended.1; ending = inr (inl ended.2) }
 ended_log s Spent log ended = record { played = ended.0; is_played = ended.1; ending = inr (inr ended.2) }
 ended_log s NoMemory log ended = record { played = log; is_played = ended; ending = inl refl }
+
+lawful_log : (s : ScenarioValue) (end : End) (log : List Record) → IsScript s → EachStepIsPlayed s → HasEnded s end log → IsLawful log
+lawful_log s end log valid plays ended = record { script = s; valid = valid; plays = plays; run = ended_log s end log ended }
 
 -- ---- how the log ends says how the run has ended
 
@@ -55,4 +58,4 @@ one_run s end other log more ended ends some enough =
     record { end_is = same_end s end other log more ended ends some enough same; log_is = same }
 
 pub runs_are_lawful : RunsAreLawful
-runs_are_lawful = record { log = ended_log; whole = whole_log; one = one_run }
+runs_are_lawful = record { log = ended_log; whole = whole_log; lawful = lawful_log; one = one_run }

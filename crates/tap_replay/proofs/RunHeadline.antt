@@ -1,7 +1,7 @@
--- The log of each run of a player has the headline.
+-- The log of each run of a player has the headline, and is lawful.
 use Rattle.std.proofs.Common.{inl, refl, Option, None, Some}
-use Rattle.tap_scenario.specs.Scenario.{IsScript, ScenarioValue}
-use Rattle.tap_lawful.specs.Lawful.{IsLogOf}
+use Rattle.tap_scenario.specs.Scenario.{EachStepIsPlayed, IsScript, ScenarioValue}
+use Rattle.tap_lawful.specs.Lawful.{IsLawful, IsLogOf}
 use Rattle.tap_headline.specs.Scripts.{RunHasHeadline}
 use Rattle.tap_headline.proofs.Scripts.{logs_have_headline}
 use Rattle.tap_replay.specs.Player.{GoesOnUnless}
@@ -17,3 +17,7 @@ run_log s (Some end) run left = ended_log s end run.world.log left.ended
 pub run_has_headline : (s : ScenarioValue) (over : Option End) (run : Run) → IsScript s → GoesOnUnless over s run
     → RunHasHeadline s run.world.log
 run_has_headline s over run valid of = logs_have_headline s run.world.log valid (run_log s over run of)
+
+pub run_is_lawful : (s : ScenarioValue) (over : Option End) (run : Run) → IsScript s → EachStepIsPlayed s → GoesOnUnless over s run
+    → IsLawful run.world.log
+run_is_lawful s over run valid plays of = record { script = s; valid = valid; plays = plays; run = run_log s over run of }

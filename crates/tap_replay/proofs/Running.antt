@@ -1,7 +1,7 @@
 -- The group that comes next in the run of a scenario is added.
 -- Cited above: unfinished
-use Rattle.std.proofs.Common.{◌≡◌, inl, inr, ℕ, zero, suc, ◌+◌, ◌<◌, ◌≤◌, Bool, true, false, List, [], ◌∷◌, ◌++◌, length, get_or, All, Option, None, Some, Result, Ok, Err, IfSome, refl, ap, sym, subst, ◌∙◌, arith, append-nil, length-append}
-use Rattle.std.specs.Prelude.{if◌then◌else◌, is_some, nat_eq, nat_le, nat_lt, option_and_then, slice_get}
+use Rattle.std.proofs.Common.{◌≡◌, inl, inr, ℕ, zero, suc, ◌+◌, ◌<◌, ◌≤◌, Bool, true, false, List, [], ◌∷◌, ◌++◌, length, get_or, All, Option, None, Some, Result, Ok, Err, refl, ap, sym, subst, ◌∙◌, arith, append-nil, length-append}
+use Rattle.std.specs.Prelude.{if◌then◌else◌, is_some, nat_eq, nat_le, nat_lt, option_and_then, slice_get, unwrap_or}
 use Rattle.std.specs.List.{filter_map, last_or, range_with_len}
 use Rattle.std.specs.Option.{option_map}
 use Rattle.std.proofs.lemmas.Bool.{cases_lt, le-ltb, leb-false, leb-true, lt-ltb, ltb-true}
@@ -25,7 +25,7 @@ use Rattle.tap_runs.proofs.Frames.{none_of}
 use Rattle.tap_runs.proofs.CourseGrows.{starts_uncarried}
 use Rattle.tap_runs.proofs.Nodes.{no_steps}
 use Rattle.tap_runs.proofs.Within.{Within, step_within, taken_within}
-use Rattle.tap_engine.specs.Kinds.{begun_index, finishes_run, is_finished}
+use Rattle.tap_engine.specs.Kinds.{begun_index, finishes_run, is_finished, last_index}
 use Rattle.tap_engine.specs.Outcome.{IsNextIndex, MayGoOn, WorldAnswersAs, WorldOutcome, adds, adds_within, deliver_outcome, is_within, spends, takes_number}
 use Rattle.tap_engine.specs.World.{HasBegun, WorldValue}
 use Rattle.tap_engine.specs.declared.stop.Stop.{Stop}
@@ -107,25 +107,23 @@ last_push : (o : Option ℕ) (xs : List ℕ) (x : ℕ) → last_or o (xs ++ x �
 last_push o [] x = refl
 last_push o (y ∷ xs) x = last_push (Some y) xs x
 
--- the last of the numbers from 1 on is below the one that comes next
-last_below : (count : ℕ) → IfSome (last_or None (range_with_len 1 count)) (λ last. last < count + 1)
-last_below zero = tt
-last_below (suc count) =
+-- the last of so many numbers from 1 on
+last_number : (count : ℕ) → unwrap_or (last_or None (range_with_len 1 count)) 0 ≡ count
+last_number zero = refl
+last_number (suc count) =
     let all : range_with_len 1 count ++ (1 + count) ∷ [] ≡ range_with_len 1 (count + 1) = range-append 1 count 1 in
     let more : range_with_len 1 (count + 1) ≡ range_with_len 1 (suc count) = ap (range_with_len 1) (let e : count + 1 ≡ suc count = omega arith in e) in
     let last : last_or None (range_with_len 1 (suc count)) ≡ Some (1 + count) =
     sym (ap (last_or None) (all ∙ more)) ∙ last_push None (range_with_len 1 count) (1 + count) in
-    subst (λ o. IfSome o (λ l. l < suc count + 1)) (sym last) (let e : 1 + count < suc count + 1 = omega arith in e)
+    ap (λ o. unwrap_or o 0) last ∙ (let e : 1 + count ≡ suc count = omega arith in e)
 
 pub next_index : (s : ScenarioValue) (w : WorldValue) → IsScript s → IsPlayed s w.log → begun_count w.log < length s.steps
     → IsNextIndex w (begun_count w.log + 1)
 next_index s w valid played left =
     let indices = indices_same w.log ∙ played_indices s w.log played in
     let few = valid.steps_to in
-    record {
-      above = subst (λ l. IfSome (last_or None l) (λ last. last < begun_count w.log + 1)) (sym indices) (last_below (begun_count w.log));
-      most = omega (arith, left, few);
-    }
+    let last : last_index w.log ≡ begun_count w.log = ap (λ l. unwrap_or (last_or None l) 0) indices ∙ last_number (begun_count w.log) in
+    record { above = omega (arith, last); most = omega (arith, left, few) }
 
 -- ---- what a group begins
 

@@ -137,6 +137,7 @@ module _ (s : ScenarioValue) (before after : Run) (played : IsPlayed s before.wo
           beginning = spent.world.beginning;
           noted = spent.world.noted;
           stopped = spent.world.stopped;
+          nodes = λ same. let wrong : Spent ≡ Done = same in absurd (cc);
         };
       }
   by_stop group next StopNoMemory lacked = record {
@@ -146,6 +147,7 @@ module _ (s : ScenarioValue) (before after : Run) (played : IsPlayed s before.wo
       beginning = lacked.world.beginning;
       noted = lacked.world.noted;
       stopped = lacked.world.stopped;
+      nodes = λ same. let wrong : NoMemory ≡ Done = same in absurd (cc);
     };
   }
   by_stop group next (StopRefused refusal) never = absurd never

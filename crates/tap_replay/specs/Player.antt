@@ -8,7 +8,7 @@ use Rattle.tap_log.specs.Log.{begun_steps}
 use Rattle.tap_history.specs.Groups.{beginning_of}
 use Rattle.tap_runs.specs.Beginning.{begin_record}
 use Rattle.tap_engine.specs.Kinds.{is_finished}
-use Rattle.tap_engine.specs.World.{WorldValue}
+use Rattle.tap_engine.specs.World.{HasNodesOfLog, WorldValue}
 use Rattle.tap_engine.specs.declared.stop.Stop.{Stop}
 use Rattle.tap_engine.specs.declared.stop.Stop.TheVariants.{Spent as StopSpent}
 use Rattle.tap_lawful.specs.Next.{beginning_in, begun_count}
@@ -42,12 +42,14 @@ has_stopped Spent = true
 has_stopped NoMemory = true
 
 -- What the run of the scenario leaves that has ended so: the log is that of such a run, with what it begins is the scenario's, no refusal is
--- left to be noted, and the world was stopped exactly if too many frames would have been sent or memory was refused.
+-- left to be noted, and the world was stopped exactly if too many frames would have been sent or memory was refused. If all steps were run, the
+-- nodes of the world are those of the system that its log has come to.
 pub record IsLeft (s : ScenarioValue) (end : End) (w : WorldValue) : Type 0 where
   pub ended : HasEnded s end w.log
   pub beginning : w.beginning ≡ beginning_in s
   pub noted : w.refused ≡ None
   pub stopped : w.stopped ≡ has_stopped end
+  pub nodes : end ≡ Done → HasNodesOfLog w
 
 -- the player has run the scenario so far
 abbrev pub HasPlayed : ScenarioValue → PlayerValue → Type 0

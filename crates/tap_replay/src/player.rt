@@ -1,5 +1,6 @@
 ghost use Rattle.std.specs.Prelude.{◌≡◌, ◌<◌, IfOk};
 ghost use Rattle.tap_lawful.specs.PlayedLaws.{left_of};
+ghost use Rattle.tap_lawful.specs.Lawful.{IsLawful};
 ghost use Rattle.tap_lawful.specs.Next.{beginning_in};
 ghost use Rattle.tap_replay.specs.Player.{HasPlayed, MayTurn, TakesTurn, over_by};
 ghost use Rattle.tap_headline.specs.Scripts.{RunHasHeadline};
@@ -80,6 +81,9 @@ impl Player {
         ensures over { self.new.over ≡ over_by result }
         ensures played { HasPlayed scenario.now self.new }
         ensures may { MayTurn scenario.now self.new.world.log }
+
+        // The log is that of a run of a scenario each step of which is played.
+        ensures lawful { IsLawful self.new.world.log }
 
         // At each moment of the log there is a core node, no table has a hole, each walk leads to the one root, and at rest each node that
         // is present is core, who departed is gone and each lookup is answered; and what is said of pointers, lookups, casts, sessions, watch lists and the frames of joins holds.

@@ -1,5 +1,7 @@
-ghost use Rattle.std.specs.Prelude.{IfSome};
+ghost use Rattle.std.specs.Prelude.{◌≡◌, IfSome};
+ghost use Rattle.tap_engine.specs.World.{HasNodesOfLog};
 ghost use Rattle.tap_headline.specs.Scripts.{RunHasHeadline};
+ghost use Rattle.tap_lawful.specs.Lawful.{IsLawful};
 ghost use Rattle.tap_scenario.specs.Scenario.{EachStepIsPlayed};
 ghost use Rattle.tap_replay.specs.Whole.{IsReplay};
 
@@ -26,7 +28,7 @@ pub struct Played {
 /// log ends with the record that says so. `NoMemory` comes only if memory was refused. The run takes memory of `alloc`.
 ///
 /// After `Done` the nodes of the world are those of the system that its log has come to; after `Spent` and `NoMemory` it was stopped.
-/// However the run has ended, its log has the headline.
+/// However the run has ended, its log is lawful and has the headline.
 ///
 /// Condition: no step is one of a carrier or a root set.
 ///
@@ -34,6 +36,8 @@ pub struct Played {
 pub fn replay(alloc: Global, scenario: &Scenario) -> Played
     requires { EachStepIsPlayed scenario.now }
     ensures left { IsReplay scenario.now result }
+    ensures nodes { result.end ≡ End.Done → IfSome result.world HasNodesOfLog }
+    ensures lawful { IfSome result.world (λ world. IsLawful world.log) }
     ensures headline { IfSome result.world (λ world. RunHasHeadline scenario.now world.log) }
 {
     let Ok(mut player) = Player::new(alloc, scenario) else {

@@ -3,7 +3,7 @@ use Rattle.std.proofs.Common.{◌≡◌, ◌≢◌, ◌⊎◌, inl, inr, Bool, t
 use Rattle.std.specs.Prelude.{◌↔◌, IfSome, IsSome, IsTrue, MatchOption}
 use Rattle.tap_io.specs.Faults.{HasRisen}
 use Rattle.tap_io.specs.Source.{SourceState}
-use Rattle.tap_scenario.specs.Scenario.{IsScript, ScenarioValue}
+use Rattle.tap_scenario.specs.Scenario.{EachStepIsPlayed, IsScript, ScenarioValue}
 use Rattle.tap_scenario.specs.declared.fault.Fault.{Fault}
 use Rattle.tap_log.specs.declared.record.Record.{Record}
 use Rattle.tap_log.specs.declared.record.Record.TheVariants.{Spent as SpentRecord, Finished}
@@ -11,8 +11,8 @@ use Rattle.tap_log.specs.Log.{last_of}
 use Rattle.tap_history.specs.Groups.{ends_log, is_ended, is_spent}
 use Rattle.tap_make.specs.Made.{made}
 use Rattle.tap_engine.specs.Kinds.{finishes_run, is_finished}
-use Rattle.tap_engine.specs.World.{WorldValue}
-use Rattle.tap_lawful.specs.Lawful.{IsLogOf}
+use Rattle.tap_engine.specs.World.{HasNodesOfLog, WorldValue}
+use Rattle.tap_lawful.specs.Lawful.{IsLawful, IsLogOf}
 use Rattle.tap_headline.proofs.LastRecord.{finished_says, spent_says}
 use Rattle.tap_headline.proofs.Scripts.{logs_follow_scripts, logs_have_headline}
 use Rattle.tap_headline.proofs.Printable.{logs_can_be_printed}
@@ -50,11 +50,11 @@ memory_alone asked old new s wanted = by_make asked.make wanted
 
 -- a run that was had
 pub cause_of_run : (asked : Asked) (old new : SourceState) (s : ScenarioValue) (world : Option WorldValue) (status : Status) → IsScript s
-    → IsWanted asked old new s → HasRunOf s status world → HasCauseOf asked old new world status
-cause_of_run asked old new s None status valid wanted memory =
+    → EachStepIsPlayed s → IsWanted asked old new s → HasRunOf s status world → HasCauseOf asked old new world status
+cause_of_run asked old new s None status valid plays wanted memory =
     subst (IsNotHad asked old new) (sym memory) (memory_alone asked old new s wanted)
-cause_of_run asked old new s (Some world) status valid wanted run =
-    record { script = s; valid = valid; wanted = wanted; ended = run }
+cause_of_run asked old new s (Some world) status valid plays wanted run =
+    record { script = s; valid = valid; plays = plays; wanted = wanted; ended = run }
 
 -- a world is left by a run, and none if no scenario was had
 pub leaves_some : (s : ScenarioValue) (status : Status) (played world : WorldValue) → HasRunAs s status played
@@ -173,6 +173,13 @@ pub spent_ran : (asked : Option Asked) (old new : SourceState) (world : Option W
 spent_ran None old new world cause = absurd (refused_so Spent cause.2 (λ is. cc) (λ is. cc))
 spent_ran (Some asked) old new world cause = short_run asked old new world cause
 
+-- once all steps were run, the nodes of the world that is left are those of the system that its log has come to
+pub done_nodes : (asked : Option Asked) (old new : SourceState) (world : Option WorldValue) → HasCause asked old new world Done
+    → IfSome world HasNodesOfLog
+done_nodes asked old new None cause = tt
+done_nodes None old new (Some world) cause = absurd (refused_so Done cause.2 (λ is. cc) (λ is. cc))
+done_nodes (Some asked) old new (Some world) cause = cause.ended.nodes refl
+
 pub read_failed : (asked : Option Asked) (old new : SourceState) (world : Option WorldValue) → HasCause asked old new world ReadFault
     → HasRisen old.faults new.faults
 read_failed None old new world cause = absurd (refused_so ReadFault cause.2 (λ is. cc) (λ is. cc))
@@ -226,6 +233,7 @@ source_untouched (Some asked) old new world status cause = made_untouched asked 
 pub record IsRunLog (asked : Asked) (old new : SourceState) (log : List Record) : Type 0 where
   pub script : ScenarioValue
   pub valid : IsScript script
+  pub plays : EachStepIsPlayed script
   pub wanted : IsWanted asked old new script
   pub run : IsLogOf script log
 
@@ -243,6 +251,7 @@ caused_log asked old new (Some world) status cause =
     inr (record {
       script = cause.script;
       valid = cause.valid;
+      plays = cause.plays;
       wanted = cause.wanted;
       run = run_log cause.script status world cause.ended;
     })
@@ -254,6 +263,7 @@ run_asked : (asked : Asked) (old new : SourceState) (log : List Record) → IsRu
 run_asked asked old new log run = record {
   script = run.script;
   valid = run.valid;
+  plays = run.plays;
   wanted = run.wanted;
   run = run.run;
   follows = logs_follow_scripts run.script log run.run;
@@ -268,6 +278,16 @@ log_asked (Some asked) old new world status cause =
     elim (caused_log asked old new world status cause) [
       | inl none ↦ inl none
       | inr run ↦ inr (run_asked asked old new (log_of world) run)
+    ]
+
+-- so it is lawful
+pub log_lawful : (asked : Option Asked) (old new : SourceState) (world : Option WorldValue) (status : Status)
+    → HasCause asked old new world status → (log_of world ≡ []) ⊎ IsLawful (log_of world)
+log_lawful None old new world status cause = inl (ap log_of cause.0)
+log_lawful (Some asked) old new world status cause =
+    elim (caused_log asked old new world status cause) [
+      | inl none ↦ inl none
+      | inr run ↦ inr (record { script = run.script; valid = run.valid; plays = run.plays; run = run.run })
     ]
 
 -- its log can be printed

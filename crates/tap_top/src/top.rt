@@ -1,7 +1,9 @@
 ghost use Rattle.std.specs.Prelude.{◌≡◌, ◌≢◌, ◌↔◌, ◌⊎◌, [], IfSome, IsSome, IsTrue, MatchOption, None, map};
 ghost use Rattle.std.specs.String.{string_bytes};
 ghost use Rattle.tap_engine.specs.Kinds.{is_finished};
+ghost use Rattle.tap_engine.specs.World.{HasNodesOfLog};
 ghost use Rattle.tap_io.specs.Faults.{HasRisen};
+ghost use Rattle.tap_lawful.specs.Lawful.{IsLawful};
 ghost use Rattle.tap_replay.specs.Player.{HasPlayed};
 ghost use Rattle.tap_report.specs.Text.{IsPrintableLog};
 ghost use Rattle.tap_report.specs.declared.mode.Mode.{Mode as ReportMode};
@@ -150,9 +152,9 @@ fn run_words<S: Source, K: Sink>(
 /// The words come first, then the reading, the scenario, and then the run and the writing side by side: the records of a turn are
 /// written once it is over. The fault line is last. The first read that fails ends the reading, and the first write that fails ends
 /// the writing, but not the run: the log and `before` don't depend on the sink. The log is that of the world that is left. If none
-/// is left, it is empty. If `before` is `Done`, the nodes of the world are those of the system that the log has come to. If nothing
-/// is started but J joins, with N members and names that join, each of n digits, `before` is `Spent` only if the scenario's limit of
-/// frames is below J · (16 · (N + 1)² + n + 2).
+/// is left, it is empty; else it is lawful. If `before` is `Done`, the nodes of the world are those of the system that the log has come
+/// to. If nothing is started but J joins, with N members and names that join, each of n digits, `before` is `Spent` only if the
+/// scenario's limit of frames is below J · (16 · (N + 1)² + n + 2).
 ///
 /// Rule: docs/FORMATS.md, "The fault line and the exit status".
 pub fn run<S: Source, K: Sink>(
@@ -189,11 +191,13 @@ pub fn run<S: Source, K: Sink>(
     ensures source { MatchOption (asked_by (map string_bytes words.now.items)) (S.state source.new ≡ S.state source.old)
         (λ asked. IsSome asked.make → S.state source.new ≡ S.state source.old) }
 
-    // A world is left if a run has ended.
+    // A world is left if a run has ended. If all steps were run, its nodes are those of the system that its log has come to.
     ensures world { LeavesWorld result.before result.world }
+    ensures nodes { result.before ≡ Status.Done → IfSome result.world HasNodesOfLog }
 
-    // Its log can be printed in each mode.
+    // Its log can be printed in each mode. If there is one, it is lawful: that of a run of a scenario each step of which is played.
     ensures printable { IsPrintableLog (log_of result.world) }
+    ensures lawful { (log_of result.world ≡ []) ⊎ IsLawful (log_of result.world) }
 
     // The headline: there is no log, or it is that of a run. At each of its moments, however the run has ended, there is a core node, no table
     // has a hole, each walk finds the one root, and at rest each node that is present is core, who departed is gone, each lookup is answered and

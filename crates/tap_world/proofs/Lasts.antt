@@ -1,8 +1,7 @@
 -- The last index of a list of records that grows, and the last record, as the tests find them.
 use Rattle.std.proofs.Common.{◌≡◌, ℕ, ◌+◌, ◌<◌, List, [], ◌∷◌, ◌++◌, length, get_or, take, inl, length-append, ◌≤◌, Option, None, Some, refl, ap, sym, ◌∙◌, arith}
-use Rattle.std.specs.Prelude.{option_and_then}
+use Rattle.std.specs.Prelude.{option_and_then, unwrap_or}
 use Rattle.std.specs.List.{cons_option, filter_map, last_or}
-use Rattle.std.specs.Option.{option_or}
 use Rattle.std.proofs.lemmas.List.{take_more}
 use Rattle.std.proofs.lemmas.List.Elements.{filter_map-append}
 use Rattle.tap_log.specs.declared.record.Record.{Record}
@@ -14,19 +13,20 @@ use Rattle.tap_engine.specs.Kinds.{begun_index, begun_indices, last_index}
 use Rattle.tap_engine.specs.Outcome.{MayNote}
 use Rattle.tap_engine.specs.World.{WorldValue}
 
-last_more : (o : Option ℕ) (xs : List ℕ) (found : Option ℕ) → last_or o (xs ++ cons_option found []) ≡ option_or found (last_or o xs)
+last_more : (o : Option ℕ) (xs : List ℕ) (found : Option ℕ)
+    → unwrap_or (last_or o (xs ++ cons_option found [])) 0 ≡ unwrap_or found (unwrap_or (last_or o xs) 0)
 last_more o [] None = refl
 last_more o [] (Some x) = refl
 last_more o (x ∷ xs) found = last_more (Some x) xs found
 
 -- with one more record
-pub index_more : (records : List Record) (i : ℕ) (item : Record) (last : Option ℕ) → i < length records → item ≡ get_or records i item
-    → last ≡ last_index (take i records) → option_or (begun_index item) last ≡ last_index (take (i + 1) records)
+pub index_more : (records : List Record) (i : ℕ) (item : Record) (last : ℕ) → i < length records → item ≡ get_or records i item
+    → last ≡ last_index (take i records) → unwrap_or (begun_index item) last ≡ last_index (take (i + 1) records)
 index_more records i item last within is so_far =
     let more : take (i + 1) records ≡ take i records ++ item ∷ [] =
     take_more records i item within ∙ ap (λ (x : Record). take i records ++ x ∷ []) (sym is) in
-    ap (option_or (begun_index item)) so_far ∙ sym (last_more None (filter_map begun_index (take i records)) (begun_index item))
-    ∙ sym (ap last_index more ∙ ap (last_or None) (filter_map-append begun_index (take i records) (item ∷ [])))
+    ap (unwrap_or (begun_index item)) so_far ∙ sym (last_more None (filter_map begun_index (take i records)) (begun_index item))
+    ∙ sym (ap last_index more ∙ ap (λ l. unwrap_or (last_or None l) 0) (filter_map-append begun_index (take i records) (item ∷ [])))
 
 one_there : (found : Option ℕ) → length (cons_option found []) ≡ length (at_most_one found)
 one_there None = refl

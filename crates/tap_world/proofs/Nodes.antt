@@ -28,7 +28,7 @@ use Rattle.tap_overlay.specs.Overlay.{IsAtRest, node_at}
 use Rattle.tap_overlay.proofs.Systems.{rest_nodes}
 use Rattle.tap_runs.specs.Named.{HasNames, HaveNames}
 use Rattle.tap_engine.specs.KeptEngine.{AreKept, EngineGoesOn, room_kept, room_of_record, world_value}
-use Rattle.tap_engine.specs.World.{HasBegun, WorldValue, node_of, nodes_running}
+use Rattle.tap_engine.specs.World.{HasBegun, HasNodesOfLog, WorldValue, node_of, nodes_running}
 use Rattle.tap_engine.specs.WorldLog.{HasCome, HasGoneTo, IsCourseOrFinished, IsWorldLog}
 use Rattle.tap_engine.specs.declared.engine.Engine.{Engine}
 use Rattle.tap_engine.proofs.Courses.{course_members}
@@ -58,6 +58,12 @@ module _ (engine : Engine) (refused : Option Refusal) (kept : AreKept engine ref
           → (if ever then node_at engine.overlay name else None) ≡ nodes_running (system_of log) name
       by_ever true at = goes.nodes.nodes_are name
       by_ever false at = sym (none_runs ((system_of log).node name) (sym (goes.ever name) ∙ at))
+
+-- so unless a world was stopped, its nodes are those of the system that its log has come to
+pub kept_nodes : (engine : Engine) (refused : Option Refusal) (stopped : Bool) → AreKept engine refused stopped → stopped ≡ false
+    → HasNodesOfLog (world_value engine refused stopped)
+kept_nodes engine refused false kept runs = node_runs engine refused kept
+kept_nodes engine refused true kept runs = absurd (cc)
 
 -- ---- their room
 

@@ -69,13 +69,13 @@ fn begun_index(item: &Record) -> Option<u32>
     }
 }
 
-// The index of the last step.
-fn last_index(records: &[Record]) -> Option<u32>
+// The index of the last step, 0 if none has begun.
+fn last_index(records: &[Record]) -> u32
     ensures { result ≡ last_index records.now }
 {
-    let mut last = None;
+    let mut last = 0;
     for item in records {
-        last = begun_index(item).or(last);
+        last = begun_index(item).unwrap_or(last);
     }
     last
 }
@@ -139,13 +139,7 @@ fn may_go_on(world: &World) -> bool
 fn is_next(world: &World, index: u32) -> bool
     ensures { IsTrue result → IsNextIndex world.now index }
 {
-    if 1_000_000 < index {
-        return false;
-    }
-    match last_index(world.log().as_slice()) {
-        Some(last) => last < index,
-        None => true,
-    }
+    last_index(world.log().as_slice()) < index && index <= 1_000_000
 }
 
 // Whether the last record is the step with this index.

@@ -62,7 +62,7 @@ impl World {
     ghost use Rattle.tap_runs.specs.Beginning.{IsWithinLimits};
     ghost use Rattle.tap_engine.specs.Outcome.{IsNextIndex, MayGoOn, MayNote, WorldAnswersAs, deliver_outcome, finish_outcome, mark_outcome, note_outcome, step_outcome};
     ghost use Rattle.tap_engine.specs.WorldLog.{IsWorldLog};
-    ghost use Rattle.tap_engine.specs.World.{HasBegun, node_of, nodes_running};
+    ghost use Rattle.tap_engine.specs.World.{HasBegun, HasNodesOfLog, node_of, nodes_running};
 
     /// The world of members that are core nodes at rest. Its log has the record `Begin` alone, and nothing is outstanding.
     ///
@@ -248,7 +248,8 @@ impl World {
         Ok(())
     }
 
-    /// All steps were run, which are as many as the log has: `Finished` is added. No call changes the world any more.
+    /// All steps were run, which are as many as the log has: `Finished` is added. No call changes the world any more. Its nodes are those
+    /// of the system that the log has come to.
     ///
     /// It takes no memory. `Ended` comes exactly if an earlier call answered `Spent` or `NoMemory`, and changes nothing.
     ///
@@ -259,6 +260,7 @@ impl World {
         ensures answers { WorldAnswersAs (finish_outcome self.old steps) self.old result self.new }
         ensures memory { result ≢ Err Stop.NoMemory }
         ensures nodes { self.new.nodes ≡ self.old.nodes }
+        ensures state { self.new.stopped ≡ false → HasNodesOfLog self.new }
         ensures ended { result ≡ Err Stop.Ended → self.new ≡ self.old }
         ensures headline { WorldHasHeadline self.new }
     {
@@ -281,7 +283,7 @@ impl World {
 
     /// The log. Up to its last moment it is the course of a run, and what stands after that is a step whose refusal isn't noted
     /// yet, or how the run has ended. What its steps start or observe is named by names of the settings. Lookups are numbered from 1, in
-    /// their order, up to 1,000,001 at most: the indices of steps may begin at 0.
+    /// their order, up to 1,000,000 at most.
     ///
     /// Rule: docs/FORMATS.md, "The course of a run".
     pub fn log(&self) -> &Log
@@ -289,7 +291,7 @@ impl World {
         ensures course { IsWorldLog self.now }
         ensures named { HaveNames self.now.beginning.settings self.now.log }
         ensures numbered { IsNumbered self.now.log }
-        ensures tickets { ticket_count self.now.log ≤ most_index + 1 }
+        ensures tickets { ticket_count self.now.log ≤ most_index }
         ensures headline { WorldHasHeadline self.now }
     {
         self.engine.ledger.log()

@@ -3,7 +3,7 @@ use Rattle.std.specs.String.{string_bytes}
 use Rattle.tap_words.specs.Words.{asked_by}
 use Rattle.tap_top.specs.Ending.{HasCause, log_of}
 use Rattle.tap_top.specs.declared.status.Status.{Status}
-use Rattle.tap_top.proofs.Causes.{done_exactly, done_ran, log_asked, log_last, log_prints, source_untouched, spent_exactly, spent_ran}
+use Rattle.tap_top.proofs.Causes.{done_exactly, done_nodes, done_ran, log_asked, log_last, log_lawful, log_prints, source_untouched, spent_exactly, spent_ran}
 use Rattle.tap_top.proofs.top.run.Goals as goal
 
 pub returns-clause-done : goal.returns-clause-done
@@ -14,6 +14,15 @@ returns-clause-done g c = λ is.
     let world = c.run_words.result.world in
     let Caused : Status → Type 0 = HasCause asked old new world in
     done_ran asked old new world (subst Caused is (rw c.as_slice.ensures.value at c.run_words.ensures.cause))
+
+pub returns-clause-nodes : goal.returns-clause-nodes
+returns-clause-nodes g c = λ is.
+    let asked = asked_by (map string_bytes c.args.words.now.items) in
+    let old = g.S.Source.state c.args.source.now in
+    let new = g.S.Source.state c.run_words.new.source in
+    let world = c.run_words.result.world in
+    let Caused : Status → Type 0 = HasCause asked old new world in
+    done_nodes asked old new world (subst Caused is (rw c.as_slice.ensures.value at c.run_words.ensures.cause))
 
 pub returns-clause-short : goal.returns-clause-short
 returns-clause-short g c = λ is.
@@ -45,6 +54,11 @@ returns-clause-spent g c =
 pub returns-clause-printable : goal.returns-clause-printable
 returns-clause-printable g c =
     log_prints (asked_by (map string_bytes c.as_slice.result.now)) (g.S.Source.state c.args.source.now)
+    (g.S.Source.state c.run_words.new.source) c.run_words.result.world c.run_words.result.before c.run_words.ensures.cause
+
+pub returns-clause-lawful : goal.returns-clause-lawful
+returns-clause-lawful g c =
+    log_lawful (asked_by (map string_bytes c.as_slice.result.now)) (g.S.Source.state c.args.source.now)
     (g.S.Source.state c.run_words.new.source) c.run_words.result.world c.run_words.result.before c.run_words.ensures.cause
 
 pub returns-clause-headline : goal.returns-clause-headline

@@ -23,6 +23,7 @@ returns-clause-left c =
     let on = c.requires.run.goes_on in
     let answers = c.finish.ensures.answers in
     let goes = unless_goes w (adds w (Finished c.args.self.now.begun ∷ [])) on.unstopped in
+    let stopped = answers.stopped c.finish.ensures.memory ∙ ap (λ o. o.stopped) goes ∙ on.unstopped in
     record {
       ended = (
         w.log,
@@ -35,5 +36,6 @@ returns-clause-left c =
       );
       beginning = answers.beginning ∙ on.beginning;
       noted = answers.refused c.finish.ensures.memory ∙ ap (λ o. o.refused) goes ∙ on.noted;
-      stopped = answers.stopped c.finish.ensures.memory ∙ ap (λ o. o.stopped) goes ∙ on.unstopped;
+      stopped = stopped;
+      nodes = λ _. c.finish.ensures.state stopped;
     }

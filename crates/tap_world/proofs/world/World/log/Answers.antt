@@ -11,7 +11,7 @@ use Rattle.tap_world.proofs.world.World.log.Goals as goal
 pub returns-clause-tickets : goal.returns-clause-tickets
 returns-clause-tickets c =
     let w = c.self.inside in
-    subst (λ (v : WorldValue). ticket_count v.log ≤ most_index + 1) c.self.view_is
+    subst (λ (v : WorldValue). ticket_count v.log ≤ most_index) c.self.view_is
     (few_tickets (world_value w.engine w.refused w.stopped) c.self.invariant.log)
 
 pub returns-clause-headline : goal.returns-clause-headline
