@@ -13,7 +13,7 @@ use Rattle.tap_name.specs.Word.{IsWord, is_word}
 use Rattle.tap_scenario.specs.Step.{IsPrefix, word_of_bytes, with_digits, prefix_of_word, text_of_prefix}
 use Rattle.tap_name.proofs.Texts.{name_of_word-back, name_of_word-text, text_of_name-no_space}
 use Rattle.tap_name.proofs.Words.{is_word-Decides}
-use Rattle.tap_scenario.proofs.Splits.{HasNoSpace}
+use Rattle.tap_scenario.specs.Words.{HasNoSpace}
 
 -- a word is read as itself
 pub word_of_bytes-word : (word : List ℕ) → IsWord word → word_of_bytes word ≡ Some word

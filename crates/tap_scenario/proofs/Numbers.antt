@@ -8,7 +8,7 @@ use Rattle.std.proofs.lemmas.Fmt.{decimal_is_IsNumeral}
 use Rattle.std.proofs.lemmas.List.Elements.{All-nil, All-cons}
 use Rattle.std.proofs.lemmas.Slice.Eq.{bytes_eq-Decides}
 use Rattle.tap_scenario.specs.Step.{number_below}
-use Rattle.tap_scenario.proofs.Splits.{HasNoSpace}
+use Rattle.tap_scenario.specs.Words.{HasNoSpace}
 
 -- a number's text is read as that number
 pub number_below-decimal : (limit n : ℕ) (word : List ℕ) → n < limit → n < 2 ^ 64 → word ≡ decimal n → number_below limit word ≡ Some n

@@ -14,10 +14,10 @@ use Rattle.tap_scenario.specs.declared.kind.PairKind.{PairKind}
 use Rattle.tap_scenario.specs.declared.kind.PairKind.TheVariants.{Join, Publish, Withdraw, Find, Walk, RootSet}
 use Rattle.tap_scenario.specs.Kind.{link_of_pair}
 use Rattle.tap_scenario.specs.Step.{two_names}
-use Rattle.tap_scenario.specs.Words.{words}
+use Rattle.tap_scenario.specs.Words.{HasNoSpace, words}
 use Rattle.tap_scenario.proofs.Options.{option_zip-back}
 use Rattle.tap_scenario.proofs.Shapes.{two_names-text, two_names-back}
-use Rattle.tap_scenario.proofs.Splits.{HasNoSpace, words-join}
+use Rattle.tap_scenario.proofs.Splits.{words-join}
 use Rattle.tap_scenario.proofs.StepTexts.{no_space}
 
 -- a word with a space on either side

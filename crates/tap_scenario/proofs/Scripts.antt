@@ -1,5 +1,5 @@
 -- what is read is within its limits
-use Rattle.std.proofs.Common.{◌≡◌, ◌∙◌, ◌&&◌, ℕ, suc, ◌+◌, ◌≤◌, nat_le, false, IsTrue, pos, negsuc, arith, List, [], ◌∷◌, length, All, if◌then◌else◌, Option, None, Some, Result, Ok, Err, refl, ap, inl, inr}
+use Rattle.std.proofs.Common.{◌≡◌, ◌∙◌, ◌&&◌, ℕ, suc, ◌+◌, ◌≤◌, nat_le, Bool, true, false, IsTrue, pos, negsuc, arith, List, [], ◌∷◌, length, All, if◌then◌else◌, Option, None, Some, Result, Ok, Err, refl, ap, inl, inr}
 use Rattle.std.specs.Option.{option_and_then, is_some}
 use Rattle.std.proofs.lemmas.Bool.{cases_Bool, and_parts, leb-true}
 use Rattle.std.proofs.lemmas.Bool.Decides.{nat_tests}
@@ -9,16 +9,16 @@ use Rattle.tap_name.specs.Settings.{SettingsValue, AreWithinLimits}
 use Rattle.tap_name.specs.Name.{IsName, name_of_word}
 use Rattle.tap_name.specs.Names.{are_distinct, AreDistinct}
 use Rattle.tap_scenario.specs.declared.fault.Key.{Key}
-use Rattle.tap_scenario.specs.declared.fault.Key.TheVariants.{Base, Digits, Width, Frames, Members, Steps}
+use Rattle.tap_scenario.specs.declared.fault.Key.TheVariants.{Base, Digits, Width, Frames, Carrier, Members, Steps}
 use Rattle.tap_scenario.specs.declared.fault.Fault.{Fault}
 use Rattle.tap_scenario.specs.declared.fault.Fault.TheVariants.{BadValue, BadStep}
 use Rattle.tap_scenario.specs.declared.step.Step.{Step}
-use Rattle.tap_scenario.specs.Document.{read_at, settings_of_table, default_frames, frames_of_table, members_of_table, if_played, numbered_step, steps_from, steps_of_table}
+use Rattle.tap_scenario.specs.Document.{read_at, settings_of_table, default_frames, frames_of_table, carrier_of_table, members_of_table, if_played, numbered_step, steps_from, steps_of_table}
 use Rattle.tap_scenario.specs.Key.{value_at}
-use Rattle.tap_scenario.specs.Scenario.{EachStepIsPlayed, IsScript, most_frames, most_members, most_steps}
+use Rattle.tap_scenario.specs.Scenario.{CanBePlayed, IsScript, most_frames, most_members, most_steps}
 use Rattle.tap_scenario.specs.Step.{IsStep, step_of_text, is_played}
 use Rattle.tap_scenario.specs.Fault.{◌>>=◌, cons_result}
-use Rattle.tap_scenario.specs.Value.{whole_number, array_of_strings, strings_up_to, cons_both, names_of_texts, distinct_names, members_of_texts}
+use Rattle.tap_scenario.specs.Value.{whole_number, carrier_of, array_of_strings, strings_up_to, cons_both, names_of_texts, distinct_names, members_of_texts}
 use Rattle.tap_name.proofs.Membership.{are_distinct-Decides}
 use Rattle.tap_name.proofs.Texts.{name_of_word-back}
 use Rattle.tap_scenario.proofs.Options.{and_then-back, ok_or-Ok}
@@ -75,6 +75,26 @@ frames_of_table-limits p t n e =
           let same : Ok (default_frames p.digits) ≡ Ok n = rw absent at e in
           let is : default_frames p.digits ≡ n = cc in
           rw (← is) (default_frames-limits p.digits)
+    ]
+
+carrier_of-uncarried : (value : Data) (carrier : Bool) → carrier_of value ≡ Some carrier → carrier ≡ false
+carrier_of-uncarried (boolean true) carrier e = absurd (cc)
+carrier_of-uncarried (boolean false) carrier e = cc
+carrier_of-uncarried (string text) carrier e = absurd (cc)
+carrier_of-uncarried (integer z) carrier e = absurd (cc)
+carrier_of-uncarried (float x) carrier e = absurd (cc)
+carrier_of-uncarried (datetime d) carrier e = absurd (cc)
+carrier_of-uncarried (array items) carrier e = absurd (cc)
+carrier_of-uncarried (table entries) carrier e = absurd (cc)
+
+carrier_of_table-uncarried : (t : Table) (carrier : Bool) → carrier_of_table t ≡ Ok carrier → carrier ≡ false
+carrier_of_table-uncarried t carrier e =
+    elim (cases_Bool (is_some (value_at Carrier t))) [
+      | inl there ↦
+          let told = ok_or-Ok (option_and_then carrier_of (value_at Carrier t)) (BadValue Carrier) carrier (rw there at e) in
+          let value = and_then-back carrier_of (value_at Carrier t) carrier told in
+          carrier_of-uncarried value.0 carrier value.2
+      | inr absent ↦ let same : Ok false ≡ Ok carrier = rw absent at e in cc
     ]
 
 cons_both-Some : {A : Type 0} (first : Option A) (others : Option (List A)) (all : List A) → cons_both first others ≡ Some all
@@ -139,8 +159,8 @@ cons_result-Ok (Ok x) (Err fault) all e = absurd (cc)
 cons_result-Ok (Ok x) (Ok xs) all e = (x, xs, refl, refl, cc)
 
 -- a step of these settings that a run takes
-record IsRunning (p : SettingsValue) (step : Step) : Type 0 where
-  is_step : IsStep p false step
+record IsRunning (p : SettingsValue) (carrier : Bool) (step : Step) : Type 0 where
+  is_step : IsStep p carrier step
   runs : IsTrue (is_played step)
 
 if_played-Some : (read step : Step) → if_played read ≡ Some step → (read ≡ step) × IsTrue (is_played step)
@@ -150,22 +170,22 @@ if_played-Some read step e =
       | inl runs ↦ let whole : Some read ≡ Some step = rw runs at e in let same : read ≡ step = cc in (same, rw (← same) runs)
     ]
 
-numbered_step-Ok : (p : SettingsValue) (number : ℕ) (text : List ℕ) (step : Step) → p.base ≤ 16 → numbered_step p number text ≡ Ok step
-    → IsRunning p step
-numbered_step-Ok p number text step small e =
-    let told = ok_or-Ok (option_and_then if_played (step_of_text p false text)) (BadStep number) step e in
-    let read = and_then-back if_played (step_of_text p false text) step told in
+numbered_step-Ok : (p : SettingsValue) (carrier : Bool) (number : ℕ) (text : List ℕ) (step : Step) → p.base ≤ 16
+    → numbered_step p carrier number text ≡ Ok step → IsRunning p carrier step
+numbered_step-Ok p carrier number text step small e =
+    let told = ok_or-Ok (option_and_then if_played (step_of_text p carrier text)) (BadStep number) step e in
+    let read = and_then-back if_played (step_of_text p carrier text) step told in
     let runs = if_played-Some read.0 step read.2 in
-    record { is_step = (step_of_text-back p false text step small (read.1 ∙ ap Some runs.0)).1; runs = runs.1 }
+    record { is_step = (step_of_text-back p carrier text step small (read.1 ∙ ap Some runs.0)).1; runs = runs.1 }
 
-steps_from-limits : (p : SettingsValue) (number : ℕ) (texts : List (List ℕ)) (steps : List Step) → p.base ≤ 16
-    → steps_from p number texts ≡ Ok steps → (length steps ≡ length texts) × All (IsRunning p) steps
-steps_from-limits p number [] steps small e = let none : [] ≡ steps = cc in rw (← none) (refl, All-nil (IsRunning p))
-steps_from-limits p number (text ∷ others) steps small e =
-    let parts = cons_result-Ok (numbered_step p number text) (steps_from p (number + 1) others) steps e in
-    let first = numbered_step-Ok p number text parts.0 small parts.2 in
-    let rest = steps_from-limits p (number + 1) others parts.1 small parts.3 in
-    rw (← parts.4) (ap suc rest.0, All-cons (IsRunning p) parts.0 parts.1 first rest.1)
+steps_from-limits : (p : SettingsValue) (carrier : Bool) (number : ℕ) (texts : List (List ℕ)) (steps : List Step) → p.base ≤ 16
+    → steps_from p carrier number texts ≡ Ok steps → (length steps ≡ length texts) × All (IsRunning p carrier) steps
+steps_from-limits p carrier number [] steps small e = let none : [] ≡ steps = cc in rw (← none) (refl, All-nil (IsRunning p carrier))
+steps_from-limits p carrier number (text ∷ others) steps small e =
+    let parts = cons_result-Ok (numbered_step p carrier number text) (steps_from p carrier (number + 1) others) steps e in
+    let first = numbered_step-Ok p carrier number text parts.0 small parts.2 in
+    let rest = steps_from-limits p carrier (number + 1) others parts.1 small parts.3 in
+    rw (← parts.4) (ap suc rest.0, All-cons (IsRunning p carrier) parts.0 parts.1 first rest.1)
 
 strings_up_to-few : (most : ℕ) (value : Data) (texts : List (List ℕ)) → strings_up_to most value ≡ Some texts → length texts ≤ most
 strings_up_to-few most value texts e =
@@ -179,25 +199,26 @@ strings_up_to-few most value texts e =
           rw (← same) (leb-true (length found.0) most few)
     ]
 
-steps_of_table-limits : (p : SettingsValue) (t : Table) (steps : List Step) → p.base ≤ 16 → steps_of_table p t ≡ Ok steps
-    → (length steps ≤ most_steps) × All (IsRunning p) steps
-steps_of_table-limits p t steps small e =
+steps_of_table-limits : (p : SettingsValue) (carrier : Bool) (t : Table) (steps : List Step) → p.base ≤ 16
+    → steps_of_table p carrier t ≡ Ok steps → (length steps ≤ most_steps) × All (IsRunning p carrier) steps
+steps_of_table-limits p carrier t steps small e =
     let texts = then-Ok (read_at Steps (strings_up_to most_steps) t) _ steps e in
     let told = ok_or-Ok (option_and_then (strings_up_to most_steps) (value_at Steps t)) (BadValue Steps) texts.0 texts.1 in
     let value = and_then-back (strings_up_to most_steps) (value_at Steps t) texts.0 told in
     let few = strings_up_to-few most_steps value.0 texts.0 value.2 in
-    let read = steps_from-limits p 1 texts.0 steps small texts.2 in
+    let read = steps_from-limits p carrier 1 texts.0 steps small texts.2 in
     (omega arith, read.1)
 
 -- the parts that a table gives are a script's
-pub IsScript-parts : (t : Table) (p : SettingsValue) (frames : ℕ) (members : List (List ℕ)) (steps : List Step) → settings_of_table t ≡ Ok p
-    → frames_of_table p t ≡ Ok frames → members_of_table p t ≡ Ok members → steps_of_table p t ≡ Ok steps
-    → IsScript (record { settings = p; frames = frames; members = members; steps = steps })
-IsScript-parts t p frames members steps is_p is_frames is_members is_steps =
+pub IsScript-parts : (t : Table) (p : SettingsValue) (frames : ℕ) (carrier : Bool) (members : List (List ℕ)) (steps : List Step)
+    → settings_of_table t ≡ Ok p → frames_of_table p t ≡ Ok frames → members_of_table p t ≡ Ok members
+    → steps_of_table p carrier t ≡ Ok steps
+    → IsScript (record { settings = p; frames = frames; carrier = carrier; members = members; steps = steps })
+IsScript-parts t p frames carrier members steps is_p is_frames is_members is_steps =
     let settings = settings_of_table-limits t p is_p in
     let count = frames_of_table-limits p t frames is_frames in
     let names = members_of_table-limits p t members settings.base_to is_members in
-    let read = steps_of_table-limits p t steps settings.base_to is_steps in
+    let read = steps_of_table-limits p carrier t steps settings.base_to is_steps in
     record {
       settings = settings;
       frames_from = count.0;
@@ -210,11 +231,11 @@ IsScript-parts t p frames members steps is_p is_frames is_members is_steps =
       steps = λ k d h. (read.1 k d h).is_step;
     }
 
--- a run takes each of the steps that a table gives
-pub EachStepIsPlayed-parts : (t : Table) (p : SettingsValue) (frames : ℕ) (members : List (List ℕ)) (steps : List Step)
-    → settings_of_table t ≡ Ok p → steps_of_table p t ≡ Ok steps
-    → EachStepIsPlayed (record { settings = p; frames = frames; members = members; steps = steps })
-EachStepIsPlayed-parts t p frames members steps is_p is_steps =
+-- a run takes a scenario of the parts that a table gives
+pub CanBePlayed-parts : (t : Table) (p : SettingsValue) (frames : ℕ) (carrier : Bool) (members : List (List ℕ)) (steps : List Step)
+    → settings_of_table t ≡ Ok p → carrier_of_table t ≡ Ok carrier → steps_of_table p carrier t ≡ Ok steps
+    → CanBePlayed (record { settings = p; frames = frames; carrier = carrier; members = members; steps = steps })
+CanBePlayed-parts t p frames carrier members steps is_p is_carrier is_steps =
     let settings = settings_of_table-limits t p is_p in
-    let read = steps_of_table-limits p t steps settings.base_to is_steps in
-    λ k d h. (read.1 k d h).runs
+    let read = steps_of_table-limits p carrier t steps settings.base_to is_steps in
+    record { uncarried = carrier_of_table-uncarried t carrier is_carrier; steps = λ k d h. (read.1 k d h).runs }

@@ -1,10 +1,10 @@
 -- a text and its words
-use Rattle.std.proofs.Common.{◌≡◌, ◌==◌, ℕ, ◌+◌, ◌≤◌, nat_lt, false, arith, List, [], ◌∷◌, length, take, drop, All, None, Some, position, refl, ap, ◌∙◌, inl, inr}
+use Rattle.std.proofs.Common.{◌≡◌, ◌==◌, ℕ, ◌+◌, ◌≤◌, nat_lt, false, arith, List, [], ◌∷◌, length, take, drop, None, Some, position, refl, ap, ◌∙◌, inl, inr}
 use Rattle.std.specs.List.{position_or_len, join_with_byte, AllByRecursion}
 use Rattle.std.proofs.lemmas.Bool.{cases_Bool, ltb-true, ltb-false}
 use Rattle.std.proofs.lemmas.List.Sums.{fails_before_first}
 use Rattle.std.proofs.lemmas.List.Splits.{slice_split_none, slice_split_at, slice_split_first}
-use Rattle.tap_scenario.specs.Words.{words}
+use Rattle.tap_scenario.specs.Words.{HasNoSpace, words}
 
 -- the first word ends at the first space
 pub words-at_space : (text : List ℕ) (at : ℕ) → position (λ byte. byte == 32) text ≡ Some at
@@ -27,10 +27,6 @@ words-no_space text none =
           let far : length text ≤ position_or_len (λ byte. byte == 32) text = ltb-false _ _ all in
           slice_split_none (λ byte. byte == 32) text (λ k d h. fails_before_first (λ byte. byte == 32) text k d (omega arith))
     ]
-
--- there is no space in this
-abbrev pub HasNoSpace : List ℕ → Type 0
-HasNoSpace word = All (λ byte. (byte == 32) ≡ false) word
 
 -- words with a space between them are read back
 pub words-join : (first : List ℕ) (others : List (List ℕ)) → HasNoSpace first → AllByRecursion HasNoSpace others

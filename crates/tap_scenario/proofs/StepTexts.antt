@@ -21,14 +21,14 @@ use Rattle.tap_scenario.specs.declared.step.Step.{Step}
 use Rattle.tap_scenario.specs.declared.step.Step.TheVariants.{Join, Depart, Publish, Withdraw, Find, Walk, Root, Deliver, Settle, SettleNewest, SettleMixed, Table, Pointers, Garble, Cut, Abandon, Tick, Lose, Repeat, RootSet, Cast}
 use Rattle.tap_scenario.specs.Kind.{step_kinds, text_of_kind, link_of_pair, kind_of_word, is_there}
 use Rattle.tap_scenario.specs.Step.{IsStep, text_of_prefix, text_of_step, number_below, word_of_bytes, prefix_of_word, one_name, two_names, one_number, two_numbers, only, settle_of_words, garble_of_words, cast_of_words, step_of_name, step_of_pair, step_of_place, step_of_kind, step_of_words, step_of_text}
-use Rattle.tap_scenario.specs.Words.{words}
+use Rattle.tap_scenario.specs.Words.{HasNoSpace, words}
 use Rattle.tap_name.proofs.Texts.{name_of_word-back, name_of_word-text, text_of_name-no_space}
 use Rattle.tap_name.proofs.Words.{word-no_space}
 use Rattle.tap_scenario.proofs.Numbers.{number_below-decimal, number_below-back, no_space_decimal}
 use Rattle.tap_scenario.proofs.Casts.{word_of_bytes-word, word_of_bytes-back, no_space_prefix, prefix_of_word-text, prefix_of_word-back}
 use Rattle.tap_scenario.proofs.Options.{and_then-back, find-passes, option_map-back, option_zip-back}
 use Rattle.tap_scenario.proofs.Shapes.{only-back, one_name-back, two_names-text, two_names-back, one_number-back, two_numbers-text, two_numbers-back}
-use Rattle.tap_scenario.proofs.Splits.{HasNoSpace, words-join}
+use Rattle.tap_scenario.proofs.Splits.{words-join}
 
 -- the words of a step
 abbrev words_of_step : Step → List (List ℕ)

@@ -1,11 +1,11 @@
 -- the scenario that a text is, over the TOML table that it writes
-use Rattle.std.specs.Prelude.{ℕ, ◌+◌, nat_le, false, List, [], ◌∷◌, ◌++◌, Option, None, Some, is_some, ok_or, option_and_then, Result, Ok, Err, if◌then◌else◌}
+use Rattle.std.specs.Prelude.{ℕ, ◌+◌, nat_le, Bool, false, List, [], ◌∷◌, ◌++◌, Option, None, Some, is_some, ok_or, option_and_then, Result, Ok, Err, if◌then◌else◌}
 use Rattle.std.specs.Str.{is_utf8}
 use Rattle.toml.specs.Data.{Data, Members as Table}
 use Rattle.toml.specs.Parse.{parse_document}
 use Rattle.tap_name.specs.Settings.{SettingsValue}
 use Rattle.tap_scenario.specs.declared.fault.Key.{Key}
-use Rattle.tap_scenario.specs.declared.fault.Key.TheVariants.{Base, Digits, Width, Frames, Members, Steps}
+use Rattle.tap_scenario.specs.declared.fault.Key.TheVariants.{Base, Digits, Width, Frames, Carrier, Members, Steps}
 use Rattle.tap_scenario.specs.declared.fault.Fault.{Fault}
 use Rattle.tap_scenario.specs.declared.fault.Fault.TheVariants.{NotUtf8, NotToml, BadKey, BadValue, BadStep}
 use Rattle.tap_scenario.specs.declared.step.Step.{Step}
@@ -13,7 +13,7 @@ use Rattle.tap_scenario.specs.Key.{value_at, wrong_key}
 use Rattle.tap_scenario.specs.Scenario.{ScenarioValue, most_frames, most_steps}
 use Rattle.tap_scenario.specs.Step.{step_of_text, is_played}
 use Rattle.tap_scenario.specs.Fault.{◌>>=◌, cons_result}
-use Rattle.tap_scenario.specs.Value.{whole_number, array_of_strings, strings_up_to, members_of_texts}
+use Rattle.tap_scenario.specs.Value.{whole_number, carrier_of, array_of_strings, strings_up_to, members_of_texts}
 
 -- what the value under a key is read as, if it is as it has to be
 abbrev pub read_at : {A : Type 0} → Key → (Data → Option A) → Table → Result A Fault
@@ -36,6 +36,10 @@ abbrev pub frames_of_table : SettingsValue → Table → Result ℕ Fault
 frames_of_table p table =
     if is_some (value_at Frames table) then read_at Frames (whole_number 1 (most_frames p.digits)) table else Ok (default_frames p.digits)
 
+-- whether the scenario is carried: as the table says, or else not
+abbrev pub carrier_of_table : Table → Result Bool Fault
+carrier_of_table table = if is_some (value_at Carrier table) then read_at Carrier carrier_of table else Ok false
+
 -- the members that a table gives
 abbrev pub members_of_table : SettingsValue → Table → Result (List (List ℕ)) Fault
 members_of_table p table = read_at Members array_of_strings table >>= (λ texts. ok_or (members_of_texts p texts) (BadValue Members))
@@ -44,9 +48,9 @@ members_of_table p table = read_at Members array_of_strings table >>= (λ texts.
 abbrev pub if_played : Step → Option Step
 if_played step = if is_played step then Some step else None
 
--- the step of the string of this number
-abbrev pub numbered_step : SettingsValue → ℕ → List ℕ → Result Step Fault
-numbered_step p number text = ok_or (option_and_then if_played (step_of_text p false text)) (BadStep number)
+-- the step of the string of this number, in a scenario that is carried or not
+abbrev pub numbered_step : SettingsValue → Bool → ℕ → List ℕ → Result Step Fault
+numbered_step p carrier number text = ok_or (option_and_then if_played (step_of_text p carrier text)) (BadStep number)
 
 -- the steps so far and this one, or its fault
 abbrev pub with_step : List Step → Result Step Fault → Result (List Step) Fault
@@ -54,22 +58,25 @@ with_step steps (Ok step) = Ok (steps ++ step ∷ [])
 with_step steps (Err fault) = Err fault
 
 -- the steps of these strings, of which the first has this number
-abbrev pub steps_from : SettingsValue → ℕ → List (List ℕ) → Result (List Step) Fault
-steps_from p number [] = Ok []
-steps_from p number (text ∷ others) = cons_result (numbered_step p number text) (steps_from p (number + 1) others)
+abbrev pub steps_from : SettingsValue → Bool → ℕ → List (List ℕ) → Result (List Step) Fault
+steps_from p carrier number [] = Ok []
+steps_from p carrier number (text ∷ others) =
+    cons_result (numbered_step p carrier number text) (steps_from p carrier (number + 1) others)
 
 -- the steps that a table gives, counted from 1
-abbrev pub steps_of_table : SettingsValue → Table → Result (List Step) Fault
-steps_of_table p table = read_at Steps (strings_up_to most_steps) table >>= steps_from p 1
+abbrev pub steps_of_table : SettingsValue → Bool → Table → Result (List Step) Fault
+steps_of_table p carrier table = read_at Steps (strings_up_to most_steps) table >>= steps_from p carrier 1
 
 -- the scenario of a table whose keys are right
 abbrev pub script_of : Table → Result ScenarioValue Fault
 script_of table =
     settings_of_table table >>= (λ settings.
     frames_of_table settings table >>= (λ frames.
+    carrier_of_table table >>= (λ carrier.
     members_of_table settings table >>= (λ members.
-    steps_of_table settings table >>= (λ steps.
-    let script : ScenarioValue = record { settings = settings; frames = frames; members = members; steps = steps } in Ok script))))
+    steps_of_table settings carrier table >>= (λ steps.
+    let script : ScenarioValue = record { settings = settings; frames = frames; carrier = carrier; members = members; steps = steps } in
+    Ok script)))))
 
 -- this answer, if no key is wrong
 abbrev pub unless_wrong : Option Key → Result ScenarioValue Fault → Result ScenarioValue Fault

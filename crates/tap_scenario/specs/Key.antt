@@ -4,7 +4,7 @@ use Rattle.std.specs.List.{list_any}
 use Rattle.std.specs.Option.{option_or}
 use Rattle.toml.specs.Data.{Data, Members as Table, no_members, member, get_member}
 use Rattle.tap_scenario.specs.declared.fault.Key.{Key}
-use Rattle.tap_scenario.specs.declared.fault.Key.TheVariants.{Base, Digits, Width, Frames, Members, Steps, Unknown}
+use Rattle.tap_scenario.specs.declared.fault.Key.TheVariants.{Base, Digits, Width, Frames, Carrier, Members, Steps, Unknown}
 
 -- how a key is written
 abbrev pub text_of_key : Key → List ℕ
@@ -12,13 +12,14 @@ text_of_key Base = codes "base"
 text_of_key Digits = codes "digits"
 text_of_key Width = codes "width"
 text_of_key Frames = codes "frames"
+text_of_key Carrier = codes "carrier"
 text_of_key Members = codes "members"
 text_of_key Steps = codes "steps"
 text_of_key Unknown = codes "unknown"
 
 -- the keys that a scenario may have
 abbrev pub known_keys : List Key
-known_keys = Base ∷ Digits ∷ Width ∷ Frames ∷ Members ∷ Steps ∷ []
+known_keys = Base ∷ Digits ∷ Width ∷ Frames ∷ Carrier ∷ Members ∷ Steps ∷ []
 
 -- the keys that it has to have, in the order in which they are missed
 abbrev pub needed_keys : List Key

@@ -1,15 +1,16 @@
 -- what a scenario is
-use Rattle.std.specs.Prelude.{ℕ, ◌≤◌, nat_le, false, IsTrue, if◌then◌else◌, List, length, All}
+use Rattle.std.specs.Prelude.{◌≡◌, ℕ, ◌≤◌, nat_le, Bool, false, IsTrue, if◌then◌else◌, List, length, All}
 use Rattle.tap_name.specs.Settings.{SettingsValue, AreWithinLimits}
 use Rattle.tap_name.specs.Name.{IsName}
 use Rattle.tap_name.specs.Names.{AreDistinct}
 use Rattle.tap_scenario.specs.declared.step.Step.{Step}
 use Rattle.tap_scenario.specs.Step.{IsStep, is_played}
 
--- the settings, how many frames may be sent, the members at the start, and the steps
+-- the settings, how many frames may be sent, whether packets carry them, the members at the start, and the steps
 pub record ScenarioValue : Type 0 where
   pub settings : SettingsValue
   pub frames : ℕ
+  pub carrier : Bool
   pub members : List (List ℕ)
   pub steps : List Step
 
@@ -35,8 +36,9 @@ pub record IsScript (s : ScenarioValue) : Type 0 where
   pub members : All (IsName s.settings) s.members
   pub distinct : AreDistinct s.members
   pub steps_to : length s.steps ≤ most_steps
-  pub steps : All (IsStep s.settings false) s.steps
+  pub steps : All (IsStep s.settings s.carrier) s.steps
 
--- a run takes each of the steps
-abbrev pub EachStepIsPlayed : ScenarioValue → Type 0
-EachStepIsPlayed s = All (λ step. IsTrue (is_played step)) s.steps
+-- a run takes it: it isn't carried, and a run takes each of its steps
+pub record CanBePlayed (s : ScenarioValue) : Type 0 where
+  pub uncarried : s.carrier ≡ false
+  pub steps : All (λ step. IsTrue (is_played step)) s.steps

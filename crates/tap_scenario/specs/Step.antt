@@ -194,10 +194,7 @@ step_of_words p carrier (word ∷ others) =
 abbrev pub step_of_text : SettingsValue → Bool → List ℕ → Option Step
 step_of_text p carrier text = step_of_words p carrier (words text)
 
--- a run takes each kind of step but those of a carrier and root sets
+-- a run takes each kind of step but root sets
 unfoldable pub is_played : Step → Bool
-is_played Tick = false
-is_played (Lose place) = false
-is_played (Repeat place) = false
 is_played (RootSet object asker) = false
 is_played other = true

@@ -1,6 +1,6 @@
 -- what the values of a scenario's text have to be
 use Rattle.std.specs.Prelude.{ℕ, pos, nat_le, Bool, true, false, ◌&&◌, List, [], ◌∷◌, length, Option, None, Some, option_and_then, if◌then◌else◌}
-use Rattle.toml.specs.Data.{Data, string, integer, array, Items, no_items, item}
+use Rattle.toml.specs.Data.{Data, string, integer, boolean, array, Items, no_items, item}
 use Rattle.tap_name.specs.Settings.{SettingsValue}
 use Rattle.tap_name.specs.Name.{name_of_word}
 use Rattle.tap_name.specs.Names.{are_distinct}
@@ -10,6 +10,11 @@ use Rattle.tap_scenario.specs.Scenario.{most_members}
 abbrev pub whole_number : ℕ → ℕ → Data → Option ℕ
 whole_number low high (integer (pos n)) = if nat_le low n && nat_le n high then Some n else None
 whole_number low high _ = None
+
+-- whether a scenario is carried: carried scenarios aren't run yet, so `true` isn't taken
+abbrev pub carrier_of : Data → Option Bool
+carrier_of (boolean carrier) = if carrier then None else Some carrier
+carrier_of _ = None
 
 -- whether each of these is a string
 abbrev pub are_strings : Items → Bool

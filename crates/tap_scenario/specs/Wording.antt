@@ -1,10 +1,12 @@
 -- the words that a step is written with
-use Rattle.std.specs.Prelude.{ℕ, List, [], ◌++◌, codes, decimal}
+use Rattle.std.specs.Prelude.{◌≡◌, ℕ, List, [], ◌++◌, codes, decimal, Some}
 use Rattle.tap_name.specs.Name.{text_of_name}
+use Rattle.tap_name.specs.Names.{first_of}
 use Rattle.tap_scenario.specs.declared.wording.StepWords.{StepWords}
 use Rattle.tap_scenario.specs.declared.wording.WordsAfter.{WordsAfter}
 use Rattle.tap_scenario.specs.declared.wording.WordsAfter.TheVariants.{Nothing, Word, WordAndNumber, Name, Names, Number, TwoNumbers, ThreeNumbers, Cast}
 use Rattle.tap_scenario.specs.Step.{text_of_prefix}
+use Rattle.tap_scenario.specs.Words.{HasNoSpace, words as words_of}
 
 -- what stands after the first word, with a space before each word
 abbrev pub text_after : WordsAfter → List ℕ
@@ -24,3 +26,8 @@ text_after (Cast word to prefix from asker) =
 -- the text of words
 abbrev pub text_of_words : StepWords → List ℕ
 text_of_words words = words.first.now ++ text_after words.after
+
+-- the first word is the first of all words of the text, and no byte of it is a space
+pub record HasFirstWord (words : StepWords) : Type 0 where
+  pub first : first_of (words_of (text_of_words words)) ≡ Some words.first.now
+  pub unspaced : HasNoSpace words.first.now

@@ -1,10 +1,14 @@
 -- the words of a text
-use Rattle.std.specs.Prelude.{ℕ, ◌==◌, List, [], Option, None, Some}
+use Rattle.std.specs.Prelude.{◌≡◌, ℕ, ◌==◌, false, All, List, [], Option, None, Some}
 use Rattle.std.specs.List.{slice_split}
 
 -- what stands before, between and after the spaces of a text
 abbrev pub words : List ℕ → List (List ℕ)
 words text = slice_split (λ byte. byte == 32) text
+
+-- no byte of it is a space
+abbrev pub HasNoSpace : List ℕ → Type 0
+HasNoSpace word = All (λ byte. (byte == 32) ≡ false) word
 
 -- the words of the part of a text that is left, if one is
 abbrev pub words_left : Option (List ℕ) → List (List ℕ)

@@ -1,16 +1,16 @@
 ghost use Rattle.std.specs.Prelude.{◌≡◌, ◌+◌, ◌<◌, ◌≤◌, length, IsTrue, IfOk, OnOk, MatchResult, Ok, Err};
 ghost use Rattle.std.specs.Option.{ok_or};
 ghost use Rattle.toml.specs.View.{table_view, items_view};
-ghost use Rattle.tap_scenario.specs.Document.{read_at, settings_of_table, frames_of_table, members_of_table, numbered_step, with_step, steps_from, steps_of_table, script_of, scenario_of_table, scenario_of};
+ghost use Rattle.tap_scenario.specs.Document.{read_at, settings_of_table, frames_of_table, carrier_of_table, members_of_table, numbered_step, with_step, steps_from, steps_of_table, script_of, scenario_of_table, scenario_of};
 ghost use Rattle.tap_scenario.specs.Key.{missing_key, is_known, has_known_keys, wrong_key};
-ghost use Rattle.tap_scenario.specs.Scenario.{EachStepIsPlayed, IsScript};
+ghost use Rattle.tap_scenario.specs.Scenario.{CanBePlayed, IsScript};
 ghost use Rattle.tap_scenario.specs.ReadRefusal.{AnswersUnlessMemory, TellsFault};
 ghost use Rattle.tap_scenario.specs.Value.{whole_number, array_of_strings, strings_up_to, are_strings, names_of_texts, texts_of};
 
 use crate::fault::{Fault, Key, ReadRefusal};
 use crate::scenario::Scenario;
 use crate::step::{Step, read_step};
-use crate::values::{are_distinct, strings, value_at, whole_number};
+use crate::values::{are_distinct, carrier_of, strings, value_at, whole_number};
 use std::alloc::Global;
 use tap_name::{List, Name, Settings, read_name};
 use toml::{Table, Value};
@@ -22,11 +22,12 @@ const MOST_MEMBERS: usize = 64;
 const MOST_STEPS: usize = 10_000;
 
 // The keys that a scenario may have.
-const KNOWN: [Key; 6] = [
+const KNOWN: [Key; 7] = [
     Key::Base,
     Key::Digits,
     Key::Width,
     Key::Frames,
+    Key::Carrier,
     Key::Members,
     Key::Steps,
 ];
@@ -144,6 +145,16 @@ fn read_frames(settings: &Settings, table: &Table) -> Result<u32, Fault>
     }
 }
 
+// Whether the scenario is carried: as the table says, or else not.
+fn read_carrier(table: &Table) -> Result<bool, Fault>
+    ensures { result ≡ carrier_of_table (table_view table.now) }
+{
+    match value_at(table, Key::Carrier) {
+        Some(value) => carrier_of(value).ok_or(Fault::BadValue(Key::Carrier)),
+        None => Ok(false),
+    }
+}
+
 // The names that the strings among these are, if each of them is one.
 fn read_names(
     alloc: Global,
@@ -185,13 +196,18 @@ fn read_members(
 }
 
 // Adds the step of the next string, if it is one that a run takes, to the steps of the strings before it.
-fn add_step(settings: &Settings, steps: &mut Vec<Step>, text: &[u8]) -> Result<(), ReadRefusal>
+fn add_step(
+    settings: &Settings,
+    carrier: bool,
+    steps: &mut Vec<Step>,
+    text: &[u8],
+) -> Result<(), ReadRefusal>
     requires { length steps.now.items < MOST_STEPS }
-    ensures value { let read = numbered_step settings.now (length steps.old.items + 1) text.now
+    ensures value { let read = numbered_step settings.now carrier (length steps.old.items + 1) text.now
         in MatchResult result (λ _. with_step steps.old.items read ≡ Ok steps.new.items) (TellsFault read) }
     ensures len { OnOk result (length steps.new.items ≡ length steps.old.items + 1) }
 {
-    match read_step(settings, false, text) {
+    match read_step(settings, carrier, text) {
         Some(step) if step.is_played() => {
             steps.push(step)?;
             Ok(())
@@ -201,14 +217,19 @@ fn add_step(settings: &Settings, steps: &mut Vec<Step>, text: &[u8]) -> Result<(
 }
 
 // The steps that a table gives.
-fn read_steps(alloc: Global, settings: &Settings, table: &Table) -> Result<List<Step>, ReadRefusal>
-    ensures { AnswersUnlessMemory (steps_of_table settings.now (table_view table.now)) result }
+fn read_steps(
+    alloc: Global,
+    settings: &Settings,
+    carrier: bool,
+    table: &Table,
+) -> Result<List<Step>, ReadRefusal>
+    ensures { AnswersUnlessMemory (steps_of_table settings.now carrier (table_view table.now)) result }
 {
     let strings = few_strings_at(table, Key::Steps, MOST_STEPS)?;
     let mut steps = Vec::with_capacity(alloc, strings.len())?;
     for value in strings {
         if let Some(text) = value.as_str() {
-            add_step(settings, &mut steps, text.as_bytes())?;
+            add_step(settings, carrier, &mut steps, text.as_bytes())?;
         }
     }
     Ok(List::from_vec(steps))
@@ -218,16 +239,17 @@ fn read_steps(alloc: Global, settings: &Settings, table: &Table) -> Result<List<
 fn read_table(alloc: Global, table: &Table) -> Result<Scenario, ReadRefusal>
     ensures value { AnswersUnlessMemory (scenario_of_table (table_view table.now)) result }
     ensures valid { IfOk result IsScript }
-    ensures runs { IfOk result EachStepIsPlayed }
+    ensures runs { IfOk result CanBePlayed }
 {
     if let Some(key) = wrong_key(table) {
         return Err(ReadRefusal::Fault(Fault::BadKey(key)));
     }
     let settings = read_settings(table)?;
     let frames = read_frames(&settings, table)?;
+    let carrier = read_carrier(table)?;
     let members = read_members(alloc, &settings, table)?;
-    let steps = read_steps(alloc, &settings, table)?;
-    Ok(Scenario::from_lists(&settings, frames, members, steps))
+    let steps = read_steps(alloc, &settings, carrier, table)?;
+    Ok(Scenario::from_lists(&settings, frames, carrier, members, steps))
 }
 
 /// Reads a scenario's text, or says what is wrong with it first.
@@ -235,14 +257,14 @@ fn read_table(alloc: Global, table: &Table) -> Result<Scenario, ReadRefusal>
 /// The text is TOML with the keys `base` (2 to 16), `digits` (1 to 40), `width` (1 to 4), `members` (an array of 1 to
 /// 64 strings, distinct names) and `steps` (an array of at most 10,000 strings, each the text of a step). A key
 /// `frames` may stand beside them: 1 to 500,000, and 200,000 if it is absent; if `digits` is above 8, 1 to
-/// 100,000, and 100,000 if it is absent. Of several faults the answer is the first one in the order of [`Fault`]'s
-/// variants.
+/// 100,000, and 100,000 if it is absent. So may a key `carrier`: false, and false if it is absent, since carried
+/// scenarios aren't run yet. Of several faults the answer is the first one in the order of [`Fault`]'s variants.
 ///
 /// Rule: docs/FORMATS.md, "The scenario".
 pub fn read(alloc: Global, bytes: &[u8]) -> Result<Scenario, ReadRefusal>
     ensures value { AnswersUnlessMemory (scenario_of bytes.now) result }
     ensures valid { IfOk result IsScript }
-    ensures runs { IfOk result EachStepIsPlayed }
+    ensures runs { IfOk result CanBePlayed }
 {
     let text = match std::str::from_utf8(bytes) {
         Ok(text) => text,

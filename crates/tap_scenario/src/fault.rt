@@ -19,6 +19,8 @@ pub enum Key {
     Width,
     /// How many frames a run may send.
     Frames,
+    /// Whether packets carry the frames.
+    Carrier,
     /// The members at the start.
     Members,
     /// The steps.
@@ -37,6 +39,7 @@ impl Key {
             Key::Digits => "digits",
             Key::Width => "width",
             Key::Frames => "frames",
+            Key::Carrier => "carrier",
             Key::Members => "members",
             Key::Steps => "steps",
             Key::Unknown => "unknown",

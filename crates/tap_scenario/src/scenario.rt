@@ -6,7 +6,8 @@ use std::alloc::Global;
 use std::marker::Model;
 use tap_name::{List, Name, NoMemory, Settings};
 
-/// What a run is made from: the settings, the limit of frames, the members at the start, and the steps.
+/// What a run is made from: the settings, the limit of frames, whether packets carry them, the members at the start, and
+/// the steps.
 ///
 /// It has 1 to 64 distinct members and at most 10,000 steps, whose names are all names of the settings. A run may send
 /// 1 to 500,000 frames, or 1 to 100,000 if names have more than eight digits.
@@ -16,6 +17,7 @@ use tap_name::{List, Name, NoMemory, Settings};
 pub struct Scenario {
     settings: Settings,
     frames: u32,
+    carrier: bool,
     members: List<Name>,
     steps: List<Step>,
 }
@@ -25,46 +27,49 @@ impl Model for Scenario {
 
     ghost Value = { ScenarioValue };
 
-    ghost view = { λ s. record { settings = s.settings; frames = s.frames; members = s.members; steps = s.steps } };
+    ghost view = { λ s. record { settings = s.settings; frames = s.frames; carrier = s.carrier; members = s.members; steps = s.steps } };
 
-    ghost invariant = { λ s. IsScript (record { settings = s.settings; frames = s.frames; members = s.members; steps = s.steps }) };
+    ghost invariant = { λ s. IsScript (record { settings = s.settings; frames = s.frames; carrier = s.carrier; members = s.members; steps = s.steps }) };
 }
 
 impl Scenario {
     /// The scenario of these parts, of which it keeps copies. `NoMemory` if memory was refused.
     ///
     /// Condition: the parts are within the limits of a scenario. There are 1 to 64 members, distinct names of the
-    /// settings, and at most 10,000 steps, each one of these settings in a scenario that isn't carried. The frames are 1 to
-    /// 500,000, or 1 to 100,000 if names have more than eight digits.
+    /// settings, and at most 10,000 steps, each one of these settings in a scenario that is carried or not as this one is.
+    /// The frames are 1 to 500,000, or 1 to 100,000 if names have more than eight digits.
     pub fn of(
         alloc: Global,
         settings: &Settings,
         frames: u32,
+        carrier: bool,
         members: &List<Name>,
         steps: &[Step],
     ) -> Result<Scenario, NoMemory>
-        requires { IsScript (record { settings = settings.now; frames = frames; members = members.now; steps = steps.now }) }
+        requires { IsScript (record { settings = settings.now; frames = frames; carrier = carrier; members = members.now; steps = steps.now }) }
         ensures { IfOk result
-            (λ s. s ≡ record { settings = settings.now; frames = frames; members = members.now; steps = steps.now }) }
+            (λ s. s ≡ record { settings = settings.now; frames = frames; carrier = carrier; members = members.now; steps = steps.now }) }
     {
         let members = List::from_vec(Vec::from_slice(alloc, members.as_slice())?);
         let steps = List::from_vec(Vec::from_slice(alloc, steps)?);
-        Ok(Scenario::from_lists(settings, frames, members, steps))
+        Ok(Scenario::from_lists(settings, frames, carrier, members, steps))
     }
 
     /// The scenario of these parts, which it keeps. It takes no memory. The condition is that of [`Scenario::of`].
     pub fn from_lists(
         settings: &Settings,
         frames: u32,
+        carrier: bool,
         members: List<Name>,
         steps: List<Step>,
     ) -> Scenario
-        requires { IsScript (record { settings = settings.now; frames = frames; members = members; steps = steps }) }
-        ensures { result ≡ record { settings = settings.now; frames = frames; members = members; steps = steps } }
+        requires { IsScript (record { settings = settings.now; frames = frames; carrier = carrier; members = members; steps = steps }) }
+        ensures { result ≡ record { settings = settings.now; frames = frames; carrier = carrier; members = members; steps = steps } }
     {
         Scenario {
             settings: *settings,
             frames,
+            carrier,
             members,
             steps,
         }
@@ -84,6 +89,14 @@ impl Scenario {
         ensures valid { IsScript self.now }
     {
         self.frames
+    }
+
+    /// Whether packets carry the frames.
+    pub fn carrier(&self) -> bool
+        ensures value { result ≡ self.now.carrier }
+        ensures valid { IsScript self.now }
+    {
+        self.carrier
     }
 
     /// The members at the start, in the order of the text.

@@ -137,8 +137,7 @@ pub enum Step {
 }
 
 impl Step {
-    /// Whether a run takes steps of this kind: all but those of a carrier, which are ticks, losses and repeated packets, and
-    /// root sets.
+    /// Whether a run takes steps of this kind: all but root sets.
     ///
     /// Rule: docs/FORMATS.md, "The scenario".
     #[tactic(auto, unfolding(crate::specs::Step::is_played))]
@@ -146,7 +145,7 @@ impl Step {
         ensures { result ≡ is_played self.now }
     {
         match self {
-            Step::Tick | Step::Lose { .. } | Step::Repeat { .. } | Step::RootSet { .. } => false,
+            Step::RootSet { .. } => false,
             _ => true,
         }
     }

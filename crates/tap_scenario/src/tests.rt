@@ -53,7 +53,7 @@ const TEXTS: [(&str, (u32, usize, usize)); 8] = [
 ];
 
 // Lines, each in place of its key's, with what is then wrong.
-const REFUSED: [(&str, &str, Fault); 40] = [
+const REFUSED: [(&str, &str, Fault); 46] = [
     ("base", "base = 4\nbase = 4\n", Fault::NotToml),
     ("steps", "steps = [\n", Fault::NotToml),
     ("base", "", Fault::BadKey(Key::Base)),
@@ -83,6 +83,28 @@ const REFUSED: [(&str, &str, Fault); 40] = [
         Fault::BadValue(Key::Frames),
     ),
     ("frames", "frames = true\n", Fault::BadValue(Key::Frames)),
+    ("carrier", "carrier = true\n", Fault::BadValue(Key::Carrier)),
+    ("carrier", "carrier = 1\n", Fault::BadValue(Key::Carrier)),
+    (
+        "carrier",
+        "carrier = \"yes\"\n",
+        Fault::BadValue(Key::Carrier),
+    ),
+    (
+        "carrier",
+        "carrier = false\ncarrier = false\n",
+        Fault::NotToml,
+    ),
+    (
+        "carrier",
+        "carrier = true\nframes = 0\n",
+        Fault::BadValue(Key::Frames),
+    ),
+    (
+        "members",
+        "members = []\ncarrier = true\n",
+        Fault::BadValue(Key::Carrier),
+    ),
     ("members", "members = []\n", Fault::BadValue(Key::Members)),
     (
         "members",
@@ -474,9 +496,7 @@ fn tells_what_runs(rt: HostRuntime) -> Result<(), Fail> {
     assert_eq!(rt; Step::Find { object, asker }.is_played(), true);
     assert_eq!(rt; Step::SettleMixed { seed: 1 }.is_played(), true);
     assert_eq!(rt; Step::Cut { place: 0, bytes: 3 }.is_played(), true);
-    assert_eq!(rt; Step::Tick.is_played(), false);
-    assert_eq!(rt; Step::Lose { place: 0 }.is_played(), false);
-    assert_eq!(rt; Step::Repeat { place: 0 }.is_played(), false);
+    assert_eq!(rt; Step::Tick.is_played(), true);
     assert_eq!(rt; Step::RootSet { object, asker }.is_played(), false);
     Ok(())
 }
@@ -553,6 +573,7 @@ fn tells_what_it_read(rt: HostRuntime) -> Result<(), Fail> {
     let scenario = read(alloc, text.as_bytes()).map_err(|_| "a scenario")?;
     assert_eq!(rt; scenario.settings(), settings);
     assert_eq!(rt; scenario.frames(), 500_000);
+    assert_eq!(rt; scenario.carrier(), false);
     assert_eq!(rt; scenario.members().as_slice().first().copied(), Some(asker));
     assert_eq!(rt; scenario.step_count(), 1);
     assert_eq!(rt; scenario.step_at(0), Step::Walk { object, asker });
@@ -568,14 +589,47 @@ fn makes_a_scenario(rt: HostRuntime) -> Result<(), Fail> {
         alloc,
         &scenario.settings(),
         scenario.frames(),
+        false,
         scenario.members(),
         &[Step::Deliver { place: 3 }, Step::Settle],
     )
     .map_err(|_| "no memory")?;
     assert_eq!(rt; made.frames(), 9);
+    assert_eq!(rt; made.carrier(), false);
     assert_eq!(rt; made.members().len(), 5);
     assert_eq!(rt; made.step_count(), 2);
     assert_eq!(rt; made.step_at(0), Step::Deliver { place: 3 });
+    Ok(())
+}
+
+// A scenario that packets carry has ticks.
+#[test]
+fn makes_a_carried_scenario(rt: HostRuntime) -> Result<(), Fail> {
+    let alloc = rt.alloc();
+    let text = text_with(alloc, "frames", "frames = 9\n")?;
+    let scenario = read(alloc, text.as_bytes()).map_err(|_| "a scenario")?;
+    let made = Scenario::of(
+        alloc,
+        &scenario.settings(),
+        scenario.frames(),
+        true,
+        scenario.members(),
+        &[Step::Deliver { place: 3 }, Step::Tick],
+    )
+    .map_err(|_| "no memory")?;
+    assert_eq!(rt; made.carrier(), true);
+    assert_eq!(rt; made.step_at(1), Step::Tick);
+    Ok(())
+}
+
+// A scenario that says that it isn't carried is the one that says nothing of it.
+#[test]
+fn takes_no_carrier(rt: HostRuntime) -> Result<(), Fail> {
+    let alloc = rt.alloc();
+    let text = text_with(alloc, "carrier", "carrier = false\n")?;
+    let scenario = read(alloc, text.as_bytes()).map_err(|_| "a scenario")?;
+    assert_eq!(rt; scenario.carrier(), false);
+    assert_eq!(rt; counts(alloc, text.as_str()), Ok((200_000, 5, 1)));
     Ok(())
 }
 
@@ -687,6 +741,10 @@ fn faults_are_printed(rt: HostRuntime) -> Result<(), Fail> {
         (
             Fault::BadValue(Key::Frames),
             "not a scenario: bad value frames",
+        ),
+        (
+            Fault::BadValue(Key::Carrier),
+            "not a scenario: bad value carrier",
         ),
         (
             Fault::BadValue(Key::Members),

@@ -2,7 +2,7 @@ ghost use Rattle.std.specs.Prelude.{◌≡◌, ◌≤◌, map, IfSome, IsTrue, M
 ghost use Rattle.toml.specs.View.{view, table_view, items_view};
 ghost use Rattle.tap_scenario.specs.Key.{value_at};
 ghost use Rattle.tap_name.specs.Names.{are_distinct};
-ghost use Rattle.tap_scenario.specs.Value.{whole_number, are_strings, texts_of, array_of_strings};
+ghost use Rattle.tap_scenario.specs.Value.{whole_number, carrier_of, are_strings, texts_of, array_of_strings};
 
 use crate::fault::Key;
 use tap_name::Name;
@@ -27,6 +27,16 @@ pub(crate) fn whole_number(value: &Value, low: u32, high: u32) -> Option<u32>
             _ => None,
         },
         None => None,
+    }
+}
+
+// Whether a value says that a scenario is carried. Carried scenarios aren't run yet, so `true` isn't taken.
+pub(crate) fn carrier_of(value: &Value) -> Option<bool>
+    ensures { result ≡ carrier_of (view value.now) }
+{
+    match value.as_bool() {
+        Some(carrier) if !carrier => Some(carrier),
+        _ => None,
     }
 }
 

@@ -1,7 +1,7 @@
 ghost use Rattle.std.specs.Prelude.{◌≡◌};
 ghost use Rattle.tap_scenario.specs.Kind.{text_of_kind};
 ghost use Rattle.tap_scenario.specs.Step.{step_of_name, step_of_pair, step_of_place, text_of_step};
-ghost use Rattle.tap_scenario.specs.Wording.{text_of_words};
+ghost use Rattle.tap_scenario.specs.Wording.{HasFirstWord, text_of_words};
 
 use crate::cast::{Prefix, Word};
 use crate::kind::{FROM, Kind, MIXED, NEWEST, NameKind, PairKind, PlaceKind, TO};
@@ -46,7 +46,8 @@ pub enum WordsAfter {
 
 // The words of a step with one name.
 fn name_words(kind: NameKind, name: Name) -> StepWords
-    ensures { text_of_words result ≡ text_of_step (step_of_name kind name) }
+    ensures value { text_of_words result ≡ text_of_step (step_of_name kind name) }
+    ensures first { HasFirstWord result }
 {
     StepWords {
         first: Kind::Name(kind).text(),
@@ -56,7 +57,8 @@ fn name_words(kind: NameKind, name: Name) -> StepWords
 
 // The words of a step with two names.
 fn pair_words(kind: PairKind, first: Name, second: Name) -> StepWords
-    ensures { text_of_words result ≡ text_of_step (step_of_pair kind first second) }
+    ensures value { text_of_words result ≡ text_of_step (step_of_pair kind first second) }
+    ensures first { HasFirstWord result }
 {
     StepWords {
         first: Kind::Pair(kind).text(),
@@ -66,7 +68,8 @@ fn pair_words(kind: PairKind, first: Name, second: Name) -> StepWords
 
 // The words of a step with one place.
 fn place_words(kind: PlaceKind, place: u32) -> StepWords
-    ensures { text_of_words result ≡ text_of_step (step_of_place kind place) }
+    ensures value { text_of_words result ≡ text_of_step (step_of_place kind place) }
+    ensures first { HasFirstWord result }
 {
     StepWords {
         first: Kind::Place(kind).text(),
@@ -79,7 +82,8 @@ impl Step {
     ///
     /// Rule: docs/FORMATS.md, "The scenario".
     pub fn words(&self) -> StepWords
-        ensures { text_of_words result ≡ text_of_step self.now }
+        ensures value { text_of_words result ≡ text_of_step self.now }
+        ensures first { HasFirstWord result }
     {
         match self {
             Step::Join { name, via } => pair_words(PairKind::Join, *name, *via),
