@@ -1,0 +1,11 @@
+mod SameTold
+mod TurnGroups
+mod TurnsKept
+mod BeginningKept
+mod SameNodes
+mod SameRefusals
+mod ReducedLogs
+mod EndedLogs
+mod PlainRecords
+mod ReducedRuns
+mod CarrierTurns

@@ -1,0 +1,61 @@
+-- Who takes part, and what is published, is the same in a log of turns and in its reduced log.
+use Rattle.std.proofs.Common.{Bool, ◌≡◌, ℕ, List, [], ◌++◌, filter, fold, Option, ap, sym, ◌∙◌}
+use Rattle.std.specs.List.{filter_map}
+use Rattle.tap_name.specs.Names.{has_name, names_without}
+use Rattle.tap_scenario.specs.declared.step.Step.{Step}
+use Rattle.tap_log.specs.declared.record.Record.{Record}
+use Rattle.tap_log.specs.Kinds.{abandoned_name, core_name, gone_name}
+use Rattle.tap_log.specs.Reduced.{reduced}
+use Rattle.tap_history.specs.Core.{abandoned_of, accepted_in, ceased_of, accepted_steps, core_of, departures_of, gone_of, joins_of, members_of, present_of}
+use Rattle.tap_history.specs.Names.{names_of, with_name}
+use Rattle.tap_history.specs.Published.{published_of, unwithdrawn_pairs, without_servers}
+use Rattle.tap_history.specs.StepAsks.{depart_name, join_name}
+use Rattle.tap_carried.proofs.SameTold.{kept_abandoned, kept_core, kept_gone, reduced_pairs, reduced_tells}
+use Rattle.tap_carried.proofs.TurnGroups.{IsOfStarts, departs_start, joins_start}
+use Rattle.tap_carried.proofs.TurnsKept.{IsKept}
+
+module _ (c : Bool) (log : List Record) (kept : IsKept c log) where
+  steps_named : (h : Step → Option (List ℕ)) → IsOfStarts h → filter_map h (accepted_steps (reduced log)) ≡ filter_map h (accepted_steps log)
+  steps_named h starts =
+      ap (λ d. filter_map h (accepted_in d (reduced log))) kept.uncarried ∙ sym (kept.named h starts)
+      ∙ sym (ap (λ d. filter_map h (accepted_in d log)) kept.carried)
+
+module _ (c : Bool) (log : List Record) (kept : IsKept c log) where
+  members_are : members_of (reduced log) ≡ members_of log
+  members_are = kept.members
+
+  pub gone_is : gone_of (reduced log) ≡ gone_of log
+  gone_is = reduced_tells gone_name kept_gone log
+
+  joins_are : joins_of (reduced log) ≡ joins_of log
+  joins_are = steps_named c log kept join_name joins_start
+
+  departures_are : departures_of (reduced log) ≡ departures_of log
+  departures_are = steps_named c log kept depart_name departs_start
+
+  pub abandoned_are : abandoned_of (reduced log) ≡ abandoned_of log
+  abandoned_are = reduced_tells abandoned_name kept_abandoned log
+
+  came_is : members_of (reduced log) ++ joins_of (reduced log) ≡ members_of log ++ joins_of log
+  came_is = ap (λ l. l ++ joins_of (reduced log)) members_are ∙ ap (λ l. members_of log ++ l) joins_are
+
+  pub core_is : core_of (reduced log) ≡ core_of log
+  core_is =
+      ap (λ l. names_without (l ++ filter_map core_name (reduced log)) (gone_of (reduced log))) members_are
+      ∙ ap (λ l. names_without (members_of log ++ l) (gone_of (reduced log))) (reduced_tells core_name kept_core log)
+      ∙ ap (names_without (members_of log ++ filter_map core_name log)) gone_is
+
+  pub present_is : present_of (reduced log) ≡ present_of log
+  present_is =
+      ap (λ l. names_without l (gone_of (reduced log))) came_is ∙ ap (names_without (members_of log ++ joins_of log)) gone_is
+
+  pub names_are : names_of (reduced log) ≡ names_of log
+  names_are = ap (fold with_name []) came_is
+
+  pub ceased_is : ceased_of (reduced log) ≡ ceased_of log
+  ceased_is =
+      ap (λ l. filter (has_name l) (abandoned_of (reduced log))) gone_is ∙ ap (filter (has_name (gone_of log))) abandoned_are
+
+  pub published_is : published_of (reduced log) ≡ published_of log
+  published_is =
+      ap (λ l. without_servers l (unwithdrawn_pairs (reduced log))) departures_are ∙ ap (without_servers (departures_of log)) (reduced_pairs log)

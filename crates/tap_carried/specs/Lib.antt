@@ -1,0 +1,6 @@
+pub mod Packets
+pub mod LogTurns
+pub mod ReducedLogs
+pub mod EndedLogs
+pub mod ReducedRuns
+pub mod CarrierTurns
