@@ -9,7 +9,7 @@ use Rattle.tap_name.specs.Name.{IsName}
 use Rattle.tap_name.specs.Settings.{SettingsValue}
 use Rattle.tap_scenario.specs.declared.step.Step.{Step}
 use Rattle.tap_scenario.specs.declared.step.Step.TheVariants.{Depart, Find, Join, Publish, Settle, SettleMixed, Walk}
-use Rattle.tap_scenario.specs.Scenario.{EachStepIsPlayed, IsScript, ScenarioValue}
+use Rattle.tap_scenario.specs.Scenario.{CanBePlayed, IsScript, ScenarioValue}
 use Rattle.tap_scenario.specs.Step.{IsStep, is_played}
 use Rattle.tap_scenario.proofs.StepTexts.{step_of_text-text}
 use Rattle.tap_make.specs.WellMade.{IsWellMade}
@@ -104,11 +104,14 @@ steps_fit joins seed few =
     (λ n p m q. (named n p, named m q)) (λ n p m q. (named n p, named m q)) (λ n p m q. (named n p, named m q)) joins seed few
 
 -- and one of a kind that a run takes
-steps_played : (joins seed : ℕ) → joins ≤ 100 → EachStepIsPlayed (made joins seed)
+steps_played : (joins seed : ℕ) → joins ≤ 100 → All (λ step. IsTrue (is_played step)) (made_steps joins seed)
 unfolding is_played
 steps_played joins seed few =
     each_step (λ step. IsTrue (is_played step)) refl (λ wave within. refl) (λ n p. refl) (λ n p m q. refl) (λ n p m q. refl)
     (λ n p m q. refl) (λ n p m q. refl) joins seed few
+
+can_be_played : (joins seed : ℕ) → joins ≤ 100 → CanBePlayed (made joins seed)
+can_be_played joins seed few = record { uncarried = refl; steps = steps_played joins seed few }
 
 -- ---- there are few steps
 
@@ -178,7 +181,7 @@ made_well joins seed few = record {
   script = made_script joins seed few;
   read_back = λ k d within. step_of_text-text made_settings false (get_or (made_steps joins seed) k d) (omega arith)
       (steps_fit joins seed few k d within);
-  played = steps_played joins seed few;
+  played = can_be_played joins seed few;
   nodes = distinct_nodes joins seed few;
   objects = distinct_objects joins seed;
 }
@@ -186,18 +189,18 @@ made_well joins seed few = record {
 -- parts that are those of a made scenario
 pub made_of_parts : (joins seed : ℕ) (p : SettingsValue) (members : List (List ℕ)) (steps : List Step) → p ≡ made_settings
     → members ≡ made_members seed → steps ≡ made_steps joins seed
-    → record { settings = p; frames = 500000; members = members; steps = steps } ≡ made joins seed
+    → record { settings = p; frames = 500000; carrier = false; members = members; steps = steps } ≡ made joins seed
 made_of_parts joins seed p members steps settings are_members are_steps =
     let by_settings : SettingsValue → ScenarioValue =
-    λ q. record { settings = q; frames = 500000; members = members; steps = steps } in
+    λ q. record { settings = q; frames = 500000; carrier = false; members = members; steps = steps } in
     let by_members : List (List ℕ) → ScenarioValue =
-    λ names. record { settings = made_settings; frames = 500000; members = names; steps = steps } in
+    λ names. record { settings = made_settings; frames = 500000; carrier = false; members = names; steps = steps } in
     let by_steps : List Step → ScenarioValue =
-    λ all. record { settings = made_settings; frames = 500000; members = made_members seed; steps = all } in
+    λ all. record { settings = made_settings; frames = 500000; carrier = false; members = made_members seed; steps = all } in
     ap by_settings settings ∙ ap by_members are_members ∙ ap by_steps are_steps
 
 pub script_of_parts : (joins seed : ℕ) (p : SettingsValue) (members : List (List ℕ)) (steps : List Step) → joins ≤ 100 → p ≡ made_settings
     → members ≡ made_members seed → steps ≡ made_steps joins seed
-    → IsScript (record { settings = p; frames = 500000; members = members; steps = steps })
+    → IsScript (record { settings = p; frames = 500000; carrier = false; members = members; steps = steps })
 script_of_parts joins seed p members steps few settings are_members are_steps =
     subst IsScript (sym (made_of_parts joins seed p members steps settings are_members are_steps)) (made_script joins seed few)

@@ -1,5 +1,5 @@
 -- the scenario that is made for a number of joins from a seed
-use Rattle.std.specs.Prelude.{ℕ}
+use Rattle.std.specs.Prelude.{ℕ, false}
 use Rattle.tap_name.specs.Settings.{SettingsValue}
 use Rattle.tap_scenario.specs.Scenario.{ScenarioValue}
 use Rattle.tap_make.specs.MadeNames.{made_members}
@@ -9,6 +9,12 @@ use Rattle.tap_make.specs.MadeSteps.{made_steps}
 abbrev pub made_settings : SettingsValue
 made_settings = record { base = 16; digits = 8; width = 2 }
 
--- the whole scenario
+-- the whole scenario, which isn't carried
 abbrev pub made : ℕ → ℕ → ScenarioValue
-made joins seed = record { settings = made_settings; frames = 500000; members = made_members seed; steps = made_steps joins seed }
+made joins seed = record {
+  settings = made_settings;
+  frames = 500000;
+  carrier = false;
+  members = made_members seed;
+  steps = made_steps joins seed;
+}

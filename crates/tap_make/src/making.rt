@@ -35,9 +35,9 @@ fn make_steps(
 
 /// The scenario that is made for so many joins from a seed. `NoMemory` if memory was refused.
 ///
-/// It has 28 members, names of eight hexadecimal digits, slots of width 2, and at most 500,000 frames. One mixer with the
-/// seed gives all numbers. 20 objects are published, the newcomers join in waves of four with five walks after each, there
-/// are 30 lookups, and the first two newcomers leave.
+/// It has 28 members, names of eight hexadecimal digits, slots of width 2, and at most 500,000 frames, and it isn't
+/// carried. One mixer with the seed gives all numbers. 20 objects are published, the newcomers join in waves of four with
+/// five walks after each, there are 30 lookups, and the first two newcomers leave.
 ///
 /// Condition: 1 to 100 joins.
 ///
@@ -52,5 +52,5 @@ pub fn make(alloc: Global, joins: u32, seed: u64) -> Result<Scenario, NoMemory>
     let names = Names::draw(alloc, &settings, &mut draws, joins as u8)?;
     let steps = make_steps(alloc, &names, &mut draws, seed)?;
     let Names { members, .. } = names;
-    Ok(Scenario::from_lists(&settings, 500_000, members, steps))
+    Ok(Scenario::from_lists(&settings, 500_000, false, members, steps))
 }

@@ -73,6 +73,7 @@ fn makes_steps_in_their_order(rt: HostRuntime) -> Result<(), Fail> {
     let settings = Settings::new(16, 8, 2).ok_or("settings")?;
     assert_eq!(rt; scenario.settings(), settings);
     assert_eq!(rt; scenario.frames(), 500_000);
+    assert_eq!(rt; scenario.carrier(), false);
     assert_eq!(rt; scenario.step_count(), 102);
     for (place, text) in STEPS {
         assert_eq!(rt;
