@@ -5,7 +5,7 @@ use Rattle.std.proofs.lemmas.List.Elements.{All-take}
 use Rattle.tap_scenario.specs.Scenario.{IsScript, ScenarioValue}
 use Rattle.tap_log.specs.declared.record.Record.{Record}
 use Rattle.tap_runs.specs.Named.{HasNames}
-use Rattle.tap_runs.proofs.StepNames.{step_has_names}
+use Rattle.tap_runs.proofs.StepNames.{step_of_scenario_has_names}
 use Rattle.tap_lawful.specs.Next.{begun_count, beginning_in}
 use Rattle.tap_lawful.specs.Lawful.{IsPlayed}
 use Rattle.tap_lawful.proofs.Played.{played_course}
@@ -21,7 +21,7 @@ played_run s log valid played = record {
   going = played.going;
   steps = subst (All (HasNames s.settings)) (sym (played_steps s log played))
       (All-take (HasNames s.settings) (begun_count log) s.steps
-      (λ k d within. step_has_names s.settings (get_or s.steps k d) (valid.steps k d within)));
+      (λ k d within. step_of_scenario_has_names s.settings s.carrier (get_or s.steps k d) (valid.steps k d within)));
 }
 
 pub lawful_logs_are_safe : LawfulLogsAreSafe
