@@ -2,7 +2,7 @@
 --
 -- Rule: docs/FORMATS.md, "What comes next" and "The ways a run ends".
 use Rattle.std.specs.Prelude.{◌≡◌, ◌⊎◌, ◌<◌, ◌≤◌, false, List, [], ◌∷◌, ◌++◌, length, None, Some}
-use Rattle.tap_scenario.specs.Scenario.{EachStepIsPlayed, IsScript, ScenarioValue}
+use Rattle.tap_scenario.specs.Scenario.{CanBePlayed, IsScript, ScenarioValue}
 use Rattle.tap_log.specs.declared.record.Record.{Record}
 use Rattle.tap_log.specs.declared.record.Record.TheVariants.{Step as StepRecord, Spent, Finished}
 use Rattle.tap_log.specs.Counts.{sent_count}
@@ -59,5 +59,5 @@ pub record IsWholeLogOf (s : ScenarioValue) (log : List Record) : Type 0 where
 pub record IsLawful (log : List Record) : Type 0 where
   pub script : ScenarioValue
   pub valid : IsScript script
-  pub plays : EachStepIsPlayed script
+  pub plays : CanBePlayed script
   pub run : IsLogOf script log
